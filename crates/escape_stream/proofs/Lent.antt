@@ -8,6 +8,7 @@ use Rattle.std.proofs.lemmas.Str.{IsUtf8-from_ascii, chars-IsAscii, chars-nil}
 use Rattle.std.proofs.lemmas.Str.Ascii.{IsAscii-cons, IsAscii-nil}
 use Rattle.std.specs.List.{FoldsTo, flat_map, list_all}
 use Rattle.std.specs.Str.{IsAscii, IsUtf8, chars}
+use Rattle.esc_values.specs.Clear.{is_clear}
 use Rattle.esc_frame.specs.Scans.{is_text_byte}
 use Rattle.esc_frame.specs.Events.{Awaits, MayGet}
 use Rattle.esc_actions.specs.Values.{Value, print, value_of}
@@ -34,6 +35,19 @@ text_utf8 xs h = IsUtf8-from_ascii xs (text_ascii xs h)
 
 pub text_chars : (xs : List ℕ) → list_all is_text_byte xs ≡ true → chars xs ≡ xs
 text_chars xs h = chars-IsAscii xs (text_ascii xs h)
+
+text_clear : (b : ℕ) → is_text_byte b ≡ true → is_clear b ≡ true
+text_clear b h = grind (arith, nat_tests)
+
+bytes_clear : (xs : List ℕ) → list_all is_text_byte xs ≡ true → list_all is_clear xs ≡ true
+bytes_clear [] h = refl
+bytes_clear (x ∷ xs) h = let k = and_parts (is_text_byte x) (list_all is_text_byte xs) h in
+    rw (text_clear x k.0) (bytes_clear xs k.1)
+
+-- and none is a control
+pub run_clear : (xs text : List ℕ) → list_all is_text_byte xs ≡ true → chars text ≡ xs
+    → list_all is_clear (chars text) ≡ true
+run_clear xs text h is = ap (list_all is_clear) is ∙ bytes_clear xs h
 
 -- characters that were begun, and one more
 one_more : {A : Type 0} (xs : List ℕ) (c : ℕ) (ys : List (Value A))

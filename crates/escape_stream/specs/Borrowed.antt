@@ -1,8 +1,8 @@
 -- Borrowed actions: what they mean, and what a sink of them was given.
-use Rattle.std.specs.Prelude.{ℕ, ◌≡◌, ◌≢◌, ◌⊎◌, List, [], ◌∷◌, ◌++◌, Option, map}
-use Rattle.std.specs.List.{FoldsTo, flat_map}
+use Rattle.std.specs.Prelude.{ℕ, ◌≡◌, ◌≢◌, ◌⊎◌, List, [], ◌∷◌, ◌++◌, Option, map, true}
+use Rattle.std.specs.List.{FoldsTo, flat_map, list_all}
 use Rattle.std.specs.Str.{chars}
-use Rattle.esc_values.specs.Clear.{parts_of}
+use Rattle.esc_values.specs.Clear.{is_clear, parts_of}
 use Rattle.esc_sequences.specs.Csis.{unspecified}
 use Rattle.esc_osc.specs.Reading.{meaning as command_meant}
 use Rattle.esc_actions.specs.Meaning.{yield_within}
@@ -26,6 +26,13 @@ IsSome (Text t) = t.now ≢ []
 IsSome (Sequence params truncated control) = Unit {0}
 IsSome (Command t) = Unit {0}
 IsSome (Owned a) = Unit {0}
+
+-- a text has no control of C0 or C1
+abbrev pub IsClear : {T : Type 0} → ActionRef T → Type 0
+IsClear (Text t) = list_all is_clear (chars t.now) ≡ true
+IsClear (Sequence params truncated control) = Unit {0}
+IsClear (Command t) = Unit {0}
+IsClear (Owned a) = Unit {0}
 
 -- p was given borrowed actions, one after another, that together mean vs, and became q
 abbrev pub Gets : {S A : Type 0} → (S → ActionRef (Action A) → S → Type 0) → S → List (Value A) → S

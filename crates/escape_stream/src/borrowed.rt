@@ -16,7 +16,8 @@ use std::alloc::{AllocError, Allocator};
 /// commands lie where the parser has them, so that no memory is asked for.
 #[derive(Drop, Debug)]
 pub enum ActionRef<'a, T = Action> {
-    /// A run of characters, one or more, of which each is a [`Print`](Action::Print).
+    /// A run of characters, one or more and no controls, of which each is a
+    /// [`Print`](Action::Print).
     Text(&'a str),
     /// A control sequence that has no name (ECMA-48, 5.4): one
     /// [`CSI::Unspecified`](crate::csi::CSI::Unspecified). A rendition has a name, and is `Owned`.

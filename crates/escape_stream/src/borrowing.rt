@@ -6,7 +6,7 @@ ghost use Rattle.esc_actions.specs.Writable.{AreHandedOut};
 ghost use Rattle.esc_frame.specs.Memory.{MayTake};
 ghost use Rattle.esc_parse.specs.Calls.{After, IsStopped, OneOf, StaysBroken};
 ghost use Rattle.esc_parse.specs.Fed.{IsBroken, WasFedWithin};
-ghost use Rattle.escape_stream.specs.Borrowed.{Gets, GetsSome, IsSome, MayParse, Stops};
+ghost use Rattle.escape_stream.specs.Borrowed.{Gets, GetsSome, IsClear, IsSome, MayParse, Stops};
 ghost use Rattle.memory.specs.Refusals.{Refused};
 
 use crate::borrowed::ActionRef;
@@ -38,10 +38,12 @@ pub trait BorrowingSink<T> {
     // what a refused one may leave
     ghost refuses: { Self → ActionRef T → Self → Type 0 };
 
-    /// Takes a borrowed action; a text is never empty.
+    /// Takes a borrowed action; a text is never empty, and none of its characters is a control of
+    /// C0 or C1.
     fn receive(&mut self, action: ActionRef<'_, T>) -> Result<(), AllocError>
         requires ready { is_ready self.old ⊎ may self.old action }
         requires some { IsSome action }
+        requires clear { IsClear action }
         ensures ready { is_ready self.old → OnOk result (is_ready self.new) }
         ensures given { MatchResult result (λ _. takes self.old action.entry self.new)
             (λ _. refuses self.old action.entry self.new) };
@@ -67,6 +69,7 @@ impl<T, F: FnMut(ActionRef<'_, T>)> BorrowingSink<T> for BorrowingCalls<F> {
     fn receive(&mut self, action: ActionRef<'_, T>) -> Result<(), AllocError>
         requires ready { F.IsAlwaysCallable self.old.callback ⊎ F.pre self.old.callback action }
         requires some { IsSome action }
+        requires clear { IsClear action }
         ensures ready { F.IsAlwaysCallable self.old.callback
             → OnOk result (F.IsAlwaysCallable self.new.callback) }
         ensures given { MatchResult result
