@@ -5,8 +5,8 @@ use crate::counted::Counted;
 use crate::tally::let_go;
 use escape_stream::ActionRef;
 
-/// Counts the borrowed actions that it is given, and adds up the bytes of their texts, how many
-/// parameters they have, and their final bytes.
+/// Counts the borrowed actions that it is given, and adds up the bytes of their texts and how many
+/// parameters they have.
 #[derive(Drop)]
 pub struct BorrowedTally {
     number: u64,
@@ -26,20 +26,20 @@ impl BorrowedTally {
     #[inline]
     pub fn add(&mut self, action: ActionRef<'_>) {
         self.number = self.number.wrapping_add(1);
-        let sum = match action {
-            ActionRef::Text(text) => sum_of(text.as_bytes()),
-            ActionRef::Sequence {
-                params,
-                control,
-                ..
-            } => (params.len() as u64).wrapping_add(control as u64),
-            ActionRef::Command(text) => sum_of(text),
-            ActionRef::Owned(action) => {
-                let_go(action);
-                0
-            }
-        };
-        self.total = self.total.wrapping_add(sum);
+        match action {
+            ActionRef::Text(text) => self.add_bytes(text.as_bytes()),
+            ActionRef::Command(text) => self.add_bytes(text),
+            ActionRef::Sequence { params, .. } => self.total = self
+                .total
+                .wrapping_add(params.len() as u64),
+            ActionRef::Print(_) | ActionRef::Control(_) | ActionRef::Sgr(_) => {}
+            ActionRef::Owned(action) => let_go(action),
+        }
+    }
+
+    #[inline]
+    fn add_bytes(&mut self, bytes: &[u8]) {
+        self.total = self.total.wrapping_add(sum_of(bytes));
     }
 
     /// What was counted.

@@ -13,12 +13,12 @@ use Rattle.esc_frame.specs.Scans.{is_text_byte}
 use Rattle.esc_frame.specs.Events.{Awaits, MayGet}
 use Rattle.esc_actions.specs.Values.{Value, print, value_of}
 use Rattle.esc_actions.specs.declared.action.Action.{Action}
-use Rattle.esc_actions.specs.declared.action.Action.TheVariants.{Print}
+use Rattle.esc_actions.specs.declared.action.Action.TheVariants as action
 use Rattle.esc_parse.specs.Given.{At, AnyAt, AnyBy, By, Receives, StopsAt}
 use Rattle.escape_stream.specs.Borrowed.{Awaits as AwaitsRefs, Gets, GetsSome, IsSome, Stops, values_of}
 use Rattle.escape_stream.specs.Lent.{Ends, Lends, LendsNot, MayLend}
 use Rattle.escape_stream.specs.declared.borrowed.ActionRef.{ActionRef}
-use Rattle.escape_stream.specs.declared.borrowed.ActionRef.TheVariants.{Text, Sequence, Command, Owned}
+use Rattle.escape_stream.specs.declared.borrowed.ActionRef.TheVariants.{Text, Print, Control, Sgr, Sequence, Command, Owned}
 use Rattle.escape_stream.specs.declared.lending.Lending.{Lending}
 
 -- a run of ASCII is UTF-8, and its bytes are its characters
@@ -73,6 +73,9 @@ some_ends : {A : Type 0} (r : ActionRef (Action A)) (vs : List (Value A)) (v : V
     (ws : List (Value A)) → values_of r ≡ vs ++ v ∷ ws → IsSome r
 some_ends (Text t) [] v ws e = λ none. no_text t.now v ws none e
 some_ends (Text t) (x ∷ xs) v ws e = λ none. no_text t.now x (xs ++ v ∷ ws) none e
+some_ends (Print c) vs v ws e = tt
+some_ends (Control code) vs v ws e = tt
+some_ends (Sgr s) vs v ws e = tt
 some_ends (Sequence params truncated control) vs v ws e = tt
 some_ends (Command t) vs v ws e = tt
 some_ends (Owned a) vs v ws e = tt
@@ -81,14 +84,26 @@ module _ {S A : Type 0} (R : S → ActionRef (Action A) → S → Type 0) where
   abbrev with_one : Lending S → ℕ → Lending S
   with_one p c = record { sink = p.sink; begun = p.begun ++ c ∷ [] }
 
-  pub lends_one : (p q : Lending S) (a : Action A) (r : ActionRef (Action A)) → p.begun ≡ []
-      → q.begun ≡ [] → values_of r ≡ value_of a ∷ [] → R p.sink r q.sink → Lends R p a q
-  lends_one p q a r none done means took =
-      inr (done, r, means ∙ ap (λ l. map print l ++ value_of a ∷ []) (sym none), took)
+  -- one action, as it is handed on
+  module _ (p q : Lending S) (a : Action A) (r : ActionRef (Action A)) (none : p.begun ≡ [])
+      (done : q.begun ≡ []) (means : values_of r ≡ value_of a ∷ []) where
+    ends_alone : Ends p a r
+    ends_alone = means ∙ ap (λ l. map print l ++ value_of a ∷ []) (sym none)
+
+    pub may_alone : (is_ready : Type 0) (may : S → ActionRef (Action A) → Type 0)
+        → is_ready ⊎ MayLend may p a → is_ready ⊎ may p.sink r
+    may_alone is_ready may w = ⊎_map (λ x. x) (λ x. x r ends_alone) w
+
+    pub alone_given : (Q : S → ActionRef (Action A) → S → Type 0) {E : Type 0}
+        (result : Result (Unit {0}) E)
+        → MatchResult result (λ _. R p.sink r q.sink) (λ _. Q p.sink r q.sink)
+        → MatchResult result (λ _. Lends R p a q) (λ _. LendsNot Q p a q)
+    alone_given Q (Ok x) h = inr (done, r, ends_alone, h)
+    alone_given Q (Err e) h = (r, ends_alone, h)
 
   pub lends_run : (cs : List ℕ) (p q : Lending S) (r : ActionRef (Action A)) → 0 < length cs → q.begun ≡ []
       → values_of r ≡ map print (p.begun ++ cs) → R p.sink r q.sink
-      → FoldsTo (Lends R) p (map Print cs) q
+      → FoldsTo (Lends R) p (map action.Print cs) q
   lends_run [] p q r some done means took = absurd (omega arith)
   lends_run (c ∷ []) p q r some done means took =
       (q, inr (done, r, means ∙ last_of p.begun c, took), refl)
@@ -102,7 +117,7 @@ module _ {S A : Type 0} (R : S → ActionRef (Action A) → S → Type 0) where
   pub run_refused : (Q : S → ActionRef (Action A) → S → Type 0) (cs : List ℕ) (p q : Lending S)
       (r : ActionRef (Action A)) → 0 < length cs
       → values_of r ≡ map print (p.begun ++ cs) → Q p.sink r q.sink
-      → StopsAt ⊥ (Lends R) (LendsNot Q) p (map Print cs) q
+      → StopsAt ⊥ (Lends R) (LendsNot Q) p (map action.Print cs) q
   run_refused Q [] p q r some means refused = absurd (omega arith)
   run_refused Q (c ∷ []) p q r some means refused =
       inr (inl (r, means ∙ last_of p.begun c, refused))
@@ -116,7 +131,7 @@ module _ {S A : Type 0} (R : S → ActionRef (Action A) → S → Type 0) where
 
   pub may_run : (may : S → ActionRef (Action A) → Type 0) (cs : List ℕ) (p : Lending S)
       (r : ActionRef (Action A)) → 0 < length cs → values_of r ≡ map print (p.begun ++ cs)
-      → Awaits (MayLend may) (Lends R) p (map Print cs) → may p.sink r
+      → Awaits (MayLend may) (Lends R) p (map action.Print cs) → may p.sink r
   may_run may [] p r some means w = absurd (omega arith)
   may_run may (c ∷ []) p r some means w = w.0 r (means ∙ last_of p.begun c)
   may_run may (c ∷ d ∷ cs) p r some means w =
@@ -249,7 +264,7 @@ module _ {S A : Type 0} (R : S → ActionRef (Action A) → S → Type 0) where
     meant = ap (map print) is ∙ ap (λ l. map print (l ++ cs)) (sym none)
 
     pub may_text : (is_ready : S → Type 0) (may : S → ActionRef (Action A) → Type 0)
-        → MayGet (λ x. is_ready x.sink) (MayLend may) (Lends R) p (map Print cs)
+        → MayGet (λ x. is_ready x.sink) (MayLend may) (Lends R) p (map action.Print cs)
         → is_ready p.sink ⊎ may p.sink (Text text)
     may_text is_ready may w =
         ⊎_map (λ r. r) (may_run may cs p (Text text) some meant) w
@@ -257,7 +272,7 @@ module _ {S A : Type 0} (R : S → ActionRef (Action A) → S → Type 0) where
     pub text_given : (Q : S → ActionRef (Action A) → S → Type 0) {E : Type 0}
         (result : Result (Unit {0}) E) (q : Lending S) → q.begun ≡ []
         → MatchResult result (λ _. R p.sink (Text text) q.sink) (λ _. Q p.sink (Text text) q.sink)
-        → Receives ⊥ (Lends R) (LendsNot Q) result p (map Print cs) q
+        → Receives ⊥ (Lends R) (LendsNot Q) result p (map action.Print cs) q
     text_given Q (Ok x) q done h = lends_run cs p q (Text text) some done meant h
     text_given Q (Err e) q done h = run_refused Q cs p q (Text text) some meant h
 

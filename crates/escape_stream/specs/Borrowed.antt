@@ -3,36 +3,35 @@ use Rattle.std.specs.Prelude.{ℕ, ◌≡◌, ◌≢◌, ◌⊎◌, List, [], �
 use Rattle.std.specs.List.{FoldsTo, flat_map, list_all}
 use Rattle.std.specs.Str.{chars}
 use Rattle.esc_values.specs.Clear.{is_clear, parts_of}
-use Rattle.esc_sequences.specs.Csis.{unspecified}
+use Rattle.esc_sequences.specs.Csis.{sgr, unspecified}
 use Rattle.esc_osc.specs.Reading.{meaning as command_meant}
 use Rattle.esc_actions.specs.Meaning.{yield_within}
-use Rattle.esc_actions.specs.Values.{Value, csi, osc, print, value_of}
+use Rattle.esc_actions.specs.Values.{Value, control, csi, osc, print, value_of}
 use Rattle.esc_actions.specs.declared.action.Action.{Action}
 use Rattle.esc_parse.specs.Fed.{IsBroken, WasFedWithin}
 use Rattle.esc_parse.specs.declared.parser.Parser.{Parser}
 use Rattle.escape_stream.specs.declared.borrowed.ActionRef.{ActionRef}
-use Rattle.escape_stream.specs.declared.borrowed.ActionRef.TheVariants.{Text, Sequence, Command, Owned}
+use Rattle.escape_stream.specs.declared.borrowed.ActionRef.TheVariants.{Text, Print, Control, Sgr, Sequence, Command, Owned}
 
 -- what a borrowed action means: the values of the actions that it stands for, in order
 abbrev pub values_of : {A : Type 0} → ActionRef (Action A) → List (Value A)
 values_of (Text t) = map print (chars t.now)
-values_of (Sequence params truncated control) = csi (unspecified params.now truncated control) ∷ []
+values_of (Print c) = print c ∷ []
+values_of (Control code) = control code ∷ []
+values_of (Sgr s) = csi (sgr s) ∷ []
+values_of (Sequence params truncated final) = csi (unspecified params.now truncated final) ∷ []
 values_of (Command t) = osc (command_meant (parts_of t.now)) ∷ []
 values_of (Owned a) = value_of a ∷ []
 
 -- a text has a character
 abbrev pub IsSome : {T : Type 0} → ActionRef T → Type 0
 IsSome (Text t) = t.now ≢ []
-IsSome (Sequence params truncated control) = Unit {0}
-IsSome (Command t) = Unit {0}
-IsSome (Owned a) = Unit {0}
+IsSome _ = Unit {0}
 
 -- a text has no control of C0 or C1
 abbrev pub IsClear : {T : Type 0} → ActionRef T → Type 0
 IsClear (Text t) = list_all is_clear (chars t.now) ≡ true
-IsClear (Sequence params truncated control) = Unit {0}
-IsClear (Command t) = Unit {0}
-IsClear (Owned a) = Unit {0}
+IsClear _ = Unit {0}
 
 -- p was given borrowed actions, one after another, that together mean vs, and became q
 abbrev pub Gets : {S A : Type 0} → (S → ActionRef (Action A) → S → Type 0) → S → List (Value A) → S

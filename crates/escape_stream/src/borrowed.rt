@@ -6,21 +6,28 @@ ghost use Rattle.esc_actions.specs.Values.{print, value_of};
 ghost use Rattle.escape_stream.specs.Borrowed.{HasGrown, values_of};
 ghost use Rattle.memory.specs.Refusals.{Refused};
 
-use esc_actions::Action;
+use esc_actions::{Action, ControlCode};
 use esc_parse::commands::command_in;
-use esc_sequences::{CSI, Unspecified};
+use esc_sequences::{CSI, Sgr, Unspecified};
 use esc_values::{Boxed, CsiParam, Items};
 use std::alloc::{AllocError, Allocator};
 
 /// Actions as [`parse_borrowed`](crate::parse_borrowed) hands them out: text, parameters and
-/// commands lie where the parser has them, so that no memory is asked for.
+/// commands lie where the parser has them, so that no memory is asked for, and what is small comes
+/// by value.
 #[derive(Drop, Debug)]
 pub enum ActionRef<'a, T = Action> {
     /// A run of characters, one or more and no controls, of which each is a
     /// [`Print`](Action::Print).
     Text(&'a str),
+    /// A character by itself: one [`Print`](Action::Print).
+    Print(char),
+    /// A control code: one [`Control`](Action::Control).
+    Control(ControlCode),
+    /// A rendition: one [`CSI::Sgr`](crate::csi::CSI::Sgr).
+    Sgr(Sgr),
     /// A control sequence that has no name (ECMA-48, 5.4): one
-    /// [`CSI::Unspecified`](crate::csi::CSI::Unspecified). A rendition has a name, and is `Owned`.
+    /// [`CSI::Unspecified`](crate::csi::CSI::Unspecified).
     Sequence {
         /// The parameters of its body.
         params: &'a [CsiParam],
@@ -32,8 +39,7 @@ pub enum ActionRef<'a, T = Action> {
     /// The text of an operating system command (ECMA-48, 8.3.89), of which the parts are between
     /// `;`: one [`OperatingSystemCommand`](Action::OperatingSystemCommand).
     Command(&'a [u8]),
-    /// Any other action. A character that is no part of a run is here too, as a
-    /// [`Print`](Action::Print).
+    /// Any other action.
     Owned(T),
 }
 
@@ -49,6 +55,9 @@ impl<A: Allocator + Copy> ActionRef<'_, Action<A>> {
     {
         match self {
             ActionRef::Text(text) => append_text(text, actions),
+            ActionRef::Print(c) => append(Action::Print(c), actions),
+            ActionRef::Control(code) => append(Action::Control(code), actions),
+            ActionRef::Sgr(sgr) => append(Action::CSI(CSI::Sgr(sgr)), actions),
             ActionRef::Sequence {
                 params,
                 parameters_truncated,

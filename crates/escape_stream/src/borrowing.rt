@@ -131,6 +131,9 @@ pub fn parse_borrowed_into<A: Allocator + Copy, S: BorrowingSink<Action<A>>>(
 /// parse_borrowed(&mut parser, b"\x1b[2Jabc", |action| ensures { ⊤ } {
 ///     match action {
 ///         ActionRef::Text(text) => screen.show(text),
+///         ActionRef::Print(c) => screen.show_one(c),
+///         ActionRef::Control(code) => screen.control(code),
+///         ActionRef::Sgr(sgr) => screen.look(sgr),
 ///         ActionRef::Sequence { params, control, .. } => screen.run(params, control),
 ///         ActionRef::Command(text) => screen.command(text),
 ///         ActionRef::Owned(action) => screen.act(action),

@@ -3,12 +3,15 @@ ghost use Rattle.std.specs.Prelude.{◌≡◌, [], ◌∷◌, IsTrue, true};
 ghost use Rattle.std.specs.List.{list_all};
 ghost use Rattle.esc_frame.specs.Scans.{is_text_byte};
 ghost use Rattle.esc_sequences.specs.Csis.{csi_of, unspecified};
+ghost use Rattle.esc_actions.specs.Values.{value_of};
+ghost use Rattle.escape_stream.specs.Borrowed.{IsClear, IsSome, values_of};
 ghost use Rattle.escape_stream.specs.Lent.{Lends, LendsNot, MayLend};
 
 use crate::borrowed::ActionRef;
 use crate::borrowing::BorrowingSink;
 use esc_actions::Action;
 use esc_parse::Sink;
+use esc_sequences::CSI;
 use esc_sequences::csi::{is_unspecified, short_rendition};
 use esc_values::CsiParam;
 use std::alloc::{AllocError, Allocator};
@@ -64,7 +67,7 @@ impl<A: Allocator, S: BorrowingSink<Action<A>>> Sink<Action<A>> for Lending<S> {
     #[inline]
     fn receive(&mut self, action: Action<A>) -> Result<(), AllocError> {
         self.nothing_begun();
-        self.sink.receive(ActionRef::Owned(action))
+        self.sink.receive(lent(action))
     }
 
     #[inline]
@@ -108,6 +111,21 @@ impl<A: Allocator, S: BorrowingSink<Action<A>>> Sink<Action<A>> for Lending<S> {
             Ok(()) => Ok(true),
             Err(error) => Err(error),
         }
+    }
+}
+
+// An action as it is handed on: by value where it is small.
+#[inline(always)]
+fn lent<'a, A: Allocator>(action: Action<A>) -> ActionRef<'a, Action<A>>
+    ensures value { values_of result ≡ value_of action ∷ [] }
+    ensures some { IsSome result }
+    ensures clear { IsClear result }
+{
+    match action {
+        Action::Print(c) => ActionRef::Print(c),
+        Action::Control(code) => ActionRef::Control(code),
+        Action::CSI(CSI::Sgr(sgr)) => ActionRef::Sgr(sgr),
+        other => ActionRef::Owned(other),
     }
 }
 

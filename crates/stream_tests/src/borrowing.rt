@@ -14,7 +14,7 @@ use std::test::Fail;
 static ROWS: [(&[u8], &str); 12] = [
     (b"", ""),
     (b"ab", "Text(\"ab\")"),
-    (b"\xc3\xa9\n", "Owned(Print('é')) Owned(Control(LineFeed))"),
+    (b"\xc3\xa9\n", "Print('é') Control(LineFeed)"),
     (
         b"a\x1b[31mb",
         "Text(\"a\") Sequence { params: [Integer(31)], parameters_truncated: false, control: 109 } Text(\"b\")",
@@ -25,13 +25,10 @@ static ROWS: [(&[u8], &str); 12] = [
     ),
     (
         b"\x1b[H\x1b[m",
-        "Sequence { params: [], parameters_truncated: false, control: 72 } Owned(CSI(Sgr(Reset)))",
+        "Sequence { params: [], parameters_truncated: false, control: 72 } Sgr(Reset)",
     ),
-    (b"\x1b[1m", "Owned(CSI(Sgr(Intensity(Bold))))"),
-    (
-        b"\x1b[1;3m",
-        "Owned(CSI(Sgr(Intensity(Bold)))) Owned(CSI(Sgr(Italic(true))))",
-    ),
+    (b"\x1b[1m", "Sgr(Intensity(Bold))"),
+    (b"\x1b[1;3m", "Sgr(Intensity(Bold)) Sgr(Italic(true))"),
     (
         b"\x1b[1;31m",
         "Sequence { params: [Integer(1), P(59), Integer(31)], parameters_truncated: false, control: 109 }",
