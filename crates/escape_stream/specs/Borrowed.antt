@@ -13,7 +13,7 @@ use Rattle.esc_parse.specs.declared.parser.Parser.{Parser}
 use Rattle.escape_stream.specs.declared.borrowed.ActionRef.{ActionRef}
 use Rattle.escape_stream.specs.declared.borrowed.ActionRef.TheVariants.{Text, Print, Control, Sgr, Sequence, Command, Owned}
 
--- what a borrowed action means: the values of the actions that it stands for, in order
+-- what a borrowed action means: the values of one or more actions, in order
 abbrev pub values_of : {A : Type 0} → ActionRef (Action A) → List (Value A)
 values_of (Text t) = map print (chars t.now)
 values_of (Print c) = print c ∷ []

@@ -44,7 +44,7 @@ pub enum ActionRef<'a, T = Action> {
 }
 
 impl<A: Allocator + Copy> ActionRef<'_, Action<A>> {
-    /// Appends the actions that this stands for to a list. They are those that
+    /// Appends the actions that this means to a list. They are those that
     /// [`Parser::parse`](crate::Parser::parse) would have handed out.
     ///
     /// The error is that memory was refused; the list is as it was then.
