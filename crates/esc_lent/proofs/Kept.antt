@@ -144,3 +144,10 @@ kept_queued p kind memory (InApc o d) h = h
 kept_queued p kind memory (InIgnored k o d) h = h
 kept_queued p kind memory (InOsc o ps) h = h
 kept_queued p kind memory (InOscPending o ps f) h = h
+
+-- ---- where nothing changed
+
+pub kept_still : (p q : EscParser) (memory later : List ℕ) → q ≡ p → later ≡ memory
+    → (u : Unfinished) → KeptIn p memory u → KeptIn q later u
+kept_still p q memory later same kept u h =
+    subst (λ r. KeptIn r later u) (sym same) (subst (λ m. KeptIn p m u) (sym kept) h)

@@ -1,7 +1,11 @@
 pub mod Ahead
+pub mod BodyBytes
 pub mod Folds
 pub mod Kept
 pub mod Machines
+pub mod OneByte
+pub mod Only
+pub mod OscBytes
 pub mod Parts
 pub mod Steps
 pub mod Taken

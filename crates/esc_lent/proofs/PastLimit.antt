@@ -39,7 +39,7 @@ osc_number n h = grind (arith, nat_tests)
 apc_number : (n : ℕ) → state_numbered n ≡ state.Apc → n ≡ 7
 apc_number n h = grind (arith, nat_tests)
 
-formed_number : (n : ℕ) → n ≢ 3 → is_formed (form_numbered n) ≡ true
+pub formed_number : (n : ℕ) → n ≢ 3 → is_formed (form_numbered n) ≡ true
 formed_number n h = grind (arith, nat_tests)
 
 -- ---- what is unfinished, by the number of the state

@@ -56,11 +56,11 @@ from_ground p q e out limit x v zero none after new_events keeps = λ u memory r
 
 -- ---- an operating system command
 
-bell_class : (b : ℕ) → b ≡ 0x07 → Bell ≡ class_of b
+pub bell_class : (b : ℕ) → b ≡ 0x07 → Bell ≡ class_of b
 unfolding class_of
 bell_class b e = rw e refl
 
-escape_at : (b : ℕ) → b ≡ 0x1b → (Breaks Escape) ≡ class_of b
+pub escape_at : (b : ℕ) → b ≡ 0x1b → (Breaks Escape) ≡ class_of b
 escape_at b e = sym (ap class_of e ∙ escape_class)
 
 pub within : (limit n : ℕ) → n ≤ limit → is_within (Some limit) n ≡ true

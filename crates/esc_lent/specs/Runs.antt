@@ -1,5 +1,5 @@
 -- What bytes in ground give.
-use Rattle.std.specs.Prelude.{ℕ, ◌≡◌, Bool, true, not, ◌&&◌, List, length, take, Option, Some}
+use Rattle.std.specs.Prelude.{ℕ, ◌≡◌, Bool, true, not, ◌&&◌, List, [], length, take, Option, Some}
 use Rattle.std.specs.List.{list_all}
 use Rattle.std.specs.Str.{chars, IsUtf8}
 use Rattle.esc_values.specs.Clear.{is_clear}
@@ -37,6 +37,22 @@ Emits old new e out limit bytes x =
     → KeptIn new memory (after_all u x)
     × (emitted_by e out (take e.length bytes) ≡ events_all (Some limit) u x)
 
+-- The same where the memory changes too, from the one to the other.
+abbrev pub Steps : EscParser → EscParser → EscEvent → List ℕ → List ℕ → List ℕ → List ℕ → Type 0
+Steps old new e out before after x =
+    (u : Unfinished) → KeptIn old before u
+    → KeptIn new after (after_all u x) × (sent e out ≡ events_all (Some (length before)) u x)
+
+-- The same of bytes that give no event.
+abbrev pub PassesIn : EscParser → EscParser → List ℕ → List ℕ → List ℕ → Type 0
+PassesIn old new before after x =
+    (u : Unfinished) → KeptIn old before u
+    → KeptIn new after (after_all u x) × (events_all (Some (length before)) u x ≡ [])
+
+-- the same where the memory stays as it is
+abbrev pub Passes : EscParser → EscParser → List ℕ → Type 0
+Passes old new x = (memory : List ℕ) → PassesIn old new memory memory x
+
 -- what is still to be handed out, and whether the parser failed, is as before
 abbrev pub IsDueAs : EscParser → EscParser → Type 0
 IsDueAs new old = (new.queued_kind ≡ old.queued_kind) × (new.queued_value ≡ old.queued_value)
@@ -46,3 +62,14 @@ IsDueAs new old = (new.queued_kind ≡ old.queued_kind) × (new.queued_value ≡
 -- of an ESC alone
 abbrev pub closes_escape : Class → Bool
 closes_escape c = ends_escape c && not (opens c)
+
+-- But for the body of a control sequence the parser is as before.
+abbrev pub IsBodyChange : EscParser → EscParser → Type 0
+IsBodyChange new old = new ≡ record old {
+  form = new.form;
+  count = new.count;
+  csi_params = new.csi_params;
+  is_truncated = new.is_truncated;
+  is_open = new.is_open;
+  number = new.number;
+}

@@ -1,5 +1,6 @@
 -- What a parser keeps of the stream that it was fed.
 use Rattle.std.specs.Prelude.{ℕ, ◌≡◌, ◌≤◌, ◌/◌, true, false, nat_lt, if◌then◌else◌, List, [], ◌++◌, length, take, drop, map, Option, Some, None}
+use Rattle.esc_values.specs.declared.csi_param.CsiParam.{CsiParam}
 use Rattle.esc_frame.specs.declared.unfinished.body.Form.TheVariants as form
 use Rattle.esc_frame.specs.declared.machine.State.TheVariants as state
 use Rattle.esc_frame.specs.Bodies.{held, is_dcs_parameter}
@@ -24,6 +25,11 @@ begun_in p = begun p.pending p.first p.second p.third
 abbrev pub FirstIn : EscParser → List ℕ → Type 0
 FirstIn p x = (take p.kept p.intermediates ≡ take 2 x) × (p.has_more ≡ nat_lt 2 (length x))
     × (p.kept ≡ length (take 2 x))
+
+-- The parameters that are kept are the first of these, and the parser says whether there are more.
+abbrev pub ParamsIn : EscParser → List CsiParam → Type 0
+ParamsIn p all = (p.count ≤ 256)
+    × AreFirst (map param_of (take p.count p.csi_params)) p.is_truncated 256 all
 
 -- the number of the run of digits at the end
 abbrev pub NumberIn : EscParser → Option ℕ → Type 0

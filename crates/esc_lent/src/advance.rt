@@ -14,6 +14,7 @@ ghost use Rattle.esc_lent.specs.Emitted.{emitted_by, queued_of, is_run};
 use crate::event::{CHARACTER, CONTROL, DATA, EscEvent, FAILED, LIMIT_PASSED, NONE, TEXT};
 use crate::limited::{Place, note_limited};
 use crate::parser::EscParser;
+use crate::pieces::note_piece;
 use crate::quick::note_quick;
 use crate::runs::text_run;
 use crate::step::step;
@@ -161,6 +162,10 @@ pub fn advance(
     let first = ahead(parser, memory.len(), out, bytes, event);
     if first > 0 {
         return first;
+    }
+    let piece = note_piece(parser, memory, out, bytes, event);
+    if piece > 0 {
+        return piece;
     }
     let before = Place::of(parser);
     let (taken, has_failed) = step(parser, memory, out, event, bytes);

@@ -31,9 +31,9 @@ pub struct Body {
     pub after: u8,
 }
 
-// The parameter after those that there are.
+/// Writes the parameter after those that there are.
 #[inline(always)]
-fn put(csi_params: &mut [EscEntry], count: usize, entry: EscEntry)
+pub fn put(csi_params: &mut [EscEntry], count: usize, entry: EscEntry)
     requires { count < length csi_params.old }
     ensures { map param_of (take (count + 1) csi_params.new)
         ≡ map param_of (take count csi_params.old)

@@ -2,6 +2,9 @@
 #![tactic(auto)]
 
 pub mod advance;
+pub mod bodies;
+pub mod characters;
+pub mod commands;
 pub mod csi_params;
 pub mod event;
 pub mod fields;
@@ -11,7 +14,9 @@ pub mod named;
 pub mod next;
 pub mod no_memory;
 pub mod numbers;
+pub mod openers;
 pub mod parser;
+pub mod pieces;
 pub mod quick;
 pub mod recorder;
 pub mod runs;

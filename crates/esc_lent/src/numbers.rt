@@ -17,6 +17,9 @@ pub const GROUND: u32 = 0;
 /// The number of a parser in an escape sequence.
 pub const ESCAPED: u32 = 1;
 
+/// The number of a parser in a control sequence.
+pub const CSI_STATE: u32 = 2;
+
 /// The number of a parser in an operating system command.
 pub const OSC_STATE: u32 = 3;
 

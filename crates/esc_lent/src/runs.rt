@@ -32,13 +32,48 @@ pub fn ascii_text(bytes: &[u8]) -> usize
     ascii_run(bytes)
 }
 
-// A run that is well-formed, or nothing.
+// How many bytes the character has that begins with this byte.
+#[inline(always)]
+fn size_of(first: u8) -> usize {
+    if first < 0xe0 {
+        2
+    } else if first < 0xf0 {
+        3
+    } else {
+        4
+    }
+}
+
+// The place of the character that ends the bytes, where some of its own are still to come, or
+// `end`.
+#[inline(always)]
+fn before_cut(bytes: &[u8], end: usize) -> usize
+    requires { end ≤ length bytes.now }
+    ensures { result ≤ end }
+{
+    if end < bytes.len() {
+        return end;
+    }
+    let mut at = end;
+    while 0 < at && end - at < 3 && bytes[at - 1] & 0xc0 == 0x80 {
+        at -= 1;
+    }
+    if 0 < at && bytes[at - 1] >= 0xc0 && end - at + 1 < size_of(bytes[at - 1]) {
+        at - 1
+    } else {
+        end
+    }
+}
+
+// A run that is well-formed, or nothing. A character at its end that goes on in the next piece is
+// left out.
 #[inline(never)]
 fn wide_text(bytes: &[u8]) -> usize
     ensures few { result ≤ length bytes.now }
     ensures run { IsTextRun (take result bytes.now) }
 {
-    let run = free_run(bytes);
+    let free = free_run(bytes);
+    let run = before_cut(bytes, free);
     match simdutf8::basic::from_utf8(&bytes[..run]) {
         Ok(_) => run,
         Err(_) => 0,

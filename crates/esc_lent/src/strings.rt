@@ -9,13 +9,14 @@ ghost use Rattle.esc_lent.specs.Emitted.{is_run, sent, text_of};
 
 use crate::event::{ESCAPE, EscEvent, FAILED, NONE, OSC, TEXT};
 use crate::numbers::{ESCAPED, GROUND};
+use crate::openers::escape;
 use crate::parser::EscParser;
 use esc_frame::classes::{Class, classify};
 use esc_frame::runs::scans::units_run;
 
-// Copies a text to the place that it is handed out in.
+/// Copies a text to the place that it is handed out in.
 #[inline(always)]
-fn put_text(out: &mut [u8], event: &mut EscEvent, kind: u32, text: &[u8])
+pub fn put_text(out: &mut [u8], event: &mut EscEvent, kind: u32, text: &[u8])
     requires { length text.now ≤ length out.old }
     ensures text { text_of event.new out.new ≡ text.now }
     ensures kind { event.new.kind ≡ kind }
@@ -25,18 +26,6 @@ fn put_text(out: &mut [u8], event: &mut EscEvent, kind: u32, text: &[u8])
     out[..text.len()].copy_from_slice(text);
     event.length = text.len();
     event.kind = kind;
-}
-
-// After an ESC of which nothing more has come.
-#[inline(always)]
-fn escape(parser: &mut EscParser)
-    ensures state { (parser.new.state ≡ ESCAPED) × (parser.new.kept ≡ 0)
-        × (parser.new.has_more ≡ false) }
-    ensures queued { IsDueAs parser.new parser.old }
-{
-    parser.state = 1;
-    parser.kept = 0;
-    parser.has_more = false;
 }
 
 // An operating system command that ends by BEL, or by an ESC, which begins the next sequence. A

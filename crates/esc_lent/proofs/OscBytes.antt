@@ -1,0 +1,156 @@
+-- Bytes of an operating system command that lie in a later piece than its opener.
+use Rattle.std.proofs.Common.{ℕ, ◌≡◌, Bool, true, false, not, List, [], ◌∷◌, ◌++◌, take, length, refl, ap, sym, ◌∙◌, subst, Some, Option, if◌then◌else◌}
+use Rattle.std.proofs.lemmas.List.{append-nil}
+use Rattle.esc_frame.specs.declared.utf8.sequence.Outcome.TheVariants.{Whole, More}
+use Rattle.esc_frame.specs.Classes.{class_of}
+use Rattle.esc_frame.specs.Leads.{Unfinished}
+use Rattle.esc_frame.specs.Leads.Unfinished.{Ground, InEscape, InOsc, InOscPending}
+use Rattle.esc_frame.specs.Limits.{is_within}
+use Rattle.esc_frame.specs.Machine.Moves.{after_all, events_all, emitting, inside, leaving, move, osc_pending_move, pair_move}
+use Rattle.esc_frame.specs.Machine.TextRuns.{IsTextRun}
+use Rattle.esc_frame.specs.Segments as segments
+use Rattle.esc_frame.specs.Segments.{Opener, Piece, is_empty, osc_events}
+use Rattle.esc_frame.specs.Segments.Piece.{Sequence}
+use Rattle.esc_frame.specs.Sequences.{is_pair, outcome}
+use Rattle.esc_frame.proofs.Borrowed.{osc_emitted}
+use Rattle.esc_frame.proofs.Characters.{none_one}
+use Rattle.esc_frame.proofs.Pushed.{text_sequence}
+use Rattle.esc_frame.proofs.StringRuns.{run_text}
+use Rattle.esc_lent.specs.declared.event.EscEvent.{EscEvent}
+use Rattle.esc_lent.specs.declared.parser.EscParser.{EscParser}
+use Rattle.esc_lent.specs.Numbers.{state_numbered, begun}
+use Rattle.esc_lent.specs.Runs.{PassesIn, Steps}
+use Rattle.esc_lent.specs.States.{KeptIn, TextIn, begun_in}
+use Rattle.esc_lent.specs.Emitted.{sent, text_of}
+use Rattle.esc_lent.proofs.OneByte.{by_move, is_whole, is_more, first_lead, some_after}
+use Rattle.esc_lent.proofs.Only.{in_osc_only}
+use Rattle.esc_lent.proofs.Whole.{bell_class, escape_at, osc_said}
+
+none_begun : (p : EscParser) (f : List ℕ) → p.pending ≡ 0 → begun_in p ≡ f → is_empty f ≡ false → ⊥
+none_begun p f none is some =
+    let e : [] ≡ f = sym (ap (λ n. begun n p.first p.second p.third) none) ∙ is in
+    let k : is_empty f ≡ true = ap is_empty (sym e) in cc
+
+not_false : (t : Bool) → not t ≡ false → t ≡ true
+not_false true h = refl
+not_false false h = absurd cc
+
+-- ---- the byte that ends it
+
+bell_move : (l : Option ℕ) (o : Opener) (ps : List Piece) (b : ℕ) → b ≡ 0x07
+    → move l (InOsc o ps) b (class_of b) ≡ (Ground, osc_events l (segments.text_of ps))
+bell_move l o ps b e = sym (ap (inside l (InOsc o ps) b) (bell_class b e))
+
+escape_move : (l : Option ℕ) (o : Opener) (ps : List Piece) (b : ℕ) → b ≡ 0x1b
+    → move l (InOsc o ps) b (class_of b) ≡ (InEscape [], osc_events l (segments.text_of ps))
+escape_move l o ps b e =
+    sym (ap (inside l (InOsc o ps) b) (escape_at b e))
+    ∙ ap (λ es. (InEscape [], es)) (append-nil (osc_events l (segments.text_of ps)))
+
+module _ (p q : EscParser) (e : EscEvent) (memory out : List ℕ) (b : ℕ) (three : p.state ≡ 3)
+    (none : p.pending ≡ 0)
+    (off : p.is_over ≡ false) (kind : e.kind ≡ 6) (text : text_of e out ≡ take p.text memory) where
+  ends : (v : Unfinished)
+      → ((l : Option ℕ) (o : Opener) (ps : List Piece)
+      → move l (InOsc o ps) b (class_of b) ≡ (v, osc_events l (segments.text_of ps)))
+      → KeptIn q memory v → Steps p q e out memory memory (b ∷ [])
+  ends v moves keeps = λ u h.
+      in_osc_only p memory (λ u. KeptIn q memory (after_all u (b ∷ []))
+      × (sent e out ≡ events_all (Some (length memory)) u (b ∷ []))) three
+      (λ o ps i begins.
+      let t = segments.text_of ps in
+      let limit = Some (length memory) in
+      let k = by_move limit (InOsc o ps) v b (λ l. osc_events l t) (λ l. moves l o ps) in
+      let within : is_within limit (length t) ≡ true = not_false _ (sym i.0 ∙ off) in (
+        subst (KeptIn q memory) (sym k.0) keeps,
+        osc_said e out t kind (text ∙ (i.1 off).1) ∙ osc_emitted limit t within ∙ sym k.1,
+      ))
+      (λ o ps f i is some. absurd (none_begun p f none is some)) u h
+
+  pub bell_steps : b ≡ 0x07 → KeptIn q memory Ground → Steps p q e out memory memory (b ∷ [])
+  bell_steps is = ends Ground (λ l o ps. bell_move l o ps b is)
+
+  pub escape_steps : b ≡ 0x1b → KeptIn q memory (InEscape [])
+      → Steps p q e out memory memory (b ∷ [])
+  escape_steps is = ends (InEscape []) (λ l o ps. escape_move l o ps b is)
+
+-- ---- its text
+
+-- units
+pub units_pass : (p q : EscParser) (memory after x : List ℕ) → p.state ≡ 3 → p.pending ≡ 0
+    → q.state ≡ p.state → begun_in q ≡ begun_in p → IsTextRun x
+    → ((t : List ℕ) → TextIn p memory t → TextIn q after (t ++ x)) → PassesIn p q memory after x
+units_pass p q memory after x three none same begins units keeps = λ u h.
+    in_osc_only p memory (λ u. KeptIn q after (after_all u x)
+    × (events_all (Some (length memory)) u x ≡ [])) three
+    (λ o ps i empty.
+    let k = units.2 (Some (length memory)) o ps in (
+      subst (KeptIn q after) (sym k.0) (
+        ap state_numbered (same ∙ three),
+        subst (TextIn q after) (run_text ps units) (keeps (segments.text_of ps) i),
+        begins ∙ empty,
+      ),
+      k.1,
+    ))
+    (λ o ps f i is some. absurd (none_begun p f none is some)) u h
+
+module _ (p q : EscParser) (memory after : List ℕ) (b : ℕ) (three : p.state ≡ 3)
+    (same : q.state ≡ p.state) where
+  state_same : state_numbered q.state ≡ state_numbered 3
+  state_same = ap state_numbered (same ∙ three)
+
+  moved : (u v : Unfinished) → ((l : Option ℕ) → move l u b (class_of b) ≡ (v, []))
+      → KeptIn q after v
+      → KeptIn q after (after_all u (b ∷ []))
+      × (events_all (Some (length memory)) u (b ∷ []) ≡ [])
+  moved u v goes h = let k = by_move (Some (length memory)) u v b (λ l. []) goes in
+      (subst (KeptIn q after) (sym k.0) h, k.1)
+
+  -- a byte of a character that does not complete it
+  pub more_in_osc : outcome (begun_in p) b ≡ More → begun_in q ≡ begun_in p ++ b ∷ []
+      → ((t : List ℕ) → TextIn p memory t → TextIn q after t) → PassesIn p q memory after (b ∷ [])
+  more_in_osc goes begins keeps = λ u h.
+      in_osc_only p memory (λ u. KeptIn q after (after_all u (b ∷ []))
+      × (events_all (Some (length memory)) u (b ∷ []) ≡ [])) three
+      (λ o ps i empty.
+      let lead = first_lead b (is_more [] b (subst (λ f. outcome f b ≡ More) empty goes)) in
+      moved (InOsc o ps) (InOscPending o ps (b ∷ [])) (λ l. ap (inside l (InOsc o ps) b) lead) (
+        state_same,
+        keeps (segments.text_of ps) i,
+        begins ∙ ap (λ f. f ++ b ∷ []) empty,
+        refl,
+      ))
+      (λ o ps f i is some.
+      let more : outcome f b ≡ More = subst (λ f. outcome f b ≡ More) is goes in
+      moved (InOscPending o ps f) (InOscPending o ps (f ++ b ∷ []))
+      (λ l. ap (osc_pending_move l o ps f b (class_of b)) more) (
+        state_same,
+        keeps (segments.text_of ps) i,
+        begins ∙ ap (λ f. f ++ b ∷ []) is,
+        some_after f b,
+      )) u h
+
+  -- the byte that does
+  pub whole_in_osc : outcome (begun_in p) b ≡ Whole → is_pair (begun_in p ++ b ∷ []) ≡ false
+      → begun_in q ≡ []
+      → ((t : List ℕ) → TextIn p memory t → TextIn q after (t ++ (begun_in p ++ b ∷ [])))
+      → PassesIn p q memory after (b ∷ [])
+  whole_in_osc goes single empty keeps = λ u h.
+      in_osc_only p memory (λ u. KeptIn q after (after_all u (b ∷ []))
+      × (events_all (Some (length memory)) u (b ∷ []) ≡ [])) three
+      (λ o ps i is.
+      absurd (none_one b (is_whole [] b (subst (λ f. outcome f b ≡ Whole) is goes))))
+      (λ o ps f i is some.
+      let whole : outcome f b ≡ Whole = subst (λ f. outcome f b ≡ Whole) is goes in
+      let x = f ++ b ∷ [] in
+      moved (InOscPending o ps f) (InOsc o (ps ++ Sequence x ∷ []))
+      (λ l. ap (osc_pending_move l o ps f b (class_of b)) whole
+      ∙ ap (λ t. if t then emitting (leaving l (InOscPending o ps f)) (pair_move b (class_of b)) else
+      (InOsc o (ps ++ Sequence x ∷ []), []))
+      (subst (λ f. is_pair (f ++ b ∷ []) ≡ false) is single)) (
+        state_same,
+        subst (TextIn q after) (text_sequence ps x)
+            (subst (λ f. TextIn q after (segments.text_of ps ++ (f ++ b ∷ []))) is
+            (keeps (segments.text_of ps) i)),
+        empty,
+      )) u h

@@ -1,0 +1,62 @@
+//! Characters whose bytes come in pieces.
+#![tactic(auto)]
+
+ghost use Rattle.std.specs.Prelude.{◌≡◌, ◌⊎◌, ◌∷◌, [], ℕ, List, true, false};
+ghost use Rattle.esc_frame.specs.Machine.Prefixes.{prefix_of};
+ghost use Rattle.esc_lent.specs.Runs.{IsDueAs, Notes};
+ghost use Rattle.esc_lent.specs.States.{begun_in};
+
+use crate::event::{CHARACTER, EscEvent, NONE};
+use crate::numbers::{GROUND, numbers_of_pending, pending_in};
+use crate::parser::EscParser;
+use esc_frame::utf8::sequence::{Outcome, Pending};
+
+/// Keeps the bytes of a character that have come.
+#[inline(always)]
+pub fn put_pending(parser: &mut EscParser, pending: Pending)
+    ensures begun { begun_in parser.new ≡ prefix_of pending }
+    ensures same { parser.new ≡ record parser.old {
+      pending = parser.new.pending;
+      first = parser.new.first;
+      second = parser.new.second;
+      third = parser.new.third;
+    } }
+{
+    let (count, first, second, third) = numbers_of_pending(pending);
+    parser.pending = count;
+    parser.first = first;
+    parser.second = second;
+    parser.third = third;
+}
+
+/// Takes a byte of a character, the first or a later one. False where the byte is none, or ends a
+/// control, and then nothing changes.
+#[inline(always)]
+pub fn note_character(parser: &mut EscParser, byte: u8, event: &mut EscEvent) -> bool
+    requires ground { parser.old.state ≡ GROUND }
+    requires none { event.old.kind ≡ NONE }
+    ensures other { result ≡ false → (parser.new ≡ parser.old) × (event.new ≡ event.old) }
+    ensures kind { (event.new.kind ≡ NONE) ⊎ (event.new.kind ≡ CHARACTER) }
+    ensures event { event.new ≡ record event.old { kind = event.new.kind; byte = event.new.byte } }
+    ensures queued { IsDueAs parser.new parser.old }
+    ensures notes { result ≡ true → (out : List ℕ) (limit : ℕ)
+        → Notes parser.old parser.new event.new out limit (byte ∷ []) }
+{
+    let pending = pending_in(parser);
+    match pending.outcome(byte) {
+        Outcome::Whole => {
+            if pending.pairs_with(byte) {
+                return false;
+            }
+            event.kind = CHARACTER;
+            event.byte = pending.character(byte) as u32;
+            parser.pending = 0;
+            true
+        }
+        Outcome::More => {
+            put_pending(parser, pending.with(byte));
+            true
+        }
+        Outcome::Broken => false,
+    }
+}

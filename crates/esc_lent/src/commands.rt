@@ -1,0 +1,169 @@
+//! Operating system commands whose text comes in pieces: it is appended where the parser keeps it.
+#![tactic(auto)]
+
+ghost use Rattle.std.specs.Prelude.{◌≡◌, ◌≤◌, ◌<◌, ◌⊎◌, ◌++◌, ◌∷◌, [], ℕ, List, true, false, length, take};
+ghost use Rattle.esc_frame.specs.Machine.TextRuns.{IsTextRun};
+ghost use Rattle.esc_frame.specs.Machine.Prefixes.{prefix_of};
+ghost use Rattle.esc_frame.specs.Sequences.{is_pair};
+ghost use Rattle.esc_lent.specs.Runs.{IsDueAs, PassesIn, Steps};
+ghost use Rattle.esc_lent.specs.States.{TextIn};
+
+use crate::characters::put_pending;
+use crate::event::{EscEvent, NONE, OSC};
+use crate::numbers::{OSC_STATE, pending_in};
+use crate::openers::escape;
+use crate::parser::EscParser;
+use crate::strings::put_text;
+use esc_frame::runs::scans::units_run;
+use esc_frame::utf8::sequence::{Outcome, Pending};
+
+// Appends to the text that is kept. False where there is no room, and then nothing changes.
+#[inline(always)]
+fn append(parser: &mut EscParser, memory: &mut [u8], text: &[u8]) -> bool
+    ensures other { result ≡ false → (parser.new ≡ parser.old) × (memory.new ≡ memory.old) }
+    ensures same { parser.new ≡ record parser.old { text = parser.new.text } }
+    ensures kept { result ≡ true → (t : List ℕ) → TextIn parser.old memory.old t
+        → TextIn parser.new memory.new (t ++ text.now) }
+{
+    let count = parser.text;
+    if parser.is_over || count > memory.len() || text.len() > memory.len() - count {
+        return false;
+    }
+    let end = count + text.len();
+    memory[count..end].copy_from_slice(text);
+    parser.text = end;
+    true
+}
+
+// The last byte of a character, of which these came before.
+fn append_character(parser: &mut EscParser, memory: &mut [u8], pending: Pending, byte: u8) -> bool
+    ensures other { result ≡ false → (parser.new ≡ parser.old) × (memory.new ≡ memory.old) }
+    ensures same { parser.new ≡ record parser.old { text = parser.new.text } }
+    ensures kept { result ≡ true → (t : List ℕ) → TextIn parser.old memory.old t
+        → TextIn parser.new memory.new (t ++ (prefix_of pending ++ byte ∷ [])) }
+{
+    match pending {
+        Pending::Nothing => append(parser, memory, &[byte]),
+        Pending::One(a) => append(parser, memory, &[a, byte]),
+        Pending::Two(a, second) => append(parser, memory, &[a, second, byte]),
+        Pending::Three(a, second, third) => append(parser, memory, &[a, second, third, byte]),
+    }
+}
+
+// Takes a byte of a character, the first or a later one. False where the byte is none, or ends a
+// control, or there is no room, and then nothing changes.
+#[inline(never)]
+fn note_wide(parser: &mut EscParser, memory: &mut [u8], byte: u8) -> bool
+    requires { parser.old.state ≡ OSC_STATE }
+    ensures other { result ≡ false → (parser.new ≡ parser.old) × (memory.new ≡ memory.old) }
+    ensures queued { IsDueAs parser.new parser.old }
+    ensures passes { result ≡ true
+        → PassesIn parser.old parser.new memory.old memory.new (byte ∷ []) }
+{
+    let pending = pending_in(parser);
+    match pending.outcome(byte) {
+        Outcome::Whole => {
+            if pending.pairs_with(byte) || !append_character(parser, memory, pending, byte) {
+                return false;
+            }
+            parser.pending = 0;
+            true
+        }
+        Outcome::More => {
+            put_pending(parser, pending.with(byte));
+            true
+        }
+        Outcome::Broken => false,
+    }
+}
+
+// Appends the units of the text that come first.
+#[inline(always)]
+fn note_units(parser: &mut EscParser, memory: &mut [u8], text: &[u8]) -> bool
+    requires state { (parser.old.state ≡ OSC_STATE) × (parser.old.pending ≡ 0) }
+    requires units { IsTextRun text.now }
+    ensures other { result ≡ false → (parser.new ≡ parser.old) × (memory.new ≡ memory.old) }
+    ensures queued { IsDueAs parser.new parser.old }
+    ensures passes { result ≡ true
+        → PassesIn parser.old parser.new memory.old memory.new text.now }
+{
+    append(parser, memory, text)
+}
+
+// Hands out the text, where BEL ends it, or an ESC, which begins the next sequence. False where the
+// byte is another one, or the text is past the limit, and then nothing changes.
+#[inline(always)]
+fn end(
+    parser: &mut EscParser,
+    memory: &[u8],
+    out: &mut [u8],
+    byte: u8,
+    event: &mut EscEvent,
+) -> bool
+    requires state { (parser.old.state ≡ OSC_STATE) × (parser.old.pending ≡ 0) }
+    ensures other { result ≡ false → (parser.new ≡ parser.old) × (event.new ≡ event.old)
+        × (out.new ≡ out.old) }
+    ensures some { result ≡ true → (event.new.kind ≡ OSC) × (event.new.length ≤ length out.old) }
+    ensures within { (event.new.count ≡ event.old.count) × (event.new.kept ≡ event.old.kept) }
+    ensures queued { IsDueAs parser.new parser.old }
+    ensures notes { result ≡ true → Steps parser.old parser.new event.new out.new memory.now
+        memory.now (byte ∷ []) }
+{
+    let count = parser.text;
+    if parser.is_over || count > memory.len() || count > out.len() {
+        return false;
+    }
+    if byte == 0x07 {
+        parser.state = 0;
+    } else if byte == 0x1b {
+        escape(parser);
+    } else {
+        return false;
+    }
+    put_text(out, event, OSC, &memory[..count]);
+    true
+}
+
+/// Takes the text of an operating system command that comes first, a byte of a character in it, or
+/// the byte that ends it; nothing where something else comes, or the text is past the limit.
+#[inline(always)]
+pub fn note_in_osc(
+    parser: &mut EscParser,
+    memory: &mut [u8],
+    out: &mut [u8],
+    bytes: &[u8],
+    event: &mut EscEvent,
+) -> usize
+    requires some { 0 < length bytes.now }
+    requires state { parser.old.state ≡ OSC_STATE }
+    requires none { event.old.kind ≡ NONE }
+    requires length { event.old.length ≤ length out.old }
+    ensures few { result ≤ length bytes.now }
+    ensures none { result ≡ 0 → (parser.new ≡ parser.old) × (event.new ≡ event.old)
+        × (memory.new ≡ memory.old) }
+    ensures kind { (event.new.kind ≡ NONE) ⊎ (event.new.kind ≡ OSC) }
+    ensures within { (event.new.count ≡ event.old.count) × (event.new.kept ≡ event.old.kept)
+        × (event.new.length ≤ length out.old) }
+    ensures queued { IsDueAs parser.new parser.old }
+    ensures steps { 0 < result → Steps parser.old parser.new event.new out.new memory.old
+        memory.new (take result bytes.now) }
+{
+    if parser.pending == 0 {
+        let run = units_run(bytes);
+        if run > 0 {
+            return if note_units(parser, memory, &bytes[..run]) {
+                run
+            } else {
+                0
+            };
+        }
+        if end(parser, memory, out, bytes[0], event) {
+            return 1;
+        }
+    }
+    if note_wide(parser, memory, bytes[0]) {
+        1
+    } else {
+        0
+    }
+}

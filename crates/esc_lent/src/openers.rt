@@ -1,0 +1,93 @@
+//! What begins a sequence or a string, where its bytes come in pieces.
+#![tactic(auto)]
+
+ghost use Rattle.std.specs.Prelude.{◌≡◌, ◌∷◌, [], ℕ, List, true, false};
+ghost use Rattle.esc_frame.specs.Machine.Moves.{opened};
+ghost use Rattle.esc_frame.specs.Segments.{Opener};
+ghost use Rattle.esc_lent.specs.Runs.{IsDueAs, Passes};
+ghost use Rattle.esc_lent.specs.States.{KeptIn};
+
+use crate::numbers::{ESCAPED, GROUND};
+use crate::parser::EscParser;
+use esc_frame::classes::{Class, Kind, classify};
+
+/// An ESC of which nothing more has come.
+#[inline(always)]
+pub fn escape(parser: &mut EscParser)
+    ensures state { (parser.new.state ≡ ESCAPED) × (parser.new.kept ≡ 0)
+        × (parser.new.has_more ≡ false) }
+    ensures queued { IsDueAs parser.new parser.old }
+{
+    parser.state = 1;
+    parser.kept = 0;
+    parser.has_more = false;
+}
+
+/// An ESC between sequences.
+#[inline(always)]
+pub fn begin_escape(parser: &mut EscParser)
+    requires ground { (parser.old.state ≡ GROUND) × (parser.old.pending ≡ 0) }
+    ensures queued { IsDueAs parser.new parser.old }
+    ensures passes { Passes parser.old parser.new (0x1b ∷ []) }
+{
+    escape(parser);
+}
+
+// What this kind of opener opens.
+#[inline(always)]
+fn open_kind(parser: &mut EscParser, kind: Kind)
+    ensures queued { IsDueAs parser.new parser.old }
+    ensures opened { (o : Opener) (memory : List ℕ) → KeptIn parser.new memory (opened kind o) }
+{
+    parser.text = 0;
+    parser.is_over = false;
+    parser.form = 0;
+    match kind {
+        Kind::Csi => {
+            parser.count = 0;
+            parser.is_truncated = false;
+            parser.is_open = false;
+            parser.state = 2;
+        }
+        Kind::Osc => {
+            parser.pending = 0;
+            parser.state = 3;
+        }
+        Kind::Dcs => {
+            parser.kept = 0;
+            parser.has_more = false;
+            parser.state = 4;
+        }
+        Kind::Sos | Kind::Pm => parser.state = 6,
+        Kind::Apc => parser.state = 7,
+    }
+}
+
+/// The letter after an ESC that opens a sequence or a string. False where the byte is another one,
+/// or an intermediate came before it, and then nothing changes.
+#[inline(always)]
+pub fn note_opener(parser: &mut EscParser, byte: u8) -> bool
+    requires state { parser.old.state ≡ ESCAPED }
+    ensures other { result ≡ false → parser.new ≡ parser.old }
+    ensures queued { IsDueAs parser.new parser.old }
+    ensures passes { result ≡ true → Passes parser.old parser.new (byte ∷ []) }
+{
+    if parser.kept > 0 {
+        return false;
+    }
+    match classify(byte) {
+        Class::Introducer(kind) => {
+            open_kind(parser, kind);
+            true
+        }
+        Class::C0
+        | Class::Bell
+        | Class::Breaks(_)
+        | Class::Intermediate
+        | Class::Parameter
+        | Class::Final
+        | Class::Delete
+        | Class::High
+        | Class::Lead => false,
+    }
+}

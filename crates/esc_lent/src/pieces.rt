@@ -1,0 +1,91 @@
+//! What lies in two pieces of the stream, taken without a machine.
+#![tactic(auto)]
+
+ghost use Rattle.std.specs.Prelude.{◌≡◌, ◌≤◌, ◌<◌, ◌⊎◌, ◌∷◌, [], ℕ, List, true, false, length, take};
+ghost use Rattle.esc_lent.specs.Runs.{IsDueAs, Notes, Steps};
+ghost use Rattle.esc_lent.specs.Emitted.{is_run};
+
+use crate::bodies::note_in_csi;
+use crate::characters::note_character;
+use crate::commands::note_in_osc;
+use crate::event::{CHARACTER, EscEvent, FAILED, NONE};
+use crate::numbers::GROUND;
+use crate::openers::{begin_escape, note_opener};
+use crate::parser::EscParser;
+
+// An ESC, or a byte of a character.
+#[inline(always)]
+fn note_in_ground(parser: &mut EscParser, byte: u8, event: &mut EscEvent) -> bool
+    requires ground { parser.old.state ≡ GROUND }
+    requires none { event.old.kind ≡ NONE }
+    ensures other { result ≡ false → (parser.new ≡ parser.old) × (event.new ≡ event.old) }
+    ensures kind { (event.new.kind ≡ NONE) ⊎ (event.new.kind ≡ CHARACTER) }
+    ensures event { event.new ≡ record event.old { kind = event.new.kind; byte = event.new.byte } }
+    ensures queued { IsDueAs parser.new parser.old }
+    ensures notes { result ≡ true → (out : List ℕ) (limit : ℕ)
+        → Notes parser.old parser.new event.new out limit (byte ∷ []) }
+{
+    if byte == 0x1b && parser.pending == 0 {
+        begin_escape(parser);
+        true
+    } else {
+        note_character(parser, byte, event)
+    }
+}
+
+// Takes the first byte, where it is one of a sequence or a character.
+#[inline(always)]
+fn note_byte(parser: &mut EscParser, byte: u8, event: &mut EscEvent) -> bool
+    requires none { event.old.kind ≡ NONE }
+    requires count { event.old.count ≤ 256 }
+    ensures other { result ≡ false → (parser.new ≡ parser.old) × (event.new ≡ event.old) }
+    ensures kind { (event.new.kind < FAILED) × (is_run event.new.kind ≡ false) }
+    ensures within { (event.new.count ≤ 256) × (event.new.kept ≡ event.old.kept)
+        × (event.new.length ≡ event.old.length) }
+    ensures queued { IsDueAs parser.new parser.old }
+    ensures notes { result ≡ true → (out : List ℕ) (limit : ℕ)
+        → Notes parser.old parser.new event.new out limit (byte ∷ []) }
+{
+    if parser.state == 2 {
+        note_in_csi(parser, byte, event)
+    } else if parser.state == 0 {
+        note_in_ground(parser, byte, event)
+    } else if parser.state == 1 {
+        note_opener(parser, byte)
+    } else {
+        false
+    }
+}
+
+/// Takes what comes first, where it continues a sequence, a character or a command, or begins one:
+/// at least a byte. Nothing where something else comes, which is left to the machine.
+#[inline(always)]
+pub fn note_piece(
+    parser: &mut EscParser,
+    memory: &mut [u8],
+    out: &mut [u8],
+    bytes: &[u8],
+    event: &mut EscEvent,
+) -> usize
+    requires some { 0 < length bytes.now }
+    requires none { event.old.kind ≡ NONE }
+    requires within { (event.old.count ≤ 256) × (event.old.kept ≤ 2)
+        × (event.old.length ≤ length out.old) }
+    ensures few { result ≤ length bytes.now }
+    ensures none { result ≡ 0 → (parser.new ≡ parser.old) × (event.new ≡ event.old)
+        × (memory.new ≡ memory.old) }
+    ensures kind { (event.new.kind < FAILED) × (is_run event.new.kind ≡ false) }
+    ensures within { (event.new.count ≤ 256) × (event.new.kept ≤ 2)
+        × (event.new.length ≤ length out.old) }
+    ensures queued { IsDueAs parser.new parser.old }
+    ensures steps { 0 < result → Steps parser.old parser.new event.new out.new memory.old
+        memory.new (take result bytes.now) }
+{
+    if parser.state == 3 {
+        note_in_osc(parser, memory, out, bytes, event)
+    } else if note_byte(parser, bytes[0], event) {
+        1
+    } else {
+        0
+    }
+}
