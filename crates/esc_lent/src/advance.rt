@@ -167,6 +167,45 @@ pub fn advance(
     if piece > 0 {
         return piece;
     }
+    by_machine(parser, memory, out, bytes, event)
+}
+
+// The same by a machine, which is set up for it. It is out of the way of what needs none.
+#[inline(never)]
+fn by_machine(
+    parser: &mut EscParser,
+    memory: &mut [u8],
+    out: &mut [u8],
+    bytes: &[u8],
+    event: &mut EscEvent,
+) -> usize
+    requires some { 0 < length bytes.now }
+    requires none { event.old.kind ≡ NONE }
+    requires queued { queued_of parser.old.queued_kind parser.old.queued_value ≡ [] }
+    requires within { (event.old.count ≤ 256) × (event.old.kept ≤ 2)
+        × (event.old.length ≤ length out.old) }
+    ensures few { result ≤ length bytes.now }
+    ensures within { (event.new.count ≤ 256) × (event.new.kept ≤ 2) }
+    ensures text { is_run event.new.kind ≡ false → event.new.length ≤ length out.old }
+    ensures run { is_run event.new.kind ≡ true → event.new.length ≤ result }
+    ensures utf8 { event.new.kind ≡ TEXT → IsUtf8 (take event.new.length bytes.now) }
+    ensures some { event.new.kind ≢ FAILED → 0 < result }
+    ensures kept { (u : Unfinished) → KeptIn parser.old memory.old u → event.new.kind ≢ FAILED
+        → KeptIn parser.new memory.new (after_all u (take result bytes.now)) }
+    ensures emitted { (u : Unfinished) → KeptIn parser.old memory.old u → event.new.kind ≢ FAILED
+        → emitted_by event.new out.new (take event.new.length bytes.now)
+        ++ queued_of parser.new.queued_kind parser.new.queued_value
+        ≡ events_all (Some (length memory.old)) u (take result bytes.now) }
+    ensures queued { event.new.kind ≡ NONE
+        → queued_of parser.new.queued_kind parser.new.queued_value ≡ [] }
+    ensures limited { (u : Unfinished) → KeptIn parser.old memory.old u
+        → event.new.kind ≡ LIMIT_PASSED
+        → IsLimited (length memory.old) u (take result bytes.now) }
+    ensures failed { event.new.kind ≡ FAILED → parser.new.has_failed ≡ true }
+    ensures goes_on { event.new.kind ≢ FAILED → parser.new.has_failed ≡ parser.old.has_failed }
+    ensures sound { (u : Unfinished) → KeptIn parser.old memory.old u
+        → length memory.old ≤ length out.old → event.new.kind ≢ FAILED }
+{
     let before = Place::of(parser);
     let (taken, has_failed) = step(parser, memory, out, event, bytes);
     if has_failed || !is_sound(event, out.len()) || (event.kind == NONE && gives_queued(parser)) {

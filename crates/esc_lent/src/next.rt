@@ -133,13 +133,43 @@ pub fn next(parser: &mut EscParser, buffer: &mut [u8], bytes: &[u8], event: &mut
     ensures sound { (s : List ℕ) (es : List Event) → IsAt s es parser.old (lower buffer.old)
         → event.new.kind ≢ FAILED }
 {
-    if is_idle(parser) && bytes.len() >= AHEAD {
+    if bytes.len() < AHEAD {
+        return next_of_few(parser, buffer, bytes, event);
+    }
+    if is_idle(parser) {
         if bytes[0] == 0x1b {
             return next_of_sequence(parser, buffer, bytes, event);
         }
         let taken = note_plain(bytes, event);
         if taken > 0 {
             return taken;
+        }
+    }
+    next_of_any(parser, buffer, bytes, event)
+}
+
+// The same of fewer bytes: mostly there are none any more, or the next ones are characters.
+#[inline(never)]
+fn next_of_few(
+    parser: &mut EscParser,
+    buffer: &mut [u8],
+    bytes: &[u8],
+    event: &mut EscEvent,
+) -> usize
+    ensures holds { Next parser (halves buffer.old) (halves buffer.new) bytes.now event.new result }
+    ensures sound { (s : List ℕ) (es : List Event) → IsAt s es parser.old (lower buffer.old)
+        → event.new.kind ≢ FAILED }
+{
+    if is_idle(parser) {
+        if bytes.is_empty() {
+            event.clear();
+            return 0;
+        }
+        if bytes[0] != 0x1b {
+            let taken = note_plain(bytes, event);
+            if taken > 0 {
+                return taken;
+            }
         }
     }
     next_of_any(parser, buffer, bytes, event)
