@@ -1,5 +1,7 @@
 pub mod Ahead
+pub mod ApcBytes
 pub mod BodyBytes
+pub mod DataBytes
 pub mod Folds
 pub mod Kept
 pub mod Machines
@@ -7,6 +9,7 @@ pub mod OneByte
 pub mod Only
 pub mod OscBytes
 pub mod Parts
+pub mod Sequences
 pub mod Steps
 pub mod Taken
 pub mod TextRuns

@@ -22,6 +22,7 @@ use Rattle.esc_frame.proofs.CsiRuns.{body_quiet, body_strip, escape_class, final
 use Rattle.esc_frame.proofs.FirstParams.{finished_csi_params, finished_truncated}
 use Rattle.esc_frame.proofs.Forms.{formed}
 use Rattle.esc_frame.proofs.ManyBytes.{lead_class}
+use Rattle.esc_frame.proofs.SameMoves.{after_same}
 use Rattle.esc_lent.specs.declared.event.EscEvent.{EscEvent}
 use Rattle.esc_lent.specs.declared.parser.EscParser.{EscParser}
 use Rattle.esc_lent.specs.Numbers.{state_numbered, form_numbered}
@@ -45,18 +46,20 @@ nothing_noted p q e x none passes out limit = λ u memory room h.
     (k.0, rw none (sym k.1 ∙ ap (λ n. events_all (Some n) u x) room))
 
 -- by what the byte makes of what is unfinished
-pub by_move : (limit : Option ℕ) (u v : Unfinished) (b : ℕ) (es : Option ℕ → List Event)
-    → ((l : Option ℕ) → move l u b (class_of b) ≡ (v, es l))
-    → (after_all u (b ∷ []) ≡ v) × (events_all limit u (b ∷ []) ≡ es limit)
-by_move limit u v b es same =
-    (ap (λ m. m.0) (same None), append-nil _ ∙ ap (λ m. m.1) (same limit))
+pub by_move : (limit : Option ℕ) (u v : Unfinished) (b : ℕ) (es : List Event)
+    → move limit u b (class_of b) ≡ (v, es)
+    → (after_all u (b ∷ []) ≡ v) × (events_all limit u (b ∷ []) ≡ es)
+by_move limit u v b es same = (
+  sym (after_same limit u b (class_of b)) ∙ ap (λ m. m.0) same,
+  append-nil _ ∙ ap (λ m. m.1) same,
+)
 
 -- a byte that gives nothing
-pub moves_on : (q : EscParser) (memory : List ℕ) (limit : Option ℕ) (u v : Unfinished) (b : ℕ)
-    → ((l : Option ℕ) → move l u b (class_of b) ≡ (v, [])) → KeptIn q memory v
-    → KeptIn q memory (after_all u (b ∷ [])) × (events_all limit u (b ∷ []) ≡ [])
-moves_on q memory limit u v b same h =
-    let k = by_move limit u v b (λ l. []) same in (subst (KeptIn q memory) (sym k.0) h, k.1)
+pub moves_on : (q : EscParser) (after : List ℕ) (limit : Option ℕ) (u v : Unfinished) (b : ℕ)
+    → move limit u b (class_of b) ≡ (v, []) → KeptIn q after v
+    → KeptIn q after (after_all u (b ∷ [])) × (events_all limit u (b ∷ []) ≡ [])
+moves_on q after limit u v b same h =
+    let k = by_move limit u v b [] same in (subst (KeptIn q after) (sym k.0) h, k.1)
 
 -- ---- an escape sequence
 
@@ -69,7 +72,7 @@ escape_passes p q zero none one kept more = λ memory u h.
     (sym (ground_only p memory zero none u h))
     (rw escape_class (in_escape q memory one kept more, refl))
 
-none_first : (x : List ℕ) → length (take 2 x) ≡ 0 → is_empty x ≡ true
+pub none_first : (x : List ℕ) → length (take 2 x) ≡ 0 → is_empty x ≡ true
 none_first [] h = refl
 none_first (a ∷ x) h = absurd cc
 
@@ -82,7 +85,7 @@ opener_passes p q b k one kept is opens = λ memory.
     × (events_all (Some (length memory)) u (b ∷ []) ≡ [])) one
     (λ x h. let none : is_empty (strip x) ≡ true = none_first (strip x) (sym h.2 ∙ kept) in
     moves_on q memory (Some (length memory)) (InEscape x) (opened k (Long x)) b
-    (λ l. ap (inside l (InEscape x) b) is
+    (ap (inside (Some (length memory)) (InEscape x) b) is
     ∙ ap (λ t. if t then (opened k (Long x), []) else (Ground, escape_event (strip x) b ∷ [])) none)
     (opens (Long x) memory))
 
@@ -114,8 +117,8 @@ module _ (p q : EscParser) (e : EscEvent) (b : ℕ) (two : p.state ≡ 2) (low :
   by_body says out limit = λ u memory room h.
       in_csi_only p memory (λ u. KeptIn q memory (after_all u (b ∷ []))
       × (sent e out ≡ events_all (Some limit) u (b ∷ []))) two
-      (λ o x i. let d = by_move (Some limit) (InCsi o x) Ground b (λ l. csi_events (strip x) b)
-      (λ l. final_by l o x b low high) in (
+      (λ o x i. let d = by_move (Some limit) (InCsi o x) Ground b (csi_events (strip x) b)
+      (final_by (Some limit) o x b low high) in (
         subst (KeptIn q memory) (sym d.0) (in_ground q memory zero none),
         says (strip x) out i ∙ sym d.1,
       )) u h
@@ -186,11 +189,11 @@ more_passes p q b zero same goes begins = λ memory.
     (λ none.
     let lead = first_lead b (is_more [] b (subst (λ f. outcome f b ≡ More) none goes)) in
     moves_on q memory (Some (length memory)) Ground (Pending (b ∷ [])) b
-    (λ l. ap (ground_move b) lead) (state, begins ∙ ap (λ f. f ++ b ∷ []) none, refl))
+    (ap (ground_move b) lead) (state, begins ∙ ap (λ f. f ++ b ∷ []) none, refl))
     (λ f is some.
     let more : outcome f b ≡ More = subst (λ f. outcome f b ≡ More) is goes in
     moves_on q memory (Some (length memory)) (Pending f) (Pending (f ++ b ∷ [])) b
-    (λ l. ap (pending_move f b (class_of b)) more)
+    (ap (pending_move f b (class_of b)) more)
     (state, begins ∙ ap (λ f. f ++ b ∷ []) is, some_after f b))
 
 -- the byte that does
@@ -205,8 +208,8 @@ whole_notes p q e b zero ground none ends single kind byte out limit = λ u memo
     (λ f is some.
     let print : List Event = Print (number_of (f ++ b ∷ [])) ∷ [] in
     let whole : outcome f b ≡ Whole = subst (λ f. outcome f b ≡ Whole) is ends in
-    let k = by_move (Some limit) (Pending f) Ground b (λ l. print)
-    (λ l. ap (pending_move f b (class_of b)) whole
+    let k = by_move (Some limit) (Pending f) Ground b print
+    (ap (pending_move f b (class_of b)) whole
     ∙ ap (λ t. if t then pair_move b (class_of b) else (Ground, print))
     (subst (λ f. is_pair (f ++ b ∷ []) ≡ false) is single)) in (
       subst (KeptIn q memory) (sym k.0) (in_ground q memory ground none),

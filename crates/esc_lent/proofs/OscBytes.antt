@@ -1,16 +1,18 @@
 -- Bytes of an operating system command that lie in a later piece than its opener.
 use Rattle.std.proofs.Common.{ℕ, ◌≡◌, Bool, true, false, not, List, [], ◌∷◌, ◌++◌, take, length, refl, ap, sym, ◌∙◌, subst, Some, Option, if◌then◌else◌}
 use Rattle.std.proofs.lemmas.List.{append-nil}
+use Rattle.std.proofs.lemmas.List.Concat.{flat_map-append}
+use Rattle.esc_frame.specs.declared.classes.Class.{Class}
 use Rattle.esc_frame.specs.declared.utf8.sequence.Outcome.TheVariants.{Whole, More}
-use Rattle.esc_frame.specs.Classes.{class_of}
+use Rattle.esc_frame.specs.Classes.{class_of, is_breaker, is_text, in_osc}
 use Rattle.esc_frame.specs.Leads.{Unfinished}
 use Rattle.esc_frame.specs.Leads.Unfinished.{Ground, InEscape, InOsc, InOscPending}
 use Rattle.esc_frame.specs.Limits.{is_within}
-use Rattle.esc_frame.specs.Machine.Moves.{after_all, events_all, emitting, inside, leaving, move, osc_pending_move, pair_move}
+use Rattle.esc_frame.specs.Machine.Moves.{after_all, events_all, emitting, inside, leaving, goes_on, final_osc, ground_move, move, osc_pending_move, pair_move}
 use Rattle.esc_frame.specs.Machine.TextRuns.{IsTextRun}
 use Rattle.esc_frame.specs.Segments as segments
-use Rattle.esc_frame.specs.Segments.{Opener, Piece, is_empty, osc_events}
-use Rattle.esc_frame.specs.Segments.Piece.{Sequence}
+use Rattle.esc_frame.specs.Segments.{Opener, Piece, is_empty, kept_of, osc_events}
+use Rattle.esc_frame.specs.Segments.Piece.{One, Sequence}
 use Rattle.esc_frame.specs.Sequences.{is_pair, outcome}
 use Rattle.esc_frame.proofs.Borrowed.{osc_emitted}
 use Rattle.esc_frame.proofs.Characters.{none_one}
@@ -19,10 +21,10 @@ use Rattle.esc_frame.proofs.StringRuns.{run_text}
 use Rattle.esc_lent.specs.declared.event.EscEvent.{EscEvent}
 use Rattle.esc_lent.specs.declared.parser.EscParser.{EscParser}
 use Rattle.esc_lent.specs.Numbers.{state_numbered, begun}
-use Rattle.esc_lent.specs.Runs.{PassesIn, Steps}
+use Rattle.esc_lent.specs.Runs.{Passes, PassesIn, Steps}
 use Rattle.esc_lent.specs.States.{KeptIn, TextIn, begun_in}
 use Rattle.esc_lent.specs.Emitted.{sent, text_of}
-use Rattle.esc_lent.proofs.OneByte.{by_move, is_whole, is_more, first_lead, some_after}
+use Rattle.esc_lent.proofs.OneByte.{by_move, moves_on, is_whole, is_more, first_lead, some_after}
 use Rattle.esc_lent.proofs.Only.{in_osc_only}
 use Rattle.esc_lent.proofs.Whole.{bell_class, escape_at, osc_said}
 
@@ -31,7 +33,7 @@ none_begun p f none is some =
     let e : [] ≡ f = sym (ap (λ n. begun n p.first p.second p.third) none) ∙ is in
     let k : is_empty f ≡ true = ap is_empty (sym e) in cc
 
-not_false : (t : Bool) → not t ≡ false → t ≡ true
+pub not_false : (t : Bool) → not t ≡ false → t ≡ true
 not_false true h = refl
 not_false false h = absurd cc
 
@@ -60,7 +62,7 @@ module _ (p q : EscParser) (e : EscEvent) (memory out : List ℕ) (b : ℕ) (thr
       (λ o ps i begins.
       let t = segments.text_of ps in
       let limit = Some (length memory) in
-      let k = by_move limit (InOsc o ps) v b (λ l. osc_events l t) (λ l. moves l o ps) in
+      let k = by_move limit (InOsc o ps) v b (osc_events limit t) (moves limit o ps) in
       let within : is_within limit (length t) ≡ true = not_false _ (sym i.0 ∙ off) in (
         subst (KeptIn q memory) (sym k.0) keeps,
         osc_said e out t kind (text ∙ (i.1 off).1) ∙ osc_emitted limit t within ∙ sym k.1,
@@ -99,12 +101,11 @@ module _ (p q : EscParser) (memory after : List ℕ) (b : ℕ) (three : p.state 
   state_same : state_numbered q.state ≡ state_numbered 3
   state_same = ap state_numbered (same ∙ three)
 
-  moved : (u v : Unfinished) → ((l : Option ℕ) → move l u b (class_of b) ≡ (v, []))
+  moved : (u v : Unfinished) → move (Some (length memory)) u b (class_of b) ≡ (v, [])
       → KeptIn q after v
       → KeptIn q after (after_all u (b ∷ []))
       × (events_all (Some (length memory)) u (b ∷ []) ≡ [])
-  moved u v goes h = let k = by_move (Some (length memory)) u v b (λ l. []) goes in
-      (subst (KeptIn q after) (sym k.0) h, k.1)
+  moved u v = moves_on q after (Some (length memory)) u v b
 
   -- a byte of a character that does not complete it
   pub more_in_osc : outcome (begun_in p) b ≡ More → begun_in q ≡ begun_in p ++ b ∷ []
@@ -114,7 +115,7 @@ module _ (p q : EscParser) (memory after : List ℕ) (b : ℕ) (three : p.state 
       × (events_all (Some (length memory)) u (b ∷ []) ≡ [])) three
       (λ o ps i empty.
       let lead = first_lead b (is_more [] b (subst (λ f. outcome f b ≡ More) empty goes)) in
-      moved (InOsc o ps) (InOscPending o ps (b ∷ [])) (λ l. ap (inside l (InOsc o ps) b) lead) (
+      moved (InOsc o ps) (InOscPending o ps (b ∷ [])) (ap (inside (Some (length memory)) (InOsc o ps) b) lead) (
         state_same,
         keeps (segments.text_of ps) i,
         begins ∙ ap (λ f. f ++ b ∷ []) empty,
@@ -123,7 +124,7 @@ module _ (p q : EscParser) (memory after : List ℕ) (b : ℕ) (three : p.state 
       (λ o ps f i is some.
       let more : outcome f b ≡ More = subst (λ f. outcome f b ≡ More) is goes in
       moved (InOscPending o ps f) (InOscPending o ps (f ++ b ∷ []))
-      (λ l. ap (osc_pending_move l o ps f b (class_of b)) more) (
+      (ap (osc_pending_move (Some (length memory)) o ps f b (class_of b)) more) (
         state_same,
         keeps (segments.text_of ps) i,
         begins ∙ ap (λ f. f ++ b ∷ []) is,
@@ -144,8 +145,8 @@ module _ (p q : EscParser) (memory after : List ℕ) (b : ℕ) (three : p.state 
       let whole : outcome f b ≡ Whole = subst (λ f. outcome f b ≡ Whole) is goes in
       let x = f ++ b ∷ [] in
       moved (InOscPending o ps f) (InOsc o (ps ++ Sequence x ∷ []))
-      (λ l. ap (osc_pending_move l o ps f b (class_of b)) whole
-      ∙ ap (λ t. if t then emitting (leaving l (InOscPending o ps f)) (pair_move b (class_of b)) else
+      (ap (osc_pending_move (Some (length memory)) o ps f b (class_of b)) whole
+      ∙ ap (λ t. if t then emitting (leaving (Some (length memory)) (InOscPending o ps f)) (pair_move b (class_of b)) else
       (InOsc o (ps ++ Sequence x ∷ []), []))
       (subst (λ f. is_pair (f ++ b ∷ []) ≡ false) is single)) (
         state_same,
@@ -154,3 +155,29 @@ module _ (p q : EscParser) (memory after : List ℕ) (b : ℕ) (three : p.state 
             (keeps (segments.text_of ps) i)),
         empty,
       )) u h
+
+-- ---- bytes that are passed over
+
+text_same : (ps : List Piece) (b : ℕ) → is_text (class_of b) ≡ false
+    → segments.text_of ps ≡ segments.text_of (ps ++ One b ∷ [])
+text_same ps b off =
+    sym (flat_map-append kept_of ps (One b ∷ [])
+    ∙ ap (λ y. segments.text_of ps ++ y) (rw off refl) ∙ append-nil (segments.text_of ps))
+
+pub skips : (p : EscParser) (b : ℕ) (c : Class) → p.state ≡ 3 → p.pending ≡ 0 → c ≡ class_of b
+    → is_breaker c ≡ false → in_osc c ≡ true → is_text c ≡ false → Passes p p (b ∷ [])
+skips p b c three none is off goes text = λ memory u h.
+    let l = Some (length memory) in
+    in_osc_only p memory (λ u. KeptIn p memory (after_all u (b ∷ []))
+    × (events_all l u (b ∷ []) ≡ [])) three
+    (λ o ps i empty.
+    moves_on p memory l (InOsc o ps) (InOsc o (ps ++ One b ∷ [])) b
+    (sym (ap (inside l (InOsc o ps) b) is)
+    ∙ ap (λ t. if t then emitting (leaving l (InOsc o ps)) (ground_move b c) else
+    goes_on l (InOsc o ps) b c) off
+    ∙ ap (λ t. if t then (InOsc o (ps ++ One b ∷ []), []) else final_osc l o ps b c) goes) (
+      ap state_numbered three,
+      subst (TextIn p memory) (text_same ps b (sym (ap is_text is) ∙ text)) i,
+      empty,
+    ))
+    (λ o ps f i is some. absurd (none_begun p f none is some)) u h

@@ -7,11 +7,12 @@ ghost use Rattle.esc_values.specs.declared.csi_param.CsiParam.{CsiParam as Param
 ghost use Rattle.esc_frame.specs.Bodies.{is_digit, held};
 ghost use Rattle.esc_frame.specs.Machine.Keeps.{shown, number_at};
 ghost use Rattle.esc_frame.specs.Sequences.{is_from};
-ghost use Rattle.esc_lent.specs.Runs.{IsBodyChange, IsDueAs, Notes, Passes};
+ghost use Rattle.esc_lent.specs.Runs.{IsBodyChange, IsDueAs, Notes};
 ghost use Rattle.esc_lent.specs.States.{BodyIn, NumberIn, ParamsIn};
 ghost use Rattle.esc_lent.specs.Emitted.{param_of};
 
-use crate::event::{CSI, EscEntry, EscEvent, NONE};
+use crate::escapes::note_noise;
+use crate::event::{CONTROL, CSI, EscEntry, EscEvent, NONE};
 use crate::fields::put;
 use crate::numbers::{CSI_STATE, MALFORMED, form_of, number_of_form};
 use crate::parser::EscParser;
@@ -160,15 +161,16 @@ fn end(parser: &mut EscParser, byte: u8, event: &mut EscEvent)
     event.kind = CSI;
 }
 
-/// Takes a byte of a control sequence: one of its body, or its final byte. False where the byte is
-/// another one, and then nothing changes.
+/// Takes a byte of a control sequence. False where it breaks the sequence off, and then nothing
+/// changes.
 #[inline(always)]
 pub fn note_in_csi(parser: &mut EscParser, byte: u8, event: &mut EscEvent) -> bool
     requires state { parser.old.state ≡ CSI_STATE }
     requires none { event.old.kind ≡ NONE }
     requires count { event.old.count ≤ 256 }
     ensures other { result ≡ false → (parser.new ≡ parser.old) × (event.new ≡ event.old) }
-    ensures kind { (event.new.kind ≡ NONE) ⊎ (event.new.kind ≡ CSI) }
+    ensures kind { (event.new.kind ≡ NONE) ⊎ (event.new.kind ≡ CONTROL)
+        ⊎ (event.new.kind ≡ CSI) }
     ensures count { event.new.count ≤ 256 }
     ensures event { event.new ≡ record event.old {
       kind = event.new.kind;
@@ -188,6 +190,6 @@ pub fn note_in_csi(parser: &mut EscParser, byte: u8, event: &mut EscEvent) -> bo
         end(parser, byte, event);
         true
     } else {
-        false
+        note_noise(parser, byte, event)
     }
 }

@@ -1,33 +1,47 @@
-//! Operating system commands whose text comes in pieces: it is appended where the parser keeps it.
+//! Operating system and application program commands whose text comes in pieces: it is appended
+//! where the parser keeps it.
 #![tactic(auto)]
 
 ghost use Rattle.std.specs.Prelude.{◌≡◌, ◌≤◌, ◌<◌, ◌⊎◌, ◌++◌, ◌∷◌, [], ℕ, List, true, false, length, take};
+ghost use Rattle.std.specs.List.{list_all};
+ghost use Rattle.esc_frame.specs.Scans.{is_text_byte};
 ghost use Rattle.esc_frame.specs.Machine.TextRuns.{IsTextRun};
 ghost use Rattle.esc_frame.specs.Machine.Prefixes.{prefix_of};
-ghost use Rattle.esc_frame.specs.Sequences.{is_pair};
-ghost use Rattle.esc_lent.specs.Runs.{IsDueAs, PassesIn, Steps};
+ghost use Rattle.esc_lent.specs.Runs.{IsDueAs, Passes, PassesIn, Steps};
 ghost use Rattle.esc_lent.specs.States.{TextIn};
 
 use crate::characters::put_pending;
-use crate::event::{EscEvent, NONE, OSC};
-use crate::numbers::{OSC_STATE, pending_in};
+use crate::event::{APC, EscEvent, NONE, OSC};
+use crate::numbers::{APC_STATE, OSC_STATE, pending_in};
 use crate::openers::escape;
 use crate::parser::EscParser;
 use crate::strings::put_text;
-use esc_frame::runs::scans::units_run;
+use esc_frame::classes::{Class, classify};
+use esc_frame::runs::scans::{ascii_run, units_run};
 use esc_frame::utf8::sequence::{Outcome, Pending};
 
-// Appends to the text that is kept. False where there is no room, and then nothing changes.
+// Appends to the text that is kept, or notes that it is past the limit. False where the numbers are
+// no parser's, and then nothing changes.
 #[inline(always)]
 fn append(parser: &mut EscParser, memory: &mut [u8], text: &[u8]) -> bool
     ensures other { result ≡ false → (parser.new ≡ parser.old) × (memory.new ≡ memory.old) }
-    ensures same { parser.new ≡ record parser.old { text = parser.new.text } }
+    ensures same { parser.new ≡ record parser.old {
+      text = parser.new.text;
+      is_over = parser.new.is_over;
+    } }
     ensures kept { result ≡ true → (t : List ℕ) → TextIn parser.old memory.old t
         → TextIn parser.new memory.new (t ++ text.now) }
 {
     let count = parser.text;
-    if parser.is_over || count > memory.len() || text.len() > memory.len() - count {
+    if parser.is_over {
+        return true;
+    }
+    if count > memory.len() {
         return false;
+    }
+    if text.len() > memory.len() - count {
+        parser.is_over = true;
+        return true;
     }
     let end = count + text.len();
     memory[count..end].copy_from_slice(text);
@@ -38,7 +52,10 @@ fn append(parser: &mut EscParser, memory: &mut [u8], text: &[u8]) -> bool
 // The last byte of a character, of which these came before.
 fn append_character(parser: &mut EscParser, memory: &mut [u8], pending: Pending, byte: u8) -> bool
     ensures other { result ≡ false → (parser.new ≡ parser.old) × (memory.new ≡ memory.old) }
-    ensures same { parser.new ≡ record parser.old { text = parser.new.text } }
+    ensures same { parser.new ≡ record parser.old {
+      text = parser.new.text;
+      is_over = parser.new.is_over;
+    } }
     ensures kept { result ≡ true → (t : List ℕ) → TextIn parser.old memory.old t
         → TextIn parser.new memory.new (t ++ (prefix_of pending ++ byte ∷ [])) }
 {
@@ -51,7 +68,7 @@ fn append_character(parser: &mut EscParser, memory: &mut [u8], pending: Pending,
 }
 
 // Takes a byte of a character, the first or a later one. False where the byte is none, or ends a
-// control, or there is no room, and then nothing changes.
+// control, and then nothing changes.
 #[inline(never)]
 fn note_wide(parser: &mut EscParser, memory: &mut [u8], byte: u8) -> bool
     requires { parser.old.state ≡ OSC_STATE }
@@ -161,9 +178,133 @@ pub fn note_in_osc(
             return 1;
         }
     }
-    if note_wide(parser, memory, bytes[0]) {
+    if note_wide(parser, memory, bytes[0]) || skips_in_osc(parser, bytes[0]) {
         1
     } else {
         0
     }
+}
+
+// Whether the byte is passed over in an operating system command.
+#[inline(always)]
+fn skips_in_osc(parser: &EscParser, byte: u8) -> bool
+    requires { parser.now.state ≡ OSC_STATE }
+    ensures { result ≡ true → Passes parser.now parser.now (byte ∷ []) }
+{
+    if parser.pending != 0 {
+        return false;
+    }
+    match classify(byte) {
+        Class::C0 | Class::High => true,
+        Class::Bell
+        | Class::Breaks(_)
+        | Class::Intermediate
+        | Class::Parameter
+        | Class::Introducer(_)
+        | Class::Final
+        | Class::Delete
+        | Class::Lead => false,
+    }
+}
+
+// Appends the bytes 20 to 7F that come first.
+#[inline(always)]
+fn note_text(parser: &mut EscParser, memory: &mut [u8], text: &[u8]) -> bool
+    requires state { parser.old.state ≡ APC_STATE }
+    requires text { list_all is_text_byte text.now ≡ true }
+    ensures other { result ≡ false → (parser.new ≡ parser.old) × (memory.new ≡ memory.old) }
+    ensures queued { IsDueAs parser.new parser.old }
+    ensures passes { result ≡ true
+        → PassesIn parser.old parser.new memory.old memory.new text.now }
+{
+    append(parser, memory, text)
+}
+
+// Hands out the text, where an ESC ends it. False where the text is past the limit, and then
+// nothing changes.
+#[inline(always)]
+fn end_apc(
+    parser: &mut EscParser,
+    memory: &[u8],
+    out: &mut [u8],
+    byte: u8,
+    event: &mut EscEvent,
+) -> bool
+    requires state { parser.old.state ≡ APC_STATE }
+    requires escape { byte ≡ 0x1b }
+    ensures other { result ≡ false → (parser.new ≡ parser.old) × (event.new ≡ event.old)
+        × (out.new ≡ out.old) }
+    ensures some { result ≡ true → (event.new.kind ≡ APC) × (event.new.length ≤ length out.old) }
+    ensures within { (event.new.count ≡ event.old.count) × (event.new.kept ≡ event.old.kept) }
+    ensures queued { IsDueAs parser.new parser.old }
+    ensures notes { result ≡ true → Steps parser.old parser.new event.new out.new memory.now
+        memory.now (byte ∷ []) }
+{
+    let count = parser.text;
+    if parser.is_over || count > memory.len() || count > out.len() {
+        return false;
+    }
+    escape(parser);
+    put_text(out, event, APC, &memory[..count]);
+    true
+}
+
+// Whether the byte is passed over in an application program command.
+#[inline(always)]
+fn skips_in_apc(parser: &EscParser, byte: u8) -> bool
+    requires { parser.now.state ≡ APC_STATE }
+    ensures { result ≡ true → Passes parser.now parser.now (byte ∷ []) }
+{
+    match classify(byte) {
+        Class::C0 | Class::Bell | Class::High | Class::Lead => true,
+        Class::Breaks(_)
+        | Class::Intermediate
+        | Class::Parameter
+        | Class::Introducer(_)
+        | Class::Final
+        | Class::Delete => false,
+    }
+}
+
+/// Takes the text of an application program command that comes first, a byte that is passed over in
+/// it, or the ESC that ends it; nothing where another control ends it, or the text is past the
+/// limit.
+#[inline(never)]
+pub fn note_in_apc(
+    parser: &mut EscParser,
+    memory: &mut [u8],
+    out: &mut [u8],
+    bytes: &[u8],
+    event: &mut EscEvent,
+) -> usize
+    requires some { 0 < length bytes.now }
+    requires state { parser.old.state ≡ APC_STATE }
+    requires none { event.old.kind ≡ NONE }
+    requires length { event.old.length ≤ length out.old }
+    ensures few { result ≤ length bytes.now }
+    ensures none { result ≡ 0 → (parser.new ≡ parser.old) × (event.new ≡ event.old)
+        × (memory.new ≡ memory.old) }
+    ensures kind { (event.new.kind ≡ NONE) ⊎ (event.new.kind ≡ APC) }
+    ensures within { (event.new.count ≡ event.old.count) × (event.new.kept ≡ event.old.kept)
+        × (event.new.length ≤ length out.old) }
+    ensures queued { IsDueAs parser.new parser.old }
+    ensures steps { 0 < result → Steps parser.old parser.new event.new out.new memory.old
+        memory.new (take result bytes.now) }
+{
+    let run = ascii_run(bytes);
+    if run > 0 {
+        return if note_text(parser, memory, &bytes[..run]) {
+            run
+        } else {
+            0
+        };
+    }
+    if bytes[0] == 0x1b {
+        return if end_apc(parser, memory, out, bytes[0], event) {
+            1
+        } else {
+            0
+        };
+    }
+    if skips_in_apc(parser, bytes[0]) { 1 } else { 0 }
 }

@@ -6,6 +6,8 @@ pub mod bodies;
 pub mod characters;
 pub mod commands;
 pub mod csi_params;
+pub mod data;
+pub mod escapes;
 pub mod event;
 pub mod fields;
 pub mod limited;

@@ -26,6 +26,12 @@ pub const OSC_STATE: u32 = 3;
 /// The number of a parser in the header of a device control string.
 pub const HEADER_STATE: u32 = 4;
 
+/// The number of a parser in the data of a device control string.
+pub const DATA_STATE: u32 = 5;
+
+/// The number of a parser in what is passed over.
+pub const IGNORED_STATE: u32 = 6;
+
 /// The number of a parser in an application program command.
 pub const APC_STATE: u32 = 7;
 

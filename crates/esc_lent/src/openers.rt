@@ -1,7 +1,7 @@
 //! What begins a sequence or a string, where its bytes come in pieces.
 #![tactic(auto)]
 
-ghost use Rattle.std.specs.Prelude.{◌≡◌, ◌∷◌, [], ℕ, List, true, false};
+ghost use Rattle.std.specs.Prelude.{◌≡◌, ◌∷◌, [], ℕ, List, false};
 ghost use Rattle.esc_frame.specs.Machine.Moves.{opened};
 ghost use Rattle.esc_frame.specs.Segments.{Opener};
 ghost use Rattle.esc_lent.specs.Runs.{IsDueAs, Passes};
@@ -9,7 +9,7 @@ ghost use Rattle.esc_lent.specs.States.{KeptIn};
 
 use crate::numbers::{ESCAPED, GROUND};
 use crate::parser::EscParser;
-use esc_frame::classes::{Class, Kind, classify};
+use esc_frame::classes::Kind;
 
 /// An ESC of which nothing more has come.
 #[inline(always)]
@@ -33,9 +33,9 @@ pub fn begin_escape(parser: &mut EscParser)
     escape(parser);
 }
 
-// What this kind of opener opens.
+/// What this kind of opener opens.
 #[inline(always)]
-fn open_kind(parser: &mut EscParser, kind: Kind)
+pub fn open_kind(parser: &mut EscParser, kind: Kind)
     ensures queued { IsDueAs parser.new parser.old }
     ensures opened { (o : Opener) (memory : List ℕ) → KeptIn parser.new memory (opened kind o) }
 {
@@ -60,34 +60,5 @@ fn open_kind(parser: &mut EscParser, kind: Kind)
         }
         Kind::Sos | Kind::Pm => parser.state = 6,
         Kind::Apc => parser.state = 7,
-    }
-}
-
-/// The letter after an ESC that opens a sequence or a string. False where the byte is another one,
-/// or an intermediate came before it, and then nothing changes.
-#[inline(always)]
-pub fn note_opener(parser: &mut EscParser, byte: u8) -> bool
-    requires state { parser.old.state ≡ ESCAPED }
-    ensures other { result ≡ false → parser.new ≡ parser.old }
-    ensures queued { IsDueAs parser.new parser.old }
-    ensures passes { result ≡ true → Passes parser.old parser.new (byte ∷ []) }
-{
-    if parser.kept > 0 {
-        return false;
-    }
-    match classify(byte) {
-        Class::Introducer(kind) => {
-            open_kind(parser, kind);
-            true
-        }
-        Class::C0
-        | Class::Bell
-        | Class::Breaks(_)
-        | Class::Intermediate
-        | Class::Parameter
-        | Class::Final
-        | Class::Delete
-        | Class::High
-        | Class::Lead => false,
     }
 }

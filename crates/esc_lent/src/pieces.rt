@@ -7,10 +7,12 @@ ghost use Rattle.esc_lent.specs.Emitted.{is_run};
 
 use crate::bodies::note_in_csi;
 use crate::characters::note_character;
-use crate::commands::note_in_osc;
+use crate::commands::{note_in_apc, note_in_osc};
+use crate::data::{note_ignored, note_in_data};
+use crate::escapes::note_in_escape;
 use crate::event::{CHARACTER, EscEvent, FAILED, NONE};
 use crate::numbers::GROUND;
-use crate::openers::{begin_escape, note_opener};
+use crate::openers::begin_escape;
 use crate::parser::EscParser;
 
 // An ESC, or a byte of a character.
@@ -33,14 +35,14 @@ fn note_in_ground(parser: &mut EscParser, byte: u8, event: &mut EscEvent) -> boo
     }
 }
 
-// Takes the first byte, where it is one of a sequence or a character.
+// Takes the first byte, where it is one of a sequence, of a character or of data.
 #[inline(always)]
 fn note_byte(parser: &mut EscParser, byte: u8, event: &mut EscEvent) -> bool
     requires none { event.old.kind ≡ NONE }
-    requires count { event.old.count ≤ 256 }
+    requires within { (event.old.count ≤ 256) × (event.old.kept ≤ 2) }
     ensures other { result ≡ false → (parser.new ≡ parser.old) × (event.new ≡ event.old) }
     ensures kind { (event.new.kind < FAILED) × (is_run event.new.kind ≡ false) }
-    ensures within { (event.new.count ≤ 256) × (event.new.kept ≡ event.old.kept)
+    ensures within { (event.new.count ≤ 256) × (event.new.kept ≤ 2)
         × (event.new.length ≡ event.old.length) }
     ensures queued { IsDueAs parser.new parser.old }
     ensures notes { result ≡ true → (out : List ℕ) (limit : ℕ)
@@ -51,13 +53,15 @@ fn note_byte(parser: &mut EscParser, byte: u8, event: &mut EscEvent) -> bool
     } else if parser.state == 0 {
         note_in_ground(parser, byte, event)
     } else if parser.state == 1 {
-        note_opener(parser, byte)
+        note_in_escape(parser, byte, event)
+    } else if parser.state == 5 {
+        note_in_data(parser, byte, event)
     } else {
         false
     }
 }
 
-/// Takes what comes first, where it continues a sequence, a character or a command, or begins one:
+/// Takes what comes first, where it continues a sequence, a string or a character, or begins one:
 /// at least a byte. Nothing where something else comes, which is left to the machine.
 #[inline(always)]
 pub fn note_piece(
@@ -83,6 +87,10 @@ pub fn note_piece(
 {
     if parser.state == 3 {
         note_in_osc(parser, memory, out, bytes, event)
+    } else if parser.state == 6 {
+        note_ignored(parser, bytes)
+    } else if parser.state == 7 {
+        note_in_apc(parser, memory, out, bytes, event)
     } else if note_byte(parser, bytes[0], event) {
         1
     } else {

@@ -1,0 +1,160 @@
+-- Bytes of an escape sequence that lie in a later piece than its ESC, and noise in a sequence.
+use Rattle.std.proofs.Common.{ℕ, ◌≡◌, ◌≢◌, ◌⊎◌, inl, inr, true, false, not, List, [], ◌∷◌, ◌++◌, take, length, length-take, refl, ap, sym, ◌∙◌, subst, Some, Option, min, if◌then◌else◌, arith}
+use Rattle.std.proofs.lemmas.List.Elements.{filter-append}
+use Rattle.esc_frame.specs.declared.classes.Class.{Class}
+use Rattle.esc_frame.specs.declared.classes.Class.TheVariants.{C0, Bell, Delete, High, Lead, Intermediate, Parameter, Introducer, Final, Breaks}
+use Rattle.esc_frame.specs.declared.classes.Breaker.TheVariants.{Escape}
+use Rattle.esc_frame.specs.Classes.{class_of, strip, is_noise, is_c0, is_breaker, in_escape, in_csi, ends_escape, opens}
+use Rattle.esc_frame.specs.Events.Event.{Execute}
+use Rattle.esc_frame.specs.Leads.Unfinished.{Ground, InEscape, InCsi}
+use Rattle.esc_frame.specs.Machine.Moves.{after_all, events_all, opened, inside, goes_on, noise, move}
+use Rattle.esc_frame.specs.Segments.{is_empty, escape_event}
+use Rattle.esc_frame.specs.Segments.Opener.{Long}
+use Rattle.esc_frame.proofs.Bytes.{noise_strip}
+use Rattle.esc_lent.specs.declared.event.EscEvent.{EscEvent}
+use Rattle.esc_lent.specs.declared.parser.EscParser.{EscParser}
+use Rattle.esc_lent.specs.Numbers.{state_numbered}
+use Rattle.esc_lent.specs.Runs.{Notes, Passes}
+use Rattle.esc_lent.specs.States.{KeptIn, FirstIn, BodyIn}
+use Rattle.esc_lent.specs.Emitted.{sent}
+use Rattle.esc_lent.proofs.OneByte.{by_move, moves_on}
+use Rattle.esc_lent.proofs.Only.{in_escape_only, in_csi_only}
+use Rattle.esc_lent.proofs.Whole.{in_ground, in_escape as escaped}
+
+-- ---- noise
+
+noise_goes : (c : Class) → is_noise c ≡ true
+    → (is_breaker c ≡ false) × (in_escape c ≡ true) × (in_csi c ≡ true)
+noise_goes C0 h = (refl, refl, refl)
+noise_goes Bell h = (refl, refl, refl)
+noise_goes Delete h = (refl, refl, refl)
+noise_goes High h = (refl, refl, refl)
+noise_goes Lead h = (refl, refl, refl)
+noise_goes _ h = absurd cc
+
+module _ (b : ℕ) (c : Class) (is : c ≡ class_of b) (n : is_noise c ≡ true) (x : List ℕ) where
+  stripped : strip x ≡ strip (x ++ b ∷ [])
+  stripped = noise_strip x b c c is refl n
+
+  goes : (is_breaker (class_of b) ≡ false) × (in_escape (class_of b) ≡ true)
+      × (in_csi (class_of b) ≡ true)
+  goes = noise_goes (class_of b) (subst (λ d. is_noise d ≡ true) is n)
+
+  escape_noise : (l : Option ℕ)
+      → move l (InEscape x) b (class_of b) ≡ (InEscape (x ++ b ∷ []), noise b (class_of b))
+  escape_noise l = rw (goes.0, goes.1, inside, goes_on) refl
+
+module _ (p : EscParser) (e : EscEvent) (b : ℕ) (c : Class) (is : c ≡ class_of b)
+    (n : is_noise c ≡ true) (says : (out : List ℕ) → sent e out ≡ noise b c)
+    (out : List ℕ) (limit : ℕ) where
+  said : sent e out ≡ noise b (class_of b)
+  said = says out ∙ ap (noise b) is
+
+  in_escape_notes : p.state ≡ 1 → Notes p p e out limit (b ∷ [])
+  in_escape_notes one = λ u memory room h.
+      in_escape_only p memory (λ u. KeptIn p memory (after_all u (b ∷ []))
+      × (sent e out ≡ events_all (Some limit) u (b ∷ []))) one
+      (λ x i.
+      let k = by_move (Some limit) (InEscape x) (InEscape (x ++ b ∷ [])) b (noise b (class_of b))
+      (escape_noise b c is n x (Some limit)) in (
+        subst (KeptIn p memory) (sym k.0)
+            (ap state_numbered one, subst (FirstIn p) (stripped b c is n x) i),
+        said ∙ sym k.1,
+      )) u h
+
+  in_csi_notes : p.state ≡ 2 → Notes p p e out limit (b ∷ [])
+  in_csi_notes two = λ u memory room h.
+      in_csi_only p memory (λ u. KeptIn p memory (after_all u (b ∷ []))
+      × (sent e out ≡ events_all (Some limit) u (b ∷ []))) two
+      (λ o x i.
+      let g = goes b c is n x in
+      let k = by_move (Some limit) (InCsi o x) (InCsi o (x ++ b ∷ [])) b (noise b (class_of b))
+      (rw (g.0, g.2, inside, goes_on) refl) in (
+        subst (KeptIn p memory) (sym k.0)
+            (ap state_numbered two, subst (BodyIn p) (stripped b c is n x) i),
+        said ∙ sym k.1,
+      )) u h
+
+  pub noise_notes : (p.state ≡ 1) ⊎ (p.state ≡ 2) → Notes p p e out limit (b ∷ [])
+  noise_notes (inl s) = in_escape_notes s
+  noise_notes (inr s) = in_csi_notes s
+
+-- a control, and a byte that is passed over
+pub control_said : (e : EscEvent) (b : ℕ) (c : Class) → e.kind ≡ 3 → e.byte ≡ b → is_c0 c ≡ true
+    → (out : List ℕ) → sent e out ≡ noise b c
+control_said e b c kind byte is out =
+    rw (kind, byte) (sym (ap (λ t. if t then Execute b ∷ [] else []) is))
+
+pub nothing_said : (e : EscEvent) (b : ℕ) (c : Class) → e.kind ≡ 0 → is_c0 c ≡ false
+    → (out : List ℕ) → sent e out ≡ noise b c
+nothing_said e b c kind is out =
+    rw kind (sym (ap (λ t. if t then Execute b ∷ [] else []) is))
+
+-- ---- another ESC
+
+pub again_passes : (p q : EscParser) (b : ℕ) → (p.state ≡ 1) ⊎ (p.state ≡ 2) → q.state ≡ 1
+    → q.kept ≡ 0 → q.has_more ≡ false → class_of b ≡ (Breaks Escape) → Passes p q (b ∷ [])
+again_passes p q b (inl s) one kept more is = λ memory.
+    in_escape_only p memory (λ u. KeptIn q memory (after_all u (b ∷ []))
+    × (events_all (Some (length memory)) u (b ∷ []) ≡ [])) s
+    (λ x h. moves_on q memory (Some (length memory)) (InEscape x) (InEscape []) b
+    (ap (inside (Some (length memory)) (InEscape x) b) is) (escaped q memory one kept more))
+again_passes p q b (inr s) one kept more is = λ memory.
+    in_csi_only p memory (λ u. KeptIn q memory (after_all u (b ∷ []))
+    × (events_all (Some (length memory)) u (b ∷ []) ≡ [])) s
+    (λ o x h. moves_on q memory (Some (length memory)) (InCsi o x) (InEscape []) b
+    (ap (inside (Some (length memory)) (InCsi o x) b) is) (escaped q memory one kept more))
+
+-- ---- an intermediate
+
+pub intermediate_passes : (p q : EscParser) (b : ℕ) → p.state ≡ 1 → q.state ≡ p.state
+    → class_of b ≡ Intermediate
+    → ((x : List ℕ) → FirstIn p x → FirstIn q (x ++ b ∷ [])) → Passes p q (b ∷ [])
+intermediate_passes p q b one same is more = λ memory.
+    in_escape_only p memory (λ u. KeptIn q memory (after_all u (b ∷ []))
+    × (events_all (Some (length memory)) u (b ∷ []) ≡ [])) one
+    (λ x h. moves_on q memory (Some (length memory)) (InEscape x) (InEscape (x ++ b ∷ [])) b
+    (ap (inside (Some (length memory)) (InEscape x) b) is) (
+      ap state_numbered (same ∙ one),
+      subst (FirstIn q) (kept_strip x b is) (more (strip x) h),
+    ))
+  where
+    kept_strip : (x : List ℕ) (b : ℕ) → class_of b ≡ Intermediate
+        → strip x ++ b ∷ [] ≡ strip (x ++ b ∷ [])
+    kept_strip x b is = sym (filter-append (λ b. not (is_noise (class_of b))) x (b ∷ [])
+        ∙ ap (λ y. strip x ++ y) (rw is refl))
+
+-- ---- the final byte
+
+final_move : (l : Option ℕ) (x : List ℕ) (b : ℕ) (c : Class) → ends_escape c ≡ true
+    → (opens c ≡ true → is_empty (strip x) ≡ false)
+    → inside l (InEscape x) b c ≡ (Ground, escape_event (strip x) b ∷ [])
+final_move l x b Parameter h k = refl
+final_move l x b Final h k = refl
+final_move l x b (Introducer i) h k =
+    ap (λ t. if t then (opened i (Long x), []) else (Ground, escape_event (strip x) b ∷ [])) (k refl)
+final_move l x b _ h k = absurd cc
+
+some_first : (x : List ℕ) (n : ℕ) → n ≡ length (take 2 x) → n ≢ 0 → is_empty x ≡ false
+some_first [] n e h = absurd (h e)
+some_first (a ∷ x) n e h = refl
+
+pub final_notes : (p q : EscParser) (e : EscEvent) (b : ℕ) → p.state ≡ 1
+    → ends_escape (class_of b) ≡ true → (opens (class_of b) ≡ true → p.kept ≢ 0)
+    → q.state ≡ 0 → q.pending ≡ 0 → e.kind ≡ 4 → e.byte ≡ b
+    → e.intermediates ≡ p.intermediates → e.kept ≡ min p.kept 2 → e.has_more ≡ p.has_more
+    → (out : List ℕ) (limit : ℕ) → Notes p q e out limit (b ∷ [])
+final_notes p q e b one ends letter zero none kind byte list kept more out limit =
+    λ u memory room h.
+    in_escape_only p memory (λ u. KeptIn q memory (after_all u (b ∷ []))
+    × (sent e out ≡ events_all (Some limit) u (b ∷ []))) one
+    (λ x i.
+    let few : min p.kept 2 ≡ p.kept = omega (arith, length-take 2 (strip x), i.2) in
+    let k = by_move (Some limit) (InEscape x) Ground b (escape_event (strip x) b ∷ [])
+    (final_move (Some limit) x b (class_of b) ends
+    (λ o. some_first (strip x) p.kept i.2 (letter o))) in
+    let items : take e.kept e.intermediates ≡ take 2 (strip x) =
+    ap (λ n. take n e.intermediates) (kept ∙ few) ∙ ap (take p.kept) list ∙ i.0 in (
+      subst (KeptIn q memory) (sym k.0) (in_ground q memory zero none),
+      rw (kind, items, more, i.1, byte) refl ∙ sym k.1,
+    )) u h

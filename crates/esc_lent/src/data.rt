@@ -1,0 +1,97 @@
+//! The data of a device control string, and what is passed over, where they come in pieces.
+#![tactic(auto)]
+
+ghost use Rattle.std.specs.Prelude.{◌≡◌, ◌≤◌, ◌<◌, ◌⊎◌, ◌∷◌, [], ℕ, List, true, false, length, take};
+ghost use Rattle.esc_lent.specs.Runs.{IsDueAs, Notes, Passes};
+
+use crate::event::{DATA_BYTE, DCS_END, EscEvent, NONE};
+use crate::numbers::{DATA_STATE, IGNORED_STATE};
+use crate::openers::escape;
+use crate::parser::EscParser;
+use esc_frame::classes::{Breaker, Class, classify};
+use esc_frame::runs::scans::ascii_run;
+
+/// Takes a byte of data that is in no run, or the ESC that ends them. False where the byte is
+/// another control that ends them, and then nothing changes.
+#[inline(never)]
+pub fn note_in_data(parser: &mut EscParser, byte: u8, event: &mut EscEvent) -> bool
+    requires state { parser.old.state ≡ DATA_STATE }
+    requires none { event.old.kind ≡ NONE }
+    ensures other { result ≡ false → (parser.new ≡ parser.old) × (event.new ≡ event.old) }
+    ensures kind { (event.new.kind ≡ NONE) ⊎ (event.new.kind ≡ DATA_BYTE)
+        ⊎ (event.new.kind ≡ DCS_END) }
+    ensures event { event.new ≡ record event.old { kind = event.new.kind; byte = event.new.byte } }
+    ensures queued { IsDueAs parser.new parser.old }
+    ensures notes { result ≡ true → (out : List ℕ) (limit : ℕ)
+        → Notes parser.old parser.new event.new out limit (byte ∷ []) }
+{
+    match classify(byte) {
+        Class::Breaks(Breaker::Escape) => {
+            escape(parser);
+            event.kind = DCS_END;
+            true
+        }
+        Class::Breaks(
+            Breaker::Cancel | Breaker::C1 | Breaker::C1Introducer(_) | Breaker::C1Terminator,
+        ) => false,
+        Class::Delete => true,
+        Class::C0
+        | Class::Bell
+        | Class::Intermediate
+        | Class::Parameter
+        | Class::Introducer(_)
+        | Class::Final
+        | Class::High
+        | Class::Lead => {
+            event.kind = DATA_BYTE;
+            event.byte = byte as u32;
+            true
+        }
+    }
+}
+
+// Takes one byte that is passed over, or the ESC that ends it.
+#[inline(always)]
+fn skip_one(parser: &mut EscParser, byte: u8) -> bool
+    requires { parser.old.state ≡ IGNORED_STATE }
+    ensures other { result ≡ false → parser.new ≡ parser.old }
+    ensures queued { IsDueAs parser.new parser.old }
+    ensures passes { result ≡ true → Passes parser.old parser.new (byte ∷ []) }
+{
+    match classify(byte) {
+        Class::Breaks(Breaker::Escape) => {
+            escape(parser);
+            true
+        }
+        Class::Breaks(
+            Breaker::Cancel | Breaker::C1 | Breaker::C1Introducer(_) | Breaker::C1Terminator,
+        ) => false,
+        Class::C0
+        | Class::Bell
+        | Class::Intermediate
+        | Class::Parameter
+        | Class::Introducer(_)
+        | Class::Final
+        | Class::Delete
+        | Class::High
+        | Class::Lead => true,
+    }
+}
+
+/// Takes what is passed over and comes first, or the ESC that ends it; nothing where another
+/// control ends it.
+#[inline(never)]
+pub fn note_ignored(parser: &mut EscParser, bytes: &[u8]) -> usize
+    requires some { 0 < length bytes.now }
+    requires state { parser.old.state ≡ IGNORED_STATE }
+    ensures few { result ≤ length bytes.now }
+    ensures none { result ≡ 0 → parser.new ≡ parser.old }
+    ensures queued { IsDueAs parser.new parser.old }
+    ensures passes { 0 < result → Passes parser.old parser.new (take result bytes.now) }
+{
+    let run = ascii_run(bytes);
+    if run > 0 {
+        return run;
+    }
+    if skip_one(parser, bytes[0]) { 1 } else { 0 }
+}

@@ -1,0 +1,140 @@
+//! Escape sequences that come in pieces, and controls in the middle of a sequence.
+#![tactic(auto)]
+
+ghost use Rattle.std.specs.Prelude.{◌≡◌, ◌≢◌, ◌<◌, ◌≤◌, ◌⊎◌, ◌++◌, ◌∷◌, [], ℕ, List, true, false};
+ghost use Rattle.esc_frame.specs.Classes.{class_of, ends_escape, opens};
+ghost use Rattle.esc_frame.specs.declared.classes.Class.TheVariants.{Introducer};
+ghost use Rattle.esc_lent.specs.Runs.{IsDueAs, Notes, Passes};
+ghost use Rattle.esc_lent.specs.States.{FirstIn};
+
+use crate::event::{CONTROL, ESCAPE, EscEvent, NONE};
+use crate::numbers::{CSI_STATE, ESCAPED};
+use crate::openers::{escape, open_kind};
+use crate::parser::EscParser;
+use esc_frame::classes::{Breaker, Class, Kind, classify};
+
+// A control, or another byte that is no part of a sequence, in the middle of one; or an ESC, which
+// begins another sequence. False where the byte is none of these, and then nothing changes.
+#[inline(never)]
+pub fn note_noise(parser: &mut EscParser, byte: u8, event: &mut EscEvent) -> bool
+    requires state { (parser.old.state ≡ ESCAPED) ⊎ (parser.old.state ≡ CSI_STATE) }
+    requires none { event.old.kind ≡ NONE }
+    ensures other { result ≡ false → (parser.new ≡ parser.old) × (event.new ≡ event.old) }
+    ensures kind { (event.new.kind ≡ NONE) ⊎ (event.new.kind ≡ CONTROL) }
+    ensures event { event.new ≡ record event.old { kind = event.new.kind; byte = event.new.byte } }
+    ensures queued { IsDueAs parser.new parser.old }
+    ensures notes { result ≡ true → (out : List ℕ) (limit : ℕ)
+        → Notes parser.old parser.new event.new out limit (byte ∷ []) }
+{
+    match classify(byte) {
+        Class::C0 | Class::Bell => {
+            event.kind = CONTROL;
+            event.byte = byte as u32;
+            true
+        }
+        Class::Delete | Class::High | Class::Lead => true,
+        Class::Breaks(Breaker::Escape) => {
+            escape(parser);
+            true
+        }
+        Class::Breaks(
+            Breaker::Cancel | Breaker::C1 | Breaker::C1Introducer(_) | Breaker::C1Terminator,
+        )
+        | Class::Intermediate
+        | Class::Parameter
+        | Class::Introducer(_)
+        | Class::Final => false,
+    }
+}
+
+// The letter after an ESC alone that opens a sequence or a string.
+#[inline(always)]
+fn open_after(parser: &mut EscParser, byte: u8, kind: Kind)
+    requires state { parser.old.state ≡ ESCAPED }
+    requires first { parser.old.kept ≡ 0 }
+    requires class { class_of byte ≡ Introducer kind }
+    ensures queued { IsDueAs parser.new parser.old }
+    ensures passes { Passes parser.old parser.new (byte ∷ []) }
+{
+    open_kind(parser, kind);
+}
+
+// One intermediate more.
+#[inline(always)]
+fn push_intermediate(parser: &mut EscParser, byte: u8)
+    ensures first { (x : List ℕ) → FirstIn parser.old x → FirstIn parser.new (x ++ byte ∷ []) }
+    ensures state { parser.new.state ≡ parser.old.state }
+    ensures queued { IsDueAs parser.new parser.old }
+{
+    if parser.kept < 2 {
+        parser.intermediates[parser.kept] = byte;
+        parser.kept += 1;
+    } else {
+        parser.has_more = true;
+    }
+}
+
+// The final byte of an escape sequence.
+#[inline(always)]
+fn dispatch(parser: &mut EscParser, byte: u8, event: &mut EscEvent)
+    requires state { parser.old.state ≡ ESCAPED }
+    requires class { ends_escape (class_of byte) ≡ true }
+    requires letter { opens (class_of byte) ≡ true → parser.old.kept ≢ 0 }
+    ensures event { event.new ≡ record event.old {
+      kind = ESCAPE;
+      byte = byte;
+      intermediates = event.new.intermediates;
+      kept = event.new.kept;
+      has_more = event.new.has_more;
+    } }
+    ensures kept { event.new.kept ≤ 2 }
+    ensures queued { IsDueAs parser.new parser.old }
+    ensures notes { (out : List ℕ) (limit : ℕ)
+        → Notes parser.old parser.new event.new out limit (byte ∷ []) }
+{
+    event.kind = ESCAPE;
+    event.byte = byte as u32;
+    event.intermediates = parser.intermediates;
+    event.kept = parser.kept.min(2);
+    event.has_more = parser.has_more;
+    parser.state = 0;
+    parser.pending = 0;
+}
+
+/// Takes a byte of an escape sequence. False where it breaks the sequence off, and then nothing
+/// changes.
+#[inline(always)]
+pub fn note_in_escape(parser: &mut EscParser, byte: u8, event: &mut EscEvent) -> bool
+    requires state { parser.old.state ≡ ESCAPED }
+    requires none { event.old.kind ≡ NONE }
+    requires kept { event.old.kept ≤ 2 }
+    ensures other { result ≡ false → (parser.new ≡ parser.old) × (event.new ≡ event.old) }
+    ensures kind { (event.new.kind ≡ NONE) ⊎ (event.new.kind ≡ CONTROL)
+        ⊎ (event.new.kind ≡ ESCAPE) }
+    ensures within { (event.new.count ≡ event.old.count) × (event.new.kept ≤ 2)
+        × (event.new.length ≡ event.old.length) }
+    ensures queued { IsDueAs parser.new parser.old }
+    ensures notes { result ≡ true → (out : List ℕ) (limit : ℕ)
+        → Notes parser.old parser.new event.new out limit (byte ∷ []) }
+{
+    match classify(byte) {
+        Class::Introducer(kind) => {
+            if parser.kept == 0 {
+                open_after(parser, byte, kind);
+            } else {
+                dispatch(parser, byte, event);
+            }
+            true
+        }
+        Class::Intermediate => {
+            push_intermediate(parser, byte);
+            true
+        }
+        Class::Parameter | Class::Final => {
+            dispatch(parser, byte, event);
+            true
+        }
+        Class::C0 | Class::Bell | Class::Breaks(_) | Class::Delete | Class::High | Class::Lead =>
+            note_noise(parser, byte, event),
+    }
+}
