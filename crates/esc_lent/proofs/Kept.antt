@@ -18,7 +18,7 @@ use Rattle.esc_lent.specs.declared.event.EscEvent.{EscEvent}
 use Rattle.esc_lent.specs.Emitted.{emitted_by}
 use Rattle.esc_lent.specs.declared.parser.EscParser.{EscParser}
 use Rattle.esc_lent.specs.Numbers.{state_numbered, begun}
-use Rattle.esc_lent.specs.Runs.{IsTextRun}
+use Rattle.esc_lent.specs.Runs.{Gives, IsTextRun}
 use Rattle.esc_lent.specs.States.{KeptIn, begun_in}
 
 -- nothing
@@ -151,3 +151,22 @@ pub kept_still : (p q : EscParser) (memory later : List ℕ) → q ≡ p → lat
     → (u : Unfinished) → KeptIn p memory u → KeptIn q later u
 kept_still p q memory later same kept u h =
     subst (λ r. KeptIn r later u) (sym same) (subst (λ m. KeptIn p m u) (sym kept) h)
+
+pub given_still : (p q r : EscParser) (e : EscEvent) (out memory later after x : List ℕ) → q ≡ p
+    → later ≡ memory → Gives q r e out later after x → Gives p r e out memory after x
+given_still p q r e out memory later after x same kept gives =
+    subst (λ s. Gives s r e out memory after x) same
+    (subst (λ m. Gives q r e out m after x) kept gives)
+
+pub kept_both : (p : EscParser) (kind value : ℕ) (memory : List ℕ) (u : Unfinished)
+    → KeptIn p memory u → KeptIn (record p { queued_kind = kind; queued_value = value }) memory u
+kept_both p kind value memory Ground h = h
+kept_both p kind value memory (Pending f) h = h
+kept_both p kind value memory (InEscape x) h = h
+kept_both p kind value memory (InCsi o x) h = h
+kept_both p kind value memory (InDcs o x) h = h
+kept_both p kind value memory (InData o x f d) h = h
+kept_both p kind value memory (InApc o d) h = h
+kept_both p kind value memory (InIgnored k o d) h = h
+kept_both p kind value memory (InOsc o ps) h = h
+kept_both p kind value memory (InOscPending o ps f) h = h

@@ -18,7 +18,7 @@ use Rattle.esc_frame.specs.Segments.{Opener, is_empty, csi_events, escape_event}
 use Rattle.esc_frame.specs.Segments.Opener.{Long}
 use Rattle.esc_frame.specs.Sequences.{is_sequence, is_prefix, is_pair, outcome, number_of}
 use Rattle.esc_frame.proofs.Characters.{none_one}
-use Rattle.esc_frame.proofs.CsiRuns.{body_quiet, body_strip, escape_class, final_by}
+use Rattle.esc_frame.proofs.CsiRuns.{body_quiet, body_strip, final_by}
 use Rattle.esc_frame.proofs.FirstParams.{finished_csi_params, finished_truncated}
 use Rattle.esc_frame.proofs.Forms.{formed}
 use Rattle.esc_frame.proofs.ManyBytes.{lead_class}
@@ -29,10 +29,9 @@ use Rattle.esc_lent.specs.Numbers.{state_numbered, form_numbered}
 use Rattle.esc_lent.specs.Runs.{Notes, Passes}
 use Rattle.esc_lent.specs.States.{KeptIn, BodyIn, NumberIn, ParamsIn, begun_in}
 use Rattle.esc_lent.specs.Emitted.{sent, param_of}
-use Rattle.esc_lent.proofs.Kept.{ground_only}
 use Rattle.esc_lent.proofs.Only.{in_ground_only, in_escape_only, in_csi_only}
 use Rattle.esc_lent.proofs.PastLimit.{formed_number}
-use Rattle.esc_lent.proofs.Whole.{in_ground, in_escape}
+use Rattle.esc_lent.proofs.Whole.{in_ground}
 
 pub first_taken : (x : List ℕ) → 0 < length x → take 1 x ≡ get_or x 0 0 ∷ []
 first_taken [] h = absurd (omega arith)
@@ -62,15 +61,6 @@ moves_on q after limit u v b same h =
     let k = by_move limit u v b [] same in (subst (KeptIn q after) (sym k.0) h, k.1)
 
 -- ---- an escape sequence
-
--- an ESC between sequences
-pub escape_passes : (p q : EscParser) → p.state ≡ 0 → p.pending ≡ 0 → q.state ≡ 1 → q.kept ≡ 0
-    → q.has_more ≡ false → Passes p q (0x1b ∷ [])
-escape_passes p q zero none one kept more = λ memory u h.
-    subst (λ v. KeptIn q memory (after_all v (0x1b ∷ []))
-    × (events_all (Some (length memory)) v (0x1b ∷ []) ≡ []))
-    (sym (ground_only p memory zero none u h))
-    (rw escape_class (in_escape q memory one kept more, refl))
 
 pub none_first : (x : List ℕ) → length (take 2 x) ≡ 0 → is_empty x ≡ true
 none_first [] h = refl

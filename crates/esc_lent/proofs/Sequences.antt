@@ -2,24 +2,27 @@
 use Rattle.std.proofs.Common.{ℕ, ◌≡◌, ◌≢◌, ◌⊎◌, inl, inr, true, false, not, List, [], ◌∷◌, ◌++◌, take, length, length-take, refl, ap, sym, ◌∙◌, subst, Some, Option, min, if◌then◌else◌, arith}
 use Rattle.std.proofs.lemmas.List.Elements.{filter-append}
 use Rattle.esc_frame.specs.declared.classes.Class.{Class}
-use Rattle.esc_frame.specs.declared.classes.Class.TheVariants.{C0, Bell, Delete, High, Lead, Intermediate, Parameter, Introducer, Final, Breaks}
-use Rattle.esc_frame.specs.declared.classes.Breaker.TheVariants.{Escape}
+use Rattle.esc_frame.specs.declared.classes.Class.TheVariants.{C0, Bell, Delete, High, Lead, Intermediate, Parameter, Introducer, Final}
 use Rattle.esc_frame.specs.Classes.{class_of, strip, is_noise, is_c0, is_breaker, in_escape, in_csi, ends_escape, opens}
-use Rattle.esc_frame.specs.Events.Event.{Execute}
-use Rattle.esc_frame.specs.Leads.Unfinished.{Ground, InEscape, InCsi}
-use Rattle.esc_frame.specs.Machine.Moves.{after_all, events_all, opened, inside, goes_on, noise, move}
+use Rattle.esc_frame.specs.Events.Event.{Execute, Print}
+use Rattle.esc_frame.specs.Leads.{Unfinished}
+use Rattle.esc_frame.specs.Leads.Unfinished.{Ground, Pending, InEscape, InCsi}
+use Rattle.esc_frame.specs.Machine.Moves.{after_all, events_all, opened, emitting, leaving, inside, goes_on, noise, move, ground_move, pending_move}
 use Rattle.esc_frame.specs.Segments.{is_empty, escape_event}
 use Rattle.esc_frame.specs.Segments.Opener.{Long}
 use Rattle.esc_frame.proofs.Bytes.{noise_strip}
+use Rattle.esc_frame.specs.declared.utf8.sequence.Outcome.TheVariants.{Broken}
+use Rattle.esc_frame.specs.Sequences.{outcome}
 use Rattle.esc_lent.specs.declared.event.EscEvent.{EscEvent}
 use Rattle.esc_lent.specs.declared.parser.EscParser.{EscParser}
 use Rattle.esc_lent.specs.Numbers.{state_numbered}
-use Rattle.esc_lent.specs.Runs.{Notes, Passes}
-use Rattle.esc_lent.specs.States.{KeptIn, FirstIn, BodyIn}
-use Rattle.esc_lent.specs.Emitted.{sent}
+use Rattle.esc_lent.specs.Runs.{Gives, Notes, Passes}
+use Rattle.esc_lent.specs.States.{KeptIn, FirstIn, BodyIn, begun_in}
+use Rattle.esc_lent.specs.Emitted.{sent, said, queued_of}
+use Rattle.esc_lent.proofs.Kept.{ground_only}
 use Rattle.esc_lent.proofs.OneByte.{by_move, moves_on}
-use Rattle.esc_lent.proofs.Only.{in_escape_only, in_csi_only}
-use Rattle.esc_lent.proofs.Whole.{in_ground, in_escape as escaped}
+use Rattle.esc_lent.proofs.Only.{in_ground_only, in_escape_only, in_csi_only}
+use Rattle.esc_lent.proofs.Whole.{in_ground}
 
 -- ---- noise
 
@@ -47,8 +50,8 @@ module _ (b : ℕ) (c : Class) (is : c ≡ class_of b) (n : is_noise c ≡ true)
 module _ (p : EscParser) (e : EscEvent) (b : ℕ) (c : Class) (is : c ≡ class_of b)
     (n : is_noise c ≡ true) (says : (out : List ℕ) → sent e out ≡ noise b c)
     (out : List ℕ) (limit : ℕ) where
-  said : sent e out ≡ noise b (class_of b)
-  said = says out ∙ ap (noise b) is
+  here : sent e out ≡ noise b (class_of b)
+  here = says out ∙ ap (noise b) is
 
   in_escape_notes : p.state ≡ 1 → Notes p p e out limit (b ∷ [])
   in_escape_notes one = λ u memory room h.
@@ -59,7 +62,7 @@ module _ (p : EscParser) (e : EscEvent) (b : ℕ) (c : Class) (is : c ≡ class_
       (escape_noise b c is n x (Some limit)) in (
         subst (KeptIn p memory) (sym k.0)
             (ap state_numbered one, subst (FirstIn p) (stripped b c is n x) i),
-        said ∙ sym k.1,
+        here ∙ sym k.1,
       )) u h
 
   in_csi_notes : p.state ≡ 2 → Notes p p e out limit (b ∷ [])
@@ -72,7 +75,7 @@ module _ (p : EscParser) (e : EscEvent) (b : ℕ) (c : Class) (is : c ≡ class_
       (rw (g.0, g.2, inside, goes_on) refl) in (
         subst (KeptIn p memory) (sym k.0)
             (ap state_numbered two, subst (BodyIn p) (stripped b c is n x) i),
-        said ∙ sym k.1,
+        here ∙ sym k.1,
       )) u h
 
   pub noise_notes : (p.state ≡ 1) ⊎ (p.state ≡ 2) → Notes p p e out limit (b ∷ [])
@@ -90,20 +93,62 @@ pub nothing_said : (e : EscEvent) (b : ℕ) (c : Class) → e.kind ≡ 0 → is_
 nothing_said e b c kind is out =
     rw kind (sym (ap (λ t. if t then Execute b ∷ [] else []) is))
 
--- ---- another ESC
+-- ---- a byte that breaks the sequence off
 
-pub again_passes : (p q : EscParser) (b : ℕ) → (p.state ≡ 1) ⊎ (p.state ≡ 2) → q.state ≡ 1
-    → q.kept ≡ 0 → q.has_more ≡ false → class_of b ≡ (Breaks Escape) → Passes p q (b ∷ [])
-again_passes p q b (inl s) one kept more is = λ memory.
-    in_escape_only p memory (λ u. KeptIn q memory (after_all u (b ∷ []))
-    × (events_all (Some (length memory)) u (b ∷ []) ≡ [])) s
-    (λ x h. moves_on q memory (Some (length memory)) (InEscape x) (InEscape []) b
-    (ap (inside (Some (length memory)) (InEscape x) b) is) (escaped q memory one kept more))
-again_passes p q b (inr s) one kept more is = λ memory.
-    in_csi_only p memory (λ u. KeptIn q memory (after_all u (b ∷ []))
-    × (events_all (Some (length memory)) u (b ∷ []) ≡ [])) s
-    (λ o x h. moves_on q memory (Some (length memory)) (InCsi o x) (InEscape []) b
-    (ap (inside (Some (length memory)) (InCsi o x) b) is) (escaped q memory one kept more))
+module _ (p q : EscParser) (e : EscEvent) (b : ℕ)
+    (keeps : (memory : List ℕ) → KeptIn q memory (ground_move b (class_of b)).0)
+    (says : (out : List ℕ) → sent e out ≡ (ground_move b (class_of b)).1)
+    (out : List ℕ) (limit : ℕ) where
+  as_between : (memory : List ℕ) (u : Unfinished)
+      → move (Some limit) u b (class_of b)
+      ≡ ((ground_move b (class_of b)).0, (ground_move b (class_of b)).1)
+      → KeptIn q memory (after_all u (b ∷ []))
+      × (sent e out ≡ events_all (Some limit) u (b ∷ []))
+  as_between memory u is =
+      let m = ground_move b (class_of b) in let k = by_move (Some limit) u m.0 b m.1 is in
+      (subst (KeptIn q memory) (sym k.0) (keeps memory), says out ∙ sym k.1)
+
+  pub break_notes : (p.state ≡ 1) ⊎ (p.state ≡ 2) → is_breaker (class_of b) ≡ true
+      → Notes p q e out limit (b ∷ [])
+  break_notes (inl s) is = λ u memory room h.
+      in_escape_only p memory (λ u. KeptIn q memory (after_all u (b ∷ []))
+      × (sent e out ≡ events_all (Some limit) u (b ∷ []))) s
+      (λ x i. as_between memory (InEscape x)
+      (ap (λ t. if t then emitting (leaving (Some limit) (InEscape x)) (ground_move b (class_of b))
+      else goes_on (Some limit) (InEscape x) b (class_of b)) is)) u h
+  break_notes (inr s) is = λ u memory room h.
+      in_csi_only p memory (λ u. KeptIn q memory (after_all u (b ∷ []))
+      × (sent e out ≡ events_all (Some limit) u (b ∷ []))) s
+      (λ o x i. as_between memory (InCsi o x)
+      (ap (λ t. if t then emitting (leaving (Some limit) (InCsi o x)) (ground_move b (class_of b))
+      else goes_on (Some limit) (InCsi o x) b (class_of b)) is)) u h
+
+  -- between sequences
+  pub between_notes : p.state ≡ 0 → p.pending ≡ 0 → Notes p q e out limit (b ∷ [])
+  between_notes zero none = λ u memory room h.
+      subst (λ u. KeptIn q memory (after_all u (b ∷ []))
+      × (sent e out ≡ events_all (Some limit) u (b ∷ [])))
+      (sym (ground_only p memory zero none u h)) (as_between memory Ground refl)
+
+-- a character that is broken off
+pub broken_gives : (p q : EscParser) (e : EscEvent) (b : ℕ) → p.state ≡ 0
+    → outcome (begun_in p) b ≡ Broken → is_empty (begun_in p) ≡ false
+    → ((memory : List ℕ) → KeptIn q memory (ground_move b (class_of b)).0)
+    → queued_of q.queued_kind q.queued_value ≡ (ground_move b (class_of b)).1
+    → e.kind ≡ 2 → e.byte ≡ 0xfffd
+    → (out memory : List ℕ) → Gives p q e out memory memory (b ∷ [])
+broken_gives p q e b zero broken some keeps queued kind byte out memory = λ u h.
+    let l = Some (length memory) in
+    let m = ground_move b (class_of b) in
+    in_ground_only p memory (λ u. KeptIn q memory (after_all u (b ∷ []))
+    × (said e out q.queued_kind q.queued_value ≡ events_all l u (b ∷ []))) zero
+    (λ none. let no : is_empty (begun_in p) ≡ true = ap is_empty none in absurd cc)
+    (λ f is filled.
+    let k = by_move l (Pending f) m.0 b (Print 0xfffd ∷ m.1)
+    (ap (pending_move f b (class_of b)) (subst (λ f. outcome f b ≡ Broken) is broken)) in (
+      subst (KeptIn q memory) (sym k.0) (keeps memory),
+      rw (kind, byte) (ap (λ es. Print 0xfffd ∷ es) queued) ∙ sym k.1,
+    )) u h
 
 -- ---- an intermediate
 

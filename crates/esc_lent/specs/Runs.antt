@@ -11,7 +11,7 @@ use Rattle.esc_frame.specs.Machine.Moves.{after_all, events_all}
 use Rattle.esc_lent.specs.declared.event.EscEvent.{EscEvent}
 use Rattle.esc_lent.specs.declared.parser.EscParser.{EscParser}
 use Rattle.esc_lent.specs.States.{KeptIn}
-use Rattle.esc_lent.specs.Emitted.{sent, emitted_by}
+use Rattle.esc_lent.specs.Emitted.{sent, said, emitted_by}
 
 -- well-formed, and without controls
 abbrev pub IsTextRun : List ℕ → Type 0
@@ -42,6 +42,13 @@ abbrev pub Steps : EscParser → EscParser → EscEvent → List ℕ → List �
 Steps old new e out before after x =
     (u : Unfinished) → KeptIn old before u
     → KeptIn new after (after_all u x) × (sent e out ≡ events_all (Some (length before)) u x)
+
+-- the same of an event and what is to be handed out after it
+abbrev pub Gives : EscParser → EscParser → EscEvent → List ℕ → List ℕ → List ℕ → List ℕ → Type 0
+Gives old new e out before after x =
+    (u : Unfinished) → KeptIn old before u
+    → KeptIn new after (after_all u x)
+    × (said e out new.queued_kind new.queued_value ≡ events_all (Some (length before)) u x)
 
 -- The same of bytes that give no event.
 abbrev pub PassesIn : EscParser → EscParser → List ℕ → List ℕ → List ℕ → Type 0

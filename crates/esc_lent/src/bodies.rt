@@ -12,7 +12,7 @@ ghost use Rattle.esc_lent.specs.States.{BodyIn, NumberIn, ParamsIn};
 ghost use Rattle.esc_lent.specs.Emitted.{param_of};
 
 use crate::escapes::note_noise;
-use crate::event::{CONTROL, CSI, EscEntry, EscEvent, NONE};
+use crate::event::{CHARACTER, CONTROL, CSI, EscEntry, EscEvent, NONE};
 use crate::fields::put;
 use crate::numbers::{CSI_STATE, MALFORMED, form_of, number_of_form};
 use crate::parser::EscParser;
@@ -161,16 +161,15 @@ fn end(parser: &mut EscParser, byte: u8, event: &mut EscEvent)
     event.kind = CSI;
 }
 
-/// Takes a byte of a control sequence. False where it breaks the sequence off, and then nothing
-/// changes.
+/// Takes a byte of a control sequence, or one that breaks it off.
 #[inline(always)]
 pub fn note_in_csi(parser: &mut EscParser, byte: u8, event: &mut EscEvent) -> bool
     requires state { parser.old.state ≡ CSI_STATE }
     requires none { event.old.kind ≡ NONE }
     requires count { event.old.count ≤ 256 }
     ensures other { result ≡ false → (parser.new ≡ parser.old) × (event.new ≡ event.old) }
-    ensures kind { (event.new.kind ≡ NONE) ⊎ (event.new.kind ≡ CONTROL)
-        ⊎ (event.new.kind ≡ CSI) }
+    ensures kind { (event.new.kind ≡ NONE) ⊎ (event.new.kind ≡ CHARACTER)
+        ⊎ (event.new.kind ≡ CONTROL) ⊎ (event.new.kind ≡ CSI) }
     ensures count { event.new.count ≤ 256 }
     ensures event { event.new ≡ record event.old {
       kind = event.new.kind;

@@ -3,9 +3,12 @@
 
 ghost use Rattle.std.specs.Prelude.{◌≡◌, ◌⊎◌, ◌∷◌, [], ℕ, List, true, false};
 ghost use Rattle.esc_frame.specs.Machine.Prefixes.{prefix_of};
-ghost use Rattle.esc_lent.specs.Runs.{IsDueAs, Notes};
+ghost use Rattle.esc_frame.specs.Segments.{is_empty};
+ghost use Rattle.esc_frame.specs.Sequences.{outcome};
+ghost use Rattle.esc_lent.specs.Runs.{Gives, IsDueAs, Notes};
 ghost use Rattle.esc_lent.specs.States.{begun_in};
 
+use crate::breaks::{REPLACEMENT, take_byte};
 use crate::event::{CHARACTER, EscEvent, NONE};
 use crate::numbers::{GROUND, numbers_of_pending, pending_in};
 use crate::parser::EscParser;
@@ -59,4 +62,37 @@ pub fn note_character(parser: &mut EscParser, byte: u8, event: &mut EscEvent) ->
         }
         Outcome::Broken => false,
     }
+}
+
+/// Whether the byte breaks off a character that has begun.
+pub fn is_broken(parser: &EscParser, byte: u8) -> bool
+    ensures outcome { result ≡ true → outcome (begun_in parser.now) byte ≡ Outcome.Broken }
+    ensures some { result ≡ true → is_empty (begun_in parser.now) ≡ false }
+{
+    let pending = pending_in(parser);
+    match pending {
+        Pending::Nothing => false,
+        Pending::One(_) | Pending::Two(_, _) | Pending::Three(_, _, _) => matches!(
+            pending.outcome(byte),
+            Outcome::Broken
+        ),
+    }
+}
+
+/// Notes a character that was broken off, as U+FFFD. What the byte gives that broke it off is handed
+/// out after it.
+pub fn note_broken(parser: &mut EscParser, byte: u8, event: &mut EscEvent)
+    requires ground { parser.old.state ≡ GROUND }
+    requires broken { outcome (begun_in parser.old) byte ≡ Outcome.Broken }
+    requires some { is_empty (begun_in parser.old) ≡ false }
+    ensures event { event.new ≡ record event.old { kind = CHARACTER; byte = REPLACEMENT } }
+    ensures failed { parser.new.has_failed ≡ parser.old.has_failed }
+    ensures gives { (out memory : List ℕ)
+        → Gives parser.old parser.new event.new out memory memory (byte ∷ []) }
+{
+    let single = take_byte(parser, byte);
+    parser.queued_kind = single.kind;
+    parser.queued_value = single.value;
+    event.kind = CHARACTER;
+    event.byte = REPLACEMENT;
 }

@@ -7,20 +7,22 @@ ghost use Rattle.esc_frame.specs.declared.classes.Class.TheVariants.{Introducer}
 ghost use Rattle.esc_lent.specs.Runs.{IsDueAs, Notes, Passes};
 ghost use Rattle.esc_lent.specs.States.{FirstIn};
 
-use crate::event::{CONTROL, ESCAPE, EscEvent, NONE};
+use crate::breaks::note_break;
+use crate::event::{CHARACTER, CONTROL, ESCAPE, EscEvent, NONE};
 use crate::numbers::{CSI_STATE, ESCAPED};
-use crate::openers::{escape, open_kind};
+use crate::openers::open_kind;
 use crate::parser::EscParser;
-use esc_frame::classes::{Breaker, Class, Kind, classify};
+use esc_frame::classes::{Class, Kind, classify};
 
-// A control, or another byte that is no part of a sequence, in the middle of one; or an ESC, which
-// begins another sequence. False where the byte is none of these, and then nothing changes.
+/// Takes a control or another byte that is no part of a sequence in the middle of one, or a byte
+/// that breaks it off. False where the byte is none of these, and then nothing changes.
 #[inline(never)]
 pub fn note_noise(parser: &mut EscParser, byte: u8, event: &mut EscEvent) -> bool
     requires state { (parser.old.state ≡ ESCAPED) ⊎ (parser.old.state ≡ CSI_STATE) }
     requires none { event.old.kind ≡ NONE }
     ensures other { result ≡ false → (parser.new ≡ parser.old) × (event.new ≡ event.old) }
-    ensures kind { (event.new.kind ≡ NONE) ⊎ (event.new.kind ≡ CONTROL) }
+    ensures kind { (event.new.kind ≡ NONE) ⊎ (event.new.kind ≡ CHARACTER)
+        ⊎ (event.new.kind ≡ CONTROL) }
     ensures event { event.new ≡ record event.old { kind = event.new.kind; byte = event.new.byte } }
     ensures queued { IsDueAs parser.new parser.old }
     ensures notes { result ≡ true → (out : List ℕ) (limit : ℕ)
@@ -33,17 +35,11 @@ pub fn note_noise(parser: &mut EscParser, byte: u8, event: &mut EscEvent) -> boo
             true
         }
         Class::Delete | Class::High | Class::Lead => true,
-        Class::Breaks(Breaker::Escape) => {
-            escape(parser);
+        Class::Breaks(_) => {
+            note_break(parser, byte, event);
             true
         }
-        Class::Breaks(
-            Breaker::Cancel | Breaker::C1 | Breaker::C1Introducer(_) | Breaker::C1Terminator,
-        )
-        | Class::Intermediate
-        | Class::Parameter
-        | Class::Introducer(_)
-        | Class::Final => false,
+        Class::Intermediate | Class::Parameter | Class::Introducer(_) | Class::Final => false,
     }
 }
 
@@ -101,16 +97,15 @@ fn dispatch(parser: &mut EscParser, byte: u8, event: &mut EscEvent)
     parser.pending = 0;
 }
 
-/// Takes a byte of an escape sequence. False where it breaks the sequence off, and then nothing
-/// changes.
+/// Takes a byte of an escape sequence, or one that breaks it off.
 #[inline(always)]
 pub fn note_in_escape(parser: &mut EscParser, byte: u8, event: &mut EscEvent) -> bool
     requires state { parser.old.state ≡ ESCAPED }
     requires none { event.old.kind ≡ NONE }
     requires kept { event.old.kept ≤ 2 }
     ensures other { result ≡ false → (parser.new ≡ parser.old) × (event.new ≡ event.old) }
-    ensures kind { (event.new.kind ≡ NONE) ⊎ (event.new.kind ≡ CONTROL)
-        ⊎ (event.new.kind ≡ ESCAPE) }
+    ensures kind { (event.new.kind ≡ NONE) ⊎ (event.new.kind ≡ CHARACTER)
+        ⊎ (event.new.kind ≡ CONTROL) ⊎ (event.new.kind ≡ ESCAPE) }
     ensures within { (event.new.count ≡ event.old.count) × (event.new.kept ≤ 2)
         × (event.new.length ≡ event.old.length) }
     ensures queued { IsDueAs parser.new parser.old }

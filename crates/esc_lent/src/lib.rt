@@ -3,6 +3,7 @@
 
 pub mod advance;
 pub mod bodies;
+pub mod breaks;
 pub mod characters;
 pub mod commands;
 pub mod csi_params;

@@ -23,16 +23,6 @@ pub fn escape(parser: &mut EscParser)
     parser.has_more = false;
 }
 
-/// An ESC between sequences.
-#[inline(always)]
-pub fn begin_escape(parser: &mut EscParser)
-    requires ground { (parser.old.state ≡ GROUND) × (parser.old.pending ≡ 0) }
-    ensures queued { IsDueAs parser.new parser.old }
-    ensures passes { Passes parser.old parser.new (0x1b ∷ []) }
-{
-    escape(parser);
-}
-
 /// What this kind of opener opens.
 #[inline(always)]
 pub fn open_kind(parser: &mut EscParser, kind: Kind)

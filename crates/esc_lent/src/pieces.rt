@@ -2,33 +2,35 @@
 #![tactic(auto)]
 
 ghost use Rattle.std.specs.Prelude.{◌≡◌, ◌≤◌, ◌<◌, ◌⊎◌, ◌∷◌, [], ℕ, List, true, false, length, take};
-ghost use Rattle.esc_lent.specs.Runs.{IsDueAs, Notes, Steps};
-ghost use Rattle.esc_lent.specs.Emitted.{is_run};
+ghost use Rattle.esc_lent.specs.Runs.{Gives, IsDueAs, Notes, Steps};
+ghost use Rattle.esc_lent.specs.Emitted.{is_run, queued_of};
 
 use crate::bodies::note_in_csi;
-use crate::characters::note_character;
+use crate::breaks::note_break;
+use crate::characters::{is_broken, note_broken, note_character};
 use crate::commands::{note_in_apc, note_in_osc};
 use crate::data::{note_ignored, note_in_data};
 use crate::escapes::note_in_escape;
-use crate::event::{CHARACTER, EscEvent, FAILED, NONE};
+use crate::event::{CHARACTER, CONTROL, EscEvent, FAILED, NONE};
 use crate::numbers::GROUND;
-use crate::openers::begin_escape;
 use crate::parser::EscParser;
 
-// An ESC, or a byte of a character.
+// Takes a byte between sequences, or one of a character. False where the byte breaks the character
+// off or ends a control, and then nothing changes.
 #[inline(always)]
 fn note_in_ground(parser: &mut EscParser, byte: u8, event: &mut EscEvent) -> bool
     requires ground { parser.old.state ≡ GROUND }
     requires none { event.old.kind ≡ NONE }
     ensures other { result ≡ false → (parser.new ≡ parser.old) × (event.new ≡ event.old) }
-    ensures kind { (event.new.kind ≡ NONE) ⊎ (event.new.kind ≡ CHARACTER) }
+    ensures kind { (event.new.kind ≡ NONE) ⊎ (event.new.kind ≡ CHARACTER)
+        ⊎ (event.new.kind ≡ CONTROL) }
     ensures event { event.new ≡ record event.old { kind = event.new.kind; byte = event.new.byte } }
     ensures queued { IsDueAs parser.new parser.old }
     ensures notes { result ≡ true → (out : List ℕ) (limit : ℕ)
         → Notes parser.old parser.new event.new out limit (byte ∷ []) }
 {
-    if byte == 0x1b && parser.pending == 0 {
-        begin_escape(parser);
+    if parser.pending == 0 {
+        note_break(parser, byte, event);
         true
     } else {
         note_character(parser, byte, event)
@@ -61,10 +63,10 @@ fn note_byte(parser: &mut EscParser, byte: u8, event: &mut EscEvent) -> bool
     }
 }
 
-/// Takes what comes first, where it continues a sequence, a string or a character, or begins one:
-/// at least a byte. Nothing where something else comes, which is left to the machine.
+// Takes what comes first, where it continues a sequence, a string or a character, or begins one: at
+// least a byte. Nothing where something else comes.
 #[inline(always)]
-pub fn note_piece(
+fn note_step(
     parser: &mut EscParser,
     memory: &mut [u8],
     out: &mut [u8],
@@ -92,6 +94,46 @@ pub fn note_piece(
     } else if parser.state == 7 {
         note_in_apc(parser, memory, out, bytes, event)
     } else if note_byte(parser, bytes[0], event) {
+        1
+    } else {
+        0
+    }
+}
+
+/// Takes what comes first, where it continues a sequence, a string or a character, begins one, or
+/// breaks a character off: at least a byte. Nothing where something else comes, which is left to
+/// the machine.
+#[inline(always)]
+pub fn note_piece(
+    parser: &mut EscParser,
+    memory: &mut [u8],
+    out: &mut [u8],
+    bytes: &[u8],
+    event: &mut EscEvent,
+) -> usize
+    requires some { 0 < length bytes.now }
+    requires none { event.old.kind ≡ NONE }
+    requires queued { queued_of parser.old.queued_kind parser.old.queued_value ≡ [] }
+    requires within { (event.old.count ≤ 256) × (event.old.kept ≤ 2)
+        × (event.old.length ≤ length out.old) }
+    ensures few { result ≤ length bytes.now }
+    ensures none { result ≡ 0 → (parser.new ≡ parser.old) × (event.new ≡ event.old)
+        × (memory.new ≡ memory.old) }
+    ensures kind { (event.new.kind < FAILED) × (is_run event.new.kind ≡ false) }
+    ensures within { (event.new.count ≤ 256) × (event.new.kept ≤ 2)
+        × (event.new.length ≤ length out.old) }
+    ensures queued { event.new.kind ≡ NONE
+        → queued_of parser.new.queued_kind parser.new.queued_value ≡ [] }
+    ensures failed { parser.new.has_failed ≡ parser.old.has_failed }
+    ensures gives { 0 < result → Gives parser.old parser.new event.new out.new memory.old
+        memory.new (take result bytes.now) }
+{
+    let step = note_step(parser, memory, out, bytes, event);
+    if step > 0 {
+        return step;
+    }
+    if parser.state == 0 && is_broken(parser, bytes[0]) {
+        note_broken(parser, bytes[0], event);
         1
     } else {
         0

@@ -1,8 +1,6 @@
-use Rattle.std.proofs.Common.{rules, ◌≡◌, ◌∷◌, [], true, false, refl, sym, ap, ◌∙◌}
-use Rattle.esc_frame.specs.declared.classes.Class.TheVariants.{Breaks}
-use Rattle.esc_frame.specs.Classes.{is_noise, is_c0}
-use Rattle.esc_lent.proofs.OneByte.{nothing_noted}
-use Rattle.esc_lent.proofs.Sequences.{noise_notes, control_said, nothing_said, again_passes}
+use Rattle.std.proofs.Common.{rules, ◌≡◌, true, false, refl, sym, ap, ◌∙◌}
+use Rattle.esc_frame.specs.Classes.{is_noise, is_c0, is_breaker}
+use Rattle.esc_lent.proofs.Sequences.{noise_notes, control_said, nothing_said, break_notes}
 use Rattle.esc_lent.proofs.escapes.note_noise.Goals as goal
 
 pub returns-in-C0-clause-notes : goal.returns-in-C0-clause-notes
@@ -23,12 +21,9 @@ returns-in-Delete-clause-notes c = λ yes.
     λ out limit. noise_notes c.args.parser.now e c.args.byte k c.classify.ensures noise
     (nothing_said e c.args.byte k c.requires.none is) out limit c.requires.state
 
-pub returns-in-Breaks-Escape-clause-notes : goal.returns-in-Breaks-Escape-clause-notes
-returns-in-Breaks-Escape-clause-notes c = λ yes.
-    let p = c.args.parser.now in
-    let q = c.escape.new.parser in
-    let s = c.escape.ensures.state in
-    let b = c.args.byte in
-    nothing_noted p q c.args.event.now (b ∷ []) c.requires.none
-    (again_passes p q b c.requires.state s.0 s.1 s.2
-    (sym c.classify.ensures ∙ c.in-Breaks-Escape.is ∙ ap Breaks c.in-Breaks-Escape.field-0-is))
+pub returns-in-Breaks-clause-notes : goal.returns-in-Breaks-clause-notes
+returns-in-Breaks-clause-notes c = λ yes out limit.
+    let is : is_breaker c.classify.result ≡ true = search (rules, c.in-Breaks.is) in
+    break_notes c.args.parser.now c.note_break.new.parser c.note_break.new.event c.args.byte
+    c.note_break.ensures.kept c.note_break.ensures.says out limit c.requires.state
+    (sym (ap is_breaker c.classify.ensures) ∙ is)

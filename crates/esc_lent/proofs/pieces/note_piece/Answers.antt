@@ -1,11 +1,17 @@
-use Rattle.std.proofs.Common.{length, refl, sym, subst}
-use Rattle.esc_lent.specs.Runs.{Steps}
+use Rattle.std.proofs.Common.{◌≡◌, ◌∷◌, [], get_or, sym, subst, arith}
+use Rattle.esc_lent.specs.Runs.{Gives}
+use Rattle.esc_lent.proofs.Kept.{given_still}
 use Rattle.esc_lent.proofs.OneByte.{first_taken}
 use Rattle.esc_lent.proofs.pieces.note_piece.Goals as goal
 
-pub returns-then-note_byte-clause-steps : goal.returns-then-note_byte-clause-steps
-returns-then-note_byte-clause-steps c = λ some u h.
-    let m = c.args.memory.now in
-    subst (Steps c.args.parser.now c.note_byte.new.parser c.note_byte.new.event c.args.out.now m m)
+pub returns-then-is_broken-clause-gives : goal.returns-then-is_broken-clause-gives
+returns-then-is_broken-clause-gives c = λ some.
+    let step = c.note_step-step in
+    let zero : step.result ≡ 0 = omega (arith, c.if-step-gt0.false) in
+    let same = step.ensures.none zero in
+    let e = c.note_broken.new.event in
+    let m = step.new.memory in
+    subst (Gives c.args.parser.now c.note_broken.new.parser e step.new.out c.args.memory.now m)
     (sym (first_taken c.args.bytes.now c.requires.some))
-    (λ v k. c.note_byte.ensures.notes c.if-note_byte.true c.args.out.now (length m) v m refl k) u h
+    (given_still c.args.parser.now step.new.parser c.note_broken.new.parser e step.new.out
+    c.args.memory.now m m (get_or c.args.bytes.now 0 0 ∷ []) same.0 same.2 (c.note_broken.ensures.gives step.new.out m))

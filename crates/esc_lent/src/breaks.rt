@@ -1,0 +1,80 @@
+//! What a byte does between sequences, and so where it breaks one off.
+#![tactic(auto)]
+
+ghost use Rattle.std.specs.Prelude.{◌≡◌, ◌⊎◌, ℕ, List};
+ghost use Rattle.esc_frame.specs.Classes.{class_of};
+ghost use Rattle.esc_frame.specs.Machine.Moves.{ground_move};
+ghost use Rattle.esc_lent.specs.Runs.{IsDueAs};
+ghost use Rattle.esc_lent.specs.States.{KeptIn};
+ghost use Rattle.esc_lent.specs.Emitted.{queued_of, sent};
+
+use crate::event::{CHARACTER, CONTROL, EscEvent, NONE};
+use crate::openers::{escape, open_kind};
+use crate::parser::EscParser;
+use esc_frame::classes::{Breaker, Class, classify};
+
+/// A character or a control, by the kind of its event, or nothing: `NONE`.
+#[derive(Clone, Copy)]
+pub struct Single {
+    pub kind: u32,
+    pub value: u32,
+}
+
+/// The character that is handed out for bytes that are no UTF-8.
+pub const REPLACEMENT: u32 = 0xfffd;
+
+/// Takes a byte as between sequences, and returns what it gives.
+#[inline(always)]
+pub fn take_byte(parser: &mut EscParser, byte: u8) -> Single
+    ensures kept { (memory : List ℕ)
+        → KeptIn parser.new memory (ground_move byte (class_of byte)).0 }
+    ensures given { queued_of result.kind result.value ≡ (ground_move byte (class_of byte)).1 }
+    ensures kind { (result.kind ≡ NONE) ⊎ (result.kind ≡ CHARACTER) ⊎ (result.kind ≡ CONTROL) }
+    ensures queued { IsDueAs parser.new parser.old }
+{
+    parser.state = 0;
+    parser.pending = 0;
+    let (kind, value) = match classify(byte) {
+        Class::Breaks(Breaker::Escape) => {
+            escape(parser);
+            (NONE, 0)
+        }
+        Class::Lead => {
+            parser.pending = 1;
+            parser.first = byte;
+            (NONE, 0)
+        }
+        Class::High => (CHARACTER, REPLACEMENT),
+        Class::C0 | Class::Bell | Class::Breaks(Breaker::Cancel | Breaker::C1) => (
+            CONTROL,
+            byte as u32,
+        ),
+        Class::Breaks(Breaker::C1Introducer(kind)) => {
+            open_kind(parser, kind);
+            (NONE, 0)
+        }
+        Class::Breaks(Breaker::C1Terminator) => (NONE, 0),
+        Class::Intermediate
+        | Class::Parameter
+        | Class::Introducer(_)
+        | Class::Final
+        | Class::Delete => (CHARACTER, byte as u32),
+    };
+    Single { kind, value }
+}
+
+/// Takes a byte as between sequences, and notes what it gives.
+#[inline(always)]
+pub fn note_break(parser: &mut EscParser, byte: u8, event: &mut EscEvent)
+    ensures kept { (memory : List ℕ)
+        → KeptIn parser.new memory (ground_move byte (class_of byte)).0 }
+    ensures says { (out : List ℕ) → sent event.new out ≡ (ground_move byte (class_of byte)).1 }
+    ensures kind { (event.new.kind ≡ NONE) ⊎ (event.new.kind ≡ CHARACTER)
+        ⊎ (event.new.kind ≡ CONTROL) }
+    ensures event { event.new ≡ record event.old { kind = event.new.kind; byte = event.new.byte } }
+    ensures queued { IsDueAs parser.new parser.old }
+{
+    let single = take_byte(parser, byte);
+    event.kind = single.kind;
+    event.byte = single.value;
+}
