@@ -140,7 +140,7 @@ pub fn next(parser: &mut EscParser, buffer: &mut [u8], bytes: &[u8], event: &mut
         if bytes[0] == 0x1b {
             return next_of_sequence(parser, buffer, bytes, event);
         }
-        let taken = note_plain(bytes, event);
+        let taken = note_plain(bytes, event, false);
         if taken > 0 {
             return taken;
         }
@@ -166,7 +166,7 @@ fn next_of_few(
             return 0;
         }
         if bytes[0] != 0x1b {
-            let taken = note_plain(bytes, event);
+            let taken = note_plain(bytes, event, true);
             if taken > 0 {
                 return taken;
             }

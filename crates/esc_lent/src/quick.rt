@@ -11,7 +11,7 @@ use crate::event::{CONTROL, CSI, EscEvent, FAILED, NONE, TEXT};
 use crate::fields::read_body;
 use crate::numbers::GROUND;
 use crate::parser::EscParser;
-use crate::runs::ascii_text;
+use crate::runs::plain_text;
 use esc_frame::utf8::sequence::lies_from;
 
 /// Notes the control, or the short control sequence, whole in the bytes, that comes first in
@@ -44,10 +44,10 @@ pub fn note_quick(parser: &EscParser, bytes: &[u8], event: &mut EscEvent) -> usi
     }
 }
 
-/// Notes the run of bytes 20 to 7F, or the control, that comes first in ground; nothing where
-/// something else comes.
+/// Notes the run of bytes 20 to 7F, or the control, that comes first in ground, of many bytes or of
+/// few; nothing where something else comes.
 #[inline(always)]
-pub fn note_plain(bytes: &[u8], event: &mut EscEvent) -> usize
+pub fn note_plain(bytes: &[u8], event: &mut EscEvent, few: bool) -> usize
     requires some { 0 < length bytes.now }
     requires other { slice_index bytes.now 0 ≢ 0x1b }
     ensures few { result ≤ length bytes.now }
@@ -65,7 +65,7 @@ pub fn note_plain(bytes: &[u8], event: &mut EscEvent) -> usize
         put_plain(event, CONTROL, 0, bytes[0]);
         return 1;
     }
-    let run = ascii_text(bytes);
+    let run = plain_text(bytes, few);
     if run > 0 {
         put_plain(event, TEXT, run, 0);
     }

@@ -23,13 +23,39 @@ pub fn text_run(bytes: &[u8]) -> usize
     }
 }
 
-/// The bytes 20 to 7F that come first.
+// The bytes 20 to 7F that come first.
 #[inline(always)]
-pub fn ascii_text(bytes: &[u8]) -> usize
+fn ascii_text(bytes: &[u8]) -> usize
     ensures few { result ≤ length bytes.now }
     ensures run { IsTextRun (take result bytes.now) }
 {
     ascii_run(bytes)
+}
+
+// The same of few bytes, one after another.
+#[inline(always)]
+fn few_text(bytes: &[u8]) -> usize
+    ensures few { result ≤ length bytes.now }
+    ensures run { IsTextRun (take result bytes.now) }
+{
+    let mut at = 0;
+    while at < bytes.len() && 0x20 <= bytes[at] && bytes[at] < 0x80 {
+        at += 1;
+    }
+    at
+}
+
+/// The bytes 20 to 7F that come first, of many bytes or of few.
+#[inline(always)]
+pub fn plain_text(bytes: &[u8], few: bool) -> usize
+    ensures few { result ≤ length bytes.now }
+    ensures run { IsTextRun (take result bytes.now) }
+{
+    if few {
+        few_text(bytes)
+    } else {
+        ascii_text(bytes)
+    }
 }
 
 // How many bytes the character has that begins with this byte.

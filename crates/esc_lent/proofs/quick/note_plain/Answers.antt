@@ -15,5 +15,5 @@ returns-then-bytes-lt32-clause-emits c = λ some p out limit zero none.
 pub returns-then-run-gt0-clause-emits : goal.returns-then-run-gt0-clause-emits
 returns-then-run-gt0-clause-emits c = λ some p out limit zero none.
     let put = c.put_plain-then-run-gt0 in
-    run_emits p put.new.event c.args.bytes.now c.ascii_text-run.result zero none put.ensures.kind.0
-    put.ensures.length c.ascii_text-run.ensures.run out limit
+    run_emits p put.new.event c.args.bytes.now c.plain_text-run.result zero none put.ensures.kind.0
+    put.ensures.length c.plain_text-run.ensures.run out limit
