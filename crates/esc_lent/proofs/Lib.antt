@@ -3,6 +3,7 @@ pub mod ApcBytes
 pub mod BodyBytes
 pub mod DataBytes
 pub mod Folds
+pub mod HeaderBytes
 pub mod Kept
 pub mod Machines
 pub mod OneByte

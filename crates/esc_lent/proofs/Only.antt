@@ -4,20 +4,21 @@ use Rattle.esc_frame.specs.Classes.{strip, those, is_text}
 use Rattle.esc_frame.specs.Leads.{Unfinished}
 use Rattle.esc_frame.specs.Leads.Unfinished.{Ground, Pending, InEscape, InCsi, InOsc, InOscPending, InDcs, InData, InApc, InIgnored}
 use Rattle.esc_frame.specs.Limits.{is_read}
+use Rattle.esc_frame.specs.Machine.Keeps.{parameters_of}
 use Rattle.esc_frame.specs.Segments.{Opener, Piece, text_of, is_empty}
 use Rattle.esc_frame.specs.declared.classes.Kind.{Kind}
 use Rattle.esc_frame.specs.declared.machine.State.{State}
 use Rattle.esc_frame.specs.declared.machine.State.TheVariants as state
 use Rattle.esc_lent.specs.declared.parser.EscParser.{EscParser}
 use Rattle.esc_lent.specs.Numbers.{state_numbered}
-use Rattle.esc_lent.specs.States.{KeptIn, FirstIn, BodyIn, TextIn, begun_in}
+use Rattle.esc_lent.specs.States.{KeptIn, FirstIn, BodyIn, HeaderIn, TextIn, begun_in}
 
 -- a state that is neither that of data nor that of what is passed over
 no_data : (b : Bool) (s : State) → s ≡ (if b then state.Data else state.Ignored)
     → (s ≡ state.Ground → ⊥) × (s ≡ state.Escape → ⊥) × (s ≡ state.Csi → ⊥) × (s ≡ state.Osc → ⊥)
-    × (s ≡ state.Apc → ⊥)
-no_data true s h = ((λ k. cc), (λ k. cc), (λ k. cc), (λ k. cc), (λ k. cc))
-no_data false s h = ((λ k. cc), (λ k. cc), (λ k. cc), (λ k. cc), (λ k. cc))
+    × (s ≡ state.Apc → ⊥) × (s ≡ state.Dcs → ⊥)
+no_data true s h = ((λ k. cc), (λ k. cc), (λ k. cc), (λ k. cc), (λ k. cc), (λ k. cc))
+no_data false s h = ((λ k. cc), (λ k. cc), (λ k. cc), (λ k. cc), (λ k. cc), (λ k. cc))
 
 module _ (p : EscParser) (memory : List ℕ) (P : Unfinished → Type 0) where
   not_data : (x : List ℕ)
@@ -25,7 +26,7 @@ module _ (p : EscParser) (memory : List ℕ) (P : Unfinished → Type 0) where
       ≡ (if is_read (Some (length memory)) (strip x) then state.Data else state.Ignored)
       → (state_numbered p.state ≡ state.Ground → ⊥) × (state_numbered p.state ≡ state.Escape → ⊥)
       × (state_numbered p.state ≡ state.Csi → ⊥) × (state_numbered p.state ≡ state.Osc → ⊥)
-      × (state_numbered p.state ≡ state.Apc → ⊥)
+      × (state_numbered p.state ≡ state.Apc → ⊥) × (state_numbered p.state ≡ state.Dcs → ⊥)
   not_data x h = no_data (is_read (Some (length memory)) (strip x)) (state_numbered p.state) h
 
   -- between sequences, or in a character
@@ -104,6 +105,22 @@ module _ (p : EscParser) (memory : List ℕ) (P : Unfinished → Type 0) where
   in_apc_only s e (InIgnored k o d) h = absurd cc
   in_apc_only s e (InOsc o ps) h = absurd cc
   in_apc_only s e (InOscPending o ps f) h = absurd cc
+
+  -- in the header of a device control string
+  pub in_header_only : p.state ≡ 4
+      → ((o : Opener) (x : List ℕ) → TextIn p memory (parameters_of (strip x))
+      → HeaderIn p (strip x) → P (InDcs o x))
+      → (u : Unfinished) → KeptIn p memory u → P u
+  in_header_only s e Ground h = absurd cc
+  in_header_only s e (Pending f) h = absurd cc
+  in_header_only s e (InEscape x) h = absurd cc
+  in_header_only s e (InCsi o x) h = absurd cc
+  in_header_only s e (InDcs o x) h = e o x h.1 h.2
+  in_header_only s e (InData o x f d) h = absurd ((not_data x h).5 (ap state_numbered s))
+  in_header_only s e (InApc o d) h = absurd cc
+  in_header_only s e (InIgnored k o d) h = absurd cc
+  in_header_only s e (InOsc o ps) h = absurd cc
+  in_header_only s e (InOscPending o ps f) h = absurd cc
 
   -- in what is passed over
   unread : (b : Bool) → state_numbered p.state ≡ (if b then state.Data else state.Ignored)

@@ -26,7 +26,7 @@ use Rattle.esc_lent.proofs.Whole.{in_ground}
 
 -- ---- noise
 
-noise_goes : (c : Class) → is_noise c ≡ true
+pub noise_goes : (c : Class) → is_noise c ≡ true
     → (is_breaker c ≡ false) × (in_escape c ≡ true) × (in_csi c ≡ true)
 noise_goes C0 h = (refl, refl, refl)
 noise_goes Bell h = (refl, refl, refl)

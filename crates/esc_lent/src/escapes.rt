@@ -55,12 +55,15 @@ fn open_after(parser: &mut EscParser, byte: u8, kind: Kind)
     open_kind(parser, kind);
 }
 
-// One intermediate more.
+/// Keeps one intermediate more, if it is one of the first two.
 #[inline(always)]
-fn push_intermediate(parser: &mut EscParser, byte: u8)
+pub fn push_intermediate(parser: &mut EscParser, byte: u8)
     ensures first { (x : List ℕ) → FirstIn parser.old x → FirstIn parser.new (x ++ byte ∷ []) }
-    ensures state { parser.new.state ≡ parser.old.state }
-    ensures queued { IsDueAs parser.new parser.old }
+    ensures same { parser.new ≡ record parser.old {
+      intermediates = parser.new.intermediates;
+      kept = parser.new.kept;
+      has_more = parser.new.has_more;
+    } }
 {
     if parser.kept < 2 {
         parser.intermediates[parser.kept] = byte;

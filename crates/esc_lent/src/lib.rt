@@ -11,6 +11,7 @@ pub mod data;
 pub mod escapes;
 pub mod event;
 pub mod fields;
+pub mod headers;
 pub mod limited;
 pub mod load;
 pub mod named;

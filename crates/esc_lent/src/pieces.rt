@@ -12,7 +12,8 @@ use crate::commands::{note_in_apc, note_in_osc};
 use crate::data::{note_ignored, note_in_data};
 use crate::escapes::note_in_escape;
 use crate::event::{CHARACTER, CONTROL, EscEvent, FAILED, NONE};
-use crate::numbers::GROUND;
+use crate::headers::note_in_header;
+use crate::numbers::{GROUND, HEADER_STATE};
 use crate::parser::EscParser;
 
 // Takes a byte between sequences, or one of a character. False where the byte breaks the character
@@ -63,6 +64,37 @@ fn note_byte(parser: &mut EscParser, byte: u8, event: &mut EscEvent) -> bool
     }
 }
 
+// Takes the first byte, where it is one of a header.
+#[inline(always)]
+fn note_header(
+    parser: &mut EscParser,
+    memory: &mut [u8],
+    out: &mut [u8],
+    bytes: &[u8],
+    event: &mut EscEvent,
+) -> usize
+    requires some { 0 < length bytes.now }
+    requires state { parser.old.state ≡ HEADER_STATE }
+    requires none { event.old.kind ≡ NONE }
+    requires within { (event.old.count ≤ 256) × (event.old.kept ≤ 2)
+        × (event.old.length ≤ length out.old) }
+    ensures few { result ≤ 1 }
+    ensures none { result ≡ 0 → (parser.new ≡ parser.old) × (event.new ≡ event.old)
+        × (memory.new ≡ memory.old) }
+    ensures kind { (event.new.kind < FAILED) × (is_run event.new.kind ≡ false) }
+    ensures within { (event.new.count ≤ 256) × (event.new.kept ≤ 2)
+        × (event.new.length ≤ length out.old) }
+    ensures queued { IsDueAs parser.new parser.old }
+    ensures steps { 0 < result → Steps parser.old parser.new event.new out.new memory.old
+        memory.new (take result bytes.now) }
+{
+    if note_in_header(parser, memory, out, bytes[0], event) {
+        1
+    } else {
+        0
+    }
+}
+
 // Takes what comes first, where it continues a sequence, a string or a character, or begins one: at
 // least a byte. Nothing where something else comes.
 #[inline(always)]
@@ -93,6 +125,8 @@ fn note_step(
         note_ignored(parser, bytes)
     } else if parser.state == 7 {
         note_in_apc(parser, memory, out, bytes, event)
+    } else if parser.state == 4 {
+        note_header(parser, memory, out, bytes, event)
     } else if note_byte(parser, bytes[0], event) {
         1
     } else {

@@ -1,0 +1,16 @@
+use Rattle.std.proofs.Common.{ap, subst, sym, ◌∙◌}
+use Rattle.esc_frame.specs.Bodies.{is_dcs_parameter}
+use Rattle.esc_frame.specs.Machine.Keeps.{next_form_by}
+use Rattle.esc_lent.specs.Numbers.{form_numbered}
+use Rattle.esc_lent.specs.States.{FirstIn}
+use Rattle.esc_lent.proofs.HeaderBytes.{parameter_more}
+use Rattle.esc_lent.proofs.headers.push_parameter.Goals as goal
+
+pub returns-clause-header : goal.returns-clause-header
+returns-clause-header c = λ yes x h.
+    let r = c.append.new.parser in
+    let same = c.append.ensures.same in
+    parameter_more c.args.parser.now (record r { form = c.next_form-parser.result }) x c.args.byte h
+    (c.next_form-parser.ensures
+    ∙ ap (λ q. next_form_by is_dcs_parameter (form_numbered q.form) c.args.byte) same)
+    c.requires (λ y f. subst (λ q. FirstIn q y) (sym same) f)
