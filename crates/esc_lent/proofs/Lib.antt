@@ -5,6 +5,7 @@ pub mod DataBytes
 pub mod Folds
 pub mod HeaderBytes
 pub mod Kept
+pub mod Left
 pub mod Machines
 pub mod OneByte
 pub mod Only

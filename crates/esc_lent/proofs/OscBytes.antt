@@ -28,7 +28,7 @@ use Rattle.esc_lent.proofs.OneByte.{by_move, moves_on, is_whole, is_more, first_
 use Rattle.esc_lent.proofs.Only.{in_osc_only}
 use Rattle.esc_lent.proofs.Whole.{bell_class, escape_at, osc_said}
 
-none_begun : (p : EscParser) (f : List ℕ) → p.pending ≡ 0 → begun_in p ≡ f → is_empty f ≡ false → ⊥
+pub none_begun : (p : EscParser) (f : List ℕ) → p.pending ≡ 0 → begun_in p ≡ f → is_empty f ≡ false → ⊥
 none_begun p f none is some =
     let e : [] ≡ f = sym (ap (λ n. begun n p.first p.second p.third) none) ∙ is in
     let k : is_empty f ≡ true = ap is_empty (sym e) in cc

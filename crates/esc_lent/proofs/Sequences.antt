@@ -7,12 +7,13 @@ use Rattle.esc_frame.specs.Classes.{class_of, strip, is_noise, is_c0, is_breaker
 use Rattle.esc_frame.specs.Events.Event.{Execute, Print}
 use Rattle.esc_frame.specs.Leads.{Unfinished}
 use Rattle.esc_frame.specs.Leads.Unfinished.{Ground, Pending, InEscape, InCsi}
-use Rattle.esc_frame.specs.Machine.Moves.{after_all, events_all, opened, emitting, leaving, inside, goes_on, noise, move, ground_move, pending_move}
+use Rattle.esc_frame.specs.Machine.Moves.{after_all, events_all, opened, emitting, leaving, inside, goes_on, noise, move, ground_move, pair_move, pending_move}
 use Rattle.esc_frame.specs.Segments.{is_empty, escape_event}
 use Rattle.esc_frame.specs.Segments.Opener.{Long}
 use Rattle.esc_frame.proofs.Bytes.{noise_strip}
-use Rattle.esc_frame.specs.declared.utf8.sequence.Outcome.TheVariants.{Broken}
-use Rattle.esc_frame.specs.Sequences.{outcome}
+use Rattle.esc_frame.proofs.Characters.{none_one}
+use Rattle.esc_frame.specs.declared.utf8.sequence.Outcome.TheVariants as outcomes
+use Rattle.esc_frame.specs.Sequences.{is_pair, number_of, outcome}
 use Rattle.esc_lent.specs.declared.event.EscEvent.{EscEvent}
 use Rattle.esc_lent.specs.declared.parser.EscParser.{EscParser}
 use Rattle.esc_lent.specs.Numbers.{state_numbered}
@@ -20,7 +21,7 @@ use Rattle.esc_lent.specs.Runs.{Gives, Notes, Passes}
 use Rattle.esc_lent.specs.States.{KeptIn, FirstIn, BodyIn, begun_in}
 use Rattle.esc_lent.specs.Emitted.{sent, said, queued_of}
 use Rattle.esc_lent.proofs.Kept.{ground_only}
-use Rattle.esc_lent.proofs.OneByte.{by_move, moves_on}
+use Rattle.esc_lent.proofs.OneByte.{by_move, moves_on, is_whole}
 use Rattle.esc_lent.proofs.Only.{in_ground_only, in_escape_only, in_csi_only}
 use Rattle.esc_lent.proofs.Whole.{in_ground}
 
@@ -130,9 +131,28 @@ module _ (p q : EscParser) (e : EscEvent) (b : ℕ)
       × (sent e out ≡ events_all (Some limit) u (b ∷ [])))
       (sym (ground_only p memory zero none u h)) (as_between memory Ground refl)
 
+-- the last byte of a C1 control in UTF-8
+pub pair_notes : (p q : EscParser) (e : EscEvent) (b : ℕ) → p.state ≡ 0
+    → outcome (begun_in p) b ≡ outcomes.Whole → is_pair (begun_in p ++ b ∷ []) ≡ true
+    → ((memory : List ℕ) → KeptIn q memory (pair_move b (class_of b)).0)
+    → ((out : List ℕ) → sent e out ≡ (pair_move b (class_of b)).1)
+    → (out : List ℕ) (limit : ℕ) → Notes p q e out limit (b ∷ [])
+pair_notes p q e b zero whole pair keeps says out limit = λ u memory room h.
+    let m = pair_move b (class_of b) in
+    in_ground_only p memory (λ u. KeptIn q memory (after_all u (b ∷ []))
+    × (sent e out ≡ events_all (Some limit) u (b ∷ []))) zero
+    (λ none. absurd (none_one b (is_whole [] b
+    (subst (λ f. outcome f b ≡ outcomes.Whole) none whole))))
+    (λ f is filled.
+    let k = by_move (Some limit) (Pending f) m.0 b m.1
+    (ap (pending_move f b (class_of b)) (subst (λ f. outcome f b ≡ outcomes.Whole) is whole)
+    ∙ ap (λ t. if t then m else (Ground, Print (number_of (f ++ b ∷ [])) ∷ []))
+    (subst (λ f. is_pair (f ++ b ∷ []) ≡ true) is pair)) in
+    (subst (KeptIn q memory) (sym k.0) (keeps memory), says out ∙ sym k.1)) u h
+
 -- a character that is broken off
 pub broken_gives : (p q : EscParser) (e : EscEvent) (b : ℕ) → p.state ≡ 0
-    → outcome (begun_in p) b ≡ Broken → is_empty (begun_in p) ≡ false
+    → outcome (begun_in p) b ≡ outcomes.Broken → is_empty (begun_in p) ≡ false
     → ((memory : List ℕ) → KeptIn q memory (ground_move b (class_of b)).0)
     → queued_of q.queued_kind q.queued_value ≡ (ground_move b (class_of b)).1
     → e.kind ≡ 2 → e.byte ≡ 0xfffd
@@ -145,7 +165,7 @@ broken_gives p q e b zero broken some keeps queued kind byte out memory = λ u h
     (λ none. let no : is_empty (begun_in p) ≡ true = ap is_empty none in absurd cc)
     (λ f is filled.
     let k = by_move l (Pending f) m.0 b (Print 0xfffd ∷ m.1)
-    (ap (pending_move f b (class_of b)) (subst (λ f. outcome f b ≡ Broken) is broken)) in (
+    (ap (pending_move f b (class_of b)) (subst (λ f. outcome f b ≡ outcomes.Broken) is broken)) in (
       subst (KeptIn q memory) (sym k.0) (keeps memory),
       rw (kind, byte) (ap (λ es. Print 0xfffd ∷ es) queued) ∙ sym k.1,
     )) u h

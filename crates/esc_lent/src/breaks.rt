@@ -3,7 +3,7 @@
 
 ghost use Rattle.std.specs.Prelude.{◌≡◌, ◌⊎◌, ℕ, List};
 ghost use Rattle.esc_frame.specs.Classes.{class_of};
-ghost use Rattle.esc_frame.specs.Machine.Moves.{ground_move};
+ghost use Rattle.esc_frame.specs.Machine.Moves.{ground_move, pair_move};
 ghost use Rattle.esc_lent.specs.Runs.{IsDueAs};
 ghost use Rattle.esc_lent.specs.States.{KeptIn};
 ghost use Rattle.esc_lent.specs.Emitted.{queued_of, sent};
@@ -77,4 +77,35 @@ pub fn note_break(parser: &mut EscParser, byte: u8, event: &mut EscEvent)
     let single = take_byte(parser, byte);
     event.kind = single.kind;
     event.byte = single.value;
+}
+
+/// Takes the last byte of a C1 control in UTF-8, and notes what it gives.
+#[inline(never)]
+pub fn note_pair(parser: &mut EscParser, byte: u8, event: &mut EscEvent)
+    requires { event.old.kind ≡ NONE }
+    ensures kept { (memory : List ℕ) → KeptIn parser.new memory (pair_move byte (class_of byte)).0 }
+    ensures says { (out : List ℕ) → sent event.new out ≡ (pair_move byte (class_of byte)).1 }
+    ensures kind { (event.new.kind ≡ NONE) ⊎ (event.new.kind ≡ CONTROL) }
+    ensures event { event.new ≡ record event.old { kind = event.new.kind; byte = event.new.byte } }
+    ensures queued { IsDueAs parser.new parser.old }
+{
+    parser.state = 0;
+    parser.pending = 0;
+    match classify(byte) {
+        Class::Breaks(Breaker::C1) => {
+            event.kind = CONTROL;
+            event.byte = byte as u32;
+        }
+        Class::Breaks(Breaker::C1Introducer(kind)) => open_kind(parser, kind),
+        Class::Breaks(Breaker::C1Terminator | Breaker::Cancel | Breaker::Escape)
+        | Class::C0
+        | Class::Bell
+        | Class::Lead
+        | Class::High
+        | Class::Intermediate
+        | Class::Parameter
+        | Class::Introducer(_)
+        | Class::Final
+        | Class::Delete => {}
+    }
 }

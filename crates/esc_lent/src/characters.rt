@@ -8,8 +8,9 @@ ghost use Rattle.esc_frame.specs.Sequences.{outcome};
 ghost use Rattle.esc_lent.specs.Runs.{Gives, IsDueAs, Notes};
 ghost use Rattle.esc_lent.specs.States.{begun_in};
 
-use crate::breaks::{REPLACEMENT, take_byte};
-use crate::event::{CHARACTER, EscEvent, NONE};
+use crate::breaks::{REPLACEMENT, note_pair};
+use crate::event::{CHARACTER, CONTROL, EscEvent, NONE};
+use crate::leaving::take_after;
 use crate::numbers::{GROUND, numbers_of_pending, pending_in};
 use crate::parser::EscParser;
 use esc_frame::utf8::sequence::{Outcome, Pending};
@@ -32,14 +33,15 @@ pub fn put_pending(parser: &mut EscParser, pending: Pending)
     parser.third = third;
 }
 
-/// Takes a byte of a character, the first or a later one. False where the byte is none, or ends a
-/// control, and then nothing changes.
+/// Takes a byte of a character or of a C1 control, the first or a later one. False where the byte is
+/// none, and then nothing changes.
 #[inline(always)]
 pub fn note_character(parser: &mut EscParser, byte: u8, event: &mut EscEvent) -> bool
     requires ground { parser.old.state ≡ GROUND }
     requires none { event.old.kind ≡ NONE }
     ensures other { result ≡ false → (parser.new ≡ parser.old) × (event.new ≡ event.old) }
-    ensures kind { (event.new.kind ≡ NONE) ⊎ (event.new.kind ≡ CHARACTER) }
+    ensures kind { (event.new.kind ≡ NONE) ⊎ (event.new.kind ≡ CHARACTER)
+        ⊎ (event.new.kind ≡ CONTROL) }
     ensures event { event.new ≡ record event.old { kind = event.new.kind; byte = event.new.byte } }
     ensures queued { IsDueAs parser.new parser.old }
     ensures notes { result ≡ true → (out : List ℕ) (limit : ℕ)
@@ -49,7 +51,8 @@ pub fn note_character(parser: &mut EscParser, byte: u8, event: &mut EscEvent) ->
     match pending.outcome(byte) {
         Outcome::Whole => {
             if pending.pairs_with(byte) {
-                return false;
+                note_pair(parser, byte, event);
+                return true;
             }
             event.kind = CHARACTER;
             event.byte = pending.character(byte) as u32;
@@ -90,9 +93,7 @@ pub fn note_broken(parser: &mut EscParser, byte: u8, event: &mut EscEvent)
     ensures gives { (out memory : List ℕ)
         → Gives parser.old parser.new event.new out memory memory (byte ∷ []) }
 {
-    let single = take_byte(parser, byte);
-    parser.queued_kind = single.kind;
-    parser.queued_value = single.value;
+    take_after(parser, byte);
     event.kind = CHARACTER;
     event.byte = REPLACEMENT;
 }

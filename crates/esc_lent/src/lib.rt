@@ -12,6 +12,7 @@ pub mod escapes;
 pub mod event;
 pub mod fields;
 pub mod headers;
+pub mod leaving;
 pub mod limited;
 pub mod load;
 pub mod named;

@@ -13,11 +13,12 @@ use crate::data::{note_ignored, note_in_data};
 use crate::escapes::note_in_escape;
 use crate::event::{CHARACTER, CONTROL, EscEvent, FAILED, NONE};
 use crate::headers::note_in_header;
+use crate::leaving::{is_breaker, note_left};
 use crate::numbers::{GROUND, HEADER_STATE};
 use crate::parser::EscParser;
 
 // Takes a byte between sequences, or one of a character. False where the byte breaks the character
-// off or ends a control, and then nothing changes.
+// off, and then nothing changes.
 #[inline(always)]
 fn note_in_ground(parser: &mut EscParser, byte: u8, event: &mut EscEvent) -> bool
     requires ground { parser.old.state ≡ GROUND }
@@ -135,8 +136,7 @@ fn note_step(
 }
 
 /// Takes what comes first, where it continues a sequence, a string or a character, begins one, or
-/// breaks a character off: at least a byte. Nothing where something else comes, which is left to
-/// the machine.
+/// breaks it off: at least a byte. Nothing where something else comes, which is left to the machine.
 #[inline(always)]
 pub fn note_piece(
     parser: &mut EscParser,
@@ -166,8 +166,11 @@ pub fn note_piece(
     if step > 0 {
         return step;
     }
-    if parser.state == 0 && is_broken(parser, bytes[0]) {
-        note_broken(parser, bytes[0], event);
+    let byte = bytes[0];
+    if parser.state == 0 && is_broken(parser, byte) {
+        note_broken(parser, byte, event);
+        1
+    } else if is_breaker(byte) && note_left(parser, memory, out, byte, event) {
         1
     } else {
         0

@@ -1,6 +1,7 @@
 use Rattle.std.proofs.Common.{◌++◌, ◌∷◌, [], ◌∙◌, sym, ap, refl}
 use Rattle.esc_frame.specs.Sequences.{outcome, is_pair, number_of}
 use Rattle.esc_lent.proofs.OneByte.{whole_notes, more_passes, nothing_noted, is_more}
+use Rattle.esc_lent.proofs.Sequences.{pair_notes}
 use Rattle.esc_lent.proofs.characters.note_character.Goals as goal
 
 pub returns-else-pairs_with-clause-notes : goal.returns-else-pairs_with-clause-notes
@@ -25,3 +26,14 @@ returns-in-More-clause-notes c = λ yes.
     (ap (λ q. q.state) c.put_pending.ensures.same) (sym (ap (λ f. outcome f b) begun) ∙ goes)
     (c.put_pending.ensures.begun ∙ c.with.ensures (is_more _ b goes)
     ∙ ap (λ f. f ++ b ∷ []) begun))
+
+pub returns-then-pairs_with-clause-notes : goal.returns-then-pairs_with-clause-notes
+returns-then-pairs_with-clause-notes c = λ yes.
+    let b = c.args.byte in
+    let begun = c.pending_in-pending.ensures in
+    let ends = sym c.outcome.ensures ∙ c.in-Whole.is in
+    let pair = c.note_pair in
+    pair_notes c.args.parser.now pair.new.parser pair.new.event b c.requires.ground
+    (sym (ap (λ f. outcome f b) begun) ∙ ends)
+    (sym (ap (λ f. is_pair (f ++ b ∷ [])) begun) ∙ sym c.pairs_with.ensures ∙ c.if-pairs_with.true)
+    pair.ensures.kept pair.ensures.says
