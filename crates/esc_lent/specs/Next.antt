@@ -86,3 +86,7 @@ pub record ToEvent (parser : ParserChange) (old new : Halves) (bytes : List ℕ)
 -- It is at the beginning of a segment, it has not failed, and nothing is queued.
 abbrev pub IsPlain : EscParser → Type 0
 IsPlain p = (p.has_failed ≡ false) × (p.queued_kind ≡ NONE) × (p.state ≡ GROUND) × (p.pending ≡ 0)
+
+-- It has not failed, and nothing is queued.
+abbrev pub IsSettled : EscParser → Type 0
+IsSettled p = (p.has_failed ≡ false) × (p.queued_kind ≡ NONE)

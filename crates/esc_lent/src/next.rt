@@ -4,7 +4,7 @@
 ghost use Rattle.std.specs.Prelude.{◌≡◌, ◌≢◌, ◌≤◌, ◌<◌, List, [], ℕ, length, true, false, IsTrue, slice_index};
 ghost use Rattle.esc_frame.specs.Events.{Event};
 ghost use Rattle.esc_frame.specs.Leads.{Unfinished};
-ghost use Rattle.esc_lent.specs.Next.{Next, IsReady, ToEvent, IsPlain, both, halves};
+ghost use Rattle.esc_lent.specs.Next.{Next, IsReady, ToEvent, IsPlain, IsSettled, both, halves};
 ghost use Rattle.esc_lent.specs.States.{KeptIn, IsAt, lower};
 ghost use Rattle.esc_lent.specs.Emitted.{emitted, queued_of, is_run};
 
@@ -172,7 +172,57 @@ fn next_of_few(
             }
         }
     }
+    if is_settled(parser) && !bytes.is_empty() {
+        return next_inside(parser, buffer, bytes, event);
+    }
     next_of_any(parser, buffer, bytes, event)
+}
+
+// Whether the parser has not failed, and nothing is still to be handed out.
+#[inline(always)]
+fn is_settled(parser: &EscParser) -> bool
+    ensures { IsTrue result → IsSettled parser.now }
+{
+    !parser.has_failed & (parser.queued_kind == NONE)
+}
+
+// The same of some bytes that are not many: what comes whole in them is not looked for.
+#[inline(never)]
+fn next_inside(
+    parser: &mut EscParser,
+    buffer: &mut [u8],
+    bytes: &[u8],
+    event: &mut EscEvent,
+) -> usize
+    requires some { 0 < length bytes.now }
+    requires settled { IsSettled parser.old }
+    ensures holds { Next parser (halves buffer.old) (halves buffer.new) bytes.now event.new result }
+    ensures sound { (s : List ℕ) (es : List Event) → IsAt s es parser.old (lower buffer.old)
+        → event.new.kind ≢ FAILED }
+{
+    let half = buffer.len() / 2;
+    let (memory, out) = buffer.split_at_mut(half);
+    next_on(parser, memory, out, bytes, event)
+}
+
+// The same, where the halves of the buffer are these.
+#[inline(always)]
+fn next_on(
+    parser: &mut EscParser,
+    memory: &mut [u8],
+    out: &mut [u8],
+    bytes: &[u8],
+    event: &mut EscEvent,
+) -> usize
+    requires some { 0 < length bytes.now }
+    requires settled { IsSettled parser.old }
+    ensures holds { Next parser (both memory.old out.old) (both memory.new out.new) bytes.now
+        event.new result }
+    ensures sound { (s : List ℕ) (es : List Event) → IsAt s es parser.old memory.old
+        → length memory.old ≤ length out.old → event.new.kind ≢ FAILED }
+{
+    event.clear();
+    take_on(parser, memory, out, bytes, event)
 }
 
 // Whether the parser stands between sequences, and nothing is still to be handed out.

@@ -18,6 +18,8 @@ pub fn text_run(bytes: &[u8]) -> usize
         0
     } else if bytes[0] < 0x80 {
         ascii_text(bytes)
+    } else if bytes.len() < 2 {
+        0
     } else {
         wide_text(bytes)
     }
