@@ -1,5 +1,7 @@
 -- Commands are read back from what their rows say.
-use Rattle.std.proofs.Common.{ℕ, ◌≡◌, List, ◌++◌, Option, Some, None, refl, sym, ap, map, ◌∙◌}
+use Rattle.std.proofs.Common.{ℕ, ◌≡◌, ◌↔◌, Bool, true, false, IsTrue, List, ◌++◌, Option, Some, None, Result, Ok, Err, IfOk, refl, sym, subst, ap, map, ◌∙◌}
+use Rattle.std.proofs.lemmas.Bool.{true≢false}
+use Rattle.std.proofs.lemmas.Option.{none-some}
 use Rattle.std.specs.Prelude.{◌^◌}
 use Rattle.esc_iterm.specs.declared.proprietary.ITermProprietary.{ITermProprietary}
 use Rattle.esc_iterm.specs.declared.proprietary.ITermProprietary.TheVariants as iterm
@@ -14,20 +16,21 @@ use Rattle.esc_osc.specs.declared.command.OperatingSystemCommand.{OperatingSyste
 use Rattle.esc_osc.specs.declared.command.OperatingSystemCommand.TheVariants as command
 use Rattle.esc_fields.proofs.FilesBack.{file_back}
 use Rattle.esc_fields.proofs.ItemsBack.{colors_back, dynamic_back, link_back, pairs_back, progress_back}
-use Rattle.esc_fields.proofs.KindsBack.{kind_back}
 use Rattle.esc_fields.proofs.Tables.{rows_say}
 use Rattle.esc_fields.proofs.ValuesBack.{below_is, flag_back, numbers_back, parts_back, signed_is, text_is, texts_back}
 use Rattle.esc_fields.specs.Commands.{fields_of}
 use Rattle.esc_fields.specs.Fields.{Table, named, said}
-use Rattle.esc_fields.specs.FoundCommands.{command_in, kind_at}
+use Rattle.esc_fields.specs.FoundCommands.{command_in, form_at}
 use Rattle.esc_fields.specs.FoundItems.{nothing}
 use Rattle.esc_fields.specs.FoundPrompts.{click_in, click_of, prompt_kind_of, scale_in, text_in}
-use Rattle.esc_fields.specs.Found.{past}
+use Rattle.esc_fields.specs.Found.{kept, past}
 use Rattle.esc_fields.specs.Held.{Has, IsHeld, IsHeldITerm, IsHeldPrompt, IsOptional, IsScale}
-use Rattle.esc_fields.specs.Kinds.{iterm_kind, kind_of, prompt_kind as kind_of_prompt}
-use Rattle.esc_fields.specs.Prompts.{aid_fields, click_fields, click_number, kind_number, prompt_fields}
+use Rattle.esc_fields.specs.Kinds.{iterm_kind, kind_number, kind_of, prompt_kind as kind_of_prompt}
+use Rattle.esc_fields.specs.Prompts.{aid_fields, click_fields, click_number, kind_number as prompt_number, prompt_fields}
 use Rattle.esc_fields.specs.Proprietary.{iterm_fields, scale_fields, text_fields}
+use Rattle.esc_fields.specs.declared.command_kind.CommandKind.{CommandKind}
 use Rattle.esc_fields.specs.declared.field_name.FieldName.TheVariants as name
+use Rattle.esc_fields.specs.declared.kinds.Form.{Form}
 
 -- clicks and kinds of prompts
 click_back : (c : FinalTermClick) → click_of (click_number c) ≡ c
@@ -36,7 +39,7 @@ click_back click.MultipleLine = refl
 click_back click.ConservativeVertical = refl
 click_back click.SmartVertical = refl
 
-prompt_kind_back : (k : FinalTermPromptKind) → prompt_kind_of (kind_number k) ≡ k
+prompt_kind_back : (k : FinalTermPromptKind) → prompt_kind_of (prompt_number k) ≡ k
 prompt_kind_back prompt_kind.Initial = refl
 prompt_kind_back prompt_kind.RightSide = refl
 prompt_kind_back prompt_kind.Continuation = refl
@@ -71,10 +74,14 @@ scale_back : (o : Option ℕ) → IsScale o → scale_in (map named (scale_field
 scale_back None held = refl
 scale_back (Some s) held = ap Some (below_is (2 ^ 32) s held)
 
+-- how the command of a kind is read
+abbrev form_of : CommandKind → Form
+form_of k = form_at (kind_number k)
+
 module _ {A : Type 0} where
   -- a prompt of its kind
   prompts_back : (p : FinalTermSemanticPrompt A) → IsHeldPrompt p
-      → command_in (kind_of_prompt p) (map named (prompt_fields p))
+      → command_in (form_of (kind_of_prompt p)) (map named (prompt_fields p))
       ≡ command.FinalTermSemanticPrompt p
   prompts_back prompt.FreshLine held = refl
   prompts_back (prompt.FreshLineAndStartPrompt a c) held =
@@ -97,7 +104,7 @@ module _ {A : Type 0} where
 
   -- a command of iTerm2 of its kind
   iterms_back : (c : ITermProprietary A) → IsHeldITerm c
-      → command_in (iterm_kind c) (map named (iterm_fields c)) ≡ command.ITermProprietary c
+      → command_in (form_of (iterm_kind c)) (map named (iterm_fields c)) ≡ command.ITermProprietary c
   iterms_back iterm.SetMark held = refl
   iterms_back iterm.StealFocus held = refl
   iterms_back iterm.ClearScrollback held = refl
@@ -139,7 +146,7 @@ module _ {A : Type 0} where
       (label_back l held)
 
   command_back : (c : OperatingSystemCommand A) → IsHeld c
-      → command_in (kind_of c) (map named (fields_of c)) ≡ c
+      → command_in (form_of (kind_of c)) (map named (fields_of c)) ≡ c
   command_back (command.SetIconNameAndWindowTitle t) held =
       ap command.SetIconNameAndWindowTitle (text_is t held)
   command_back (command.SetWindowTitle t) held = ap command.SetWindowTitle (text_is t held)
@@ -173,8 +180,28 @@ module _ {A : Type 0} where
 
   -- what a kind and rows say is the command that has them
   pub found : (k : ℕ) (t : Table) (c : OperatingSystemCommand A) → IsHeld c → Has k t c
-      → command_in (kind_at k) (said t) ≡ c
+      → command_in (form_at k) (said t) ≡ c
   found k t c held has =
-      let kind_is = ap kind_at (sym has.0) ∙ kind_back (kind_of c) in
+      let kind_is = ap form_at (sym has.0) in
       let rows_are = ap said (sym has.1) ∙ rows_say (fields_of c) in
       (λ i. command_in (kind_is i) (rows_are i)) ∙ command_back c held
+
+  -- where none is kept, none has them
+  none_kept : {E : Type 0} (k : ℕ) (t : Table) (c : OperatingSystemCommand A) (has : Result Bool E)
+      → c ≡ command_in (form_at k) (said t) → IfOk has (λ b. IsTrue b ↔ Has k t c)
+      → IfOk (kept c has) (λ o. o ≡ None → (d : OperatingSystemCommand A) → IsHeld d → Has k t d
+      → ⊥)
+  none_kept k t c (Err e) is told = tt
+  none_kept k t c (Ok true) is told = λ none d held it. absurd (none-some c (sym none))
+  none_kept k t c (Ok false) is told = λ none d held it.
+      let same : c ≡ d = is ∙ found k t d held it in
+      true≢false (sym (told.1 (subst (λ x. Has k t x) (sym same) it)))
+
+  pub none_found : {E : Type 0} (k : ℕ) (t : Table) (c : OperatingSystemCommand A)
+      (has : Result Bool E) (result : Result (Option (OperatingSystemCommand A)) E)
+      → c ≡ command_in (form_at k) (said t) → IfOk has (λ b. IsTrue b ↔ Has k t c)
+      → result ≡ kept c has
+      → IfOk result (λ o. o ≡ None → (d : OperatingSystemCommand A) → IsHeld d → Has k t d → ⊥)
+  none_found k t c has result is told result_is =
+      subst (λ r. IfOk r (λ o. o ≡ None → (d : OperatingSystemCommand A) → IsHeld d → Has k t d
+      → ⊥)) (sym result_is) (none_kept k t c has is told)

@@ -10,17 +10,12 @@ both (s ∷ a) b =
     append_assoc (given s) (number_fields a) (number_fields b)
     ∙ ap (λ more. given s ++ more) (both a b)
 
--- more numbers after others, and after these with a field before them
+-- more numbers after others
 pub more_numbers : (t : Table) (a b : Numbers)
     → with_fields (with_fields t (number_fields a)) (number_fields b)
     ≡ with_fields t (number_fields (a ++ b))
 more_numbers t a b =
     with_more t (number_fields a) (number_fields b) ∙ ap (with_fields t) (both a b)
-
-pub more_after_content : (t : Table) (f : Field) (a b : Numbers)
-    → with_fields (with_fields t (f ∷ number_fields a)) (number_fields b)
-    ≡ with_fields t (f ∷ number_fields (a ++ b))
-more_after_content t f a b = more_numbers (with_field t f) a b
 
 -- twice more
 pub two_more : (t u v w : Table) (a b c : Numbers)
@@ -40,3 +35,8 @@ pub one_more : (t u w : Table) (a b : Numbers) → u ≡ with_fields t (number_f
     → w ≡ with_fields u (number_fields b) → w ≡ with_fields t (number_fields (a ++ b))
 one_more t u w a b is_u is_w =
     is_w ∙ ap (λ x. with_fields x (number_fields b)) is_u ∙ more_numbers t a b
+
+pub one_more_after_content : (t u w : Table) (f : Field) (a b : Numbers)
+    → u ≡ with_fields t (f ∷ number_fields a) → w ≡ with_fields u (number_fields b)
+    → w ≡ with_fields t (f ∷ number_fields (a ++ b))
+one_more_after_content t u w f a b = one_more (with_field t f) u w a b

@@ -13,6 +13,5 @@ pub mod SixelsFew
 mod ValuesBack
 mod ItemsBack
 mod FilesBack
-mod KindsBack
 pub mod CommandsBack
 mod RowsSame

@@ -1,7 +1,8 @@
 -- Tables with more fields.
-use Rattle.std.proofs.Common.{ℕ, ◌≡◌, ◌+◌, List, [], ◌∷◌, ◌++◌, length, take, map, refl, sym, ap, ◌∙◌, append_assoc}
-use Rattle.std.proofs.Math.Seq.{drop-append_seam, take-append_seam}
+use Rattle.std.proofs.Common.{ℕ, suc, arith, ◌≡◌, ◌<◌, ◌+◌, List, [], ◌∷◌, ◌++◌, drop, get_or, length, take, map, refl, sym, ap, ◌∙◌, append_assoc}
+use Rattle.std.proofs.Math.Seq.{drop-append_seam, drop-cons, take-append_seam}
 use Rattle.std.proofs.lemmas.List.{append-nil, length-append}
+use Rattle.std.specs.List.{flat_map}
 use Rattle.esc_fields.specs.Fields.{Field, Table, Value, name_number, named, row_at, row_said, said, table_of, text_of, with_field, with_fields}
 use Rattle.esc_fields.specs.declared.field_name.FieldName.{FieldName}
 use Rattle.esc_fields.specs.declared.field_row.FieldRow.{FieldRow}
@@ -56,3 +57,29 @@ rows_are x (f ∷ fs) =
 
 pub rows_say : (fs : List Field) → said (table_of fs) ≡ map named fs
 rows_say fs = ap said (in_parts ([], []) fs) ∙ rows_are [] fs
+
+-- the items from one on
+from_item : {X : Type 0} (xs : List X) (i : ℕ) (x : X) → i < length xs → x ≡ get_or xs i x
+    → drop i xs ≡ x ∷ drop (i + 1) xs
+from_item xs i x inside is_x =
+    let next : suc i ≡ i + 1 = omega arith in
+    drop-cons xs i x inside ∙ (λ k. sym is_x k ∷ drop (next k) xs)
+
+-- a table with the fields of the items from one on is that with those of this one, and then of the
+-- next on
+pub after_item : {X : Type 0} (parts : X → List Field) (t u v : Table) (xs : List X) (i : ℕ) (x : X)
+    → i < length xs → x ≡ get_or xs i x → v ≡ with_fields t (flat_map parts (drop i xs))
+    → u ≡ with_fields t (parts x) → v ≡ with_fields u (flat_map parts (drop (i + 1) xs))
+after_item parts t u v xs i x inside is_x is_v is_u =
+    let more = flat_map parts (drop (i + 1) xs) in
+    is_v ∙ ap (λ ys. with_fields t (flat_map parts ys)) (from_item xs i x inside is_x)
+    ∙ sym (with_more t (parts x) more) ∙ ap (λ w. with_fields w more) (sym is_u)
+
+-- what is read of the items before one, and of it, is what is read of those before the next
+pub after_read : {X Y : Type 0} (f : X → Y) (xs : List X) (i : ℕ) (x : X) (ys zs : List Y)
+    → i < length xs → x ≡ get_or xs i x → map f xs ≡ ys ++ map f (drop i xs)
+    → zs ≡ ys ++ f x ∷ [] → map f xs ≡ zs ++ map f (drop (i + 1) xs)
+after_read f xs i x ys zs inside is_x so_far is_zs =
+    let more = map f (drop (i + 1) xs) in
+    so_far ∙ ap (λ l. ys ++ map f l) (from_item xs i x inside is_x)
+    ∙ sym (append_assoc ys (f x ∷ []) more) ∙ ap (λ l. l ++ more) (sym is_zs)

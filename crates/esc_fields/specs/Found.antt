@@ -1,6 +1,6 @@
 -- Values that rows say, as the types of a command's parts hold them: a number that is too large for
 -- its type is read as 0, and a text that is not UTF-8 as the empty text.
-use Rattle.std.specs.Prelude.{ℕ, ℤ, pos, negsuc, ◌==◌, ◌^◌, nat_lt, Bool, true, false, if◌then◌else◌, List, [], ◌∷◌, Option, Some, None}
+use Rattle.std.specs.Prelude.{ℕ, ℤ, pos, negsuc, ◌==◌, ◌^◌, nat_lt, Bool, true, false, if◌then◌else◌, List, [], ◌∷◌, Option, Some, None, Result, Ok, Err}
 use Rattle.std.specs.Option.{unwrap_or}
 use Rattle.esc_values.specs.Scalars.{utf8_of}
 use Rattle.esc_fields.specs.Fields.{Value, name_number, text_of}
@@ -87,3 +87,9 @@ abbrev pub parameters : List NamedValue → List (List ℕ × List ℕ)
 parameters [] = []
 parameters (k ∷ []) = []
 parameters (k ∷ v ∷ ss) = (string_of k.1, string_of v.1) ∷ parameters ss
+
+-- a value, where it is kept
+abbrev pub kept : {T E : Type 0} → T → Result Bool E → Result (Option T) E
+kept v (Ok true) = Ok (Some v)
+kept v (Ok false) = Ok None
+kept v (Err e) = Err e

@@ -5,64 +5,51 @@ use Rattle.esc_osc.specs.declared.command.OperatingSystemCommand.TheVariants as 
 use Rattle.esc_fields.specs.Fields.{text_of}
 use Rattle.esc_fields.specs.Found.{NamedValue, after, byte_of, channel_of, first, second, string_of}
 use Rattle.esc_fields.specs.FoundItems.{colors_after, dynamic_of, link_in, nothing, pairs_after, progress_in}
-use Rattle.esc_fields.specs.FoundPrompts.{iterm_in, prompt_in}
-use Rattle.esc_fields.specs.declared.command_kind.CommandKind.{CommandKind}
-use Rattle.esc_fields.specs.declared.command_kind.CommandKind.TheVariants as kind
-use Rattle.esc_fields.specs.declared.kinds.TheConstants.{KINDS}
+use Rattle.esc_fields.specs.FoundPrompts.{iterm_in, iterm_marked, iterm_texted, prompt_in}
+use Rattle.esc_fields.specs.declared.kinds.Form.{Form}
+use Rattle.esc_fields.specs.declared.kinds.Form.TheVariants.{ITerm, ITermMark, ITermText, Other, Prompt, Title}
+use Rattle.esc_fields.specs.declared.kinds.OtherKind.{OtherKind}
+use Rattle.esc_fields.specs.declared.kinds.OtherKind.TheVariants as other
+use Rattle.esc_fields.specs.declared.kinds.TheConstants.{FORMS}
+use Rattle.esc_fields.specs.declared.kinds.TitleKind.{TitleKind}
+use Rattle.esc_fields.specs.declared.kinds.TitleKind.TheVariants as title
 
--- the kind of this number
-abbrev pub kind_at : ℕ → CommandKind
-kind_at n = get_or KINDS n kind.Unspecified
+-- how the command of the kind of this number is read
+abbrev pub form_at : ℕ → Form
+form_at n = get_or FORMS n (Other other.Unspecified)
 
 module _ {A : Type 0} where
-  -- the prompt or the command of iTerm2 of a kind
-  abbrev pub marked_in : CommandKind → List NamedValue → OperatingSystemCommand A
-  marked_in kind.PromptFreshLine ss =
-      command.FinalTermSemanticPrompt (prompt_in kind.PromptFreshLine ss)
-  marked_in kind.PromptFreshLineAndStartPrompt ss =
-      command.FinalTermSemanticPrompt (prompt_in kind.PromptFreshLineAndStartPrompt ss)
-  marked_in kind.PromptEndOfCommandWithFreshLine ss =
-      command.FinalTermSemanticPrompt (prompt_in kind.PromptEndOfCommandWithFreshLine ss)
-  marked_in kind.PromptStartPrompt ss =
-      command.FinalTermSemanticPrompt (prompt_in kind.PromptStartPrompt ss)
-  marked_in kind.PromptStartOfInputUntilNextMarker ss =
-      command.FinalTermSemanticPrompt (prompt_in kind.PromptStartOfInputUntilNextMarker ss)
-  marked_in kind.PromptStartOfInputUntilEndOfLine ss =
-      command.FinalTermSemanticPrompt (prompt_in kind.PromptStartOfInputUntilEndOfLine ss)
-  marked_in kind.PromptStartOfOutput ss =
-      command.FinalTermSemanticPrompt (prompt_in kind.PromptStartOfOutput ss)
-  marked_in kind.PromptCommandStatus ss =
-      command.FinalTermSemanticPrompt (prompt_in kind.PromptCommandStatus ss)
-  marked_in k ss = command.ITermProprietary (iterm_in k ss)
+  -- the command of a kind that has one text
+  abbrev pub titled : TitleKind → List ℕ → OperatingSystemCommand A
+  titled title.IconNameAndWindowTitle t = command.SetIconNameAndWindowTitle t
+  titled title.WindowTitle t = command.SetWindowTitle t
+  titled title.WindowTitleSun t = command.SetWindowTitleSun t
+  titled title.IconName t = command.SetIconName t
+  titled title.IconNameSun t = command.SetIconNameSun t
+  titled title.Notification t = command.SystemNotification t
+  titled title.WorkingDirectory t = command.CurrentWorkingDirectory t
 
-  -- the command of a kind that has one text, or any of the others above
-  abbrev pub texted_in : CommandKind → List NamedValue → OperatingSystemCommand A
-  texted_in kind.SetIconNameAndWindowTitle ss =
-      command.SetIconNameAndWindowTitle (string_of (first ss))
-  texted_in kind.SetWindowTitle ss = command.SetWindowTitle (string_of (first ss))
-  texted_in kind.SetWindowTitleSun ss = command.SetWindowTitleSun (string_of (first ss))
-  texted_in kind.SetIconName ss = command.SetIconName (string_of (first ss))
-  texted_in kind.SetIconNameSun ss = command.SetIconNameSun (string_of (first ss))
-  texted_in kind.SystemNotification ss = command.SystemNotification (string_of (first ss))
-  texted_in kind.CurrentWorkingDirectory ss =
-      command.CurrentWorkingDirectory (string_of (first ss))
-  texted_in k ss = marked_in k ss
+  -- the command of a kind that is no prompt and none of iTerm2, and has more or less than one text
+  abbrev pub other_in : OtherKind → List NamedValue → OperatingSystemCommand A
+  other_in other.Unspecified ss = command.Unspecified (map (λ s. text_of s.1) ss)
+  other_in other.Hyperlink ss = command.SetHyperlink (link_in ss)
+  other_in other.ClearSelection ss = command.ClearSelection (record { 0 = channel_of (first ss) })
+  other_in other.QuerySelection ss = command.QuerySelection (record { 0 = channel_of (first ss) })
+  other_in other.SetSelection ss =
+      command.SetSelection (record { 0 = channel_of (first ss) }) (string_of (second ss))
+  other_in other.ColorNumber ss = command.ChangeColorNumber (pairs_after nothing ss)
+  other_in other.DynamicColors ss =
+      command.ChangeDynamicColors (dynamic_of (first ss)) (colors_after nothing (after ss))
+  other_in other.ResetDynamicColor ss = command.ResetDynamicColor (dynamic_of (first ss))
+  other_in other.ResetColors ss = command.ResetColors (map (λ s. byte_of s.1) ss)
+  other_in other.Rxvt ss = command.RxvtExtension (map (λ s. string_of s.1) ss)
+  other_in other.Progress ss = command.ConEmuProgress (progress_in ss)
 
   -- the command of a kind
-  abbrev pub command_in : CommandKind → List NamedValue → OperatingSystemCommand A
-  command_in kind.Unspecified ss = command.Unspecified (map (λ s. text_of s.1) ss)
-  command_in kind.SetHyperlink ss = command.SetHyperlink (link_in ss)
-  command_in kind.ClearSelection ss =
-      command.ClearSelection (record { 0 = channel_of (first ss) })
-  command_in kind.QuerySelection ss =
-      command.QuerySelection (record { 0 = channel_of (first ss) })
-  command_in kind.SetSelection ss =
-      command.SetSelection (record { 0 = channel_of (first ss) }) (string_of (second ss))
-  command_in kind.ChangeColorNumber ss = command.ChangeColorNumber (pairs_after nothing ss)
-  command_in kind.ChangeDynamicColors ss =
-      command.ChangeDynamicColors (dynamic_of (first ss)) (colors_after nothing (after ss))
-  command_in kind.ResetDynamicColor ss = command.ResetDynamicColor (dynamic_of (first ss))
-  command_in kind.ResetColors ss = command.ResetColors (map (λ s. byte_of s.1) ss)
-  command_in kind.RxvtExtension ss = command.RxvtExtension (map (λ s. string_of s.1) ss)
-  command_in kind.ConEmuProgress ss = command.ConEmuProgress (progress_in ss)
-  command_in k ss = texted_in k ss
+  abbrev pub command_in : Form → List NamedValue → OperatingSystemCommand A
+  command_in (Title k) ss = titled k (string_of (first ss))
+  command_in (Prompt k) ss = command.FinalTermSemanticPrompt (prompt_in k ss)
+  command_in (ITermMark k) ss = command.ITermProprietary (iterm_marked k)
+  command_in (ITermText k) ss = command.ITermProprietary (iterm_texted k (string_of (first ss)))
+  command_in (ITerm k) ss = command.ITermProprietary (iterm_in k ss)
+  command_in (Other k) ss = other_in k ss

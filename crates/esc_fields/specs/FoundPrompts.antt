@@ -15,10 +15,16 @@ use Rattle.esc_prompts.specs.declared.prompt_kind.FinalTermPromptKind.{FinalTerm
 use Rattle.esc_prompts.specs.declared.prompt_kind.FinalTermPromptKind.TheVariants as kind
 use Rattle.esc_fields.specs.Fields.{text_of}
 use Rattle.esc_fields.specs.Found.{NamedValue, after, byte_of, count_of, first, flag_of, is_named, length_of, named_value, number_of, past, second, signed, size_of, string_of}
-use Rattle.esc_fields.specs.declared.command_kind.CommandKind.{CommandKind}
-use Rattle.esc_fields.specs.declared.command_kind.CommandKind.TheVariants as command_kind
 use Rattle.esc_fields.specs.declared.field_name.FieldName.{FieldName}
 use Rattle.esc_fields.specs.declared.field_name.FieldName.TheVariants as name
+use Rattle.esc_fields.specs.declared.kinds.ITermKind.{ITermKind}
+use Rattle.esc_fields.specs.declared.kinds.ITermKind.TheVariants as other
+use Rattle.esc_fields.specs.declared.kinds.ITermMarkKind.{ITermMarkKind}
+use Rattle.esc_fields.specs.declared.kinds.ITermMarkKind.TheVariants as mark
+use Rattle.esc_fields.specs.declared.kinds.ITermTextKind.{ITermTextKind}
+use Rattle.esc_fields.specs.declared.kinds.ITermTextKind.TheVariants as texted
+use Rattle.esc_fields.specs.declared.kinds.PromptForm.{PromptForm}
+use Rattle.esc_fields.specs.declared.kinds.PromptForm.TheVariants as form
 
 -- a click and a kind of prompt by their numbers
 abbrev pub click_of : ℕ → FinalTermClick
@@ -88,52 +94,50 @@ module _ {A : Type 0} where
   file_in ss = sized_in (text_in name.Name ss) (past name.Name ss)
 
   -- the prompt of a kind
-  abbrev pub prompt_in : CommandKind → List NamedValue → FinalTermSemanticPrompt A
-  prompt_in command_kind.PromptFreshLineAndStartPrompt ss =
+  abbrev pub prompt_in : PromptForm → List NamedValue → FinalTermSemanticPrompt A
+  prompt_in form.FreshLine ss = prompt.FreshLine
+  prompt_in form.FreshLineAndStart ss =
       prompt.FreshLineAndStartPrompt (text_in name.Application ss)
       (click_in (past name.Application ss))
-  prompt_in command_kind.PromptEndOfCommandWithFreshLine ss =
+  prompt_in form.EndOfCommandWithFreshLine ss =
       prompt.MarkEndOfCommandWithFreshLine (text_in name.Application ss)
       (click_in (past name.Application ss))
-  prompt_in command_kind.PromptStartPrompt ss =
-      prompt.StartPrompt (prompt_kind_of (count_of (first ss)))
-  prompt_in command_kind.PromptStartOfInputUntilNextMarker ss =
-      prompt.MarkEndOfPromptAndStartOfInputUntilNextMarker
-  prompt_in command_kind.PromptStartOfInputUntilEndOfLine ss =
-      prompt.MarkEndOfPromptAndStartOfInputUntilEndOfLine
-  prompt_in command_kind.PromptStartOfOutput ss =
+  prompt_in form.Start ss = prompt.StartPrompt (prompt_kind_of (count_of (first ss)))
+  prompt_in form.InputUntilNextMarker ss = prompt.MarkEndOfPromptAndStartOfInputUntilNextMarker
+  prompt_in form.InputUntilEndOfLine ss = prompt.MarkEndOfPromptAndStartOfInputUntilEndOfLine
+  prompt_in form.StartOfOutput ss =
       prompt.MarkEndOfInputAndStartOfOutput (text_in name.Application ss)
-  prompt_in command_kind.PromptCommandStatus ss =
+  prompt_in form.CommandStatus ss =
       prompt.CommandStatus (signed (number_of (first ss))) (text_in name.Application (after ss))
-  prompt_in k ss = prompt.FreshLine
 
-  -- the command of iTerm2 of a kind that has one text, or nothing
-  abbrev pub texted_in : CommandKind → List ℕ → ITermProprietary A
-  texted_in command_kind.ITermStealFocus t = iterm.StealFocus
-  texted_in command_kind.ITermClearScrollback t = iterm.ClearScrollback
-  texted_in command_kind.ITermCurrentDir t = iterm.CurrentDir t
-  texted_in command_kind.ITermSetProfile t = iterm.SetProfile t
-  texted_in command_kind.ITermCopyToClipboard t = iterm.CopyToClipboard t
-  texted_in command_kind.ITermEndCopy t = iterm.EndCopy
-  texted_in command_kind.ITermRequestCellSize t = iterm.RequestCellSize
-  texted_in command_kind.ITermCopy t = iterm.Copy t
-  texted_in command_kind.ITermReportVariable t = iterm.ReportVariable t
-  texted_in command_kind.ITermSetBadgeFormat t = iterm.SetBadgeFormat t
-  texted_in k t = iterm.SetMark
+  -- the command of iTerm2 of a kind that has nothing, and of one that has one text
+  abbrev pub iterm_marked : ITermMarkKind → ITermProprietary A
+  iterm_marked mark.SetMark = iterm.SetMark
+  iterm_marked mark.StealFocus = iterm.StealFocus
+  iterm_marked mark.ClearScrollback = iterm.ClearScrollback
+  iterm_marked mark.EndCopy = iterm.EndCopy
+  iterm_marked mark.RequestCellSize = iterm.RequestCellSize
 
-  -- the command of iTerm2 of a kind
-  abbrev pub iterm_in : CommandKind → List NamedValue → ITermProprietary A
-  iterm_in command_kind.ITermHighlightCursorLine ss = iterm.HighlightCursorLine (flag_of (first ss))
-  iterm_in command_kind.ITermReportCellSize ss =
-      iterm.ReportCellSize (length_of (first ss)) (length_of (second ss))
+  abbrev pub iterm_texted : ITermTextKind → List ℕ → ITermProprietary A
+  iterm_texted texted.CurrentDir t = iterm.CurrentDir t
+  iterm_texted texted.SetProfile t = iterm.SetProfile t
+  iterm_texted texted.CopyToClipboard t = iterm.CopyToClipboard t
+  iterm_texted texted.Copy t = iterm.Copy t
+  iterm_texted texted.ReportVariable t = iterm.ReportVariable t
+  iterm_texted texted.SetBadgeFormat t = iterm.SetBadgeFormat t
+
+  -- the size of a cell
+  abbrev pub cell_size_in : List NamedValue → ITermProprietary A
+  cell_size_in ss = iterm.ReportCellSize (length_of (first ss)) (length_of (second ss))
       (scale_in (after (after ss)))
-  iterm_in command_kind.ITermSetUserVar ss =
+
+  -- the command of any other kind of iTerm2
+  abbrev pub iterm_in : ITermKind → List NamedValue → ITermProprietary A
+  iterm_in other.HighlightCursorLine ss = iterm.HighlightCursorLine (flag_of (first ss))
+  iterm_in other.ReportCellSize ss = cell_size_in ss
+  iterm_in other.SetUserVar ss =
       iterm.SetUserVar (string_of (first ss)) (string_of (second ss))
-  iterm_in command_kind.ITermFile ss = iterm.File (file_in ss)
-  iterm_in command_kind.ITermSetUnicodeVersion ss =
-      iterm.UnicodeVersion (version.Set (byte_of (first ss)))
-  iterm_in command_kind.ITermPushUnicodeVersion ss =
-      iterm.UnicodeVersion (version.Push (text_in name.Label ss))
-  iterm_in command_kind.ITermPopUnicodeVersion ss =
-      iterm.UnicodeVersion (version.Pop (text_in name.Label ss))
-  iterm_in k ss = texted_in k (string_of (first ss))
+  iterm_in other.File ss = iterm.File (file_in ss)
+  iterm_in other.SetVersion ss = iterm.UnicodeVersion (version.Set (byte_of (first ss)))
+  iterm_in other.PushVersion ss = iterm.UnicodeVersion (version.Push (text_in name.Label ss))
+  iterm_in other.PopVersion ss = iterm.UnicodeVersion (version.Pop (text_in name.Label ss))

@@ -5,13 +5,12 @@ ghost use Rattle.esc_fields.specs.Fields.{with_fields};
 ghost use Rattle.esc_osc.specs.declared.command.OperatingSystemCommand.TheVariants as command;
 ghost use Rattle.memory.specs.Refusals.{Refused};
 
-use crate::append_items::{
-    append_colors, append_indices, append_pairs, append_parts, append_progress, append_texts,
-};
+use crate::append_items::append_progress;
 use crate::append_link::append_link;
 use crate::append_prompt::append_prompt;
 use crate::append_proprietary::append_proprietary;
 use crate::field_name::FieldName;
+use crate::fielded::{append_each, append_texts};
 use crate::fields::Fields;
 use esc_osc::OperatingSystemCommand as Command;
 use esc_osc_values::{ColorOrQuery, DynamicColorNumber, Selection};
@@ -40,7 +39,7 @@ pub(crate) fn append<A: Allocator>(
         Command::SetSelection(selection, text) => append_content(selection, text, fields),
         Command::ITermProprietary(command) => append_proprietary(command, fields),
         Command::FinalTermSemanticPrompt(prompt) => append_prompt(prompt, fields),
-        Command::ChangeColorNumber(pairs) => append_pairs(pairs.as_slice(), fields),
+        Command::ChangeColorNumber(pairs) => append_each(pairs.as_slice(), fields),
         Command::ChangeDynamicColors(number, colors) => append_dynamic(
             *number,
             colors.as_slice(),
@@ -50,10 +49,12 @@ pub(crate) fn append<A: Allocator>(
         Command::CurrentWorkingDirectory(path) => {
             fields.push_text(FieldName::Directory, path.as_bytes())
         }
-        Command::ResetColors(indices) => append_indices(indices.as_slice(), fields),
-        Command::RxvtExtension(texts) => append_texts(texts.as_slice(), fields),
+        Command::ResetColors(indices) => append_each(indices.as_slice(), fields),
+        Command::RxvtExtension(texts) => {
+            append_texts(FieldName::Part, texts.as_slice(), fields)
+        },
         Command::ConEmuProgress(progress) => append_progress(progress, fields),
-        Command::Unspecified(parts) => append_parts(parts.as_slice(), fields),
+        Command::Unspecified(parts) => append_each(parts.as_slice(), fields),
     }
 }
 
@@ -96,7 +97,7 @@ fn append_dynamic<A: Allocator>(
     ensures refused { OnErr result (Refused A) }
 {
     append_number(number, fields)?;
-    append_colors(colors, fields)
+    append_each(colors, fields)
 }
 
 // A dynamic colour.

@@ -5,8 +5,8 @@ ghost use Rattle.esc_fields.specs.Images.{counted, delete_numbers, flagged, know
 ghost use Rattle.esc_fields.specs.declared.field_name.FieldName.TheVariants as name;
 ghost use Rattle.memory.specs.Refusals.{Refused};
 
-use crate::append_numbers::append_numbers;
 use crate::field_name::FieldName;
+use crate::fielded::append_each;
 use crate::fields::Fields;
 use crate::image_numbers::{counted, flagged, known};
 use esc_kitty::KittyImageDelete as Delete;
@@ -61,8 +61,12 @@ fn append_cell<A: Allocator>(
         ((name.X, known x) ∷ (name.Y, known y) ∷ (name.DeletesData, flagged delete) ∷ []))) }
     ensures refused { OnErr result (Refused A) }
 {
-    fields.push_number(FieldName::X, i64::from(x))?;
-    append_one(FieldName::Y, y, delete, fields)
+    let numbers = [
+        (FieldName::X, known(x)),
+        (FieldName::Y, known(y)),
+        (FieldName::DeletesData, flagged(delete)),
+    ];
+    append_each(&numbers, fields)
 }
 
 // A cell and an order, and whether the data too.
@@ -78,9 +82,13 @@ fn append_cell_at<A: Allocator>(
         ∷ (name.DeletesData, flagged delete) ∷ []))) }
     ensures refused { OnErr result (Refused A) }
 {
-    fields.push_number(FieldName::X, i64::from(x))?;
-    fields.push_number(FieldName::Y, i64::from(y))?;
-    append_order(z, delete, fields)
+    let numbers = [
+        (FieldName::X, known(x)),
+        (FieldName::Y, known(y)),
+        (FieldName::ZIndex, Some(i64::from(z))),
+        (FieldName::DeletesData, flagged(delete)),
+    ];
+    append_each(&numbers, fields)
 }
 
 // An order, and whether the data too.
@@ -93,8 +101,11 @@ fn append_order<A: Allocator>(
         ((name.ZIndex, Some z) ∷ (name.DeletesData, flagged delete) ∷ []))) }
     ensures refused { OnErr result (Refused A) }
 {
-    fields.push_number(FieldName::ZIndex, i64::from(z))?;
-    append_flag(delete, fields)
+    let numbers = [
+        (FieldName::ZIndex, Some(i64::from(z))),
+        (FieldName::DeletesData, flagged(delete)),
+    ];
+    append_each(&numbers, fields)
 }
 
 // The first id and the last, and whether the data too.
@@ -109,8 +120,12 @@ fn append_range<A: Allocator>(
         ∷ (name.DeletesData, flagged delete) ∷ []))) }
     ensures refused { OnErr result (Refused A) }
 {
-    fields.push_number(FieldName::FirstImageId, i64::from(first))?;
-    append_one(FieldName::LastImageId, last, delete, fields)
+    let numbers = [
+        (FieldName::FirstImageId, known(first)),
+        (FieldName::LastImageId, known(last)),
+        (FieldName::DeletesData, flagged(delete)),
+    ];
+    append_each(&numbers, fields)
 }
 
 // Whether the data too.
@@ -133,8 +148,11 @@ fn append_one<A: Allocator>(
         ((part, known number) ∷ (name.DeletesData, flagged delete) ∷ []))) }
     ensures refused { OnErr result (Refused A) }
 {
-    fields.push_number(part, i64::from(number))?;
-    append_flag(delete, fields)
+    let numbers = [
+        (part, known(number)),
+        (FieldName::DeletesData, flagged(delete)),
+    ];
+    append_each(&numbers, fields)
 }
 
 // An image by its id or its number, a placement of it where one is given, and whether the data too.
@@ -155,5 +173,5 @@ fn append_image_id<A: Allocator>(
         (FieldName::PlacementId, counted(placement)),
         (FieldName::DeletesData, flagged(delete)),
     ];
-    append_numbers(&numbers, fields)
+    append_each(&numbers, fields)
 }

@@ -6,10 +6,9 @@ ghost use Rattle.esc_kitty.specs.declared.image.KittyImage.TheVariants as image;
 ghost use Rattle.memory.specs.Refusals.{Refused};
 
 use crate::append_delete::append_delete;
-use crate::append_numbers::{
-    append_compose, append_frame, append_numbers, append_placement, append_transmit,
-};
+use crate::append_numbers::{append_compose, append_frame, append_placement, append_transmit};
 use crate::field_name::FieldName;
+use crate::fielded::append_each;
 use crate::fields::Fields;
 use crate::image_numbers::{counted, verbosity_number};
 use esc_kitty::{
@@ -68,14 +67,11 @@ fn append_verbosity<A: Allocator>(
         ≡ with_fields fields.old (number_fields (verbosity_numbers verbosity))) }
     ensures refused { OnErr result (Refused A) }
 {
-    append_numbers(
-        &[(FieldName::Verbosity, verbosity_number(verbosity))],
-        fields,
-    )
+    let numbers = [(FieldName::Verbosity, verbosity_number(verbosity))];
+    append_each(&numbers, fields)
 }
 
 // An image that is kept.
-#[tactic(auto, using(crate::proofs::Images::more_after_content))]
 fn append_kept<A: Allocator>(
     transmit: &KittyImageTransmit<A>,
     verbosity: KittyImageVerbosity,
@@ -136,7 +132,7 @@ fn append_ids<A: Allocator>(
         (FieldName::ImageId, counted(image_id)),
         (FieldName::ImageNumber, counted(image_number)),
     ];
-    append_numbers(&ids, fields)
+    append_each(&ids, fields)
 }
 
 // A frame that is kept.

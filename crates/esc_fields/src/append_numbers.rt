@@ -2,10 +2,11 @@
 //! refused.
 ghost use Rattle.std.specs.Prelude.{◌≡◌, ◌∷◌, OnOk, OnErr};
 ghost use Rattle.esc_fields.specs.Fields.{with_fields};
-ghost use Rattle.esc_fields.specs.Images.{compose_numbers, content_field, delete_numbers, frame_numbers, number_fields, placement_numbers, transmit_numbers};
+ghost use Rattle.esc_fields.specs.Images.{compose_numbers, content_field, frame_numbers, given, number_fields, placement_numbers, transmit_numbers};
 ghost use Rattle.memory.specs.Refusals.{Refused};
 
 use crate::field_name::FieldName;
+use crate::fielded::{Fielded, append_each};
 use crate::fields::Fields;
 use crate::image_numbers::{
     bytes, composition, compression, counted, data_offset, data_size, flagged, format, medium,
@@ -13,20 +14,16 @@ use crate::image_numbers::{
 use esc_kitty::{KittyImageFrame, KittyImageFrameCompose, KittyImagePlacement, KittyImageTransmit};
 use std::alloc::{AllocError, Allocator};
 
-// Numbers, each where it is given.
-pub(crate) fn append_numbers<A: Allocator>(
-    numbers: &[(FieldName, Option<i64>)],
-    fields: &mut Fields<A>,
-) -> Result<(), AllocError>
-    ensures ok { OnOk result (fields.new ≡ with_fields fields.old (number_fields numbers.now)) }
-    ensures refused { OnErr result (Refused A) }
-{
-    for (name, number) in numbers {
-        if let Some(number) = number {
-            fields.push_number(*name, *number)?;
+// A number by name, where it is given.
+impl<A: Allocator> Fielded<A> for (FieldName, Option<i64>) {
+    ghost parts = { given };
+
+    fn append_to(&self, fields: &mut Fields<A>) -> Result<(), AllocError> {
+        match self.1 {
+            Some(number) => fields.push_number(self.0, number),
+            None => Ok(()),
         }
     }
-    Ok(())
 }
 
 // An image on its way to the terminal.
@@ -55,7 +52,7 @@ pub(crate) fn append_transmit<A: Allocator>(
             flagged(transmit.more_data_follows),
         ),
     ];
-    append_numbers(&numbers, fields)
+    append_each(&numbers, fields)
 }
 
 // How an image is shown.
@@ -91,7 +88,7 @@ pub(crate) fn append_placement<A: Allocator>(
             flagged(placement.unicode_placeholder),
         ),
     ];
-    append_numbers(&numbers, fields)
+    append_each(&numbers, fields)
 }
 
 // A frame that is sent.
@@ -115,7 +112,7 @@ pub(crate) fn append_frame<A: Allocator>(
         ),
         (FieldName::BackgroundPixel, counted(frame.background_pixel)),
     ];
-    append_numbers(&numbers, fields)
+    append_each(&numbers, fields)
 }
 
 // Frames that are put over others.
@@ -143,5 +140,5 @@ pub(crate) fn append_compose<A: Allocator>(
             composition(frame.composition_mode),
         ),
     ];
-    append_numbers(&numbers, fields)
+    append_each(&numbers, fields)
 }

@@ -12,7 +12,7 @@ use std::alloc::Allocator;
 /// [fields](crate::FieldName) that it has, in order: `?` says that one may be absent, and `*` that
 /// what is before it comes once for each item. The numbers are those of the header for C, so a new
 /// kind comes last.
-#[derive(Clone, Copy, Debug, PartialEq, Eq)]
+#[derive(Clone, Copy)]
 pub enum CommandKind {
     /// `Part*`: any other command, as its parts.
     Unspecified,

@@ -5,7 +5,7 @@ ghost use Rattle.esc_fields.specs.Fields.{name_number};
 /// Which part of a command or an image a field is, and what it holds: a number, a flag, which is
 /// the number 0 or 1, a text or a size. The numbers are those of the header for C, so a new name
 /// comes last.
-#[derive(Clone, Copy, Debug, PartialEq, Eq)]
+#[derive(Clone, Copy)]
 pub enum FieldName {
     /// A text: a title, the name of an icon, a notification, or what goes to the clipboard or the
     /// badge.

@@ -8,9 +8,9 @@ ghost use Rattle.memory.specs.Refusals.{Refused};
 
 use crate::append::append;
 use crate::append_image::append_image;
-use crate::append_items::append_capabilities;
 use crate::field_name::FieldName;
 use crate::field_row::{FieldRow, NUMBER, SIZE, TEXT};
+use crate::fielded::append_texts;
 use esc_kitty::KittyImage;
 use esc_osc::OperatingSystemCommand;
 use esc_values::Text;
@@ -64,7 +64,7 @@ impl<A: Allocator + Copy> Fields<A> {
         ensures refused { OnErr result (Refused A) }
     {
         let mut fields = Fields::new(alloc);
-        append_capabilities(names, &mut fields)?;
+        append_texts(FieldName::Name, names, &mut fields)?;
         Ok(fields)
     }
 

@@ -11,7 +11,7 @@ use std::alloc::Allocator;
 /// ImageId? ImageNumber? Compression MoreDataFollows`, and `placement` is `X? Y? Width? Height?
 /// XOffset? YOffset? Columns? Rows? PlacementId? DoNotMoveCursor ZIndex? UnicodePlaceholder`. The
 /// numbers are those of the header for C, so a new kind comes last.
-#[derive(Clone, Copy, Debug, PartialEq, Eq)]
+#[derive(Clone, Copy)]
 pub enum ImageKind {
     /// No field: what is no image.
     NoImage,

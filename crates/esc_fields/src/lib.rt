@@ -27,6 +27,7 @@ mod append_proprietary;
 pub mod command_kind;
 pub mod field_name;
 pub mod field_row;
+mod fielded;
 pub mod fields;
 pub mod image_kind;
 mod image_numbers;

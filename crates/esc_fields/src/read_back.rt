@@ -1,5 +1,8 @@
 //! The command of a kind and fields.
 ghost use Rattle.std.specs.Prelude.{◌≡◌, ◌↔◌, IfOk, IfSome, IsTrue, None, OnErr};
+ghost use Rattle.esc_fields.specs.Fields.{said};
+ghost use Rattle.esc_fields.specs.Found.{kept};
+ghost use Rattle.esc_fields.specs.FoundCommands.{command_in, form_at};
 ghost use Rattle.esc_fields.specs.Held.{Has, IsHeld};
 ghost use Rattle.esc_osc.specs.declared.command.OperatingSystemCommand.{OperatingSystemCommand};
 ghost use Rattle.memory.specs.Refusals.{Refused};
@@ -7,7 +10,7 @@ ghost use Rattle.memory.specs.Refusals.{Refused};
 use crate::command_kind::CommandKind;
 use crate::field_row::FieldRow;
 use crate::fields::Fields;
-use crate::kinds::kind_at;
+use crate::kinds::form_at;
 use crate::read_command::command;
 use crate::said::said_by;
 use esc_osc::OperatingSystemCommand as Command;
@@ -27,12 +30,33 @@ pub fn command_of<A: Allocator + Copy>(
         → Has kind (rows.now, text.now) c → ⊥) }
     ensures refused { OnErr result (Refused A) }
 {
+    let command = command_said(alloc, kind, rows, text)?;
+    let has = has_fields(alloc, &command, kind, rows, text);
+    kept(command, has)
+}
+
+// The command that they say.
+fn command_said<A: Allocator + Copy>(
+    alloc: A,
+    kind: u32,
+    rows: &[FieldRow],
+    text: &[u8],
+) -> Result<Command<A>, AllocError>
+    ensures ok { IfOk result (λ c. c ≡ command_in (form_at kind) (said (rows.now, text.now))) }
+    ensures refused { OnErr result (Refused A) }
+{
     let fields = said_by(alloc, rows, text)?;
-    let command = command(alloc, kind_at(kind), fields.as_slice())?;
-    if has_fields(alloc, &command, kind, rows, text)? {
-        Ok(Some(command))
-    } else {
-        Ok(None)
+    command(alloc, form_at(kind), fields.as_slice())
+}
+
+// A value, where it is kept.
+fn kept<T: Drop>(value: T, is_kept: Result<bool, AllocError>) -> Result<Option<T>, AllocError>
+    ensures { result ≡ kept value is_kept }
+{
+    match is_kept {
+        Ok(true) => Ok(Some(value)),
+        Ok(false) => Ok(None),
+        Err(error) => Err(error),
     }
 }
 

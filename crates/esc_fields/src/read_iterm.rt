@@ -1,10 +1,12 @@
 //! Commands of iTerm2 that rows say. An error is that memory was refused.
 ghost use Rattle.std.specs.Prelude.{◌≡◌, IfOk, OnErr};
-ghost use Rattle.esc_fields.specs.FoundPrompts.{iterm_in, scale_in, texted_in};
+ghost use Rattle.esc_fields.specs.Found.{first, second, string_of};
+ghost use Rattle.esc_fields.specs.FoundPrompts.{cell_size_in, iterm_in, iterm_marked, iterm_texted, scale_in};
+ghost use Rattle.esc_iterm.specs.declared.proprietary.ITermProprietary.TheVariants as iterm;
 ghost use Rattle.memory.specs.Refusals.{Refused};
 
-use crate::command_kind::CommandKind;
 use crate::field_name::FieldName;
+use crate::kinds::{ITermKind, ITermMarkKind, ITermTextKind};
 use crate::read_file::file;
 use crate::read_optional::{named, text};
 use crate::said::{Said, after, first};
@@ -12,65 +14,87 @@ use esc_iterm::{ITermProprietary, ITermUnicodeVersionOp};
 use esc_values::{Boxed, Text};
 use std::alloc::{AllocError, Allocator};
 
-// The command of a kind.
+// The command of a kind that has nothing.
+pub(crate) fn marked<A: Allocator>(kind: ITermMarkKind) -> ITermProprietary<A>
+    ensures { result ≡ iterm_marked kind }
+{
+    match kind {
+        ITermMarkKind::SetMark => ITermProprietary::SetMark,
+        ITermMarkKind::StealFocus => ITermProprietary::StealFocus,
+        ITermMarkKind::ClearScrollback => ITermProprietary::ClearScrollback,
+        ITermMarkKind::EndCopy => ITermProprietary::EndCopy,
+        ITermMarkKind::RequestCellSize => ITermProprietary::RequestCellSize,
+    }
+}
+
+// The command of a kind that has one text.
+pub(crate) fn texted<A: Allocator>(kind: ITermTextKind, text: Text<A>) -> ITermProprietary<A>
+    ensures { result ≡ iterm_texted kind text }
+{
+    match kind {
+        ITermTextKind::CurrentDir => ITermProprietary::CurrentDir(text),
+        ITermTextKind::SetProfile => ITermProprietary::SetProfile(text),
+        ITermTextKind::CopyToClipboard => ITermProprietary::CopyToClipboard(text),
+        ITermTextKind::Copy => ITermProprietary::Copy(text),
+        ITermTextKind::ReportVariable => ITermProprietary::ReportVariable(text),
+        ITermTextKind::SetBadgeFormat => ITermProprietary::SetBadgeFormat(text),
+    }
+}
+
+// The command of any other kind of iTerm2.
 pub(crate) fn iterm<A: Allocator + Copy>(
     alloc: A,
-    kind: CommandKind,
+    kind: ITermKind,
     fields: &[Said<'_>],
 ) -> Result<ITermProprietary<A>, AllocError>
     ensures ok { IfOk result (λ c. c ≡ iterm_in kind fields.now) }
     ensures refused { OnErr result (Refused A) }
 {
     match kind {
-        CommandKind::ITermHighlightCursorLine => {
+        ITermKind::HighlightCursorLine => {
             Ok(ITermProprietary::HighlightCursorLine(first(fields).flag()))
         }
-        CommandKind::ITermReportCellSize => Ok(ITermProprietary::ReportCellSize {
-            height_pixels: first(fields).length(),
-            width_pixels: first(after(fields)).length(),
-            scale: scale(after(after(fields))),
-        }),
-        CommandKind::ITermSetUserVar => {
-            let name = first(fields).string(alloc)?;
-            let value = first(after(fields)).string(alloc)?;
-            Ok(ITermProprietary::SetUserVar { name, value })
+        ITermKind::ReportCellSize => Ok(cell_size(fields)),
+        ITermKind::SetUserVar => variable(alloc, fields),
+        ITermKind::File => Ok(ITermProprietary::File(Boxed::new(alloc, file(alloc, fields)?)?)),
+        ITermKind::SetVersion => {
+            let version = ITermUnicodeVersionOp::Set(first(fields).byte());
+            Ok(ITermProprietary::UnicodeVersion(version))
         }
-        CommandKind::ITermFile => {
-            let file = file(alloc, fields)?;
-            Ok(ITermProprietary::File(Boxed::new(alloc, file)?))
+        ITermKind::PushVersion => {
+            let version = ITermUnicodeVersionOp::Push(text(alloc, FieldName::Label, fields)?);
+            Ok(ITermProprietary::UnicodeVersion(version))
         }
-        CommandKind::ITermSetUnicodeVersion => Ok(ITermProprietary::UnicodeVersion(
-            ITermUnicodeVersionOp::Set(first(fields).byte()),
-        )),
-        CommandKind::ITermPushUnicodeVersion => {
-            let label = text(alloc, FieldName::Label, fields)?;
-            Ok(ITermProprietary::UnicodeVersion(ITermUnicodeVersionOp::Push(label)))
+        ITermKind::PopVersion => {
+            let version = ITermUnicodeVersionOp::Pop(text(alloc, FieldName::Label, fields)?);
+            Ok(ITermProprietary::UnicodeVersion(version))
         }
-        CommandKind::ITermPopUnicodeVersion => {
-            let label = text(alloc, FieldName::Label, fields)?;
-            Ok(ITermProprietary::UnicodeVersion(ITermUnicodeVersionOp::Pop(label)))
-        }
-        _ => Ok(texted(kind, first(fields).string(alloc)?)),
     }
 }
 
-// The command of a kind that has one text, or nothing.
-fn texted<A: Allocator>(kind: CommandKind, text: Text<A>) -> ITermProprietary<A>
-    ensures { result ≡ texted_in kind text }
+// The size of a cell.
+fn cell_size<A: Allocator>(fields: &[Said<'_>]) -> ITermProprietary<A>
+    ensures { result ≡ cell_size_in fields.now }
 {
-    match kind {
-        CommandKind::ITermStealFocus => ITermProprietary::StealFocus,
-        CommandKind::ITermClearScrollback => ITermProprietary::ClearScrollback,
-        CommandKind::ITermCurrentDir => ITermProprietary::CurrentDir(text),
-        CommandKind::ITermSetProfile => ITermProprietary::SetProfile(text),
-        CommandKind::ITermCopyToClipboard => ITermProprietary::CopyToClipboard(text),
-        CommandKind::ITermEndCopy => ITermProprietary::EndCopy,
-        CommandKind::ITermRequestCellSize => ITermProprietary::RequestCellSize,
-        CommandKind::ITermCopy => ITermProprietary::Copy(text),
-        CommandKind::ITermReportVariable => ITermProprietary::ReportVariable(text),
-        CommandKind::ITermSetBadgeFormat => ITermProprietary::SetBadgeFormat(text),
-        _ => ITermProprietary::SetMark,
+    ITermProprietary::ReportCellSize {
+        height_pixels: first(fields).length(),
+        width_pixels: first(after(fields)).length(),
+        scale: scale(after(after(fields))),
     }
+}
+
+// A variable.
+fn variable<A: Allocator + Copy>(
+    alloc: A,
+    fields: &[Said<'_>],
+) -> Result<ITermProprietary<A>, AllocError>
+    ensures ok { IfOk result (λ c. c
+        ≡ iterm.SetUserVar (string_of (first fields.now)) (string_of (second fields.now))) }
+    ensures refused { OnErr result (Refused A) }
+{
+    let name = first(fields).string(alloc)?;
+    let value = first(after(fields)).string(alloc)?;
+    Ok(ITermProprietary::SetUserVar { name, value })
 }
 
 // The scale of a cell's size, where it was reported.

@@ -1,7 +1,7 @@
 //! Links that rows say. An error is that memory was refused.
 ghost use Rattle.std.specs.Prelude.{◌≡◌, [], IfOk, OnErr, OnOk};
-ghost use Rattle.esc_links.specs.Hyperlinks.{put_all};
-ghost use Rattle.esc_fields.specs.Found.{parameters};
+ghost use Rattle.esc_links.specs.Hyperlinks.{put, put_all};
+ghost use Rattle.esc_fields.specs.Found.{parameters, string_of};
 ghost use Rattle.esc_fields.specs.FoundItems.{link_in};
 ghost use Rattle.memory.specs.Refusals.{Refused};
 
@@ -37,10 +37,24 @@ fn params<A: Allocator + Copy>(alloc: A, fields: &[Said<'_>]) -> Result<Params<A
     let mut params = Params::new(alloc);
     let mut rest = fields;
     while let [key, value, more @ ..] = rest {
-        let key = key.string(alloc)?;
-        let value = value.string(alloc)?;
-        params.insert(key, value)?;
+        insert(alloc, key, value, &mut params)?;
         rest = more;
     }
     Ok(params)
+}
+
+// Puts a key with its value among the others.
+fn insert<A: Allocator + Copy>(
+    alloc: A,
+    key: &Said<'_>,
+    value: &Said<'_>,
+    params: &mut Params<A>,
+) -> Result<(), AllocError>
+    ensures ok { OnOk result
+        (params.new ≡ put (string_of key.now.1) (string_of value.now.1) params.old) }
+    ensures refused { OnErr result (Refused A) }
+{
+    let key = key.string(alloc)?;
+    let value = value.string(alloc)?;
+    params.insert(key, value)
 }

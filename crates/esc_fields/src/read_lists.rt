@@ -1,4 +1,4 @@
-//! Lists that rows say. An error is that memory was refused.
+//! Lists that rows say, an item a row. An error is that memory was refused.
 ghost use Rattle.std.specs.Prelude.{◌≡◌, IfOk, OnErr, map};
 ghost use Rattle.esc_fields.specs.Fields.{text_of};
 ghost use Rattle.esc_fields.specs.Found.{byte_of, string_of};
@@ -8,49 +8,56 @@ use crate::said::Said;
 use esc_values::{Items, Text};
 use std::alloc::{AllocError, Allocator};
 
-// Parts of any bytes.
-pub(crate) fn parts<A: Allocator + Copy>(
-    alloc: A,
-    fields: &[Said<'_>],
-) -> Result<Items<Items<u8, A>, A>, AllocError>
-    ensures ok { IfOk result (λ v. v ≡ map (λ s. text_of s.1) fields.now) }
-    ensures refused { OnErr result (Refused A) }
-{
-    let mut parts = Items::new(alloc);
-    for field in fields {
-        let part = Items::from_slice(alloc, field.bytes())?;
-        parts.push(part)?;
-    }
-    Ok(parts)
+// An item that a row says.
+pub(crate) trait Read<A: Allocator> {
+    ghost use Rattle.esc_fields.specs.Fields.{Value};
+
+    ghost read: { Value → Self };
+
+    // That of this row.
+    fn of(alloc: A, field: &Said<'_>) -> Result<Self, AllocError>
+        ensures ok { IfOk result (λ v. v ≡ read field.now.1) }
+        ensures refused { OnErr result (Refused A) };
 }
 
-// Parts that are texts.
-pub(crate) fn texts<A: Allocator + Copy>(
-    alloc: A,
-    fields: &[Said<'_>],
-) -> Result<Items<Text<A>, A>, AllocError>
-    ensures ok { IfOk result (λ v. v ≡ map (λ s. string_of s.1) fields.now) }
-    ensures refused { OnErr result (Refused A) }
-{
-    let mut texts = Items::new(alloc);
-    for field in fields {
-        let text = field.string(alloc)?;
-        texts.push(text)?;
+// A part of any bytes.
+impl<A: Allocator> Read<A> for Items<u8, A> {
+    ghost read = { text_of };
+
+    fn of(alloc: A, field: &Said<'_>) -> Result<Items<u8, A>, AllocError> {
+        Items::from_slice(alloc, field.bytes())
     }
-    Ok(texts)
 }
 
-// Places of the palette.
-pub(crate) fn indices<A: Allocator>(
+// A text.
+impl<A: Allocator> Read<A> for Text<A> {
+    ghost read = { string_of };
+
+    fn of(alloc: A, field: &Said<'_>) -> Result<Text<A>, AllocError> {
+        field.string(alloc)
+    }
+}
+
+// A place of the palette.
+impl<A: Allocator> Read<A> for u8 {
+    ghost read = { byte_of };
+
+    fn of(_alloc: A, field: &Said<'_>) -> Result<u8, AllocError> {
+        Ok(field.byte())
+    }
+}
+
+// The items that these rows say.
+pub(crate) fn items<A: Allocator + Copy, T: Read<A> + Drop>(
     alloc: A,
     fields: &[Said<'_>],
-) -> Result<Items<u8, A>, AllocError>
-    ensures ok { IfOk result (λ v. v ≡ map (λ s. byte_of s.1) fields.now) }
+) -> Result<Items<T, A>, AllocError>
+    ensures ok { IfOk result (λ v. v ≡ map (λ s. T.read s.1) fields.now) }
     ensures refused { OnErr result (Refused A) }
 {
-    let mut indices = Items::new(alloc);
+    let mut items = Items::new(alloc);
     for field in fields {
-        indices.push(field.byte())?;
+        items.push(T::of(alloc, field)?)?;
     }
-    Ok(indices)
+    Ok(items)
 }

@@ -4,8 +4,8 @@ ghost use Rattle.esc_fields.specs.Found.{number_of, signed};
 ghost use Rattle.esc_fields.specs.FoundPrompts.{click_in, click_of, prompt_in, prompt_kind_of};
 ghost use Rattle.memory.specs.Refusals.{Refused};
 
-use crate::command_kind::CommandKind;
 use crate::field_name::FieldName;
+use crate::kinds::PromptForm;
 use crate::read_optional::{named, past, text};
 use crate::said::{Said, after, first};
 use esc_prompts::{FinalTermClick, FinalTermPromptKind, FinalTermSemanticPrompt as Prompt};
@@ -14,38 +14,36 @@ use std::alloc::{AllocError, Allocator};
 // The prompt of a kind.
 pub(crate) fn prompt<A: Allocator>(
     alloc: A,
-    kind: CommandKind,
+    kind: PromptForm,
     fields: &[Said<'_>],
 ) -> Result<Prompt<A>, AllocError>
     ensures ok { IfOk result (λ p. p ≡ prompt_in kind fields.now) }
     ensures refused { OnErr result (Refused A) }
 {
     match kind {
-        CommandKind::PromptFreshLineAndStartPrompt => Ok(Prompt::FreshLineAndStartPrompt {
+        PromptForm::FreshLineAndStart => Ok(Prompt::FreshLineAndStartPrompt {
             aid: text(alloc, FieldName::Application, fields)?,
             cl: click(past(FieldName::Application, fields)),
         }),
-        CommandKind::PromptEndOfCommandWithFreshLine => Ok(Prompt::MarkEndOfCommandWithFreshLine {
+        PromptForm::EndOfCommandWithFreshLine => Ok(Prompt::MarkEndOfCommandWithFreshLine {
             aid: text(alloc, FieldName::Application, fields)?,
             cl: click(past(FieldName::Application, fields)),
         }),
-        CommandKind::PromptStartPrompt => Ok(Prompt::StartPrompt(prompt_kind(first(
-            fields,
-        ).count()))),
-        CommandKind::PromptStartOfInputUntilNextMarker => {
+        PromptForm::Start => Ok(Prompt::StartPrompt(prompt_kind(first(fields).count()))),
+        PromptForm::InputUntilNextMarker => {
             Ok(Prompt::MarkEndOfPromptAndStartOfInputUntilNextMarker)
         }
-        CommandKind::PromptStartOfInputUntilEndOfLine => {
+        PromptForm::InputUntilEndOfLine => {
             Ok(Prompt::MarkEndOfPromptAndStartOfInputUntilEndOfLine)
         }
-        CommandKind::PromptStartOfOutput => Ok(Prompt::MarkEndOfInputAndStartOfOutput {
+        PromptForm::StartOfOutput => Ok(Prompt::MarkEndOfInputAndStartOfOutput {
             aid: text(alloc, FieldName::Application, fields)?,
         }),
-        CommandKind::PromptCommandStatus => Ok(Prompt::CommandStatus {
+        PromptForm::CommandStatus => Ok(Prompt::CommandStatus {
             status: status(first(fields).number()),
             aid: text(alloc, FieldName::Application, after(fields))?,
         }),
-        _ => Ok(Prompt::FreshLine),
+        PromptForm::FreshLine => Ok(Prompt::FreshLine),
     }
 }
 
