@@ -17,14 +17,14 @@ use Rattle.esc_osc.specs.declared.command.OperatingSystemCommand.TheVariants as 
 use Rattle.esc_fields.proofs.FilesBack.{file_back}
 use Rattle.esc_fields.proofs.ItemsBack.{colors_back, dynamic_back, link_back, pairs_back, progress_back}
 use Rattle.esc_fields.proofs.Tables.{rows_say}
-use Rattle.esc_fields.proofs.ValuesBack.{below_is, flag_back, numbers_back, parts_back, signed_is, text_is, texts_back}
+use Rattle.esc_fields.proofs.ValuesBack.{Fits, flag_back, held_fits, numbers_back, parts_back, texts_back}
 use Rattle.esc_fields.specs.Commands.{fields_of}
 use Rattle.esc_fields.specs.Fields.{Table, named, said}
 use Rattle.esc_fields.specs.FoundCommands.{command_in, form_at}
 use Rattle.esc_fields.specs.FoundItems.{nothing}
 use Rattle.esc_fields.specs.FoundPrompts.{click_in, click_of, prompt_kind_of, scale_in, text_in}
-use Rattle.esc_fields.specs.Found.{kept, past}
-use Rattle.esc_fields.specs.Held.{Has, IsHeld, IsHeldITerm, IsHeldPrompt, IsOptional, IsScale}
+use Rattle.esc_fields.specs.Found.{Reading, held as held_reading, kept, past}
+use Rattle.esc_fields.specs.Held.{Bounds, Has, IsHeld, IsITerm, IsOptional, IsPrompt, IsScale, IsWithin, types}
 use Rattle.esc_fields.specs.Kinds.{iterm_kind, kind_number, kind_of, prompt_kind as kind_of_prompt}
 use Rattle.esc_fields.specs.Prompts.{aid_fields, click_fields, click_number, kind_number as prompt_number, prompt_fields}
 use Rattle.esc_fields.specs.Proprietary.{iterm_fields, scale_fields, text_fields}
@@ -45,13 +45,7 @@ prompt_kind_back prompt_kind.RightSide = refl
 prompt_kind_back prompt_kind.Continuation = refl
 prompt_kind_back prompt_kind.Secondary = refl
 
--- the name of the application and the click, of which each may be absent
-aid_back : (a : Option (List ℕ)) (c : Option FinalTermClick) → IsOptional a
-    → text_in name.Application (map named (aid_fields a ++ click_fields c)) ≡ a
-aid_back None None held = refl
-aid_back None (Some c) held = refl
-aid_back (Some t) c held = ap Some (text_is t held)
-
+-- a click that may be absent after the name of the application, which may be absent too
 click_after : (a : Option (List ℕ)) (c : Option FinalTermClick)
     → click_in (past name.Application (map named (aid_fields a ++ click_fields c))) ≡ c
 click_after None None = refl
@@ -59,29 +53,36 @@ click_after None (Some c) = ap Some (click_back c)
 click_after (Some t) None = refl
 click_after (Some t) (Some c) = ap Some (click_back c)
 
-lone_back : (a : Option (List ℕ)) → IsOptional a
-    → text_in name.Application (map named (aid_fields a)) ≡ a
-lone_back None held = refl
-lone_back (Some t) held = ap Some (text_is t held)
-
--- a label and a scale that may be absent
-label_back : (o : Option (List ℕ)) → IsOptional o
-    → text_in name.Label (map named (text_fields name.Label o)) ≡ o
-label_back None held = refl
-label_back (Some t) held = ap Some (text_is t held)
-
-scale_back : (o : Option ℕ) → IsScale o → scale_in (map named (scale_fields o)) ≡ o
-scale_back None held = refl
-scale_back (Some s) held = ap Some (below_is (2 ^ 32) s held)
-
 -- how the command of a kind is read
-abbrev form_of : CommandKind → Form
+abbrev pub form_of : CommandKind → Form
 form_of k = form_at (kind_number k)
 
-module _ {A : Type 0} where
+module _ (r : Reading) (b : Bounds) (f : Fits r b) where
+  -- the name of the application and the click, of which each may be absent
+  aid_back : (a : Option (List ℕ)) (c : Option FinalTermClick) → IsOptional b a
+      → text_in r name.Application (map named (aid_fields a ++ click_fields c)) ≡ a
+  aid_back None None held = refl
+  aid_back None (Some c) held = refl
+  aid_back (Some t) c held = ap Some (f.text t held)
+
+  lone_back : (a : Option (List ℕ)) → IsOptional b a
+      → text_in r name.Application (map named (aid_fields a)) ≡ a
+  lone_back None held = refl
+  lone_back (Some t) held = ap Some (f.text t held)
+
+  -- a label and a scale that may be absent
+  label_back : (o : Option (List ℕ)) → IsOptional b o
+      → text_in r name.Label (map named (text_fields name.Label o)) ≡ o
+  label_back None held = refl
+  label_back (Some t) held = ap Some (f.text t held)
+
+  scale_back : (o : Option ℕ) → IsScale b o → scale_in r (map named (scale_fields o)) ≡ o
+  scale_back None held = refl
+  scale_back (Some s) held = ap Some (f.number (2 ^ 32) s held)
+
   -- a prompt of its kind
-  prompts_back : (p : FinalTermSemanticPrompt A) → IsHeldPrompt p
-      → command_in (form_of (kind_of_prompt p)) (map named (prompt_fields p))
+  prompts_back : {A : Type 0} (p : FinalTermSemanticPrompt A) → IsPrompt b p
+      → command_in r (form_of (kind_of_prompt p)) (map named (prompt_fields p))
       ≡ command.FinalTermSemanticPrompt p
   prompts_back prompt.FreshLine held = refl
   prompts_back (prompt.FreshLineAndStartPrompt a c) held =
@@ -98,46 +99,46 @@ module _ {A : Type 0} where
       ap (λ o. command.FinalTermSemanticPrompt (prompt.MarkEndOfInputAndStartOfOutput o))
       (lone_back a held)
   prompts_back (prompt.CommandStatus s a) held =
-      let status_is = signed_is s held.0 in
+      let status_is = f.signed s held.0 in
       let aid_is = lone_back a held.1 in
       λ i. command.FinalTermSemanticPrompt (prompt.CommandStatus (status_is i) (aid_is i))
 
   -- a command of iTerm2 of its kind
-  iterms_back : (c : ITermProprietary A) → IsHeldITerm c
-      → command_in (form_of (iterm_kind c)) (map named (iterm_fields c)) ≡ command.ITermProprietary c
+  iterms_back : {A : Type 0} (c : ITermProprietary A) → IsITerm b c
+      → command_in r (form_of (iterm_kind c)) (map named (iterm_fields c)) ≡ command.ITermProprietary c
   iterms_back iterm.SetMark held = refl
   iterms_back iterm.StealFocus held = refl
   iterms_back iterm.ClearScrollback held = refl
   iterms_back (iterm.CurrentDir t) held =
-      ap (λ x. command.ITermProprietary (iterm.CurrentDir x)) (text_is t held)
+      ap (λ x. command.ITermProprietary (iterm.CurrentDir x)) (f.text t held)
   iterms_back (iterm.SetProfile t) held =
-      ap (λ x. command.ITermProprietary (iterm.SetProfile x)) (text_is t held)
+      ap (λ x. command.ITermProprietary (iterm.SetProfile x)) (f.text t held)
   iterms_back (iterm.CopyToClipboard t) held =
-      ap (λ x. command.ITermProprietary (iterm.CopyToClipboard x)) (text_is t held)
+      ap (λ x. command.ITermProprietary (iterm.CopyToClipboard x)) (f.text t held)
   iterms_back iterm.EndCopy held = refl
   iterms_back (iterm.HighlightCursorLine b) held =
       ap (λ x. command.ITermProprietary (iterm.HighlightCursorLine x)) (flag_back b)
   iterms_back iterm.RequestCellSize held = refl
   iterms_back (iterm.ReportCellSize h w s) held =
-      let height_is = below_is (2 ^ 32) h held.0 in
-      let width_is = below_is (2 ^ 32) w held.1 in
+      let height_is = f.number (2 ^ 32) h held.0 in
+      let width_is = f.number (2 ^ 32) w held.1 in
       let scale_is = scale_back s held.2 in
       λ i. command.ITermProprietary (iterm.ReportCellSize (height_is i) (width_is i) (scale_is i))
   iterms_back (iterm.Copy t) held =
-      ap (λ x. command.ITermProprietary (iterm.Copy x)) (text_is t held)
+      ap (λ x. command.ITermProprietary (iterm.Copy x)) (f.text t held)
   iterms_back (iterm.ReportVariable t) held =
-      ap (λ x. command.ITermProprietary (iterm.ReportVariable x)) (text_is t held)
+      ap (λ x. command.ITermProprietary (iterm.ReportVariable x)) (f.text t held)
   iterms_back (iterm.SetUserVar n t) held =
-      let name_is = text_is n held.0 in
-      let value_is = text_is t held.1 in
+      let name_is = f.text n held.0 in
+      let value_is = f.text t held.1 in
       λ i. command.ITermProprietary (iterm.SetUserVar (name_is i) (value_is i))
   iterms_back (iterm.SetBadgeFormat t) held =
-      ap (λ x. command.ITermProprietary (iterm.SetBadgeFormat x)) (text_is t held)
-  iterms_back (iterm.File f) held =
-      ap (λ x. command.ITermProprietary (iterm.File x)) (file_back f held)
+      ap (λ x. command.ITermProprietary (iterm.SetBadgeFormat x)) (f.text t held)
+  iterms_back (iterm.File x) held =
+      ap (λ y. command.ITermProprietary (iterm.File y)) (file_back r b f x held)
   iterms_back (iterm.UnicodeVersion (version.Set n)) held =
       ap (λ x. command.ITermProprietary (iterm.UnicodeVersion (version.Set x)))
-      (below_is (2 ^ 8) n held)
+      (f.number (2 ^ 8) n held)
   iterms_back (iterm.UnicodeVersion (version.Push l)) held =
       ap (λ x. command.ITermProprietary (iterm.UnicodeVersion (version.Push x)))
       (label_back l held)
@@ -145,61 +146,62 @@ module _ {A : Type 0} where
       ap (λ x. command.ITermProprietary (iterm.UnicodeVersion (version.Pop x)))
       (label_back l held)
 
-  command_back : (c : OperatingSystemCommand A) → IsHeld c
-      → command_in (form_of (kind_of c)) (map named (fields_of c)) ≡ c
+  pub command_back : {A : Type 0} (c : OperatingSystemCommand A) → IsWithin b c
+      → command_in r (form_of (kind_of c)) (map named (fields_of c)) ≡ c
   command_back (command.SetIconNameAndWindowTitle t) held =
-      ap command.SetIconNameAndWindowTitle (text_is t held)
-  command_back (command.SetWindowTitle t) held = ap command.SetWindowTitle (text_is t held)
-  command_back (command.SetWindowTitleSun t) held = ap command.SetWindowTitleSun (text_is t held)
-  command_back (command.SetIconName t) held = ap command.SetIconName (text_is t held)
-  command_back (command.SetIconNameSun t) held = ap command.SetIconNameSun (text_is t held)
-  command_back (command.SetHyperlink h) held = ap command.SetHyperlink (link_back h held)
+      ap command.SetIconNameAndWindowTitle (f.text t held)
+  command_back (command.SetWindowTitle t) held = ap command.SetWindowTitle (f.text t held)
+  command_back (command.SetWindowTitleSun t) held = ap command.SetWindowTitleSun (f.text t held)
+  command_back (command.SetIconName t) held = ap command.SetIconName (f.text t held)
+  command_back (command.SetIconNameSun t) held = ap command.SetIconNameSun (f.text t held)
+  command_back (command.SetHyperlink h) held = ap command.SetHyperlink (link_back r b f h held)
   command_back (command.ClearSelection s) held =
-      ap (λ n. command.ClearSelection (record { 0 = n })) (below_is (2 ^ 16) s.0 held)
+      ap (λ n. command.ClearSelection (record { 0 = n })) (f.number (2 ^ 16) s.0 held)
   command_back (command.QuerySelection s) held =
-      ap (λ n. command.QuerySelection (record { 0 = n })) (below_is (2 ^ 16) s.0 held)
+      ap (λ n. command.QuerySelection (record { 0 = n })) (f.number (2 ^ 16) s.0 held)
   command_back (command.SetSelection s t) held =
-      let bits_are = below_is (2 ^ 16) s.0 held.0 in
-      let text_are = text_is t held.1 in
+      let bits_are = f.number (2 ^ 16) s.0 held.0 in
+      let text_are = f.text t held.1 in
       λ i. command.SetSelection (record { 0 = bits_are i }) (text_are i)
-  command_back (command.SystemNotification t) held = ap command.SystemNotification (text_is t held)
+  command_back (command.SystemNotification t) held = ap command.SystemNotification (f.text t held)
   command_back (command.ITermProprietary c) held = iterms_back c held
   command_back (command.FinalTermSemanticPrompt p) held = prompts_back p held
   command_back (command.ChangeColorNumber ps) held =
-      ap command.ChangeColorNumber (pairs_back ps held nothing)
+      ap command.ChangeColorNumber (pairs_back r b f ps held nothing)
   command_back (command.ChangeDynamicColors n cs) held =
-      let colors_are = colors_back cs held nothing in
+      let colors_are = colors_back r b f cs held nothing in
       λ i. command.ChangeDynamicColors (dynamic_back n i) (colors_are i)
   command_back (command.ResetDynamicColor n) held = ap command.ResetDynamicColor (dynamic_back n)
   command_back (command.CurrentWorkingDirectory t) held =
-      ap command.CurrentWorkingDirectory (text_is t held)
-  command_back (command.ResetColors ns) held = ap command.ResetColors (numbers_back ns held)
-  command_back (command.RxvtExtension ts) held = ap command.RxvtExtension (texts_back ts held)
-  command_back (command.ConEmuProgress p) held = ap command.ConEmuProgress (progress_back p held)
+      ap command.CurrentWorkingDirectory (f.text t held)
+  command_back (command.ResetColors ns) held = ap command.ResetColors (numbers_back r b f ns held)
+  command_back (command.RxvtExtension ts) held = ap command.RxvtExtension (texts_back r b f ts held)
+  command_back (command.ConEmuProgress p) held = ap command.ConEmuProgress (progress_back r b f p held)
   command_back (command.Unspecified ps) held = ap command.Unspecified (parts_back ps)
 
+module _ {A : Type 0} where
   -- what a kind and rows say is the command that has them
   pub found : (k : ℕ) (t : Table) (c : OperatingSystemCommand A) → IsHeld c → Has k t c
-      → command_in (form_at k) (said t) ≡ c
-  found k t c held has =
+      → command_in held_reading (form_at k) (said t) ≡ c
+  found k t c is_held has =
       let kind_is = ap form_at (sym has.0) in
       let rows_are = ap said (sym has.1) ∙ rows_say (fields_of c) in
-      (λ i. command_in (kind_is i) (rows_are i)) ∙ command_back c held
+      (λ i. command_in held_reading (kind_is i) (rows_are i)) ∙ command_back held_reading types held_fits c is_held
 
   -- where none is kept, none has them
   none_kept : {E : Type 0} (k : ℕ) (t : Table) (c : OperatingSystemCommand A) (has : Result Bool E)
-      → c ≡ command_in (form_at k) (said t) → IfOk has (λ b. IsTrue b ↔ Has k t c)
+      → c ≡ command_in held_reading (form_at k) (said t) → IfOk has (λ b. IsTrue b ↔ Has k t c)
       → IfOk (kept c has) (λ o. o ≡ None → (d : OperatingSystemCommand A) → IsHeld d → Has k t d
       → ⊥)
   none_kept k t c (Err e) is told = tt
-  none_kept k t c (Ok true) is told = λ none d held it. absurd (none-some c (sym none))
-  none_kept k t c (Ok false) is told = λ none d held it.
-      let same : c ≡ d = is ∙ found k t d held it in
+  none_kept k t c (Ok true) is told = λ none d is_held it. absurd (none-some c (sym none))
+  none_kept k t c (Ok false) is told = λ none d is_held it.
+      let same : c ≡ d = is ∙ found k t d is_held it in
       true≢false (sym (told.1 (subst (λ x. Has k t x) (sym same) it)))
 
   pub none_found : {E : Type 0} (k : ℕ) (t : Table) (c : OperatingSystemCommand A)
       (has : Result Bool E) (result : Result (Option (OperatingSystemCommand A)) E)
-      → c ≡ command_in (form_at k) (said t) → IfOk has (λ b. IsTrue b ↔ Has k t c)
+      → c ≡ command_in held_reading (form_at k) (said t) → IfOk has (λ b. IsTrue b ↔ Has k t c)
       → result ≡ kept c has
       → IfOk result (λ o. o ≡ None → (d : OperatingSystemCommand A) → IsHeld d → Has k t d → ⊥)
   none_found k t c has result is told result_is =

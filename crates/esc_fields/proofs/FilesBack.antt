@@ -3,11 +3,11 @@ use Rattle.std.proofs.Common.{ℕ, ◌≡◌, List, ◌++◌, Option, Some, None
 use Rattle.esc_iterm.specs.declared.dimension.ITermDimension.{ITermDimension}
 use Rattle.esc_iterm.specs.declared.dimension.ITermDimension.TheVariants.{Automatic, Cells, Percent, Pixels}
 use Rattle.esc_iterm.specs.declared.file_data.ITermFileData.{ITermFileData}
-use Rattle.esc_fields.proofs.ValuesBack.{flag_back, optional_is}
+use Rattle.esc_fields.proofs.ValuesBack.{Fits, flag_back, optional_is}
 use Rattle.esc_fields.specs.Fields.{Field, named}
-use Rattle.esc_fields.specs.Found.{NamedValue, named_value, past, size_of, string_of, utf8_or_none}
+use Rattle.esc_fields.specs.Found.{NamedValue, Reading, named_value, past, size_of, string_of}
 use Rattle.esc_fields.specs.FoundPrompts.{file_in, file_with, high_in, past_width, sized_in, width_in}
-use Rattle.esc_fields.specs.Held.{IsOptional}
+use Rattle.esc_fields.specs.Held.{Bounds, IsOptional}
 use Rattle.esc_fields.specs.Proprietary.{file_fields, height_fields, shown_fields, size_fields, text_fields, width_fields}
 use Rattle.esc_fields.specs.declared.field_name.FieldName.TheVariants as name
 use Rattle.std.specs.Option.{option_map}
@@ -83,30 +83,31 @@ module _ {A : Type 0} where
   unnamed (Some k) w h f = (refl, refl)
   unnamed None w h f = ((others w h f).0, (others w h f).1)
 
-  named_back : (n : Option (List ℕ)) (k : Option ℕ) (w h : ITermDimension) (f : ITermFileData A)
-      → file_in {A = A} (map named (text_fields name.Name n ++ sizes k w h f))
-      ≡ file_with (option_map utf8_or_none n) k w h (map named (shown_fields f))
-  named_back (Some t) k w h f = sized_back (Some (utf8_or_none t)) k w h f
-  named_back None k w h f =
-      let o = unnamed k w h f in
-      (λ i. sized_in {A = A} (option_map string_of (o.0 i)) (o.1 i))
-      ∙ sized_back None k w h f
+module _ {A : Type 0} (r : Reading) (b : Bounds) (f : Fits r b) where
+  named_back : (n : Option (List ℕ)) (k : Option ℕ) (w h : ITermDimension) (x : ITermFileData A)
+      → file_in {A = A} r (map named (text_fields name.Name n ++ sizes k w h x))
+      ≡ file_with (option_map r.text n) k w h (map named (shown_fields x))
+  named_back (Some t) k w h x = sized_back (Some (r.text t)) k w h x
+  named_back None k w h x =
+      let o = unnamed k w h x in
+      (λ i. sized_in {A = A} (option_map (string_of r) (o.0 i)) (o.1 i))
+      ∙ sized_back None k w h x
 
-  pub file_back : (f : ITermFileData A) → IsOptional f.name
-      → file_in (map named (file_fields f)) ≡ f
-  file_back f held =
-      let name_is = optional_is f.name held in
-      let ratio_is = flag_back f.preserve_aspect_ratio in
-      let inline_is = flag_back f.inline in
-      let still_is = flag_back f.do_not_move_cursor in
-      named_back f.name f.size f.width f.height f
+  pub file_back : (x : ITermFileData A) → IsOptional b x.name
+      → file_in r (map named (file_fields x)) ≡ x
+  file_back x held =
+      let name_is = optional_is r b f x.name held in
+      let ratio_is = flag_back x.preserve_aspect_ratio in
+      let inline_is = flag_back x.inline in
+      let still_is = flag_back x.do_not_move_cursor in
+      named_back x.name x.size x.width x.height x
       ∙ (λ i. record {
         name = name_is i;
-        size = f.size;
-        width = f.width;
-        height = f.height;
+        size = x.size;
+        width = x.width;
+        height = x.height;
         preserve_aspect_ratio = ratio_is i;
         inline = inline_is i;
         do_not_move_cursor = still_is i;
-        content = f.content;
+        content = x.content;
       })

@@ -1,5 +1,5 @@
 -- The parts of kitty's images are read from their numbers.
-use Rattle.std.proofs.Common.{ℕ, ℤ, pos, ◌≡◌, ◌==◌, Bool, true, false, if◌then◌else◌, List, [], ◌∷◌, ◌++◌, Option, Some, None, option_map, refl, ap, ◌∙◌}
+use Rattle.std.proofs.Common.{ℕ, ℤ, pos, ◌≡◌, ◌==◌, Bool, true, false, if◌then◌else◌, List, [], ◌∷◌, ◌++◌, Option, Some, None, option_map, map, refl, ap, ◌∙◌}
 use Rattle.esc_kitty.specs.Texts.{offset_in, size_in}
 use Rattle.esc_kitty.specs.declared.compose.KittyImageFrameCompose.{KittyImageFrameCompose}
 use Rattle.esc_kitty.specs.declared.composition.KittyFrameCompositionMode.{KittyFrameCompositionMode}
@@ -15,19 +15,19 @@ use Rattle.esc_kitty.specs.declared.placement.KittyImagePlacement.{KittyImagePla
 use Rattle.esc_kitty.specs.declared.transmit.KittyImageTransmit.{KittyImageTransmit}
 use Rattle.esc_kitty.specs.declared.verbosity.KittyImageVerbosity.{KittyImageVerbosity}
 use Rattle.esc_kitty.specs.declared.verbosity.KittyImageVerbosity.TheVariants.{Verbose, OnlyErrors, Quiet}
-use Rattle.esc_fields.proofs.Found.{magnitude, number_of}
-use Rattle.esc_fields.specs.Fields.{Field, name_number}
+use Rattle.esc_fields.specs.Fields.{Field, name_number, named}
+use Rattle.esc_fields.specs.Found.{NamedValue, is_named, magnitude, number_of}
 use Rattle.esc_fields.specs.Images.{Numbers, bytes_of, compose_numbers, composition_number, compression_number, counted, flagged, format_number, frame_numbers, medium_number, number_fields, optional_field, placement_numbers, transmit_numbers, verbosity_number, verbosity_numbers}
 use Rattle.esc_fields.specs.declared.field_name.FieldName.{FieldName}
 use Rattle.esc_fields.specs.declared.field_name.FieldName.TheVariants as name
 
--- the number of a name, among fields, where there is one
+-- the number of a name, among what rows say, where there is one
 abbrev is : FieldName → FieldName → Bool
-is n m = name_number n == name_number m
+is n m = name_number m == name_number n
 
-abbrev pub look : List Field → FieldName → Option ℤ
+abbrev pub look : List NamedValue → FieldName → Option ℤ
 look [] n = None
-look (f ∷ fs) n = if is n f.name then Some (number_of f.value) else look fs n
+look (s ∷ ss) n = if is_named n s then Some (number_of s.1) else look ss n
 
 -- the same among numbers: the first, by what there is after it
 abbrev earlier : Option ℤ → Option ℤ → Option ℤ
@@ -51,16 +51,17 @@ one_earlier true z None = refl
 one_earlier true z (Some y) = refl
 
 first_seen : (n m : FieldName) (o : Option ℤ) (fs : List Field)
-    → look (optional_field m o ++ fs) n ≡ if is n m then earlier (look fs n) o else look fs n
-first_seen n m None fs = none_earlier (is n m) (look fs n)
-first_seen n m (Some z) fs = one_earlier (is n m) z (look fs n)
+    → look (map named (optional_field m o ++ fs)) n
+    ≡ if is n m then earlier (look (map named fs) n) o else look (map named fs) n
+first_seen n m None fs = none_earlier (is n m) (look (map named fs) n)
+first_seen n m (Some z) fs = one_earlier (is n m) z (look (map named fs) n)
 
-seen_at : (ss : Numbers) (n : FieldName) → look (number_fields ss) n ≡ seek ss n
+seen_at : (ss : Numbers) (n : FieldName) → look (map named (number_fields ss)) n ≡ seek ss n
 seen_at [] n = refl
 seen_at (s ∷ ss) n = first_seen n s.0 s.1 (number_fields ss)
     ∙ ap (λ o. if is n s.0 then earlier o s.1 else o) (seen_at ss n)
 
-pub seen : (ss : Numbers) → look (number_fields ss) ≡ seek ss
+pub seen : (ss : Numbers) → look (map named (number_fields ss)) ≡ seek ss
 seen ss = λ k n. seen_at ss n k
 
 -- numbers and flags from what was found

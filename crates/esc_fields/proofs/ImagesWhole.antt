@@ -1,15 +1,14 @@
 -- A kind and fields are the whole of an image of kitty's, or of none: it is read from them.
-use Rattle.std.proofs.Common.{ℕ, ℤ, ◌≡◌, false, List, [], ◌∷◌, ◌++◌, Option, Some, None, get_or, refl, sym, ap, ◌∙◌}
+use Rattle.std.proofs.Common.{ℕ, ℤ, ◌≡◌, false, List, [], ◌∷◌, ◌++◌, Option, Some, None, get_or, map, refl, sym, ap, ◌∙◌}
 use Rattle.esc_kitty.specs.declared.delete.KittyImageDelete.{KittyImageDelete}
 use Rattle.esc_kitty.specs.declared.delete.KittyImageDelete.TheVariants as delete
 use Rattle.esc_kitty.specs.declared.image.KittyImage.{KittyImage}
 use Rattle.esc_kitty.specs.declared.image.KittyImage.TheVariants as image
 use Rattle.esc_kitty.specs.declared.verbosity.KittyImageVerbosity.{KittyImageVerbosity}
-use Rattle.esc_fields.proofs.Found.{after, first}
 use Rattle.esc_fields.proofs.ImagesFound.{compose_back, compose_in, count, count_back, flag, flag_back, frame_back, frame_in, look, natural, placement_back, placement_in, seek, seen, transmit_back, transmit_in, verbosity_back, verbosity_in, whole_number}
-use Rattle.esc_fields.proofs.Numbers.{same_fields}
 use Rattle.esc_fields.proofs.Tables.{rows_say}
-use Rattle.esc_fields.specs.Fields.{Field, said, table_of, text_of}
+use Rattle.esc_fields.specs.Fields.{named, said, table_of, text_of}
+use Rattle.esc_fields.specs.Found.{NamedValue, after, first}
 use Rattle.esc_fields.specs.ImageKinds.{delete_kind, image_kind, image_number}
 use Rattle.esc_fields.specs.Images.{bytes_of, compose_numbers, delete_numbers, fields_of_image, frame_numbers, id_numbers, number_fields, placement_numbers, transmit_numbers, verbosity_numbers}
 use Rattle.esc_fields.specs.declared.field_name.FieldName.{FieldName}
@@ -100,7 +99,7 @@ module _ {A : Type 0} where
   deleted k l = Some (image.Delete (deleted_in k l) (verbosity_in l))
 
   -- the image of a kind with these fields
-  abbrev image_in : ImageKind → List Field → Option (KittyImage A)
+  abbrev image_in : ImageKind → List NamedValue → Option (KittyImage A)
   image_in kind.NoImage fs = None
   image_in kind.TransmitData fs = kept (text_of (first fs)) (look (after fs))
   image_in kind.TransmitDataAndDisplay fs = shown (text_of (first fs)) (look (after fs))
@@ -113,13 +112,14 @@ module _ {A : Type 0} where
   removed : (k : ImageKind) (w : KittyImageDelete) (v : KittyImageVerbosity)
       → deleted_in k (seek (delete_numbers w ++ verbosity_numbers v)) ≡ w
       → verbosity_in (seek (delete_numbers w ++ verbosity_numbers v)) ≡ v
-      → deleted k (look (number_fields (delete_numbers w ++ verbosity_numbers v)))
+      → deleted k (look (map named (number_fields (delete_numbers w ++ verbosity_numbers v))))
       ≡ Some (image.Delete w v)
   removed k w v is also = ap (deleted k) (seen (delete_numbers w ++ verbosity_numbers v))
       ∙ (λ j. Some (image.Delete (is j) (also j)))
 
   deletion_back : (w : KittyImageDelete) (v : KittyImageVerbosity)
-      → image_in (delete_kind w) (number_fields (delete_numbers w ++ verbosity_numbers v))
+      → image_in (delete_kind w)
+      (map named (number_fields (delete_numbers w ++ verbosity_numbers v)))
       ≡ Some (image.Delete w v)
   deletion_back (delete.All d) v = removed kind.DeleteAll (delete.All d) v
       (λ k. delete.All (flag_back d k)) (verbosity_back v)
@@ -148,7 +148,7 @@ module _ {A : Type 0} where
       removed kind.DeleteByImageIdRange (delete.ByImageIdRange f l d) v
       (λ k. delete.ByImageIdRange f l (flag_back d k)) (verbosity_back v)
 
-  image_back : (i : Option (KittyImage A)) → image_in (image_kind i) (fields_of_image i) ≡ i
+  image_back : (i : Option (KittyImage A)) → image_in (image_kind i) (map named (fields_of_image i)) ≡ i
   image_back None = refl
   image_back (Some (image.TransmitData t v)) =
       ap (kept (bytes_of t.content)) (seen (transmit_numbers t ++ verbosity_numbers v))
@@ -184,5 +184,4 @@ module _ {A : Type 0} where
       ∙ kind_back (image_kind j) in
       let rows = sym (rows_say (fields_of_image i)) ∙ ap said table
       ∙ rows_say (fields_of_image j) in
-      let fields = same_fields (fields_of_image i) (fields_of_image j) rows in
-      sym (image_back i) ∙ (λ k. image_in (kinds k) (fields k)) ∙ image_back j
+      sym (image_back i) ∙ (λ k. image_in (kinds k) (rows k)) ∙ image_back j

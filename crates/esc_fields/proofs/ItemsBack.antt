@@ -1,10 +1,8 @@
 -- Colours, links, progress and dynamic colours are read back from what their rows say.
-use Rattle.std.proofs.Common.{ℕ, ◌≡◌, ◌<◌, ◌^◌, List, [], ◌∷◌, ◌++◌, Option, Some, None, refl, map, ap, ◌∙◌}
+use Rattle.std.proofs.Common.{ℕ, ◌≡◌, ◌^◌, List, [], ◌∷◌, ◌++◌, Option, Some, None, refl, map, ap, ◌∙◌}
 use Rattle.std.specs.List.{flat_map}
-use Rattle.esc_links.specs.Hyperlinks.{put_all}
 use Rattle.esc_links.specs.declared.hyperlink.Hyperlink.{Hyperlink}
 use Rattle.esc_osc_values.specs.Codes.{color_number}
-use Rattle.esc_osc_values.specs.WritableValues.{AreColors, ArePairs, IsColor}
 use Rattle.esc_osc_values.specs.declared.change_color_pair.ChangeColorPair.{ChangeColorPair}
 use Rattle.esc_osc_values.specs.declared.color_or_query.ColorOrQuery.{ColorOrQuery}
 use Rattle.esc_osc_values.specs.declared.color_or_query.ColorOrQuery.TheVariants.{Color, Query}
@@ -12,57 +10,16 @@ use Rattle.esc_osc_values.specs.declared.dynamic_color_number.DynamicColorNumber
 use Rattle.esc_osc_values.specs.declared.dynamic_color_number.DynamicColorNumber.TheVariants as dynamic
 use Rattle.esc_osc_values.specs.declared.progress.Progress.{Progress}
 use Rattle.esc_osc_values.specs.declared.progress.Progress.TheVariants as progress
-use Rattle.esc_fields.proofs.ValuesBack.{below_is, flag_back, parameters_back, text_is}
+use Rattle.esc_fields.proofs.ValuesBack.{Fits, flag_back, parameters_back}
 use Rattle.esc_fields.specs.Commands.{color_fields, pair_fields, progress_fields}
 use Rattle.esc_fields.specs.Fields.{Field, named}
 use Rattle.esc_fields.specs.Fields.Value.{Number}
+use Rattle.esc_fields.specs.Found.{Reading}
 use Rattle.esc_fields.specs.FoundItems.{colors_after, dynamic_of, link_in, pairs_after, placed, progress_in}
-use Rattle.esc_fields.specs.Held.{IsHeldLink, IsHeldProgress}
+use Rattle.esc_fields.specs.Held.{AreColors, ArePairs, Bounds, IsColor, IsLink, IsProgress}
 use Rattle.esc_fields.specs.Links.{link_fields}
 use Rattle.esc_fields.specs.declared.read_colors.Known.{Known}
 use Rattle.std.specs.Prelude.{pos}
-
--- colours of the palette: an item first, where the rest is read whatever is known before it
-pair_first : (k : Known) (n : ℕ) (c : ColorOrQuery) (fs : List Field) (ps : List ChangeColorPair)
-    → n < 2 ^ 8 → IsColor c → ((j : Known) → pairs_after j (map named fs) ≡ ps)
-    → pairs_after k (map named (pair_fields (placed n c) ++ fs)) ≡ placed n c ∷ ps
-pair_first k n (Color c) fs ps small held rest =
-    let place_is = below_is (2 ^ 8) n small in
-    let red_is = below_is (2 ^ 16) c.red held.0 in
-    let green_is = below_is (2 ^ 16) c.green held.1 in
-    let blue_is = below_is (2 ^ 16) c.blue held.2 in
-    let rest_is = rest _ in
-    λ i. placed (place_is i)
-    (Color (record { red = red_is i; green = green_is i; blue = blue_is i })) ∷ rest_is i
-pair_first k n Query fs ps small held rest =
-    let place_is = below_is (2 ^ 8) n small in
-    let rest_is = rest _ in
-    λ i. placed (place_is i) Query ∷ rest_is i
-
-pub pairs_back : (ps : List ChangeColorPair) → ArePairs ps → (k : Known)
-    → pairs_after k (map named (flat_map pair_fields ps)) ≡ ps
-pairs_back [] held k = refl
-pairs_back (p ∷ ps) held k =
-    pair_first k p.palette_index p.color (flat_map pair_fields ps) ps held.0.0 held.0.1
-    (pairs_back ps held.1)
-
--- colours alone
-color_first : (k : Known) (c : ColorOrQuery) (fs : List Field) (cs : List ColorOrQuery)
-    → IsColor c → ((j : Known) → colors_after j (map named fs) ≡ cs)
-    → colors_after k (map named (color_fields c ++ fs)) ≡ c ∷ cs
-color_first k (Color c) fs cs held rest =
-    let red_is = below_is (2 ^ 16) c.red held.0 in
-    let green_is = below_is (2 ^ 16) c.green held.1 in
-    let blue_is = below_is (2 ^ 16) c.blue held.2 in
-    let rest_is = rest _ in
-    λ i. Color (record { red = red_is i; green = green_is i; blue = blue_is i }) ∷ rest_is i
-color_first k Query fs cs held rest = ap (λ more. Query ∷ more) (rest _)
-
-pub colors_back : (cs : List ColorOrQuery) → AreColors cs → (k : Known)
-    → colors_after k (map named (flat_map color_fields cs)) ≡ cs
-colors_back [] held k = refl
-colors_back (c ∷ cs) held k =
-    color_first k c (flat_map color_fields cs) cs held.0 (colors_back cs held.1)
 
 pub dynamic_back : (c : DynamicColorNumber) → dynamic_of (Number (pos (color_number c))) ≡ c
 dynamic_back dynamic.TextForegroundColor = refl
@@ -76,19 +33,65 @@ dynamic_back dynamic.HighlightBackgroundColor = refl
 dynamic_back dynamic.TektronixCursorColor = refl
 dynamic_back dynamic.HighlightForegroundColor = refl
 
-pub progress_back : (p : Progress) → IsHeldProgress p
-    → progress_in (map named (progress_fields p)) ≡ p
-progress_back progress.None held = refl
-progress_back (progress.SetPercentage n) held = ap progress.SetPercentage (below_is (2 ^ 8) n held)
-progress_back (progress.SetError n) held = ap progress.SetError (below_is (2 ^ 8) n held)
-progress_back progress.SetIndeterminate held = refl
-progress_back progress.Paused held = refl
+module _ (r : Reading) (b : Bounds) (f : Fits r b) where
+  -- colours of the palette: an item first, where the rest is read whatever is known before it
+  pair_first : (k : Known) (n : ℕ) (c : ColorOrQuery) (fs : List Field)
+      (ps : List ChangeColorPair) → b.Number (2 ^ 8) n → IsColor b c
+      → ((j : Known) → pairs_after r j (map named fs) ≡ ps)
+      → pairs_after r k (map named (pair_fields (placed n c) ++ fs)) ≡ placed n c ∷ ps
+  pair_first k n (Color c) fs ps small held rest =
+      let place_is = f.number (2 ^ 8) n small in
+      let red_is = f.number (2 ^ 16) c.red held.0 in
+      let green_is = f.number (2 ^ 16) c.green held.1 in
+      let blue_is = f.number (2 ^ 16) c.blue held.2 in
+      let rest_is = rest _ in
+      λ i. placed (place_is i)
+      (Color (record { red = red_is i; green = green_is i; blue = blue_is i })) ∷ rest_is i
+  pair_first k n Query fs ps small held rest =
+      let place_is = f.number (2 ^ 8) n small in
+      let rest_is = rest _ in
+      λ i. placed (place_is i) Query ∷ rest_is i
 
-pub link_back : {A : Type 0} (h : Option (Hyperlink A)) → IsHeldLink h
-    → link_in (map named (link_fields h)) ≡ h
-link_back None held = refl
-link_back (Some h) held =
-    let params_are = ap (put_all []) (parameters_back h.params held.1) ∙ held.2 in
-    let uri_is = text_is h.uri held.0 in
-    let implicit_is = flag_back h.implicit in
-    λ i. Some (record { params = params_are i; uri = uri_is i; implicit = implicit_is i })
+  pub pairs_back : (ps : List ChangeColorPair) → ArePairs b ps → (k : Known)
+      → pairs_after r k (map named (flat_map pair_fields ps)) ≡ ps
+  pairs_back [] held k = refl
+  pairs_back (p ∷ ps) held k =
+      pair_first k p.palette_index p.color (flat_map pair_fields ps) ps held.0 held.1
+      (pairs_back ps held.2)
+
+  -- colours alone
+  color_first : (k : Known) (c : ColorOrQuery) (fs : List Field) (cs : List ColorOrQuery)
+      → IsColor b c → ((j : Known) → colors_after r j (map named fs) ≡ cs)
+      → colors_after r k (map named (color_fields c ++ fs)) ≡ c ∷ cs
+  color_first k (Color c) fs cs held rest =
+      let red_is = f.number (2 ^ 16) c.red held.0 in
+      let green_is = f.number (2 ^ 16) c.green held.1 in
+      let blue_is = f.number (2 ^ 16) c.blue held.2 in
+      let rest_is = rest _ in
+      λ i. Color (record { red = red_is i; green = green_is i; blue = blue_is i }) ∷ rest_is i
+  color_first k Query fs cs held rest = ap (λ more. Query ∷ more) (rest _)
+
+  pub colors_back : (cs : List ColorOrQuery) → AreColors b cs → (k : Known)
+      → colors_after r k (map named (flat_map color_fields cs)) ≡ cs
+  colors_back [] held k = refl
+  colors_back (c ∷ cs) held k =
+      color_first k c (flat_map color_fields cs) cs held.0 (colors_back cs held.1)
+
+  pub progress_back : (p : Progress) → IsProgress b p
+      → progress_in r (map named (progress_fields p)) ≡ p
+  progress_back progress.None held = refl
+  progress_back (progress.SetPercentage n) held =
+      ap progress.SetPercentage (f.number (2 ^ 8) n held)
+  progress_back (progress.SetError n) held = ap progress.SetError (f.number (2 ^ 8) n held)
+  progress_back progress.SetIndeterminate held = refl
+  progress_back progress.Paused held = refl
+
+  pub link_back : {A : Type 0} (h : Option (Hyperlink A)) → IsLink b h
+      → link_in r (map named (link_fields h)) ≡ h
+  link_back None held = refl
+  link_back (Some h) held =
+      let params_are = ap r.parameters (parameters_back r b f h.params held.1)
+      ∙ f.parameters h.params held.2 in
+      let uri_is = f.text h.uri held.0 in
+      let implicit_is = flag_back h.implicit in
+      λ i. Some (record { params = params_are i; uri = uri_is i; implicit = implicit_is i })

@@ -1,10 +1,5 @@
 pub mod Tables
 pub mod Images
-mod Found
-mod FilesFound
-mod ColorsFound
-mod PromptsFound
-mod Numbers
 mod ImagesFound
 pub mod ImagesWhole
 pub mod Whole

@@ -2,9 +2,8 @@
 use Rattle.std.proofs.Common.{ℕ, ◌≡◌, ◌==◌, if◌then◌else◌, List, [], ◌∷◌, map, refl, sym, ap, ◌∙◌}
 use Rattle.esc_sixel.specs.declared.sixel_data.SixelData.{SixelData}
 use Rattle.esc_sixel.specs.declared.sixel_data.SixelData.TheVariants.{CarriageReturn, Data, DefineColorMapHSL, DefineColorMapRGB, NewLine, Repeat, SelectColorMapEntry}
-use Rattle.esc_fields.proofs.Numbers.{same_fields}
 use Rattle.esc_fields.proofs.Tables.{rows_say}
-use Rattle.esc_fields.specs.Fields.{said, table_of, text_of}
+use Rattle.esc_fields.specs.Fields.{named, said, table_of, text_of}
 use Rattle.esc_fields.specs.Queries.{query_fields}
 use Rattle.esc_fields.specs.Sixels.{sixel_row}
 use Rattle.esc_fields.specs.declared.sixel_row.SixelRow.{SixelRow}
@@ -28,7 +27,8 @@ data_back NewLine = refl
 pub sixels_whole : (d e : SixelData) → sixel_row d ≡ sixel_row e → d ≡ e
 sixels_whole d e is = sym (data_back d) ∙ ap data_in is ∙ data_back e
 
-names_back : (ns : List (List ℕ)) → map (λ f. text_of f.value) (query_fields ns) ≡ ns
+names_back : (ns : List (List ℕ))
+    → map (λ s. text_of s.1) (map named (query_fields ns)) ≡ ns
 names_back [] = refl
 names_back (n ∷ ns) = ap (λ more. n ∷ more) (names_back ns)
 
@@ -36,6 +36,4 @@ pub queries_whole : (ns ms : List (List ℕ))
     → table_of (query_fields ns) ≡ table_of (query_fields ms) → ns ≡ ms
 queries_whole ns ms table =
     let rows = sym (rows_say (query_fields ns)) ∙ ap said table ∙ rows_say (query_fields ms) in
-    sym (names_back ns)
-    ∙ ap (map (λ f. text_of f.value)) (same_fields (query_fields ns) (query_fields ms) rows)
-    ∙ names_back ms
+    sym (names_back ns) ∙ ap (map (λ s. text_of s.1)) rows ∙ names_back ms

@@ -1,133 +1,130 @@
 -- A kind and fields are the whole of a command: it is read from them.
-use Rattle.std.proofs.Common.{◌≡◌, List, refl, sym, ap, ◌∙◌, map}
+use Rattle.std.proofs.Common.{ℕ, ◌≡◌, List, [], ◌∷◌, Option, Some, None, sym, ap, ◌∙◌}
+use Rattle.esc_links.specs.declared.hyperlink.Hyperlink.{Hyperlink}
 use Rattle.esc_iterm.specs.declared.proprietary.ITermProprietary.{ITermProprietary}
 use Rattle.esc_iterm.specs.declared.proprietary.ITermProprietary.TheVariants as iterm
 use Rattle.esc_iterm.specs.declared.unicode_version.ITermUnicodeVersionOp.TheVariants as version
 use Rattle.esc_prompts.specs.declared.prompt.FinalTermSemanticPrompt.{FinalTermSemanticPrompt}
 use Rattle.esc_prompts.specs.declared.prompt.FinalTermSemanticPrompt.TheVariants as prompt
+use Rattle.esc_osc_values.specs.declared.change_color_pair.ChangeColorPair.{ChangeColorPair}
+use Rattle.esc_osc_values.specs.declared.color_or_query.ColorOrQuery.{ColorOrQuery}
+use Rattle.esc_osc_values.specs.declared.color_or_query.ColorOrQuery.TheVariants.{Color, Query}
+use Rattle.esc_osc_values.specs.declared.progress.Progress.{Progress}
+use Rattle.esc_osc_values.specs.declared.progress.Progress.TheVariants as progress
 use Rattle.esc_osc.specs.declared.command.OperatingSystemCommand.{OperatingSystemCommand}
 use Rattle.esc_osc.specs.declared.command.OperatingSystemCommand.TheVariants as command
-use Rattle.esc_fields.proofs.ColorsFound.{colors_back, colors_in, dynamic_back, dynamic_of, link_back, link_in, pairs_back, pairs_in, progress_back, progress_in}
-use Rattle.esc_fields.proofs.Found.{after, count_of, first, numbers_back, second, texts_back}
-use Rattle.esc_fields.proofs.Numbers.{same_fields, same_kind}
-use Rattle.esc_fields.proofs.PromptsFound.{iterm_back, iterm_in, prompt_back, prompt_in}
+use Rattle.esc_fields.proofs.CommandsBack.{command_back}
 use Rattle.esc_fields.proofs.Tables.{rows_say}
+use Rattle.esc_fields.proofs.ValuesBack.{any_bounds, any_fits, any_reading}
 use Rattle.esc_fields.specs.Commands.{fields_of}
-use Rattle.esc_fields.specs.Fields.{Field, said, table_of, text_of}
-use Rattle.esc_fields.specs.Kinds.{iterm_kind, kind_number, kind_of, prompt_kind}
-use Rattle.esc_fields.specs.Prompts.{prompt_fields}
-use Rattle.esc_fields.specs.Proprietary.{iterm_fields}
-use Rattle.esc_fields.specs.declared.command_kind.CommandKind.{CommandKind}
-use Rattle.esc_fields.specs.declared.command_kind.CommandKind.TheVariants as kind
+use Rattle.esc_fields.specs.Fields.{said, table_of}
+use Rattle.esc_fields.specs.FoundCommands.{command_in, form_at}
+use Rattle.esc_fields.specs.Held.{AreBytes, AreColors, ArePairs, ArePairsOfTexts, AreTexts, IsColor, IsITerm, IsLink, IsOptional, IsProgress, IsPrompt, IsScale, IsWithin}
+use Rattle.esc_fields.specs.Kinds.{kind_number, kind_of}
+
+-- every part is within no bounds
+any_optional : (o : Option (List ℕ)) → IsOptional any_bounds o
+any_optional None = tt
+any_optional (Some t) = tt
+
+any_texts : (ts : List (List ℕ)) → AreTexts any_bounds ts
+any_texts [] = tt
+any_texts (t ∷ ts) = (tt, any_texts ts)
+
+any_pairs_of_texts : (es : List (List ℕ × List ℕ)) → ArePairsOfTexts any_bounds es
+any_pairs_of_texts [] = tt
+any_pairs_of_texts (e ∷ es) = (tt, tt, any_pairs_of_texts es)
+
+any_bytes : (ns : List ℕ) → AreBytes any_bounds ns
+any_bytes [] = tt
+any_bytes (n ∷ ns) = (tt, any_bytes ns)
+
+any_scale : (o : Option ℕ) → IsScale any_bounds o
+any_scale None = tt
+any_scale (Some s) = tt
+
+any_progress : (p : Progress) → IsProgress any_bounds p
+any_progress progress.None = tt
+any_progress (progress.SetPercentage n) = tt
+any_progress (progress.SetError n) = tt
+any_progress progress.SetIndeterminate = tt
+any_progress progress.Paused = tt
+
+any_color : (c : ColorOrQuery) → IsColor any_bounds c
+any_color (Color c) = (tt, tt, tt)
+any_color Query = tt
+
+any_colors : (cs : List ColorOrQuery) → AreColors any_bounds cs
+any_colors [] = tt
+any_colors (c ∷ cs) = (any_color c, any_colors cs)
+
+any_pairs : (ps : List ChangeColorPair) → ArePairs any_bounds ps
+any_pairs [] = tt
+any_pairs (p ∷ ps) = (tt, any_color p.color, any_pairs ps)
 
 module _ {A : Type 0} where
-  -- the command of a kind with these fields
-  abbrev command_in : CommandKind → List Field → OperatingSystemCommand A
-  command_in kind.Unspecified fs = command.Unspecified (map (λ f. text_of f.value) fs)
-  command_in kind.SetIconNameAndWindowTitle fs =
-      command.SetIconNameAndWindowTitle (text_of (first fs))
-  command_in kind.SetWindowTitle fs = command.SetWindowTitle (text_of (first fs))
-  command_in kind.SetWindowTitleSun fs = command.SetWindowTitleSun (text_of (first fs))
-  command_in kind.SetIconName fs = command.SetIconName (text_of (first fs))
-  command_in kind.SetIconNameSun fs = command.SetIconNameSun (text_of (first fs))
-  command_in kind.SetHyperlink fs = command.SetHyperlink (link_in fs)
-  command_in kind.ClearSelection fs = command.ClearSelection (record { 0 = count_of (first fs) })
-  command_in kind.QuerySelection fs = command.QuerySelection (record { 0 = count_of (first fs) })
-  command_in kind.SetSelection fs =
-      command.SetSelection (record { 0 = count_of (first fs) }) (text_of (second fs))
-  command_in kind.SystemNotification fs = command.SystemNotification (text_of (first fs))
-  command_in kind.ChangeColorNumber fs = command.ChangeColorNumber (pairs_in fs)
-  command_in kind.ChangeDynamicColors fs =
-      command.ChangeDynamicColors (dynamic_of (count_of (first fs))) (colors_in (after fs))
-  command_in kind.ResetDynamicColor fs =
-      command.ResetDynamicColor (dynamic_of (count_of (first fs)))
-  command_in kind.CurrentWorkingDirectory fs = command.CurrentWorkingDirectory (text_of (first fs))
-  command_in kind.ResetColors fs = command.ResetColors (map (λ f. count_of f.value) fs)
-  command_in kind.RxvtExtension fs = command.RxvtExtension (map (λ f. text_of f.value) fs)
-  command_in kind.ConEmuProgress fs = command.ConEmuProgress (progress_in fs)
-  command_in kind.PromptFreshLine fs =
-      command.FinalTermSemanticPrompt (prompt_in kind.PromptFreshLine fs)
-  command_in kind.PromptFreshLineAndStartPrompt fs =
-      command.FinalTermSemanticPrompt (prompt_in kind.PromptFreshLineAndStartPrompt fs)
-  command_in kind.PromptEndOfCommandWithFreshLine fs =
-      command.FinalTermSemanticPrompt (prompt_in kind.PromptEndOfCommandWithFreshLine fs)
-  command_in kind.PromptStartPrompt fs =
-      command.FinalTermSemanticPrompt (prompt_in kind.PromptStartPrompt fs)
-  command_in kind.PromptStartOfInputUntilNextMarker fs =
-      command.FinalTermSemanticPrompt (prompt_in kind.PromptStartOfInputUntilNextMarker fs)
-  command_in kind.PromptStartOfInputUntilEndOfLine fs =
-      command.FinalTermSemanticPrompt (prompt_in kind.PromptStartOfInputUntilEndOfLine fs)
-  command_in kind.PromptStartOfOutput fs =
-      command.FinalTermSemanticPrompt (prompt_in kind.PromptStartOfOutput fs)
-  command_in kind.PromptCommandStatus fs =
-      command.FinalTermSemanticPrompt (prompt_in kind.PromptCommandStatus fs)
-  command_in k fs = command.ITermProprietary (iterm_in k fs)
+  any_link : (h : Option (Hyperlink A)) → IsLink any_bounds h
+  any_link None = tt
+  any_link (Some h) = (tt, any_pairs_of_texts h.params, tt)
 
-  prompts_back : (p : FinalTermSemanticPrompt A)
-      → command_in (prompt_kind p) (prompt_fields p)
-      ≡ command.FinalTermSemanticPrompt (prompt_in (prompt_kind p) (prompt_fields p))
-  prompts_back prompt.FreshLine = refl
-  prompts_back (prompt.FreshLineAndStartPrompt a c) = refl
-  prompts_back (prompt.MarkEndOfCommandWithFreshLine a c) = refl
-  prompts_back (prompt.StartPrompt p) = refl
-  prompts_back prompt.MarkEndOfPromptAndStartOfInputUntilNextMarker = refl
-  prompts_back prompt.MarkEndOfPromptAndStartOfInputUntilEndOfLine = refl
-  prompts_back (prompt.MarkEndOfInputAndStartOfOutput a) = refl
-  prompts_back (prompt.CommandStatus s a) = refl
+  any_iterm : (c : ITermProprietary A) → IsITerm any_bounds c
+  any_iterm iterm.SetMark = tt
+  any_iterm iterm.StealFocus = tt
+  any_iterm iterm.ClearScrollback = tt
+  any_iterm (iterm.CurrentDir t) = tt
+  any_iterm (iterm.SetProfile t) = tt
+  any_iterm (iterm.CopyToClipboard t) = tt
+  any_iterm iterm.EndCopy = tt
+  any_iterm (iterm.HighlightCursorLine b) = tt
+  any_iterm iterm.RequestCellSize = tt
+  any_iterm (iterm.ReportCellSize h w s) = (tt, tt, any_scale s)
+  any_iterm (iterm.Copy t) = tt
+  any_iterm (iterm.ReportVariable t) = tt
+  any_iterm (iterm.SetUserVar n t) = (tt, tt)
+  any_iterm (iterm.SetBadgeFormat t) = tt
+  any_iterm (iterm.File f) = any_optional f.name
+  any_iterm (iterm.UnicodeVersion (version.Set n)) = tt
+  any_iterm (iterm.UnicodeVersion (version.Push l)) = any_optional l
+  any_iterm (iterm.UnicodeVersion (version.Pop l)) = any_optional l
 
-  iterms_back : (c : ITermProprietary A)
-      → command_in (iterm_kind c) (iterm_fields c)
-      ≡ command.ITermProprietary (iterm_in (iterm_kind c) (iterm_fields c))
-  iterms_back iterm.SetMark = refl
-  iterms_back iterm.StealFocus = refl
-  iterms_back iterm.ClearScrollback = refl
-  iterms_back (iterm.CurrentDir t) = refl
-  iterms_back (iterm.SetProfile t) = refl
-  iterms_back (iterm.CopyToClipboard t) = refl
-  iterms_back iterm.EndCopy = refl
-  iterms_back (iterm.HighlightCursorLine b) = refl
-  iterms_back iterm.RequestCellSize = refl
-  iterms_back (iterm.ReportCellSize h w s) = refl
-  iterms_back (iterm.Copy t) = refl
-  iterms_back (iterm.ReportVariable t) = refl
-  iterms_back (iterm.SetUserVar n v) = refl
-  iterms_back (iterm.SetBadgeFormat t) = refl
-  iterms_back (iterm.File f) = refl
-  iterms_back (iterm.UnicodeVersion (version.Set n)) = refl
-  iterms_back (iterm.UnicodeVersion (version.Push l)) = refl
-  iterms_back (iterm.UnicodeVersion (version.Pop l)) = refl
+  any_prompt : (p : FinalTermSemanticPrompt A) → IsPrompt any_bounds p
+  any_prompt prompt.FreshLine = tt
+  any_prompt (prompt.FreshLineAndStartPrompt a c) = any_optional a
+  any_prompt (prompt.MarkEndOfCommandWithFreshLine a c) = any_optional a
+  any_prompt (prompt.StartPrompt k) = tt
+  any_prompt prompt.MarkEndOfPromptAndStartOfInputUntilNextMarker = tt
+  any_prompt prompt.MarkEndOfPromptAndStartOfInputUntilEndOfLine = tt
+  any_prompt (prompt.MarkEndOfInputAndStartOfOutput a) = any_optional a
+  any_prompt (prompt.CommandStatus s a) = (tt, any_optional a)
 
-  command_back : (c : OperatingSystemCommand A) → command_in (kind_of c) (fields_of c) ≡ c
-  command_back (command.SetIconNameAndWindowTitle t) = refl
-  command_back (command.SetWindowTitle t) = refl
-  command_back (command.SetWindowTitleSun t) = refl
-  command_back (command.SetIconName t) = refl
-  command_back (command.SetIconNameSun t) = refl
-  command_back (command.SetHyperlink h) = ap command.SetHyperlink (link_back h)
-  command_back (command.ClearSelection s) = refl
-  command_back (command.QuerySelection s) = refl
-  command_back (command.SetSelection s t) = refl
-  command_back (command.SystemNotification t) = refl
-  command_back (command.ITermProprietary c) =
-      iterms_back c ∙ ap command.ITermProprietary (iterm_back c)
-  command_back (command.FinalTermSemanticPrompt p) =
-      prompts_back p ∙ ap command.FinalTermSemanticPrompt (prompt_back p)
-  command_back (command.ChangeColorNumber ps) = ap command.ChangeColorNumber (pairs_back ps)
-  command_back (command.ChangeDynamicColors n cs) =
-      λ k. command.ChangeDynamicColors (dynamic_back n k) (colors_back cs k)
-  command_back (command.ResetDynamicColor n) = ap command.ResetDynamicColor (dynamic_back n)
-  command_back (command.CurrentWorkingDirectory t) = refl
-  command_back (command.ResetColors ns) = ap command.ResetColors (numbers_back ns)
-  command_back (command.RxvtExtension ts) = ap command.RxvtExtension (texts_back ts)
-  command_back (command.ConEmuProgress p) = ap command.ConEmuProgress (progress_back p)
-  command_back (command.Unspecified ps) = ap command.Unspecified (texts_back ps)
+  any_within : (c : OperatingSystemCommand A) → IsWithin any_bounds c
+  any_within (command.SetIconNameAndWindowTitle t) = tt
+  any_within (command.SetWindowTitle t) = tt
+  any_within (command.SetWindowTitleSun t) = tt
+  any_within (command.SetIconName t) = tt
+  any_within (command.SetIconNameSun t) = tt
+  any_within (command.SetHyperlink h) = any_link h
+  any_within (command.ClearSelection s) = tt
+  any_within (command.QuerySelection s) = tt
+  any_within (command.SetSelection s t) = (tt, tt)
+  any_within (command.SystemNotification t) = tt
+  any_within (command.ITermProprietary c) = any_iterm c
+  any_within (command.FinalTermSemanticPrompt p) = any_prompt p
+  any_within (command.ChangeColorNumber ps) = any_pairs ps
+  any_within (command.ChangeDynamicColors n cs) = any_colors cs
+  any_within (command.ResetDynamicColor n) = tt
+  any_within (command.CurrentWorkingDirectory t) = tt
+  any_within (command.ResetColors ns) = any_bytes ns
+  any_within (command.RxvtExtension ts) = any_texts ts
+  any_within (command.ConEmuProgress p) = any_progress p
+  any_within (command.Unspecified ps) = tt
 
   -- commands whose kinds have one number, and whose fields have one table, are the same command
   pub whole : (c d : OperatingSystemCommand A)
       → kind_number (kind_of c) ≡ kind_number (kind_of d)
       → table_of (fields_of c) ≡ table_of (fields_of d) → c ≡ d
   whole c d number table =
-      let kinds = same_kind (kind_of c) (kind_of d) number in
       let rows = sym (rows_say (fields_of c)) ∙ ap said table ∙ rows_say (fields_of d) in
-      let fields = same_fields (fields_of c) (fields_of d) rows in
-      sym (command_back c) ∙ (λ k. command_in (kinds k) (fields k)) ∙ command_back d
+      sym (command_back any_reading any_bounds any_fits c (any_within c))
+      ∙ (λ k. command_in any_reading (form_at (number k)) (rows k))
+      ∙ command_back any_reading any_bounds any_fits d (any_within d)

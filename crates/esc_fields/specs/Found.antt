@@ -1,7 +1,7 @@
--- Values that rows say, as the types of a command's parts hold them: a number that is too large for
--- its type is read as 0, and a text that is not UTF-8 as the empty text.
+-- Values that rows say, as a reading takes them.
 use Rattle.std.specs.Prelude.{ℕ, ℤ, pos, negsuc, ◌==◌, ◌^◌, nat_lt, Bool, true, false, if◌then◌else◌, List, [], ◌∷◌, Option, Some, None, Result, Ok, Err}
 use Rattle.std.specs.Option.{unwrap_or}
+use Rattle.esc_links.specs.Hyperlinks.{put_all}
 use Rattle.esc_values.specs.Scalars.{utf8_of}
 use Rattle.esc_fields.specs.Fields.{Value, name_number, text_of}
 use Rattle.esc_fields.specs.Fields.Value.{Number, Text, Size}
@@ -22,7 +22,7 @@ size_of (Number z) = 0
 size_of (Text t) = 0
 size_of (Size k) = k
 
--- a number that is not negative, one below a limit, and a flag
+-- a number that is not negative
 abbrev pub magnitude : ℤ → ℕ
 magnitude (pos n) = n
 magnitude (negsuc n) = 0
@@ -30,32 +30,49 @@ magnitude (negsuc n) = 0
 abbrev pub count_of : Value → ℕ
 count_of v = magnitude (number_of v)
 
+-- How parts are read: a number below a limit, one of 32 bits that may be negative, a text, and the
+-- parameters of a link.
+pub record Reading : Type 0 where
+  pub number : ℕ → ℕ → ℕ
+  pub signed : ℤ → ℤ
+  pub text : List ℕ → List ℕ
+  pub parameters : List (List ℕ × List ℕ) → List (List ℕ × List ℕ)
+
+-- As the types of a command's parts hold them: a number that is too large for its type is read as
+-- 0, a text that is not UTF-8 as the empty text, and parameters one after another.
 abbrev pub below : ℕ → ℕ → ℕ
 below limit n = if nat_lt n limit then n else 0
 
-abbrev pub byte_of : Value → ℕ
-byte_of v = below (2 ^ 8) (count_of v)
-
-abbrev pub channel_of : Value → ℕ
-channel_of v = below (2 ^ 16) (count_of v)
-
-abbrev pub length_of : Value → ℕ
-length_of v = below (2 ^ 32) (count_of v)
-
-abbrev pub flag_of : Value → Bool
-flag_of v = if count_of v == 0 then false else true
-
--- a number of 32 bits, which may be negative
 abbrev pub signed : ℤ → ℤ
 signed (pos n) = pos (below (2 ^ 31) n)
 signed (negsuc n) = if nat_lt n (2 ^ 31) then negsuc n else pos 0
 
--- a text
 abbrev pub utf8_or_none : List ℕ → List ℕ
 utf8_or_none t = unwrap_or (utf8_of t) []
 
-abbrev pub string_of : Value → List ℕ
-string_of v = utf8_or_none (text_of v)
+abbrev pub held : Reading
+held = record {
+  number = below;
+  signed = signed;
+  text = utf8_or_none;
+  parameters = put_all [];
+}
+
+-- a number, a flag and a text by a reading
+abbrev pub byte_of : Reading → Value → ℕ
+byte_of r v = r.number (2 ^ 8) (count_of v)
+
+abbrev pub channel_of : Reading → Value → ℕ
+channel_of r v = r.number (2 ^ 16) (count_of v)
+
+abbrev pub length_of : Reading → Value → ℕ
+length_of r v = r.number (2 ^ 32) (count_of v)
+
+abbrev pub flag_of : Value → Bool
+flag_of v = if count_of v == 0 then false else true
+
+abbrev pub string_of : Reading → Value → List ℕ
+string_of r v = r.text (text_of v)
 
 -- the value of the first, what comes after it, and the value of the second
 abbrev pub first : List NamedValue → Value
@@ -83,10 +100,10 @@ past n [] = []
 past n (s ∷ ss) = if is_named n s then ss else s ∷ ss
 
 -- keys with their values
-abbrev pub parameters : List NamedValue → List (List ℕ × List ℕ)
-parameters [] = []
-parameters (k ∷ []) = []
-parameters (k ∷ v ∷ ss) = (string_of k.1, string_of v.1) ∷ parameters ss
+abbrev pub parameters : Reading → List NamedValue → List (List ℕ × List ℕ)
+parameters r [] = []
+parameters r (k ∷ []) = []
+parameters r (k ∷ v ∷ ss) = (string_of r k.1, string_of r v.1) ∷ parameters r ss
 
 -- a value, where it is kept
 abbrev pub kept : {T E : Type 0} → T → Result Bool E → Result (Option T) E

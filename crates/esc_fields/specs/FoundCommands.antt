@@ -3,7 +3,7 @@ use Rattle.std.specs.Prelude.{ℕ, List, get_or, map}
 use Rattle.esc_osc.specs.declared.command.OperatingSystemCommand.{OperatingSystemCommand}
 use Rattle.esc_osc.specs.declared.command.OperatingSystemCommand.TheVariants as command
 use Rattle.esc_fields.specs.Fields.{text_of}
-use Rattle.esc_fields.specs.Found.{NamedValue, after, byte_of, channel_of, first, second, string_of}
+use Rattle.esc_fields.specs.Found.{NamedValue, Reading, after, byte_of, channel_of, first, second, string_of}
 use Rattle.esc_fields.specs.FoundItems.{colors_after, dynamic_of, link_in, nothing, pairs_after, progress_in}
 use Rattle.esc_fields.specs.FoundPrompts.{iterm_in, iterm_marked, iterm_texted, prompt_in}
 use Rattle.esc_fields.specs.declared.kinds.Form.{Form}
@@ -30,26 +30,26 @@ module _ {A : Type 0} where
   titled title.WorkingDirectory t = command.CurrentWorkingDirectory t
 
   -- the command of a kind that is no prompt and none of iTerm2, and has more or less than one text
-  abbrev pub other_in : OtherKind → List NamedValue → OperatingSystemCommand A
-  other_in other.Unspecified ss = command.Unspecified (map (λ s. text_of s.1) ss)
-  other_in other.Hyperlink ss = command.SetHyperlink (link_in ss)
-  other_in other.ClearSelection ss = command.ClearSelection (record { 0 = channel_of (first ss) })
-  other_in other.QuerySelection ss = command.QuerySelection (record { 0 = channel_of (first ss) })
-  other_in other.SetSelection ss =
-      command.SetSelection (record { 0 = channel_of (first ss) }) (string_of (second ss))
-  other_in other.ColorNumber ss = command.ChangeColorNumber (pairs_after nothing ss)
-  other_in other.DynamicColors ss =
-      command.ChangeDynamicColors (dynamic_of (first ss)) (colors_after nothing (after ss))
-  other_in other.ResetDynamicColor ss = command.ResetDynamicColor (dynamic_of (first ss))
-  other_in other.ResetColors ss = command.ResetColors (map (λ s. byte_of s.1) ss)
-  other_in other.Rxvt ss = command.RxvtExtension (map (λ s. string_of s.1) ss)
-  other_in other.Progress ss = command.ConEmuProgress (progress_in ss)
+  abbrev pub other_in : Reading → OtherKind → List NamedValue → OperatingSystemCommand A
+  other_in r other.Unspecified ss = command.Unspecified (map (λ s. text_of s.1) ss)
+  other_in r other.Hyperlink ss = command.SetHyperlink (link_in r ss)
+  other_in r other.ClearSelection ss = command.ClearSelection (record { 0 = channel_of r (first ss) })
+  other_in r other.QuerySelection ss = command.QuerySelection (record { 0 = channel_of r (first ss) })
+  other_in r other.SetSelection ss =
+      command.SetSelection (record { 0 = channel_of r (first ss) }) (string_of r (second ss))
+  other_in r other.ColorNumber ss = command.ChangeColorNumber (pairs_after r nothing ss)
+  other_in r other.DynamicColors ss =
+      command.ChangeDynamicColors (dynamic_of (first ss)) (colors_after r nothing (after ss))
+  other_in r other.ResetDynamicColor ss = command.ResetDynamicColor (dynamic_of (first ss))
+  other_in r other.ResetColors ss = command.ResetColors (map (λ s. byte_of r s.1) ss)
+  other_in r other.Rxvt ss = command.RxvtExtension (map (λ s. string_of r s.1) ss)
+  other_in r other.Progress ss = command.ConEmuProgress (progress_in r ss)
 
   -- the command of a kind
-  abbrev pub command_in : Form → List NamedValue → OperatingSystemCommand A
-  command_in (Title k) ss = titled k (string_of (first ss))
-  command_in (Prompt k) ss = command.FinalTermSemanticPrompt (prompt_in k ss)
-  command_in (ITermMark k) ss = command.ITermProprietary (iterm_marked k)
-  command_in (ITermText k) ss = command.ITermProprietary (iterm_texted k (string_of (first ss)))
-  command_in (ITerm k) ss = command.ITermProprietary (iterm_in k ss)
-  command_in (Other k) ss = other_in k ss
+  abbrev pub command_in : Reading → Form → List NamedValue → OperatingSystemCommand A
+  command_in r (Title k) ss = titled k (string_of r (first ss))
+  command_in r (Prompt k) ss = command.FinalTermSemanticPrompt (prompt_in r k ss)
+  command_in r (ITermMark k) ss = command.ITermProprietary (iterm_marked k)
+  command_in r (ITermText k) ss = command.ITermProprietary (iterm_texted k (string_of r (first ss)))
+  command_in r (ITerm k) ss = command.ITermProprietary (iterm_in r k ss)
+  command_in r (Other k) ss = other_in r k ss

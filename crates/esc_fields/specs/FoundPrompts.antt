@@ -14,7 +14,7 @@ use Rattle.esc_prompts.specs.declared.prompt.FinalTermSemanticPrompt.TheVariants
 use Rattle.esc_prompts.specs.declared.prompt_kind.FinalTermPromptKind.{FinalTermPromptKind}
 use Rattle.esc_prompts.specs.declared.prompt_kind.FinalTermPromptKind.TheVariants as kind
 use Rattle.esc_fields.specs.Fields.{text_of}
-use Rattle.esc_fields.specs.Found.{NamedValue, after, byte_of, count_of, first, flag_of, is_named, length_of, named_value, number_of, past, second, signed, size_of, string_of}
+use Rattle.esc_fields.specs.Found.{NamedValue, Reading, after, byte_of, count_of, first, flag_of, is_named, length_of, named_value, number_of, past, second, size_of, string_of}
 use Rattle.esc_fields.specs.declared.field_name.FieldName.{FieldName}
 use Rattle.esc_fields.specs.declared.field_name.FieldName.TheVariants as name
 use Rattle.esc_fields.specs.declared.kinds.ITermKind.{ITermKind}
@@ -36,11 +36,11 @@ prompt_kind_of n = if n == 0 then kind.Initial else if n == 1 then kind.RightSid
     else if n == 2 then kind.Continuation else kind.Secondary
 
 -- a text, a number and a size that may be absent
-abbrev pub text_in : FieldName → List NamedValue → Option (List ℕ)
-text_in n ss = option_map string_of (named_value n ss)
+abbrev pub text_in : Reading → FieldName → List NamedValue → Option (List ℕ)
+text_in r n ss = option_map (string_of r) (named_value n ss)
 
-abbrev pub scale_in : List NamedValue → Option ℕ
-scale_in ss = option_map length_of (named_value name.Scale ss)
+abbrev pub scale_in : Reading → List NamedValue → Option ℕ
+scale_in r ss = option_map (length_of r) (named_value name.Scale ss)
 
 abbrev pub size_in : List NamedValue → Option ℕ
 size_in ss = option_map size_of (named_value name.Size ss)
@@ -90,25 +90,25 @@ module _ {A : Type 0} where
   sized_in n ss = high_in n (size_in ss) (width_in (past name.Size ss))
       (past_width (past name.Size ss))
 
-  abbrev pub file_in : List NamedValue → ITermFileData A
-  file_in ss = sized_in (text_in name.Name ss) (past name.Name ss)
+  abbrev pub file_in : Reading → List NamedValue → ITermFileData A
+  file_in r ss = sized_in (text_in r name.Name ss) (past name.Name ss)
 
   -- the prompt of a kind
-  abbrev pub prompt_in : PromptForm → List NamedValue → FinalTermSemanticPrompt A
-  prompt_in form.FreshLine ss = prompt.FreshLine
-  prompt_in form.FreshLineAndStart ss =
-      prompt.FreshLineAndStartPrompt (text_in name.Application ss)
+  abbrev pub prompt_in : Reading → PromptForm → List NamedValue → FinalTermSemanticPrompt A
+  prompt_in r form.FreshLine ss = prompt.FreshLine
+  prompt_in r form.FreshLineAndStart ss =
+      prompt.FreshLineAndStartPrompt (text_in r name.Application ss)
       (click_in (past name.Application ss))
-  prompt_in form.EndOfCommandWithFreshLine ss =
-      prompt.MarkEndOfCommandWithFreshLine (text_in name.Application ss)
+  prompt_in r form.EndOfCommandWithFreshLine ss =
+      prompt.MarkEndOfCommandWithFreshLine (text_in r name.Application ss)
       (click_in (past name.Application ss))
-  prompt_in form.Start ss = prompt.StartPrompt (prompt_kind_of (count_of (first ss)))
-  prompt_in form.InputUntilNextMarker ss = prompt.MarkEndOfPromptAndStartOfInputUntilNextMarker
-  prompt_in form.InputUntilEndOfLine ss = prompt.MarkEndOfPromptAndStartOfInputUntilEndOfLine
-  prompt_in form.StartOfOutput ss =
-      prompt.MarkEndOfInputAndStartOfOutput (text_in name.Application ss)
-  prompt_in form.CommandStatus ss =
-      prompt.CommandStatus (signed (number_of (first ss))) (text_in name.Application (after ss))
+  prompt_in r form.Start ss = prompt.StartPrompt (prompt_kind_of (count_of (first ss)))
+  prompt_in r form.InputUntilNextMarker ss = prompt.MarkEndOfPromptAndStartOfInputUntilNextMarker
+  prompt_in r form.InputUntilEndOfLine ss = prompt.MarkEndOfPromptAndStartOfInputUntilEndOfLine
+  prompt_in r form.StartOfOutput ss =
+      prompt.MarkEndOfInputAndStartOfOutput (text_in r name.Application ss)
+  prompt_in r form.CommandStatus ss =
+      prompt.CommandStatus (r.signed (number_of (first ss))) (text_in r name.Application (after ss))
 
   -- the command of iTerm2 of a kind that has nothing, and of one that has one text
   abbrev pub iterm_marked : ITermMarkKind → ITermProprietary A
@@ -127,17 +127,17 @@ module _ {A : Type 0} where
   iterm_texted texted.SetBadgeFormat t = iterm.SetBadgeFormat t
 
   -- the size of a cell
-  abbrev pub cell_size_in : List NamedValue → ITermProprietary A
-  cell_size_in ss = iterm.ReportCellSize (length_of (first ss)) (length_of (second ss))
-      (scale_in (after (after ss)))
+  abbrev pub cell_size_in : Reading → List NamedValue → ITermProprietary A
+  cell_size_in r ss = iterm.ReportCellSize (length_of r (first ss)) (length_of r (second ss))
+      (scale_in r (after (after ss)))
 
   -- the command of any other kind of iTerm2
-  abbrev pub iterm_in : ITermKind → List NamedValue → ITermProprietary A
-  iterm_in other.HighlightCursorLine ss = iterm.HighlightCursorLine (flag_of (first ss))
-  iterm_in other.ReportCellSize ss = cell_size_in ss
-  iterm_in other.SetUserVar ss =
-      iterm.SetUserVar (string_of (first ss)) (string_of (second ss))
-  iterm_in other.File ss = iterm.File (file_in ss)
-  iterm_in other.SetVersion ss = iterm.UnicodeVersion (version.Set (byte_of (first ss)))
-  iterm_in other.PushVersion ss = iterm.UnicodeVersion (version.Push (text_in name.Label ss))
-  iterm_in other.PopVersion ss = iterm.UnicodeVersion (version.Pop (text_in name.Label ss))
+  abbrev pub iterm_in : Reading → ITermKind → List NamedValue → ITermProprietary A
+  iterm_in r other.HighlightCursorLine ss = iterm.HighlightCursorLine (flag_of (first ss))
+  iterm_in r other.ReportCellSize ss = cell_size_in r ss
+  iterm_in r other.SetUserVar ss =
+      iterm.SetUserVar (string_of r (first ss)) (string_of r (second ss))
+  iterm_in r other.File ss = iterm.File (file_in r ss)
+  iterm_in r other.SetVersion ss = iterm.UnicodeVersion (version.Set (byte_of r (first ss)))
+  iterm_in r other.PushVersion ss = iterm.UnicodeVersion (version.Push (text_in r name.Label ss))
+  iterm_in r other.PopVersion ss = iterm.UnicodeVersion (version.Pop (text_in r name.Label ss))

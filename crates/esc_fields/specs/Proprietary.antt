@@ -26,18 +26,18 @@ abbrev pub size_fields : Option ℕ → List Field
 size_fields None = []
 size_fields (Some k) = size_field name.Size k ∷ []
 
--- a width and a height, of which the name says the unit; nothing where they are automatic
+-- a dimension, of which the name says the unit; nothing where it is automatic
+abbrev pub dimension_fields : FieldName → FieldName → FieldName → ITermDimension → List Field
+dimension_fields c p r Automatic = []
+dimension_fields c p r (Cells z) = signed_field c z ∷ []
+dimension_fields c p r (Pixels z) = signed_field p z ∷ []
+dimension_fields c p r (Percent z) = signed_field r z ∷ []
+
 abbrev pub width_fields : ITermDimension → List Field
-width_fields Automatic = []
-width_fields (Cells z) = signed_field name.WidthCells z ∷ []
-width_fields (Pixels z) = signed_field name.WidthPixels z ∷ []
-width_fields (Percent z) = signed_field name.WidthPercent z ∷ []
+width_fields d = dimension_fields name.WidthCells name.WidthPixels name.WidthPercent d
 
 abbrev pub height_fields : ITermDimension → List Field
-height_fields Automatic = []
-height_fields (Cells z) = signed_field name.HeightCells z ∷ []
-height_fields (Pixels z) = signed_field name.HeightPixels z ∷ []
-height_fields (Percent z) = signed_field name.HeightPercent z ∷ []
+height_fields d = dimension_fields name.HeightCells name.HeightPixels name.HeightPercent d
 
 module _ {A : Type 0} where
   -- what a file is shown as, and what it holds

@@ -8,7 +8,7 @@ ghost use Rattle.memory.specs.Refusals.{Refused};
 use crate::field_name::FieldName;
 use crate::fielded::append_each;
 use crate::fields::Fields;
-use crate::image_numbers::{counted, flagged, known};
+use crate::image_numbers::flagged;
 use esc_kitty::KittyImageDelete as Delete;
 use std::alloc::{AllocError, Allocator};
 
@@ -62,8 +62,8 @@ fn append_cell<A: Allocator>(
     ensures refused { OnErr result (Refused A) }
 {
     let numbers = [
-        (FieldName::X, known(x)),
-        (FieldName::Y, known(y)),
+        (FieldName::X, Some(x)),
+        (FieldName::Y, Some(y)),
         (FieldName::DeletesData, flagged(delete)),
     ];
     append_each(&numbers, fields)
@@ -82,13 +82,9 @@ fn append_cell_at<A: Allocator>(
         ∷ (name.DeletesData, flagged delete) ∷ []))) }
     ensures refused { OnErr result (Refused A) }
 {
-    let numbers = [
-        (FieldName::X, known(x)),
-        (FieldName::Y, known(y)),
-        (FieldName::ZIndex, Some(i64::from(z))),
-        (FieldName::DeletesData, flagged(delete)),
-    ];
-    append_each(&numbers, fields)
+    let numbers = [(FieldName::X, Some(x)), (FieldName::Y, Some(y))];
+    append_each(&numbers, fields)?;
+    append_order(z, delete, fields)
 }
 
 // An order, and whether the data too.
@@ -101,11 +97,8 @@ fn append_order<A: Allocator>(
         ((name.ZIndex, Some z) ∷ (name.DeletesData, flagged delete) ∷ []))) }
     ensures refused { OnErr result (Refused A) }
 {
-    let numbers = [
-        (FieldName::ZIndex, Some(i64::from(z))),
-        (FieldName::DeletesData, flagged(delete)),
-    ];
-    append_each(&numbers, fields)
+    fields.push_number(FieldName::ZIndex, i64::from(z))?;
+    append_flag(delete, fields)
 }
 
 // The first id and the last, and whether the data too.
@@ -121,8 +114,8 @@ fn append_range<A: Allocator>(
     ensures refused { OnErr result (Refused A) }
 {
     let numbers = [
-        (FieldName::FirstImageId, known(first)),
-        (FieldName::LastImageId, known(last)),
+        (FieldName::FirstImageId, Some(first)),
+        (FieldName::LastImageId, Some(last)),
         (FieldName::DeletesData, flagged(delete)),
     ];
     append_each(&numbers, fields)
@@ -149,7 +142,7 @@ fn append_one<A: Allocator>(
     ensures refused { OnErr result (Refused A) }
 {
     let numbers = [
-        (part, known(number)),
+        (part, Some(number)),
         (FieldName::DeletesData, flagged(delete)),
     ];
     append_each(&numbers, fields)
@@ -169,8 +162,8 @@ fn append_image_id<A: Allocator>(
     ensures refused { OnErr result (Refused A) }
 {
     let numbers = [
-        (part, known(number)),
-        (FieldName::PlacementId, counted(placement)),
+        (part, Some(number)),
+        (FieldName::PlacementId, placement),
         (FieldName::DeletesData, flagged(delete)),
     ];
     append_each(&numbers, fields)

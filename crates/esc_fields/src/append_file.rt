@@ -1,12 +1,14 @@
 //! The fields of files. An error is that memory was refused.
 ghost use Rattle.std.specs.Prelude.{◌≡◌, OnOk, OnErr};
 ghost use Rattle.esc_fields.specs.Fields.{with_fields};
-ghost use Rattle.esc_fields.specs.Proprietary.{file_fields, height_fields, shown_fields, size_fields, width_fields};
+ghost use Rattle.esc_fields.specs.Proprietary.{dimension_fields, file_fields, shown_fields, size_fields};
 ghost use Rattle.memory.specs.Refusals.{Refused};
 
 use crate::append_proprietary::append_optional;
 use crate::field_name::FieldName;
+use crate::fielded::append_each;
 use crate::fields::Fields;
+use crate::image_numbers::flagged;
 use esc_iterm::{ITermDimension, ITermFileData};
 use std::alloc::{AllocError, Allocator};
 
@@ -21,8 +23,20 @@ pub(crate) fn append_file<A: Allocator>(
 {
     append_optional(FieldName::Name, &file.name, fields)?;
     append_size(file.size, fields)?;
-    append_width(file.width, fields)?;
-    append_height(file.height, fields)?;
+    append_dimension(
+        file.width,
+        FieldName::WidthCells,
+        FieldName::WidthPixels,
+        FieldName::WidthPercent,
+        fields,
+    )?;
+    append_dimension(
+        file.height,
+        FieldName::HeightCells,
+        FieldName::HeightPixels,
+        FieldName::HeightPercent,
+        fields,
+    )?;
     append_shown(file, fields)
 }
 
@@ -34,9 +48,15 @@ fn append_shown<A: Allocator>(
     ensures ok { OnOk result (fields.new ≡ with_fields fields.old (shown_fields file.now)) }
     ensures refused { OnErr result (Refused A) }
 {
-    fields.push_flag(FieldName::PreserveAspectRatio, file.preserve_aspect_ratio)?;
-    fields.push_flag(FieldName::Inline, file.inline)?;
-    fields.push_flag(FieldName::DoNotMoveCursor, file.do_not_move_cursor)?;
+    let flags = [
+        (
+            FieldName::PreserveAspectRatio,
+            flagged(file.preserve_aspect_ratio),
+        ),
+        (FieldName::Inline, flagged(file.inline)),
+        (FieldName::DoNotMoveCursor, flagged(file.do_not_move_cursor)),
+    ];
+    append_each(&flags, fields)?;
     fields.push_text(FieldName::Content, file.content.as_slice())
 }
 
@@ -51,34 +71,22 @@ fn append_size<A: Allocator>(size: Option<usize>, fields: &mut Fields<A>) -> Res
     }
 }
 
-// Its width.
-fn append_width<A: Allocator>(
-    width: ITermDimension,
+// A dimension, under the name of its unit.
+fn append_dimension<A: Allocator>(
+    dimension: ITermDimension,
+    cells: FieldName,
+    pixels: FieldName,
+    percent: FieldName,
     fields: &mut Fields<A>,
 ) -> Result<(), AllocError>
-    ensures ok { OnOk result (fields.new ≡ with_fields fields.old (width_fields width)) }
+    ensures ok { OnOk result (fields.new
+        ≡ with_fields fields.old (dimension_fields cells pixels percent dimension)) }
     ensures refused { OnErr result (Refused A) }
 {
-    match width {
+    match dimension {
         ITermDimension::Automatic => Ok(()),
-        ITermDimension::Cells(number) => fields.push_number(FieldName::WidthCells, number),
-        ITermDimension::Pixels(number) => fields.push_number(FieldName::WidthPixels, number),
-        ITermDimension::Percent(number) => fields.push_number(FieldName::WidthPercent, number),
-    }
-}
-
-// Its height.
-fn append_height<A: Allocator>(
-    height: ITermDimension,
-    fields: &mut Fields<A>,
-) -> Result<(), AllocError>
-    ensures ok { OnOk result (fields.new ≡ with_fields fields.old (height_fields height)) }
-    ensures refused { OnErr result (Refused A) }
-{
-    match height {
-        ITermDimension::Automatic => Ok(()),
-        ITermDimension::Cells(number) => fields.push_number(FieldName::HeightCells, number),
-        ITermDimension::Pixels(number) => fields.push_number(FieldName::HeightPixels, number),
-        ITermDimension::Percent(number) => fields.push_number(FieldName::HeightPercent, number),
+        ITermDimension::Cells(number) => fields.push_number(cells, number),
+        ITermDimension::Pixels(number) => fields.push_number(pixels, number),
+        ITermDimension::Percent(number) => fields.push_number(percent, number),
     }
 }

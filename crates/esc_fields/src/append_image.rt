@@ -10,7 +10,7 @@ use crate::append_numbers::{append_compose, append_frame, append_placement, appe
 use crate::field_name::FieldName;
 use crate::fielded::append_each;
 use crate::fields::Fields;
-use crate::image_numbers::{counted, verbosity_number};
+use crate::image_numbers::verbosity_number;
 use esc_kitty::{
     KittyImage, KittyImageFrame, KittyImageFrameCompose, KittyImagePlacement, KittyImageTransmit,
     KittyImageVerbosity,
@@ -129,8 +129,8 @@ fn append_ids<A: Allocator>(
     ensures refused { OnErr result (Refused A) }
 {
     let ids = [
-        (FieldName::ImageId, counted(image_id)),
-        (FieldName::ImageNumber, counted(image_number)),
+        (FieldName::ImageId, image_id),
+        (FieldName::ImageNumber, image_number),
     ];
     append_each(&ids, fields)
 }

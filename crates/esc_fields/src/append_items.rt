@@ -6,7 +6,7 @@ ghost use Rattle.esc_fields.specs.Fields.{with_fields};
 ghost use Rattle.memory.specs.Refusals.{Refused};
 
 use crate::field_name::FieldName;
-use crate::fielded::Fielded;
+use crate::fielded::{Fielded, append_each};
 use crate::fields::Fields;
 use esc_osc_values::{ChangeColorPair, ColorOrQuery, Progress};
 use esc_values::Items;
@@ -19,9 +19,12 @@ impl<A: Allocator> Fielded<A> for ColorOrQuery {
     fn append_to(&self, fields: &mut Fields<A>) -> Result<(), AllocError> {
         match self {
             ColorOrQuery::Color(color) => {
-                fields.push_number(FieldName::Red, i64::from(color.red))?;
-                fields.push_number(FieldName::Green, i64::from(color.green))?;
-                fields.push_number(FieldName::Blue, i64::from(color.blue))
+                let numbers = [
+                    (FieldName::Red, Some(u32::from(color.red))),
+                    (FieldName::Green, Some(u32::from(color.green))),
+                    (FieldName::Blue, Some(u32::from(color.blue))),
+                ];
+                append_each(&numbers, fields)
             }
             ColorOrQuery::Query => fields.push_number(FieldName::Query, 1),
         }
@@ -64,17 +67,16 @@ pub(crate) fn append_progress<A: Allocator>(
     ensures ok { OnOk result (fields.new ≡ with_fields fields.old (progress_fields progress.now)) }
     ensures refused { OnErr result (Refused A) }
 {
-    match progress {
-        Progress::None => fields.push_number(FieldName::ProgressState, 0),
-        Progress::SetPercentage(percent) => {
-            fields.push_number(FieldName::ProgressState, 1)?;
-            fields.push_number(FieldName::Percent, i64::from(*percent))
-        }
-        Progress::SetError(percent) => {
-            fields.push_number(FieldName::ProgressState, 2)?;
-            fields.push_number(FieldName::Percent, i64::from(*percent))
-        }
-        Progress::SetIndeterminate => fields.push_number(FieldName::ProgressState, 3),
-        Progress::Paused => fields.push_number(FieldName::ProgressState, 4),
-    }
+    let (state, percent) = match progress {
+        Progress::None => (0, None),
+        Progress::SetPercentage(percent) => (1, Some(u32::from(*percent))),
+        Progress::SetError(percent) => (2, Some(u32::from(*percent))),
+        Progress::SetIndeterminate => (3, None),
+        Progress::Paused => (4, None),
+    };
+    let numbers = [
+        (FieldName::ProgressState, Some(state)),
+        (FieldName::Percent, percent),
+    ];
+    append_each(&numbers, fields)
 }

@@ -2,7 +2,7 @@
 //! refused.
 ghost use Rattle.std.specs.Prelude.{◌≡◌, ◌∷◌, OnOk, OnErr};
 ghost use Rattle.esc_fields.specs.Fields.{with_fields};
-ghost use Rattle.esc_fields.specs.Images.{compose_numbers, content_field, frame_numbers, given, number_fields, placement_numbers, transmit_numbers};
+ghost use Rattle.esc_fields.specs.Images.{compose_numbers, content_field, counted, frame_numbers, given, number_fields, optional_field, placement_numbers, transmit_numbers};
 ghost use Rattle.memory.specs.Refusals.{Refused};
 
 use crate::field_name::FieldName;
@@ -26,6 +26,18 @@ impl<A: Allocator> Fielded<A> for (FieldName, Option<i64>) {
     }
 }
 
+// One from 0 up.
+impl<A: Allocator> Fielded<A> for (FieldName, Option<u32>) {
+    ghost parts = { λ s. optional_field s.0 (counted s.1) };
+
+    fn append_to(&self, fields: &mut Fields<A>) -> Result<(), AllocError> {
+        match self.1 {
+            Some(number) => fields.push_number(self.0, i64::from(number)),
+            None => Ok(()),
+        }
+    }
+}
+
 // An image on its way to the terminal.
 pub(crate) fn append_transmit<A: Allocator>(
     transmit: &KittyImageTransmit<A>,
@@ -42,10 +54,10 @@ pub(crate) fn append_transmit<A: Allocator>(
         (FieldName::DataSize, data_size(content)),
         (FieldName::DataOffset, data_offset(content)),
         (FieldName::Format, format(transmit.format)),
-        (FieldName::PixelWidth, counted(transmit.width)),
-        (FieldName::PixelHeight, counted(transmit.height)),
-        (FieldName::ImageId, counted(transmit.image_id)),
-        (FieldName::ImageNumber, counted(transmit.image_number)),
+        (FieldName::PixelWidth, transmit.width),
+        (FieldName::PixelHeight, transmit.height),
+        (FieldName::ImageId, transmit.image_id),
+        (FieldName::ImageNumber, transmit.image_number),
         (FieldName::Compression, compression(transmit.compression)),
         (
             FieldName::MoreDataFollows,
@@ -80,12 +92,12 @@ pub(crate) fn append_placement<A: Allocator>(
         (FieldName::PlacementId, counted(placement.placement_id)),
         (
             FieldName::DoNotMoveCursor,
-            flagged(placement.do_not_move_cursor),
+            counted(flagged(placement.do_not_move_cursor)),
         ),
         (FieldName::ZIndex, z_index),
         (
             FieldName::UnicodePlaceholder,
-            flagged(placement.unicode_placeholder),
+            counted(flagged(placement.unicode_placeholder)),
         ),
     ];
     append_each(&numbers, fields)
@@ -101,16 +113,16 @@ pub(crate) fn append_frame<A: Allocator>(
     ensures refused { OnErr result (Refused A) }
 {
     let numbers = [
-        (FieldName::X, counted(frame.x)),
-        (FieldName::Y, counted(frame.y)),
-        (FieldName::BaseFrame, counted(frame.base_frame)),
-        (FieldName::FrameNumber, counted(frame.frame_number)),
-        (FieldName::Duration, counted(frame.duration_ms)),
+        (FieldName::X, frame.x),
+        (FieldName::Y, frame.y),
+        (FieldName::BaseFrame, frame.base_frame),
+        (FieldName::FrameNumber, frame.frame_number),
+        (FieldName::Duration, frame.duration_ms),
         (
             FieldName::CompositionMode,
             composition(frame.composition_mode),
         ),
-        (FieldName::BackgroundPixel, counted(frame.background_pixel)),
+        (FieldName::BackgroundPixel, frame.background_pixel),
     ];
     append_each(&numbers, fields)
 }
@@ -125,16 +137,16 @@ pub(crate) fn append_compose<A: Allocator>(
     ensures refused { OnErr result (Refused A) }
 {
     let numbers = [
-        (FieldName::ImageId, counted(frame.image_id)),
-        (FieldName::ImageNumber, counted(frame.image_number)),
-        (FieldName::TargetFrame, counted(frame.target_frame)),
-        (FieldName::SourceFrame, counted(frame.source_frame)),
-        (FieldName::X, counted(frame.x)),
-        (FieldName::Y, counted(frame.y)),
-        (FieldName::Width, counted(frame.w)),
-        (FieldName::Height, counted(frame.h)),
-        (FieldName::SourceX, counted(frame.src_x)),
-        (FieldName::SourceY, counted(frame.src_y)),
+        (FieldName::ImageId, frame.image_id),
+        (FieldName::ImageNumber, frame.image_number),
+        (FieldName::TargetFrame, frame.target_frame),
+        (FieldName::SourceFrame, frame.source_frame),
+        (FieldName::X, frame.x),
+        (FieldName::Y, frame.y),
+        (FieldName::Width, frame.w),
+        (FieldName::Height, frame.h),
+        (FieldName::SourceX, frame.src_x),
+        (FieldName::SourceY, frame.src_y),
         (
             FieldName::CompositionMode,
             composition(frame.composition_mode),

@@ -1,7 +1,7 @@
 //! The fields of lists, item by item. An error is that memory was refused.
 ghost use Rattle.std.specs.Prelude.{◌≡◌, ◌∷◌, [], OnOk, OnErr};
 ghost use Rattle.std.specs.List.{flat_map};
-ghost use Rattle.esc_fields.specs.Fields.{Field, text_field, with_fields};
+ghost use Rattle.esc_fields.specs.Fields.{text_field, with_fields};
 ghost use Rattle.memory.specs.Refusals.{Refused};
 
 use crate::field_name::FieldName;

@@ -1,7 +1,7 @@
 //! The numbers of what kitty's protocol has words for.
-ghost use Rattle.std.specs.Prelude.{◌≡◌, pos};
+ghost use Rattle.std.specs.Prelude.{◌≡◌, Some};
 ghost use Rattle.std.specs.Option.{option_map};
-ghost use Rattle.esc_fields.specs.Images.{bytes_of, composition_number, compression_number, counted, flagged, format_number, known, medium_number, verbosity_number};
+ghost use Rattle.esc_fields.specs.Images.{bytes_of, composition_number, compression_number, counted, flagged, format_number, medium_number, verbosity_number};
 ghost use Rattle.esc_kitty.specs.Texts.{offset_in, size_in};
 
 use esc_kitty::{
@@ -20,23 +20,16 @@ pub(crate) fn counted(number: Option<u32>) -> Option<i64>
     }
 }
 
-// A number from 0 up.
-pub(crate) fn known(number: u32) -> Option<i64>
-    ensures { result ≡ known number }
-{
-    Some(i64::from(number))
-}
-
 // A flag.
-pub(crate) fn flagged(flag: bool) -> Option<i64>
-    ensures { result ≡ flagged flag }
+pub(crate) fn flagged(flag: bool) -> Option<u32>
+    ensures { counted result ≡ flagged flag }
 {
     Some(if flag { 1 } else { 0 })
 }
 
 // What is reported.
-pub(crate) fn verbosity_number(verbosity: KittyImageVerbosity) -> Option<i64>
-    ensures { result ≡ known (verbosity_number verbosity) }
+pub(crate) fn verbosity_number(verbosity: KittyImageVerbosity) -> Option<u32>
+    ensures { result ≡ Some (verbosity_number verbosity) }
 {
     match verbosity {
         KittyImageVerbosity::Verbose => Some(0),
@@ -46,8 +39,8 @@ pub(crate) fn verbosity_number(verbosity: KittyImageVerbosity) -> Option<i64>
 }
 
 // The format of pixels, where it is given.
-pub(crate) fn format(format: Option<KittyImageFormat>) -> Option<i64>
-    ensures { result ≡ counted (option_map format_number format) }
+pub(crate) fn format(format: Option<KittyImageFormat>) -> Option<u32>
+    ensures { result ≡ option_map format_number format }
 {
     match format {
         None => None,
@@ -58,8 +51,8 @@ pub(crate) fn format(format: Option<KittyImageFormat>) -> Option<i64>
 }
 
 // How pixels are compressed.
-pub(crate) fn compression(compression: KittyImageCompression) -> Option<i64>
-    ensures { result ≡ known (compression_number compression) }
+pub(crate) fn compression(compression: KittyImageCompression) -> Option<u32>
+    ensures { result ≡ Some (compression_number compression) }
 {
     match compression {
         KittyImageCompression::None => Some(0),
@@ -68,8 +61,8 @@ pub(crate) fn compression(compression: KittyImageCompression) -> Option<i64>
 }
 
 // How pixels are put over others.
-pub(crate) fn composition(mode: KittyFrameCompositionMode) -> Option<i64>
-    ensures { result ≡ known (composition_number mode) }
+pub(crate) fn composition(mode: KittyFrameCompositionMode) -> Option<u32>
+    ensures { result ≡ Some (composition_number mode) }
 {
     match mode {
         KittyFrameCompositionMode::AlphaBlending => Some(0),
@@ -78,8 +71,8 @@ pub(crate) fn composition(mode: KittyFrameCompositionMode) -> Option<i64>
 }
 
 // Which of five it is that an image is made of.
-pub(crate) fn medium<A: Allocator>(content: &KittyImageData<A>) -> Option<i64>
-    ensures { result ≡ known (medium_number content.now) }
+pub(crate) fn medium<A: Allocator>(content: &KittyImageData<A>) -> Option<u32>
+    ensures { result ≡ Some (medium_number content.now) }
 {
     match content {
         KittyImageData::Direct(_) => Some(0),
@@ -91,26 +84,26 @@ pub(crate) fn medium<A: Allocator>(content: &KittyImageData<A>) -> Option<i64>
 }
 
 // How many bytes it has, where they are given.
-pub(crate) fn data_size<A: Allocator>(content: &KittyImageData<A>) -> Option<i64>
-    ensures { result ≡ counted (size_in content.now) }
+pub(crate) fn data_size<A: Allocator>(content: &KittyImageData<A>) -> Option<u32>
+    ensures { result ≡ size_in content.now }
 {
     match content {
         KittyImageData::Direct(_) | KittyImageData::DirectBin(_) => None,
-        KittyImageData::File { data_size, .. } => counted(*data_size),
-        KittyImageData::TemporaryFile { data_size, .. } => counted(*data_size),
-        KittyImageData::SharedMem { data_size, .. } => counted(*data_size),
+        KittyImageData::File { data_size, .. } => *data_size,
+        KittyImageData::TemporaryFile { data_size, .. } => *data_size,
+        KittyImageData::SharedMem { data_size, .. } => *data_size,
     }
 }
 
 // How many bytes come before them, where they are given.
-pub(crate) fn data_offset<A: Allocator>(content: &KittyImageData<A>) -> Option<i64>
-    ensures { result ≡ counted (offset_in content.now) }
+pub(crate) fn data_offset<A: Allocator>(content: &KittyImageData<A>) -> Option<u32>
+    ensures { result ≡ offset_in content.now }
 {
     match content {
         KittyImageData::Direct(_) | KittyImageData::DirectBin(_) => None,
-        KittyImageData::File { data_offset, .. } => counted(*data_offset),
-        KittyImageData::TemporaryFile { data_offset, .. } => counted(*data_offset),
-        KittyImageData::SharedMem { data_offset, .. } => counted(*data_offset),
+        KittyImageData::File { data_offset, .. } => *data_offset,
+        KittyImageData::TemporaryFile { data_offset, .. } => *data_offset,
+        KittyImageData::SharedMem { data_offset, .. } => *data_offset,
     }
 }
 

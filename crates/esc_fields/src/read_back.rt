@@ -1,7 +1,7 @@
 //! The command of a kind and fields.
 ghost use Rattle.std.specs.Prelude.{◌≡◌, ◌↔◌, IfOk, IfSome, IsTrue, None, OnErr};
 ghost use Rattle.esc_fields.specs.Fields.{said};
-ghost use Rattle.esc_fields.specs.Found.{kept};
+ghost use Rattle.esc_fields.specs.Found.{held, kept};
 ghost use Rattle.esc_fields.specs.FoundCommands.{command_in, form_at};
 ghost use Rattle.esc_fields.specs.Held.{Has, IsHeld};
 ghost use Rattle.esc_osc.specs.declared.command.OperatingSystemCommand.{OperatingSystemCommand};
@@ -42,7 +42,7 @@ fn command_said<A: Allocator + Copy>(
     rows: &[FieldRow],
     text: &[u8],
 ) -> Result<Command<A>, AllocError>
-    ensures ok { IfOk result (λ c. c ≡ command_in (form_at kind) (said (rows.now, text.now))) }
+    ensures ok { IfOk result (λ c. c ≡ command_in held (form_at kind) (said (rows.now, text.now))) }
     ensures refused { OnErr result (Refused A) }
 {
     let fields = said_by(alloc, rows, text)?;
@@ -74,7 +74,14 @@ pub fn has_fields<A: Allocator + Copy>(
 {
     let fields = Fields::of(alloc, command)?;
     let same_kind = CommandKind::of(command).number() == kind;
-    Ok(same_kind && are_rows(fields.rows(), rows) && fields.text() == text)
+    Ok(same_kind && are_those(&fields, rows, text))
+}
+
+// Whether the fields have these rows and texts.
+fn are_those<A: Allocator>(fields: &Fields<A>, rows: &[FieldRow], text: &[u8]) -> bool
+    ensures { IsTrue result ↔ (fields.now ≡ (rows.now, text.now)) }
+{
+    are_rows(fields.rows(), rows) && fields.text() == text
 }
 
 // Whether the rows are those.

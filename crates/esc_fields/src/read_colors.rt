@@ -1,7 +1,8 @@
 //! Colours, dynamic colours and the progress of a task that rows say. An error is that memory was
 //! refused.
 ghost use Rattle.std.specs.Prelude.{◌≡◌, IfOk, OnErr};
-ghost use Rattle.esc_fields.specs.FoundItems.{colors_after, dynamic_of, known, nothing, pairs_after, progress_in, whole};
+ghost use Rattle.esc_fields.specs.Found.{held};
+ghost use Rattle.esc_fields.specs.FoundItems.{dynamic_of, items_after, known, nothing, placed, progress_in, whole};
 ghost use Rattle.memory.specs.Refusals.{Refused};
 
 use crate::field_name::FieldName;
@@ -27,7 +28,7 @@ const NOTHING: Known = Known {
 
 // The same with a row more.
 fn known_with(before: Known, field: &Said<'_>) -> Known
-    ensures { result ≡ known before field.now }
+    ensures { result ≡ known held before field.now }
 {
     Known {
         place: if field.is(FieldName::PaletteIndex) {
@@ -50,7 +51,7 @@ fn known_with(before: Known, field: &Said<'_>) -> Known
 
 // The colour that is whole with a row.
 fn whole(before: Known, field: &Said<'_>) -> Option<ColorOrQuery>
-    ensures { result ≡ whole before field.now }
+    ensures { result ≡ whole held before field.now }
 {
     if field.is(FieldName::Blue) {
         Some(ColorOrQuery::Color(Color16 {
@@ -65,45 +66,56 @@ fn whole(before: Known, field: &Said<'_>) -> Option<ColorOrQuery>
     }
 }
 
-// Places of the palette, each with its colour.
-pub(crate) fn pairs<A: Allocator>(
-    alloc: A,
-    fields: &[Said<'_>],
-) -> Result<Items<ChangeColorPair, A>, AllocError>
-    ensures ok { IfOk result (λ v. v ≡ pairs_after nothing fields.now) }
-    ensures refused { OnErr result (Refused A) }
-{
-    let mut pairs = Items::new(alloc);
-    let mut before = NOTHING;
-    for field in fields {
-        let pair = match whole(before, field) {
-            Some(color) => Some(ChangeColorPair {
-                palette_index: before.place,
-                color,
-            }),
-            None => None,
-        };
-        pairs.push_optional(pair)?;
-        before = known_with(before, field);
-    }
-    Ok(pairs)
+// An item that a colour makes, with the place of the palette before it.
+pub(crate) trait Colored {
+    ghost use Rattle.std.specs.Prelude.{ℕ};
+    ghost use Rattle.esc_osc_values.specs.declared.color_or_query.ColorOrQuery.{ColorOrQuery};
+
+    ghost colored: { ℕ → ColorOrQuery → Self };
+
+    // The item.
+    fn of(place: u8, color: ColorOrQuery) -> Self
+        ensures { result ≡ colored place color };
 }
 
-// Colours.
-pub(crate) fn colors<A: Allocator>(
+impl Colored for ChangeColorPair {
+    ghost colored = { placed };
+
+    fn of(place: u8, color: ColorOrQuery) -> ChangeColorPair {
+        ChangeColorPair {
+            palette_index: place,
+            color,
+        }
+    }
+}
+
+impl Colored for ColorOrQuery {
+    ghost colored = { λ n c. c };
+
+    fn of(_place: u8, color: ColorOrQuery) -> ColorOrQuery {
+        color
+    }
+}
+
+// Items, each with its colour.
+pub(crate) fn colored_items<A: Allocator, T: Colored + Drop>(
     alloc: A,
     fields: &[Said<'_>],
-) -> Result<Items<ColorOrQuery, A>, AllocError>
-    ensures ok { IfOk result (λ v. v ≡ colors_after nothing fields.now) }
+) -> Result<Items<T, A>, AllocError>
+    ensures ok { IfOk result (λ v. v ≡ items_after held T.colored nothing fields.now) }
     ensures refused { OnErr result (Refused A) }
 {
-    let mut colors = Items::new(alloc);
+    let mut items = Items::new(alloc);
     let mut before = NOTHING;
     for field in fields {
-        colors.push_optional(whole(before, field))?;
+        let item = match whole(before, field) {
+            Some(color) => Some(T::of(before.place, color)),
+            None => None,
+        };
+        items.push_optional(item)?;
         before = known_with(before, field);
     }
-    Ok(colors)
+    Ok(items)
 }
 
 // A dynamic colour.
@@ -118,7 +130,7 @@ pub(crate) fn dynamic(field: &Said<'_>) -> DynamicColorNumber
 
 // The progress of a task.
 pub(crate) fn progress(fields: &[Said<'_>]) -> Progress
-    ensures { result ≡ progress_in fields.now }
+    ensures { result ≡ progress_in held fields.now }
 {
     let percent = first(after(fields)).byte();
     match first(fields).count() {

@@ -1,11 +1,11 @@
 //! The command that rows say. An error is that memory was refused.
 ghost use Rattle.std.specs.Prelude.{◌≡◌, IfOk, OnErr};
-ghost use Rattle.esc_fields.specs.Found.{channel_of, first};
+ghost use Rattle.esc_fields.specs.Found.{channel_of, first, held};
 ghost use Rattle.esc_fields.specs.FoundCommands.{command_in, other_in, titled};
 ghost use Rattle.memory.specs.Refusals.{Refused};
 
 use crate::kinds::{Form, OtherKind, TitleKind};
-use crate::read_colors::{colors, dynamic, pairs, progress};
+use crate::read_colors::{colored_items, dynamic, progress};
 use crate::read_iterm::{iterm, marked, texted};
 use crate::read_link::link;
 use crate::read_lists::items;
@@ -22,7 +22,7 @@ pub(crate) fn command<A: Allocator + Copy>(
     form: Form,
     fields: &[Said<'_>],
 ) -> Result<Command<A>, AllocError>
-    ensures ok { IfOk result (λ c. c ≡ command_in form fields.now) }
+    ensures ok { IfOk result (λ c. c ≡ command_in held form fields.now) }
     ensures refused { OnErr result (Refused A) }
 {
     match form {
@@ -59,7 +59,7 @@ fn other<A: Allocator + Copy>(
     kind: OtherKind,
     fields: &[Said<'_>],
 ) -> Result<Command<A>, AllocError>
-    ensures ok { IfOk result (λ c. c ≡ other_in kind fields.now) }
+    ensures ok { IfOk result (λ c. c ≡ other_in held kind fields.now) }
     ensures refused { OnErr result (Refused A) }
 {
     match kind {
@@ -67,15 +67,9 @@ fn other<A: Allocator + Copy>(
         OtherKind::Hyperlink => Ok(Command::SetHyperlink(link(alloc, fields)?)),
         OtherKind::ClearSelection => Ok(Command::ClearSelection(selection(fields))),
         OtherKind::QuerySelection => Ok(Command::QuerySelection(selection(fields))),
-        OtherKind::SetSelection => {
-            let text = first(after(fields)).string(alloc)?;
-            Ok(Command::SetSelection(selection(fields), text))
-        }
-        OtherKind::ColorNumber => Ok(Command::ChangeColorNumber(pairs(alloc, fields)?)),
-        OtherKind::DynamicColors => {
-            let colors = colors(alloc, after(fields))?;
-            Ok(Command::ChangeDynamicColors(dynamic(&first(fields)), colors))
-        }
+        OtherKind::SetSelection => selected(alloc, fields),
+        OtherKind::ColorNumber => Ok(Command::ChangeColorNumber(colored_items(alloc, fields)?)),
+        OtherKind::DynamicColors => dynamic_colors(alloc, fields),
         OtherKind::ResetDynamicColor => Ok(Command::ResetDynamicColor(dynamic(&first(fields)))),
         OtherKind::ResetColors => Ok(Command::ResetColors(items(alloc, fields)?)),
         OtherKind::Rxvt => Ok(Command::RxvtExtension(items(alloc, fields)?)),
@@ -85,7 +79,25 @@ fn other<A: Allocator + Copy>(
 
 // Which selections.
 fn selection(fields: &[Said<'_>]) -> Selection
-    ensures { result ≡ record { 0 = channel_of (first fields.now) } }
+    ensures { result ≡ record { 0 = channel_of held (first fields.now) } }
 {
     Selection::from_bits_retain(first(fields).channel())
+}
+
+// Which selections, and their text.
+fn selected<A: Allocator>(alloc: A, fields: &[Said<'_>]) -> Result<Command<A>, AllocError>
+    ensures ok { IfOk result (λ c. c ≡ other_in held OtherKind.SetSelection fields.now) }
+    ensures refused { OnErr result (Refused A) }
+{
+    let text = first(after(fields)).string(alloc)?;
+    Ok(Command::SetSelection(selection(fields), text))
+}
+
+// A dynamic colour, and colours for it and those after it.
+fn dynamic_colors<A: Allocator>(alloc: A, fields: &[Said<'_>]) -> Result<Command<A>, AllocError>
+    ensures ok { IfOk result (λ c. c ≡ other_in held OtherKind.DynamicColors fields.now) }
+    ensures refused { OnErr result (Refused A) }
+{
+    let colors = colored_items(alloc, after(fields))?;
+    Ok(Command::ChangeDynamicColors(dynamic(&first(fields)), colors))
 }

@@ -1,5 +1,6 @@
 //! Files that rows say. An error is that memory was refused.
 ghost use Rattle.std.specs.Prelude.{◌≡◌, IfOk, OnErr};
+ghost use Rattle.esc_fields.specs.Found.{held};
 ghost use Rattle.esc_fields.specs.FoundPrompts.{dimension_in, file_in, height_in, past_height, past_width, size_in, width_in};
 ghost use Rattle.memory.specs.Refusals.{Refused};
 
@@ -15,7 +16,7 @@ pub(crate) fn file<A: Allocator + Copy>(
     alloc: A,
     fields: &[Said<'_>],
 ) -> Result<ITermFileData<A>, AllocError>
-    ensures ok { IfOk result (λ f. f ≡ file_in fields.now) }
+    ensures ok { IfOk result (λ f. f ≡ file_in held fields.now) }
     ensures refused { OnErr result (Refused A) }
 {
     let name = text(alloc, FieldName::Name, fields)?;

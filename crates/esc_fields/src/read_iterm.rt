@@ -1,6 +1,6 @@
 //! Commands of iTerm2 that rows say. An error is that memory was refused.
 ghost use Rattle.std.specs.Prelude.{◌≡◌, IfOk, OnErr};
-ghost use Rattle.esc_fields.specs.Found.{first, second, string_of};
+ghost use Rattle.esc_fields.specs.Found.{first, held, second, string_of};
 ghost use Rattle.esc_fields.specs.FoundPrompts.{cell_size_in, iterm_in, iterm_marked, iterm_texted, scale_in};
 ghost use Rattle.esc_iterm.specs.declared.proprietary.ITermProprietary.TheVariants as iterm;
 ghost use Rattle.memory.specs.Refusals.{Refused};
@@ -47,7 +47,7 @@ pub(crate) fn iterm<A: Allocator + Copy>(
     kind: ITermKind,
     fields: &[Said<'_>],
 ) -> Result<ITermProprietary<A>, AllocError>
-    ensures ok { IfOk result (λ c. c ≡ iterm_in kind fields.now) }
+    ensures ok { IfOk result (λ c. c ≡ iterm_in held kind fields.now) }
     ensures refused { OnErr result (Refused A) }
 {
     match kind {
@@ -74,7 +74,7 @@ pub(crate) fn iterm<A: Allocator + Copy>(
 
 // The size of a cell.
 fn cell_size<A: Allocator>(fields: &[Said<'_>]) -> ITermProprietary<A>
-    ensures { result ≡ cell_size_in fields.now }
+    ensures { result ≡ cell_size_in held fields.now }
 {
     ITermProprietary::ReportCellSize {
         height_pixels: first(fields).length(),
@@ -89,7 +89,7 @@ fn variable<A: Allocator + Copy>(
     fields: &[Said<'_>],
 ) -> Result<ITermProprietary<A>, AllocError>
     ensures ok { IfOk result (λ c. c
-        ≡ iterm.SetUserVar (string_of (first fields.now)) (string_of (second fields.now))) }
+        ≡ iterm.SetUserVar (string_of held (first fields.now)) (string_of held (second fields.now))) }
     ensures refused { OnErr result (Refused A) }
 {
     let name = first(fields).string(alloc)?;
@@ -99,7 +99,7 @@ fn variable<A: Allocator + Copy>(
 
 // The scale of a cell's size, where it was reported.
 fn scale(fields: &[Said<'_>]) -> Option<u32>
-    ensures { result ≡ scale_in fields.now }
+    ensures { result ≡ scale_in held fields.now }
 {
     match named(FieldName::Scale, fields) {
         Some(field) => Some(field.length()),

@@ -1,7 +1,7 @@
 //! Links that rows say. An error is that memory was refused.
 ghost use Rattle.std.specs.Prelude.{◌≡◌, [], IfOk, OnErr, OnOk};
 ghost use Rattle.esc_links.specs.Hyperlinks.{put, put_all};
-ghost use Rattle.esc_fields.specs.Found.{parameters, string_of};
+ghost use Rattle.esc_fields.specs.Found.{held, parameters, string_of};
 ghost use Rattle.esc_fields.specs.FoundItems.{link_in};
 ghost use Rattle.memory.specs.Refusals.{Refused};
 
@@ -14,7 +14,7 @@ pub(crate) fn link<A: Allocator + Copy>(
     alloc: A,
     fields: &[Said<'_>],
 ) -> Result<Option<Hyperlink<A>>, AllocError>
-    ensures ok { IfOk result (λ h. h ≡ link_in fields.now) }
+    ensures ok { IfOk result (λ h. h ≡ link_in held fields.now) }
     ensures refused { OnErr result (Refused A) }
 {
     let [uri, implicit, pairs @ ..] = fields else {
@@ -31,7 +31,7 @@ pub(crate) fn link<A: Allocator + Copy>(
 
 // The keys of a link with their values.
 fn params<A: Allocator + Copy>(alloc: A, fields: &[Said<'_>]) -> Result<Params<A>, AllocError>
-    ensures ok { IfOk result (λ p. p ≡ put_all [] (parameters fields.now)) }
+    ensures ok { IfOk result (λ p. p ≡ put_all [] (parameters held fields.now)) }
     ensures refused { OnErr result (Refused A) }
 {
     let mut params = Params::new(alloc);
@@ -51,7 +51,7 @@ fn insert<A: Allocator + Copy>(
     params: &mut Params<A>,
 ) -> Result<(), AllocError>
     ensures ok { OnOk result
-        (params.new ≡ put (string_of key.now.1) (string_of value.now.1) params.old) }
+        (params.new ≡ put (string_of held key.now.1) (string_of held value.now.1) params.old) }
     ensures refused { OnErr result (Refused A) }
 {
     let key = key.string(alloc)?;

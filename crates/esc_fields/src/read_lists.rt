@@ -1,7 +1,7 @@
 //! Lists that rows say, an item a row. An error is that memory was refused.
 ghost use Rattle.std.specs.Prelude.{◌≡◌, IfOk, OnErr, map};
 ghost use Rattle.esc_fields.specs.Fields.{text_of};
-ghost use Rattle.esc_fields.specs.Found.{byte_of, string_of};
+ghost use Rattle.esc_fields.specs.Found.{byte_of, held, string_of};
 ghost use Rattle.memory.specs.Refusals.{Refused};
 
 use crate::said::Said;
@@ -31,7 +31,7 @@ impl<A: Allocator> Read<A> for Items<u8, A> {
 
 // A text.
 impl<A: Allocator> Read<A> for Text<A> {
-    ghost read = { string_of };
+    ghost read = { string_of held };
 
     fn of(alloc: A, field: &Said<'_>) -> Result<Text<A>, AllocError> {
         field.string(alloc)
@@ -40,7 +40,7 @@ impl<A: Allocator> Read<A> for Text<A> {
 
 // A place of the palette.
 impl<A: Allocator> Read<A> for u8 {
-    ghost read = { byte_of };
+    ghost read = { byte_of held };
 
     fn of(_alloc: A, field: &Said<'_>) -> Result<u8, AllocError> {
         Ok(field.byte())

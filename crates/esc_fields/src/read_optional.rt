@@ -1,7 +1,7 @@
 //! What rows say where it may be absent. An error is that memory was refused.
 ghost use Rattle.std.specs.Prelude.{◌≡◌, IfOk, IfSome, OnErr, OnOk};
 ghost use Rattle.std.specs.Option.{option_map};
-ghost use Rattle.esc_fields.specs.Found.{named_value, past};
+ghost use Rattle.esc_fields.specs.Found.{held, named_value, past};
 ghost use Rattle.esc_fields.specs.FoundPrompts.{text_in};
 ghost use Rattle.memory.specs.Refusals.{Refused};
 
@@ -36,7 +36,7 @@ pub(crate) fn text<A: Allocator>(
     name: FieldName,
     fields: &[Said<'_>],
 ) -> Result<Option<Text<A>>, AllocError>
-    ensures ok { IfOk result (λ t. t ≡ text_in name fields.now) }
+    ensures ok { IfOk result (λ t. t ≡ text_in held name fields.now) }
     ensures refused { OnErr result (Refused A) }
 {
     match named(name, fields) {

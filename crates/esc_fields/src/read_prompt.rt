@@ -1,6 +1,6 @@
 //! Prompts that rows say. An error is that memory was refused.
 ghost use Rattle.std.specs.Prelude.{◌≡◌, IfOk, OnErr, ℤ};
-ghost use Rattle.esc_fields.specs.Found.{number_of, signed};
+ghost use Rattle.esc_fields.specs.Found.{held, number_of, signed};
 ghost use Rattle.esc_fields.specs.FoundPrompts.{click_in, click_of, prompt_in, prompt_kind_of};
 ghost use Rattle.memory.specs.Refusals.{Refused};
 
@@ -17,7 +17,7 @@ pub(crate) fn prompt<A: Allocator>(
     kind: PromptForm,
     fields: &[Said<'_>],
 ) -> Result<Prompt<A>, AllocError>
-    ensures ok { IfOk result (λ p. p ≡ prompt_in kind fields.now) }
+    ensures ok { IfOk result (λ p. p ≡ prompt_in held kind fields.now) }
     ensures refused { OnErr result (Refused A) }
 {
     match kind {

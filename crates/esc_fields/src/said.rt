@@ -1,7 +1,7 @@
 //! What rows say, each a name and a value.
 ghost use Rattle.std.specs.Prelude.{◌≡◌, ◌++◌, IfOk, OnErr, drop, take};
 ghost use Rattle.esc_fields.specs.Fields.{row_said, said, text_of};
-ghost use Rattle.esc_fields.specs.Found.{after, byte_of, channel_of, count_of, first, flag_of, is_named, length_of, number_of, size_of, string_of};
+ghost use Rattle.esc_fields.specs.Found.{after, byte_of, channel_of, count_of, first, flag_of, held, is_named, length_of, number_of, size_of, string_of};
 ghost use Rattle.memory.specs.Refusals.{Refused};
 
 use crate::field_name::FieldName;
@@ -69,7 +69,7 @@ impl<'a> Said<'a> {
 
     // The same; 0 where it is over 8 bits.
     pub(crate) fn byte(&self) -> u8
-        ensures { result ≡ byte_of self.now.1 }
+        ensures { result ≡ byte_of held self.now.1 }
     {
         let count = self.count();
         if count < 256 { count as u8 } else { 0 }
@@ -77,7 +77,7 @@ impl<'a> Said<'a> {
 
     // The same; 0 where it is over 16 bits.
     pub(crate) fn channel(&self) -> u16
-        ensures { result ≡ channel_of self.now.1 }
+        ensures { result ≡ channel_of held self.now.1 }
     {
         let count = self.count();
         if count < 65536 { count as u16 } else { 0 }
@@ -85,7 +85,7 @@ impl<'a> Said<'a> {
 
     // The same; 0 where it is over 32 bits.
     pub(crate) fn length(&self) -> u32
-        ensures { result ≡ length_of self.now.1 }
+        ensures { result ≡ length_of held self.now.1 }
     {
         let count = self.count();
         if count < 4294967296 { count as u32 } else { 0 }
@@ -123,7 +123,7 @@ impl<'a> Said<'a> {
     // Its text; the empty one where it is none, or is not UTF-8. The error is that memory was
     // refused.
     pub(crate) fn string<A: Allocator>(&self, alloc: A) -> Result<Text<A>, AllocError>
-        ensures ok { IfOk result (λ t. t ≡ string_of self.now.1) }
+        ensures ok { IfOk result (λ t. t ≡ string_of held self.now.1) }
         ensures refused { OnErr result (Refused A) }
     {
         match text_in(self.bytes()) {
