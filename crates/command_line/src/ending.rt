@@ -3,8 +3,22 @@ ghost use Rattle.std.specs.Prelude.{◌≡◌};
 
 use crate::reason::Reason;
 use crate::showing::Shown;
+use crate::wrong::Wrong;
 use std::fmt::Display;
+use std::io;
 use std::io::{ErrorKind, Write};
+
+/// The status of a program that did what it was asked for.
+pub const DONE: u8 = 0;
+
+/// That of one which a file, its output or memory hindered.
+pub const FAULT: u8 = 1;
+
+/// That of one whose words are wrong.
+pub const USAGE_FAULT: u8 = 2;
+
+// That of a program which the signal SIGPIPE ends, as a shell gives it: 128 and 13.
+const CLOSED: u8 = 141;
 
 /// How a stream ended.
 #[derive(Clone, Copy, Debug, PartialEq, Eq)]
@@ -19,11 +33,6 @@ pub enum Ended {
     Closed,
 }
 
-const FAULT: u8 = 1;
-
-// That of a program which the signal SIGPIPE ends, as a shell gives it: 128 and 13.
-const CLOSED: u8 = 141;
-
 /// The status after a stream that ended so, where it was this one before. An error where no further
 /// stream can be written.
 pub fn status_after(ended: Ended, status: u8) -> Result<u8, u8> {
@@ -33,6 +42,58 @@ pub fn status_after(ended: Ended, status: u8) -> Result<u8, u8> {
         Ended::Unwritten => Err(FAULT),
         Ended::Closed => Err(CLOSED),
     }
+}
+
+/// The status after a stream that ended so, where none follows.
+pub fn last_status(ended: Ended) -> u8 {
+    match status_after(ended, DONE) {
+        Ok(status) => status,
+        Err(status) => status,
+    }
+}
+
+/// The status of a program whose words are wrong. Lines on `faults` say what is, and where it is not
+/// memory that was refused, the usage.
+pub fn refused<E: Write>(program: &str, usage: &str, wrong: Wrong<'_>, faults: &mut E) -> u8 {
+    let _ = writeln!(faults, "{program}: {wrong}");
+    if wrong.is_fault() {
+        return FAULT;
+    }
+    let _ = writeln!(faults, "{usage}");
+    USAGE_FAULT
+}
+
+/// The status of a program that only had to write a text to the output of this name, with this
+/// outcome. Where it could not, a line on `faults` says why; but where nobody reads the output any
+/// more, none is written.
+pub fn status_of_text<E: Write>(
+    program: &str,
+    output: &str,
+    written: io::Result<()>,
+    faults: &mut E,
+) -> u8 {
+    match written {
+        Ok(()) => DONE,
+        Err(error) => last_status(unwritten(program, output, Reason::of(&error), faults)),
+    }
+}
+
+/// The status of a program that cannot write the file of this name, for this reason, which a line on
+/// `faults` says.
+pub fn unwritable<E: Write>(program: &str, name: &str, error: io::Error, faults: &mut E) -> u8 {
+    tell(program, name, error, faults);
+    FAULT
+}
+
+/// How a stream of this name ended that could not be read. A line on `faults` says what hindered it.
+pub fn unread<D: Display + Drop, E: Write>(
+    program: &str,
+    name: &str,
+    hindrance: D,
+    faults: &mut E,
+) -> Ended {
+    tell(program, name, hindrance, faults);
+    Ended::Unread
 }
 
 /// How a stream ended of which nothing more can be written, since a write to the output of this
@@ -59,10 +120,26 @@ pub enum Place<'a> {
     Output(&'a str),
 }
 
-/// How a stream ended that ended early there, by this error, where the last error of its reader and
-/// writer had this reason. A line on `faults` says what hindered it; but where nobody reads the
-/// output any more, none is written.
-pub fn hindered<D: Display + Drop, E: Write>(
+/// How a stream ended, with this outcome of a program's work on it. An error came at this place,
+/// where the last error of its reader and writer had this reason. A line on `faults` says what
+/// hindered it; but where nobody reads the output any more, none is written.
+pub fn ended_by<D: Display + Drop, E: Write>(
+    program: &str,
+    outcome: Result<(), D>,
+    place: Place<'_>,
+    reason: Option<Reason>,
+    faults: &mut E,
+) -> Ended
+    ensures { result ≡ Ended.Whole → outcome ≡ Ok tt }
+{
+    match outcome {
+        Ok(()) => Ended::Whole,
+        Err(error) => hindered(program, place, error, reason, faults),
+    }
+}
+
+// How a stream ended that this error ended early.
+fn hindered<D: Display + Drop, E: Write>(
     program: &str,
     place: Place<'_>,
     error: D,

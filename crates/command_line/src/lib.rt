@@ -1,9 +1,10 @@
-//! What the programs have in common: how their words are read, how a word is shown, how a stream
-//! that they read ends and why, and whether it is their output.
+//! What the programs have in common: how their words are read, how a word is shown, which streams
+//! they read, how one ends and why, and whether it is their output.
 #![tactic(auto)]
 
 mod arguments;
 mod ending;
+mod files;
 mod nearness;
 mod noting;
 mod output;
@@ -15,8 +16,12 @@ mod table;
 mod wrong;
 
 pub use arguments::{NO_TEXT, is_text, program_words};
-pub use ending::{Ended, Place, hindered, status_after, tell, unwritten};
+pub use ending::{
+    DONE, Ended, FAULT, Place, USAGE_FAULT, ended_by, last_status, refused, status_after,
+    status_of_text, tell, unread, unwritable, unwritten,
+};
 pub use esc_visible::is_shown;
+pub use files::{INPUT, OUTPUT, Work, work_through};
 pub use noting::Noting;
 pub use output::{IS_OUTPUT, is_output};
 pub use reading::{Found, Given, read};

@@ -25,23 +25,13 @@ mod run;
 mod stats;
 mod words;
 
-use command_line::{
-    Ended, IS_OUTPUT, NO_TEXT, Wrong, is_output, is_text, program_words, status_after, tell,
-};
+use command_line::{FAULT, OUTPUT, last_status, program_words, refused, work_through};
 use options::{Kind, Options, Task, When};
-use run::{PROGRAM, dump_named, ended, say};
+use run::{Dumping, PROGRAM, ended, say};
 use std::env;
 use std::env::VarError;
-use std::fmt::Display;
-use std::fs::{File, metadata};
-use std::io::{IsTerminal, Read};
+use std::io::IsTerminal;
 use std::process::ExitCode;
-
-const DONE: u8 = 0;
-
-const FAULT: u8 = 1;
-
-const USAGE_FAULT: u8 = 2;
 
 const USAGE: &str = "\
 usage: escdump [--segments] [--escape] [--json] [--stats] [--only kind,..] [--skip kind,..] \
@@ -82,7 +72,7 @@ fn main(rt: HostRuntime) -> ExitCode {
             options.is_colored = is_colored(&rt, task.colors);
             done(&rt, task.kind, options, &task.files)
         }
-        Err(wrong) => refused(&rt, wrong),
+        Err(wrong) => refused(PROGRAM, USAGE, wrong, &mut rt.stderr()),
     };
     ExitCode::from(status)
 }
@@ -114,77 +104,19 @@ fn done(rt: &HostRuntime, kind: Kind, options: Options, files: &[&str]) -> u8 {
     }
 }
 
-// Says what is wrong with the words.
-fn refused(rt: &HostRuntime, wrong: Wrong<'_>) -> u8 {
-    let _ = eprintln!(rt; "escdump: {wrong}");
-    if wrong.is_fault() {
-        return FAULT;
-    }
-    let _ = eprintln!(rt; "{USAGE}");
-    USAGE_FAULT
-}
-
 // Prints the lines of these texts.
 fn said(rt: &HostRuntime, texts: &[&'static str]) -> u8 {
     let done = say(rt.alloc(), texts, &mut rt.stdout());
-    match status_after(ended(done, "standard output", &mut rt.stderr()), DONE) {
-        Ok(status) => status,
-        Err(status) => status,
-    }
+    last_status(ended(done, OUTPUT, &mut rt.stderr()))
 }
 
-// Prints one file after another, each a stream of its own. After one that cannot be read the others
-// follow; where nothing can be written, none does.
+// Prints one file after another.
 fn dump_all(rt: &HostRuntime, options: Options, files: &[&str]) -> u8 {
-    let files: &[&str] = if files.is_empty() { &["-"] } else { files };
-    let mut status = DONE;
-    for file in files {
-        match status_after(dump_file(rt, options, *file), status) {
-            Ok(next) => status = next,
-            Err(last) => return last,
-        }
-    }
-    status
-}
-
-// Prints the file of this name, or standard input where it is `-`.
-fn dump_file(rt: &HostRuntime, options: Options, name: &str) -> Ended {
-    if name == "-" {
-        let name = "standard input";
-        if is_output(rt, metadata(rt, "/dev/stdin")) {
-            return unread(rt, name, IS_OUTPUT);
-        }
-        return dump_input(rt, options, name, rt.stdin());
-    }
-    if !is_text(name) {
-        return unread(rt, name, NO_TEXT);
-    }
-    match File::open(rt, name) {
-        Ok(input) if is_output(rt, input.metadata()) => unread(rt, name, IS_OUTPUT),
-        Ok(input) => dump_input(rt, options, name, input),
-        Err(error) => unread(rt, name, error),
-    }
-}
-
-// Says what hinders it to read the stream of this name.
-fn unread<D: Display + Drop>(rt: &HostRuntime, name: &str, hindrance: D) -> Ended {
-    tell(PROGRAM, name, hindrance, &mut rt.stderr());
-    Ended::Unread
-}
-
-// Prints a stream that has this name to standard output.
-fn dump_input<R: Read + Drop>(
-    rt: &HostRuntime,
-    options: Options,
-    name: &str,
-    mut input: R,
-) -> Ended {
-    dump_named(
-        rt.alloc(),
+    let mut dumping = Dumping {
+        alloc: rt.alloc(),
         options,
-        name,
-        &mut input,
-        &mut rt.stdout(),
-        &mut rt.stderr(),
-    )
+        output: rt.stdout(),
+        faults: rt.stderr(),
+    };
+    work_through(rt, PROGRAM, files, &mut dumping, &mut rt.stderr())
 }

@@ -4,16 +4,13 @@ ghost use Rattle.dump_page.specs.Pages.{AppendsPage};
 
 use crate::dump::Dump;
 use crate::options::Options;
-use command_line::{Ended, Reason, tell, unwritten};
+use command_line::{Ended, OUTPUT, Reason, Work, tell, unwritten};
 use dump_page::Page;
 use std::alloc::Global;
 use std::io::{ErrorKind, Read, Write};
 
 /// The program's name.
 pub const PROGRAM: &str = "escdump";
-
-// What its output is called.
-const OUTPUT: &str = "standard output";
 
 /// What hinders the program at a stream.
 #[derive(Clone, Copy)]
@@ -28,6 +25,29 @@ pub enum Fault {
 
 // How much is read at a call.
 const CHUNK: usize = 4096;
+
+/// What prints streams to one output.
+#[derive(Drop)]
+pub struct Dumping<W, E> {
+    pub alloc: Global,
+    pub options: Options,
+    pub output: W,
+    /// Where what hinders goes.
+    pub faults: E,
+}
+
+impl<W: Write, E: Write> Work for Dumping<W, E> {
+    fn take<R: Read + Drop>(&mut self, name: &str, mut input: R) -> Ended {
+        dump_named(
+            self.alloc,
+            self.options,
+            name,
+            &mut input,
+            &mut self.output,
+            &mut self.faults,
+        )
+    }
+}
 
 /// Prints a line on `output` for each segment of `input`, a stream of this name, in the form that
 /// the options ask for, and those of what one read gave before the next read.

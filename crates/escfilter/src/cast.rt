@@ -2,8 +2,7 @@
 
 use crate::accounted::{Accounted, Audience};
 use crate::options::Options;
-use crate::stream::{COLUMNS, PROGRAM};
-use command_line::{Ended, Place, Reason, hindered};
+use crate::stream::COLUMNS;
 use esc_cast::{CastError, Recording};
 use esc_filter::{Feeding, Filter, FilterError, LineFilter};
 use esc_lines::Collapsing;
@@ -217,28 +216,4 @@ fn flush<W: Write>(writer: &mut Watched<W>) -> Result<(), CastFault> {
         Ok(()) => Ok(()),
         Err(_) => Err(CastFault::Stream(FilterError::Write)),
     }
-}
-
-/// How the recording of this name ended, with this outcome of its filter to an output of that name,
-/// where the last error had this reason. A line on `faults` says what hindered it; but where nobody
-/// reads the output any more, none is written.
-pub fn cast_ended<E: Write>(
-    outcome: Result<(), CastFault>,
-    reason: Option<Reason>,
-    name: &str,
-    output: &str,
-    faults: &mut E,
-) -> Ended {
-    let error = match outcome {
-        Ok(()) => return Ended::Whole,
-        Err(error) => error,
-    };
-    let place = match error {
-        CastFault::Stream(FilterError::Write) => Place::Output(output),
-        CastFault::Stream(FilterError::Read | FilterError::Memory | FilterError::Endless) => {
-            Place::Input(name)
-        }
-        CastFault::Line(_) => Place::Input(name),
-    };
-    hindered(PROGRAM, place, error, reason, faults)
 }

@@ -6,6 +6,7 @@
 mod account;
 mod accounted;
 mod cast;
+mod filtering;
 mod json;
 mod name;
 mod named_groups;
@@ -19,31 +20,19 @@ mod stream;
 mod swallowed;
 mod tally;
 
-use account::Account;
-use cast::{cast_ended, filter_recording};
 use command_line::{
-    Ended, IS_OUTPUT, NO_TEXT, Noting, Reason, Wrong, is_output, is_text, program_words,
-    status_after, tell, unwritten,
+    DONE, Ended, FAULT, OUTPUT, USAGE_FAULT, Work, is_text, program_words, refused, status_after,
+    status_of_text, unread, unwritable, work_through,
 };
-use esc_normal::Watched;
-use json::tell_json;
+use filtering::Filtering;
 use named_groups::Listed;
 use new_file::NewFile;
-use observed::Observed;
-use options::{Form, Kind, Options, Target, Task};
-use report::tell_text;
-use std::fmt::Display;
-use std::fs::{File, metadata};
+use options::{Kind, Options, Target, Task};
+use std::fs::File;
 use std::io;
-use std::io::{Read, Write};
+use std::io::{Stderr, Write};
 use std::process::ExitCode;
-use stream::{OUTPUT, PROGRAM, ended, filter_by};
-
-const DONE: u8 = 0;
-
-const FAULT: u8 = 1;
-
-const USAGE_FAULT: u8 = 2;
+use stream::PROGRAM;
 
 const LEFT_OUT: u8 = 3;
 
@@ -105,7 +94,7 @@ fn main(rt: HostRuntime) -> ExitCode {
     };
     let status = match Task::of(rt.alloc(), &words) {
         Ok(task) => done(&rt, &task),
-        Err(wrong) => refused(&rt, wrong),
+        Err(wrong) => refused(PROGRAM, USAGE, wrong, &mut rt.stderr()),
     };
     ExitCode::from(status)
 }
@@ -119,6 +108,11 @@ fn done(rt: &HostRuntime, task: &Task<'_>) -> u8 {
     }
 }
 
+// The status after a text was printed.
+fn said(rt: &HostRuntime, printed: io::Result<()>) -> u8 {
+    status_of_text(PROGRAM, OUTPUT, printed, &mut rt.stderr())
+}
+
 // Filters the files to where the output goes.
 fn filter_to(rt: &HostRuntime, target: Target<'_>, options: Options<'_>, files: &[&str]) -> u8 {
     match target {
@@ -128,20 +122,55 @@ fn filter_to(rt: &HostRuntime, target: Target<'_>, options: Options<'_>, files: 
     }
 }
 
+// Filters one file after another to an output of this name.
+fn filter_all<W: Write>(
+    rt: &HostRuntime,
+    options: Options<'_>,
+    files: &[&str],
+    output_name: &str,
+    output: &mut W,
+) -> u8 {
+    let mut filtering = filter_of(rt, options, output_name, output);
+    let status = work_through(rt, PROGRAM, files, &mut filtering, &mut rt.stderr());
+    failed_or(options, filtering.is_less, status)
+}
+
+// A filter of streams to an output of this name.
+fn filter_of<'a, W>(
+    rt: &HostRuntime,
+    options: Options<'a>,
+    output_name: &'a str,
+    output: &'a mut W,
+) -> Filtering<'a, W, Stderr> {
+    Filtering {
+        alloc: rt.alloc(),
+        options,
+        output_name,
+        output,
+        faults: rt.stderr(),
+        is_less: false,
+    }
+}
+
+// This status, or the one of what was left out where that is a failure.
+fn failed_or(options: Options<'_>, is_less: bool, status: u8) -> u8 {
+    if status == DONE && options.fails && is_less {
+        LEFT_OUT
+    } else {
+        status
+    }
+}
+
 // Filters the files to that of this name, which is written whole or not at all.
 fn filter_to_file(rt: &HostRuntime, options: Options<'_>, files: &[&str], name: &str) -> u8 {
     let mut new = match NewFile::beside(rt, name, NEW) {
         Ok(new) => new,
-        Err(error) => return unwritable(rt, name, error),
+        Err(error) => return unwritable(PROGRAM, name, error, &mut rt.stderr()),
     };
     let status = filter_all(rt, options, files, name, &mut new.file);
-    if status != DONE && status != LEFT_OUT {
-        new.give_up(rt);
-        return status;
-    }
-    match new.take_place(rt, "") {
+    match new.end(rt, "", status == DONE || status == LEFT_OUT) {
         Ok(()) => status,
-        Err(error) => unwritable(rt, name, error),
+        Err(error) => unwritable(PROGRAM, name, error, &mut rt.stderr()),
     }
 }
 
@@ -164,14 +193,17 @@ fn filter_in_place(rt: &HostRuntime, options: Options<'_>, files: &[&str], suffi
     failed_or(options, is_less, status)
 }
 
-// Filters the file of this name in its place.
+// Filters the file of this name in its place. It returns how that ended, and whether anything is
+// known to be left out.
 fn replace_file(rt: &HostRuntime, options: Options<'_>, name: &str, suffix: &str) -> (Ended, bool) {
+    let faults = &mut rt.stderr();
     if name == "-" || !is_text(name) {
-        return unread(rt, name, "it is changed in place under a name alone");
+        let hindrance = "it is changed in place under a name alone";
+        return (unread(PROGRAM, name, hindrance, faults), false);
     }
     match NewFile::beside(rt, name, NEW) {
         Ok(new) => replace_by(rt, options, name, suffix, new),
-        Err(error) => unread(rt, name, error),
+        Err(error) => (unread(PROGRAM, name, error, faults), false),
     }
 }
 
@@ -184,188 +216,14 @@ fn replace_by(
     mut new: NewFile<HostRuntime>,
 ) -> (Ended, bool) {
     let (ended, is_less) = match File::open(rt, name) {
-        Ok(input) => filter_input(rt, options, name, input, name, &mut new.file),
-        Err(error) => unread(rt, name, error),
+        Ok(input) => {
+            let mut filtering = filter_of(rt, options, name, &mut new.file);
+            (filtering.take(name, input), filtering.is_less)
+        }
+        Err(error) => (unread(PROGRAM, name, error, &mut rt.stderr()), false),
     };
-    if ended != Ended::Whole {
-        new.give_up(rt);
-        return (ended, is_less);
-    }
-    match new.take_place(rt, suffix) {
+    match new.end(rt, suffix, ended == Ended::Whole) {
         Ok(()) => (ended, is_less),
-        Err(error) => unread(rt, name, error),
+        Err(error) => (unread(PROGRAM, name, error, &mut rt.stderr()), false),
     }
-}
-
-// Says why the file of this name cannot be written.
-fn unwritable(rt: &HostRuntime, name: &str, error: io::Error) -> u8 {
-    tell(PROGRAM, name, error, &mut rt.stderr());
-    FAULT
-}
-
-// Says what is wrong with the words.
-fn refused(rt: &HostRuntime, wrong: Wrong<'_>) -> u8 {
-    let _ = eprintln!(rt; "escfilter: {wrong}");
-    if wrong.is_fault() {
-        return FAULT;
-    }
-    let _ = eprintln!(rt; "{USAGE}");
-    USAGE_FAULT
-}
-
-// The status after a text was printed. Where it was not, a line says why, as after a stream.
-fn said(rt: &HostRuntime, printed: io::Result<()>) -> u8 {
-    let Err(error) = printed else {
-        return DONE;
-    };
-    match status_after(
-        unwritten(PROGRAM, OUTPUT, Reason::of(&error), &mut rt.stderr()),
-        DONE,
-    ) {
-        Ok(status) => status,
-        Err(status) => status,
-    }
-}
-
-// Filters one file after another, each a stream of its own. After one that cannot be read the
-// others follow; where nothing can be written, none does.
-fn filter_all<W: Write>(
-    rt: &HostRuntime,
-    options: Options<'_>,
-    files: &[&str],
-    output_name: &str,
-    output: &mut W,
-) -> u8 {
-    let files: &[&str] = if files.is_empty() { &["-"] } else { files };
-    let mut status = DONE;
-    let mut is_less = false;
-    for file in files {
-        let (ended, left) = filter_file(rt, options, *file, output_name, output);
-        is_less = is_less || left;
-        match status_after(ended, status) {
-            Ok(next) => status = next,
-            Err(last) => return last,
-        }
-    }
-    failed_or(options, is_less, status)
-}
-
-// This status, or the one of what was left out where that is a failure.
-fn failed_or(options: Options<'_>, is_less: bool, status: u8) -> u8 {
-    if status == DONE && options.fails && is_less {
-        LEFT_OUT
-    } else {
-        status
-    }
-}
-
-// Filters the file of this name, or standard input where it is `-`. It returns how that ended, and
-// whether anything is known to be left out.
-fn filter_file<W: Write>(
-    rt: &HostRuntime,
-    options: Options<'_>,
-    name: &str,
-    output_name: &str,
-    output: &mut W,
-) -> (Ended, bool) {
-    if name == "-" {
-        let name = "standard input";
-        if is_output(rt, metadata(rt, "/dev/stdin")) {
-            return unread(rt, name, IS_OUTPUT);
-        }
-        return filter_input(rt, options, name, rt.stdin(), output_name, output);
-    }
-    if !is_text(name) {
-        return unread(rt, name, NO_TEXT);
-    }
-    match File::open(rt, name) {
-        Ok(input) if is_output(rt, input.metadata()) => unread(rt, name, IS_OUTPUT),
-        Ok(input) => filter_input(rt, options, name, input, output_name, output),
-        Err(error) => unread(rt, name, error),
-    }
-}
-
-// Says what hinders it to read the stream of this name.
-fn unread<D: Display + Drop>(rt: &HostRuntime, name: &str, hindrance: D) -> (Ended, bool) {
-    tell(PROGRAM, name, hindrance, &mut rt.stderr());
-    (Ended::Unread, false)
-}
-
-// Filters a stream that has this name to an output that has this one.
-fn filter_input<R: Read + Drop, W: Write>(
-    rt: &HostRuntime,
-    options: Options<'_>,
-    name: &str,
-    input: R,
-    output_name: &str,
-    output: &mut W,
-) -> (Ended, bool) {
-    if options.is_cast {
-        return filter_cast(rt, options, name, input, output_name, output);
-    }
-    let account = account_of(rt, options);
-    let mut reader = Watched::new(Noting::new(Observed::new(input, account)));
-    let mut writer = Watched::new(Noting::new(output));
-    let outcome = filter_by(rt.alloc(), &options, &mut reader, &mut writer);
-    let reader = reader.into_inner();
-    let reason = reader.reason().or(writer.into_inner().reason());
-    let is_less = tell_account(rt, options, name, reader.into_inner().ended());
-    let ended = ended(outcome, reason, name, output_name, &mut rt.stderr());
-    (ended, is_less)
-}
-
-// The same of a recording.
-fn filter_cast<R: Read + Drop, W: Write>(
-    rt: &HostRuntime,
-    options: Options<'_>,
-    name: &str,
-    input: R,
-    output_name: &str,
-    output: &mut W,
-) -> (Ended, bool) {
-    let account = account_of(rt, options);
-    let mut reader = Watched::new(Noting::new(input));
-    let mut writer = Watched::new(Noting::new(output));
-    let (outcome, account) = filter_recording(
-        rt.alloc(),
-        &options,
-        account,
-        &mut reader,
-        &mut writer,
-    );
-    let reason = reader
-        .into_inner()
-        .reason()
-        .or(writer.into_inner().reason());
-    let is_less = tell_account(rt, options, name, account);
-    let ended = cast_ended(outcome, reason, name, output_name, &mut rt.stderr());
-    (ended, is_less)
-}
-
-// The account of a stream, where the options ask what is left out of it.
-fn account_of<'a>(rt: &HostRuntime, options: Options<'a>) -> Option<Account<'a>> {
-    if options.report.is_some() || options.fails {
-        Some(Account::new(rt.alloc(), options))
-    } else {
-        None
-    }
-}
-
-// Reports what was left out of the stream of this name, where the options ask for it. It returns
-// whether anything was.
-fn tell_account(
-    rt: &HostRuntime,
-    options: Options<'_>,
-    name: &str,
-    account: Option<Account<'_>>,
-) -> bool {
-    let Some(account) = account else {
-        return false;
-    };
-    match options.report {
-        Some(Form::Text) => tell_text(&account, name, &mut rt.stderr()),
-        Some(Form::Json) => tell_json(&account, name, &mut rt.stderr()),
-        None => {}
-    }
-    account.is_less()
 }

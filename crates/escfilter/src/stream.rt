@@ -1,12 +1,11 @@
 //! One stream, from its reader to the output.
-ghost use Rattle.std.specs.Prelude.{◌≡◌, IsErrOf, false, true};
+ghost use Rattle.std.specs.Prelude.{IsErrOf, false, true};
 ghost use Rattle.esc_normal.specs.Streams.{Filters, IsEither, New};
 ghost use Rattle.memory.specs.Refusals.{Refused};
 ghost use Rattle.escfilter.specs.Adding.{NewAdding};
 ghost use Rattle.escfilter.specs.Written.{IsWritten, final_by, left_by, seen_by, text_of};
 
 use crate::options::Options;
-use command_line::{Ended, Place, Reason, hindered};
 use esc_filter::{
     Feeding, Filter, FilterError, LineFilter, filter_from, written_lines_read_back,
     written_reads_back,
@@ -19,9 +18,6 @@ use std::io::{Read, Write};
 
 /// The program's name.
 pub const PROGRAM: &str = "escfilter";
-
-/// What standard output is called.
-pub const OUTPUT: &str = "standard output";
 
 // How many columns a row has at most of which what is left is written.
 pub(crate) const COLUMNS: usize = 16_384;
@@ -100,27 +96,4 @@ fn filter_left<A: Allocator + Copy, R: Read, W: Write, F: Feeding<A> + Drop>(
         }
         Some(rows) => collapse_from(alloc, filter, rows, COLUMNS, reader, writer),
     }
-}
-
-/// How the stream of this name ended, with this outcome of its filter to an output of that name,
-/// where the last error had this reason. A line on `faults` says what hindered it; but where nobody
-/// reads the output any more, none is written.
-pub fn ended<E: Write>(
-    outcome: Result<(), FilterError>,
-    reason: Option<Reason>,
-    name: &str,
-    output: &str,
-    faults: &mut E,
-) -> Ended
-    ensures { result ≡ Ended.Whole → outcome ≡ Ok tt }
-{
-    let error = match outcome {
-        Ok(()) => return Ended::Whole,
-        Err(error) => error,
-    };
-    let place = match error {
-        FilterError::Write => Place::Output(output),
-        FilterError::Read | FilterError::Memory | FilterError::Endless => Place::Input(name),
-    };
-    hindered(PROGRAM, place, error, reason, faults)
 }

@@ -19,6 +19,9 @@ use esc_reveal::{Reveal, Revealing};
 use std::alloc::{AllocError, Allocator, Global};
 use std::io::{Read, Write};
 
+/// The program's name.
+pub const PROGRAM: &str = "eschtml";
+
 /// A stream as HTML.
 #[derive(Drop)]
 struct Marked<A: Allocator = Global> {

@@ -55,9 +55,19 @@ impl<R: Files + AllocGlobal> NewFile<R> {
         self.file.set_permissions(known.permissions())
     }
 
-    /// Puts it in its place, once what it holds is on the disk. The file that was there is kept
-    /// under its name with this suffix, where there is one. After an error it is removed.
-    pub fn take_place(self, rt: &R, suffix: &str) -> io::Result<()> {
+    /// Puts it in its place where it is whole, once what it holds is on the disk, and keeps the file
+    /// that was there under its name with this suffix, where there is one. Where it is not, or after
+    /// an error, it is removed, and the file of its place stays as it is.
+    pub fn end(self, rt: &R, suffix: &str, is_whole: bool) -> io::Result<()> {
+        if is_whole {
+            return self.take_place(rt, suffix);
+        }
+        self.give_up(rt);
+        Ok(())
+    }
+
+    // Puts it in its place; after an error it is removed.
+    fn take_place(self, rt: &R, suffix: &str) -> io::Result<()> {
         let moved = self.change_names(rt, suffix);
         if moved.is_err() {
             self.give_up(rt);
@@ -75,8 +85,8 @@ impl<R: Files + AllocGlobal> NewFile<R> {
         rename(rt, self.name.as_str(), self.place.as_str())
     }
 
-    /// Removes it. The file of its place stays as it is.
-    pub fn give_up(self, rt: &R) {
+    // Removes it.
+    fn give_up(self, rt: &R) {
         let _ = remove_file(rt, self.name.as_str());
     }
 }

@@ -1,0 +1,68 @@
+//! The streams that a program reads, one after another.
+
+use crate::arguments::{NO_TEXT, is_text};
+use crate::ending::{DONE, Ended, status_after, unread};
+use crate::output::{IS_OUTPUT, is_output};
+use std::fs::{File, Files, OpenFile, metadata};
+use std::io::{Input, Read, Write};
+
+/// What standard input is called.
+pub const INPUT: &str = "standard input";
+
+/// What standard output is called.
+pub const OUTPUT: &str = "standard output";
+
+/// What a program does with each stream that it reads.
+pub trait Work {
+    /// Does it with a stream that has this name, and returns how that ended. What hindered it was
+    /// said.
+    fn take<R: Read + Drop>(&mut self, name: &str, input: R) -> Ended;
+}
+
+/// Does a program's work with each of these files, one after another, each a stream of its own, and
+/// returns the status. `-` is standard input, and so is no file at all. After one that cannot be
+/// read the others follow; where nothing can be written, none does.
+///
+/// A file is not read that is standard output, or whose name is no text. A line on `faults` says
+/// so, and why a file cannot be opened.
+pub fn work_through<R: Files + Input, W: Work, E: Write>(
+    rt: &R,
+    program: &str,
+    files: &[&str],
+    work: &mut W,
+    faults: &mut E,
+) -> u8 {
+    let files: &[&str] = if files.is_empty() { &["-"] } else { files };
+    let mut status = DONE;
+    for file in files {
+        match status_after(work_on(rt, program, *file, work, faults), status) {
+            Ok(next) => status = next,
+            Err(last) => return last,
+        }
+    }
+    status
+}
+
+// Does it with the file of this name, or with standard input where it is `-`.
+fn work_on<R: Files + Input, W: Work, E: Write>(
+    rt: &R,
+    program: &str,
+    name: &str,
+    work: &mut W,
+    faults: &mut E,
+) -> Ended {
+    if name == "-" {
+        if is_output(rt, metadata(rt, "/dev/stdin")) {
+            return unread(program, INPUT, IS_OUTPUT, faults);
+        }
+        return work.take(INPUT, rt.reader());
+    }
+    if !is_text(name) {
+        return unread(program, name, NO_TEXT, faults);
+    }
+    match File::open(rt, name) {
+        Ok(input) if is_output(rt, input.metadata()) => unread(program, name, IS_OUTPUT, faults),
+        Ok(input) => work.take(name, input),
+        Err(error) => unread(program, name, error, faults),
+    }
+}

@@ -1,0 +1,101 @@
+//! Streams that are filtered to one output, each with its report.
+
+use crate::account::Account;
+use crate::cast::{CastFault, filter_recording};
+use crate::json::tell_json;
+use crate::observed::Observed;
+use crate::options::{Form, Options};
+use crate::report::tell_text;
+use crate::stream::{PROGRAM, filter_by};
+use command_line::{Ended, Noting, Place, Work, ended_by};
+use esc_filter::FilterError;
+use esc_normal::Watched;
+use std::alloc::Global;
+use std::io::{Read, Write};
+
+/// A filter of streams to one output.
+#[derive(Drop)]
+pub struct Filtering<'a, W, E> {
+    pub alloc: Global,
+    pub options: Options<'a>,
+    /// What the output is called.
+    pub output_name: &'a str,
+    pub output: &'a mut W,
+    /// Where reports and what hinders go.
+    pub faults: E,
+    /// Whether anything is known to be left out.
+    pub is_less: bool,
+}
+
+impl<'a, W: Write, E: Write> Work for Filtering<'a, W, E> {
+    fn take<R: Read + Drop>(&mut self, name: &str, input: R) -> Ended {
+        if self.options.is_cast {
+            self.take_cast(name, input)
+        } else {
+            self.take_stream(name, input)
+        }
+    }
+}
+
+impl<'a, W: Write, E: Write> Filtering<'a, W, E> {
+    // Filters a stream of this name.
+    fn take_stream<R: Read + Drop>(&mut self, name: &str, input: R) -> Ended {
+        let mut reader = Watched::new(Noting::new(Observed::new(input, self.account())));
+        let mut writer = Watched::new(Noting::new(&mut *self.output));
+        let outcome = filter_by(self.alloc, &self.options, &mut reader, &mut writer);
+        let reader = reader.into_inner();
+        let reason = reader.reason().or(writer.into_inner().reason());
+        self.report(name, reader.into_inner().ended());
+        let place = match outcome {
+            Err(FilterError::Write) => Place::Output(self.output_name),
+            _ => Place::Input(name),
+        };
+        ended_by(PROGRAM, outcome, place, reason, &mut self.faults)
+    }
+
+    // Filters a recording of this name.
+    fn take_cast<R: Read + Drop>(&mut self, name: &str, input: R) -> Ended {
+        let account = self.account();
+        let mut reader = Watched::new(Noting::new(input));
+        let mut writer = Watched::new(Noting::new(&mut *self.output));
+        let (outcome, account) = filter_recording(
+            self.alloc,
+            &self.options,
+            account,
+            &mut reader,
+            &mut writer,
+        );
+        let reason = reader
+            .into_inner()
+            .reason()
+            .or(writer.into_inner().reason());
+        self.report(name, account);
+        let place = match outcome {
+            Err(CastFault::Stream(FilterError::Write)) => Place::Output(self.output_name),
+            _ => Place::Input(name),
+        };
+        ended_by(PROGRAM, outcome, place, reason, &mut self.faults)
+    }
+
+    // The account of a stream, where the options ask what is left out of it.
+    fn account(&self) -> Option<Account<'a>> {
+        if self.options.report.is_some() || self.options.fails {
+            Some(Account::new(self.alloc, self.options))
+        } else {
+            None
+        }
+    }
+
+    // Reports what was left out of the stream of this name, where the options ask for it.
+    fn report(&mut self, name: &str, account: Option<Account<'_>>) {
+        let Some(account) = account else {
+            return;
+        };
+        match self.options.report {
+            Some(Form::Text) => tell_text(&account, name, &mut self.faults),
+            Some(Form::Json) => tell_json(&account, name, &mut self.faults),
+            None => {}
+        }
+        self.is_less = self.is_less || account.is_less();
+    }
+}
