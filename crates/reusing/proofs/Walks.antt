@@ -1,5 +1,5 @@
--- What the walks share: what follows a part of a body, a constant above 255, and a walk that holds
--- the thread's token. Assumes `Logic`.
+-- What the walks share: parameters that a call lets go of, what follows a part of a body, a constant
+-- above 255, and a walk that holds the thread's token. Assumes `Logic`.
 use Rattle.std.proofs.Common.{ℕ, zero, suc, List, [], ◌∷◌, subst}
 use seplogic.Ra.Ura.{Ura}
 use mir.Syntax.{Fn, Callee, Body, Width, int_big}
@@ -22,16 +22,22 @@ use denote.Laws.{Ises, Are, owns_show, showss}
 use denote.Builtin.{unit}
 use denote.Signature.{Signature, Slot, plain, types_at}
 use denote.Triple.Clauses.{Ended, Clauses, closing}
+use denote.Triple.End.{Kepts}
 use denote.Triple.Entry.{on_entry, alive}
 use denote.Triple.Spec.{Meets, triple_of}
 use denote.Triple.Table.{entered}
 use denote.Triple.Handed.{holding, hands}
-use denote.Triple.Walked.{Stays, AllGo, walk_of, walk_Meets}
+use denote.Triple.Walked.{Stays, AllGo, stay_dropped, walk_of, walk_Meets}
 
 abbrev pub slot_at : {n : ℕ} → ℕ → List (Slot n) → Slot n
 slot_at k [] = plain (λ _. unit)
 slot_at zero (s ∷ ss) = s
 slot_at (suc k) (s ∷ ss) = slot_at k ss
+
+-- every parameter is dropped
+abbrev pub dropped_all : {n : ℕ} (ss : List (Slot n)) (ks : Kepts ss) → Stays ss ks
+dropped_all [] ks = tt
+dropped_all (s ∷ ss) ks = (stay_dropped s ks.0, dropped_all ss ks.1)
 
 module _ {M : Type 1} {𝓤 : Ura M} (𝓛 : Logic 𝓤) where
   open 𝓛 use {H}

@@ -23,12 +23,12 @@ use denote.Signature.{types_at}
 use denote.Steps.{nothing, heard}
 use denote.Triple.Entry.{alive}
 use denote.Triple.Call.{calls_at_last}
-use denote.Triple.Walked.{Stays, stay_dropped, walk_of, Goes-dropped}
+use denote.Triple.Walked.{walk_of, Goes-dropped}
 use Rattle.core.proofs.alloc.Calls.{Al, seen, Goes-blank, Gives, at_gives, Gives-goes, Gives-Gives}
 use Rattle.core.proofs.alloc.Shapes.{after}
 use Rattle.core.proofs.atomic.Steps.{fm}
 use Rattle.std.proofs.raw_atomic.Walks.{proved_at, leaves}
-use Rattle.reusing.proofs.Walks.{slot_at, then_runs, out_of_block}
+use Rattle.reusing.proofs.Walks.{dropped_all, slot_at, then_runs, out_of_block}
 use Rattle.reusing.proofs.Values.{block_val, block_told}
 use Rattle.core.specs.Allocator.{owned_block}
 use Rattle.reusing.specs.Sizes.{IsBlockSize}
@@ -45,14 +45,7 @@ free_spec 𝓤 𝓛 𝓜 𝓡 wired A L g d dd met md =
     let c₀ = clauses A g d dd 𝓛 𝓜.mem 𝓡.returns in
     let args : Args = bounded (a_type ∷ []) (A, tt) (dcons d (dcons dd dnil)) in
     let fn : Fn = inst_fn args compiled.function in
-    let hs : Stays En₀.signature.params En₀.kept = (
-      stay_dropped (slot_at 0 En₀.signature.params)
-          En₀.kept.0,
-      (
-        stay_dropped (slot_at 1 En₀.signature.params) En₀.kept.1.0,
-        (stay_dropped (slot_at 2 En₀.signature.params) En₀.kept.1.1.0, tt),
-      ),
-    ) in
+    let hs = dropped_all En₀.signature.params En₀.kept in
     let c = c₀ in
     let C = (tables 𝓤 H 𝓜 𝓡 𝓡.env).C in
     let Λ = (tables 𝓤 H 𝓜 𝓡 𝓡.env).Λ in

@@ -26,12 +26,12 @@ use denote.Triple.Call.{calls_at}
 use denote.Triple.Clauses.{Lasts, lasts}
 use denote.Triple.Entry.{alive}
 use denote.Triple.Spec.{triple_of}
-use denote.Triple.Walked.{Stays, stay_dropped, walk_of, Goes-dropped}
+use denote.Triple.Walked.{walk_of, Goes-dropped}
 use Rattle.core.proofs.alloc.Calls.{Al, α, seen, Answer, answer_val, Answer-typed, Answer-Ok, Answer-err, Takes, at_takes, Answered, Takes-goes, Takes-gives, answers}
 use Rattle.core.proofs.alloc.Shapes.{after, head, arm_body}
 use Rattle.core.proofs.atomic.Steps.{fm}
 use Rattle.std.proofs.raw_atomic.Walks.{proved_at, leaves}
-use Rattle.reusing.proofs.Walks.{slot_at, then_runs, big_lit}
+use Rattle.reusing.proofs.Walks.{dropped_all, slot_at, then_runs, big_lit}
 use Rattle.reusing.proofs.Numbers.{block_holds, small_size, is_small, is_large}
 use Rattle.reusing.proofs.Room.{retypes}
 use Rattle.reusing.proofs.Taken.{Taken, Told, taken}
@@ -51,14 +51,7 @@ allocate_spec 𝓤 𝓛 𝓜 𝓡 wired A L g d dd met md =
     let c₀ = clauses A g d dd 𝓛 𝓜.mem 𝓡.returns in
     let args : Args = bounded (a_type ∷ []) (A, tt) (dcons d (dcons dd dnil)) in
     let fn : Fn = inst_fn args compiled.function in
-    let stays : Stays En₀.signature.params En₀.kept = (
-      stay_dropped (slot_at 0 En₀.signature.params)
-          En₀.kept.0,
-      (
-        stay_dropped (slot_at 1 En₀.signature.params) En₀.kept.1.0,
-        (stay_dropped (slot_at 2 En₀.signature.params) En₀.kept.1.1.0, tt),
-      ),
-    ) in
+    let stays = dropped_all En₀.signature.params En₀.kept in
     let c = c₀ in
     let C = (tables 𝓤 H 𝓜 𝓡 𝓡.env).C in
     let Λ = (tables 𝓤 H 𝓜 𝓡 𝓡.env).Λ in

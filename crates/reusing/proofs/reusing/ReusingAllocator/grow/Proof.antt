@@ -27,7 +27,7 @@ use denote.Triple.Call.{calls_at}
 use denote.Triple.Clauses.{Lasts, lasts}
 use denote.Triple.Entry.{alive}
 use denote.Triple.Spec.{triple_of}
-use denote.Triple.Walked.{Stays, stay_dropped, walk_of, Goes-dropped}
+use denote.Triple.Walked.{walk_of, Goes-dropped}
 use Rattle.core.specs.Allocator.{array_of, block_with_items, resized_if_ok}
 use Rattle.core.proofs.alloc.Calls.{Al, α, seen, Answer, answer_val, Answer-typed}
 use Rattle.core.proofs.alloc.Resizes.{Sized, Grows, Grows-Sized, wider, result_of, result_own, by_flag, Resizes, at_resizes, left_by, Resizes-goes, Resizes-gives}
@@ -35,7 +35,7 @@ use Rattle.core.proofs.alloc.Shapes.{after}
 use Rattle.core.proofs.atomic.Steps.{fm}
 use Rattle.std.proofs.raw_atomic.Walks.{proved_at, leaves}
 use Rattle.reusing.proofs.Large.{product, product_fits, unwraps, wraps_result}
-use Rattle.reusing.proofs.Walks.{slot_at, big_lit}
+use Rattle.reusing.proofs.Walks.{dropped_all, slot_at, big_lit}
 use Rattle.reusing.specs.Ownership.{block_token}
 use Rattle.reusing.specs.contracts.pool.Pool as pool
 use Rattle.reusing.specs.contracts.pool.PoolAllocator.grow as callee
@@ -52,20 +52,7 @@ grow_spec 𝓤 𝓛 𝓜 𝓡 wired A T L LT g d dd met md =
     let c₀ = clauses A T g d dd 𝓛 𝓜.mem 𝓡.returns in
     let args : Args = bounded (a_type ∷ a_type ∷ []) (A, (T, tt)) (dcons d (dcons dd dnil)) in
     let fn : Fn = inst_fn args compiled.function in
-    let stays : Stays En₀.signature.params En₀.kept = (
-      stay_dropped (slot_at 0 En₀.signature.params)
-          En₀.kept.0,
-      (
-        stay_dropped (slot_at 1 En₀.signature.params) En₀.kept.1.0,
-        (
-          stay_dropped (slot_at 2 En₀.signature.params) En₀.kept.1.1.0,
-          (
-            stay_dropped (slot_at 3 En₀.signature.params) En₀.kept.1.1.1.0,
-            (stay_dropped (slot_at 4 En₀.signature.params) En₀.kept.1.1.1.1.0, tt),
-          ),
-        ),
-      ),
-    ) in
+    let stays = dropped_all En₀.signature.params En₀.kept in
     let c = c₀ in
     let C = (tables 𝓤 H 𝓜 𝓡 𝓡.env).C in
     let Λ = (tables 𝓤 H 𝓜 𝓡 𝓡.env).Λ in

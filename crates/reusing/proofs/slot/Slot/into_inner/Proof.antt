@@ -18,13 +18,13 @@ use denote.Param.{param, bounded}
 use denote.Signature.{types_at}
 use denote.Steps.{nothing}
 use denote.Triple.Entry.{alive}
-use denote.Triple.Walked.{Stays, stay_dropped, walk_of}
+use denote.Triple.Walked.{walk_of}
 use Rattle.core.proofs.alloc.Calls.{Goes-blank}
 use Rattle.core.proofs.cell.Inside.{round}
 use Rattle.std.proofs.raw_atomic.Walks.{proved_at, leaves}
 use Rattle.reusing.proofs.Values.{and_tt}
 use Rattle.reusing.proofs.Cell.{Over, contents_out}
-use Rattle.reusing.proofs.Walks.{slot_at}
+use Rattle.reusing.proofs.Walks.{dropped_all, slot_at}
 use Rattle.reusing.specs.contracts.slot.Slot.into_inner.{ended, clauses}
 use Rattle.reusing.specs.contracts.slot.Slot.into_inner.Key.{name as #self}
 use Rattle.reusing.proofs.slot.Slot.into_inner.Statement.{statement}
@@ -37,11 +37,7 @@ into_inner_spec 𝓤 𝓛 𝓜 𝓡 wired A L g d dd met md =
     let c₀ = clauses A g d dd 𝓛 𝓜.mem 𝓡.returns in
     let args : Args = bounded (a_type ∷ []) (A, tt) (dcons d (dcons dd dnil)) in
     let fn : Fn = inst_fn args compiled.function in
-    let stays : Stays En₀.signature.params En₀.kept = (
-      stay_dropped (slot_at 0 En₀.signature.params)
-          En₀.kept.0,
-      tt,
-    ) in
+    let stays = dropped_all En₀.signature.params En₀.kept in
     let c = c₀ in
     let C = (tables 𝓤 H 𝓜 𝓡 𝓡.env).C in
     let Λ = (tables 𝓤 H 𝓜 𝓡 𝓡.env).Λ in

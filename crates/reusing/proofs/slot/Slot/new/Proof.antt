@@ -20,12 +20,12 @@ use denote.Param.{param, bounded}
 use denote.Signature.{types_at}
 use denote.Steps.{nothing, heard}
 use denote.Triple.Entry.{alive}
-use denote.Triple.Walked.{Stays, stay_dropped, walk_of, Goes-dropped}
+use denote.Triple.Walked.{walk_of, Goes-dropped}
 use Rattle.core.proofs.cell.Inside.{round}
 use Rattle.core.proofs.option.Made.{none_of}
 use Rattle.std.proofs.raw_atomic.Walks.{proved_at, leaves}
 use Rattle.reusing.proofs.Cell.{Held, Fields, contents_in}
-use Rattle.reusing.proofs.Walks.{slot_at}
+use Rattle.reusing.proofs.Walks.{dropped_all, slot_at}
 use Rattle.reusing.specs.contracts.block.Block as block
 use Rattle.reusing.specs.contracts.slot.Slot.new.{ended, clauses}
 use Rattle.reusing.specs.contracts.slot.Slot.new.Key.{name as #self}
@@ -39,11 +39,7 @@ new_spec 𝓤 𝓛 𝓜 𝓡 wired A L g d dd met md =
     let c₀ = clauses A g d dd 𝓛 𝓜.mem 𝓡.returns in
     let args : Args = bounded (a_type ∷ []) (A, tt) (dcons d (dcons dd dnil)) in
     let fn : Fn = inst_fn args compiled.function in
-    let stays : Stays En₀.signature.params En₀.kept = (
-      stay_dropped (slot_at 0 En₀.signature.params)
-          En₀.kept.0,
-      (stay_dropped (slot_at 1 En₀.signature.params) En₀.kept.1.0, tt),
-    ) in
+    let stays = dropped_all En₀.signature.params En₀.kept in
     let c = c₀ in
     let C = (tables 𝓤 H 𝓜 𝓡 𝓡.env).C in
     let Λ = (tables 𝓤 H 𝓜 𝓡 𝓡.env).Λ in

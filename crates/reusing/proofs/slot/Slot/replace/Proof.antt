@@ -19,12 +19,12 @@ use denote.RattleType.{RattleType, owns}
 use denote.Param.{layout, param, bounded}
 use denote.Signature.{types_at}
 use denote.Steps.{nothing, heard}
-use denote.Triple.Walked.{Stays, stay_dropped, walk_of, Goes-dropped}
+use denote.Triple.Walked.{walk_of, Goes-dropped}
 use Rattle.core.proofs.alloc.Calls.{Goes-blank}
 use Rattle.core.proofs.alloc.Shapes.{after}
 use Rattle.core.proofs.cell.Inside.{one}
 use Rattle.std.proofs.raw_atomic.Walks.{leaves}
-use Rattle.reusing.proofs.Walks.{slot_at, with_token, proved_with_token}
+use Rattle.reusing.proofs.Walks.{dropped_all, slot_at, with_token, proved_with_token}
 use Rattle.reusing.proofs.Cell.{Held, Over, held_Lawful, quiet, opens_slot, shuts_slot}
 use Rattle.reusing.specs.contracts.slot.Slot.replace.{ended, clauses}
 use Rattle.reusing.specs.contracts.slot.Slot.replace.Key.{name as #self}
@@ -40,11 +40,7 @@ replace_spec 𝓤 𝓛 𝓜 𝓡 wired A L g d dd met md =
     let c₀ = clauses A g d dd 𝓛 𝓜.mem 𝓡.returns in
     let args : Args = bounded (a_type ∷ []) (A, tt) (dcons d (dcons dd dnil)) in
     let fn : Fn = inst_fn args compiled.function in
-    let stays : Stays En₀.signature.params En₀.kept = (
-      stay_dropped (slot_at 0 En₀.signature.params)
-          En₀.kept.0,
-      (stay_dropped (slot_at 1 En₀.signature.params) En₀.kept.1.0, tt),
-    ) in
+    let stays = dropped_all En₀.signature.params En₀.kept in
     let c = with_token 𝓛 En₀ stays c₀ in
     proved_with_token 𝓛 En₀ stays c₀ 𝓜 𝓡 (
       Goes-dropped 𝓛 2 (slot_at 0 En₀.signature.params)
