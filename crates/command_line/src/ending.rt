@@ -52,8 +52,8 @@ pub fn last_status(ended: Ended) -> u8 {
     }
 }
 
-/// The status of a program whose words are wrong. Lines on `faults` say what is, and where it is not
-/// memory that was refused, the usage.
+/// The status of a program whose words are wrong. Lines on `faults` say what is, and where it is
+/// not memory that was refused, the usage.
 pub fn refused<E: Write>(program: &str, usage: &str, wrong: Wrong<'_>, faults: &mut E) -> u8 {
     let _ = writeln!(faults, "{program}: {wrong}");
     if wrong.is_fault() {
@@ -78,14 +78,15 @@ pub fn status_of_text<E: Write>(
     }
 }
 
-/// The status of a program that cannot write the file of this name, for this reason, which a line on
-/// `faults` says.
+/// The status of a program that cannot write the file of this name, for this reason, which a line
+/// on `faults` says.
 pub fn unwritable<E: Write>(program: &str, name: &str, error: io::Error, faults: &mut E) -> u8 {
     tell(program, name, error, faults);
     FAULT
 }
 
-/// How a stream of this name ended that could not be read. A line on `faults` says what hindered it.
+/// How a stream of this name ended that could not be read. A line on `faults` says what hindered
+/// it.
 pub fn unread<D: Display + Drop, E: Write>(
     program: &str,
     name: &str,

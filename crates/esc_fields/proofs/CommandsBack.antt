@@ -105,7 +105,8 @@ module _ (r : Reading) (b : Bounds) (f : Fits r b) where
 
   -- a command of iTerm2 of its kind
   iterms_back : {A : Type 0} (c : ITermProprietary A) → IsITerm b c
-      → command_in r (form_of (iterm_kind c)) (map named (iterm_fields c)) ≡ command.ITermProprietary c
+      → command_in r (form_of (iterm_kind c)) (map named (iterm_fields c))
+      ≡ command.ITermProprietary c
   iterms_back iterm.SetMark held = refl
   iterms_back iterm.StealFocus held = refl
   iterms_back iterm.ClearScrollback held = refl
@@ -176,7 +177,8 @@ module _ (r : Reading) (b : Bounds) (f : Fits r b) where
       ap command.CurrentWorkingDirectory (f.text t held)
   command_back (command.ResetColors ns) held = ap command.ResetColors (numbers_back r b f ns held)
   command_back (command.RxvtExtension ts) held = ap command.RxvtExtension (texts_back r b f ts held)
-  command_back (command.ConEmuProgress p) held = ap command.ConEmuProgress (progress_back r b f p held)
+  command_back (command.ConEmuProgress p) held = ap command.ConEmuProgress
+      (progress_back r b f p held)
   command_back (command.Unspecified ps) held = ap command.Unspecified (parts_back ps)
 
 module _ {A : Type 0} where
@@ -186,7 +188,8 @@ module _ {A : Type 0} where
   found k t c is_held has =
       let kind_is = ap form_at (sym has.0) in
       let rows_are = ap said (sym has.1) ∙ rows_say (fields_of c) in
-      (λ i. command_in held_reading (kind_is i) (rows_are i)) ∙ command_back held_reading types held_fits c is_held
+      (λ i. command_in held_reading (kind_is i) (rows_are i))
+      ∙ command_back held_reading types held_fits c is_held
 
   -- where none is kept, none has them
   none_kept : {E : Type 0} (k : ℕ) (t : Table) (c : OperatingSystemCommand A) (has : Result Bool E)

@@ -148,7 +148,8 @@ module _ {A : Type 0} where
       removed kind.DeleteByImageIdRange (delete.ByImageIdRange f l d) v
       (λ k. delete.ByImageIdRange f l (flag_back d k)) (verbosity_back v)
 
-  image_back : (i : Option (KittyImage A)) → image_in (image_kind i) (map named (fields_of_image i)) ≡ i
+  image_back : (i : Option (KittyImage A))
+      → image_in (image_kind i) (map named (fields_of_image i)) ≡ i
   image_back None = refl
   image_back (Some (image.TransmitData t v)) =
       ap (kept (bytes_of t.content)) (seen (transmit_numbers t ++ verbosity_numbers v))

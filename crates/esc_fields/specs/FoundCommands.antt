@@ -33,8 +33,10 @@ module _ {A : Type 0} where
   abbrev pub other_in : Reading → OtherKind → List NamedValue → OperatingSystemCommand A
   other_in r other.Unspecified ss = command.Unspecified (map (λ s. text_of s.1) ss)
   other_in r other.Hyperlink ss = command.SetHyperlink (link_in r ss)
-  other_in r other.ClearSelection ss = command.ClearSelection (record { 0 = channel_of r (first ss) })
-  other_in r other.QuerySelection ss = command.QuerySelection (record { 0 = channel_of r (first ss) })
+  other_in r other.ClearSelection ss = command.ClearSelection
+      (record { 0 = channel_of r (first ss) })
+  other_in r other.QuerySelection ss = command.QuerySelection
+      (record { 0 = channel_of r (first ss) })
   other_in r other.SetSelection ss =
       command.SetSelection (record { 0 = channel_of r (first ss) }) (string_of r (second ss))
   other_in r other.ColorNumber ss = command.ChangeColorNumber (pairs_after r nothing ss)

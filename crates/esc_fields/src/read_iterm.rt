@@ -89,7 +89,8 @@ fn variable<A: Allocator + Copy>(
     fields: &[Said<'_>],
 ) -> Result<ITermProprietary<A>, AllocError>
     ensures ok { IfOk result (λ c. c
-        ≡ iterm.SetUserVar (string_of held (first fields.now)) (string_of held (second fields.now))) }
+        ≡ iterm.SetUserVar (string_of held (first fields.now))
+        (string_of held (second fields.now))) }
     ensures refused { OnErr result (Refused A) }
 {
     let name = first(fields).string(alloc)?;

@@ -202,7 +202,8 @@ module _ (A : Type 0) where
       )
 
   itself : (u : Unicode) (b : ℕ) → is_plain_byte b ≡ true → Itself u b
-  itself u = by_byte (Itself u) (data_itself u) (refl, λ f. encode_ascii 0x09 (omega arith), refl, λ o. refl, refl)
+  itself u = by_byte (Itself u) (data_itself u)
+      (refl, λ f. encode_ascii 0x09 (omega arith), refl, λ o. refl, refl)
       (refl, λ f. encode_ascii 0x0a (omega arith), refl, λ o. refl, refl)
       (refl, λ f. encode_ascii 0x0d (omega arith), refl, λ o. refl, refl)
 

@@ -45,7 +45,8 @@ StopsSequence allows p es f q = StopsAt ⊥ (By (λ a c. value_of a ≡ csi c)
 abbrev pub TakesCommand : {P A : Type 0} → (P → Value A → Bool) → Passing P A → List (List ℕ)
     → Passing P A → Type 0
 TakesCommand allows p ps q = FoldsTo (By (λ a c. value_of a ≡ osc (command_meant c))
-    (λ r a s. Takes (allows r.policy.now) r.written a s.written × (s.policy.now ≡ r.policy.now))) p (ps ∷ []) q
+    (λ r a s. Takes (allows r.policy.now) r.written a s.written
+    × (s.policy.now ≡ r.policy.now))) p (ps ∷ []) q
 
 abbrev pub StopsCommand : {P A : Type 0} → (P → Value A → Bool) → Passing P A → List (List ℕ)
     → Passing P A → Type 0

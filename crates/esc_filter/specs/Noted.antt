@@ -51,8 +51,8 @@ HasNoted b u vs w = (w.spell.follows_string ≡ ends_in_string false vs)
 
 -- ---- sequences and commands that are written from their parameters or their text
 
--- the control sequence with these parameters that ends in `m` is one rendition, which was written and
--- noted
+-- the control sequence with these parameters that ends in `m` is one rendition, which was written
+-- and noted
 abbrev pub WritesRendition : {A : Type 0} → Written A → List CsiParam → Written A → Type 0
 WritesRendition p es q = (list_all is_plain_param es ≡ true)
     × ((v : CsiValue) × (csi_of es false 0x6d ≡ v ∷ []) × Writes p (csi v ∷ []) q)

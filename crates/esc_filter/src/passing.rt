@@ -85,9 +85,9 @@ impl<'p, P: Admit<A>, A: Allocator> Passing<'p, P, A> {
     }
 }
 
-// Control sequences and commands. What passes is appended from its parameters or its text where that
-// can be, and what does not is passed over; neither is made. Where nothing is known of it, nothing is
-// done, and it returns false.
+// Control sequences and commands. What passes is appended from its parameters or its text where
+// that can be, and what does not is passed over; neither is made. Where nothing is known of it,
+// nothing is done, and it returns false.
 impl<'p, P: Admit<A>, A: Allocator> Passing<'p, P, A> {
     // Takes a control sequence that ends in `m`, where all renditions pass.
     #[inline]

@@ -28,7 +28,8 @@ use Rattle.esc_lent.proofs.OneByte.{by_move, moves_on, is_whole, is_more, first_
 use Rattle.esc_lent.proofs.Only.{in_osc_only}
 use Rattle.esc_lent.proofs.Whole.{bell_class, escape_at, osc_said}
 
-pub none_begun : (p : EscParser) (f : List ℕ) → p.pending ≡ 0 → begun_in p ≡ f → is_empty f ≡ false → ⊥
+pub none_begun : (p : EscParser) (f : List ℕ) → p.pending ≡ 0 → begun_in p ≡ f → is_empty f
+    ≡ false → ⊥
 none_begun p f none is some =
     let e : [] ≡ f = sym (ap (λ n. begun n p.first p.second p.third) none) ∙ is in
     let k : is_empty f ≡ true = ap is_empty (sym e) in cc
@@ -115,7 +116,8 @@ module _ (p q : EscParser) (memory after : List ℕ) (b : ℕ) (three : p.state 
       × (events_all (Some (length memory)) u (b ∷ []) ≡ [])) three
       (λ o ps i empty.
       let lead = first_lead b (is_more [] b (subst (λ f. outcome f b ≡ More) empty goes)) in
-      moved (InOsc o ps) (InOscPending o ps (b ∷ [])) (ap (inside (Some (length memory)) (InOsc o ps) b) lead) (
+      moved (InOsc o ps) (InOscPending o ps (b ∷ []))
+      (ap (inside (Some (length memory)) (InOsc o ps) b) lead) (
         state_same,
         keeps (segments.text_of ps) i,
         begins ∙ ap (λ f. f ++ b ∷ []) empty,
@@ -146,7 +148,8 @@ module _ (p q : EscParser) (memory after : List ℕ) (b : ℕ) (three : p.state 
       let x = f ++ b ∷ [] in
       moved (InOscPending o ps f) (InOsc o (ps ++ Sequence x ∷ []))
       (ap (osc_pending_move (Some (length memory)) o ps f b (class_of b)) whole
-      ∙ ap (λ t. if t then emitting (leaving (Some (length memory)) (InOscPending o ps f)) (pair_move b (class_of b)) else
+      ∙ ap (λ t. if t then emitting (leaving (Some (length memory)) (InOscPending o ps f))
+      (pair_move b (class_of b)) else
       (InOsc o (ps ++ Sequence x ∷ []), []))
       (subst (λ f. is_pair (f ++ b ∷ []) ≡ false) is single)) (
         state_same,

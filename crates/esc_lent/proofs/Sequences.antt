@@ -197,7 +197,8 @@ final_move : (l : Option ℕ) (x : List ℕ) (b : ℕ) (c : Class) → ends_esca
 final_move l x b Parameter h k = refl
 final_move l x b Final h k = refl
 final_move l x b (Introducer i) h k =
-    ap (λ t. if t then (opened i (Long x), []) else (Ground, escape_event (strip x) b ∷ [])) (k refl)
+    ap (λ t. if t then (opened i (Long x), []) else (Ground, escape_event (strip x) b ∷ []))
+    (k refl)
 final_move l x b _ h k = absurd cc
 
 some_first : (x : List ℕ) (n : ℕ) → n ≡ length (take 2 x) → n ≢ 0 → is_empty x ≡ false

@@ -33,8 +33,8 @@ pub fn put_pending(parser: &mut EscParser, pending: Pending)
     parser.third = third;
 }
 
-/// Takes a byte of a character or of a C1 control, the first or a later one. False where the byte is
-/// none, and then nothing changes.
+/// Takes a byte of a character or of a C1 control, the first or a later one. False where the byte
+/// is none, and then nothing changes.
 #[inline(always)]
 pub fn note_character(parser: &mut EscParser, byte: u8, event: &mut EscEvent) -> bool
     requires ground { parser.old.state ≡ GROUND }
@@ -82,8 +82,8 @@ pub fn is_broken(parser: &EscParser, byte: u8) -> bool
     }
 }
 
-/// Notes a character that was broken off, as U+FFFD. What the byte gives that broke it off is handed
-/// out after it.
+/// Notes a character that was broken off, as U+FFFD. What the byte gives that broke it off is
+/// handed out after it.
 pub fn note_broken(parser: &mut EscParser, byte: u8, event: &mut EscEvent)
     requires ground { parser.old.state ≡ GROUND }
     requires broken { outcome (begun_in parser.old) byte ≡ Outcome.Broken }

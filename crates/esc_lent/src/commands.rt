@@ -20,8 +20,8 @@ use esc_frame::classes::{Class, classify};
 use esc_frame::runs::scans::{ascii_run, units_run};
 use esc_frame::utf8::sequence::{Outcome, Pending};
 
-/// Appends to the text that is kept, or notes that it is past the limit. False where the numbers are
-/// no parser's, and then nothing changes.
+/// Appends to the text that is kept, or notes that it is past the limit. False where the numbers
+/// are no parser's, and then nothing changes.
 #[inline(always)]
 pub fn append(parser: &mut EscParser, memory: &mut [u8], text: &[u8]) -> bool
     ensures other { result ≡ false → (parser.new ≡ parser.old) × (memory.new ≡ memory.old) }

@@ -140,8 +140,8 @@ fn end(
     true
 }
 
-/// Takes a byte of a header, or one that breaks the string off. False where it ends a header that is
-/// past the limit, and then nothing changes.
+/// Takes a byte of a header, or one that breaks the string off. False where it ends a header that
+/// is past the limit, and then nothing changes.
 #[inline(never)]
 pub fn note_in_header(
     parser: &mut EscParser,

@@ -1,4 +1,5 @@
-//! Controls that end a string and do what they do between sequences, where the string came in pieces.
+//! Controls that end a string and do what they do between sequences, where the string came in
+//! pieces.
 #![tactic(auto)]
 
 ghost use Rattle.std.specs.Prelude.{◌≡◌, ◌≢◌, ◌≤◌, ◌<◌, ◌⊎◌, ◌∷◌, [], ℕ, List, true, false, length};

@@ -89,8 +89,8 @@ fn is_quiet(event: &EscEvent, parser: &EscParser) -> bool
     (event.kind == NONE || event.kind == CONTROL) && parser.queued_kind == NONE
 }
 
-/// Notes that a string was longer than the limit, where these bytes, taken from this place on, ended
-/// one, and no event of it was noted. A control that was noted is handed out after it.
+/// Notes that a string was longer than the limit, where these bytes, taken from this place on,
+/// ended one, and no event of it was noted. A control that was noted is handed out after it.
 pub fn note_limited(before: Place, parser: &mut EscParser, event: &mut EscEvent, bytes: &[u8])
     requires { 0 < length bytes.now }
     ensures { NotesLimit before parser.old parser.new event.old event.new bytes.now }

@@ -136,7 +136,8 @@ fn note_step(
 }
 
 /// Takes what comes first, where it continues a sequence, a string or a character, begins one, or
-/// breaks it off: at least a byte. Nothing where something else comes, which is left to the machine.
+/// breaks it off: at least a byte. Nothing where something else comes, which is left to the
+/// machine.
 #[inline(always)]
 pub fn note_piece(
     parser: &mut EscParser,

@@ -101,7 +101,8 @@ module _ {S A : Type 0} (R : S → ActionRef (Action A) → S → Type 0) where
     alone_given Q (Ok x) h = inr (done, r, ends_alone, h)
     alone_given Q (Err e) h = (r, ends_alone, h)
 
-  pub lends_run : (cs : List ℕ) (p q : Lending S) (r : ActionRef (Action A)) → 0 < length cs → q.begun ≡ []
+  pub lends_run : (cs : List ℕ) (p q : Lending S) (r : ActionRef (Action A)) → 0 < length cs
+      → q.begun ≡ []
       → values_of r ≡ map print (p.begun ++ cs) → R p.sink r q.sink
       → FoldsTo (Lends R) p (map action.Print cs) q
   lends_run [] p q r some done means took = absurd (omega arith)
@@ -140,7 +141,8 @@ module _ {S A : Type 0} (R : S → ActionRef (Action A) → S → Type 0) where
       (w.1 (with_one p c) (inl (c, refl, refl, refl)))
 
   -- the values of what ends here, and those after it
-  ends : (p : Lending S) (a : Action A) (r : ActionRef (Action A)) (v : Value A) (vs : List (Value A))
+  ends : (p : Lending S) (a : Action A) (r : ActionRef (Action A)) (v : Value A)
+      (vs : List (Value A))
       → value_of a ≡ v → Ends p a r → values_of r ++ vs ≡ map print p.begun ++ v ∷ vs
   ends p a r v vs is means =
       ap (λ l. l ++ vs) means ∙ append_assoc (map print p.begun) (value_of a ∷ []) vs
@@ -177,7 +179,8 @@ module _ {S A : Type 0} (R : S → ActionRef (Action A) → S → Type 0) where
       let w = gets_refs j vs q rest done in (
         r ∷ w.0,
         ap (λ l. l ++ flat_map values_of w.0) means
-            ∙ ap (λ l. (map print p.begun ++ value_of a ∷ []) ++ l) (w.1 ∙ ap (λ l. map print l ++ vs) none)
+            ∙ ap (λ l. (map print p.begun ++ value_of a ∷ []) ++ l)
+            (w.1 ∙ ap (λ l. map print l ++ vs) none)
             ∙ append_assoc (map print p.begun) (value_of a ∷ []) vs
             ∙ ap (λ x. map print p.begun ++ x ∷ vs) is,
         (j.sink, took, w.2),
@@ -223,7 +226,8 @@ module _ {S A : Type 0} (R : S → ActionRef (Action A) → S → Type 0) where
         w.2,
         sym (ap (λ l. (l ++ flat_map values_of w.0) ++ w.1) means
             ∙ append_assoc (map print p.begun ++ value_of a ∷ []) (flat_map values_of w.0) w.1
-            ∙ ap (λ l. (map print p.begun ++ value_of a ∷ []) ++ l) (sym w.3 ∙ ap (λ l. map print l ++ vs) none)
+            ∙ ap (λ l. (map print p.begun ++ value_of a ∷ []) ++ l)
+            (sym w.3 ∙ ap (λ l. map print l ++ vs) none)
             ∙ append_assoc (map print p.begun) (value_of a ∷ []) vs
             ∙ ap (λ x. map print p.begun ++ x ∷ vs) is),
         (j.sink, took, w.4),
@@ -252,7 +256,8 @@ module _ {S A : Type 0} (R : S → ActionRef (Action A) → S → Type 0) where
             let (none, r, means, taken) = x in
             awaits_lent (rs ++ r ∷ []) q vs
             (whole ∙ ap (λ l. flat_map values_of rs ++ l) (sym (ends p a r v vs is means))
-            ∙ one_ref rs r vs ∙ ap (λ l. flat_map values_of (rs ++ r ∷ []) ++ (map print l ++ vs)) (sym none))
+            ∙ one_ref rs r vs ∙ ap
+            (λ l. flat_map values_of (rs ++ r ∷ []) ++ (map print l ++ vs)) (sym none))
             (folds_one rs old p.sink r q.sink took taken)
       ],
     )
@@ -278,7 +283,8 @@ module _ {S A : Type 0} (R : S → ActionRef (Action A) → S → Type 0) where
 
   -- one action, by what it is
   module _ {V : Type 0} (IsIt : Action A → V → Type 0) (p : Lending S) (none : p.begun ≡ [])
-      (vs : List V) (v : V) (a : Action A) (r : ActionRef (Action A)) (one : vs ≡ v ∷ []) (is : IsIt a v)
+      (vs : List V) (v : V) (a : Action A) (r : ActionRef (Action A)) (one : vs ≡ v ∷ [])
+      (is : IsIt a v)
       (means : values_of r ≡ value_of a ∷ []) where
     ends_one : Ends p a r
     ends_one = means ∙ ap (λ l. map print l ++ value_of a ∷ []) (sym none)
@@ -287,7 +293,8 @@ module _ {S A : Type 0} (R : S → ActionRef (Action A) → S → Type 0) where
         → MayGet (λ x. is_ready x.sink) (AnyBy IsIt (MayLend may)) (By IsIt (Lends R)) p vs
         → is_ready p.sink ⊎ may p.sink r
     may_one is_ready may w =
-        ⊎_map (λ x. x) (λ x. (subst (Awaits (AnyBy IsIt (MayLend may)) (By IsIt (Lends R)) p) one x).0 a is r ends_one) w
+        ⊎_map (λ x. x) (λ x. (subst (Awaits (AnyBy IsIt (MayLend may)) (By IsIt (Lends R)) p)
+        one x).0 a is r ends_one) w
 
     pub one_given : (q : Lending S) → q.begun ≡ [] → R p.sink r q.sink
         → FoldsTo (By IsIt (Lends R)) p vs q
@@ -295,7 +302,8 @@ module _ {S A : Type 0} (R : S → ActionRef (Action A) → S → Type 0) where
         subst (λ l. FoldsTo (By IsIt (Lends R)) p l q) (sym one)
         (q, (a, is, inr (done, r, ends_one, took)), refl)
 
-    pub one_refused : (Q : S → ActionRef (Action A) → S → Type 0) (q : Lending S) → Q p.sink r q.sink
+    pub one_refused : (Q : S → ActionRef (Action A) → S → Type 0) (q : Lending S)
+        → Q p.sink r q.sink
         → StopsAt ⊥ (By IsIt (Lends R)) (By IsIt (LendsNot Q)) p vs q
     one_refused Q q refused =
         subst (λ l. StopsAt ⊥ (By IsIt (Lends R)) (By IsIt (LendsNot Q)) p l q) (sym one)

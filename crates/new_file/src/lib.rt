@@ -55,9 +55,9 @@ impl<R: Files + AllocGlobal> NewFile<R> {
         self.file.set_permissions(known.permissions())
     }
 
-    /// Puts it in its place where it is whole, once what it holds is on the disk, and keeps the file
-    /// that was there under its name with this suffix, where there is one. Where it is not, or after
-    /// an error, it is removed, and the file of its place stays as it is.
+    /// Puts it in its place where it is whole, once what it holds is on the disk, and keeps the
+    /// file that was there under its name with this suffix, where there is one. Where it is not, or
+    /// after an error, it is removed, and the file of its place stays as it is.
     pub fn end(self, rt: &R, suffix: &str, is_whole: bool) -> io::Result<()> {
         if is_whole {
             return self.take_place(rt, suffix);

@@ -3,7 +3,8 @@ use Rattle.std.proofs.lemmas.Bool.Decides.{nat_tests}
 use Rattle.esc_lent.proofs.OneByte.{malformed_notes, formed_notes}
 use Rattle.esc_lent.proofs.bodies.end.Goals as goal
 
-pub returns-then-parser-eq-MALFORMED-clause-notes : goal.returns-then-parser-eq-MALFORMED-clause-notes
+pub returns-then-parser-eq-MALFORMED-clause-notes :
+    goal.returns-then-parser-eq-MALFORMED-clause-notes
 returns-then-parser-eq-MALFORMED-clause-notes c =
     let b = c.args.byte in
     let low : 0x40 ≤ b = grind (arith, nat_tests, c.requires.ends) in

@@ -17,4 +17,5 @@ returns-clause-body c = λ x h.
     (c.number_of_form-parser.ensures ∙ c.next.ensures
     ∙ ap (λ f. next_form f c.args.byte) c.form_of.ensures)
     (digit_yes c.args.byte c.requires.low c.requires.high) refl refl refl refl
-    (λ o n. c.next_number-parser.ensures.value ∙ ap (λ n. held (10 * n + (c.args.byte - 0x30))) (c.number_so_far.ensures.value o n))
+    (λ o n. c.next_number-parser.ensures.value
+    ∙ ap (λ n. held (10 * n + (c.args.byte - 0x30))) (c.number_so_far.ensures.value o n))

@@ -21,7 +21,8 @@ returns-in-More-clause-notes c = λ yes.
     let b = c.args.byte in
     let begun = c.pending_in-pending.ensures in
     let goes = sym c.outcome.ensures ∙ c.in-More.is in
-    nothing_noted c.args.parser.now c.put_pending.new.parser c.args.event.now (b ∷ []) c.requires.none
+    nothing_noted c.args.parser.now c.put_pending.new.parser c.args.event.now (b ∷ [])
+    c.requires.none
     (more_passes c.args.parser.now c.put_pending.new.parser b c.requires.ground
     (ap (λ q. q.state) c.put_pending.ensures.same) (sym (ap (λ f. outcome f b) begun) ∙ goes)
     (c.put_pending.ensures.begun ∙ c.with.ensures (is_more _ b goes)

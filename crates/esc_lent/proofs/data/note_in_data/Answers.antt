@@ -8,7 +8,8 @@ pub returns-in-Breaks-Escape-clause-notes : goal.returns-in-Breaks-Escape-clause
 returns-in-Breaks-Escape-clause-notes c = λ yes.
     let s = c.escape.ensures.state in
     end_notes c.args.parser.now c.escape.new.parser (record c.args.event.now { kind = 10 })
-    c.args.byte c.requires.state s.0 s.1 s.2 (sym c.classify.ensures ∙ c.in-Breaks-Escape.is ∙ ap Breaks c.in-Breaks-Escape.field-0-is) refl
+    c.args.byte c.requires.state s.0 s.1 s.2
+    (sym c.classify.ensures ∙ c.in-Breaks-Escape.is ∙ ap Breaks c.in-Breaks-Escape.field-0-is) refl
 
 pub returns-in-Delete-clause-notes : goal.returns-in-Delete-clause-notes
 returns-in-Delete-clause-notes c = λ yes.

@@ -6,4 +6,5 @@ pub returns-clause-gives : goal.returns-clause-gives
 returns-clause-gives c = λ out memory.
     let take = c.take_after in
     data_left c.args.parser.now take.new.parser (record c.args.event.now { kind = 10 }) memory out
-    c.args.byte c.requires.breaks (take.ensures.kept memory) take.ensures.queued c.requires.state refl
+    c.args.byte c.requires.breaks (take.ensures.kept memory) take.ensures.queued
+    c.requires.state refl

@@ -14,7 +14,8 @@ returns-then-is_broken-clause-gives c = λ some.
     subst (Gives c.args.parser.now c.note_broken.new.parser e step.new.out c.args.memory.now m)
     (sym (first_taken c.args.bytes.now c.requires.some))
     (given_still c.args.parser.now step.new.parser c.note_broken.new.parser e step.new.out
-    c.args.memory.now m m (get_or c.args.bytes.now 0 0 ∷ []) same.0 same.2 (c.note_broken.ensures.gives step.new.out m))
+    c.args.memory.now m m (get_or c.args.bytes.now 0 0 ∷ []) same.0 same.2
+    (c.note_broken.ensures.gives step.new.out m))
 
 pub returns-then-note_left-clause-gives : goal.returns-then-note_left-clause-gives
 returns-then-note_left-clause-gives c = λ some.

@@ -55,7 +55,8 @@ loop-at-preserved g c =
           (λ v. c.in_ok-at-in-Some.ensures.given u limit sy v ends) line.1.0));
     }
 
-pub returns-in_err-feed_line-in-Some-clause-refused : goal.returns-in_err-feed_line-in-Some-clause-refused
+pub returns-in_err-feed_line-in-Some-clause-refused :
+    goal.returns-in_err-feed_line-in-Some-clause-refused
 returns-in_err-feed_line-in-Some-clause-refused g c = λ u limit s w.
     let inv = c.loop-at.invariant in
     let sx = s ++ take c.loop-at.at c.args.bytes.now in

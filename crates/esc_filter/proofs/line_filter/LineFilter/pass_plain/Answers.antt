@@ -19,5 +19,6 @@ returns-clause-given g c = λ u limit s w ends.
     let passes : c.passes_text.result ≡ true = search rules in
     subst (λ x. GrowsBy u admits limit s x c.args.self.now new) c.plain_lines-lines.ensures.first
     (plain_grows g.row.A.Denot admits (c.passes_text.ensures passes) u limit s
-    c.plain_lines-lines.result.now c.args.self.now new w ends c.plain_lines-lines.ensures.lines refl refl
+    c.plain_lines-lines.result.now c.args.self.now new w ends c.plain_lines-lines.ensures.lines
+    refl refl
     c.in_ok-push_str.ensures.bytes)

@@ -9,4 +9,5 @@ returns-then-known-clause-taken g c = λ _.
     let ps = parts_of c.args.text.now in
     command_stays g.P.Admit.admits ps c.args.self.now
     (c.known-known.ensures.no_commands c.if-known.true (command_meant ps)
-    (other_begins g.row.A.Denot c.args.text.now (c.has_other_code.ensures c.if-has_other_code.true)))
+    (other_begins g.row.A.Denot c.args.text.now
+    (c.has_other_code.ensures c.if-has_other_code.true)))

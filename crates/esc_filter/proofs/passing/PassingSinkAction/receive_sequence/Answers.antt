@@ -17,7 +17,8 @@ returns-then-known-clause-taken g c = λ _.
     let f = c.args.control in
     stays_taken g.P.Admit.admits es c.args.parameters_truncated f c.args.self.now
     c.if-parameters_truncated.false
-    (functions_stay (g.P.Admit.admits c.args.self.now.policy.now) c.known-known.result c.known-known.ensures
+    (functions_stay (g.P.Admit.admits c.args.self.now.policy.now) c.known-known.result
+    c.known-known.ensures
     c.if-known.true es f (ne_eqb f 0x6d c.if-control-ne109.true))
 
 pub returns-then-known-2-clause-taken : goal.returns-then-known-2-clause-taken

@@ -25,7 +25,8 @@ returns-in-Ok-clause-taken g c = λ _.
 
 pub returns-in-Err-clause-refused : goal.returns-in-Err-clause-refused
 returns-in-Err-clause-refused g c =
-    one_refused g.S.BorrowingSink.takes (λ a ps. value_of a ≡ osc (command_meant ps)) c.args.self.now
+    one_refused g.S.BorrowingSink.takes (λ a ps. value_of a ≡ osc (command_meant ps))
+    c.args.self.now
     c.nothing_begun.ensures _ (parts_of c.args.text.now)
     (action.OperatingSystemCommand (command_meant (parts_of c.args.text.now)))
     (Command c.args.text) refl refl refl

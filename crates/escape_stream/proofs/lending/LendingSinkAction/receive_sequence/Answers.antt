@@ -11,7 +11,8 @@ pub receive-requires-clause-ready : goal.receive-requires-clause-ready
 receive-requires-clause-ready g c =
     may_one g.S.BorrowingSink.takes (λ a v. value_of a ≡ csi v) c.args.self.now
     c.nothing_begun.ensures _
-    (unspecified c.args.params.now c.args.parameters_truncated c.args.control) (action.CSI (csi_variant.Unspecified (record {
+    (unspecified c.args.params.now c.args.parameters_truncated c.args.control)
+    (action.CSI (csi_variant.Unspecified (record {
       params = c.args.params.now;
       parameters_truncated = c.args.parameters_truncated;
       control = c.args.control;
@@ -24,7 +25,8 @@ pub returns-in-Ok-clause-taken : goal.returns-in-Ok-clause-taken
 returns-in-Ok-clause-taken g c = λ _.
     one_given g.S.BorrowingSink.takes (λ a v. value_of a ≡ csi v) c.args.self.now
     c.nothing_begun.ensures _
-    (unspecified c.args.params.now c.args.parameters_truncated c.args.control) (action.CSI (csi_variant.Unspecified (record {
+    (unspecified c.args.params.now c.args.parameters_truncated c.args.control)
+    (action.CSI (csi_variant.Unspecified (record {
       params = c.args.params.now;
       parameters_truncated = c.args.parameters_truncated;
       control = c.args.control;
@@ -37,7 +39,8 @@ pub returns-in-Err-clause-refused : goal.returns-in-Err-clause-refused
 returns-in-Err-clause-refused g c =
     one_refused g.S.BorrowingSink.takes (λ a v. value_of a ≡ csi v) c.args.self.now
     c.nothing_begun.ensures _
-    (unspecified c.args.params.now c.args.parameters_truncated c.args.control) (action.CSI (csi_variant.Unspecified (record {
+    (unspecified c.args.params.now c.args.parameters_truncated c.args.control)
+    (action.CSI (csi_variant.Unspecified (record {
       params = c.args.params.now;
       parameters_truncated = c.args.parameters_truncated;
       control = c.args.control;
