@@ -8,8 +8,8 @@ use core::str;
 /// a link, or the mark of a prompt without keys or with `aid` alone. Of others, and where a part is
 /// empty or has a `;`, `:` or `=` besides, there is none: the library reads them.
 ///
-/// These come most often, and this costs a tenth of what the library's call does, which makes rows of
-/// fields. In debug builds each is compared with what that call says.
+/// These come most often, and this costs a tenth of what the library's call does, which makes rows
+/// of fields. In debug builds each is compared with what that call says.
 #[inline]
 pub fn plain(text: &[u8]) -> Option<OperatingSystemCommand> {
     match text {
