@@ -2,9 +2,9 @@
 //!
 //! `bench [--counts] [MEASURE..] < STREAM` reads a stream whole and prints a line for each measure,
 //! `framing`, `parse`, `parse_borrowed`, `parse_reusing`, `parse_first`, `parse_first_as_vec`,
-//! `encode`, `normalise`, `images` or `endless` (all where none is named): its best speed of
-//! several passes in MB/s (10^6 bytes a second), and what it counted. `--counts` leaves out the
-//! speed, so that the output depends on the stream alone.
+//! `parse_first_into`, `encode`, `normalise`, `images` or `endless` (all where none is named): its
+//! best speed of several passes in MB/s (10^6 bytes a second), and what it counted. `--counts`
+//! leaves out the speed, so that the output depends on the stream alone.
 #![tactic(auto)]
 
 mod borrowed_tally;

@@ -9,7 +9,7 @@ use crate::input::Input;
 use crate::tally::Tally;
 use anyhow::Result;
 use esc_frame::parser::VTParser;
-use escape_stream::{Parser, Watched, encode, normalise, parse_borrowed};
+use escape_stream::{Action, Parser, Watched, encode, normalise, parse_borrowed};
 use reusing::Reusing;
 use std::alloc::Global;
 use std::fmt;
@@ -29,6 +29,8 @@ pub enum Measure {
     ParseFirst,
     /// The actions of the prefixes of a stream that leave no segment unfinished, counted.
     ParseFirstAsVec,
+    /// The same, from a list that serves all calls.
+    ParseFirstInto,
     /// The text of a stream's actions.
     Encode,
     /// The normal text of a stream.
@@ -47,13 +49,14 @@ const LIMIT: usize = 65_536;
 
 impl Measure {
     /// All measures, in the order in which they are taken.
-    pub const ALL: [Measure; 10] = [
+    pub const ALL: [Measure; 11] = [
         Measure::Framing,
         Measure::Parse,
         Measure::ParseBorrowed,
         Measure::ParseReusing,
         Measure::ParseFirst,
         Measure::ParseFirstAsVec,
+        Measure::ParseFirstInto,
         Measure::Encode,
         Measure::Normalise,
         Measure::Images,
@@ -69,6 +72,7 @@ impl Measure {
             Measure::ParseReusing => "parse_reusing",
             Measure::ParseFirst => "parse_first",
             Measure::ParseFirstAsVec => "parse_first_as_vec",
+            Measure::ParseFirstInto => "parse_first_into",
             Measure::Encode => "encode",
             Measure::Normalise => "normalise",
             Measure::Images => "images",
@@ -85,6 +89,7 @@ impl Measure {
             Measure::ParseReusing => reusing(alloc, &input.bytes),
             Measure::ParseFirst => first_actions(alloc, &input.bytes),
             Measure::ParseFirstAsVec => prefixes(alloc, &input.bytes),
+            Measure::ParseFirstInto => appended(alloc, &input.bytes),
             Measure::Encode => Ok(Counted::Bytes(encode(alloc, &input.actions)?.len())),
             Measure::Normalise => normal(alloc, &input.bytes),
             Measure::Images => images(alloc, &input.bytes),
@@ -174,6 +179,29 @@ fn prefixes(alloc: Global, bytes: &[u8]) -> Result<Counted> {
         rest = &rest[len..];
     }
     Ok(tally.counted())
+}
+
+fn appended(alloc: Global, bytes: &[u8]) -> Result<Counted> {
+    let mut tally = Tally::new();
+    let mut parser = Parser::new(alloc);
+    let mut actions = Vec::new(alloc);
+    let mut rest = bytes;
+    while !rest.is_empty() {
+        let Some(len) = parser.parse_first_into(rest, &mut actions)? else {
+            break;
+        };
+        count(&mut actions, &mut tally);
+        rest = &rest[len..];
+    }
+    Ok(tally.counted())
+}
+
+// Counts the actions, and leaves the list empty.
+#[inline]
+fn count(actions: &mut Vec<Action>, tally: &mut Tally) {
+    while let Some(action) = actions.pop() {
+        tally.add(action);
+    }
 }
 
 fn normal(alloc: Global, bytes: &[u8]) -> Result<Counted> {

@@ -1,9 +1,14 @@
--- What a list of actions is given as a run.
-use Rattle.std.proofs.Common.{ℕ, ◌≡◌, ◌<◌, List, [], ◌∷◌, ◌++◌, length, map, ap, ◌∙◌, inl, inr, arith}
+-- What a list of actions is given, one after another or as a run.
+use Rattle.std.proofs.Common.{ℕ, ◌≡◌, ◌<◌, ◌+◌, List, [], ◌∷◌, ◌++◌, length, map, refl, ap, sym, ◌∙◌, append_assoc, inl, inr, arith, Result, Ok, Err}
+use Rattle.std.proofs.lemmas.List.{append-nil, length-append, length-map, map-append}
 use Rattle.std.specs.List.{FoldsTo}
 use Rattle.esc_actions.specs.declared.action.Action.{Action}
-use Rattle.esc_parse.specs.Collected.{Gathers}
-use Rattle.esc_parse.specs.Given.{StopsAt}
+use Rattle.esc_actions.specs.Values.{Value, value_of}
+use Rattle.esc_frame.specs.declared.error.ParseError.{ParseError}
+use Rattle.esc_parse.specs.Calls.{IsRefused, IsStopped}
+use Rattle.esc_parse.specs.Collected.{Adds, AddsSome, Gathers}
+use Rattle.esc_parse.specs.Given.{At, StopsAt}
+use Rattle.esc_parse.specs.declared.parser.Parser.{Parser}
 use Rattle.esc_parse.specs.declared.sink.Collect.{Collect}
 use Rattle.memory.specs.Refusals.{Refused}
 
@@ -22,3 +27,70 @@ module _ {A : Type 0} (f : ℕ → Action A) where
       → StopsAt ⊥ Gathers (λ p a q. (q.actions.items ≡ p.actions.items) × Refused A) p (map f xs) q
   gathers_none [] p q some e r = absurd (omega arith)
   gathers_none (x ∷ xs) p q some e r = inr (inl (e, r))
+
+-- a list is refused a place for an action
+abbrev Full : {A : Type 0} → Collect A → Action A → Collect A → Type 0
+Full {A} p a q = (q.actions.items ≡ p.actions.items) × Refused A
+
+pub adds_none : {A : Type 0} (had all : List (Action A)) → all ≡ had → Adds had [] all
+adds_none had all e = ([], e ∙ sym (append-nil had), refl)
+
+pub adds_more : {A : Type 0} (had mid all : List (Action A)) (vs ws : List (Value A))
+    → Adds had vs mid → Adds mid ws all → Adds had (vs ++ ws) all
+adds_more had mid all vs ws (one, is, of) (two, same, more) = (
+  one ++ two,
+  same ∙ ap (λ l. l ++ two) is ∙ append_assoc had one two,
+  map-append value_of one two ∙ ap (λ l. l ++ map value_of two) of ∙ ap (λ l. vs ++ l) more,
+)
+
+pub adds_some : {A : Type 0} (had mid all : List (Action A)) (vs ws : List (Value A))
+    → Adds had vs mid → AddsSome mid ws all → AddsSome had (vs ++ ws) all
+adds_some had mid all vs ws one (prefix, rest, whole, two) = (
+  vs ++ prefix,
+  rest,
+  ap (λ l. vs ++ l) whole ∙ sym (append_assoc vs prefix rest),
+  adds_more had mid all vs prefix one two,
+)
+
+pub adds_one : {A : Type 0} (had all : List (Action A)) (a : Action A) (v : Value A)
+    → all ≡ had ++ a ∷ [] → value_of a ≡ v → Adds had (v ∷ []) all
+adds_one had all a v e is = (a ∷ [], e, ap (λ x. x ∷ []) is)
+
+-- those that came after none are all
+pub adds_all : {A : Type 0} (had all : List (Action A)) (vs : List (Value A)) → had ≡ []
+    → Adds had vs all → map value_of all ≡ vs
+adds_all had all vs e (more, is, of) =
+    ap (map value_of) (is ∙ ap (λ l. l ++ more) e) ∙ of
+
+-- how many there are then, of lists that are seen as slices
+pub counts_more : {A : Type 0} (had all now later : List (Action A)) (vs : List (Value A))
+    → had ≡ now → all ≡ later → Adds now vs later → length all ≡ length had + length vs
+counts_more had all now later vs h a (more, is, of) =
+    ap length (a ∙ is ∙ ap (λ l. l ++ more) (sym h)) ∙ length-append had more
+    ∙ ap (λ n. length had + n) (sym (length-map more value_of) ∙ ap length of)
+
+-- what it was given, one after another, was appended
+pub gathers : {A : Type 0} (p : Collect A) (vs : List (Value A)) (q : Collect A)
+    → FoldsTo (At value_of Gathers) p vs q → Adds p.actions.items vs q.actions.items
+gathers p [] q e = adds_none _ _ (ap (λ x. x.actions.items) (sym e))
+gathers p (v ∷ vs) q (j, (a, is, t), rest) =
+    adds_more p.actions.items j.actions.items q.actions.items (v ∷ []) vs
+    (adds_one _ _ a v t is) (gathers j vs q rest)
+
+-- or a prefix of it
+pub gathers_some : {A : Type 0} (own : Type 0) (p : Collect A) (vs : List (Value A))
+    (q : Collect A) → StopsAt own (At value_of Gathers) (At value_of Full) p vs q
+    → AddsSome p.actions.items vs q.actions.items
+gathers_some own p [] q e = ([], [], refl, adds_none _ _ (ap (λ x. x.actions.items) (sym e.1)))
+gathers_some own p (v ∷ vs) q (inl e) =
+    ([], v ∷ vs, refl, adds_none _ _ (ap (λ x. x.actions.items) (sym e.1)))
+gathers_some own p (v ∷ vs) q (inr (inl r)) = ([], v ∷ vs, refl, adds_none _ _ r.2.0)
+gathers_some own p (v ∷ vs) q (inr (inr (j, (a, is, t), rest))) =
+    adds_some p.actions.items j.actions.items q.actions.items (v ∷ []) vs
+    (adds_one _ _ a v t is) (gathers_some own j vs q rest)
+
+-- a call that stopped for a reason was refused memory where that is one
+pub stopped_refused : {A T : Type 0} (r : Result T ParseError) (p : Parser A) (X Y : Type 0)
+    → (X → Y × Refused A) → IsStopped r p X → IsRefused r p Y
+stopped_refused (Ok x) p X Y f w = tt
+stopped_refused (Err e) p X Y f w = let why = f w.2 in (w.0, w.1, why.0, why.1)

@@ -11,7 +11,14 @@ use Rattle.esc_frame.specs.Events.{Event}
 use Rattle.esc_frame.specs.Events.Event.{Execute, Print}
 use Rattle.esc_frame.specs.Memory.{MayTake}
 use Rattle.esc_frame.specs.Stream.{added_within, events_within, IsAtGround, IsQuietWithin}
+use Rattle.esc_parse.proofs.Collecting.{adds_more, adds_none, adds_some}
 use Rattle.esc_parse.proofs.Prefixes.{rest_is}
+use Rattle.esc_frame.specs.Parses.{AddsOne}
+use Rattle.esc_parse.proofs.Yields.{hooks_by}
+use Rattle.esc_parse.specs.Calls.{Yields}
+use Rattle.esc_parse.specs.Fed.{WasFedWithin}
+use Rattle.esc_parse.specs.declared.parser.Parser.{Parser}
+use Rattle.esc_parse.specs.Collected.{Adds, AddsSome}
 use Rattle.esc_actions.proofs.Meanings.{meaning_more, yield_is}
 use Rattle.esc_parse.specs.Firsts.{first, IsFirst, IsFirstStop, IsStop}
 use Rattle.esc_parse.specs.Given.{At, StopsAt, first_of}
@@ -219,45 +226,50 @@ none_in_quiet limit s bs n q (suc k) h =
     yield_quiet limit s (take (suc k) bs) (q (suc k) (omega arith) h).0
 
 -- n bytes yield one value
-finds_one : {A : Type 0} (limit : Option ℕ) (s bs : List ℕ) (n : ℕ) (v : Value A) → n ≤ length bs
-    → yield_within limit s (take n bs) ≡ v ∷ []
+pub finds_one : {A : Type 0} (limit : Option ℕ) (s bs : List ℕ) (n : ℕ) (v : Value A)
+    → n ≤ length bs → v ∷ [] ≡ yield_within limit s (take n bs)
     → IsQuietWithin limit s bs n → IsFirst limit s bs v n
 finds_one limit s bs n v l e q = record {
   within = l;
   others = [];
-  first = e;
+  first = sym e;
   none_before = none_in_quiet limit s bs n q;
 }
 
-yields_by : {A : Type 0} (limit : Option ℕ) (s b : List ℕ) (x : Event)
+-- in ground, so they are a stop
+pub stops_one : {A : Type 0} (limit : Option ℕ) (s bs : List ℕ) (n : ℕ) (v : Value A)
+    → n ≤ length bs → v ∷ [] ≡ yield_within limit s (take n bs)
+    → IsQuietWithin limit s bs n → IsAtGround (s ++ take n bs)
+    → IsFirstStop {A = A} limit s bs (yield_within limit s (take n bs)) n
+stops_one {A = A} limit s bs n v l e q ground = record {
+  within = l;
+  values = refl;
+  stop = (λ none. (let same = e ∙ none in absurd cc), ground);
+  none_before = λ k h stop. stop.0 (none_in_quiet {A = A} limit s bs n q k h);
+}
+
+pub yields_by : {A : Type 0} (limit : Option ℕ) (s b : List ℕ) (x : Event)
     → added_within limit s b ≡ x ∷ []
     → yield_within {A = A} limit s b
     ≡ values_from limit (mode_from plain (events_within limit s)) (x ∷ [])
 yields_by limit s b x e =
     yield_is limit s b ∙ ap (values_from limit (mode_from plain (events_within limit s))) e
 
-pub finds_character : {A : Type 0} (limit : Option ℕ) (s bs : List ℕ) (n c : ℕ) → n ≤ length bs
-    → added_within limit s (take n bs) ≡ Print c ∷ []
-    → IsQuietWithin limit s bs n
-    → IsFirst {A = A} limit s bs (print c) n
-finds_character limit s bs n c l e q =
-    finds_one limit s bs n (print c) l (yields_by limit s (take n bs) (Print c) e) q
-
-finds_control : {A : Type 0} (limit : Option ℕ) (s bs : List ℕ) (b : ℕ) (c : ControlCode)
-    → 0 < length bs → added_within limit s (take 1 bs) ≡ Execute b ∷ []
-    → code_of b ≡ Some c
-    → IsFirst {A = A} limit s bs (control c) 1
-finds_control limit s bs b c l e is =
-    finds_one limit s bs 1 (control c) (omega (arith, l))
-    (yields_by limit s (take 1 bs) (Execute b) e ∙ rw is refl)
-    (λ k low high. absurd (omega (arith, low, high)))
+pub char_yields : {A : Type 0} (limit : Option ℕ) (s b : List ℕ) (c : ℕ) (p : Parser A)
+    → WasFedWithin limit s p → AddsOne limit s b (Print c) p.framer
+    → Yields limit s b p (print c ∷ [])
+unfolding WasFedWithin
+char_yields limit s b c p h given = (
+  (given.0, hooks_by limit p.unfinished s b (Print c) given.1 refl h.1),
+  sym (yields_by limit s b (Print c) given.1),
+)
 
 pub control_found : (A : Type 0) (limit : Option ℕ) (s bs : List ℕ) (b : ℕ) (W : Type 0)
-    (o : Option ControlCode) → 0 < length bs → W
-    → added_within limit s (take 1 bs) ≡ Execute b ∷ []
-    → o ≡ code_of b → IfSome o (λ c. W × IsFirst {A = A} limit s bs (control c) 1)
-control_found A limit s bs b W None l w e is = tt
-control_found A limit s bs b W (Some c) l w e is = (w, finds_control limit s bs b c l e (sym is))
+    (o : Option ControlCode) → W → added_within limit s bs ≡ Execute b ∷ [] → o ≡ code_of b
+    → IfSome o (λ c. W × (control c ∷ [] ≡ yield_within {A = A} limit s bs))
+control_found A limit s bs b W None w e is = tt
+control_found A limit s bs b W (Some c) w e is =
+    (w, sym (yields_by limit s bs (Execute b) e ∙ rw (sym is) refl))
 
 -- what was taken and n bytes of the rest, where these are all
 pub fed_all : (s bs : List ℕ) (at n : ℕ) → length bs ≤ at + n → s ++ take (at + n) bs ≡ s ++ bs
@@ -271,15 +283,21 @@ no_stop_yet A limit s bs k h stop =
     let e : take k bs ≡ [] =
     ap (λ n. take n bs) z in stop.0 (ap (yield_within limit s) e ∙ yield_nil limit s)
 
+pub adds_nothing : {A : Type 0} (limit : Option ℕ) (s : List ℕ) (had : List (Action A))
+    → Adds had (yield_within limit s []) had
+adds_nothing {A = A} limit s had =
+    let P : List (Value A) → Type 0 = λ vs. Adds had vs had in
+    subst P (sym (yield_nil limit s)) (adds_none had had refl)
+
 -- the values so far, and those of n bytes of the rest
 pub values_more : {A : Type 0} (limit : Option ℕ) (s bs : List ℕ) (at n : ℕ)
-    (had got : List (Value A)) → had ≡ yield_within limit s (take at bs)
-    → got ≡ had ++ yield_within limit (s ++ take at bs)
-    (take n (take (length bs - at) (drop at bs))) → got ≡ yield_within limit s (take (at + n) bs)
-values_more limit s bs at n had got e f =
-    f ∙ ap (λ x. x ++ yield_within limit (s ++ take at bs)
-    (take n (take (length bs - at) (drop at bs)))) e
-    ∙ sym (yield_more limit s bs at n)
+    (had mid all : List (Action A)) → Adds had (yield_within limit s (take at bs)) mid
+    → Adds mid
+    (yield_within limit (s ++ take at bs) (take n (take (length bs - at) (drop at bs)))) all
+    → Adds had (yield_within limit s (take (at + n) bs)) all
+values_more {A = A} limit s bs at n had mid all one two =
+    let P : List (Value A) → Type 0 = λ vs. Adds had vs all in
+    subst P (sym (yield_more limit s bs at n)) (adds_more had mid all _ _ one two)
 
 -- what the rest may want, the whole may
 right_empty : {X : Type 0} (xs ys : List X) → xs ++ ys ≡ [] → ys ≡ []
@@ -295,6 +313,13 @@ takes_rest s bs at =
     subst MayTake (append_assoc s (take at bs) (take (length bs - at) (drop at bs))
     ∙ ap (λ l. s ++ l) (whole_is bs at))
 
+yield_whole : {A : Type 0} (limit : Option ℕ) (s bs : List ℕ) (at : ℕ)
+    → yield_within {A = A} limit s bs ≡ yield_within limit s (take at bs)
+    ++ yield_within limit (s ++ take at bs) (take (length bs - at) (drop at bs))
+yield_whole limit s bs at =
+    ap (yield_within limit s) (sym (whole_is bs at))
+    ∙ yield_append limit s (take at bs) (take (length bs - at) (drop at bs))
+
 pub wants_rest : (A : Type 0) (limit : Option ℕ) (s bs : List ℕ) (at : ℕ)
     → MayWant A limit (s ++ take at bs) (take (length bs - at) (drop at bs))
     → MayWant A limit s bs
@@ -302,8 +327,16 @@ wants_rest A limit s bs at (inl g) = inl (takes_rest s bs at g)
 wants_rest A limit s bs at (inr some) = inr (λ none.
     some (right_empty (yield_within limit s (take at bs))
     (yield_within limit (s ++ take at bs) (take (length bs - at) (drop at bs)))
-    (sym (yield_append limit s (take at bs) (take (length bs - at) (drop at bs)))
-    ∙ ap (yield_within limit s) (whole_is bs at) ∙ none)))
+    (sym (yield_whole limit s bs at) ∙ none)))
+
+pub some_of_rest : {A : Type 0} (limit : Option ℕ) (s bs : List ℕ) (at : ℕ)
+    (had mid all : List (Action A)) → Adds had (yield_within limit s (take at bs)) mid
+    → AddsSome mid
+    (yield_within limit (s ++ take at bs) (take (length bs - at) (drop at bs))) all
+    → AddsSome had (yield_within limit s bs) all
+some_of_rest {A = A} limit s bs at had mid all one two =
+    let P : List (Value A) → Type 0 = λ vs. AddsSome had vs all in
+    subst P (sym (yield_whole limit s bs at)) (adds_some had mid all _ _ one two)
 
 -- such values are handed out
 module _ (A : Type 0)
@@ -314,15 +347,10 @@ module _ (A : Type 0)
   first_handed limit s bs v n is = let P : List (Value A) → Type 0 =
       λ vs. AreHandedOut vs in (subst P is.first (handed limit s (take n bs))).0
 
-  pub stop_handed : (limit : Option ℕ) (s bs : List ℕ) (vs : List (Value A)) (n : ℕ)
-      → IsFirstStop limit s bs vs n → AreHandedOut vs
-  stop_handed limit s bs vs n is = let P : List (Value A) → Type 0 =
-      λ vs. AreHandedOut vs in subst P (sym is.values) (handed limit s (take n bs))
-
 -- a prefix that holds something was taken of something
-pub prefix_some : (len at n had : ℕ) → (0 < len - at → 0 < n) → 0 < had
-    → (len ≡ 0 → at ≡ 0 → had ≡ 0) → 0 < at + n
-prefix_some zero zero n had count some none = let e =
+pub prefix_some : (len at n had have : ℕ) → (0 < len - at → 0 < n) → had < have
+    → (len ≡ 0 → at ≡ 0 → have ≡ had) → 0 < at + n
+prefix_some zero zero n had have count some none = let e =
     none refl refl in absurd (omega (arith, e, some))
-prefix_some (suc len) zero n had count some none = omega (arith, count (omega arith))
-prefix_some len (suc at) n had count some none = omega arith
+prefix_some (suc len) zero n had have count some none = omega (arith, count (omega arith))
+prefix_some len (suc at) n had have count some none = omega arith

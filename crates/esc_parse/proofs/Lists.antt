@@ -1,6 +1,6 @@
 -- Lists, and runs of steps over them.
 use Rattle.std.proofs.Common.{◌≡◌, ◌≢◌, ◌⊎◌, ◌<◌, ◌+◌, ℕ, List, [], ◌∷◌, ◌++◌, length, map, take, get_or, arith, refl, ap, sym, ◌∙◌}
-use Rattle.std.proofs.Common.{subst, inl, inr, Result, Ok, Err, OnOk, OnErr, IfOk, IfErr, IsOkAnd, MatchResult}
+use Rattle.std.proofs.Common.{subst, inl, inr, Option, Some, None, IfSome, Result, Ok, Err, OnOk, OnErr, IfOk, IfErr, IsOkAnd, MatchResult}
 use Rattle.std.specs.List.{FoldsTo, flat_map}
 use Rattle.std.proofs.lemmas.Grind.{flat_map-append}
 use Rattle.std.proofs.lemmas.List.{append-nil, take_more}
@@ -199,6 +199,11 @@ pub stops_more : {P C D V : Type 0} (R Q : P → V → P → Type 0) (own : Type
 stops_more R Q own f g p [] j c rest q e r = inr (inl (subst (λ x. Q x (g (f c)) q) (sym e) r))
 stops_more R Q own f g p (d ∷ cs) j c rest q e r = inr
     (inr (e.0, e.1, stops_more R Q own f g e.0 cs j c rest q e.2 r))
+
+pub if_some_at : {T : Type 0} (P : T → Type 0) (o : Option T) (x : T) → o ≡ Some x → IfSome o P
+    → P x
+if_some_at P None x is h = absurd cc
+if_some_at P (Some y) x is h = let same : y ≡ x = cc in subst P same h
 
 pub if_err_is : {T E : Type 0} (P : E → Type 0) (r : Result T E) (x : E) → r ≡ Err x → P x
     → IfErr r P

@@ -1,6 +1,6 @@
 -- From events to values, and what a sink was given of them.
 use Rattle.std.proofs.Common.{◌≡◌, ℕ, Bool, true, List, [], ◌∷◌, ◌++◌, map, refl, ap, sym, ◌∙◌, subst, append_assoc, inl, inr, Option}
-use Rattle.std.proofs.lemmas.List.{append-nil, map-append}
+use Rattle.std.proofs.lemmas.List.{map-append}
 use Rattle.std.specs.List.{FoldsTo}
 use Rattle.esc_frame.specs.Events.{Awaits, Event, StopsAt as StopsAtEvent}
 use Rattle.esc_frame.specs.Memory.{MayGrow, MayTake, may_grow, may_take}
@@ -11,8 +11,10 @@ use Rattle.esc_frame.proofs.May.{take_prefix, take_rest}
 use Rattle.esc_frame.proofs.Memory.{grows_takes}
 use Rattle.esc_frame.proofs.Streams.{events_more}
 use Rattle.esc_actions.proofs.Meanings.{mode_more, values_append, yield_is}
+use Rattle.esc_parse.proofs.Collecting.{gathers}
 use Rattle.esc_parse.proofs.Grows.{event_takes, growing_takes, segment_takes}
 use Rattle.esc_parse.proofs.Lists.{FoldsTo-append, StopsAt-append, StopsAt-here, StopsAt-longer, StopsAt-weaker}
+use Rattle.esc_parse.specs.Collected.{Gathers}
 use Rattle.esc_parse.specs.Fed.{Hooks}
 use Rattle.esc_parse.specs.Given.{At, StopsAt}
 use Rattle.esc_actions.specs.Meaning.{mode_from, values_from, yield_within}
@@ -179,13 +181,8 @@ module _ {S A : Type 0} (R Q : S → Value A → S → Type 0) where
 
 -- what a list of actions was given
 pub collects : {A : Type 0} (p : Collect A) (vs : List (Value A)) (q : Collect A)
-    → FoldsTo (At value_of (λ p a q. q.actions.items ≡ p.actions.items ++ a ∷ [])) p vs q
+    → FoldsTo (At value_of Gathers) p vs q
     → map value_of q.actions.items ≡ map value_of p.actions.items ++ vs
-collects p [] q e =
-    ap (λ x. map value_of x.actions.items) (sym e) ∙ sym (append-nil (map value_of p.actions.items))
-collects p (v ∷ vs) q e =
-    collects e.0 vs q e.2
-    ∙ ap (λ l. map value_of l ++ vs) e.1.2
-    ∙ ap (λ l. l ++ vs) (map-append value_of p.actions.items (e.1.0 ∷ []))
-    ∙ append_assoc (map value_of p.actions.items) (value_of e.1.0 ∷ []) vs
-    ∙ ap (λ x. map value_of p.actions.items ++ x ∷ vs) e.1.1
+collects p vs q h = let (more, all, values) = gathers p vs q h in
+    ap (map value_of) all ∙ map-append value_of p.actions.items more
+    ∙ ap (λ l. map value_of p.actions.items ++ l) values

@@ -1,15 +1,16 @@
 -- What a call of a parser promises, in the words that its clauses share.
-use Rattle.std.specs.Prelude.{ℕ, ◌≡◌, ◌<◌, ◌≤◌, ◌⊎◌, List, [], ◌++◌, length, take, Option, Result, Err, IfErr, IfNone, IfOk, IfSome}
+use Rattle.std.specs.Prelude.{ℕ, ◌≡◌, ◌<◌, ◌≤◌, ◌+◌, ◌⊎◌, List, [], ◌++◌, length, take, Option, Result, Err, IfErr, IfNone, IfOk, IfSome}
 use Rattle.esc_frame.specs.Events.{Awaits}
 use Rattle.esc_frame.specs.Memory.{MayTake}
 use Rattle.esc_frame.specs.declared.error.ParseError.{ParseError}
 use Rattle.esc_frame.specs.declared.error.ParseError.TheVariants.{Failed, Memory}
-use Rattle.esc_actions.specs.Meaning.{yield_within}
+use Rattle.esc_actions.specs.Meaning.{MayWant, yield_within}
 use Rattle.esc_actions.specs.Values.{Value, value_of}
-use Rattle.esc_actions.specs.Writable.{IsHandedOut}
+use Rattle.esc_actions.specs.Writable.{AreHandedOut, IsHandedOut}
 use Rattle.esc_actions.specs.declared.action.Action.{Action}
+use Rattle.esc_parse.specs.Collected.{Adds, AddsSome}
 use Rattle.esc_parse.specs.Fed.{IsBroken, WasFedWithin}
-use Rattle.esc_parse.specs.Firsts.{IsFirst}
+use Rattle.esc_parse.specs.Firsts.{IsFirst, IsFirstStop, IsStop}
 use Rattle.esc_parse.specs.Given.{AnyAt, At, StopsAt}
 use Rattle.esc_parse.specs.declared.parser.Parser.{Parser}
 use Rattle.memory.specs.Refusals.{Refused}
@@ -33,12 +34,12 @@ abbrev pub OneOf : Type 0 → Type 0 → Type 0
 OneOf P Q = (P → P ⊎ Q) → (Q → P ⊎ Q) → P ⊎ Q
 
 -- this holds of each stream with the bytes b after it, all of which the parser may have been fed,
--- where these bytes yield vs
-abbrev pub AfterYield : {A : Type 0} → Parser A → List (Value A)
-    → (Option ℕ → List ℕ → List ℕ → Type 0) → Type 0
-AfterYield p vs P =
+-- where these bytes yield as many values as there are more now than there were
+abbrev pub AfterMore : {A : Type 0} → Parser A → ℕ → ℕ → (Option ℕ → List ℕ → List ℕ → Type 0)
+    → Type 0
+AfterMore {A} p had have P =
     (limit : Option ℕ) (s b : List ℕ) → WasFedWithin limit (s ++ b) p
-    → vs ≡ yield_within limit s b → P limit s b
+    → have ≡ had + length (yield_within {A = A} limit s b) → P limit s b
 
 -- an error is `Memory`, the parser has failed then, and the call stopped so
 abbrev pub IsStopped : {A T : Type 0} → Result T ParseError → Parser A → Type 0 → Type 0
@@ -109,3 +110,27 @@ pub record FindsFirst {A : Type 0} (old : Parser A) (b : List ℕ)
   pub refused : After old (λ limit s. IsRefused result new (MayTake (s ++ b)))
   -- a parser that has failed says so
   pub failed : StaysBroken old result new
+
+-- What a call promises that appends the first actions, where it is given the bytes b and a list of
+-- the actions `had`, and leaves `all` there.
+pub record FindsFirsts {A : Type 0} (old : Parser A) (b : List ℕ) (had : List (Action A))
+    (result : Result (Option ℕ) ParseError) (new : Parser A) (all : List (Action A)) : Type 0 where
+  -- they were found in a prefix of the bytes, of this length
+  pub count : IfFound result (λ n. IsSomeOf n b)
+  -- this prefix, which was fed, is the shortest that adds an action and leaves no segment
+  -- unfinished, and the actions that it adds, no others, were appended
+  pub some : After old (λ limit s. IfFound result (λ n. WasFedWithin limit (s ++ take n b) new
+      × IsFirstStop limit s b (yield_within {A = A} limit s (take n b)) n
+      × Adds had (yield_within limit s (take n b)) all))
+  -- what any prefix adds can be written, but for the exceptions
+  pub handed_out : After old
+      (λ limit s. (n : ℕ) → AreHandedOut {A = A} (yield_within limit s (take n b)))
+  -- where none were found all bytes were fed, no prefix is such, and what they add was appended
+  pub none : After old (λ limit s. IfNoneFound result (WasFedWithin limit (s ++ b) new
+      × Adds had (yield_within limit s b) all
+      × ((k : ℕ) → k ≤ length b → IsStop A limit s (take k b) → ⊥)))
+  -- an error says that memory was refused, and a prefix of what the bytes add was appended
+  pub refused : After old (λ limit s. IsRefused result new
+      (MayWant A limit s b × AddsSome had (yield_within limit s b) all))
+  -- a parser that has failed says so, and the list is as it was
+  pub failed : IsBroken old → (result ≡ Err Failed) × IsBroken new × (all ≡ had)

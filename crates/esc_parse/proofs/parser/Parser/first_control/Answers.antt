@@ -9,7 +9,6 @@ pub returns-clause-given : goal.returns-clause-given
 unfolding WasFedWithin
 returns-clause-given g c = λ limit s h.
     let given = c.in_ok-first_control.ensures.given limit s h.0 in
-    control_found _ limit s c.args.bytes.now _ _ c.from_byte.result
-    c.in_ok-first_control.ensures.count
+    control_found _ limit s (take 1 c.args.bytes.now) _ _ c.from_byte.result
     (given.0, hooks_by limit _ s (take 1 c.args.bytes.now) (Execute _) given.1 refl h.1) given.1
     c.from_byte.ensures
