@@ -20,7 +20,7 @@ use Rattle.esc_parse.specs.Fed.{WasFedWithin}
 use Rattle.esc_parse.specs.declared.parser.Parser.{Parser}
 use Rattle.esc_parse.specs.Collected.{Adds, AddsSome}
 use Rattle.esc_actions.proofs.Meanings.{meaning_more, yield_is}
-use Rattle.esc_parse.specs.Firsts.{first, IsFirst, IsFirstStop, IsStop}
+use Rattle.esc_parse.specs.Firsts.{first, IsFirst, IsFirstStop, IsSilentWithin, IsStop}
 use Rattle.esc_parse.specs.Given.{At, StopsAt, first_of}
 use Rattle.esc_actions.specs.Meaning.{MayWant, meaning_within, mode_from, values_from, yield_within}
 use Rattle.esc_actions.specs.Values.{plain, value_of, Value}
@@ -73,6 +73,11 @@ pub yield_quiet : {A : Type 0} (limit : Option ℕ) (s b : List ℕ) → added_w
     → yield_within {A = A} limit s b ≡ []
 yield_quiet limit s b e =
     yield_is limit s b ∙ ap (values_from limit (mode_from plain (events_within limit s))) e
+
+pub quiet_silent : (A : Type 0) (limit : Option ℕ) (s b : List ℕ) (n : ℕ)
+    → IsQuietWithin limit s b n → IsSilentWithin A limit s b n
+quiet_silent A limit s b n q =
+    λ k some few. let w = q k some few in (yield_quiet limit s (take k b) w.0, w.1)
 
 left_empty : {X : Type 0} (xs ys : List X) → xs ++ ys ≡ [] → xs ≡ []
 left_empty [] ys e = refl
@@ -138,13 +143,12 @@ prefix_shorter limit s bs at j h e =
 
 none_within : {A : Type 0} (limit : Option ℕ) (s bs : List ℕ) (at n : ℕ)
     → yield_within {A = A} limit s (take at bs) ≡ []
-    → IsQuietWithin limit (s ++ take at bs) (take (length bs - at) (drop at bs)) n
+    → IsSilentWithin A limit (s ++ take at bs) (take (length bs - at) (drop at bs)) n
     → (k : ℕ) → k < at + n → yield_within {A = A} limit s (take k bs) ≡ []
 none_within {A = A} limit s bs at n e q k h =
     let P : ℕ → Type 0 = λ j. yield_within {A = A} limit s (take j bs) ≡ [] in
     prefix_cases P at n k h (λ j l. prefix_shorter limit s bs at j l e)
-    (λ j l m. yield_rest limit s bs at j e
-    ∙ yield_quiet limit (s ++ take at bs) (take j (take (length bs - at) (drop at bs))) (q j l m).0)
+    (λ j l m. yield_rest limit s bs at j e ∙ (q j l m).0)
 
 some_same : {X : Type 0} (x y : X) → Some x ≡ Some y → x ≡ y
 some_same x y e = cc
@@ -162,7 +166,7 @@ none_is (x ∷ vs) e = absurd cc
 -- n bytes of the rest have the first value
 pub finds_first : {A : Type 0} (limit : Option ℕ) (s bs : List ℕ) (at n : ℕ) (v : Value A)
     → at + n ≤ length bs → yield_within {A = A} limit s (take at bs) ≡ []
-    → IsQuietWithin limit (s ++ take at bs) (take (length bs - at) (drop at bs)) n
+    → IsSilentWithin A limit (s ++ take at bs) (take (length bs - at) (drop at bs)) n
     → Some v ≡ first
     (yield_within limit (s ++ take at bs) (take n (take (length bs - at) (drop at bs))))
     → IsFirst limit s bs v (at + n)
@@ -188,7 +192,7 @@ finds_none limit s bs at n e f =
 -- no stop before the last of n bytes
 pub no_stop_within : (A : Type 0) (limit : Option ℕ) (s bs : List ℕ) (at n : ℕ)
     → ((k : ℕ) → k ≤ at → IsStop A limit s (take k bs) → ⊥)
-    → IsQuietWithin limit (s ++ take at bs) (take (length bs - at) (drop at bs)) n
+    → IsSilentWithin A limit (s ++ take at bs) (take (length bs - at) (drop at bs)) n
     → (k : ℕ) → k < at + n → IsStop A limit s (take k bs) → ⊥
 no_stop_within A limit s bs at n before q k h =
     let P : ℕ → Type 0 = λ j. IsStop A limit s (take j bs) → ⊥ in

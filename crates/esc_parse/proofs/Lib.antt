@@ -12,3 +12,4 @@ pub mod Sixels
 pub mod Images
 pub mod Paired
 pub mod Alone
+pub mod DataSkips

@@ -49,6 +49,14 @@ is_mode (hooked.Short b) = false
 is_mode hooked.Entered = true
 is_mode hooked.Over = false
 
+-- a string is unfinished of which only the end gives a value, and no byte of its data does
+abbrev pub keeps_data : Mode → Bool
+keeps_data plain = false
+keeps_data (in_sixel ps d) = true
+keeps_data (in_termcap d) = true
+keeps_data (in_short ps is f d) = true
+keeps_data entered = false
+
 -- a byte of data makes q of p
 abbrev pub TakesData : {A : Type 0} → Unfinished A → ℕ → Unfinished A → Type 0
 TakesData p b q =

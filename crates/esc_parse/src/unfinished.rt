@@ -1,11 +1,12 @@
 //! The device control string that is unfinished.
-ghost use Rattle.std.specs.Prelude.{◌≡◌, IfOk, IsTrue, OnErr, OnOk, Option, length, min, option_to_list, true};
+ghost use Rattle.std.specs.Prelude.{◌≡◌, ◌<◌, ◌≤◌, IfOk, IsTrue, OnErr, OnOk, Option, length, min, option_to_list, take, true};
 ghost use Rattle.std.specs.List.{FoldsTo, list_all};
 ghost use Rattle.std.specs.Option.{option_map};
 ghost use Rattle.esc_frame.specs.Limits.{kept_within, most};
+ghost use Rattle.esc_frame.specs.Scans.{is_data_byte};
 ghost use Rattle.esc_actions.specs.Values.{closed_gives, data_count, opened, plain, taken, value_of};
 ghost use Rattle.esc_actions.specs.Groups.{is_entered};
-ghost use Rattle.esc_parse.specs.Fed.{HasRoom, Hooking, Hooks, TakesData, is_mode};
+ghost use Rattle.esc_parse.specs.Fed.{HasRoom, Hooking, Hooks, TakesData, is_mode, keeps_data};
 ghost use Rattle.esc_parse.specs.Images.{is_image};
 ghost use Rattle.esc_parse.specs.declared.hooked.Hooked.TheVariants as hooked;
 ghost use Rattle.memory.specs.Refusals.{Refused};
@@ -14,6 +15,7 @@ use crate::hooked::{Hooked, begin, end};
 use esc_actions::Action;
 use esc_device::StringKind;
 use esc_frame::Count;
+use esc_frame::runs::scans::data_run;
 use std::alloc::{AllocError, Allocator, Global};
 use std::mem;
 
@@ -90,6 +92,24 @@ impl<A: Allocator + Copy> Unfinished<A> {
         ensures mode { result ≡ is_mode self.now.hooked }
     {
         matches!(self.hooked, Hooked::Entered)
+    }
+
+    /// How many bytes of its data come first in `bytes`, where only its end makes an action: those
+    /// of 20 to 7E, of a string that is no mode.
+    #[tactic(auto, unfolding(crate::specs::Fed::Hooks), using(crate::proofs::DataSkips::keeps_over, crate::proofs::DataSkips::run_is_data))]
+    #[inline]
+    pub fn data_ahead(&self, bytes: &[u8]) -> usize
+        ensures few { result ≤ length bytes.now }
+        ensures run { list_all is_data_byte (take result bytes.now) ≡ true }
+        ensures kept { 0 < result → Hooking self.now (λ limit m. keeps_data m ≡ true) }
+        ensures nothing { self.now.hooked ≡ hooked.Nothing → result ≡ 0 }
+    {
+        match self.hooked {
+            Hooked::Nothing | Hooked::Entered => 0,
+            Hooked::Sixel(_) | Hooked::Termcap(_) | Hooked::Short(_) | Hooked::Over => {
+                data_run(bytes)
+            }
+        }
     }
 
     /// One more byte of its data. Past the limit all that was kept of it is dropped.

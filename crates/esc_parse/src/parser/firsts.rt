@@ -5,7 +5,7 @@ ghost use Rattle.std.specs.Option.{option_map};
 ghost use Rattle.esc_frame.specs.Stream.{IsQuietWithin};
 ghost use Rattle.esc_parse.specs.Calls.{After, AfterMore, FindsFirst, FindsFirsts, IfFound, IfNoneFound, IsRefused, IsSomeOf, IsStopped, IsTaken, MayParse, StaysBroken, StopsIn, Yields};
 ghost use Rattle.esc_parse.specs.Collected.{Adds, AddsSome};
-ghost use Rattle.esc_parse.specs.Firsts.{IsFirstStop, IsStop, first};
+ghost use Rattle.esc_parse.specs.Firsts.{IsFirstStop, IsSilentWithin, IsStop, first};
 ghost use Rattle.esc_frame.specs.Memory.{MayTake};
 ghost use Rattle.esc_parse.specs.Given.{At};
 ghost use Rattle.esc_parse.specs.Paired.{with_value};
@@ -41,7 +41,7 @@ impl<A: Allocator + Copy> Parser<A> {
     // the length of the prefix. All but the last byte of it add nothing and leave a segment
     // unfinished.
     #[tactic(auto, unfolding(crate::specs::Fed::WasFedWithin))]
-    fn feed_some<S: Sink<Action<A>>>(
+    fn feed_next<S: Sink<Action<A>>>(
         &mut self,
         bytes: &[u8],
         sink: S,
@@ -80,6 +80,37 @@ impl<A: Allocator + Copy> Parser<A> {
         }
     }
 
+    // The same, where a run of data that gives no action by itself counts as one byte.
+    fn feed_some<S: Sink<Action<A>>>(
+        &mut self,
+        bytes: &[u8],
+        sink: S,
+    ) -> (Result<usize, ParseError>, S)
+        requires { S.is_ready sink ⊎ MayParse S.may S.takes self.old sink bytes.now }
+        ensures count { IfOk result.0 (λ n. IsTaken n bytes.now) }
+        ensures empty { length bytes.now ≡ 0 → result.1 ≡ sink }
+        ensures given { After self.old (λ limit s. IfOk result.0 (λ n.
+            WasFedWithin limit (s ++ take n bytes.now) self.new
+            × FoldsTo (At value_of S.takes) sink (yield_within limit s (take n bytes.now))
+            result.1)) }
+        ensures quiet { After self.old (λ limit s. IfOk result.0
+            (λ n. IsSilentWithin A limit s bytes.now n)) }
+        ensures refused { After self.old (λ limit s. IsStopped result.0 self.new
+            (StopsIn S.takes S.refuses limit s bytes.now sink result.1)) }
+        ensures failed { IsBroken self.old
+            → (result.0 ≡ Err ParseError.Failed) × IsBroken self.new × (result.1 ≡ sink) }
+    {
+        let n = self.unfinished.data_ahead(bytes);
+        if n == 0 {
+            return self.feed_next(bytes, sink);
+        }
+        let result = self.parse_into(&bytes[..n], First { action: None }).0;
+        match result {
+            Ok(()) => (Ok(n), sink),
+            Err(error) => (Err(error), sink),
+        }
+    }
+
     // The first action that a prefix of `bytes` adds, where it adds one, and the length of the
     // prefix.
     fn first_in(&mut self, bytes: &[u8]) -> Result<(usize, Option<Action<A>>), ParseError>
@@ -89,7 +120,7 @@ impl<A: Allocator + Copy> Parser<A> {
             WasFedWithin limit (s ++ take x.0 bytes.now) self.new
             × (option_map value_of x.1 ≡ first (yield_within limit s (take x.0 bytes.now))))) }
         ensures quiet { After self.old (λ limit s. IfOk result
-            (λ x. IsQuietWithin limit s bytes.now x.0)) }
+            (λ x. IsSilentWithin A limit s bytes.now x.0)) }
         ensures refused { After self.old (λ limit s. IsRefused result self.new
             (MayTake (s ++ bytes.now))) }
         ensures failed { StaysBroken self.old result self.new }
@@ -167,7 +198,7 @@ impl<A: Allocator + Copy> Parser<A> {
             × Adds actions.old.items (yield_within limit s (take n bytes.now))
             actions.new.items)) }
         ensures quiet { After self.old (λ limit s. IfOk result
-            (λ n. IsQuietWithin limit s bytes.now n)) }
+            (λ n. IsSilentWithin A limit s bytes.now n)) }
         ensures refused { After self.old (λ limit s. IsRefused result self.new
             (MayWant A limit s bytes.now
             × AddsSome actions.old.items (yield_within limit s bytes.now) actions.new.items)) }

@@ -1,56 +1,58 @@
-use Rattle.std.proofs.Common.{sym, subst, take}
-use Rattle.std.proofs.lemmas.Result.{IfErr-at_err, IfOk-at_ok}
-use Rattle.esc_parse.proofs.Lists.{on_err_at}
-use Rattle.esc_parse.proofs.Yields.{may_feed, performs_fed, performs_some}
-use Rattle.std.proofs.Math.Logic.{⊎_map}
-use Rattle.std.proofs.Common.{inl, inr}
+use Rattle.std.proofs.Common.{List, ◌<◌, ◌++◌, arith, refl, subst, sym, take}
+use Rattle.std.proofs.lemmas.Result.{IfErr-at_err}
+use Rattle.std.specs.List.{FoldsTo}
+use Rattle.esc_frame.specs.Memory.{MayTake}
+use Rattle.esc_frame.specs.Scans.{is_data_byte}
+use Rattle.esc_actions.specs.Values.{Value, value_of}
+use Rattle.esc_actions.specs.Meaning.{yield_within}
+use Rattle.esc_parse.proofs.DataSkips.{data_is_silent, prefix_all, takes_whole}
+use Rattle.esc_parse.proofs.FirstsGiven.{quiet_silent, stops_itself}
+use Rattle.esc_parse.proofs.Lists.{StopsAt-here, if_ok_more, on_ok_at}
+use Rattle.esc_parse.specs.Fed.{WasFedWithin}
+use Rattle.esc_parse.specs.Given.{At}
+use Rattle.memory.specs.Refusals.{Refused}
 use Rattle.esc_parse.proofs.parser.Parser.feed_some.Goals as goal
-use Rattle.esc_frame.specs.Stream.{events_within}
-use Rattle.esc_parse.specs.Fed.{Hooks, WasFedWithin}
-use Rattle.esc_parse.specs.Given.{AnyAt, At}
-use Rattle.esc_actions.specs.Meaning.{mode_from}
-use Rattle.esc_actions.specs.Values.{plain, value_of}
+
+pub returns-then-n-eq0-clause-quiet : goal.returns-then-n-eq0-clause-quiet
+returns-then-n-eq0-clause-quiet g c = λ limit s h.
+    if_ok_more _ _ c.feed_next.result.0
+    (λ n. quiet_silent g.row.A.Denot limit s c.args.bytes.now n)
+    (c.feed_next.ensures.quiet limit s h)
 
 pub returns-in-Ok-clause-given : goal.returns-in-Ok-clause-given
 unfolding WasFedWithin
 returns-in-Ok-clause-given g c = λ limit s h.
-    let w = IfOk-at_ok _ c.in-Ok.is (c.parse_some-result.ensures.given limit s h.0) in
-    let r = performs_fed (At value_of g.S.Sink.takes) (At value_of g.S.Sink.refuses) limit s
-    (take c.in-Ok.taken c.args.bytes.now) _
-    c.parse_some-result.new.actor w.0.1
-    (subst (λ u. Hooks limit u (mode_from plain (events_within limit s))) (sym c.take.ensures.taken)
-    h.1) in ((w.0.0, r.0), r.1)
+    let n = c.data_ahead-n.result in
+    let result = c.parse_into-result in
+    let some : 0 < n = omega (arith, c.if-n-eq0.false) in
+    let kept = c.data_ahead-n.ensures.kept some limit _ h.1 in
+    let silent = data_is_silent g.row.A.Denot limit s (take n c.args.bytes.now) kept
+    c.data_ahead-n.ensures.run in
+    let P : List (Value g.row.A.Denot) → Type 0 =
+    λ vs. FoldsTo (At value_of g.S.Sink.takes) c.args.sink vs c.args.sink in (
+      (on_ok_at result.result.0 c.in-Ok.is (result.ensures.given limit s h)).0,
+      subst P (sym silent.0) refl,
+    )
 
 pub returns-in-Ok-clause-quiet : goal.returns-in-Ok-clause-quiet
 unfolding WasFedWithin
-returns-in-Ok-clause-quiet g c = λ limit s h.
-    (IfOk-at_ok _ c.in-Ok.is (c.parse_some-result.ensures.given limit s h.0)).1
+returns-in-Ok-clause-quiet g c = λ limit s h k first few.
+    let n = c.data_ahead-n.result in
+    let bs = c.args.bytes.now in
+    let some : 0 < n = omega (arith, c.if-n-eq0.false) in
+    data_is_silent g.row.A.Denot limit s (take k bs)
+    (c.data_ahead-n.ensures.kept some limit _ h.1)
+    (prefix_all is_data_byte bs n k (omega (arith, few)) c.data_ahead-n.ensures.run)
 
 pub returns-in-Err-clause-refused : goal.returns-in-Err-clause-refused
-unfolding WasFedWithin
 returns-in-Err-clause-refused g c = λ limit s h.
-    let w = IfErr-at_err _ c.in-Err.is (c.parse_some-result.ensures.refused limit s h.0) in (
-      w.0,
-      (on_err_at _ c.in-Err.is c.parse_some-result.ensures.after.ends, c.take.ensures.nothing),
-      performs_some (At value_of g.S.Sink.takes) (At value_of g.S.Sink.refuses) limit s
-          c.args.bytes.now _ c.parse_some-result.new.actor w.1
-          (subst (λ u. Hooks limit u (mode_from plain (events_within limit s)))
-          (sym c.take.ensures.taken) h.1),
+    let bs = c.args.bytes.now in
+    let f = IfErr-at_err _ c.in-Err.is (c.parse_into-result.ensures.refused limit s h) in
+    let own = stops_itself _ _ _ _ _ _ f.2 in (
+      f.0,
+      f.1,
+      StopsAt-here (At value_of g.S.Sink.takes) (At value_of g.S.Sink.refuses)
+          (MayTake (s ++ bs) × Refused g.row.A.Denot) c.args.sink
+          (yield_within limit s bs) c.args.sink
+          (takes_whole s bs c.data_ahead-n.result own.0, own.1) refl,
     )
-
-pub parse_some-result-requires : goal.parse_some-result-requires
-unfolding WasFedWithin
-parse_some-result-requires g c =
-    ⊎_map (λ r. r) (λ w. elim w [
-      | inl broken ↦ inl broken.0
-      | inr fed ↦ inr (
-        fed.0,
-        fed.1,
-        fed.2.0,
-        may_feed (At value_of g.S.Sink.takes) (At value_of g.S.Sink.refuses)
-            (AnyAt value_of g.S.Sink.may) fed.0 fed.1
-            c.args.bytes.now _
-            (subst (λ u. Hooks fed.0 u (mode_from plain (events_within fed.0 fed.1)))
-            (sym c.take.ensures.taken) fed.2.1) fed.3,
-      )
-    ]) c.requires

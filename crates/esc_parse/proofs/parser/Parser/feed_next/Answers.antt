@@ -1,0 +1,56 @@
+use Rattle.std.proofs.Common.{sym, subst, take}
+use Rattle.std.proofs.lemmas.Result.{IfErr-at_err, IfOk-at_ok}
+use Rattle.esc_parse.proofs.Lists.{on_err_at}
+use Rattle.esc_parse.proofs.Yields.{may_feed, performs_fed, performs_some}
+use Rattle.std.proofs.Math.Logic.{⊎_map}
+use Rattle.std.proofs.Common.{inl, inr}
+use Rattle.esc_parse.proofs.parser.Parser.feed_next.Goals as goal
+use Rattle.esc_frame.specs.Stream.{events_within}
+use Rattle.esc_parse.specs.Fed.{Hooks, WasFedWithin}
+use Rattle.esc_parse.specs.Given.{AnyAt, At}
+use Rattle.esc_actions.specs.Meaning.{mode_from}
+use Rattle.esc_actions.specs.Values.{plain, value_of}
+
+pub returns-in-Ok-clause-given : goal.returns-in-Ok-clause-given
+unfolding WasFedWithin
+returns-in-Ok-clause-given g c = λ limit s h.
+    let w = IfOk-at_ok _ c.in-Ok.is (c.parse_some-result.ensures.given limit s h.0) in
+    let r = performs_fed (At value_of g.S.Sink.takes) (At value_of g.S.Sink.refuses) limit s
+    (take c.in-Ok.taken c.args.bytes.now) _
+    c.parse_some-result.new.actor w.0.1
+    (subst (λ u. Hooks limit u (mode_from plain (events_within limit s))) (sym c.take.ensures.taken)
+    h.1) in ((w.0.0, r.0), r.1)
+
+pub returns-in-Ok-clause-quiet : goal.returns-in-Ok-clause-quiet
+unfolding WasFedWithin
+returns-in-Ok-clause-quiet g c = λ limit s h.
+    (IfOk-at_ok _ c.in-Ok.is (c.parse_some-result.ensures.given limit s h.0)).1
+
+pub returns-in-Err-clause-refused : goal.returns-in-Err-clause-refused
+unfolding WasFedWithin
+returns-in-Err-clause-refused g c = λ limit s h.
+    let w = IfErr-at_err _ c.in-Err.is (c.parse_some-result.ensures.refused limit s h.0) in (
+      w.0,
+      (on_err_at _ c.in-Err.is c.parse_some-result.ensures.after.ends, c.take.ensures.nothing),
+      performs_some (At value_of g.S.Sink.takes) (At value_of g.S.Sink.refuses) limit s
+          c.args.bytes.now _ c.parse_some-result.new.actor w.1
+          (subst (λ u. Hooks limit u (mode_from plain (events_within limit s)))
+          (sym c.take.ensures.taken) h.1),
+    )
+
+pub parse_some-result-requires : goal.parse_some-result-requires
+unfolding WasFedWithin
+parse_some-result-requires g c =
+    ⊎_map (λ r. r) (λ w. elim w [
+      | inl broken ↦ inl broken.0
+      | inr fed ↦ inr (
+        fed.0,
+        fed.1,
+        fed.2.0,
+        may_feed (At value_of g.S.Sink.takes) (At value_of g.S.Sink.refuses)
+            (AnyAt value_of g.S.Sink.may) fed.0 fed.1
+            c.args.bytes.now _
+            (subst (λ u. Hooks fed.0 u (mode_from plain (events_within fed.0 fed.1)))
+            (sym c.take.ensures.taken) fed.2.1) fed.3,
+      )
+    ]) c.requires
