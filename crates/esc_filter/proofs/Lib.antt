@@ -13,6 +13,7 @@ pub mod Texts
 pub mod Writable
 pub mod Images
 pub mod ByLines
+pub mod ShortRenditions
 pub mod PlainLines
 pub mod LineFeeds
 pub mod ReadLines

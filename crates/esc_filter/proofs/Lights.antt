@@ -123,11 +123,15 @@ first_large k es h =
     ap renditions (slice_split-cons_no is_separator (Integer (pos k)) es refl ∙ e)
     ∙ ap (λ x. put_first x (renditions ps)) (item k p h)
 
+pub large_unnamed : (k : ℕ) (rest : List CsiParam) → 24 < k
+    → csi_of (Integer (pos k) ∷ rest) false 0x6d
+    ≡ unspecified (Integer (pos k) ∷ rest) false 0x6d ∷ []
+large_unnamed k rest h =
+    ap (λ x. unwrap_or x (unspecified (Integer (pos k) ∷ rest) false 0x6d ∷ []))
+    (first_large k rest h)
+
 large_turns : (k : ℕ) (rest : List CsiParam) → 24 < k → Turns (Integer (pos k) ∷ rest) true
-large_turns k rest h =
-    unnamed_turns (Integer (pos k) ∷ rest)
-    (ap (λ x. unwrap_or x (unspecified (Integer (pos k) ∷ rest) false 0x6d ∷ []))
-    (first_large k rest h))
+large_turns k rest h = unnamed_turns (Integer (pos k) ∷ rest) (large_unnamed k rest h)
 
 pub first_turns : (es : List CsiParam) (n : ℕ) → BeginsWith n es → 24 < n → Turns es true
 first_turns es n (rest, e) h = subst (λ x. Turns x true) (sym e) (large_turns n rest h)

@@ -18,6 +18,10 @@ nothing = record {
   no_escapes = false;
 }
 
+-- all text passes
+abbrev pub IsPassedText : {A : Type 0} → (Value A → Bool) → Type 0
+IsPassedText {A} admits = (v : Value A) → is_text v ≡ true → admits v ≡ true
+
 -- renditions pass
 abbrev pub ArePassedRenditions : {A : Type 0} → (Value A → Bool) → Type 0
 ArePassedRenditions admits = (c : CsiValue) → is_rendition c ≡ true → admits (csi c) ≡ true

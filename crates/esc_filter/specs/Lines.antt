@@ -1,16 +1,17 @@
 -- What is written of a stream whose lines are streams of their own, where u says what is written of
 -- characters that deceive.
-use Rattle.std.specs.Prelude.{ℕ, ◌≡◌, Bool, true, false, ◌==◌, ◌||◌, if◌then◌else◌, List, [], ◌∷◌, ◌++◌, Some, string_bytes}
-use Rattle.std.specs.List.{list_all, list_any, flat_map}
+use Rattle.std.specs.Prelude.{ℕ, ◌≡◌, ◌<◌, ◌⊎◌, Bool, true, false, not, ◌==◌, if◌then◌else◌, List, [], ◌∷◌, ◌++◌, Some, IsTrue, codes, string_bytes}
+use Rattle.std.specs.List.{list_any, flat_map}
+use Rattle.std.specs.Str.{IsAscii}
 use Rattle.esc_actions.specs.Meaning.{meaning, Reads}
 use Rattle.esc_actions.specs.Texts.{list_text, normal}
 use Rattle.esc_actions.specs.Values.{Value, control}
 use Rattle.esc_actions.specs.declared.control_code.ControlCode.TheVariants.{LineFeed}
 use Rattle.esc_filter.specs.Closing.{closed, closing}
 use Rattle.esc_filter.specs.Fed.{WasFedIn, policy_of}
+use Rattle.esc_filter.specs.Known.{ArePassedRenditions, IsPassedText}
 use Rattle.esc_filter.specs.Passing.{in_lines, passed_as}
-use Rattle.esc_filter.specs.Rules.{is_layout}
-use Rattle.esc_frame.specs.Scans.{is_data_byte}
+use Rattle.esc_write.specs.Plain.{last_text}
 use Rattle.esc_filter.specs.declared.admit.Admit.{Ghosts as Admitter}
 use Rattle.esc_filter.specs.declared.line_filter.LineFilter.{LineFilter}
 use Rattle.esc_filter.specs.declared.unicode.Unicode.{Unicode}
@@ -45,14 +46,6 @@ abbrev pub last_line : List ℕ → List ℕ
 last_line [] = []
 last_line (b ∷ s) = if has_line_feed (b ∷ s) then last_line s else b ∷ s
 
--- bytes 20 to 7E, tab, line feed and carriage return
-abbrev pub is_plain_byte : ℕ → Bool
-is_plain_byte b = is_data_byte b || is_layout b
-
--- lines that have ended, of such bytes alone
-abbrev pub ArePlainLines : List ℕ → Type 0
-ArePlainLines s = (list_all is_plain_byte s ≡ true) × (ends_line true s ≡ true)
-
 -- what passes of a line but its line feed
 abbrev pub passed_of_line : {A : Type 0} → Unicode → ℕ → (Value A → Bool) → List ℕ → List (Value A)
 passed_of_line u limit admits l = passed_as u (Some limit) (in_lines true admits) l
@@ -67,6 +60,24 @@ line_text u limit admits l =
 -- the text of a stream: that of its lines, one after another
 abbrev pub text_by_lines_as : {A : Type 0} → Unicode → ℕ → (Value A → Bool) → List ℕ → List ℕ
 text_by_lines_as {A} u limit admits s = flat_map (line_text {A = A} u limit admits) (lines s)
+
+-- Lines that have ended, in ASCII, which are written as they are wherever all text passes, and
+-- where r also all renditions
+abbrev pub ArePlainLines : Type 0 → Bool → List ℕ → Type 0
+ArePlainLines A r s = IsAscii s × (ends_line true s ≡ true)
+    × ((u : Unicode) (limit : ℕ) (admits : Value A → Bool) → IsPassedText admits
+    → (IsTrue r → ArePassedRenditions admits) → text_by_lines_as u limit admits s ≡ s)
+
+-- a number below 1000 as it is written, and `m`; it is another than 0, or not
+abbrev pub IsNumber : List ℕ → Bool → Type 0
+IsNumber x b = (n : ℕ) × (n < 1000) × (x ≡ last_text n 0x6d) × (b ≡ not (n == 0))
+
+-- the text of a rendition of one number, or of a colour of the palette, after which renditions are
+-- on, or not
+abbrev pub IsShortRendition : List ℕ → Bool → Type 0
+IsShortRendition x b = (y : List ℕ) × (((x ≡ 0x1b ∷ 0x5b ∷ y) × IsNumber y b)
+    ⊎ (((x ≡ 0x1b ∷ 0x5b ∷ (codes "38;5;" ++ y)) ⊎ (x ≡ 0x1b ∷ 0x5b ∷ (codes "48;5;" ++ y)))
+    × (b ≡ true) × ((c : Bool) × IsNumber y c)))
 
 -- what the last line, without a line feed, leaves changed is given back once the stream has ended
 abbrev pub line_closing : {A : Type 0} → Unicode → ℕ → (Value A → Bool) → List ℕ → List (Value A)

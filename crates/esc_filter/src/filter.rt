@@ -5,7 +5,7 @@ ghost use Rattle.esc_actions.specs.Values.{Value};
 ghost use Rattle.esc_frame.specs.Counts.{kept_of_cut};
 ghost use Rattle.esc_frame.specs.Limits.{most};
 ghost use Rattle.esc_frame.specs.Segments.{IsCut, Segment};
-ghost use Rattle.esc_filter.specs.Rules.{is_text};
+ghost use Rattle.esc_filter.specs.Known.{ArePassedRenditions, IsPassedText};
 ghost use Rattle.memory.specs.Refusals.{Refused};
 
 use crate::admit::Admit;
@@ -158,10 +158,17 @@ impl<P: Admit<A>, A: Allocator + Copy> Filter<P, A> {
     /// Whether all text passes.
     #[inline]
     pub(crate) fn passes_text(&self) -> bool
-        ensures { IsTrue result → (v : Value A) → is_text v ≡ true
-            → P.admits (policy_of self.now) v ≡ true }
+        ensures { IsTrue result → IsPassedText (P.admits (policy_of self.now)) }
     {
         self.policy.known().text
+    }
+
+    /// Whether all renditions pass.
+    #[inline]
+    pub(crate) fn passes_renditions(&self) -> bool
+        ensures { IsTrue result → ArePassedRenditions (P.admits (policy_of self.now)) }
+    {
+        self.policy.known().renditions
     }
 
     /// Tells the policy that a line feed was added to the text of a line, where its own did not

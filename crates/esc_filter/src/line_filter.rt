@@ -142,7 +142,7 @@ impl<P: Admit<A>, A: Allocator + Copy> LineFilter<P, A> {
         Ok(())
     }
 
-    // Between lines, appends as they are the lines that come first and are text alone, where all
+    // Between lines, appends as they are the lines that come first and are written so, where all
     // text passes. It returns how long they are.
     fn pass_plain(&mut self, bytes: &[u8]) -> Result<usize, AllocError>
         ensures given { AfterLines P.Admit self.old (λ u limit admits s. ends_line true s ≡ true
@@ -151,10 +151,10 @@ impl<P: Admit<A>, A: Allocator + Copy> LineFilter<P, A> {
         ensures policy { policy_of_lines self.new ≡ policy_of_lines self.old }
         ensures refused { OnErr result (Refused A) }
     {
-        if begins_escape(bytes) || !self.filter.passes_text() {
+        if !self.filter.passes_text() {
             return Ok(0);
         }
-        let lines = plain_lines(bytes);
+        let lines = plain_lines::<A>(bytes, self.filter.passes_renditions());
         if lines.is_empty() {
             return Ok(0);
         }
@@ -236,11 +236,6 @@ impl<P: Admit<A>, A: Allocator + Copy> LineFilter<P, A> {
             Err(e) => Err(e),
         }
     }
-}
-
-// Whether a sequence comes first, and so no line of text alone.
-fn begins_escape(bytes: &[u8]) -> bool {
-    matches!(bytes, [0x1b, ..])
 }
 
 // The length of the line that these bytes begin with, with its line feed. None where they have no

@@ -24,7 +24,7 @@ own : IsNumeralModel (λ ds. are_digits ds ≡ true) (value_after 0)
 own = numerals_by_fold _ (search rules) value_after (search rules)
 
 -- no digit stands in prefix
-abbrev no_digit : List ℕ → Bool
+abbrev pub no_digit : List ℕ → Bool
 no_digit [] = true
 no_digit (b ∷ bs) = not (is_digit b)
 
@@ -63,7 +63,7 @@ held_small n = omega arith
 held_again : (n : ℕ) → held (held n) ≡ held n
 held_again n = omega arith
 
-number_is : (n : ℕ) (r : List ℕ) → no_digit r ≡ true
+pub number_is : (n : ℕ) (r : List ℕ) → no_digit r ≡ true
     → csi_params (decimal (held n) ++ r) ≡ Integer (pos (held n)) ∷ csi_params r
 number_is n r k =
     let small = held_small n in
@@ -127,17 +127,21 @@ pub csi_params_back : (x : List ℕ) → list_all is_body_byte x ≡ true
 csi_params_back x h = back None x h
 
 -- the bytes of the text
-digits_in_body : (ds : List ℕ) → are_digits ds ≡ true → list_all is_body_byte ds ≡ true
-digits_in_body [] h = refl
-digits_in_body (d ∷ ds) h = let q = and_parts (is_digit d) (are_digits ds) h in
-    rw (digit_in_body d q.0, digits_in_body ds q.1) refl
+module _ (p : ℕ → Bool) (each : (b : ℕ) → is_digit b ≡ true → p b ≡ true) where
+  digits_all : (ds : List ℕ) → are_digits ds ≡ true → list_all p ds ≡ true
+  digits_all [] h = refl
+  digits_all (d ∷ ds) h = let q = and_parts (is_digit d) (are_digits ds) h in
+      rw (each d q.0, digits_all ds q.1) refl
+
+  pub number_all : (n : ℕ) → n < 2 ^ 64 → list_all p (decimal n) ≡ true
+  number_all n small = digits_all (decimal n) (digits_decimal own n small)
 
 number_bytes : (n : ℕ) (r : List ℕ) → list_all is_body_byte r ≡ true
     → list_all is_body_byte (decimal (held n) ++ r) ≡ true
 number_bytes n r h =
     rw (
       list_all-append is_body_byte (decimal (held n)) r,
-      digits_in_body (decimal (held n)) (digits_decimal own (held n) (held_small n)),
+      number_all is_body_byte digit_in_body (held n) (held_small n),
       h,
     ) refl
 

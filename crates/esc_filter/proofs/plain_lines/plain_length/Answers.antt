@@ -1,35 +1,51 @@
-use Rattle.std.proofs.Common.{◌+◌, ◌⊎◌, inl, inr, refl, rules, true}
-use Rattle.esc_filter.proofs.PlainLines.{byte_plain, feed_ends, run_plain}
+use Rattle.std.proofs.Common.{◌+◌, ◌≡◌, rules, sym, subst, false, take}
+use Rattle.esc_filter.proofs.PlainLines.{HasRead, read_feed, read_layout, read_rendition, read_run}
 use Rattle.esc_filter.proofs.plain_lines.plain_length.Goals as goal
 
-pub loop-at-preserved-in-10 : goal.loop-at-preserved-in-10
-loop-at-preserved-in-10 c =
+pub loop-at-preserved-in-10-1 : goal.loop-at-preserved-in-10-1
+loop-at-preserved-in-10-1 g c =
+    let A = g.row.A.Denot in
     let bs = c.args.bytes.now in
     let at = c.loop-at.at + c.data_run-at.result in
-    let run = run_plain bs c.loop-at.at c.data_run-at.result c.loop-at.invariant.plain
-    c.data_run-at.ensures.run in
-    let plain = byte_plain bs at 0x0a (search rules) c.in-10.is run refl in
+    let run = read_run A c.args.renditions c.loop-at.is_on bs c.loop-at.at c.data_run-at.result
+    c.loop-at.invariant.read c.data_run-at.ensures.run in
+    let off : c.loop-at.is_on ≡ false = search rules in
+    let more = read_feed A c.args.renditions bs at (search rules) c.in-10.is
+    (subst (λ on. HasRead A c.args.renditions on (take at bs)) off run) in
     record {
       within = search rules;
       last = search rules;
-      plain = plain;
-      lines = (plain, feed_ends true bs at (search rules) c.in-10.is);
+      read =
+          subst (λ on. HasRead A c.args.renditions on (take (at + 1) bs)) (sym off) more.0;
+      lines = more.1;
+    }
+
+pub loop-at-preserved-in-9-1 : goal.loop-at-preserved-in-9-1
+loop-at-preserved-in-9-1 g c =
+    let A = g.row.A.Denot in
+    let bs = c.args.bytes.now in
+    let at = c.loop-at.at + c.data_run-at.result in
+    let run = read_run A c.args.renditions c.loop-at.is_on bs c.loop-at.at c.data_run-at.result
+    c.loop-at.invariant.read c.data_run-at.ensures.run in
+    record {
+      within = search rules;
+      last = search rules;
+      read = read_layout A c.args.renditions c.loop-at.is_on bs at (search rules) c.in-9.is run;
+      lines = c.loop-at.invariant.lines;
     }
 
 pub loop-at-preserved : goal.loop-at-preserved
-loop-at-preserved c =
+loop-at-preserved g c =
+    let A = g.row.A.Denot in
     let bs = c.args.bytes.now in
     let at = c.loop-at.at + c.data_run-at.result in
-    let run = run_plain bs c.loop-at.at c.data_run-at.result c.loop-at.invariant.plain
-    c.data_run-at.ensures.run in
+    let run = read_run A c.args.renditions c.loop-at.is_on bs c.loop-at.at c.data_run-at.result
+    c.loop-at.invariant.read c.data_run-at.ensures.run in
     record {
       within = search rules;
       last = search rules;
-      plain = by_either c.in-9.is (λ e. byte_plain bs at 0x09 (search rules) e run refl)
-          (λ e. byte_plain bs at 0x0d (search rules) e run refl);
+      read =
+          read_rendition A c.args.renditions c.loop-at.is_on c.in-Some.found.1 bs at
+          c.in-Some.found.0 (search rules) c.in-Some.ensures.1 run;
       lines = c.loop-at.invariant.lines;
     }
-  where
-    by_either : {P Q R : Type 0} → P ⊎ Q → (P → R) → (Q → R) → R
-    by_either (inl p) f g = f p
-    by_either (inr q) f g = g q

@@ -4,8 +4,8 @@ use Rattle.esc_filter.proofs.ByLines.{grows_not}
 use Rattle.esc_filter.proofs.PlainLines.{plain_grows}
 use Rattle.esc_filter.proofs.line_filter.LineFilter.pass_plain.Goals as goal
 
-pub returns-then-begins_escape-clause-given : goal.returns-then-begins_escape-clause-given
-returns-then-begins_escape-clause-given g c = λ u limit s w ends.
+pub returns-then-not-passes_text-clause-given : goal.returns-then-not-passes_text-clause-given
+returns-then-not-passes_text-clause-given g c = λ u limit s w ends.
     grows_not u limit (g.P.Admit.admits (policy_of_lines c.args.self.now)) s c.args.self.now w
 
 pub returns-then-is_empty-clause-given : goal.returns-then-is_empty-clause-given
@@ -18,7 +18,6 @@ returns-clause-given g c = λ u limit s w ends.
     let new = record c.args.self.now { text = c.push_str.new.text } in
     let passes : c.passes_text.result ≡ true = search rules in
     subst (λ x. GrowsBy u admits limit s x c.args.self.now new) c.plain_lines-lines.ensures.first
-    (plain_grows g.row.A.Denot admits (c.passes_text.ensures passes) u limit s
-    c.plain_lines-lines.result.now c.args.self.now new w ends c.plain_lines-lines.ensures.lines
-    refl refl
-    c.in_ok-push_str.ensures.bytes)
+    (plain_grows u limit admits c.passes_renditions.result s c.plain_lines-lines.result.now
+    c.args.self.now new (c.passes_text.ensures passes) c.passes_renditions.ensures w ends
+    c.plain_lines-lines.ensures.lines refl refl c.in_ok-push_str.ensures.bytes)
