@@ -4,6 +4,7 @@ pub mod Defined
 pub mod DigitRuns
 pub mod Digits
 pub mod Extents
+pub mod Gathered
 pub mod Handed
 pub mod Headers
 pub mod PixelRuns

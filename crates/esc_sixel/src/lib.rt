@@ -6,6 +6,7 @@
 //! the data.
 #![tactic(auto)]
 
+mod appending;
 pub mod builder;
 mod class;
 mod commands;

@@ -1,11 +1,8 @@
 //! What sixel data consists of.
-ghost use Rattle.std.specs.Fmt.{DisplaysOnOk};
 ghost use Rattle.esc_sixel.specs.Texts.{data_output};
-ghost use Rattle.esc_sixel.specs.declared.sixel_data.SixelData.TheVariants.{DefineColorMapRGB, Repeat, SelectColorMapEntry};
 
-use crate::write_data::{Percent, write_pixels};
+use crate::appending::{ROOM, as_str, put};
 use esc_values::RgbColor;
-use esc_values::number::write_natural;
 use std::fmt;
 
 /// Six pixels, one above the other, as the bits of a number from 0 to 63. The lowest bit is the top
@@ -59,65 +56,12 @@ impl fmt::Display for SixelData {
     ghost output = { data_output };
 
     fn fmt<W: fmt::Write>(&self, f: &mut fmt::Formatter<W>) -> fmt::Result {
-        match self {
-            SixelData::Data(value) => write_pixels(*value, f),
-            SixelData::Repeat {
-                repeat_count,
-                content,
-            } => write_repeat(*repeat_count, *content, f),
-            SixelData::DefineColorMapRGB { color_number, rgb } => write_rgb(*color_number, rgb, f),
-            SixelData::DefineColorMapHSL {
-                color_number,
-                hue_angle,
-                lightness,
-                saturation,
-            } => write!(f, "#{color_number};1;{hue_angle};{lightness};{saturation}"),
-            SixelData::SelectColorMapEntry(number) => write_selected(*number, f),
-            SixelData::CarriageReturn => f.write_str("$"),
-            SixelData::NewLine => f.write_str("-"),
+        let mut bytes = [0; ROOM];
+        match put(&mut bytes, 0, *self) {
+            Some(end) => f.write_str(as_str(&bytes[..end])),
+            None => Err(fmt::Error),
         }
     }
-}
-
-// Six pixels so many times.
-#[inline]
-fn write_repeat<W: fmt::Write>(
-    repeat_count: u32,
-    content: SixelValue,
-    f: &mut fmt::Formatter<W>,
-) -> fmt::Result
-    ensures { DisplaysOnOk W.write_str_gives f.old result
-        (data_output (Repeat content repeat_count)) f.new }
-{
-    f.write_str("!")?;
-    write_natural(u64::from(repeat_count), f)?;
-    write_pixels(content, f)
-}
-
-// A colour for a number, as percentages of red, green and blue.
-fn write_rgb<W: fmt::Write>(
-    color_number: u16,
-    rgb: &RgbColor,
-    f: &mut fmt::Formatter<W>,
-) -> fmt::Result
-    ensures { DisplaysOnOk W.write_str_gives f.old result
-        (data_output (DefineColorMapRGB color_number rgb.now)) f.new }
-{
-    let (red, green, blue) = rgb.to_tuple_rgb8();
-    let red = Percent(red);
-    let green = Percent(green);
-    let blue = Percent(blue);
-    write!(f, "#{color_number};2;{red};{green};{blue}")
-}
-
-// The colour of a number is selected.
-#[inline]
-fn write_selected<W: fmt::Write>(color_number: u16, f: &mut fmt::Formatter<W>) -> fmt::Result
-    ensures { DisplaysOnOk W.write_str_gives f.old result
-        (data_output (SelectColorMapEntry color_number)) f.new }
-{
-    f.write_str("#")?;
-    write_natural(u64::from(color_number), f)
 }
 
 /// Writes each variant with its fields, as a derived Debug does, but the count of `Repeat` before

@@ -97,6 +97,18 @@ fn macro_parameter(pan: i64, pad: i64) -> Option<&'static str>
     }
 }
 
+// What comes before the data of an image.
+#[derive(Drop)]
+pub(crate) struct Header<'a, A: Allocator>(pub(crate) &'a Sixel<A>);
+
+impl<'a, A: Allocator> Display for Header<'a, A> {
+    ghost output = { λ h. Some (header_text h.0.now) };
+
+    fn fmt<W: fmt::Write>(&self, f: &mut fmt::Formatter<W>) -> fmt::Result {
+        write_header(self.0, f)
+    }
+}
+
 // The introducer, the parameters, the final byte, and raster attributes where the parameters do not
 // suffice.
 pub(crate) fn write_header<W: fmt::Write, A: Allocator>(

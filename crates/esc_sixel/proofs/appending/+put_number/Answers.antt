@@ -1,0 +1,42 @@
+use Rattle.std.proofs.Common.{◌/◌, ◌<◌, ◌∙◌, ◌∷◌, ◌^◌, [], ap, append_assoc, arith, length, length-append, take}
+use Rattle.std.specs.Fmt.{decimal}
+use Rattle.std.proofs.lemmas.Fmt.{decimal_step, length-decimal-le}
+use Rattle.esc_values.proofs.Digits.{decimal_one}
+use Rattle.esc_sixel.proofs.appending.+put_number.Goals as goal
+
+pub returns-then-number-lt10-clause-place : goal.returns-then-number-lt10-clause-place
+returns-then-number-lt10-clause-place t c =
+    rw (decimal_one c.args.number c.if-number-lt10.true) c.put_byte.ensures.place
+
+pub returns-then-number-lt10-clause-text : goal.returns-then-number-lt10-clause-text
+returns-then-number-lt10-clause-text t c =
+    rw (decimal_one c.args.number c.if-number-lt10.true) c.put_byte.ensures.text
+
+pub put_byte-requires-2-clause-room : goal.put_byte-requires-2-clause-room
+put_byte-requires-2-clause-room t c =
+    let small : c.args.number < 2 ^ 32 = c.ranges.number.fits in
+    let digits = length-decimal-le 9 (c.args.number / 10) (omega arith) (omega arith) (omega arith)
+    in
+    omega (arith, digits, c.put_number-at.ensures.place, c.requires.room)
+
+pub returns-clause-place : goal.returns-clause-place
+returns-clause-place t c =
+    let step = decimal_step c.args.number c.if-number-lt10.false (omega arith) in
+    let one_more = ap length step ∙ length-append (decimal (c.args.number / 10)) (_ ∷ []) in
+    omega (arith, one_more, c.put_number-at.ensures.place, c.put_byte-2.ensures.place)
+
+pub returns-clause-few : goal.returns-clause-few
+returns-clause-few t c =
+    let small : c.args.number < 2 ^ 32 = c.ranges.number.fits in
+    let digits = length-decimal-le 9 (c.args.number / 10) (omega arith) (omega arith) (omega arith)
+    in
+    omega (arith, digits, c.put_number-at.ensures.place, c.put_byte-2.ensures.place)
+
+pub returns-clause-text : goal.returns-clause-text
+returns-clause-text t c =
+    rw (
+      c.put_byte-2.ensures.text,
+      c.put_number-at.ensures.text,
+      decimal_step c.args.number c.if-number-lt10.false (omega arith),
+    )
+    (append_assoc (take c.args.at c.args.bytes.now) (decimal (c.args.number / 10)) (_ ∷ []))
