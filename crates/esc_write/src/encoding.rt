@@ -209,12 +209,6 @@ fn write_alone<A: Allocator>(text: &mut Text<A>, action: &Action<A>) -> Result<(
         | Action::KittyImage(_)
         | Action::XtGetTcap(_)
         | Action::DeviceControl(_) => text.push_display(action),
-        Action::Sixel(_) => {
-            if action.has_text() {
-                text.push_display(action)
-            } else {
-                Err(AllocError)
-            }
-        }
+        Action::Sixel(image) => image.append_to(text),
     }
 }
