@@ -10,11 +10,11 @@ fn is_sixel(item: SixelData) -> bool
     ensures { result ≡ is_sixel item }
 {
     match item {
-        SixelData::Data(value) => value < 64,
-        SixelData::Repeat {
+        SixelData::Data(value)
+        | SixelData::Repeat {
             repeat_count: _,
-            content,
-        } => content < 64,
+            content: value,
+        } => value < 64,
         _ => true,
     }
 }
