@@ -30,12 +30,14 @@ static ROWS: [(&str, &str, &str); 6] = [
 // How many requests are refused, one in each run. None of the rows asks for more.
 const REQUESTS: u64 = 12;
 
+// Appends a letter or BEL, and returns whether memory was there for it.
 fn append<A: Allocator + Copy>(list: &mut Vec<Action<A>, A>, c: char) -> bool {
-    if c == '\u{7}' {
-        Action::Control(ControlCode::Bell).append_to(list).is_ok()
+    let action = if c == '\u{7}' {
+        Action::Control(ControlCode::Bell)
     } else {
-        Action::Print(c).append_to(list).is_ok()
-    }
+        Action::Print(c)
+    };
+    action.append_to(list).is_ok()
 }
 
 // Whether the Debug text of a list is this one.
@@ -51,13 +53,19 @@ fn is_shown<T: Debug + Drop, A: Allocator>(alloc: Global, list: &Vec<T, A>, want
 fn is_list(alloc: Global, heap: &Refusing<Global>, row: &(&str, &str, &str)) -> bool {
     let (letters, whole, shorter) = *row;
     let mut list = Vec::new(heap);
-    let mut refused = 0usize;
-    for c in letters.chars() {
-        refused = refused.saturating_add(usize::from(!append(&mut list, c)));
-    }
+    let refused = append_all(&mut list, letters);
     let is_refused = heap.has_refused();
     let wanted = if is_refused { shorter } else { whole };
     refused == usize::from(is_refused) && is_shown(alloc, &list, wanted)
+}
+
+// Appends one after another, and returns how many came back.
+fn append_all<A: Allocator + Copy>(list: &mut Vec<Action<A>, A>, letters: &str) -> usize {
+    let mut refused = 0usize;
+    for c in letters.chars() {
+        refused = refused.saturating_add(usize::from(!append(list, c)));
+    }
+    refused
 }
 
 // The growth of a string that is there is refused too.

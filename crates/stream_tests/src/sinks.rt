@@ -2,7 +2,6 @@
 use escape_stream::{Collect, First, ParseError, Parser, Spell};
 use std::alloc::Global;
 use std::fmt::Debug;
-use std::test::Fail;
 
 const STREAM: &[u8] = b"ab\x1b]0;t\x07\x1b\\c\x1b[1m";
 
@@ -11,27 +10,37 @@ const TEXT: &str = "\"ab\\u{1b}]0;t\\u{1b}\\\\c\\u{1b}[1m\"";
 const SHOWN: &str =
     "[Print('a'), Print('b'), OperatingSystemCommand(SetIconNameAndWindowTitle(\"t\")), Esc(Code(StringTerminator)), Print('c'), CSI(Sgr(Intensity(Bold)))]";
 
-// The Debug text of what a sink was given, where the parser returned no error.
-fn shown<T: Debug + Drop>(
+// Whether a parser returned no error, and this is the Debug text of what its sink was given.
+fn is_given<T: Debug + Drop>(
     alloc: Global,
     ending: Result<(), ParseError>,
     given: T,
-) -> Result<String, Fail> {
-    ending?;
-    Ok(format!(in alloc; "{given:?}")?)
+    wanted: &str,
+) -> bool {
+    match format!(in alloc; "{given:?}") {
+        Ok(shown) => ending.is_ok() && shown.as_str() == wanted,
+        Err(_) => false,
+    }
+}
+
+// Whether each sink is given the stream's actions.
+fn is_collected(alloc: Global) -> bool {
+    let (result, sink) = Parser::new(alloc).parse_into(STREAM, Collect::new(alloc));
+    is_given(alloc, result, sink.actions, SHOWN)
+}
+
+fn is_spelled(alloc: Global) -> bool {
+    let (result, sink) = Parser::new(alloc).parse_into(STREAM, Spell::new(alloc));
+    is_given(alloc, result, sink.text, TEXT)
+}
+
+fn is_first_taken(alloc: Global) -> bool {
+    let (result, sink) = Parser::new(alloc).parse_into(STREAM, First { action: None });
+    is_given(alloc, result, sink.action, "Some(Print('a'))")
 }
 
 #[test]
-fn sinks_take_actions(rt: HostRuntime) -> Result<(), Fail> {
+fn sinks_take_actions(rt: HostRuntime) {
     let alloc = rt.alloc();
-    let (result, sink) = Parser::new(alloc).parse_into(STREAM, Collect::new(alloc));
-    let shown_list = shown(alloc, result, sink.actions)?;
-    let (result, sink) = Parser::new(alloc).parse_into(STREAM, Spell::new(alloc));
-    let shown_text = shown(alloc, result, sink.text)?;
-    let (result, sink) = Parser::new(alloc).parse_into(STREAM, First { action: None });
-    let shown_first = shown(alloc, result, sink.action)?;
-    assert!(rt; shown_list.as_str() == SHOWN);
-    assert!(rt; shown_text.as_str() == TEXT);
-    assert!(rt; shown_first.as_str() == "Some(Print('a'))");
-    Ok(())
+    assert!(rt; is_collected(alloc) && is_spelled(alloc) && is_first_taken(alloc));
 }
