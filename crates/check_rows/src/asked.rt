@@ -65,31 +65,44 @@ impl Asked {
     /// Asks with the first request refused, then with the second, and so on, until no request meets
     /// the refusal. A refusal that a call gets by, as that of a growth that is only a hint, leaves
     /// its result as it is; any other makes it an error. Returns how many were errors.
-    pub fn refuse_each(
-        self,
-        alloc: Global,
-        stream: &Stream,
-        report: &mut Report,
-    ) -> Result<usize, AllocError> {
+    pub fn refuse_each(self, alloc: Global, stream: &Stream, report: &mut Report) -> usize {
         let heap = Refusing::new(alloc);
-        let wanted = self.result(alloc, &heap, 0, stream)?;
+        let result = self.result(alloc, &heap, 0, stream);
+        let wanted = text_of(&result);
+        let differences = report.differences;
         let mut errors = 0usize;
         for at in 1..MOST_REQUESTS {
-            let result = self.result(alloc, &heap, at, stream)?;
-            let is_refused = heap.has_refused();
-            if is_refused && result.as_str() == "Err(Memory)" {
-                errors = errors.saturating_add(1);
-            } else if result.as_str() != wanted.as_str() {
-                let what = "a refused request changes the result";
-                report.expect(stream.name, what, wanted.as_str(), Ok(result))?;
-                return Ok(errors);
-            }
-            if !is_refused {
-                return Ok(errors);
+            errors = errors.saturating_add(self.refuse(alloc, &heap, at, stream, wanted, report));
+            if !heap.has_refused() || report.differences > differences {
+                return errors;
             }
         }
-        report.note(stream.name, "too many requests")?;
-        Ok(errors)
+        report.note(stream.name, "too many requests");
+        errors
+    }
+
+    // Asks with the request of this number refused, and notes where the result is neither the
+    // wanted one nor an error. Returns how many errors it is.
+    fn refuse(
+        self,
+        alloc: Global,
+        heap: &Refusing<Global>,
+        at: u64,
+        stream: &Stream,
+        wanted: &str,
+        report: &mut Report,
+    ) -> usize {
+        let result = self.result(alloc, heap, at, stream);
+        if heap.has_refused() && text_of(&result) == "Err(Memory)" {
+            return 1;
+        }
+        report.expect(
+            stream.name,
+            "a refused request changes the result",
+            wanted,
+            &result,
+        );
+        0
     }
 
     // The Debug text of the result where the request of this number is refused.
@@ -111,6 +124,14 @@ impl Asked {
             Asked::Normal => normalised(alloc, heap, stream.bytes),
             Asked::Verdict => shown(alloc, is_normal(heap, &mut Watched::new(stream.bytes))),
         }
+    }
+}
+
+// A text, where there was memory for it.
+fn text_of(text: &Result<String, AllocError>) -> &str {
+    match text {
+        Ok(text) => text.as_str(),
+        Err(_) => "out of memory",
     }
 }
 
@@ -146,21 +167,20 @@ fn checked<A: Allocator + Copy>(
     text: Result<String, AllocError>,
     parser: &mut Parser<A>,
 ) -> Result<String, AllocError> {
-    let text = text?;
-    if text.as_str() == "Err(Memory)" && !has_failed(alloc, parser) {
+    if text_of(&text) == "Err(Memory)" && !has_failed(alloc, parser) {
         return String::from_str(alloc, "a parser that goes on after a refusal");
     }
-    Ok(text)
+    text
 }
 
 // Whether each call of the parser says that it has failed.
 fn has_failed<A: Allocator + Copy>(alloc: Global, parser: &mut Parser<A>) -> bool {
+    let mut is_failed = true;
     for call in Call::ALL {
-        if !call.fails(alloc, parser, b"b") || !call.fails(alloc, parser, b"") {
-            return false;
-        }
+        is_failed &= call.fails(alloc, parser, b"b");
+        is_failed &= call.fails(alloc, parser, b"");
     }
-    true
+    is_failed
 }
 
 // The Debug text of the actions that a sink is given, or of the error. Before an error a prefix of

@@ -15,28 +15,28 @@ use std::alloc::{AllocError, Global};
 /// Checks each row of a table. Rows are blocks of lines, with empty lines between them.
 pub fn check_table(alloc: Global, table: &str) -> Result<Report, AllocError> {
     let mut report = Report::new(alloc);
-    match check_blocks(alloc, table, &mut report) {
-        Ok(()) => Ok(report),
-        Err(error) => Err(error),
+    check_blocks(alloc, table, &mut report);
+    if report.is_refused {
+        return Err(AllocError);
     }
+    Ok(report)
 }
 
-fn check_blocks(alloc: Global, table: &str, report: &mut Report) -> Result<(), AllocError> {
+fn check_blocks(alloc: Global, table: &str, report: &mut Report) {
     for block in table.split("\n\n") {
-        match Row::read(alloc, block) {
+        match &Row::read(alloc, block) {
             Ok(None) => {}
-            Ok(Some(row)) => check_row(alloc, &row, report)?,
-            Err(fault) => report.note(block, fault.0)?,
+            Ok(Some(row)) => check_row(alloc, row, report),
+            Err(fault) => report.note(block, fault.0),
         }
     }
-    Ok(())
 }
 
 // Checks a row, and notes why it cannot be checked.
-fn check_row(alloc: Global, row: &Row, report: &mut Report) -> Result<(), AllocError> {
+fn check_row(alloc: Global, row: &Row, report: &mut Report) {
     report.rows = report.rows.saturating_add(1);
     match check_kind(alloc, row, report) {
-        Ok(()) => Ok(()),
+        Ok(()) => {}
         Err(fault) => report.note(row.name, fault.0),
     }
 }
@@ -68,8 +68,7 @@ fn check_kind(alloc: Global, row: &Row, report: &mut Report) -> Result<(), Fault
 fn check_stream(alloc: Global, row: &Row, report: &mut Report) -> Result<(), Fault> {
     let bytes = row.bytes(alloc, "stream")?;
     let actions = row.actions(alloc)?;
-    let text = row.written(alloc)?;
-    let written = format!(in alloc; "Ok({text:?})")?;
+    let (text, written) = row.written(alloc)?;
     let stream = Stream {
         name: row.name,
         bytes: bytes.as_slice(),
@@ -78,7 +77,8 @@ fn check_stream(alloc: Global, row: &Row, report: &mut Report) -> Result<(), Fau
         written: written.as_str(),
         is_finished: !row.has("unfinished"),
     };
-    Ok(stream.check(alloc, report)?)
+    stream.check(alloc, report);
+    Ok(())
 }
 
 // The command that the parts are, and its text.
@@ -87,15 +87,16 @@ fn check_parts(alloc: Global, row: &Row, report: &mut Report) -> Result<(), Faul
     let actions = row.actions(alloc)?;
     let text = row.text(alloc, "text")?;
     let wanted = format!(in alloc; "{actions} {text}")?;
-    let got = command_of(alloc, &parts)?;
-    Ok(report.expect(row.name, "a command", wanted.as_str(), Ok(got))?)
+    let got = command_of(alloc, &parts);
+    report.expect(row.name, "a command", wanted.as_str(), &got);
+    Ok(())
 }
 
 // The Debug text of a list of the command that these parts are, and its Display text.
-fn command_of(alloc: Global, text: &[u8]) -> Result<String, Fault> {
+fn command_of(alloc: Global, text: &[u8]) -> Result<String, AllocError> {
     let parts = parts_of(alloc, text)?;
-    Ok(both(
+    both(
         alloc,
         OperatingSystemCommand::parse(alloc, parts.as_slice()),
-    )?)
+    )
 }

@@ -1,6 +1,6 @@
 //! What a filter writes of a stream.
 use crate::fault::Fault;
-use crate::questions::check_questions;
+use crate::questions::is_asked_once;
 use crate::report::Report;
 use crate::row::Row;
 use esc_filter::{Filter, FilterError, Policy, Unicode, filter_from, filter_stream};
@@ -15,13 +15,7 @@ const LIMIT: usize = 1_048_576;
 
 const MOST_REQUESTS: u64 = 10_000;
 
-// The policies, and the words before what passes them.
-const POLICIES: [(Policy, &str); 4] = [
-    (Policy::Text, "as-text"),
-    (Policy::Color, "as-color"),
-    (Policy::Screen, "as-screen"),
-    (Policy::All, "as-all"),
-];
+const POLICIES: [Policy; 4] = [Policy::Text, Policy::Color, Policy::Screen, Policy::All];
 
 // What can be written of characters that deceive, and the words before what is.
 const CHARACTERS: [(Unicode, &str); 2] = [(Unicode::Show, "shown"), (Unicode::Drop, "dropped")];
@@ -31,23 +25,67 @@ const CHARACTERS: [(Unicode, &str); 2] = [(Unicode::Show, "shown"), (Unicode::Dr
 /// request for memory fails, at each of them in turn.
 pub fn check_filtered(alloc: Global, row: &Row, report: &mut Report) -> Result<(), Fault> {
     let bytes = row.bytes(alloc, "stream")?;
-    let stream = bytes.as_slice();
-    let mut wanted = String::new(alloc);
-    for (policy, word) in POLICIES {
-        if row.has(word) {
-            wanted = row.text(alloc, word)?;
-        }
-        let whole = filtered(alloc, stream, policy);
-        report.expect(row.name, word, wanted.as_str(), whole)?;
-        let by_bytes = filtered(alloc, byte_by_byte(stream, 0), policy);
-        report.expect(row.name, word, wanted.as_str(), by_bytes)?;
+    check_stream(alloc, row, &bytes, report)
+}
+
+fn check_stream(alloc: Global, row: &Row, stream: &[u8], report: &mut Report) -> Result<(), Fault> {
+    for policy in POLICIES {
+        check_policy(alloc, row, stream, policy, report)?;
     }
-    check_characters(alloc, row, stream, report)?;
-    check_reads(alloc, stream, wanted.as_str())?;
-    check_writes(alloc, stream, wanted.as_str())?;
-    check_flushes(alloc, stream, wanted.as_str())?;
-    check_questions(alloc, stream, LIMIT)?;
-    check_requests(alloc, stream, wanted.as_str())
+    for (unicode, word) in CHARACTERS {
+        if row.has(word) {
+            check_characters(alloc, row, stream, (unicode, word), report)?;
+        }
+    }
+    let wanted = row.text(alloc, word_of(row, Policy::All))?;
+    check_faults(alloc, row.name, stream, wanted.as_str(), report);
+    Ok(())
+}
+
+// The word before what a policy lets through: that of the one before it, where it has no line.
+fn word_of(row: &Row, policy: Policy) -> &'static str {
+    match policy {
+        Policy::All if row.has("as-all") => "as-all",
+        Policy::All | Policy::Screen if row.has("as-screen") => "as-screen",
+        Policy::All | Policy::Screen | Policy::Color if row.has("as-color") => "as-color",
+        _ => "as-text",
+    }
+}
+
+// What a policy lets through, read whole and byte by byte.
+fn check_policy(
+    alloc: Global,
+    row: &Row,
+    stream: &[u8],
+    policy: Policy,
+    report: &mut Report,
+) -> Result<(), Fault> {
+    let word = word_of(row, policy);
+    let wanted = row.text(alloc, word)?;
+    let whole = filtered(alloc, stream, policy);
+    report.expect(row.name, word, wanted.as_str(), &whole);
+    let by_bytes = filtered(alloc, byte_by_byte(stream, 0), policy);
+    report.expect(row.name, word, wanted.as_str(), &by_bytes);
+    Ok(())
+}
+
+// What is written where something fails, and what a policy is asked.
+fn check_faults(alloc: Global, name: &str, stream: &[u8], wanted: &str, report: &mut Report) {
+    if !are_read_faults(alloc, stream, wanted) {
+        report.note(name, "a read that fails changes what is written");
+    }
+    if !are_write_faults(alloc, stream, wanted) {
+        report.note(name, "a write that fails changes what is written");
+    }
+    if !is_flushed(alloc, stream, wanted) {
+        report.note(name, "what a read adds is not flushed");
+    }
+    if !is_asked_once(alloc, stream, LIMIT) {
+        report.note(name, "a policy is not asked of each action once");
+    }
+    if !are_requests_right(alloc, stream, wanted) {
+        report.note(name, "a refused request changes what is written");
+    }
 }
 
 fn byte_by_byte(stream: &[u8], fails_at: usize) -> ByteReader<'_> {
@@ -64,17 +102,14 @@ fn check_characters(
     alloc: Global,
     row: &Row,
     stream: &[u8],
+    (unicode, word): (Unicode, &'static str),
     report: &mut Report,
 ) -> Result<(), Fault> {
-    for (unicode, word) in CHARACTERS {
-        if row.has(word) {
-            let wanted = row.text(alloc, word)?;
-            let whole = written_as(alloc, stream, unicode);
-            report.expect(row.name, word, wanted.as_str(), whole)?;
-            let by_bytes = written_as(alloc, byte_by_byte(stream, 0), unicode);
-            report.expect(row.name, word, wanted.as_str(), by_bytes)?;
-        }
-    }
+    let wanted = row.text(alloc, word)?;
+    let whole = written_as(alloc, stream, unicode);
+    report.expect(row.name, word, wanted.as_str(), &whole);
+    let by_bytes = written_as(alloc, byte_by_byte(stream, 0), unicode);
+    report.expect(row.name, word, wanted.as_str(), &by_bytes);
     Ok(())
 }
 
@@ -133,14 +168,13 @@ fn is_fault(ending: Result<(), FilterError>, wanted: FilterError) -> bool {
     }
 }
 
-// A read that fails is an error, and what was written is a prefix.
-fn check_reads(alloc: Global, stream: &[u8], wanted: &str) -> Result<(), Fault> {
+// Whether a read that fails is an error, and what was written is a prefix.
+fn are_read_faults(alloc: Global, stream: &[u8], wanted: &str) -> bool {
+    let mut is_right = true;
     for at in 1..=stream.len().saturating_add(1) {
-        if !is_read_fault(alloc, stream, at, wanted) {
-            return Err(Fault("a read that fails changes what is written"));
-        }
+        is_right &= is_read_fault(alloc, stream, at, wanted);
     }
-    Ok(())
+    is_right
 }
 
 // The same of a read with this number.
@@ -150,44 +184,42 @@ fn is_read_fault(alloc: Global, stream: &[u8], at: usize, wanted: &str) -> bool 
     is_fault(ending, FilterError::Read) && wanted.as_bytes().starts_with(&text)
 }
 
-// A writer that fails, of one byte a call, is an error, and it holds what it took before.
-fn check_writes(alloc: Global, stream: &[u8], wanted: &str) -> Result<(), Fault> {
+// Whether a writer that fails, of one byte a call, is an error, and holds what it took before.
+fn are_write_faults(alloc: Global, stream: &[u8], wanted: &str) -> bool {
+    let mut is_right = true;
     for at in 0..wanted.len().min(64) {
-        let writer = FixedWriter::new(64, 1, at.saturating_add(1));
-        let (ending, held) = run(alloc, stream, writer, Policy::All);
-        if !is_fault(ending, FilterError::Write) || !held.holds(&wanted.as_bytes()[..at]) {
-            return Err(Fault("a write that fails changes what is written"));
-        }
+        is_right &= is_write_fault(alloc, stream, &wanted.as_bytes()[..at]);
     }
-    Ok(())
+    is_right
 }
 
-// What a read adds is flushed before the next read, and what the end adds.
-fn check_flushes(alloc: Global, stream: &[u8], wanted: &str) -> Result<(), Fault> {
-    if wanted.len() > 64 {
-        return Ok(());
-    }
+// The same of a write after this text.
+fn is_write_fault(alloc: Global, stream: &[u8], wanted: &[u8]) -> bool {
+    let writer = FixedWriter::new(64, 1, wanted.len().saturating_add(1));
+    let (ending, held) = run(alloc, stream, writer, Policy::All);
+    is_fault(ending, FilterError::Write) && held.holds(wanted)
+}
+
+// Whether what a read adds is flushed before the next read, and what the end adds. A longer text is
+// not tried.
+fn is_flushed(alloc: Global, stream: &[u8], wanted: &str) -> bool {
     let writer = FixedWriter::new(64, 64, 0);
     let (ending, held) = run(alloc, byte_by_byte(stream, 0), writer, Policy::All);
-    if ending.is_err() || held.flushes != stream.len().saturating_add(1) {
-        return Err(Fault("what a read adds is not flushed"));
-    }
-    Ok(())
+    wanted.len() > 64 || ending.is_ok() && held.flushes == stream.len().saturating_add(1)
 }
 
-// Each request for memory that is refused is an error or changes nothing.
-fn check_requests(alloc: Global, stream: &[u8], wanted: &str) -> Result<(), Fault> {
+// Whether each request for memory that is refused is an error or changes nothing, and there are not
+// too many.
+fn are_requests_right(alloc: Global, stream: &[u8], wanted: &str) -> bool {
     let heap = Refusing::new(alloc);
     for at in 1..MOST_REQUESTS {
         heap.refuse_at(at);
-        if !is_unchanged(alloc, &heap, stream, wanted) {
-            return Err(Fault("a refused request changes what is written"));
-        }
-        if !heap.has_refused() {
-            return Ok(());
+        let is_right = is_unchanged(alloc, &heap, stream, wanted);
+        if !is_right || !heap.has_refused() {
+            return is_right;
         }
     }
-    Err(Fault("too many requests"))
+    false
 }
 
 // Whether a filter over this heap writes the text, or where it is refused memory a beginning of it.

@@ -8,7 +8,7 @@ use crate::report::Report;
 use crate::row::Row;
 use crate::texts::encoded;
 use escape_stream::Parser;
-use std::alloc::{AllocError, Global};
+use std::alloc::Global;
 
 /// Every stream of the family is read by every call, and written as it came.
 pub fn check_lengths(alloc: Global, row: &Row, report: &mut Report) -> Result<(), Fault> {
@@ -16,19 +16,32 @@ pub fn check_lengths(alloc: Global, row: &Row, report: &mut Report) -> Result<()
     for word in numbers.split(' ') {
         let (from, to) = range(word)?;
         for number in from..to {
-            let stream = stream_of(alloc, row, number)?;
-            check_text(alloc, row.name, stream.as_str(), report)?;
+            check_one(alloc, row, number, report)?;
         }
     }
     Ok(())
 }
 
+// The stream of a row with this number.
+fn check_one(alloc: Global, row: &Row, number: usize, report: &mut Report) -> Result<(), Fault> {
+    let stream = stream_of(alloc, row, number)?;
+    let text = stream.as_str();
+    let wanted = format!(in alloc; "Ok({text:?})")?;
+    check_text(alloc, row.name, text.as_bytes(), wanted.as_str(), report);
+    Ok(())
+}
+
 // The stream of a row that has its piece so many times, or this number in its place.
 fn stream_of(alloc: Global, row: &Row, number: usize) -> Result<String, Fault> {
-    let begins = row.text(alloc, "begins")?;
-    let middle = middle_of(alloc, row, number)?;
-    let ends = row.text(alloc, "ends")?;
-    Ok(format!(in alloc; "{begins}{middle}{ends}")?)
+    let mut stream = row.text(alloc, "begins")?;
+    add_text(&mut stream, middle_of(alloc, row, number))?;
+    add_text(&mut stream, row.text(alloc, "ends"))?;
+    Ok(stream)
+}
+
+// Adds a text that could be read.
+fn add_text(stream: &mut String, text: Result<String, Fault>) -> Result<(), Fault> {
+    Ok(stream.push_str(text?.as_str())?)
 }
 
 // The piece so many times, or the number.
@@ -58,33 +71,27 @@ const READINGS: [(Reading, &str); 3] = [
     (Reading::Segments, "read by segments"),
 ];
 
-fn check_text(
-    alloc: Global,
-    name: &str,
-    text: &str,
-    report: &mut Report,
-) -> Result<(), AllocError> {
-    let bytes = text.as_bytes();
-    let wanted = format!(in alloc; "Ok({text:?})")?;
+fn check_text(alloc: Global, name: &str, bytes: &[u8], wanted: &str, report: &mut Report) {
     for (reading, how) in READINGS {
         let got = encoded(alloc, alloc, reading.read(alloc, bytes));
-        report.expect(name, how, wanted.as_str(), got)?;
+        report.expect(name, how, wanted, &got);
     }
     let got = encoded(alloc, alloc, by_calls(alloc, bytes));
-    report.expect(name, "given to a closure", wanted.as_str(), got)?;
+    report.expect(name, "given to a closure", wanted, &got);
     let got = normalised(alloc, alloc, bytes);
-    report.expect(name, "normalised", wanted.as_str(), got)?;
+    report.expect(name, "normalised", wanted, &got);
     for call in [Call::First, Call::Prefix] {
-        let first = first_of(alloc, call, bytes)?;
-        if first.starts_with("Ok(Some(") == bytes.is_empty() {
-            report.note(name, "no first action")?;
+        if !begins_rightly(alloc, call, bytes) {
+            report.note(name, "no first action");
         }
     }
-    Ok(())
 }
 
-// The Debug text of what this call of a new parser returns.
-fn first_of(alloc: Global, call: Call, bytes: &[u8]) -> Result<String, AllocError> {
+// Whether this call of a new parser returns an action where there are bytes.
+fn begins_rightly(alloc: Global, call: Call, bytes: &[u8]) -> bool {
     let mut parser = Parser::new(alloc);
-    call.shown(alloc, &mut parser, bytes)
+    match &call.shown(alloc, &mut parser, bytes) {
+        Ok(first) => first.starts_with("Ok(Some(") != bytes.is_empty(),
+        Err(_) => false,
+    }
 }

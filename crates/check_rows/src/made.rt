@@ -18,14 +18,23 @@ const LONGEST: u8 = 11;
 pub fn check_made(alloc: Global, row: &Row, report: &mut Report) -> Result<(), Fault> {
     let first = row.number(alloc, "seed")? as u64;
     let count = row.number(alloc, "count")? as u64;
+    let differences = report.differences;
     for i in 0..count {
-        let seed = first.wrapping_add(i);
-        let mut random = Random::new(seed);
-        let stream = make_stream(alloc, &mut random)?;
-        if let Some(fault) = difference(alloc, &stream, &mut random) {
-            let line = format!(in alloc; "seed {seed}: {fault}: {stream:?}")?;
-            return Ok(report.note(row.name, line.as_str())?);
+        check_seed(alloc, row, first.wrapping_add(i), report)?;
+        if report.differences > differences {
+            break;
         }
+    }
+    Ok(())
+}
+
+// Notes where the readings of the stream of this number differ.
+fn check_seed(alloc: Global, row: &Row, seed: u64, report: &mut Report) -> Result<(), Fault> {
+    let mut random = Random::new(seed);
+    let stream = make_stream(alloc, &mut random)?;
+    if let Some(fault) = difference(alloc, &stream, &mut random) {
+        let line = format!(in alloc; "seed {seed}: {fault}: {stream:?}")?;
+        report.note(row.name, line.as_str());
     }
     Ok(())
 }

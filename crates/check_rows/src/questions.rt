@@ -1,5 +1,4 @@
 //! How often a filter asks its policy.
-use crate::fault::Fault;
 use crate::reading::Reading;
 use esc_filter::{Admit, filter_stream};
 use escape_stream::{Action, Watched};
@@ -57,18 +56,13 @@ impl Admit<Global> for Expecting<'_> {
     }
 }
 
-/// A policy that admits all is asked of each action that can be written by itself, and shown each
+/// Whether a policy that admits all is asked of each action that can be written by itself, and shown each
 /// other one; a policy that admits none is asked of the same, and shown each: once, in order.
-pub fn check_questions(alloc: Global, stream: &[u8], limit: usize) -> Result<(), Fault> {
-    let actions = Reading::Whole.read(alloc, stream);
-    let is_right = match &actions {
+pub fn is_asked_once(alloc: Global, stream: &[u8], limit: usize) -> bool {
+    match &Reading::Whole.read(alloc, stream) {
         Ok(actions) => are_asked_once(alloc, stream, limit, actions),
         Err(_) => false,
-    };
-    if is_right {
-        return Ok(());
     }
-    Err(Fault("a policy is not asked of each action once"))
 }
 
 // Whether a policy is asked once of each of these actions of the stream.

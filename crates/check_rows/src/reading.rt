@@ -108,17 +108,28 @@ const NEXT: [&[u8]; 8] = [
 
 /// Whether a parser hands out the actions of the segments, of these bytes and of these with one
 /// byte after them, whole and byte by byte.
-pub fn is_read_alike(alloc: Global, bytes: &[u8]) -> Result<bool, AllocError> {
-    let mut stream = Vec::new(alloc);
+pub fn is_read_alike(alloc: Global, bytes: &[u8]) -> bool {
+    let mut is_right = true;
     for next in NEXT {
-        stream.clear();
-        stream.extend_from_slice(bytes)?;
-        stream.extend_from_slice(next)?;
-        if !is_alike(alloc, &stream, Reading::Whole) || !is_alike(alloc, &stream, Reading::Bytes) {
-            return Ok(false);
-        }
+        is_right = is_right && is_alike_before(alloc, bytes, next);
     }
-    Ok(true)
+    is_right
+}
+
+// The same of these bytes with those that come next.
+fn is_alike_before(alloc: Global, bytes: &[u8], next: &[u8]) -> bool {
+    match &joined(alloc, bytes, next) {
+        Ok(stream) => {
+            is_alike(alloc, stream, Reading::Whole) && is_alike(alloc, stream, Reading::Bytes)
+        }
+        Err(_) => false,
+    }
+}
+
+fn joined(alloc: Global, bytes: &[u8], next: &[u8]) -> Result<Vec<u8>, AllocError> {
+    let mut stream = Vec::from_slice(alloc, bytes)?;
+    stream.extend_from_slice(next)?;
+    Ok(stream)
 }
 
 /// Whether a stream has the actions of its segments, read in this way.

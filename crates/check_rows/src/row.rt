@@ -54,10 +54,13 @@ impl<'a> Row<'a> {
         }
     }
 
-    /// What is written of its actions: its stream, where it has no text.
-    pub fn written(&self, alloc: Global) -> Result<String, Fault> {
+    /// What is written of its actions, its stream where it has no text; and this text as `encode`
+    /// returns it.
+    pub fn written(&self, alloc: Global) -> Result<(String, String), Fault> {
         let word = if self.has("text") { "text" } else { "stream" };
-        self.text(alloc, word)
+        let text = self.text(alloc, word)?;
+        let written = format!(in alloc; "Ok({text:?})")?;
+        Ok((text, written))
     }
 
     /// The number after a word, and 0 where it has none.
@@ -145,10 +148,12 @@ fn add_kept(alloc: Global, text: &str, list: &mut String) -> Result<(), Fault> {
 }
 
 /// The parts of a command, between which `;` is.
-pub fn parts_of(alloc: Global, text: &[u8]) -> Result<Vec<&[u8]>, Fault> {
+pub fn parts_of(alloc: Global, text: &[u8]) -> Result<Vec<&[u8]>, AllocError> {
     let mut parts = Vec::new(alloc);
     for part in text.split(|b| *b == b';') {
-        parts.push(part)?;
+        if parts.push(part).is_err() {
+            return Err(AllocError);
+        }
     }
     Ok(parts)
 }

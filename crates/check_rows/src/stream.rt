@@ -30,102 +30,94 @@ const EACH_BYTE_UP_TO: usize = 200_000;
 
 impl Stream<'_> {
     /// Notes each way in which the library reads or writes it otherwise.
-    pub fn check(&self, alloc: Global, report: &mut Report) -> Result<(), AllocError> {
-        self.check_pieces(alloc, report)?;
-        self.check_calls(alloc, report)?;
-        self.check_prefixes(alloc, report)?;
-        self.check_text(alloc, report)?;
-        self.check_memory(alloc, report)
+    pub fn check(&self, alloc: Global, report: &mut Report) {
+        self.check_pieces(alloc, report);
+        self.check_calls(alloc, report);
+        self.check_prefixes(alloc, report);
+        self.check_text(alloc, report);
+        self.check_memory(alloc, report);
     }
 
     // In one piece, and in two pieces, cut at each place.
-    fn check_pieces(&self, alloc: Global, report: &mut Report) -> Result<(), AllocError> {
-        self.is_read(alloc, "read whole", Reading::Whole, report)?;
-        self.is_read(alloc, "read by segments", Reading::Segments, report)?;
+    fn check_pieces(&self, alloc: Global, report: &mut Report) {
+        self.is_read(alloc, "read whole", Reading::Whole, report);
+        self.is_read(alloc, "read by segments", Reading::Segments, report);
         if self.bytes.len() > CUT_UP_TO {
-            return Ok(());
+            return;
         }
         let differences = report.differences;
         for at in 0..=self.bytes.len() {
-            self.is_read(alloc, "read in two pieces", Reading::Cut(at), report)?;
+            self.is_read(alloc, "read in two pieces", Reading::Cut(at), report);
             if report.differences > differences {
                 break;
             }
         }
-        Ok(())
     }
 
     // Byte by byte, and by the calls that return the actions of a prefix.
-    fn check_calls(&self, alloc: Global, report: &mut Report) -> Result<(), AllocError> {
+    fn check_calls(&self, alloc: Global, report: &mut Report) {
         if self.bytes.len() > EACH_BYTE_UP_TO {
-            return Ok(());
+            return;
         }
-        self.is_read(alloc, "read byte by byte", Reading::Bytes, report)?;
+        self.is_read(alloc, "read byte by byte", Reading::Bytes, report);
         if self.is_finished {
-            self.is_read(alloc, "read by prefixes", Reading::Prefixes, report)?;
+            self.is_read(alloc, "read by prefixes", Reading::Prefixes, report);
         }
         let got = shown(alloc, by_calls(alloc, self.bytes));
-        report.expect(self.name, "given to a closure", self.actions, got)?;
+        report.expect(self.name, "given to a closure", self.actions, &got);
         if !finds_firsts(alloc, self.bytes) {
-            report.note(self.name, "first actions differ")?;
+            report.note(self.name, "first actions differ");
         }
-        Ok(())
     }
 
     // Each prefix, the stream itself too, also with a byte after it, by its segments and a parser.
-    fn check_prefixes(&self, alloc: Global, report: &mut Report) -> Result<(), AllocError> {
+    fn check_prefixes(&self, alloc: Global, report: &mut Report) {
         let len = self.bytes.len();
         if len > EACH_BYTE_UP_TO {
-            return Ok(());
+            return;
         }
         let first = if len > PREFIXES_UP_TO { len } else { 0 };
         for end in first..=len {
-            if !is_read_alike(alloc, &self.bytes[..end])? {
+            if !is_read_alike(alloc, &self.bytes[..end]) {
                 return report.note(self.name, "a prefix is read otherwise by segments");
             }
         }
-        Ok(())
     }
 
     // The text of the actions, and what is read of it again.
-    fn check_text(&self, alloc: Global, report: &mut Report) -> Result<(), AllocError> {
-        let got = encoded(alloc, alloc, Reading::Whole.read(alloc, self.bytes));
-        report.expect(self.name, "written", self.written, got)?;
+    fn check_text(&self, alloc: Global, report: &mut Report) {
+        let actions = Reading::Whole.read(alloc, self.bytes);
+        self.is_written("written", &encoded(alloc, alloc, actions), report);
         let again = Reading::Bytes.read(alloc, self.text.as_bytes());
-        let got = encoded(alloc, alloc, again);
-        report.expect(self.name, "written again", self.written, got)?;
-        let got = normalised(alloc, alloc, self.bytes);
-        report.expect(self.name, "normalised", self.written, got)?;
+        self.is_written("written again", &encoded(alloc, alloc, again), report);
+        self.is_written("normalised", &normalised(alloc, alloc, self.bytes), report);
         let actions = Reading::Halves.read(alloc, self.bytes);
-        if !is_displayed(alloc, actions, self.text)? {
-            report.note(self.name, "displayed otherwise")?;
+        if is_displayed(alloc, actions, self.text) != Ok(true) {
+            report.note(self.name, "displayed otherwise");
         }
-        Ok(())
     }
 
     // Each request for memory is refused in turn.
-    fn check_memory(&self, alloc: Global, report: &mut Report) -> Result<(), AllocError> {
+    fn check_memory(&self, alloc: Global, report: &mut Report) {
         if self.bytes.len() > CUT_UP_TO {
-            return Ok(());
+            return;
         }
         for asked in Asked::ALL {
-            let errors = asked.refuse_each(alloc, self, report)?;
+            let errors = asked.refuse_each(alloc, self, report);
             if errors == 0 && asked.grows(self) {
-                report.note(self.name, "no refused request makes an error")?;
+                report.note(self.name, "no refused request makes an error");
             }
         }
-        Ok(())
     }
 
     // Whether the stream has these actions, read in this way.
-    fn is_read(
-        &self,
-        alloc: Global,
-        how: &str,
-        reading: Reading,
-        report: &mut Report,
-    ) -> Result<(), AllocError> {
+    fn is_read(&self, alloc: Global, how: &str, reading: Reading, report: &mut Report) {
         let got = shown(alloc, reading.read(alloc, self.bytes));
-        report.expect(self.name, how, self.actions, got)
+        report.expect(self.name, how, self.actions, &got);
+    }
+
+    // Whether what is written of the stream in this way is its text.
+    fn is_written(&self, how: &str, got: &Result<String, AllocError>, report: &mut Report) {
+        report.expect(self.name, how, self.written, got);
     }
 }
