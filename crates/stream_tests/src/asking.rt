@@ -135,14 +135,23 @@ fn wrong_request<'a>(
     None
 }
 
-// The first request that, refused, makes the answer of this action another one; 0 where the action
-// cannot be made.
-fn wrong_request_of(heap: &Refusing<Global>, what: Made, wanted: bool) -> Option<u64> {
-    heap.refuse_at(0);
-    match &action_of(heap, what) {
+// The same of an action that was made; 0 where it could not be.
+fn wrong_request_of<'a>(
+    heap: &'a Refusing<Global>,
+    made: &Result<Action<&'a Refusing<Global>>, AllocError>,
+    wanted: bool,
+) -> Option<u64> {
+    match made {
         Ok(action) => wrong_request(heap, action, wanted),
         Err(_) => Some(0),
     }
+}
+
+// The same of an action that is made now.
+fn wrong_request_of_made(heap: &Refusing<Global>, what: Made, wanted: bool) -> Option<u64> {
+    heap.refuse_at(0);
+    let made = action_of(heap, what);
+    wrong_request_of(heap, &made, wanted)
 }
 
 // With each request for memory refused in turn, the answer is an error or stays the same.
@@ -150,7 +159,7 @@ fn wrong_request_of(heap: &Refusing<Global>, what: Made, wanted: bool) -> Option
 fn each_kind_of_action(rt: HostRuntime) {
     let heap = Refusing::new(rt.alloc());
     for (row, (what, wanted)) in MADE.iter().enumerate() {
-        let wrong = wrong_request_of(&heap, *what, *wanted);
+        let wrong = wrong_request_of_made(&heap, *what, *wanted);
         assert_eq!(rt; wrong, None, "row {row}");
     }
 }
