@@ -210,12 +210,7 @@ impl<'p, P: Admit<A>, A: Allocator> Sink<Action<A>> for Passing<'p, P, A> {
         if parameters_truncated {
             return Ok(false);
         }
-        let known = self.policy.known();
-        if control != b'm' {
-            if known.no_functions {
-                return Ok(true);
-            }
-        } else if known.renditions {
+        if control == b'm' && self.policy.known().renditions {
             return self.take_rendition(params);
         }
         self.ask_sequence(params, control)
@@ -232,6 +227,11 @@ impl<'p, P: Admit<A>, A: Allocator> Sink<Action<A>> for Passing<'p, P, A> {
             return self.take_link(text);
         }
         self.ask_command(text)
+    }
+
+    #[inline]
+    fn drops_sequences(&self, control: u8) -> bool {
+        control != b'm' && self.policy.known().no_functions
     }
 
     #[tactic(auto, using(crate::proofs::Images::passed_over))]

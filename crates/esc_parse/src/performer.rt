@@ -126,8 +126,8 @@ fn give_made<A: Allocator + Copy, S: Sink<Action<A>>>(
 }
 
 // The same, where the sink may take it from its parameters.
-#[inline]
-fn give_csi_params<A: Allocator + Copy, S: Sink<Action<A>>>(
+#[inline(never)]
+fn give_asked<A: Allocator + Copy, S: Sink<Action<A>>>(
     sink: &mut S,
     alloc: A,
     params: &[CsiParam],
@@ -145,6 +145,27 @@ fn give_csi_params<A: Allocator + Copy, S: Sink<Action<A>>>(
         Ok(false) => give_made(sink, alloc, params, parameters_truncated, byte),
         Err(error) => Err(error),
     }
+}
+
+// The same, where the sink may drop it by its final byte.
+#[inline]
+fn give_csi_params<A: Allocator + Copy, S: Sink<Action<A>>>(
+    sink: &mut S,
+    alloc: A,
+    params: &[CsiParam],
+    parameters_truncated: bool,
+    byte: u8,
+) -> Result<(), AllocError>
+    requires { MayReceive S.is_ready S.may S.takes sink.old
+        (map csi (csi_of params.now parameters_truncated byte)) }
+    ensures ready { S.is_ready sink.old → OnOk result (S.is_ready sink.new) }
+    ensures given { Gives (Refused A) S.takes S.refuses result sink.old
+        (map csi (csi_of params.now parameters_truncated byte)) sink.new }
+{
+    if !parameters_truncated && sink.drops_sequences(byte) {
+        return Ok(());
+    }
+    give_asked(sink, alloc, params, parameters_truncated, byte)
 }
 
 // Gives the sink a command that was made, where there was memory for it.

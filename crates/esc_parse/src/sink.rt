@@ -3,6 +3,7 @@ ghost use Rattle.std.specs.Prelude.{◌≡◌, ◌⊎◌, ◌<◌, ◌≤◌, �
 ghost use Rattle.std.specs.List.{FoldsTo, list_all};
 ghost use Rattle.std.specs.Str.{chars};
 ghost use Rattle.esc_values.specs.Clear.{is_clear, parts_of};
+ghost use Rattle.esc_values.specs.declared.csi_param.CsiParam.{CsiParam};
 ghost use Rattle.esc_sequences.specs.Csis.{CsiValue, csi_of};
 ghost use Rattle.esc_frame.specs.Events.{MayGet};
 ghost use Rattle.esc_frame.specs.Scans.{is_text_byte};
@@ -158,6 +159,17 @@ pub trait Sink<T: FromChar> {
             self.old (parts_of _text.now ∷ []) self.new) }
     {
         Ok(false)
+    }
+
+    /// Whether every control sequence with this final byte, whatever its parameters, would leave it
+    /// as it is. Where it returns true, as it does not by default, none that kept all its parameters
+    /// is given to [`receive_sequence`](Sink::receive_sequence), or made.
+    #[inline]
+    fn drops_sequences(&self, _control: u8) -> bool
+        ensures { IsTrue result → (es : List CsiParam) → FoldsTo (By T.is_sequence takes)
+            self.now (csi_of es false _control) self.now }
+    {
+        false
     }
 
     /// Whether every image, of kitty's protocol or sixel, would leave it as it is. Where it returns

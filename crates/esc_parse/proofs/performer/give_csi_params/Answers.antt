@@ -1,24 +1,15 @@
-use Rattle.esc_parse.proofs.Lists.{StopsAt-weaker, awaits_seen, folds_seen, stops_seen}
-use Rattle.std.proofs.Math.Logic.{⊎_map}
-use Rattle.esc_parse.proofs.performer.give_csi_params.Goals as goal
+use Rattle.std.proofs.Common.{◌≡◌, false, rules, subst, sym}
+use Rattle.std.specs.List.{FoldsTo}
+use Rattle.esc_sequences.specs.Csis.{csi_of}
 use Rattle.esc_actions.specs.Values.{csi, value_of}
-use Rattle.esc_parse.specs.Given.{At}
-use Rattle.memory.specs.Refusals.{Refused}
+use Rattle.esc_parse.specs.Given.{By}
+use Rattle.esc_parse.proofs.Lists.{folds_seen}
+use Rattle.esc_parse.proofs.performer.give_csi_params.Goals as goal
 
-pub returns-in-Ok-true-clause-given : goal.returns-in-Ok-true-clause-given
-returns-in-Ok-true-clause-given g c =
+pub returns-then-drops_sequences-clause-given : goal.returns-then-drops_sequences-clause-given
+returns-then-drops_sequences-clause-given g c =
+    let whole : c.args.parameters_truncated ≡ false = search rules in
     folds_seen value_of csi g.S.Sink.takes g.S.Sink.refuses c.args.sink.now _ _
-    (c.in-Ok-true.ensures.taken c.in-Ok-true.field-0-test)
-
-pub returns-in-Err-clause-given : goal.returns-in-Err-clause-given
-returns-in-Err-clause-given g c =
-    StopsAt-weaker (At value_of g.S.Sink.takes) (At value_of g.S.Sink.refuses)
-    (Refused g.row.A.Denot) ⊥ c.args.sink.now _ _
-    (λ no. absurd no)
-    (stops_seen value_of csi g.S.Sink.takes g.S.Sink.refuses ⊥ c.args.sink.now _ _
-    c.in-Err.ensures.refused)
-
-pub receive_sequence-requires : goal.receive_sequence-requires
-receive_sequence-requires g c =
-    ⊎_map (λ r. r) (awaits_seen value_of csi g.S.Sink.takes g.S.Sink.refuses g.S.Sink.may
-    c.args.sink.now _) c.requires
+    (subst (λ more. FoldsTo (By (λ a v. value_of a ≡ csi v) g.S.Sink.takes) c.args.sink.now
+    (csi_of c.args.params.now more c.args.byte) c.args.sink.now) (sym whole)
+    (c.drops_sequences.ensures (search rules) c.args.params.now))

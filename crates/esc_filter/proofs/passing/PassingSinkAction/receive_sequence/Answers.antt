@@ -1,28 +1,15 @@
 use Rattle.std.proofs.Common.{◌≡◌, IfOk, OnErr, false, rules, subst, sym}
 use Rattle.std.specs.Prelude.{IsTrue}
 use Rattle.std.specs.List.{FoldsTo}
-use Rattle.std.proofs.lemmas.Bool.{ne_eqb}
 use Rattle.esc_sequences.specs.Csis.{csi_of}
 use Rattle.esc_normal.proofs.Spelling.{IsSequence}
 use Rattle.esc_parse.specs.Given.{By, StopsAt}
 use Rattle.esc_filter.specs.Fed.{Refuses}
-use Rattle.esc_filter.proofs.Knowing.{functions_stay}
 use Rattle.esc_filter.proofs.Runs.{TakesBy}
-use Rattle.esc_filter.proofs.Sequences.{stays_taken}
 use Rattle.esc_filter.proofs.passing.PassingSinkAction.receive_sequence.Goals as goal
 
 pub returns-then-known-clause-taken : goal.returns-then-known-clause-taken
-returns-then-known-clause-taken g c = λ _.
-    let es = c.args.params.now in
-    let f = c.args.control in
-    stays_taken g.P.Admit.admits es c.args.parameters_truncated f c.args.self.now
-    c.if-parameters_truncated.false
-    (functions_stay (g.P.Admit.admits c.args.self.now.policy.now) c.known-known.result
-    c.known-known.ensures
-    c.if-known.true es f (ne_eqb f 0x6d c.if-control-ne109.true))
-
-pub returns-then-known-2-clause-taken : goal.returns-then-known-2-clause-taken
-returns-then-known-2-clause-taken g c =
+returns-then-known-clause-taken g c =
     let m : 0x6d ≡ c.args.control = search rules in
     subst (λ more. IfOk c.take_rendition.result (λ b. IsTrue b → FoldsTo (By IsSequence
     (TakesBy g.P.Admit.admits)) c.args.self.now (csi_of c.args.params.now more c.args.control)
@@ -31,8 +18,8 @@ returns-then-known-2-clause-taken g c =
     (TakesBy g.P.Admit.admits)) c.args.self.now (csi_of c.args.params.now false f)
     c.take_rendition.new.self)) m c.take_rendition.ensures.taken)
 
-pub returns-then-known-2-clause-refused : goal.returns-then-known-2-clause-refused
-returns-then-known-2-clause-refused g c =
+pub returns-then-known-clause-refused : goal.returns-then-known-clause-refused
+returns-then-known-clause-refused g c =
     let m : 0x6d ≡ c.args.control = search rules in
     subst (λ more. OnErr c.take_rendition.result (StopsAt ⊥ (By IsSequence
     (TakesBy g.P.Admit.admits)) (By IsSequence Refuses) c.args.self.now
