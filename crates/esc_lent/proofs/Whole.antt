@@ -16,7 +16,7 @@ use Rattle.esc_frame.specs.Limits.{is_within}
 use Rattle.esc_frame.specs.Machine.Moves.{after_all, events_all, after_by, events_by}
 use Rattle.esc_frame.specs.Machine.TextRuns.{IsTextRun}
 use Rattle.esc_frame.specs.Segments as segments
-use Rattle.esc_frame.specs.Segments.{osc_events, escape_event}
+use Rattle.esc_frame.specs.Segments.{osc_events}
 use Rattle.esc_frame.specs.Segments.Opener.{Long}
 use Rattle.esc_frame.proofs.CsiRuns.{osc_opens, escape_class}
 use Rattle.esc_frame.proofs.Borrows.{after_more}

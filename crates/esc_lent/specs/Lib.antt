@@ -4,6 +4,10 @@ pub mod Numbers
 pub mod States
 pub mod Runs
 pub mod Noted
+pub mod Takes
+pub mod Reads
+pub mod Ahead
 pub mod Next
 pub mod Limited
 pub mod Strings
+pub mod Steps

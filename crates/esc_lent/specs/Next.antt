@@ -1,8 +1,7 @@
 -- What the calls for the next event promise.
 use Rattle.std.specs.Prelude.{ℕ, ◌≡◌, ◌≢◌, ◌≤◌, ◌<◌, true, false, List, [], ◌++◌, length, take, Some}
-use Rattle.std.specs.Borrow.{MutBor}
 use Rattle.std.specs.Str.{IsUtf8}
-use denote.Triple.Both.{Both}
+use Rattle.esc_frame.specs.Changed.{Changed}
 use Rattle.esc_frame.specs.Events.{Event}
 use Rattle.esc_frame.specs.Leads.{Unfinished}
 use Rattle.esc_frame.specs.Machine.Moves.{after_all, events_all}
@@ -10,13 +9,11 @@ use Rattle.esc_lent.specs.declared.event.EscEvent.{EscEvent}
 use Rattle.esc_lent.specs.declared.event.TheConstants.{NONE, TEXT, FAILED, LIMIT_PASSED}
 use Rattle.esc_lent.specs.declared.numbers.TheConstants.{GROUND}
 use Rattle.esc_lent.specs.declared.parser.EscParser.{EscParser}
+use Rattle.esc_lent.specs.Ahead.{Fits}
 use Rattle.esc_lent.specs.Limited.{IsLimited, AddsFewer}
 use Rattle.esc_lent.specs.States.{KeptIn, IsAt, lower, upper}
-use Rattle.esc_lent.specs.Emitted.{emitted, queued_of, placed, IsWithin}
-
--- a parser before a call and after it
-abbrev pub ParserChange : Type 0
-ParserChange = Both (MutBor EscParser) (MutBor EscParser)
+use Rattle.esc_lent.specs.Emitted.{emitted, emitted_by, queued_of, placed, IsWithin}
+use Rattle.esc_lent.specs.Takes.{IsInRoom}
 
 -- a buffer, by its halves: what keeps the unfinished string, and what a text is copied to
 pub record Halves : Type 0 where
@@ -34,7 +31,7 @@ abbrev pub queued_in : EscParser → List Event
 queued_in p = queued_of p.queued_kind p.queued_value
 
 -- A call for the next event took so many of the bytes.
-pub record Next (parser : ParserChange) (old new : Halves) (bytes : List ℕ) (event : EscEvent)
+pub record Next (parser : Changed EscParser) (old new : Halves) (bytes : List ℕ) (event : EscEvent)
     (taken : ℕ) : Type 0 where
   -- no more than there are
   pub few : taken ≤ length bytes
@@ -58,15 +55,21 @@ pub record Next (parser : ParserChange) (old new : Halves) (bytes : List ℕ) (e
   pub failed : event.kind ≡ FAILED → parser.exit.now.has_failed ≡ true
   pub again : parser.entry.now.has_failed ≡ true → event.kind ≡ FAILED
 
+-- The event is no failure where the parser may have been fed a stream: where it was begun, and only
+-- called with this memory, which nobody else wrote.
+abbrev pub NeverFails : EscParser → List ℕ → EscEvent → Type 0
+NeverFails p memory event =
+    (s : List ℕ) (es : List Event) → IsAt s es p memory → event.kind ≢ FAILED
+
 -- Nothing is queued, and nothing is noted of an event that is within its room.
 pub record IsReady (parser : EscParser) (event : EscEvent) (room : ℕ) : Type 0 where
   pub none : event.kind ≡ NONE
   pub queued : queued_in parser ≡ []
-  pub within : (event.count ≤ 256) × (event.kept ≤ 2) × (event.length ≤ room)
+  pub within : IsInRoom event room
 
 -- A call of a parser that is ready took bytes up to the first event, or all of them.
-pub record ToEvent (parser : ParserChange) (old new : Halves) (bytes : List ℕ) (event : EscEvent)
-    (taken : ℕ) : Type 0 where
+pub record ToEvent (parser : Changed EscParser) (old new : Halves) (bytes : List ℕ)
+    (event : EscEvent) (taken : ℕ) : Type 0 where
   pub few : taken ≤ length bytes
   pub within : IsWithin event (length old.out) taken
   pub utf8 : event.kind ≡ TEXT → IsUtf8 (placed event bytes)
@@ -82,6 +85,40 @@ pub record ToEvent (parser : ParserChange) (old new : Halves) (bytes : List ℕ)
       → event.kind ≡ LIMIT_PASSED → IsLimited (length old.memory) u (take taken bytes)
   pub failed : event.kind ≡ FAILED → parser.exit.now.has_failed ≡ true
   pub goes_on : event.kind ≢ FAILED → parser.exit.now.has_failed ≡ parser.entry.now.has_failed
+  -- it never fails where the parser keeps what is unfinished, and a text has as much room as is
+  -- kept of one
+  pub sound : (u : Unfinished) → KeptIn parser.entry.now old.memory u
+      → length old.memory ≤ length old.out → event.kind ≢ FAILED
+
+-- A call of a parser for which nothing is queued took bytes, from the first on, up to what they
+-- emit first; a run lies at the first of them. After a failure nothing counts as taken.
+pub record Advances (parser : Changed EscParser) (old new : Halves) (bytes : List ℕ)
+    (event : EscEvent) (taken : ℕ) : Type 0 where
+  -- no more than there are
+  pub few : taken ≤ length bytes
+  -- the counts and the places of the event are within what they count
+  pub fits : Fits event (length old.out) bytes taken
+  -- some, unless it fails
+  pub some : event.kind ≢ FAILED → 0 < taken
+  -- parser and memory keep what is unfinished after these bytes
+  pub kept : (u : Unfinished) → KeptIn parser.entry.now old.memory u → event.kind ≢ FAILED
+      → KeptIn parser.exit.now new.memory (after_all u (take taken bytes))
+  -- the event, with what is queued, says what is emitted
+  pub says : (u : Unfinished) → KeptIn parser.entry.now old.memory u → event.kind ≢ FAILED
+      → emitted_by event new.out (take event.length bytes) ++ queued_in parser.exit.now
+      ≡ events_all (Some (length old.memory)) u (take taken bytes)
+  -- nothing is queued after no event
+  pub queued : event.kind ≡ NONE → queued_in parser.exit.now ≡ []
+  -- where the event says that a string was past the limit, so it was
+  pub limited : (u : Unfinished) → KeptIn parser.entry.now old.memory u
+      → event.kind ≡ LIMIT_PASSED → IsLimited (length old.memory) u (take taken bytes)
+  -- the parser notes a failure, and else has failed where it had
+  pub failed : event.kind ≡ FAILED → parser.exit.now.has_failed ≡ true
+  pub goes_on : event.kind ≢ FAILED → parser.exit.now.has_failed ≡ parser.entry.now.has_failed
+  -- it never fails where the parser keeps what is unfinished, and a text has as much room as is
+  -- kept of one
+  pub sound : (u : Unfinished) → KeptIn parser.entry.now old.memory u
+      → length old.memory ≤ length old.out → event.kind ≢ FAILED
 
 -- It is at the beginning of a segment, it has not failed, and nothing is queued.
 abbrev pub IsPlain : EscParser → Type 0

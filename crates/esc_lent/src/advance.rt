@@ -1,17 +1,15 @@
 //! The next events of some bytes.
 #![tactic(auto)]
 
-ghost use Rattle.std.specs.Prelude.{◌≡◌, ◌≤◌, ◌<◌, ◌≢◌, ◌++◌, [], ℕ, List, true, false, length, take, Some, Option, IsTrue};
-ghost use Rattle.std.specs.Str.{IsUtf8};
-ghost use Rattle.esc_frame.specs.Leads.{Unfinished};
-ghost use Rattle.esc_frame.specs.Machine.Moves.{after_all, events_all};
-ghost use Rattle.esc_lent.specs.Limited.{IsLimited};
+ghost use Rattle.std.specs.Prelude.{◌≡◌, ◌≤◌, ◌<◌, [], ℕ, List, true, false, length, take, IsTrue};
 ghost use Rattle.esc_lent.specs.Runs.{Emits, IsDueAs};
-ghost use Rattle.esc_lent.specs.States.{KeptIn};
 ghost use Rattle.esc_lent.specs.Noted.{IsSound};
-ghost use Rattle.esc_lent.specs.Emitted.{emitted_by, queued_of, is_run};
+ghost use Rattle.esc_lent.specs.Emitted.{queued_of, is_run};
+ghost use Rattle.esc_lent.specs.Ahead.{Fits, NotesFirst, NotesRun};
+ghost use Rattle.esc_lent.specs.Next.{Advances, IsReady, both};
+ghost use Rattle.esc_lent.specs.Takes.{IsInRoom};
 
-use crate::event::{CHARACTER, CONTROL, DATA, EscEvent, FAILED, LIMIT_PASSED, NONE, TEXT};
+use crate::event::{CHARACTER, CONTROL, DATA, EscEvent, FAILED, NONE, TEXT};
 use crate::limited::{Place, note_limited};
 use crate::parser::EscParser;
 use crate::pieces::note_piece;
@@ -27,18 +25,7 @@ use esc_frame::runs::scans::data_run;
 fn run_ahead(parser: &EscParser, bytes: &[u8], event: &mut EscEvent) -> usize
     requires some { 0 < length bytes.now }
     requires none { event.old.kind ≡ NONE }
-    ensures few { result ≤ length bytes.now }
-    ensures none { result ≡ 0 → event.new ≡ event.old }
-    ensures some { 0 < result → (event.new.kind ≢ NONE) × (event.new.kind < FAILED)
-        × (is_run event.new.kind ≡ true) }
-    ensures within { (event.new.count ≡ event.old.count) × (event.new.kept ≡ event.old.kept)
-        × (event.new.start ≡ event.old.start) × (0 < result → event.new.length ≡ result) }
-    ensures utf8 { event.new.kind ≡ TEXT → IsUtf8 (take event.new.length bytes.now) }
-    ensures kept { 0 < result → (u : Unfinished) (memory : List ℕ) → KeptIn parser.now memory u
-        → KeptIn parser.now memory (after_all u (take result bytes.now)) }
-    ensures emitted { 0 < result → (u : Unfinished) (memory out : List ℕ)
-        → KeptIn parser.now memory u → emitted_by event.new out (take event.new.length bytes.now)
-        ≡ events_all (Some (length memory)) u (take result bytes.now) }
+    ensures { NotesRun parser.now event bytes.now result }
 {
     if parser.state == 0 && parser.pending == 0 {
         note_run(event, TEXT, text_run(bytes))
@@ -72,14 +59,10 @@ fn note_first(parser: &EscParser, bytes: &[u8], event: &mut EscEvent) -> usize
     requires some { 0 < length bytes.now }
     requires none { event.old.kind ≡ NONE }
     requires within { (event.old.count ≤ 256) × (event.old.kept ≤ 2) }
-    ensures few { result ≤ length bytes.now }
-    ensures none { result ≡ 0 → event.new ≡ record event.old { csi_params = event.new.csi_params } }
-    ensures some { 0 < result → (event.new.kind ≢ NONE) × (event.new.kind < FAILED) }
-    ensures within { (event.new.count ≤ 256) × (event.new.kept ≤ 2)
-        × (event.new.start ≡ event.old.start) }
-    ensures text { is_run event.new.kind ≡ false → event.new.length ≡ event.old.length }
-    ensures run { is_run event.new.kind ≡ true → event.new.length ≤ result }
-    ensures utf8 { event.new.kind ≡ TEXT → IsUtf8 (take event.new.length bytes.now) }
+    ensures notes { NotesFirst event bytes.now result }
+    ensures fits { Fits event.new event.old.length bytes.now result }
+    ensures same { (event.new.start ≡ event.old.start)
+        × (is_run event.new.kind ≡ false → event.new.length ≡ event.old.length) }
     ensures emits { 0 < result → (out : List ℕ) (limit : ℕ)
         → Emits parser.now parser.now event.new out limit bytes.now (take result bytes.now) }
 {
@@ -102,17 +85,10 @@ pub fn ahead(
 ) -> usize
     requires some { 0 < length bytes.now }
     requires none { event.old.kind ≡ NONE }
-    requires within { (event.old.count ≤ 256) × (event.old.kept ≤ 2)
-        × (event.old.length ≤ length out.old) }
-    ensures few { result ≤ length bytes.now }
-    ensures none { result ≡ 0 → (parser.new ≡ parser.old)
-        × (event.new ≡ record event.old { csi_params = event.new.csi_params }) }
-    ensures some { 0 < result → (event.new.kind ≢ NONE) × (event.new.kind < FAILED) }
-    ensures within { (event.new.count ≤ 256) × (event.new.kept ≤ 2) }
-    ensures text { is_run event.new.kind ≡ false → event.new.length ≤ length out.old }
-    ensures run { is_run event.new.kind ≡ true → event.new.length ≤ result }
-    ensures utf8 { event.new.kind ≡ TEXT → IsUtf8 (take event.new.length bytes.now) }
-    ensures queued { IsDueAs parser.new parser.old }
+    requires within { IsInRoom event.old (length out.old) }
+    ensures notes { NotesFirst event bytes.now result }
+    ensures fits { Fits event.new (length out.old) bytes.now result }
+    ensures parser { (result ≡ 0 → parser.new ≡ parser.old) × IsDueAs parser.new parser.old }
     ensures emits { 0 < result
         → Emits parser.old parser.new event.new out.new limit bytes.now (take result bytes.now) }
 {
@@ -133,31 +109,9 @@ pub fn advance(
     event: &mut EscEvent,
 ) -> usize
     requires some { 0 < length bytes.now }
-    requires none { event.old.kind ≡ NONE }
-    requires queued { queued_of parser.old.queued_kind parser.old.queued_value ≡ [] }
-    requires within { (event.old.count ≤ 256) × (event.old.kept ≤ 2)
-        × (event.old.length ≤ length out.old) }
-    ensures few { result ≤ length bytes.now }
-    ensures within { (event.new.count ≤ 256) × (event.new.kept ≤ 2) }
-    ensures text { is_run event.new.kind ≡ false → event.new.length ≤ length out.old }
-    ensures run { is_run event.new.kind ≡ true → event.new.length ≤ result }
-    ensures utf8 { event.new.kind ≡ TEXT → IsUtf8 (take event.new.length bytes.now) }
-    ensures some { event.new.kind ≢ FAILED → 0 < result }
-    ensures kept { (u : Unfinished) → KeptIn parser.old memory.old u → event.new.kind ≢ FAILED
-        → KeptIn parser.new memory.new (after_all u (take result bytes.now)) }
-    ensures emitted { (u : Unfinished) → KeptIn parser.old memory.old u → event.new.kind ≢ FAILED
-        → emitted_by event.new out.new (take event.new.length bytes.now)
-        ++ queued_of parser.new.queued_kind parser.new.queued_value
-        ≡ events_all (Some (length memory.old)) u (take result bytes.now) }
-    ensures queued { event.new.kind ≡ NONE
-        → queued_of parser.new.queued_kind parser.new.queued_value ≡ [] }
-    ensures limited { (u : Unfinished) → KeptIn parser.old memory.old u
-        → event.new.kind ≡ LIMIT_PASSED
-        → IsLimited (length memory.old) u (take result bytes.now) }
-    ensures failed { event.new.kind ≡ FAILED → parser.new.has_failed ≡ true }
-    ensures goes_on { event.new.kind ≢ FAILED → parser.new.has_failed ≡ parser.old.has_failed }
-    ensures sound { (u : Unfinished) → KeptIn parser.old memory.old u
-        → length memory.old ≤ length out.old → event.new.kind ≢ FAILED }
+    requires ready { IsReady parser.old event.old (length out.old) }
+    ensures { Advances parser (both memory.old out.old) (both memory.new out.new) bytes.now
+        event.new result }
 {
     let first = ahead(parser, memory.len(), out, bytes, event);
     if first > 0 {
@@ -180,31 +134,9 @@ fn by_machine(
     event: &mut EscEvent,
 ) -> usize
     requires some { 0 < length bytes.now }
-    requires none { event.old.kind ≡ NONE }
-    requires queued { queued_of parser.old.queued_kind parser.old.queued_value ≡ [] }
-    requires within { (event.old.count ≤ 256) × (event.old.kept ≤ 2)
-        × (event.old.length ≤ length out.old) }
-    ensures few { result ≤ length bytes.now }
-    ensures within { (event.new.count ≤ 256) × (event.new.kept ≤ 2) }
-    ensures text { is_run event.new.kind ≡ false → event.new.length ≤ length out.old }
-    ensures run { is_run event.new.kind ≡ true → event.new.length ≤ result }
-    ensures utf8 { event.new.kind ≡ TEXT → IsUtf8 (take event.new.length bytes.now) }
-    ensures some { event.new.kind ≢ FAILED → 0 < result }
-    ensures kept { (u : Unfinished) → KeptIn parser.old memory.old u → event.new.kind ≢ FAILED
-        → KeptIn parser.new memory.new (after_all u (take result bytes.now)) }
-    ensures emitted { (u : Unfinished) → KeptIn parser.old memory.old u → event.new.kind ≢ FAILED
-        → emitted_by event.new out.new (take event.new.length bytes.now)
-        ++ queued_of parser.new.queued_kind parser.new.queued_value
-        ≡ events_all (Some (length memory.old)) u (take result bytes.now) }
-    ensures queued { event.new.kind ≡ NONE
-        → queued_of parser.new.queued_kind parser.new.queued_value ≡ [] }
-    ensures limited { (u : Unfinished) → KeptIn parser.old memory.old u
-        → event.new.kind ≡ LIMIT_PASSED
-        → IsLimited (length memory.old) u (take result bytes.now) }
-    ensures failed { event.new.kind ≡ FAILED → parser.new.has_failed ≡ true }
-    ensures goes_on { event.new.kind ≢ FAILED → parser.new.has_failed ≡ parser.old.has_failed }
-    ensures sound { (u : Unfinished) → KeptIn parser.old memory.old u
-        → length memory.old ≤ length out.old → event.new.kind ≢ FAILED }
+    requires ready { IsReady parser.old event.old (length out.old) }
+    ensures { Advances parser (both memory.old out.old) (both memory.new out.new) bytes.now
+        event.new result }
 {
     let before = Place::of(parser);
     let (taken, has_failed) = step(parser, memory, out, event, bytes);

@@ -7,9 +7,9 @@ ghost use Rattle.esc_values.specs.declared.csi_param.CsiParam.{CsiParam as Param
 ghost use Rattle.esc_frame.specs.Bodies.{is_digit, held};
 ghost use Rattle.esc_frame.specs.Machine.Keeps.{shown, number_at};
 ghost use Rattle.esc_frame.specs.Sequences.{is_from};
-ghost use Rattle.esc_lent.specs.Runs.{IsBodyChange, IsDueAs, Notes};
-ghost use Rattle.esc_lent.specs.States.{BodyIn, NumberIn, ParamsIn};
+ghost use Rattle.esc_lent.specs.States.{NumberIn, ParamsIn};
 ghost use Rattle.esc_lent.specs.Emitted.{param_of};
+ghost use Rattle.esc_lent.specs.Takes.{AddsToBody, KeepsForm, NotesCsi, TakesByte};
 
 use crate::escapes::note_noise;
 use crate::event::{CHARACTER, CONTROL, CSI, EscEntry, EscEvent, NONE};
@@ -27,8 +27,7 @@ fn add(parser: &mut EscParser, entry: EscEntry)
     ensures first { (all : List Param) → ParamsIn parser.old all
         → ParamsIn parser.new (all ++ param_of entry ∷ []) }
     ensures number { parser.new.is_open ≡ parser.old.is_open }
-    ensures form { parser.new.form ≡ parser.old.form }
-    ensures same { IsBodyChange parser.new parser.old }
+    ensures same { KeepsForm parser.new parser.old }
 {
     if parser.is_truncated {
         return;
@@ -47,8 +46,7 @@ fn close(parser: &mut EscParser)
     ensures first { (o : Option ℕ) (all : List Param) → NumberIn parser.old o
         → ParamsIn parser.old all → ParamsIn parser.new (all ++ shown o) }
     ensures number { parser.new.is_open ≡ false }
-    ensures form { parser.new.form ≡ parser.old.form }
-    ensures same { IsBodyChange parser.new parser.old }
+    ensures same { KeepsForm parser.new parser.old }
 {
     if parser.is_open {
         parser.is_open = false;
@@ -79,8 +77,7 @@ fn number_so_far(parser: &EscParser) -> u64
 fn push_digit(parser: &mut EscParser, byte: u8)
     requires low { 0x30 ≤ byte }
     requires high { byte ≤ 0x39 }
-    ensures body { (x : List ℕ) → BodyIn parser.old x → BodyIn parser.new (x ++ byte ∷ []) }
-    ensures same { IsBodyChange parser.new parser.old }
+    ensures { AddsToBody parser byte }
 {
     parser.number = next_number(number_so_far(parser), byte - b'0');
     parser.is_open = true;
@@ -91,8 +88,7 @@ fn push_digit(parser: &mut EscParser, byte: u8)
 #[inline(always)]
 fn push_other(parser: &mut EscParser, byte: u8)
     requires { is_digit byte ≡ false }
-    ensures body { (x : List ℕ) → BodyIn parser.old x → BodyIn parser.new (x ++ byte ∷ []) }
-    ensures same { IsBodyChange parser.new parser.old }
+    ensures { AddsToBody parser byte }
 {
     close(parser);
     let entry = EscEntry {
@@ -107,8 +103,7 @@ fn push_other(parser: &mut EscParser, byte: u8)
 // One byte more.
 #[inline(always)]
 fn push(parser: &mut EscParser, byte: u8)
-    ensures body { (x : List ℕ) → BodyIn parser.old x → BodyIn parser.new (x ++ byte ∷ []) }
-    ensures same { IsBodyChange parser.new parser.old }
+    ensures { AddsToBody parser byte }
 {
     if lies_from(0x30, 0x39, byte) {
         push_digit(parser, byte)
@@ -135,17 +130,8 @@ fn end(parser: &mut EscParser, byte: u8, event: &mut EscEvent)
     requires count { event.old.count ≤ 256 }
     requires ends { is_from 0x40 0x7e byte ≡ true }
     ensures kind { (event.new.kind ≡ NONE) ⊎ (event.new.kind ≡ CSI) }
-    ensures count { event.new.count ≤ 256 }
-    ensures event { event.new ≡ record event.old {
-      kind = event.new.kind;
-      count = event.new.count;
-      csi_params = event.new.csi_params;
-      has_more = event.new.has_more;
-      byte = event.new.byte;
-    } }
-    ensures queued { IsDueAs parser.new parser.old }
-    ensures notes { (out : List ℕ) (limit : ℕ)
-        → Notes parser.old parser.new event.new out limit (byte ∷ []) }
+    ensures noted { NotesCsi event }
+    ensures takes { TakesByte parser event byte true }
 {
     close(parser);
     parser.state = 0;
@@ -167,20 +153,10 @@ pub fn note_in_csi(parser: &mut EscParser, byte: u8, event: &mut EscEvent) -> bo
     requires state { parser.old.state ≡ CSI_STATE }
     requires none { event.old.kind ≡ NONE }
     requires count { event.old.count ≤ 256 }
-    ensures other { result ≡ false → (parser.new ≡ parser.old) × (event.new ≡ event.old) }
+    ensures takes { TakesByte parser event byte result }
     ensures kind { (event.new.kind ≡ NONE) ⊎ (event.new.kind ≡ CHARACTER)
         ⊎ (event.new.kind ≡ CONTROL) ⊎ (event.new.kind ≡ CSI) }
-    ensures count { event.new.count ≤ 256 }
-    ensures event { event.new ≡ record event.old {
-      kind = event.new.kind;
-      count = event.new.count;
-      csi_params = event.new.csi_params;
-      has_more = event.new.has_more;
-      byte = event.new.byte;
-    } }
-    ensures queued { IsDueAs parser.new parser.old }
-    ensures notes { result ≡ true → (out : List ℕ) (limit : ℕ)
-        → Notes parser.old parser.new event.new out limit (byte ∷ []) }
+    ensures noted { NotesCsi event }
 {
     if lies_from(0x20, 0x3f, byte) {
         push(parser, byte);

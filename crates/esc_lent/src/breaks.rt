@@ -1,12 +1,12 @@
 //! What a byte does between sequences, and so where it breaks one off.
 #![tactic(auto)]
 
-ghost use Rattle.std.specs.Prelude.{◌≡◌, ◌⊎◌, ℕ, List};
+ghost use Rattle.std.specs.Prelude.{◌≡◌, ◌⊎◌};
 ghost use Rattle.esc_frame.specs.Classes.{class_of};
 ghost use Rattle.esc_frame.specs.Machine.Moves.{ground_move, pair_move};
 ghost use Rattle.esc_lent.specs.Runs.{IsDueAs};
-ghost use Rattle.esc_lent.specs.States.{KeptIn};
-ghost use Rattle.esc_lent.specs.Emitted.{queued_of, sent};
+ghost use Rattle.esc_lent.specs.Emitted.{queued_of};
+ghost use Rattle.esc_lent.specs.Takes.{IsSingleChange, KeepsAfter, Makes, NotesSingle};
 
 use crate::event::{CHARACTER, CONTROL, EscEvent, NONE};
 use crate::openers::{escape, open_kind};
@@ -26,8 +26,7 @@ pub const REPLACEMENT: u32 = 0xfffd;
 /// Takes a byte as between sequences, and returns what it gives.
 #[inline(always)]
 pub fn take_byte(parser: &mut EscParser, byte: u8) -> Single
-    ensures kept { (memory : List ℕ)
-        → KeptIn parser.new memory (ground_move byte (class_of byte)).0 }
+    ensures kept { KeepsAfter parser.new (ground_move byte (class_of byte)) }
     ensures given { queued_of result.kind result.value ≡ (ground_move byte (class_of byte)).1 }
     ensures kind { (result.kind ≡ NONE) ⊎ (result.kind ≡ CHARACTER) ⊎ (result.kind ≡ CONTROL) }
     ensures queued { IsDueAs parser.new parser.old }
@@ -66,13 +65,8 @@ pub fn take_byte(parser: &mut EscParser, byte: u8) -> Single
 /// Takes a byte as between sequences, and notes what it gives.
 #[inline(always)]
 pub fn note_break(parser: &mut EscParser, byte: u8, event: &mut EscEvent)
-    ensures kept { (memory : List ℕ)
-        → KeptIn parser.new memory (ground_move byte (class_of byte)).0 }
-    ensures says { (out : List ℕ) → sent event.new out ≡ (ground_move byte (class_of byte)).1 }
-    ensures kind { (event.new.kind ≡ NONE) ⊎ (event.new.kind ≡ CHARACTER)
-        ⊎ (event.new.kind ≡ CONTROL) }
-    ensures event { event.new ≡ record event.old { kind = event.new.kind; byte = event.new.byte } }
-    ensures queued { IsDueAs parser.new parser.old }
+    ensures moves { Makes parser event.new (ground_move byte (class_of byte)) }
+    ensures noted { NotesSingle CHARACTER CONTROL event }
 {
     let single = take_byte(parser, byte);
     event.kind = single.kind;
@@ -83,11 +77,9 @@ pub fn note_break(parser: &mut EscParser, byte: u8, event: &mut EscEvent)
 #[inline(never)]
 pub fn note_pair(parser: &mut EscParser, byte: u8, event: &mut EscEvent)
     requires { event.old.kind ≡ NONE }
-    ensures kept { (memory : List ℕ) → KeptIn parser.new memory (pair_move byte (class_of byte)).0 }
-    ensures says { (out : List ℕ) → sent event.new out ≡ (pair_move byte (class_of byte)).1 }
+    ensures moves { Makes parser event.new (pair_move byte (class_of byte)) }
     ensures kind { (event.new.kind ≡ NONE) ⊎ (event.new.kind ≡ CONTROL) }
-    ensures event { event.new ≡ record event.old { kind = event.new.kind; byte = event.new.byte } }
-    ensures queued { IsDueAs parser.new parser.old }
+    ensures same { IsSingleChange event.new event.old }
 {
     parser.state = 0;
     parser.pending = 0;

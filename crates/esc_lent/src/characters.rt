@@ -1,12 +1,12 @@
 //! Characters whose bytes come in pieces.
 #![tactic(auto)]
 
-ghost use Rattle.std.specs.Prelude.{◌≡◌, ◌⊎◌, ◌∷◌, [], ℕ, List, true, false};
+ghost use Rattle.std.specs.Prelude.{◌≡◌, true, false};
 ghost use Rattle.esc_frame.specs.Machine.Prefixes.{prefix_of};
 ghost use Rattle.esc_frame.specs.Segments.{is_empty};
 ghost use Rattle.esc_frame.specs.Sequences.{outcome};
-ghost use Rattle.esc_lent.specs.Runs.{Gives, IsDueAs, Notes};
 ghost use Rattle.esc_lent.specs.States.{begun_in};
+ghost use Rattle.esc_lent.specs.Takes.{GivesByte, NotesSingle, TakesByte};
 
 use crate::breaks::{REPLACEMENT, note_pair};
 use crate::event::{CHARACTER, CONTROL, EscEvent, NONE};
@@ -39,13 +39,8 @@ pub fn put_pending(parser: &mut EscParser, pending: Pending)
 pub fn note_character(parser: &mut EscParser, byte: u8, event: &mut EscEvent) -> bool
     requires ground { parser.old.state ≡ GROUND }
     requires none { event.old.kind ≡ NONE }
-    ensures other { result ≡ false → (parser.new ≡ parser.old) × (event.new ≡ event.old) }
-    ensures kind { (event.new.kind ≡ NONE) ⊎ (event.new.kind ≡ CHARACTER)
-        ⊎ (event.new.kind ≡ CONTROL) }
-    ensures event { event.new ≡ record event.old { kind = event.new.kind; byte = event.new.byte } }
-    ensures queued { IsDueAs parser.new parser.old }
-    ensures notes { result ≡ true → (out : List ℕ) (limit : ℕ)
-        → Notes parser.old parser.new event.new out limit (byte ∷ []) }
+    ensures takes { TakesByte parser event byte result }
+    ensures noted { NotesSingle CHARACTER CONTROL event }
 {
     let pending = pending_in(parser);
     match pending.outcome(byte) {
@@ -89,9 +84,7 @@ pub fn note_broken(parser: &mut EscParser, byte: u8, event: &mut EscEvent)
     requires broken { outcome (begun_in parser.old) byte ≡ Outcome.Broken }
     requires some { is_empty (begun_in parser.old) ≡ false }
     ensures event { event.new ≡ record event.old { kind = CHARACTER; byte = REPLACEMENT } }
-    ensures failed { parser.new.has_failed ≡ parser.old.has_failed }
-    ensures gives { (out memory : List ℕ)
-        → Gives parser.old parser.new event.new out memory memory (byte ∷ []) }
+    ensures takes { GivesByte parser event.new byte }
 {
     take_after(parser, byte);
     event.kind = CHARACTER;

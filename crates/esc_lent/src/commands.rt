@@ -2,13 +2,13 @@
 //! where the parser keeps it.
 #![tactic(auto)]
 
-ghost use Rattle.std.specs.Prelude.{◌≡◌, ◌≤◌, ◌<◌, ◌⊎◌, ◌++◌, ◌∷◌, [], ℕ, List, true, false, length, take};
+ghost use Rattle.std.specs.Prelude.{◌≡◌, ◌≤◌, ◌<◌, ◌⊎◌, ◌++◌, ◌∷◌, [], true, false, length};
 ghost use Rattle.std.specs.List.{list_all};
 ghost use Rattle.esc_frame.specs.Scans.{is_text_byte};
 ghost use Rattle.esc_frame.specs.Machine.TextRuns.{IsTextRun};
 ghost use Rattle.esc_frame.specs.Machine.Prefixes.{prefix_of};
-ghost use Rattle.esc_lent.specs.Runs.{IsDueAs, Passes, PassesIn, Steps};
-ghost use Rattle.esc_lent.specs.States.{TextIn};
+ghost use Rattle.esc_lent.specs.Runs.{Passes};
+ghost use Rattle.esc_lent.specs.Takes.{Appends, IsCountedAs, NotesText, TakesEnd, TakesPiece, TakesText};
 
 use crate::characters::put_pending;
 use crate::event::{APC, EscEvent, NONE, OSC};
@@ -24,13 +24,7 @@ use esc_frame::utf8::sequence::{Outcome, Pending};
 /// are no parser's, and then nothing changes.
 #[inline(always)]
 pub fn append(parser: &mut EscParser, memory: &mut [u8], text: &[u8]) -> bool
-    ensures other { result ≡ false → (parser.new ≡ parser.old) × (memory.new ≡ memory.old) }
-    ensures same { parser.new ≡ record parser.old {
-      text = parser.new.text;
-      is_over = parser.new.is_over;
-    } }
-    ensures kept { result ≡ true → (t : List ℕ) → TextIn parser.old memory.old t
-        → TextIn parser.new memory.new (t ++ text.now) }
+    ensures { Appends parser memory text.now result }
 {
     let count = parser.text;
     if parser.is_over {
@@ -51,13 +45,7 @@ pub fn append(parser: &mut EscParser, memory: &mut [u8], text: &[u8]) -> bool
 
 // The last byte of a character, of which these came before.
 fn append_character(parser: &mut EscParser, memory: &mut [u8], pending: Pending, byte: u8) -> bool
-    ensures other { result ≡ false → (parser.new ≡ parser.old) × (memory.new ≡ memory.old) }
-    ensures same { parser.new ≡ record parser.old {
-      text = parser.new.text;
-      is_over = parser.new.is_over;
-    } }
-    ensures kept { result ≡ true → (t : List ℕ) → TextIn parser.old memory.old t
-        → TextIn parser.new memory.new (t ++ (prefix_of pending ++ byte ∷ [])) }
+    ensures { Appends parser memory (prefix_of pending ++ byte ∷ []) result }
 {
     match pending {
         Pending::Nothing => append(parser, memory, &[byte]),
@@ -72,10 +60,7 @@ fn append_character(parser: &mut EscParser, memory: &mut [u8], pending: Pending,
 #[inline(never)]
 fn note_wide(parser: &mut EscParser, memory: &mut [u8], byte: u8) -> bool
     requires { parser.old.state ≡ OSC_STATE }
-    ensures other { result ≡ false → (parser.new ≡ parser.old) × (memory.new ≡ memory.old) }
-    ensures queued { IsDueAs parser.new parser.old }
-    ensures passes { result ≡ true
-        → PassesIn parser.old parser.new memory.old memory.new (byte ∷ []) }
+    ensures { TakesText parser memory (byte ∷ []) result }
 {
     let pending = pending_in(parser);
     match pending.outcome(byte) {
@@ -99,10 +84,7 @@ fn note_wide(parser: &mut EscParser, memory: &mut [u8], byte: u8) -> bool
 fn note_units(parser: &mut EscParser, memory: &mut [u8], text: &[u8]) -> bool
     requires state { (parser.old.state ≡ OSC_STATE) × (parser.old.pending ≡ 0) }
     requires units { IsTextRun text.now }
-    ensures other { result ≡ false → (parser.new ≡ parser.old) × (memory.new ≡ memory.old) }
-    ensures queued { IsDueAs parser.new parser.old }
-    ensures passes { result ≡ true
-        → PassesIn parser.old parser.new memory.old memory.new text.now }
+    ensures { TakesText parser memory text.now result }
 {
     append(parser, memory, text)
 }
@@ -118,13 +100,8 @@ fn end(
     event: &mut EscEvent,
 ) -> bool
     requires state { (parser.old.state ≡ OSC_STATE) × (parser.old.pending ≡ 0) }
-    ensures other { result ≡ false → (parser.new ≡ parser.old) × (event.new ≡ event.old)
-        × (out.new ≡ out.old) }
-    ensures some { result ≡ true → (event.new.kind ≡ OSC) × (event.new.length ≤ length out.old) }
-    ensures within { (event.new.count ≡ event.old.count) × (event.new.kept ≡ event.old.kept) }
-    ensures queued { IsDueAs parser.new parser.old }
-    ensures notes { result ≡ true → Steps parser.old parser.new event.new out.new memory.now
-        memory.now (byte ∷ []) }
+    ensures takes { TakesEnd parser memory.now out event byte result }
+    ensures noted { NotesText OSC (length out.old) event (result ≡ true) }
 {
     let count = parser.text;
     if parser.is_over || count > memory.len() || count > out.len() {
@@ -155,15 +132,9 @@ pub fn note_in_osc(
     requires state { parser.old.state ≡ OSC_STATE }
     requires none { event.old.kind ≡ NONE }
     requires length { event.old.length ≤ length out.old }
-    ensures few { result ≤ length bytes.now }
-    ensures none { result ≡ 0 → (parser.new ≡ parser.old) × (event.new ≡ event.old)
-        × (memory.new ≡ memory.old) }
+    ensures takes { TakesPiece parser memory out event bytes.now result }
     ensures kind { (event.new.kind ≡ NONE) ⊎ (event.new.kind ≡ OSC) }
-    ensures within { (event.new.count ≡ event.old.count) × (event.new.kept ≡ event.old.kept)
-        × (event.new.length ≤ length out.old) }
-    ensures queued { IsDueAs parser.new parser.old }
-    ensures steps { 0 < result → Steps parser.old parser.new event.new out.new memory.old
-        memory.new (take result bytes.now) }
+    ensures within { IsCountedAs event.new event.old × (event.new.length ≤ length out.old) }
 {
     if parser.pending == 0 {
         let run = units_run(bytes);
@@ -212,10 +183,7 @@ fn skips_in_osc(parser: &EscParser, byte: u8) -> bool
 fn note_text(parser: &mut EscParser, memory: &mut [u8], text: &[u8]) -> bool
     requires state { parser.old.state ≡ APC_STATE }
     requires text { list_all is_text_byte text.now ≡ true }
-    ensures other { result ≡ false → (parser.new ≡ parser.old) × (memory.new ≡ memory.old) }
-    ensures queued { IsDueAs parser.new parser.old }
-    ensures passes { result ≡ true
-        → PassesIn parser.old parser.new memory.old memory.new text.now }
+    ensures { TakesText parser memory text.now result }
 {
     append(parser, memory, text)
 }
@@ -232,13 +200,8 @@ fn end_apc(
 ) -> bool
     requires state { parser.old.state ≡ APC_STATE }
     requires escape { byte ≡ 0x1b }
-    ensures other { result ≡ false → (parser.new ≡ parser.old) × (event.new ≡ event.old)
-        × (out.new ≡ out.old) }
-    ensures some { result ≡ true → (event.new.kind ≡ APC) × (event.new.length ≤ length out.old) }
-    ensures within { (event.new.count ≡ event.old.count) × (event.new.kept ≡ event.old.kept) }
-    ensures queued { IsDueAs parser.new parser.old }
-    ensures notes { result ≡ true → Steps parser.old parser.new event.new out.new memory.now
-        memory.now (byte ∷ []) }
+    ensures takes { TakesEnd parser memory.now out event byte result }
+    ensures noted { NotesText APC (length out.old) event (result ≡ true) }
 {
     let count = parser.text;
     if parser.is_over || count > memory.len() || count > out.len() {
@@ -281,15 +244,9 @@ pub fn note_in_apc(
     requires state { parser.old.state ≡ APC_STATE }
     requires none { event.old.kind ≡ NONE }
     requires length { event.old.length ≤ length out.old }
-    ensures few { result ≤ length bytes.now }
-    ensures none { result ≡ 0 → (parser.new ≡ parser.old) × (event.new ≡ event.old)
-        × (memory.new ≡ memory.old) }
+    ensures takes { TakesPiece parser memory out event bytes.now result }
     ensures kind { (event.new.kind ≡ NONE) ⊎ (event.new.kind ≡ APC) }
-    ensures within { (event.new.count ≡ event.old.count) × (event.new.kept ≡ event.old.kept)
-        × (event.new.length ≤ length out.old) }
-    ensures queued { IsDueAs parser.new parser.old }
-    ensures steps { 0 < result → Steps parser.old parser.new event.new out.new memory.old
-        memory.new (take result bytes.now) }
+    ensures within { IsCountedAs event.new event.old × (event.new.length ≤ length out.old) }
 {
     let run = ascii_run(bytes);
     if run > 0 {

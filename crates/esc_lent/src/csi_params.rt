@@ -5,6 +5,7 @@ ghost use Rattle.std.specs.Prelude.{◌≡◌, ◌≤◌, ℕ, List, map, take, 
 ghost use Rattle.esc_frame.specs.Machine.Keeps.{KeepsBody};
 ghost use Rattle.esc_lent.specs.States.{BodyIn};
 ghost use Rattle.esc_lent.specs.Emitted.{param_of};
+ghost use Rattle.esc_lent.specs.Runs.{IsDueAs};
 
 use crate::event::EscEntry;
 use crate::numbers::{form_of, number_of_form};
@@ -86,9 +87,7 @@ pub fn body_in(parser: &EscParser) -> CsiBody
 /// Keeps it.
 pub fn put_body(parser: &mut EscParser, body: &CsiBody)
     ensures body { (x : List ℕ) → KeepsBody body.now x → BodyIn parser.new x }
-    ensures queued_kind { parser.new.queued_kind ≡ parser.old.queued_kind }
-    ensures queued_value { parser.new.queued_value ≡ parser.old.queued_value }
-    ensures failed { parser.new.has_failed ≡ parser.old.has_failed }
+    ensures due { IsDueAs parser.new parser.old }
 {
     let items = body.csi_params.items.as_slice();
     if items.len() <= 256 {

@@ -1,8 +1,9 @@
 //! The data of a device control string, and what is passed over, where they come in pieces.
 #![tactic(auto)]
 
-ghost use Rattle.std.specs.Prelude.{◌≡◌, ◌≤◌, ◌<◌, ◌⊎◌, ◌∷◌, [], ℕ, List, true, false, length, take};
-ghost use Rattle.esc_lent.specs.Runs.{IsDueAs, Notes, Passes};
+ghost use Rattle.std.specs.Prelude.{◌≡◌, ◌≤◌, ◌<◌, ◌∷◌, [], true, false, length, take};
+ghost use Rattle.esc_lent.specs.Runs.{IsDueAs, Passes};
+ghost use Rattle.esc_lent.specs.Takes.{NotesSingle, TakesByte};
 
 use crate::event::{DATA_BYTE, DCS_END, EscEvent, NONE};
 use crate::numbers::{DATA_STATE, IGNORED_STATE};
@@ -17,13 +18,8 @@ use esc_frame::runs::scans::ascii_run;
 pub fn note_in_data(parser: &mut EscParser, byte: u8, event: &mut EscEvent) -> bool
     requires state { parser.old.state ≡ DATA_STATE }
     requires none { event.old.kind ≡ NONE }
-    ensures other { result ≡ false → (parser.new ≡ parser.old) × (event.new ≡ event.old) }
-    ensures kind { (event.new.kind ≡ NONE) ⊎ (event.new.kind ≡ DATA_BYTE)
-        ⊎ (event.new.kind ≡ DCS_END) }
-    ensures event { event.new ≡ record event.old { kind = event.new.kind; byte = event.new.byte } }
-    ensures queued { IsDueAs parser.new parser.old }
-    ensures notes { result ≡ true → (out : List ℕ) (limit : ℕ)
-        → Notes parser.old parser.new event.new out limit (byte ∷ []) }
+    ensures takes { TakesByte parser event byte result }
+    ensures noted { NotesSingle DATA_BYTE DCS_END event }
 {
     match classify(byte) {
         Class::Breaks(Breaker::Escape) => {

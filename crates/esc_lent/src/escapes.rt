@@ -4,8 +4,9 @@
 ghost use Rattle.std.specs.Prelude.{◌≡◌, ◌≢◌, ◌<◌, ◌≤◌, ◌⊎◌, ◌++◌, ◌∷◌, [], ℕ, List, true, false};
 ghost use Rattle.esc_frame.specs.Classes.{class_of, ends_escape, opens};
 ghost use Rattle.esc_frame.specs.declared.classes.Class.TheVariants.{Introducer};
-ghost use Rattle.esc_lent.specs.Runs.{IsDueAs, Notes, Passes};
+ghost use Rattle.esc_lent.specs.Runs.{IsDueAs, Passes};
 ghost use Rattle.esc_lent.specs.States.{FirstIn};
+ghost use Rattle.esc_lent.specs.Takes.{NotesSingle, TakesByte};
 
 use crate::breaks::note_break;
 use crate::event::{CHARACTER, CONTROL, ESCAPE, EscEvent, NONE};
@@ -20,13 +21,8 @@ use esc_frame::classes::{Class, Kind, classify};
 pub fn note_noise(parser: &mut EscParser, byte: u8, event: &mut EscEvent) -> bool
     requires state { (parser.old.state ≡ ESCAPED) ⊎ (parser.old.state ≡ CSI_STATE) }
     requires none { event.old.kind ≡ NONE }
-    ensures other { result ≡ false → (parser.new ≡ parser.old) × (event.new ≡ event.old) }
-    ensures kind { (event.new.kind ≡ NONE) ⊎ (event.new.kind ≡ CHARACTER)
-        ⊎ (event.new.kind ≡ CONTROL) }
-    ensures event { event.new ≡ record event.old { kind = event.new.kind; byte = event.new.byte } }
-    ensures queued { IsDueAs parser.new parser.old }
-    ensures notes { result ≡ true → (out : List ℕ) (limit : ℕ)
-        → Notes parser.old parser.new event.new out limit (byte ∷ []) }
+    ensures takes { TakesByte parser event byte result }
+    ensures noted { NotesSingle CHARACTER CONTROL event }
 {
     match classify(byte) {
         Class::C0 | Class::Bell => {
@@ -87,9 +83,7 @@ fn dispatch(parser: &mut EscParser, byte: u8, event: &mut EscEvent)
       has_more = event.new.has_more;
     } }
     ensures kept { event.new.kept ≤ 2 }
-    ensures queued { IsDueAs parser.new parser.old }
-    ensures notes { (out : List ℕ) (limit : ℕ)
-        → Notes parser.old parser.new event.new out limit (byte ∷ []) }
+    ensures takes { TakesByte parser event byte true }
 {
     event.kind = ESCAPE;
     event.byte = byte as u32;
@@ -106,14 +100,11 @@ pub fn note_in_escape(parser: &mut EscParser, byte: u8, event: &mut EscEvent) ->
     requires state { parser.old.state ≡ ESCAPED }
     requires none { event.old.kind ≡ NONE }
     requires kept { event.old.kept ≤ 2 }
-    ensures other { result ≡ false → (parser.new ≡ parser.old) × (event.new ≡ event.old) }
+    ensures takes { TakesByte parser event byte result }
     ensures kind { (event.new.kind ≡ NONE) ⊎ (event.new.kind ≡ CHARACTER)
         ⊎ (event.new.kind ≡ CONTROL) ⊎ (event.new.kind ≡ ESCAPE) }
     ensures within { (event.new.count ≡ event.old.count) × (event.new.kept ≤ 2)
         × (event.new.length ≡ event.old.length) }
-    ensures queued { IsDueAs parser.new parser.old }
-    ensures notes { result ≡ true → (out : List ℕ) (limit : ℕ)
-        → Notes parser.old parser.new event.new out limit (byte ∷ []) }
 {
     match classify(byte) {
         Class::Introducer(kind) => {

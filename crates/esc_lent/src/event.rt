@@ -115,10 +115,8 @@ impl EscEvent {
     /// Makes it no event. Its parameters and its intermediates stay, and are not counted.
     pub fn clear(&mut self)
         ensures kind { self.new.kind ≡ NONE }
-        ensures start { self.new.start ≡ 0 }
-        ensures length { self.new.length ≡ 0 }
-        ensures kept { self.new.kept ≡ 0 }
-        ensures count { self.new.count ≡ 0 }
+        ensures none { (self.new.start ≡ 0) × (self.new.length ≡ 0) × (self.new.kept ≡ 0)
+            × (self.new.count ≡ 0) }
     {
         self.kind = NONE;
         self.byte = 0;

@@ -2,10 +2,9 @@
 #![tactic(auto)]
 
 ghost use Rattle.std.specs.Prelude.{◌≡◌, ◌<◌, ◌≤◌, ◌+◌, ◌++◌, true, false, ℕ, List, ◌∷◌, [], length, map, take, slice_index, pos};
-ghost use Rattle.std.specs.List.{list_all};
-ghost use Rattle.esc_frame.specs.Bodies.{is_digit, held, value_after};
 ghost use Rattle.esc_frame.specs.Machine.Shorts.{IsAfter, IsPrefix, IsShort};
 ghost use Rattle.esc_lent.specs.Emitted.{param_of};
+ghost use Rattle.esc_lent.specs.Reads.{IsFollowed, ReadsNumber};
 
 use crate::event::EscEntry;
 use esc_frame::unfinished::csi_params::next_number;
@@ -83,12 +82,7 @@ fn read_number(rest: &[u8], any: bool) -> (u64, usize, u8)
     requires some { 0 < length rest.now }
     requires low { 0x30 ≤ slice_index rest.now 0 }
     requires high { slice_index rest.now 0 ≤ 0x39 }
-    ensures count { (0 < result.1) × (result.1 ≤ length rest.now) }
-    ensures digits { list_all is_digit (take result.1 rest.now) ≡ true }
-    ensures value { result.0 ≡ held (value_after 0 (take result.1 rest.now)) }
-    ensures small { result.0 ≤ 0x7fff_ffff_ffff_ffff }
-    ensures after { 0 < result.2 → (result.1 < length rest.now)
-        × (slice_index rest.now result.1 ≡ result.2) }
+    ensures { ReadsNumber rest.now result.0 result.1 result.2 }
 {
     let one = next_number(0, rest[0] - b'0');
     if rest.len() < 4 {
@@ -122,12 +116,7 @@ fn read_any_number(rest: &[u8]) -> (u64, usize, u8)
     requires some { 0 < length rest.now }
     requires low { 0x30 ≤ slice_index rest.now 0 }
     requires high { slice_index rest.now 0 ≤ 0x39 }
-    ensures count { (0 < result.1) × (result.1 ≤ length rest.now) }
-    ensures digits { list_all is_digit (take result.1 rest.now) ≡ true }
-    ensures value { result.0 ≡ held (value_after 0 (take result.1 rest.now)) }
-    ensures small { result.0 ≤ 0x7fff_ffff_ffff_ffff }
-    ensures after { 0 < result.2 → (result.1 < length rest.now)
-        × (slice_index rest.now result.1 ≡ result.2) }
+    ensures { ReadsNumber rest.now result.0 result.1 result.2 }
 {
     let mut number = next_number(0, rest[0] - b'0');
     let mut end = 1;
@@ -150,8 +139,7 @@ fn put_number(csi_params: &mut [EscEntry], count: usize, rest: &[u8], any: bool)
     requires low { 0x30 ≤ slice_index rest.now 0 }
     requires high { slice_index rest.now 0 ≤ 0x39 }
     ensures count { (0 < result.0) × (result.0 ≤ length rest.now) }
-    ensures after { 0 < result.1 → (result.0 < length rest.now)
-        × (slice_index rest.now result.0 ≡ result.1) }
+    ensures after { IsFollowed rest.now result.0 result.1 }
     ensures keeps { (x : List ℕ) → IsPrefix (map param_of (take count csi_params.old)) x
         → IsAfter (map param_of (take (count + 1) csi_params.new)) (x ++ take result.0 rest.now) }
 {
@@ -206,8 +194,7 @@ fn put_private_prefix(csi_params: &mut [EscEntry], rest: &[u8]) -> usize
 fn put_field(csi_params: &mut [EscEntry], count: usize, rest: &[u8], any: bool) -> Field
     requires room { count + 1 < length csi_params.old }
     requires some { 0 < length rest.now }
-    ensures few { result.length ≤ length rest.now }
-    ensures csi_params { (result.count ≤ count + 2) }
+    ensures few { (result.length ≤ length rest.now) × (result.count ≤ count + 2) }
     ensures goes_on { result.goes_on ≡ true → (0 < result.length) × ((x : List ℕ)
         → IsPrefix (map param_of (take count csi_params.old)) x
         → IsPrefix (map param_of (take result.count csi_params.new)) (x
@@ -216,8 +203,7 @@ fn put_field(csi_params: &mut [EscEntry], count: usize, rest: &[u8], any: bool) 
         → IsPrefix (map param_of (take count csi_params.old)) x
         → IsAfter (map param_of (take result.count csi_params.new)) (x
         ++ take result.length rest.now) }
-    ensures after { 0 < result.after → (result.length < length rest.now)
-        × (slice_index rest.now result.length ≡ result.after) }
+    ensures after { IsFollowed rest.now result.length result.after }
 {
     if b'0' <= rest[0] && rest[0] <= b'9' {
         let (n, after) = put_number(csi_params, count, rest, any);
@@ -271,8 +257,7 @@ pub fn read_body(csi_params: &mut [EscEntry], rest: &[u8], any: bool) -> Body
     ensures count { result.count ≤ 256 }
     ensures keeps { IsShort (map param_of (take result.count csi_params.new)) (take result.length
         rest.now) }
-    ensures after { 0 < result.after → (result.length < length rest.now)
-        × (slice_index rest.now result.length ≡ result.after) }
+    ensures after { IsFollowed rest.now result.length result.after }
 {
     let mut count = put_private_prefix(csi_params, rest);
     let mut at = count;

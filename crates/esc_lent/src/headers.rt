@@ -1,14 +1,14 @@
 //! Headers of device control strings that come in pieces.
 #![tactic(auto)]
 
-ghost use Rattle.std.specs.Prelude.{◌≡◌, ◌≤◌, ◌⊎◌, ◌++◌, ◌∷◌, [], ℕ, List, true, false, length, min};
+ghost use Rattle.std.specs.Prelude.{◌≡◌, ◌⊎◌, ◌++◌, ◌∷◌, [], ℕ, List, true, false, length, min};
 ghost use Rattle.esc_frame.specs.Bodies.{is_dcs_parameter};
 ghost use Rattle.esc_frame.specs.Machine.Keeps.{next_form_by, parameters_of};
 ghost use Rattle.esc_frame.specs.Scans.{is_body_byte};
 ghost use Rattle.esc_frame.specs.Sequences.{is_from};
 ghost use Rattle.esc_lent.specs.Numbers.{form_numbered};
-ghost use Rattle.esc_lent.specs.Runs.{IsDueAs, PassesIn, Steps};
 ghost use Rattle.esc_lent.specs.States.{HeaderIn, TextIn};
+ghost use Rattle.esc_lent.specs.Takes.{IsInRoom, StaysIn, TakesEnd, TakesHeaderByte, TakesText};
 
 use crate::breaks::note_break;
 use crate::commands::append;
@@ -39,8 +39,7 @@ fn next_form(form: u32, byte: u8) -> u32
 fn push_parameter(parser: &mut EscParser, memory: &mut [u8], byte: u8) -> bool
     requires { is_dcs_parameter byte ≡ true }
     ensures other { result ≡ false → (parser.new ≡ parser.old) × (memory.new ≡ memory.old) }
-    ensures state { parser.new.state ≡ parser.old.state }
-    ensures queued { IsDueAs parser.new parser.old }
+    ensures same { StaysIn parser.new parser.old }
     ensures text { result ≡ true → (x : List ℕ) → TextIn parser.old memory.old (parameters_of x)
         → TextIn parser.new memory.new (parameters_of (x ++ byte ∷ [])) }
     ensures header { result ≡ true → (x : List ℕ) → HeaderIn parser.old x
@@ -57,8 +56,7 @@ fn push_parameter(parser: &mut EscParser, memory: &mut [u8], byte: u8) -> bool
 #[inline(always)]
 fn push_other(parser: &mut EscParser, byte: u8)
     requires { is_dcs_parameter byte ≡ false }
-    ensures state { parser.new.state ≡ parser.old.state }
-    ensures queued { IsDueAs parser.new parser.old }
+    ensures same { StaysIn parser.new parser.old }
     ensures text { (x memory : List ℕ) → TextIn parser.old memory (parameters_of x)
         → TextIn parser.new memory (parameters_of (x ++ byte ∷ [])) }
     ensures header { (x : List ℕ) → HeaderIn parser.old x
@@ -73,10 +71,7 @@ fn push_other(parser: &mut EscParser, byte: u8)
 fn push(parser: &mut EscParser, memory: &mut [u8], byte: u8) -> bool
     requires state { parser.old.state ≡ HEADER_STATE }
     requires body { is_body_byte byte ≡ true }
-    ensures other { result ≡ false → (parser.new ≡ parser.old) × (memory.new ≡ memory.old) }
-    ensures queued { IsDueAs parser.new parser.old }
-    ensures passes { result ≡ true
-        → PassesIn parser.old parser.new memory.old memory.new (byte ∷ []) }
+    ensures { TakesText parser memory (byte ∷ []) result }
 {
     if is_parameter(byte) {
         push_parameter(parser, memory, byte)
@@ -114,17 +109,11 @@ fn end(
 ) -> bool
     requires state { parser.old.state ≡ HEADER_STATE }
     requires none { event.old.kind ≡ NONE }
-    requires within { (event.old.count ≤ 256) × (event.old.kept ≤ 2)
-        × (event.old.length ≤ length out.old) }
+    requires within { IsInRoom event.old (length out.old) }
     requires ends { is_from 0x40 0x7e byte ≡ true }
-    ensures other { result ≡ false → (parser.new ≡ parser.old) × (event.new ≡ event.old)
-        × (out.new ≡ out.old) }
+    ensures takes { TakesEnd parser memory.now out event byte result }
     ensures kind { (event.new.kind ≡ NONE) ⊎ (event.new.kind ≡ DCS) }
-    ensures within { (event.new.count ≤ 256) × (event.new.kept ≤ 2)
-        × (event.new.length ≤ length out.old) }
-    ensures queued { IsDueAs parser.new parser.old }
-    ensures steps { result ≡ true → Steps parser.old parser.new event.new out.new memory.now
-        memory.now (byte ∷ []) }
+    ensures within { IsInRoom event.new (length out.old) }
 {
     let count = parser.text;
     if parser.is_over || count > memory.len() || count > out.len() {
@@ -152,17 +141,11 @@ pub fn note_in_header(
 ) -> bool
     requires state { parser.old.state ≡ HEADER_STATE }
     requires none { event.old.kind ≡ NONE }
-    requires within { (event.old.count ≤ 256) × (event.old.kept ≤ 2)
-        × (event.old.length ≤ length out.old) }
-    ensures other { result ≡ false → (parser.new ≡ parser.old) × (event.new ≡ event.old)
-        × (memory.new ≡ memory.old) }
+    requires within { IsInRoom event.old (length out.old) }
+    ensures takes { TakesHeaderByte parser memory out event byte result }
     ensures kind { (event.new.kind ≡ NONE) ⊎ (event.new.kind ≡ CHARACTER)
         ⊎ (event.new.kind ≡ CONTROL) ⊎ (event.new.kind ≡ DCS) }
-    ensures within { (event.new.count ≤ 256) × (event.new.kept ≤ 2)
-        × (event.new.length ≤ length out.old) }
-    ensures queued { IsDueAs parser.new parser.old }
-    ensures steps { result ≡ true → Steps parser.old parser.new event.new out.new memory.old
-        memory.new (byte ∷ []) }
+    ensures within { IsInRoom event.new (length out.old) }
 {
     if lies_from(0x20, 0x3f, byte) {
         return push(parser, memory, byte);

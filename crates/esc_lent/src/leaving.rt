@@ -2,15 +2,15 @@
 //! pieces.
 #![tactic(auto)]
 
-ghost use Rattle.std.specs.Prelude.{◌≡◌, ◌≢◌, ◌≤◌, ◌<◌, ◌⊎◌, ◌∷◌, [], ℕ, List, true, false, length};
+ghost use Rattle.std.specs.Prelude.{◌≡◌, ◌≢◌, ◌⊎◌, true, false, length};
 ghost use Rattle.esc_frame.specs.Classes.{class_of, is_breaker};
 ghost use Rattle.esc_frame.specs.Machine.Moves.{ground_move};
-ghost use Rattle.esc_lent.specs.Runs.{Gives};
-ghost use Rattle.esc_lent.specs.States.{KeptIn};
-ghost use Rattle.esc_lent.specs.Emitted.{is_run, queued_of};
+ghost use Rattle.esc_lent.specs.Emitted.{queued_of};
+ghost use Rattle.esc_lent.specs.Noted.{IsSound};
+ghost use Rattle.esc_lent.specs.Takes.{GivesByte, IsInRoom, KeepsAfter, Leaves, NotesText};
 
 use crate::breaks::take_byte;
-use crate::event::{APC, DCS_END, EscEvent, FAILED, NONE, OSC};
+use crate::event::{APC, DCS_END, EscEvent, NONE, OSC};
 use crate::numbers::{APC_STATE, DATA_STATE, OSC_STATE};
 use crate::parser::EscParser;
 use crate::strings::put_text;
@@ -27,8 +27,7 @@ pub fn is_breaker(byte: u8) -> bool
 /// Takes a byte as between sequences. What it gives is handed out after another event.
 #[inline(always)]
 pub fn take_after(parser: &mut EscParser, byte: u8)
-    ensures kept { (memory : List ℕ)
-        → KeptIn parser.new memory (ground_move byte (class_of byte)).0 }
+    ensures kept { KeepsAfter parser.new (ground_move byte (class_of byte)) }
     ensures queued { queued_of parser.new.queued_kind parser.new.queued_value
         ≡ (ground_move byte (class_of byte)).1 }
     ensures failed { parser.new.has_failed ≡ parser.old.has_failed }
@@ -51,12 +50,8 @@ fn leave_text(
     requires state { ((parser.old.state ≡ OSC_STATE) × (parser.old.pending ≡ 0) × (kind ≡ OSC))
         ⊎ ((parser.old.state ≡ APC_STATE) × (kind ≡ APC)) }
     requires breaks { is_breaker (class_of byte) ≡ true }
-    ensures other { result ≡ false → (parser.new ≡ parser.old) × (event.new ≡ event.old) }
-    ensures some { result ≡ true → (event.new.kind ≡ kind) × (event.new.length ≤ length out.old) }
-    ensures within { (event.new.count ≡ event.old.count) × (event.new.kept ≡ event.old.kept) }
-    ensures failed { parser.new.has_failed ≡ parser.old.has_failed }
-    ensures gives { result ≡ true → Gives parser.old parser.new event.new out.new memory.now
-        memory.now (byte ∷ []) }
+    ensures takes { Leaves parser memory.now out event byte result }
+    ensures noted { NotesText kind (length out.old) event (result ≡ true) }
 {
     let count = parser.text;
     if parser.is_over || count > memory.len() || count > out.len() {
@@ -73,9 +68,7 @@ fn leave_data(parser: &mut EscParser, byte: u8, event: &mut EscEvent)
     requires state { parser.old.state ≡ DATA_STATE }
     requires breaks { is_breaker (class_of byte) ≡ true }
     ensures event { event.new ≡ record event.old { kind = DCS_END } }
-    ensures failed { parser.new.has_failed ≡ parser.old.has_failed }
-    ensures gives { (out memory : List ℕ)
-        → Gives parser.old parser.new event.new out memory memory (byte ∷ []) }
+    ensures takes { GivesByte parser event.new byte }
 {
     take_after(parser, byte);
     event.kind = DCS_END;
@@ -93,16 +86,10 @@ pub fn note_left(
 ) -> bool
     requires breaks { is_breaker (class_of byte) ≡ true }
     requires none { event.old.kind ≡ NONE }
-    requires within { (event.old.count ≤ 256) × (event.old.kept ≤ 2)
-        × (event.old.length ≤ length out.old) }
-    ensures other { result ≡ false → (parser.new ≡ parser.old) × (event.new ≡ event.old) }
+    requires within { IsInRoom event.old (length out.old) }
+    ensures takes { Leaves parser memory.now out event byte result }
     ensures some { result ≡ true → event.new.kind ≢ NONE }
-    ensures kind { (event.new.kind < FAILED) × (is_run event.new.kind ≡ false) }
-    ensures within { (event.new.count ≤ 256) × (event.new.kept ≤ 2)
-        × (event.new.length ≤ length out.old) }
-    ensures failed { parser.new.has_failed ≡ parser.old.has_failed }
-    ensures gives { result ≡ true → Gives parser.old parser.new event.new out.new memory.now
-        memory.now (byte ∷ []) }
+    ensures sound { IsSound event.new (length out.old) }
 {
     if parser.state == 3 && parser.pending == 0 {
         leave_text(parser, memory, out, byte, event, OSC)

@@ -1,15 +1,13 @@
 //! A parser that takes a stream in pieces, in its caller's memory.
 #![tactic(auto)]
 
-ghost use Rattle.std.specs.Prelude.{◌≡◌, ◌≢◌, ◌≤◌, ◌<◌, List, [], ℕ, length, true, false, IsTrue, slice_index};
-ghost use Rattle.esc_frame.specs.Events.{Event};
-ghost use Rattle.esc_frame.specs.Leads.{Unfinished};
-ghost use Rattle.esc_lent.specs.Next.{Next, IsReady, ToEvent, IsPlain, IsSettled, both, halves};
-ghost use Rattle.esc_lent.specs.States.{KeptIn, IsAt, lower};
-ghost use Rattle.esc_lent.specs.Emitted.{emitted, queued_of, is_run};
+ghost use Rattle.std.specs.Prelude.{◌≡◌, ◌≤◌, ◌<◌, length, true, false, IsTrue, slice_index};
+ghost use Rattle.esc_lent.specs.Next.{Next, NeverFails, IsReady, ToEvent, IsPlain, IsSettled, both, halves};
+ghost use Rattle.esc_lent.specs.States.{lower};
+ghost use Rattle.esc_lent.specs.Ahead.{GivesQueued};
 
 use crate::advance::{advance, ahead};
-use crate::event::{CHARACTER, CONTROL, EscEvent, FAILED, NONE, TEXT};
+use crate::event::{CHARACTER, CONTROL, EscEvent, FAILED, NONE};
 use crate::parser::EscParser;
 use crate::quick::{note_csi, note_plain};
 
@@ -17,18 +15,7 @@ use crate::quick::{note_csi, note_plain};
 #[inline(always)]
 fn give_queued(parser: &mut EscParser, event: &mut EscEvent) -> bool
     requires { event.old.kind ≡ NONE }
-    ensures emitted { (out : List ℕ) (bytes : List ℕ)
-        → emitted event.new out bytes ≡ queued_of parser.old.queued_kind parser.old.queued_value }
-    ensures queued { queued_of parser.new.queued_kind parser.new.queued_value ≡ [] }
-    ensures kept { (memory : List ℕ) (u : Unfinished) → KeptIn parser.old memory u
-        → KeptIn parser.new memory u }
-    ensures failed { parser.new.has_failed ≡ parser.old.has_failed }
-    ensures some { result ≡ true → (event.new.kind ≢ NONE) × (event.new.kind < FAILED)
-        × (is_run event.new.kind ≡ false) }
-    ensures within { (event.new.count ≡ event.old.count) × (event.new.kept ≡ event.old.kept)
-        × (event.new.length ≡ event.old.length) }
-    ensures was { result ≡ true → queued_of parser.old.queued_kind parser.old.queued_value ≢ [] }
-    ensures none { result ≡ false → event.new.kind ≡ NONE }
+    ensures { GivesQueued parser event result }
 {
     if parser.queued_kind == NONE {
         return false;
@@ -55,10 +42,8 @@ fn take_next(
     event: &mut EscEvent,
 ) -> usize
     requires { IsReady parser.old event.old (length out.old) }
-    ensures holds { ToEvent parser (both memory.old out.old) (both memory.new out.new) bytes.now
+    ensures { ToEvent parser (both memory.old out.old) (both memory.new out.new) bytes.now
         event.new result }
-    ensures sound { (u : Unfinished) → KeptIn parser.old memory.old u
-        → length memory.old ≤ length out.old → event.new.kind ≢ FAILED }
 {
     if bytes.is_empty() {
         return 0;
@@ -82,10 +67,8 @@ fn take_on(
     event: &mut EscEvent,
 ) -> usize
     requires { IsReady parser.old event.old (length out.old) }
-    ensures holds { ToEvent parser (both memory.old out.old) (both memory.new out.new) bytes.now
+    ensures { ToEvent parser (both memory.old out.old) (both memory.new out.new) bytes.now
         event.new result }
-    ensures sound { (u : Unfinished) → KeptIn parser.old memory.old u
-        → length memory.old ≤ length out.old → event.new.kind ≢ FAILED }
 {
     let mut at = 0;
     while at < bytes.len() {
@@ -109,8 +92,8 @@ fn next_in(
 ) -> usize
     ensures holds { Next parser (both memory.old out.old) (both memory.new out.new) bytes.now
         event.new result }
-    ensures sound { (s : List ℕ) (es : List Event) → IsAt s es parser.old memory.old
-        → length memory.old ≤ length out.old → event.new.kind ≢ FAILED }
+    ensures sound { length memory.old ≤ length out.old
+        → NeverFails parser.old memory.old event.new }
 {
     event.clear();
     if parser.has_failed {
@@ -130,8 +113,7 @@ fn next_in(
 /// only called with this buffer, whose lower half nobody else wrote, never fails.
 pub fn next(parser: &mut EscParser, buffer: &mut [u8], bytes: &[u8], event: &mut EscEvent) -> usize
     ensures holds { Next parser (halves buffer.old) (halves buffer.new) bytes.now event.new result }
-    ensures sound { (s : List ℕ) (es : List Event) → IsAt s es parser.old (lower buffer.old)
-        → event.new.kind ≢ FAILED }
+    ensures sound { NeverFails parser.old (lower buffer.old) event.new }
 {
     if bytes.len() < AHEAD {
         return next_of_few(parser, buffer, bytes, event);
@@ -157,8 +139,7 @@ fn next_of_few(
     event: &mut EscEvent,
 ) -> usize
     ensures holds { Next parser (halves buffer.old) (halves buffer.new) bytes.now event.new result }
-    ensures sound { (s : List ℕ) (es : List Event) → IsAt s es parser.old (lower buffer.old)
-        → event.new.kind ≢ FAILED }
+    ensures sound { NeverFails parser.old (lower buffer.old) event.new }
 {
     if is_idle(parser) {
         if bytes.is_empty() {
@@ -197,8 +178,7 @@ fn next_inside(
     requires some { 0 < length bytes.now }
     requires settled { IsSettled parser.old }
     ensures holds { Next parser (halves buffer.old) (halves buffer.new) bytes.now event.new result }
-    ensures sound { (s : List ℕ) (es : List Event) → IsAt s es parser.old (lower buffer.old)
-        → event.new.kind ≢ FAILED }
+    ensures sound { NeverFails parser.old (lower buffer.old) event.new }
 {
     let half = buffer.len() / 2;
     let (memory, out) = buffer.split_at_mut(half);
@@ -218,8 +198,8 @@ fn next_on(
     requires settled { IsSettled parser.old }
     ensures holds { Next parser (both memory.old out.old) (both memory.new out.new) bytes.now
         event.new result }
-    ensures sound { (s : List ℕ) (es : List Event) → IsAt s es parser.old memory.old
-        → length memory.old ≤ length out.old → event.new.kind ≢ FAILED }
+    ensures sound { length memory.old ≤ length out.old
+        → NeverFails parser.old memory.old event.new }
 {
     event.clear();
     take_on(parser, memory, out, bytes, event)
@@ -247,8 +227,7 @@ fn next_of_sequence(
     requires plain { IsPlain parser.old }
     requires escape { (0 < length bytes.now) × (slice_index bytes.now 0 ≡ 0x1b) }
     ensures holds { Next parser (halves buffer.old) (halves buffer.new) bytes.now event.new result }
-    ensures sound { (s : List ℕ) (es : List Event) → IsAt s es parser.old (lower buffer.old)
-        → event.new.kind ≢ FAILED }
+    ensures sound { NeverFails parser.old (lower buffer.old) event.new }
 {
     settle(event);
     let taken = note_csi(bytes, event, false);
@@ -278,8 +257,7 @@ fn next_of_any(
     event: &mut EscEvent,
 ) -> usize
     ensures holds { Next parser (halves buffer.old) (halves buffer.new) bytes.now event.new result }
-    ensures sound { (s : List ℕ) (es : List Event) → IsAt s es parser.old (lower buffer.old)
-        → event.new.kind ≢ FAILED }
+    ensures sound { NeverFails parser.old (lower buffer.old) event.new }
 {
     let half = buffer.len() / 2;
     let (memory, out) = buffer.split_at_mut(half);

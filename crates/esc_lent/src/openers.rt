@@ -1,10 +1,10 @@
 //! What begins a sequence or a string, where its bytes come in pieces.
 #![tactic(auto)]
 
-ghost use Rattle.std.specs.Prelude.{◌≡◌, ◌∷◌, [], ℕ, List, false};
+ghost use Rattle.std.specs.Prelude.{◌≡◌, ℕ, List, false};
 ghost use Rattle.esc_frame.specs.Machine.Moves.{opened};
 ghost use Rattle.esc_frame.specs.Segments.{Opener};
-ghost use Rattle.esc_lent.specs.Runs.{IsDueAs, Passes};
+ghost use Rattle.esc_lent.specs.Runs.{IsDueAs};
 ghost use Rattle.esc_lent.specs.States.{KeptIn};
 
 use crate::numbers::{ESCAPED, GROUND};

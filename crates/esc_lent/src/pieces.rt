@@ -1,9 +1,11 @@
 //! What lies in two pieces of the stream, taken without a machine.
 #![tactic(auto)]
 
-ghost use Rattle.std.specs.Prelude.{◌≡◌, ◌≤◌, ◌<◌, ◌⊎◌, ◌∷◌, [], ℕ, List, true, false, length, take};
-ghost use Rattle.esc_lent.specs.Runs.{Gives, IsDueAs, Notes, Steps};
-ghost use Rattle.esc_lent.specs.Emitted.{is_run, queued_of};
+ghost use Rattle.std.specs.Prelude.{◌≡◌, ◌≤◌, ◌<◌, true, false, length};
+ghost use Rattle.esc_lent.specs.Emitted.{is_run};
+ghost use Rattle.esc_lent.specs.Takes.{GivesPiece, IsInRoom, NotesSingle, TakesByte, TakesPiece};
+ghost use Rattle.esc_lent.specs.Noted.{IsSound};
+ghost use Rattle.esc_lent.specs.Next.{IsReady};
 
 use crate::bodies::note_in_csi;
 use crate::breaks::note_break;
@@ -23,13 +25,8 @@ use crate::parser::EscParser;
 fn note_in_ground(parser: &mut EscParser, byte: u8, event: &mut EscEvent) -> bool
     requires ground { parser.old.state ≡ GROUND }
     requires none { event.old.kind ≡ NONE }
-    ensures other { result ≡ false → (parser.new ≡ parser.old) × (event.new ≡ event.old) }
-    ensures kind { (event.new.kind ≡ NONE) ⊎ (event.new.kind ≡ CHARACTER)
-        ⊎ (event.new.kind ≡ CONTROL) }
-    ensures event { event.new ≡ record event.old { kind = event.new.kind; byte = event.new.byte } }
-    ensures queued { IsDueAs parser.new parser.old }
-    ensures notes { result ≡ true → (out : List ℕ) (limit : ℕ)
-        → Notes parser.old parser.new event.new out limit (byte ∷ []) }
+    ensures takes { TakesByte parser event byte result }
+    ensures noted { NotesSingle CHARACTER CONTROL event }
 {
     if parser.pending == 0 {
         note_break(parser, byte, event);
@@ -44,13 +41,10 @@ fn note_in_ground(parser: &mut EscParser, byte: u8, event: &mut EscEvent) -> boo
 fn note_byte(parser: &mut EscParser, byte: u8, event: &mut EscEvent) -> bool
     requires none { event.old.kind ≡ NONE }
     requires within { (event.old.count ≤ 256) × (event.old.kept ≤ 2) }
-    ensures other { result ≡ false → (parser.new ≡ parser.old) × (event.new ≡ event.old) }
+    ensures takes { TakesByte parser event byte result }
     ensures kind { (event.new.kind < FAILED) × (is_run event.new.kind ≡ false) }
     ensures within { (event.new.count ≤ 256) × (event.new.kept ≤ 2)
         × (event.new.length ≡ event.old.length) }
-    ensures queued { IsDueAs parser.new parser.old }
-    ensures notes { result ≡ true → (out : List ℕ) (limit : ℕ)
-        → Notes parser.old parser.new event.new out limit (byte ∷ []) }
 {
     if parser.state == 2 {
         note_in_csi(parser, byte, event)
@@ -77,17 +71,10 @@ fn note_header(
     requires some { 0 < length bytes.now }
     requires state { parser.old.state ≡ HEADER_STATE }
     requires none { event.old.kind ≡ NONE }
-    requires within { (event.old.count ≤ 256) × (event.old.kept ≤ 2)
-        × (event.old.length ≤ length out.old) }
+    requires within { IsInRoom event.old (length out.old) }
     ensures few { result ≤ 1 }
-    ensures none { result ≡ 0 → (parser.new ≡ parser.old) × (event.new ≡ event.old)
-        × (memory.new ≡ memory.old) }
-    ensures kind { (event.new.kind < FAILED) × (is_run event.new.kind ≡ false) }
-    ensures within { (event.new.count ≤ 256) × (event.new.kept ≤ 2)
-        × (event.new.length ≤ length out.old) }
-    ensures queued { IsDueAs parser.new parser.old }
-    ensures steps { 0 < result → Steps parser.old parser.new event.new out.new memory.old
-        memory.new (take result bytes.now) }
+    ensures takes { TakesPiece parser memory out event bytes.now result }
+    ensures sound { IsSound event.new (length out.old) }
 {
     if note_in_header(parser, memory, out, bytes[0], event) {
         1
@@ -108,17 +95,9 @@ fn note_step(
 ) -> usize
     requires some { 0 < length bytes.now }
     requires none { event.old.kind ≡ NONE }
-    requires within { (event.old.count ≤ 256) × (event.old.kept ≤ 2)
-        × (event.old.length ≤ length out.old) }
-    ensures few { result ≤ length bytes.now }
-    ensures none { result ≡ 0 → (parser.new ≡ parser.old) × (event.new ≡ event.old)
-        × (memory.new ≡ memory.old) }
-    ensures kind { (event.new.kind < FAILED) × (is_run event.new.kind ≡ false) }
-    ensures within { (event.new.count ≤ 256) × (event.new.kept ≤ 2)
-        × (event.new.length ≤ length out.old) }
-    ensures queued { IsDueAs parser.new parser.old }
-    ensures steps { 0 < result → Steps parser.old parser.new event.new out.new memory.old
-        memory.new (take result bytes.now) }
+    requires within { IsInRoom event.old (length out.old) }
+    ensures takes { TakesPiece parser memory out event bytes.now result }
+    ensures sound { IsSound event.new (length out.old) }
 {
     if parser.state == 3 {
         note_in_osc(parser, memory, out, bytes, event)
@@ -147,21 +126,9 @@ pub fn note_piece(
     event: &mut EscEvent,
 ) -> usize
     requires some { 0 < length bytes.now }
-    requires none { event.old.kind ≡ NONE }
-    requires queued { queued_of parser.old.queued_kind parser.old.queued_value ≡ [] }
-    requires within { (event.old.count ≤ 256) × (event.old.kept ≤ 2)
-        × (event.old.length ≤ length out.old) }
-    ensures few { result ≤ length bytes.now }
-    ensures none { result ≡ 0 → (parser.new ≡ parser.old) × (event.new ≡ event.old)
-        × (memory.new ≡ memory.old) }
-    ensures kind { (event.new.kind < FAILED) × (is_run event.new.kind ≡ false) }
-    ensures within { (event.new.count ≤ 256) × (event.new.kept ≤ 2)
-        × (event.new.length ≤ length out.old) }
-    ensures queued { event.new.kind ≡ NONE
-        → queued_of parser.new.queued_kind parser.new.queued_value ≡ [] }
-    ensures failed { parser.new.has_failed ≡ parser.old.has_failed }
-    ensures gives { 0 < result → Gives parser.old parser.new event.new out.new memory.old
-        memory.new (take result bytes.now) }
+    requires ready { IsReady parser.old event.old (length out.old) }
+    ensures takes { GivesPiece parser memory out event bytes.now result }
+    ensures sound { IsSound event.new (length out.old) }
 {
     let step = note_step(parser, memory, out, bytes, event);
     if step > 0 {

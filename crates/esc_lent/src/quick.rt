@@ -3,9 +3,8 @@
 
 ghost use Rattle.std.specs.Prelude.{◌≡◌, ◌≢◌, ◌≤◌, ◌<◌, ◌∷◌, [], ℕ, List, false, length, map, take, slice_index};
 ghost use Rattle.esc_frame.specs.Events.Event.{CsiDispatch};
-ghost use Rattle.esc_lent.specs.declared.parser.EscParser.{EscParser as Parser};
-ghost use Rattle.esc_lent.specs.Runs.{IsTextRun, Emits, EmitsEvent};
 ghost use Rattle.esc_lent.specs.Emitted.{is_run, param_of, sent};
+ghost use Rattle.esc_lent.specs.Ahead.{NotesPlain, NotesQuick};
 
 use crate::event::{CONTROL, CSI, EscEvent, FAILED, NONE, TEXT};
 use crate::fields::read_body;
@@ -21,14 +20,11 @@ pub fn note_quick(parser: &EscParser, bytes: &[u8], event: &mut EscEvent) -> usi
     requires some { 0 < length bytes.now }
     requires none { event.old.kind ≡ NONE }
     requires count { event.old.count ≤ 256 }
-    ensures few { result ≤ length bytes.now }
-    ensures none { result ≡ 0 → event.new ≡ record event.old { csi_params = event.new.csi_params } }
+    ensures notes { NotesQuick event bytes.now result }
     ensures some { 0 < result → (event.new.kind ≢ NONE) × (event.new.kind < FAILED)
         × (is_run event.new.kind ≡ false) }
-    ensures within { (event.new.count ≤ 256) × (event.new.kept ≡ event.old.kept)
-        × (event.new.length ≡ event.old.length) × (event.new.start ≡ event.old.start) }
+    ensures count { event.new.count ≤ 256 }
     ensures ground { 0 < result → (parser.now.state ≡ GROUND) × (parser.now.pending ≡ 0) }
-    ensures emits { 0 < result → EmitsEvent event.new (take result bytes.now) }
 {
     if parser.state != 0 || parser.pending != 0 {
         return 0;
@@ -50,16 +46,7 @@ pub fn note_quick(parser: &EscParser, bytes: &[u8], event: &mut EscEvent) -> usi
 pub fn note_plain(bytes: &[u8], event: &mut EscEvent, few: bool) -> usize
     requires some { 0 < length bytes.now }
     requires other { slice_index bytes.now 0 ≢ 0x1b }
-    ensures few { result ≤ length bytes.now }
-    ensures none { result ≡ 0 → event.new ≡ event.old }
-    ensures some { 0 < result → (event.new.kind ≢ NONE) × (event.new.kind < FAILED)
-        × (event.new.count ≡ 0) × (event.new.kept ≡ 0) × (event.new.start ≡ 0) }
-    ensures text { 0 < result → event.new.kind ≡ TEXT → (event.new.length ≡ result)
-        × IsTextRun (take result bytes.now) }
-    ensures control { 0 < result → event.new.kind ≢ TEXT → (is_run event.new.kind ≡ false)
-        × (event.new.length ≡ 0) }
-    ensures emits { 0 < result → (p : Parser) (out : List ℕ) (limit : ℕ) → p.state ≡ GROUND
-        → p.pending ≡ 0 → Emits p p event.new out limit bytes.now (take result bytes.now) }
+    ensures { NotesPlain event bytes.now result }
 {
     if bytes[0] < 0x20 {
         put_plain(event, CONTROL, 0, bytes[0]);
@@ -92,12 +79,8 @@ fn put_plain(event: &mut EscEvent, kind: u32, run: usize, byte: u8)
 #[inline(always)]
 pub fn note_csi(bytes: &[u8], event: &mut EscEvent, any: bool) -> usize
     requires escape { slice_index bytes.now 0 ≡ 0x1b }
-    ensures few { result ≤ length bytes.now }
-    ensures none { result ≡ 0 → event.new ≡ record event.old { csi_params = event.new.csi_params } }
-    ensures some { 0 < result → event.new.kind ≡ CSI }
-    ensures within { (0 < result → event.new.count ≤ 256) × (event.new.kept ≡ event.old.kept)
-        × (event.new.length ≡ event.old.length) × (event.new.start ≡ event.old.start) }
-    ensures emits { 0 < result → EmitsEvent event.new (take result bytes.now) }
+    ensures notes { NotesQuick event bytes.now result }
+    ensures some { 0 < result → (event.new.kind ≡ CSI) × (event.new.count ≤ 256) }
 {
     if bytes.len() <= 2 {
         return 0;

@@ -6,6 +6,7 @@ ghost use Rattle.esc_values.specs.Clear.{parts_of};
 ghost use Rattle.esc_frame.specs.Events.Event.{Print, Execute, EscDispatch, CsiDispatch, OscDispatch, DcsHook};
 ghost use Rattle.esc_lent.specs.Noted.{Adds};
 ghost use Rattle.esc_lent.specs.Emitted.{sent, text_of, intermediates_of, parameters_of};
+ghost use Rattle.esc_lent.specs.Takes.{IsCountedAs};
 
 use crate::csi_params::put_csi_params;
 use crate::event::{
@@ -39,8 +40,7 @@ pub fn put_csi(event: &mut EscEvent, params: &[CsiParam], parameters_truncated: 
         ≡ CsiDispatch params.now parameters_truncated byte ∷ [] }
     ensures kind { event.new.kind ≡ CSI }
     ensures count { event.new.count ≡ length params.now }
-    ensures kept { event.new.kept ≡ event.old.kept }
-    ensures length { event.new.length ≡ event.old.length }
+    ensures same { (event.new.kept ≡ event.old.kept) × (event.new.length ≡ event.old.length) }
 {
     put_csi_params(&mut event.csi_params, params);
     event.count = params.len();
@@ -52,13 +52,11 @@ pub fn put_csi(event: &mut EscEvent, params: &[CsiParam], parameters_truncated: 
 // Notes the intermediates, and the final byte after them.
 fn put_intermediates(event: &mut EscEvent, intermediates: &[u8], has_more: bool, byte: u8)
     requires { length intermediates.now ≤ 2 }
-    ensures shown { intermediates_of event.new ≡ intermediates.now }
-    ensures more { event.new.has_more ≡ has_more }
-    ensures byte { event.new.byte ≡ byte }
-    ensures kind { event.new.kind ≡ event.old.kind }
-    ensures text { event.new.length ≡ event.old.length }
-    ensures counts { (event.new.count ≡ event.old.count)
+    ensures shown { (intermediates_of event.new ≡ intermediates.now)
         × (event.new.kept ≡ length intermediates.now) }
+    ensures byte { (event.new.has_more ≡ has_more) × (event.new.byte ≡ byte) }
+    ensures same { (event.new.kind ≡ event.old.kind) × (event.new.length ≡ event.old.length)
+        × (event.new.count ≡ event.old.count) }
 {
     event.intermediates[..intermediates.len()].copy_from_slice(intermediates);
     event.kept = intermediates.len();
@@ -114,20 +112,18 @@ impl<'b, 'c, N: Named> Recorder<'b, 'c, N> {
 
     // Notes a text, or that it was lost, for want of a place or as another event was noted.
     fn put(&mut self, kind: u32, text: &[u8]) -> bool
-        ensures kind { result ≡ true → self.new.event.now.kind ≡ kind }
-        ensures text { result ≡ true → text_of self.new.event.now self.new.out.now ≡ text.now }
-        ensures length { result ≡ true → self.new.event.now.length ≤ N.place }
-        ensures queued { result ≡ true → (self.new.queued_kind ≡ NONE)
+        ensures noted { result ≡ true → (self.new.event.now.kind ≡ kind)
+            × (text_of self.new.event.now self.new.out.now ≡ text.now)
+            × (self.new.event.now.length ≤ N.place) }
+        ensures first { result ≡ true → (self.old.event.now.kind ≡ NONE)
+            × (self.old.queued_kind ≡ NONE) × (self.new.queued_kind ≡ NONE)
             × (self.new.is_lost ≡ self.old.is_lost) }
-        ensures before { result ≡ true → (self.old.event.now.kind ≡ NONE)
-            × (self.old.queued_kind ≡ NONE) }
-        ensures counts { (self.new.event.now.count ≡ self.old.event.now.count)
-            × (self.new.event.now.kept ≡ self.old.event.now.kept) }
+        ensures counts { IsCountedAs self.new.event.now self.old.event.now }
         ensures lost { result ≡ false → (self.new.is_lost ≡ true)
             × (self.new.event.now ≡ self.old.event.now)
-            × (self.new.queued_kind ≡ self.old.queued_kind) }
-        ensures only { result ≡ false → self.old.event.now.kind ≡ NONE → self.old.queued_kind ≡ NONE
-            → N.place < length text.now }
+            × (self.new.queued_kind ≡ self.old.queued_kind)
+            × (self.old.event.now.kind ≡ NONE → self.old.queued_kind ≡ NONE
+            → N.place < length text.now) }
     {
         if !self.is_new() || text.len() > self.out.len() {
             self.is_lost = true;

@@ -1,8 +1,8 @@
 //! Runs of characters in ground.
 #![tactic(auto)]
 
-ghost use Rattle.std.specs.Prelude.{◌≡◌, ◌≤◌, ◌<◌, length, take};
-ghost use Rattle.esc_lent.specs.Runs.{IsTextRun};
+ghost use Rattle.std.specs.Prelude.{◌≤◌, ◌<◌, length};
+ghost use Rattle.esc_lent.specs.Reads.{BeginsWithText};
 
 use esc_frame::runs::scans::{ascii_run, free_run};
 
@@ -11,8 +11,7 @@ use esc_frame::runs::scans::{ascii_run, free_run};
 #[inline(always)]
 pub fn text_run(bytes: &[u8]) -> usize
     requires { 0 < length bytes.now }
-    ensures few { result ≤ length bytes.now }
-    ensures run { IsTextRun (take result bytes.now) }
+    ensures { BeginsWithText bytes.now result }
 {
     if bytes[0] < 0x20 {
         0
@@ -28,8 +27,7 @@ pub fn text_run(bytes: &[u8]) -> usize
 // The bytes 20 to 7F that come first.
 #[inline(always)]
 fn ascii_text(bytes: &[u8]) -> usize
-    ensures few { result ≤ length bytes.now }
-    ensures run { IsTextRun (take result bytes.now) }
+    ensures { BeginsWithText bytes.now result }
 {
     ascii_run(bytes)
 }
@@ -37,8 +35,7 @@ fn ascii_text(bytes: &[u8]) -> usize
 // The same of few bytes, one after another.
 #[inline(always)]
 fn few_text(bytes: &[u8]) -> usize
-    ensures few { result ≤ length bytes.now }
-    ensures run { IsTextRun (take result bytes.now) }
+    ensures { BeginsWithText bytes.now result }
 {
     let mut at = 0;
     while at < bytes.len() && 0x20 <= bytes[at] && bytes[at] < 0x80 {
@@ -50,8 +47,7 @@ fn few_text(bytes: &[u8]) -> usize
 /// The bytes 20 to 7F that come first, of many bytes or of few.
 #[inline(always)]
 pub fn plain_text(bytes: &[u8], few: bool) -> usize
-    ensures few { result ≤ length bytes.now }
-    ensures run { IsTextRun (take result bytes.now) }
+    ensures { BeginsWithText bytes.now result }
 {
     if few {
         few_text(bytes)
@@ -97,8 +93,7 @@ fn before_cut(bytes: &[u8], end: usize) -> usize
 // left out.
 #[inline(never)]
 fn wide_text(bytes: &[u8]) -> usize
-    ensures few { result ≤ length bytes.now }
-    ensures run { IsTextRun (take result bytes.now) }
+    ensures { BeginsWithText bytes.now result }
 {
     let free = free_run(bytes);
     let run = before_cut(bytes, free);

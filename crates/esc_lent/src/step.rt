@@ -1,12 +1,9 @@
 //! One step of the machine, on what is lent for a call.
 #![tactic(auto)]
 
-ghost use Rattle.std.specs.Prelude.{◌≡◌, ◌≤◌, ◌<◌, ◌||◌, ℕ, true, false, length, take, Some, Ok};
-ghost use Rattle.esc_frame.specs.Leads.{Unfinished};
-ghost use Rattle.esc_frame.specs.Machine.Moves.{after_all, events_all};
-ghost use Rattle.esc_lent.specs.States.{KeptIn};
-ghost use Rattle.esc_lent.specs.Noted.{IsSound, GivesSound};
-ghost use Rattle.esc_lent.specs.Emitted.{said, is_run};
+ghost use Rattle.std.specs.Prelude.{◌≡◌, ◌<◌, ◌||◌, ℕ, true, false, length, Ok};
+ghost use Rattle.esc_lent.specs.Next.{both};
+ghost use Rattle.esc_lent.specs.Steps.{IsGivenBack, TakesStep};
 
 use crate::event::{EscEvent, NONE};
 use crate::load::load;
@@ -46,24 +43,11 @@ fn step_in<'a, 'b, 'c, N: Named>(
     requires place { length out.old ≡ N.place }
     requires event { event.ghost_name ≡ N.event }
     requires none { event.old.kind ≡ NONE }
-    ensures memory { result.memory.ghost_name ≡ memory.entry.ghost_name }
-    ensures room { length result.memory.now ≡ length memory.old }
-    ensures out { result.out.ghost_name ≡ out.entry.ghost_name }
-    ensures event { result.event.ghost_name ≡ event.entry.ghost_name }
-    ensures few { result.taken ≤ length bytes.now }
-    ensures some { result.has_failed ≡ false → 0 < result.taken }
-    ensures kept { (u : Unfinished) → KeptIn parser.old memory.old u → result.has_failed ≡ false
-        → KeptIn parser.new result.memory.now (after_all u (take result.taken bytes.now)) }
-    ensures emitted { (u : Unfinished) → KeptIn parser.old memory.old u → result.has_failed ≡ false
-        → said result.event.now result.out.now parser.new.queued_kind parser.new.queued_value
-        ≡ events_all (Some (length memory.old)) u (take result.taken bytes.now) }
-    ensures run { (u : Unfinished) → KeptIn parser.old memory.old u → result.has_failed ≡ false
-        → is_run result.event.now.kind ≡ false }
-    ensures sound { (u : Unfinished) → KeptIn parser.old memory.old u
-        → length memory.old ≤ length out.old → IsSound event.old (length out.old)
-        → (result.has_failed ≡ false)
-        × GivesSound result.event.now parser.new.queued_kind (length out.old) }
-    ensures before { parser.new.has_failed ≡ parser.old.has_failed }
+    ensures step { TakesStep parser (both memory.old out.old)
+        (both result.memory.now result.out.now) event.old result.event.now bytes.now result.taken
+        result.has_failed }
+    ensures lent { IsGivenBack memory.entry.ghost_name (length memory.old) out.entry.ghost_name
+        event.entry.ghost_name result }
 {
     let mut machine: Machine<BorrowedText<'a, N>, NoMemory> = load(parser, memory);
     let mut recorder: Recorder<'b, 'c, N> = listen(out, event);
@@ -113,13 +97,10 @@ fn let_go<'a, 'b, 'c, N: Named>(
     taken: usize,
     has_failed: bool,
 ) -> Borrow<'a, 'b, 'c>
-    ensures memory { result.memory.ghost_name ≡ N.kept }
-    ensures memory_now { result.memory.now ≡ machine.entry.text.memory.now }
-    ensures room { length result.memory.now ≡ N.room }
-    ensures out { result.out.ghost_name ≡ N.out }
-    ensures out_now { result.out.now ≡ recorder.entry.out.now }
-    ensures event { result.event.ghost_name ≡ N.event }
-    ensures event_now { result.event.now ≡ recorder.entry.event.now }
+    ensures lent { IsGivenBack N.kept N.room N.out N.event result }
+    ensures now { (result.memory.now ≡ machine.entry.text.memory.now)
+        × (result.out.now ≡ recorder.entry.out.now)
+        × (result.event.now ≡ recorder.entry.event.now) }
     ensures taken { result.taken ≡ taken }
     ensures failed { result.has_failed ≡ (has_failed || recorder.entry.is_lost) }
 {
@@ -170,19 +151,8 @@ pub fn step(
 ) -> (usize, bool)
     requires some { 0 < length bytes.now }
     requires none { event.old.kind ≡ NONE }
-    ensures few { result.0 ≤ length bytes.now }
-    ensures some { result.1 ≡ false → 0 < result.0 }
-    ensures kept { (u : Unfinished) → KeptIn parser.old memory.old u → result.1 ≡ false
-        → KeptIn parser.new memory.new (after_all u (take result.0 bytes.now)) }
-    ensures emitted { (u : Unfinished) → KeptIn parser.old memory.old u → result.1 ≡ false
-        → said event.new out.new parser.new.queued_kind parser.new.queued_value
-        ≡ events_all (Some (length memory.old)) u (take result.0 bytes.now) }
-    ensures run { (u : Unfinished) → KeptIn parser.old memory.old u → result.1 ≡ false
-        → is_run event.new.kind ≡ false }
-    ensures sound { (u : Unfinished) → KeptIn parser.old memory.old u
-        → length memory.old ≤ length out.old → IsSound event.old (length out.old)
-        → (result.1 ≡ false) × GivesSound event.new parser.new.queued_kind (length out.old) }
-    ensures before { parser.new.has_failed ≡ parser.old.has_failed }
+    ensures { TakesStep parser (both memory.old out.old) (both memory.new out.new) event.old
+        event.new bytes.now result.0 result.1 }
 {
     let borrow = step_in::<Brand>(parser, memory, out, event, bytes);
     (borrow.taken, borrow.has_failed)

@@ -2,10 +2,11 @@
 //! machine.
 #![tactic(auto)]
 
-ghost use Rattle.std.specs.Prelude.{◌≡◌, ◌≢◌, ◌≤◌, ◌<◌, ◌∷◌, [], ℕ, List, false, length, take, slice_index};
+ghost use Rattle.std.specs.Prelude.{◌≡◌, ◌≢◌, ◌≤◌, ◌<◌, ◌∷◌, [], ℕ, List, false, length, slice_index};
 ghost use Rattle.esc_frame.specs.Events.Event.{EscDispatch};
-ghost use Rattle.esc_lent.specs.Runs.{Notes, IsDueAs, closes_escape};
+ghost use Rattle.esc_lent.specs.Runs.{Notes, closes_escape};
 ghost use Rattle.esc_lent.specs.Emitted.{is_run, sent, text_of};
+ghost use Rattle.esc_lent.specs.Takes.{IsCountedAs, IsInRoom, NotesText, TakesWhole};
 
 use crate::event::{ESCAPE, EscEvent, FAILED, NONE, OSC, TEXT};
 use crate::numbers::{ESCAPED, GROUND};
@@ -21,7 +22,7 @@ pub fn put_text(out: &mut [u8], event: &mut EscEvent, kind: u32, text: &[u8])
     ensures text { text_of event.new out.new ≡ text.now }
     ensures kind { event.new.kind ≡ kind }
     ensures length { event.new.length ≡ length text.now }
-    ensures within { (event.new.count ≡ event.old.count) × (event.new.kept ≡ event.old.kept) }
+    ensures within { IsCountedAs event.new event.old }
 {
     out[..text.len()].copy_from_slice(text);
     event.length = text.len();
@@ -42,13 +43,9 @@ fn note_osc(
     requires escape { slice_index bytes.now 0 ≡ 0x1b }
     requires bracket { slice_index bytes.now 1 ≡ 0x5d }
     requires ground { (parser.old.state ≡ GROUND) × (parser.old.pending ≡ 0) }
-    ensures few { result ≤ length bytes.now }
-    ensures none { result ≡ 0 → (parser.new ≡ parser.old) × (event.new ≡ event.old) }
-    ensures some { 0 < result → (event.new.kind ≡ OSC) × (event.new.length ≤ length out.old) }
-    ensures within { (event.new.count ≡ event.old.count) × (event.new.kept ≡ event.old.kept) }
-    ensures queued { IsDueAs parser.new parser.old }
-    ensures notes { 0 < result
-        → Notes parser.old parser.new event.new out.new limit (take result bytes.now) }
+    ensures takes { TakesWhole parser event bytes.now result
+        (Notes parser.old parser.new event.new out.new limit) }
+    ensures noted { NotesText OSC (length out.old) event (0 < result) }
 {
     let run = units_run(&bytes[2..]);
     if run == bytes.len() - 2 || run > limit || run > out.len() {
@@ -72,12 +69,10 @@ fn note_final(parser: &mut EscParser, bytes: &[u8], event: &mut EscEvent) -> usi
     requires some { 0 < length bytes.now }
     requires state { parser.old.state ≡ ESCAPED }
     ensures few { result ≤ 1 }
-    ensures none { result ≡ 0 → (parser.new ≡ parser.old) × (event.new ≡ event.old) }
+    ensures takes { TakesWhole parser event bytes.now result (λ x. (out : List ℕ) (limit : ℕ)
+        → Notes parser.old parser.new event.new out limit x) }
     ensures some { 0 < result → (event.new.kind ≡ ESCAPE) × (event.new.kept ≡ 0) }
     ensures within { (event.new.count ≡ event.old.count) × (event.new.length ≡ event.old.length) }
-    ensures queued { IsDueAs parser.new parser.old }
-    ensures notes { 0 < result → (out : List ℕ) (limit : ℕ)
-        → Notes parser.old parser.new event.new out limit (take result bytes.now) }
 {
     if parser.kept > 0 {
         return 0;
@@ -134,17 +129,12 @@ pub fn note_string(
     event: &mut EscEvent,
 ) -> usize
     requires some { 0 < length bytes.now }
-    requires within { (event.old.count ≤ 256) × (event.old.kept ≤ 2)
-        × (event.old.length ≤ length out.old) }
-    ensures few { result ≤ length bytes.now }
-    ensures none { result ≡ 0 → (parser.new ≡ parser.old) × (event.new ≡ event.old) }
+    requires within { IsInRoom event.old (length out.old) }
+    ensures takes { TakesWhole parser event bytes.now result
+        (Notes parser.old parser.new event.new out.new limit) }
     ensures some { 0 < result → (event.new.kind ≢ NONE) × (event.new.kind ≢ TEXT)
         × (event.new.kind < FAILED) × (is_run event.new.kind ≡ false) }
-    ensures within { (event.new.count ≤ 256) × (event.new.kept ≤ 2)
-        × (event.new.length ≤ length out.old) }
-    ensures queued { IsDueAs parser.new parser.old }
-    ensures notes { 0 < result
-        → Notes parser.old parser.new event.new out.new limit (take result bytes.now) }
+    ensures within { IsInRoom event.new (length out.old) }
 {
     if parser.state == 1 {
         return note_final(parser, bytes, event);

@@ -1,12 +1,13 @@
 //! The numbers that a parser keeps of a machine.
 #![tactic(auto)]
 
-ghost use Rattle.std.specs.Prelude.{◌≡◌, ◌≤◌, ℕ, List, length, Some, Option, true};
+ghost use Rattle.std.specs.Prelude.{◌≡◌, ℕ, List, Some};
 ghost use Rattle.esc_frame.specs.Leads.{Unfinished, Holds};
 ghost use Rattle.esc_frame.specs.Machine.Prefixes.{prefix_of};
 ghost use Rattle.esc_frame.specs.Machine.Keeps.{Keeps, KeepsBody, KeepsDcs};
-ghost use Rattle.esc_lent.specs.Numbers.{state_numbered};
-ghost use Rattle.esc_lent.specs.States.{FirstIn, HeaderIn, BodyIn, KeptIn, begun_in};
+ghost use Rattle.esc_lent.specs.States.{FirstIn, HeaderIn, BodyIn, KeptIn};
+ghost use Rattle.esc_lent.specs.Runs.{IsDueAs};
+ghost use Rattle.esc_lent.specs.Steps.{IsPlacedAt, KeepsParts};
 
 use crate::csi_params::put_body;
 use crate::named::Named;
@@ -23,9 +24,7 @@ use esc_frame::utf8::sequence::Pending;
 #[tactic(auto, using(crate::proofs::Parts::first_stored))]
 fn put_first(parser: &mut EscParser, first: &Intermediates)
     ensures first { (x : List ℕ) → Keeps first.now x → FirstIn parser.new x }
-    ensures queued_kind { parser.new.queued_kind ≡ parser.old.queued_kind }
-    ensures queued_value { parser.new.queued_value ≡ parser.old.queued_value }
-    ensures failed { parser.new.has_failed ≡ parser.old.has_failed }
+    ensures due { IsDueAs parser.new parser.old }
 {
     parser.intermediates = first.bytes;
     parser.kept = first.kept;
@@ -34,9 +33,7 @@ fn put_first(parser: &mut EscParser, first: &Intermediates)
 
 fn put_header(parser: &mut EscParser, header: &DcsHeader)
     ensures header { (x : List ℕ) → KeepsDcs header.now x → HeaderIn parser.new x }
-    ensures queued_kind { parser.new.queued_kind ≡ parser.old.queued_kind }
-    ensures queued_value { parser.new.queued_value ≡ parser.old.queued_value }
-    ensures failed { parser.new.has_failed ≡ parser.old.has_failed }
+    ensures due { IsDueAs parser.new parser.old }
 {
     put_first(parser, &header.intermediates);
     parser.form = number_of_form(header.form);
@@ -44,16 +41,9 @@ fn put_header(parser: &mut EscParser, header: &DcsHeader)
 
 // The numbers that are kept in each state.
 fn put_place(parser: &mut EscParser, state: State, pending: Pending, text: usize, is_over: bool)
-    ensures state { state_numbered parser.new.state ≡ state }
-    ensures begun { begun_in parser.new ≡ prefix_of pending }
-    ensures text { parser.new.text ≡ text }
-    ensures over { parser.new.is_over ≡ is_over }
-    ensures first { (x : List ℕ) → FirstIn parser.old x → FirstIn parser.new x }
-    ensures header { (x : List ℕ) → HeaderIn parser.old x → HeaderIn parser.new x }
-    ensures body { (x : List ℕ) → BodyIn parser.old x → BodyIn parser.new x }
-    ensures queued_kind { parser.new.queued_kind ≡ parser.old.queued_kind }
-    ensures queued_value { parser.new.queued_value ≡ parser.old.queued_value }
-    ensures failed { parser.new.has_failed ≡ parser.old.has_failed }
+    ensures place { IsPlacedAt parser.new state (prefix_of pending) text is_over }
+    ensures parts { KeepsParts parser }
+    ensures due { IsDueAs parser.new parser.old }
 {
     let (count, first, second, third) = numbers_of_pending(pending);
     parser.state = number_of_state(state);
@@ -73,9 +63,7 @@ fn put_parts<K: Store>(parser: &mut EscParser, machine: &Machine<K, NoMemory>)
         → BodyIn parser.new x }
     ensures header { (x : List ℕ) → machine.now.state ≡ State.Dcs → KeepsDcs machine.now.header x
         → HeaderIn parser.new x }
-    ensures queued_kind { parser.new.queued_kind ≡ parser.old.queued_kind }
-    ensures queued_value { parser.new.queued_value ≡ parser.old.queued_value }
-    ensures failed { parser.new.has_failed ≡ parser.old.has_failed }
+    ensures due { IsDueAs parser.new parser.old }
 {
     match machine.state {
         State::Escape => put_first(parser, &machine.intermediates),
@@ -93,9 +81,7 @@ pub fn unload<'a, N: Named>(
     ensures kept { (u : Unfinished)
         → Holds ⟦<BorrowedText<'a, N> as Store>⟧.keeps (Some N.room) machine.now u
         → KeptIn parser.new machine.now.text.memory.now u }
-    ensures queued_kind { parser.new.queued_kind ≡ parser.old.queued_kind }
-    ensures queued_value { parser.new.queued_value ≡ parser.old.queued_value }
-    ensures failed { parser.new.has_failed ≡ parser.old.has_failed }
+    ensures due { IsDueAs parser.new parser.old }
 {
     put_parts(parser, machine);
     put_place(

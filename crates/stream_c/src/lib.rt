@@ -4,12 +4,11 @@
 //! `include/escape_stream_parser.h` declares the calls for C. The archive needs no other.
 #![tactic(auto)]
 
-ghost use Rattle.std.specs.Prelude.{◌≢◌, ℕ, List, []};
-ghost use Rattle.esc_frame.specs.Events.{Event};
+ghost use Rattle.std.specs.Prelude.{ℕ, List, []};
 ghost use Rattle.esc_lent.specs.States.{IsAt, lower};
-ghost use Rattle.esc_lent.specs.Next.{Next, halves};
+ghost use Rattle.esc_lent.specs.Next.{Next, NeverFails, halves};
 
-use esc_lent::event::{EscEvent, FAILED};
+use esc_lent::event::EscEvent;
 use esc_lent::next::next;
 use esc_lent::parser::EscParser;
 
@@ -38,8 +37,7 @@ pub extern "C" fn escape_stream_next(
     event: &mut EscEvent,
 ) -> usize
     ensures holds { Next parser (halves buffer.old) (halves buffer.new) bytes.now event.new result }
-    ensures sound { (s : List ℕ) (es : List Event) → IsAt s es parser.old (lower buffer.old)
-        → event.new.kind ≢ FAILED }
+    ensures sound { NeverFails parser.old (lower buffer.old) event.new }
 {
     next(parser, buffer, bytes, event)
 }

@@ -1,44 +1,51 @@
-use Rattle.std.proofs.Common.{◌<◌, subst}
+use Rattle.std.proofs.Common.{rules, ◌<◌, subst}
 use Rattle.esc_lent.proofs.TextRuns.{text_utf8, data_utf8}
 use Rattle.esc_lent.proofs.Kept.{text_keeps, text_emits, data_keeps, data_emits}
 use Rattle.esc_lent.proofs.advance.run_ahead.Goals as goal
 
-pub returns-then-parser-eq0-2-clause-kept : goal.returns-then-parser-eq0-2-clause-kept
-returns-then-parser-eq0-2-clause-kept c = λ some u memory h.
-    text_keeps c.args.parser.now memory c.if-parser-eq0.true c.if-parser-eq0-2.true c.args.bytes.now
-    c.text_run.result c.note_run.result
-    c.note_run.ensures.length c.text_run.ensures.run u h
+pub returns-then-parser-eq0-2 : goal.returns-then-parser-eq0-2
+returns-then-parser-eq0-2 c = record {
+  few = search rules;
+  none = search rules;
+  some = search rules;
+  within = search rules;
+  utf8 =
+      text_utf8 c.note_run.new.event c.args.event.now c.args.bytes.now c.requires.none
+      c.text_run.result c.note_run.ensures.some c.note_run.ensures.none
+      c.text_run.ensures.run;
+  kept = λ some u memory h.
+      text_keeps c.args.parser.now memory c.if-parser-eq0.true c.if-parser-eq0-2.true
+      c.args.bytes.now
+      c.text_run.result c.note_run.result
+      c.note_run.ensures.length c.text_run.ensures.run u h;
+  emitted = λ some u memory out h.
+      let k = c.note_run.ensures.some (subst (λ n. 0 < n) c.note_run.ensures.length some) in
+      text_emits c.args.parser.now memory c.if-parser-eq0.true c.if-parser-eq0-2.true
+      c.args.bytes.now
+      c.text_run.result c.note_run.result
+      c.note_run.ensures.length c.text_run.ensures.run u h c.note_run.new.event out k.0 k.1;
+}
 
-pub returns-then-parser-eq0-2-clause-emitted : goal.returns-then-parser-eq0-2-clause-emitted
-returns-then-parser-eq0-2-clause-emitted c = λ some u memory out h.
-    let k = c.note_run.ensures.some (subst (λ n. 0 < n) c.note_run.ensures.length some) in
-    text_emits c.args.parser.now memory c.if-parser-eq0.true c.if-parser-eq0-2.true c.args.bytes.now
-    c.text_run.result c.note_run.result
-    c.note_run.ensures.length c.text_run.ensures.run u h c.note_run.new.event out k.0 k.1
-
-pub returns-then-parser-eq5-clause-kept : goal.returns-then-parser-eq5-clause-kept
-returns-then-parser-eq5-clause-kept c = λ some u memory h.
-    data_keeps c.args.parser.now memory c.if-parser-eq5.true c.args.bytes.now c.data_run.result
-    c.note_run-then-parser-eq5.result
-    c.note_run-then-parser-eq5.ensures.length c.data_run.ensures.run u h
-
-pub returns-then-parser-eq5-clause-emitted : goal.returns-then-parser-eq5-clause-emitted
-returns-then-parser-eq5-clause-emitted c = λ some u memory out h.
-    let k = c.note_run-then-parser-eq5.ensures.some
-    (subst (λ n. 0 < n) c.note_run-then-parser-eq5.ensures.length some) in
-    data_emits c.args.parser.now memory c.if-parser-eq5.true c.args.bytes.now c.data_run.result
-    c.note_run-then-parser-eq5.result
-    c.note_run-then-parser-eq5.ensures.length c.data_run.ensures.run u h
-    c.note_run-then-parser-eq5.new.event out k.0 k.1
-
-pub returns-then-parser-eq0-2-clause-utf8 : goal.returns-then-parser-eq0-2-clause-utf8
-returns-then-parser-eq0-2-clause-utf8 c =
-    text_utf8 c.note_run.new.event c.args.event.now c.args.bytes.now c.requires.none
-    c.text_run.result c.note_run.ensures.some c.note_run.ensures.none
-    c.text_run.ensures.run
-
-pub returns-then-parser-eq5-clause-utf8 : goal.returns-then-parser-eq5-clause-utf8
-returns-then-parser-eq5-clause-utf8 c =
-    data_utf8 c.note_run-then-parser-eq5.new.event c.args.event.now c.args.bytes.now c.requires.none
-    c.data_run.result c.note_run-then-parser-eq5.ensures.some
-    c.note_run-then-parser-eq5.ensures.none
+pub returns-then-parser-eq5 : goal.returns-then-parser-eq5
+returns-then-parser-eq5 c = record {
+  few = search rules;
+  none = search rules;
+  some = search rules;
+  within = search rules;
+  utf8 =
+      data_utf8 c.note_run-then-parser-eq5.new.event c.args.event.now c.args.bytes.now
+      c.requires.none
+      c.data_run.result c.note_run-then-parser-eq5.ensures.some
+      c.note_run-then-parser-eq5.ensures.none;
+  kept = λ some u memory h.
+      data_keeps c.args.parser.now memory c.if-parser-eq5.true c.args.bytes.now c.data_run.result
+      c.note_run-then-parser-eq5.result
+      c.note_run-then-parser-eq5.ensures.length c.data_run.ensures.run u h;
+  emitted = λ some u memory out h.
+      let k = c.note_run-then-parser-eq5.ensures.some
+      (subst (λ n. 0 < n) c.note_run-then-parser-eq5.ensures.length some) in
+      data_emits c.args.parser.now memory c.if-parser-eq5.true c.args.bytes.now c.data_run.result
+      c.note_run-then-parser-eq5.result
+      c.note_run-then-parser-eq5.ensures.length c.data_run.ensures.run u h
+      c.note_run-then-parser-eq5.new.event out k.0 k.1;
+}

@@ -1,15 +1,18 @@
-use Rattle.std.proofs.Common.{◌∙◌, ◌++◌, ap}
+use Rattle.std.proofs.Common.{rules, ◌∙◌, ◌++◌, ap}
 use Rattle.esc_frame.specs.Machine.Keeps.{next_form, shown}
 use Rattle.esc_lent.specs.Numbers.{form_numbered}
 use Rattle.esc_lent.proofs.BodyBytes.{other_more}
 use Rattle.esc_lent.proofs.bodies.push_other.Goals as goal
 
-pub returns-clause-body : goal.returns-clause-body
-returns-clause-body c = λ x h.
-    let q = record c.add.new.parser { form = c.number_of_form-parser.result } in
-    other_more c.args.parser.now q c.args.byte x h
-    (c.number_of_form-parser.ensures ∙ c.next.ensures
-    ∙ ap (λ f. next_form f c.args.byte)
-    (c.form_of.ensures ∙ ap form_numbered (c.add.ensures.form ∙ c.close.ensures.form)))
-    c.requires (c.add.ensures.number ∙ c.close.ensures.number)
-    (λ o all n k. c.add.ensures.first (all ++ shown o) (c.close.ensures.first o all n k))
+pub returns : goal.returns
+returns c = record {
+  body = λ x h.
+      let q = record c.add.new.parser { form = c.number_of_form-parser.result } in
+      other_more c.args.parser.now q c.args.byte x h
+      (c.number_of_form-parser.ensures ∙ c.next.ensures
+      ∙ ap (λ f. next_form f c.args.byte)
+      (c.form_of.ensures ∙ ap form_numbered (c.add.ensures.same.0 ∙ c.close.ensures.same.0)))
+      c.requires (c.add.ensures.number ∙ c.close.ensures.number)
+      (λ o all n k. c.add.ensures.first (all ++ shown o) (c.close.ensures.first o all n k));
+  same = search rules;
+}

@@ -1,9 +1,13 @@
-use Rattle.std.proofs.Common.{ap}
+use Rattle.std.proofs.Common.{rules, ap}
 use Rattle.esc_lent.proofs.ApcBytes.{text_passes}
 use Rattle.esc_lent.proofs.commands.note_text.Goals as goal
 
-pub returns-clause-passes : goal.returns-clause-passes
-returns-clause-passes c = λ yes.
-    text_passes c.args.parser.now c.append.new.parser c.args.memory.now c.append.new.memory
-    c.args.text.now c.requires.state (ap (λ q. q.state) c.append.ensures.same) c.requires.text
-    (c.append.ensures.kept yes)
+pub returns : goal.returns
+returns c = record {
+  other = search rules;
+  queued = search rules;
+  passes = λ yes.
+      text_passes c.args.parser.now c.append.new.parser c.args.memory.now c.append.new.memory
+      c.args.text.now c.requires.state (ap (λ q. q.state) c.append.ensures.same) c.requires.text
+      (c.append.ensures.kept yes);
+}

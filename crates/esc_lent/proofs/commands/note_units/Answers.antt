@@ -1,10 +1,15 @@
-use Rattle.std.proofs.Common.{ap}
+use Rattle.std.proofs.Common.{rules, ap}
 use Rattle.esc_lent.specs.States.{begun_in}
 use Rattle.esc_lent.proofs.OscBytes.{units_pass}
 use Rattle.esc_lent.proofs.commands.note_units.Goals as goal
 
-pub returns-clause-passes : goal.returns-clause-passes
-returns-clause-passes c = λ yes.
-    units_pass c.args.parser.now c.append.new.parser c.args.memory.now c.append.new.memory
-    c.args.text.now c.requires.state.0 c.requires.state.1 (ap (λ q. q.state) c.append.ensures.same)
-    (ap begun_in c.append.ensures.same) c.requires.units (c.append.ensures.kept yes)
+pub returns : goal.returns
+returns c = record {
+  other = search rules;
+  queued = search rules;
+  passes = λ yes.
+      units_pass c.args.parser.now c.append.new.parser c.args.memory.now c.append.new.memory
+      c.args.text.now c.requires.state.0 c.requires.state.1
+      (ap (λ q. q.state) c.append.ensures.same)
+      (ap begun_in c.append.ensures.same) c.requires.units (c.append.ensures.kept yes);
+}

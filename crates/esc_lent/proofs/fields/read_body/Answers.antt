@@ -21,7 +21,7 @@ returns-then-not-field-clause-keeps c =
     let csi_params = c.put_field-field.new.csi_params in
     let no : field.goes_on ≡ false = search rules in
     ends_short _ _
-    (few csi_params field.count (omega (arith, c.put_field-field.ensures.csi_params)))
+    (few csi_params field.count (omega (arith, c.put_field-field.ensures.few.1)))
     (subst (λ y. IsAfter (map param_of (take field.count csi_params)) y) (run_joins rest i _)
     (c.put_field-field.ensures.ends no (take i rest) c.loop-at.invariant.2))
 
@@ -33,8 +33,8 @@ loop-at-preserved c =
     let csi_params = c.put_field-field.new.csi_params in
     let yes : field.goes_on ≡ true = search rules in
     let l = tail_length rest i in (
-      omega (arith, c.put_field-field.ensures.few),
-      omega (arith, c.put_field-field.ensures.csi_params),
+      omega (arith, c.put_field-field.ensures.few.0),
+      omega (arith, c.put_field-field.ensures.few.1),
       subst (λ y. IsPrefix (map param_of (take field.count csi_params)) y) (run_joins rest i _)
           ((c.put_field-field.ensures.goes_on yes).1 (take i rest) c.loop-at.invariant.2),
     )

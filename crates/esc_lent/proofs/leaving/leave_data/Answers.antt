@@ -1,10 +1,13 @@
-use Rattle.std.proofs.Common.{refl}
+use Rattle.std.proofs.Common.{rules, refl}
 use Rattle.esc_lent.proofs.Left.{data_left}
 use Rattle.esc_lent.proofs.leaving.leave_data.Goals as goal
 
-pub returns-clause-gives : goal.returns-clause-gives
-returns-clause-gives c = λ out memory.
-    let take = c.take_after in
-    data_left c.args.parser.now take.new.parser (record c.args.event.now { kind = 10 }) memory out
-    c.args.byte c.requires.breaks (take.ensures.kept memory) take.ensures.queued
-    c.requires.state refl
+pub returns-clause-takes : goal.returns-clause-takes
+returns-clause-takes c = record {
+  failed = search rules;
+  gives = λ out memory.
+      let take = c.take_after in
+      data_left c.args.parser.now take.new.parser (record c.args.event.now { kind = 10 }) memory out
+      c.args.byte c.requires.breaks (take.ensures.kept memory) take.ensures.queued
+      c.requires.state refl;
+}

@@ -1,5 +1,10 @@
+use Rattle.std.proofs.Common.{rules}
 use Rattle.esc_lent.proofs.leaving.note_left.Goals as goal
 
-pub returns-then-parser-eq5-clause-gives : goal.returns-then-parser-eq5-clause-gives
-returns-then-parser-eq5-clause-gives c =
-    λ yes. c.leave_data.ensures.gives c.args.out.now c.args.memory.now
+pub returns-then-parser-eq5-clause-takes : goal.returns-then-parser-eq5-clause-takes
+returns-then-parser-eq5-clause-takes c = record {
+  other = search rules;
+  failed = search rules;
+  gives =
+      λ yes. c.leave_data.ensures.takes.gives c.args.out.now c.args.memory.now;
+}

@@ -37,17 +37,17 @@ returns-clause-holds c = record {
       (c.give_queued.ensures.none c.if-give_queued.false) in
       at_more s c.args.bytes.now c.take_next.result es c.args.parser.now c.take_next.new.parser
       c.args.memory.now c.take_next.new.memory _ c.take_next.auto.memory
-      (c.take_next.ensures.holds.goes_on ne ∙ c.give_queued.ensures.failed) was
-      (λ u k. c.take_next.ensures.holds.kept u
+      (c.take_next.ensures.goes_on ne ∙ c.give_queued.ensures.failed) was
+      (λ u k. c.take_next.ensures.kept u
       (c.give_queued.ensures.kept c.args.memory.now u k) ne)
-      (λ u k. c.take_next.ensures.holds.says u
+      (λ u k. c.take_next.ensures.says u
       (c.give_queued.ensures.kept c.args.memory.now u k) ne)
       h;
   all = search rules;
   moves = search rules;
   limited = λ s es h k.
       adds_fewer (length c.args.memory.now) s (take c.take_next.result c.args.bytes.now)
-      (c.take_next.ensures.holds.limited (after_all Ground s)
+      (c.take_next.ensures.limited (after_all Ground s)
       (c.give_queued.ensures.kept c.args.memory.now (after_all Ground s)
       (kept_at s es c.args.parser.now c.args.memory.now h)) k);
   failed = search rules;
@@ -56,9 +56,9 @@ returns-clause-holds c = record {
 
 pub returns-then-parser-clause-sound : goal.returns-then-parser-clause-sound
 unfolding IsAt
-returns-then-parser-clause-sound c = λ s es h less. absurd (false≢true (sym h.0 ∙ c.if-parser.true))
+returns-then-parser-clause-sound c = λ less s es h. absurd (false≢true (sym h.0 ∙ c.if-parser.true))
 
 pub returns-clause-sound : goal.returns-clause-sound
 unfolding IsAt
-returns-clause-sound c = λ s es h less.
+returns-clause-sound c = λ less s es h.
     c.take_next.ensures.sound _ (c.give_queued.ensures.kept c.args.memory.now _ h.1) less

@@ -20,9 +20,10 @@ returns-then-taken-gt0-clause-holds c = record {
       let csi = c.note_csi-taken.ensures in
       let some = c.if-taken-gt0.true in
       let plain = c.requires.plain in
-      at_first s bs n es p memory e out (csi.within.3 ∙ c.settle.ensures.0)
+      at_first s bs n es p memory e out (csi.notes.within.2 ∙ c.settle.ensures.0)
       (ap (λ k. queued_of k p.queued_value) plain.1)
-      (event_emits p e (take n bs) plain.2 plain.3 (ap is_run (csi.some some)) (csi.emits some) out
+      (event_emits p e (take n bs) plain.2 plain.3 (ap is_run (csi.some some).0)
+      (csi.notes.emits some) out
       (length memory) bs) h;
   all = search rules;
   moves = search rules;

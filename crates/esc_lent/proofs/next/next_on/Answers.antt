@@ -17,18 +17,18 @@ returns-clause-holds c = record {
       let was : queued_of p.queued_kind p.queued_value ≡ [] =
       ap (λ k. queued_of k p.queued_value) c.requires.settled.1 in
       at_more s c.args.bytes.now t.result es p t.new.parser c.args.memory.now t.new.memory _
-      t.auto.memory (t.ensures.holds.goes_on ne) was (λ u k. t.ensures.holds.kept u k ne)
-      (λ u k. t.ensures.holds.says u k ne) h;
+      t.auto.memory (t.ensures.goes_on ne) was (λ u k. t.ensures.kept u k ne)
+      (λ u k. t.ensures.says u k ne) h;
   all = search rules;
   moves = search rules;
   limited = λ s es h k.
       let m = c.args.memory.now in
       adds_fewer (length m) s (take c.take_on.result c.args.bytes.now)
-      (c.take_on.ensures.holds.limited (after_all Ground s) (kept_at s es c.args.parser.now m h) k);
+      (c.take_on.ensures.limited (after_all Ground s) (kept_at s es c.args.parser.now m h) k);
   failed = search rules;
   again = search rules;
 }
 
 pub returns-clause-sound : goal.returns-clause-sound
 unfolding IsAt
-returns-clause-sound c = λ s es h less. c.take_on.ensures.sound _ h.1 less
+returns-clause-sound c = λ less s es h. c.take_on.ensures.sound _ h.1 less

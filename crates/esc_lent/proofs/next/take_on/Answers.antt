@@ -6,12 +6,12 @@ use Rattle.esc_lent.specs.Emitted.{queued_of, is_run}
 use Rattle.esc_lent.proofs.Taken.{utf8_placed, after_both, events_both, emitted_placed, says_nothing, limited_both}
 use Rattle.esc_lent.proofs.next.take_on.Goals as goal
 
-pub returns-then-event-ne-NONE-clause-holds : goal.returns-then-event-ne-NONE-clause-holds
-returns-then-event-ne-NONE-clause-holds c = record {
+pub returns-then-event-ne-NONE : goal.returns-then-event-ne-NONE
+returns-then-event-ne-NONE c = record {
   few = search rules;
   within = search rules;
   utf8 = λ k. utf8_placed c.args.bytes.now c.loop-at.at 0 c.advance-taken.new.event
-      (c.advance-taken.ensures.utf8 k);
+      (c.advance-taken.ensures.fits.utf8 k);
   some = search rules;
   all = search rules;
   kept = λ u h ne.
@@ -25,7 +25,7 @@ returns-then-event-ne-NONE-clause-holds c = record {
       let e = c.advance-taken.new.event in
       ap (λ y. y ++ queued_of c.advance-taken.new.parser.queued_kind
       c.advance-taken.new.parser.queued_value) (emitted_placed bs at 0 e c.advance-taken.new.out)
-      ∙ c.advance-taken.ensures.emitted _ i.0 ne
+      ∙ c.advance-taken.ensures.says _ i.0 ne
       ∙ ap (λ k. events_all (Some k) (after_all u (take at bs))
       (take c.advance-taken.result (take (length bs - at) (drop at bs)))) c.loop-at.auto.memory
       ∙ sym (events_both bs at c.advance-taken.result (Some (length c.args.memory.now)) u i.1);
@@ -38,6 +38,9 @@ returns-then-event-ne-NONE-clause-holds c = record {
       (c.advance-taken.ensures.limited _ (c.loop-at.invariant.kept u h).0 k));
   failed = search rules;
   goes_on = search rules;
+  sound = λ u h less.
+      c.advance-taken.ensures.sound _ (c.loop-at.invariant.kept u h).0
+      (omega (arith, less, c.loop-at.auto.memory, c.loop-at.auto.out));
 }
 
 pub loop-at-preserved : goal.loop-at-preserved
@@ -51,9 +54,9 @@ loop-at-preserved c =
       within = omega (arith, c.advance-taken.ensures.few);
       none = none;
       within_event = (
-        c.advance-taken.ensures.within.0,
-        c.advance-taken.ensures.within.1,
-        omega (arith, c.advance-taken.ensures.text (ap is_run none), c.loop-at.auto.out),
+        c.advance-taken.ensures.fits.within.0,
+        c.advance-taken.ensures.fits.within.1,
+        omega (arith, c.advance-taken.ensures.fits.text (ap is_run none), c.loop-at.auto.out),
       );
       queued = queued;
       kept = λ u h.
@@ -64,15 +67,10 @@ loop-at-preserved c =
             events_both bs at c.advance-taken.result (Some (length c.args.memory.now)) u i.1
                 ∙ ap (λ k. events_all (Some k) (after_all u (take at bs)) tail)
                 (sym c.loop-at.auto.memory)
-                ∙ sym (c.advance-taken.ensures.emitted _ i.0 ne)
+                ∙ sym (c.advance-taken.ensures.says _ i.0 ne)
                 ∙ ap (λ y. y ++ queued_of c.advance-taken.new.parser.queued_kind
                 c.advance-taken.new.parser.queued_value)
                 (says_nothing c.advance-taken.new.event c.advance-taken.new.out _ none) ∙ queued,
           );
       failed = c.advance-taken.ensures.goes_on ne ∙ c.loop-at.invariant.failed;
     }
-
-pub returns-then-event-ne-NONE-clause-sound : goal.returns-then-event-ne-NONE-clause-sound
-returns-then-event-ne-NONE-clause-sound c = λ u h less.
-    c.advance-taken.ensures.sound _ (c.loop-at.invariant.kept u h).0
-    (omega (arith, less, c.loop-at.auto.memory, c.loop-at.auto.out))

@@ -1,31 +1,44 @@
-use Rattle.std.proofs.Common.{◌≡◌, ◌∷◌, [], get_or, sym, subst, arith}
+use Rattle.std.proofs.Common.{rules, ◌≡◌, ◌∷◌, [], get_or, sym, subst, arith}
 use Rattle.esc_lent.specs.Runs.{Gives}
 use Rattle.esc_lent.proofs.Kept.{given_still}
 use Rattle.esc_lent.proofs.OneByte.{first_taken}
 use Rattle.esc_lent.proofs.pieces.note_piece.Goals as goal
 
-pub returns-then-is_broken-clause-gives : goal.returns-then-is_broken-clause-gives
-returns-then-is_broken-clause-gives c = λ some.
-    let step = c.note_step-step in
-    let zero : step.result ≡ 0 = omega (arith, c.if-step-gt0.false) in
-    let same = step.ensures.none zero in
-    let e = c.note_broken.new.event in
-    let m = step.new.memory in
-    subst (Gives c.args.parser.now c.note_broken.new.parser e step.new.out c.args.memory.now m)
-    (sym (first_taken c.args.bytes.now c.requires.some))
-    (given_still c.args.parser.now step.new.parser c.note_broken.new.parser e step.new.out
-    c.args.memory.now m m (get_or c.args.bytes.now 0 0 ∷ []) same.0 same.2
-    (c.note_broken.ensures.gives step.new.out m))
+pub returns-then-is_broken-clause-takes : goal.returns-then-is_broken-clause-takes
+returns-then-is_broken-clause-takes c = record {
+  few = search rules;
+  none = search rules;
+  queued = search rules;
+  failed = search rules;
+  gives = λ some.
+      let step = c.note_step-step in
+      let zero : step.result ≡ 0 = omega (arith, c.if-step-gt0.false) in
+      let same = step.ensures.takes.none zero in
+      let e = c.note_broken.new.event in
+      let m = step.new.memory in
+      subst (Gives c.args.parser.now c.note_broken.new.parser e step.new.out c.args.memory.now m)
+      (sym (first_taken c.args.bytes.now c.requires.some))
+      (given_still c.args.parser.now step.new.parser c.note_broken.new.parser e step.new.out
+      c.args.memory.now m m (get_or c.args.bytes.now 0 0 ∷ []) same.0 same.2
+      (c.note_broken.ensures.takes.gives step.new.out m));
+}
 
-pub returns-then-note_left-clause-gives : goal.returns-then-note_left-clause-gives
-returns-then-note_left-clause-gives c = λ some.
-    let step = c.note_step-step in
-    let zero : step.result ≡ 0 = omega (arith, c.if-step-gt0.false) in
-    let same = step.ensures.none zero in
-    let left = c.note_left in
-    let m = step.new.memory in
-    subst (Gives c.args.parser.now left.new.parser left.new.event left.new.out c.args.memory.now m)
-    (sym (first_taken c.args.bytes.now c.requires.some))
-    (given_still c.args.parser.now step.new.parser left.new.parser left.new.event left.new.out
-    c.args.memory.now m m (get_or c.args.bytes.now 0 0 ∷ []) same.0 same.2
-    (left.ensures.gives c.if-note_left.true))
+pub returns-then-note_left-clause-takes : goal.returns-then-note_left-clause-takes
+returns-then-note_left-clause-takes c = record {
+  few = search rules;
+  none = search rules;
+  queued = search rules;
+  failed = search rules;
+  gives = λ some.
+      let step = c.note_step-step in
+      let zero : step.result ≡ 0 = omega (arith, c.if-step-gt0.false) in
+      let same = step.ensures.takes.none zero in
+      let left = c.note_left in
+      let m = step.new.memory in
+      subst (Gives c.args.parser.now left.new.parser left.new.event left.new.out c.args.memory.now
+      m)
+      (sym (first_taken c.args.bytes.now c.requires.some))
+      (given_still c.args.parser.now step.new.parser left.new.parser left.new.event left.new.out
+      c.args.memory.now m m (get_or c.args.bytes.now 0 0 ∷ []) same.0 same.2
+      (left.ensures.takes.gives c.if-note_left.true));
+}

@@ -1,8 +1,15 @@
+use Rattle.std.proofs.Common.{rules}
 use Rattle.esc_lent.proofs.TextRuns.{no_run}
 use Rattle.esc_lent.proofs.runs.text_run.Goals as goal
 
-pub returns-then-bytes-lt32-clause-run : goal.returns-then-bytes-lt32-clause-run
-returns-then-bytes-lt32-clause-run c = no_run
+pub returns-then-bytes-lt32 : goal.returns-then-bytes-lt32
+returns-then-bytes-lt32 c = record {
+  few = search rules;
+  run = no_run;
+}
 
-pub returns-then-bytes-lt2-clause-run : goal.returns-then-bytes-lt2-clause-run
-returns-then-bytes-lt2-clause-run c = no_run
+pub returns-then-bytes-lt2 : goal.returns-then-bytes-lt2
+returns-then-bytes-lt2 c = record {
+  few = search rules;
+  run = no_run;
+}

@@ -1,5 +1,11 @@
+use Rattle.std.proofs.Common.{rules}
 use Rattle.esc_lent.proofs.strings.note_string.Goals as goal
 
-pub returns-then-parser-eq1-clause-notes : goal.returns-then-parser-eq1-clause-notes
-returns-then-parser-eq1-clause-notes c =
-    λ some. c.note_final.ensures.notes some c.args.out.now c.args.limit
+pub returns-then-parser-eq1-clause-takes : goal.returns-then-parser-eq1-clause-takes
+returns-then-parser-eq1-clause-takes c = record {
+  few = search rules;
+  none = search rules;
+  queued = search rules;
+  noted =
+      λ some. c.note_final.ensures.takes.noted some c.args.out.now c.args.limit;
+}
