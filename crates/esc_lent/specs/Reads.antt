@@ -1,7 +1,10 @@
 -- What is read from the first of some bytes.
-use Rattle.std.specs.Prelude.{ℕ, ◌≡◌, ◌≤◌, ◌<◌, true, List, length, take, slice_index}
+use Rattle.std.specs.Prelude.{ℕ, ◌≡◌, ◌≤◌, ◌<◌, true, List, length, map, take, slice_index}
 use Rattle.std.specs.List.{list_all}
+use Rattle.esc_values.specs.declared.csi_param.CsiParam.{CsiParam}
 use Rattle.esc_frame.specs.Bodies.{is_digit, held, value_after}
+use Rattle.esc_lent.specs.declared.event.EscEntry.{EscEntry}
+use Rattle.esc_lent.specs.Emitted.{param_of}
 use Rattle.esc_lent.specs.Runs.{IsTextRun}
 
 -- So many of the bytes, from the first, are a run of characters.
@@ -10,6 +13,10 @@ pub record BeginsWithText (bytes : List ℕ) (taken : ℕ) : Type 0 where
   pub few : taken ≤ length bytes
   -- well-formed, and without controls
   pub run : IsTextRun (take taken bytes)
+
+-- the first so many parameters
+abbrev pub first_params : ℕ → List EscEntry → List CsiParam
+first_params n params = map param_of (take n params)
 
 -- After so many of the bytes this one comes; nothing is said where it is 0.
 abbrev pub IsFollowed : List ℕ → ℕ → ℕ → Type 0

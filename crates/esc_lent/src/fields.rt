@@ -1,10 +1,10 @@
 //! The body of a short control sequence, read straight into the parameters of an event.
 #![tactic(auto)]
 
-ghost use Rattle.std.specs.Prelude.{◌≡◌, ◌<◌, ◌≤◌, ◌+◌, ◌++◌, true, false, ℕ, List, ◌∷◌, [], length, map, take, slice_index, pos};
+ghost use Rattle.std.specs.Prelude.{◌≡◌, ◌<◌, ◌≤◌, ◌+◌, ◌++◌, true, false, ℕ, List, ◌∷◌, [], length, take, slice_index, pos};
 ghost use Rattle.esc_frame.specs.Machine.Shorts.{IsAfter, IsPrefix, IsShort};
 ghost use Rattle.esc_lent.specs.Emitted.{param_of};
-ghost use Rattle.esc_lent.specs.Reads.{IsFollowed, ReadsNumber};
+ghost use Rattle.esc_lent.specs.Reads.{IsFollowed, ReadsNumber, first_params};
 
 use crate::event::EscEntry;
 use esc_frame::unfinished::csi_params::next_number;
@@ -34,8 +34,7 @@ pub struct Body {
 #[inline(always)]
 pub fn put(csi_params: &mut [EscEntry], count: usize, entry: EscEntry)
     requires { count < length csi_params.old }
-    ensures { map param_of (take (count + 1) csi_params.new)
-        ≡ map param_of (take count csi_params.old)
+    ensures { first_params (count + 1) csi_params.new ≡ first_params count csi_params.old
         ++ param_of entry ∷ [] }
 {
     csi_params[count] = entry;
@@ -45,8 +44,7 @@ pub fn put(csi_params: &mut [EscEntry], count: usize, entry: EscEntry)
 #[inline(always)]
 fn put_byte(csi_params: &mut [EscEntry], count: usize, byte: u8)
     requires { count < length csi_params.old }
-    ensures { map param_of (take (count + 1) csi_params.new)
-        ≡ map param_of (take count csi_params.old)
+    ensures { first_params (count + 1) csi_params.new ≡ first_params count csi_params.old
         ++ CsiParam.P byte ∷ [] }
 {
     let entry = EscEntry {
@@ -62,8 +60,7 @@ fn put_byte(csi_params: &mut [EscEntry], count: usize, byte: u8)
 fn put_integer(csi_params: &mut [EscEntry], count: usize, number: u64)
     requires room { count < length csi_params.old }
     requires small { number ≤ 0x7fff_ffff_ffff_ffff }
-    ensures { map param_of (take (count + 1) csi_params.new)
-        ≡ map param_of (take count csi_params.old)
+    ensures { first_params (count + 1) csi_params.new ≡ first_params count csi_params.old
         ++ CsiParam.Integer (pos number) ∷ [] }
 {
     let entry = EscEntry {
@@ -140,8 +137,8 @@ fn put_number(csi_params: &mut [EscEntry], count: usize, rest: &[u8], any: bool)
     requires high { slice_index rest.now 0 ≤ 0x39 }
     ensures count { (0 < result.0) × (result.0 ≤ length rest.now) }
     ensures after { IsFollowed rest.now result.0 result.1 }
-    ensures keeps { (x : List ℕ) → IsPrefix (map param_of (take count csi_params.old)) x
-        → IsAfter (map param_of (take (count + 1) csi_params.new)) (x ++ take result.0 rest.now) }
+    ensures keeps { (x : List ℕ) → IsPrefix (first_params count csi_params.old) x
+        → IsAfter (first_params (count + 1) csi_params.new) (x ++ take result.0 rest.now) }
 {
     let (number, length, after) = read_number(rest, any);
     put_integer(csi_params, count, number);
@@ -154,8 +151,8 @@ fn put_mark(csi_params: &mut [EscEntry], count: usize, b: u8, any: bool) -> bool
     requires room { count < length csi_params.old }
     ensures some { result ≡ true → 0 < b }
     ensures mark { result ≡ true → (x : List ℕ)
-        → IsAfter (map param_of (take count csi_params.old)) x
-        → IsPrefix (map param_of (take (count + 1) csi_params.new)) (x ++ b ∷ []) }
+        → IsAfter (first_params count csi_params.old) x
+        → IsPrefix (first_params (count + 1) csi_params.new) (x ++ b ∷ []) }
     ensures other { result ≡ false → csi_params.new ≡ csi_params.old }
 {
     if b == b';' {
@@ -176,7 +173,7 @@ fn put_mark(csi_params: &mut [EscEntry], count: usize, b: u8, any: bool) -> bool
 fn put_private_prefix(csi_params: &mut [EscEntry], rest: &[u8]) -> usize
     requires { 0 < length csi_params.old }
     ensures few { (result ≤ length rest.now) × (result ≤ 1) }
-    ensures keeps { IsPrefix (map param_of (take result csi_params.new)) (take result rest.now) }
+    ensures keeps { IsPrefix (first_params result csi_params.new) (take result rest.now) }
 {
     if rest.is_empty() {
         return 0;
@@ -196,13 +193,13 @@ fn put_field(csi_params: &mut [EscEntry], count: usize, rest: &[u8], any: bool) 
     requires some { 0 < length rest.now }
     ensures few { (result.length ≤ length rest.now) × (result.count ≤ count + 2) }
     ensures goes_on { result.goes_on ≡ true → (0 < result.length) × ((x : List ℕ)
-        → IsPrefix (map param_of (take count csi_params.old)) x
-        → IsPrefix (map param_of (take result.count csi_params.new)) (x
-        ++ take result.length rest.now)) }
+        → IsPrefix (first_params count csi_params.old) x
+        → IsPrefix (first_params result.count csi_params.new)
+        (x ++ take result.length rest.now)) }
     ensures ends { result.goes_on ≡ false → (x : List ℕ)
-        → IsPrefix (map param_of (take count csi_params.old)) x
-        → IsAfter (map param_of (take result.count csi_params.new)) (x
-        ++ take result.length rest.now) }
+        → IsPrefix (first_params count csi_params.old) x
+        → IsAfter (first_params result.count csi_params.new)
+        (x ++ take result.length rest.now) }
     ensures after { IsFollowed rest.now result.length result.after }
 {
     if b'0' <= rest[0] && rest[0] <= b'9' {
@@ -255,8 +252,8 @@ pub fn read_body(csi_params: &mut [EscEntry], rest: &[u8], any: bool) -> Body
     requires { length csi_params.old ≡ 256 }
     ensures few { result.length ≤ length rest.now }
     ensures count { result.count ≤ 256 }
-    ensures keeps { IsShort (map param_of (take result.count csi_params.new)) (take result.length
-        rest.now) }
+    ensures keeps { IsShort (first_params result.count csi_params.new)
+        (take result.length rest.now) }
     ensures after { IsFollowed rest.now result.length result.after }
 {
     let mut count = put_private_prefix(csi_params, rest);
