@@ -239,6 +239,10 @@ next_event = _short.escape_stream_next
 next_event.argtypes = (c_void_p, c_void_p, c_size_t, c_void_p, c_size_t, c_void_p)
 next_event.restype = c_size_t
 
+is_ground = _short.escape_stream_is_ground
+is_ground.argtypes = (POINTER(RawParser),)
+is_ground.restype = c_bool
+
 control_function = _short.escape_stream_function
 control_function.argtypes = (c_ubyte, c_ubyte, c_ubyte, c_size_t, POINTER(RawFunction))
 control_function.restype = c_bool

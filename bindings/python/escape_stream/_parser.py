@@ -43,6 +43,10 @@ class Parser:
             found.append(self._noted(piece, at))
             at += taken
 
+    def is_ground(self) -> bool:
+        """Returns whether no character, sequence or string of the stream so far is unfinished."""
+        return bool(_library.is_ground(byref(self._raw)))
+
     def _noted(self, piece: bytes, at: int) -> Event:
         """Returns the event of a call that was given the bytes of the piece from a place on."""
         event = self._event

@@ -46,6 +46,27 @@ def test_more_entries_than_are_kept() -> None:
     assert isinstance(cut, Csi) and cut.has_more
 
 
+# A piece, and whether nothing is unfinished after it.
+PIECES: list[tuple[bytes, bool]] = [
+    (b"a", True),
+    (b"\x1b", False),
+    (b"[1;3", False),
+    (b"1m", True),
+    (b"\xc3", False),
+    (b"\xa9", True),
+    (b"\x1b]0;t", False),
+    (b"\x07", True),
+]
+
+
+def test_ground() -> None:
+    parser = Parser()
+    assert parser.is_ground()
+    for piece, wanted in PIECES:
+        parser.feed(piece)
+        assert parser.is_ground() == wanted
+
+
 def test_limits() -> None:
     stream = b"\x1b]0;ab\x07\x1b]0;abc\x07c\x1bP12345qdata\x1b\\"
     wanted = [Osc(b"0;ab"), LimitPassed(), Text("c"), LimitPassed(), ST]

@@ -75,6 +75,7 @@ extern "C" {
         length: usize,
         event: *mut Event,
     ) -> usize;
+    fn escape_stream_is_ground(parser: *const Parser) -> bool;
 }
 
 #[cfg(feature = "oneshot")]
@@ -350,13 +351,11 @@ pub struct Parser {
     has_failed: bool,
 }
 
-// The number of a parser between sequences: `GROUND` of `esc_lent`.
-const GROUND: u32 = 0;
-
 impl Parser {
     /// Whether no sequence, no string and no character is unfinished.
     pub fn is_ground(&self) -> bool {
-        self.state == GROUND && self.pending == 0
+        // SAFETY: the reference is what the type asks for, and the call reads alone.
+        unsafe { escape_stream_is_ground(self) }
     }
 }
 

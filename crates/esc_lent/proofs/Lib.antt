@@ -20,3 +20,4 @@ pub mod Notable
 pub mod Noted
 pub mod Fewer
 pub mod PastLimit
+pub mod AtGround

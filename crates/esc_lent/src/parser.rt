@@ -1,10 +1,15 @@
 //! What a parser keeps between two calls, as numbers alone.
 #![tactic(auto)]
 
-ghost use Rattle.std.specs.Prelude.{List, ℕ, []};
+ghost use Rattle.std.specs.Prelude.{◌≡◌, ◌↔◌, List, ℕ, [], IsTrue, false, true};
+ghost use Rattle.esc_frame.specs.Events.{Event};
+ghost use Rattle.esc_frame.specs.Stream.{IsAtGround};
 ghost use Rattle.esc_lent.specs.States.{IsAt};
 
 use crate::event::EscEntry;
+use crate::numbers::{pending_in, state_of};
+use esc_frame::machine::State;
+use esc_frame::utf8::sequence::Pending;
 
 /// A parser, in the caller's memory. Its fields are its own: a caller reads none and writes none.
 #[repr(C)]
@@ -66,6 +71,22 @@ impl EscParser {
             queued_kind: 0,
             queued_value: 0,
             has_failed: false,
+        }
+    }
+
+    /// Whether no character, sequence or string of what was fed is unfinished. After a failure it
+    /// is false.
+    pub fn is_ground(&self) -> bool
+        ensures ground { (s : List ℕ) (es : List Event) (memory : List ℕ)
+            → IsAt s es self.now memory → IsTrue result ↔ IsAtGround s }
+        ensures failed { self.now.has_failed ≡ true → result ≡ false }
+    {
+        if self.has_failed {
+            return false;
+        }
+        match (state_of(self.state), pending_in(self)) {
+            (State::Ground, Pending::Nothing) => true,
+            _ => false,
         }
     }
 }

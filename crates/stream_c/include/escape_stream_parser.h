@@ -125,6 +125,12 @@ void escape_stream_begin(struct escape_stream_parser *parser);
 size_t escape_stream_next(struct escape_stream_parser *parser, uint8_t *buffer, size_t buffer_length, const uint8_t *bytes,
                           size_t length, struct escape_stream_event *event);
 
+/*
+ * Whether no character, sequence or string of the stream so far is unfinished: the events of what follows are then those of a
+ * stream of its own. After ESCAPE_STREAM_FAILED it is false.
+ */
+bool escape_stream_is_ground(const struct escape_stream_parser *parser);
+
 /* The text of an event: `event->length` bytes in the bytes of the call, or in the upper half of the buffer, up to the next call. */
 static inline const uint8_t *escape_stream_text(const struct escape_stream_event *event, const uint8_t *buffer,
                                                 size_t buffer_length, const uint8_t *bytes)

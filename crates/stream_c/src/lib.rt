@@ -4,7 +4,9 @@
 //! `include/escape_stream_parser.h` declares the calls for C. The archive needs no other.
 #![tactic(auto)]
 
-ghost use Rattle.std.specs.Prelude.{ℕ, List, []};
+ghost use Rattle.std.specs.Prelude.{◌≡◌, ◌↔◌, ℕ, List, [], IsTrue, false, true};
+ghost use Rattle.esc_frame.specs.Events.{Event};
+ghost use Rattle.esc_frame.specs.Stream.{IsAtGround};
 ghost use Rattle.esc_lent.specs.States.{IsAt, lower};
 ghost use Rattle.esc_lent.specs.Next.{Next, NeverFails, halves};
 
@@ -40,4 +42,15 @@ pub extern "C" fn escape_stream_next(
     ensures sound { NeverFails parser.old (lower buffer.old) event.new }
 {
     next(parser, buffer, bytes, event)
+}
+
+/// Whether no character, sequence or string of the stream so far is unfinished. After a failure it
+/// is false.
+#[unsafe(no_mangle)]
+pub extern "C" fn escape_stream_is_ground(parser: &EscParser) -> bool
+    ensures ground { (s : List ℕ) (es : List Event) (memory : List ℕ)
+        → IsAt s es parser.now memory → IsTrue result ↔ IsAtGround s }
+    ensures failed { parser.now.has_failed ≡ true → result ≡ false }
+{
+    parser.is_ground()
 }
