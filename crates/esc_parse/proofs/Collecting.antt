@@ -1,14 +1,20 @@
 -- What a list of actions is given, one after another or as a run.
-use Rattle.std.proofs.Common.{ℕ, ◌≡◌, ◌<◌, ◌+◌, List, [], ◌∷◌, ◌++◌, length, map, refl, ap, sym, ◌∙◌, append_assoc, inl, inr, arith, Result, Ok, Err}
+use Rattle.std.proofs.Common.{ℕ, ◌≡◌, ◌<◌, ◌+◌, List, [], ◌∷◌, ◌++◌, length, map, refl, ap, sym, ◌∙◌, append_assoc, inl, inr, arith}
 use Rattle.std.proofs.lemmas.List.{append-nil, length-append, length-map, map-append}
+use Rattle.std.proofs.Common.{Option, Some, None, Result, Ok, Err, subst}
+use Rattle.std.proofs.lemmas.Result.{IfErr-at_err, IfOk-at_ok}
 use Rattle.std.specs.List.{FoldsTo}
+use Rattle.std.specs.Option.{option_map}
+use Rattle.esc_frame.specs.declared.error.ParseError.{ParseError}
+use Rattle.esc_actions.specs.Writable.{AreHandedOut}
+use Rattle.esc_parse.proofs.Errors.{ok_is_no_error, same_error}
+use Rattle.esc_parse.specs.Calls.{FindsFirstList, FindsFirsts}
+use Rattle.esc_parse.specs.Firsts.{IsFirstStop}
+use Rattle.esc_parse.specs.declared.parser.Parser.{Parser}
 use Rattle.esc_actions.specs.declared.action.Action.{Action}
 use Rattle.esc_actions.specs.Values.{Value, value_of}
-use Rattle.esc_frame.specs.declared.error.ParseError.{ParseError}
-use Rattle.esc_parse.specs.Calls.{IsRefused, IsStopped}
 use Rattle.esc_parse.specs.Collected.{Adds, AddsSome, Gathers}
 use Rattle.esc_parse.specs.Given.{At, StopsAt}
-use Rattle.esc_parse.specs.declared.parser.Parser.{Parser}
 use Rattle.esc_parse.specs.declared.sink.Collect.{Collect}
 use Rattle.memory.specs.Refusals.{Refused}
 
@@ -89,8 +95,44 @@ gathers_some own p (v ∷ vs) q (inr (inr (j, (a, is, t), rest))) =
     adds_some p.actions.items j.actions.items q.actions.items (v ∷ []) vs
     (adds_one _ _ a v t is) (gathers_some own j vs q rest)
 
--- a call that stopped for a reason was refused memory where that is one
-pub stopped_refused : {A T : Type 0} (r : Result T ParseError) (p : Parser A) (X Y : Type 0)
-    → (X → Y × Refused A) → IsStopped r p X → IsRefused r p Y
-stopped_refused (Ok x) p X Y f w = tt
-stopped_refused (Err e) p X Y f w = let why = f w.2 in (w.0, w.1, why.0, why.1)
+-- what was appended to no actions is a list of its own
+pub lists_found : {A L : Type 0} (items : L → List (Action A)) (old : Parser A) (b : List ℕ)
+    (had : List (Action A)) (r : Result (Option ℕ) ParseError) (o : Option ℕ) (new : Parser A)
+    (l : L) → r ≡ Ok o → had ≡ [] → FindsFirsts old b had r new (items l)
+    → FindsFirstList items old b (Ok (option_map (λ n. (l, n)) o)) new
+lists_found {A} items old b had r (Some n) new l is none found =
+    let P : List (Value A) → Type 0 = λ vs. AreHandedOut vs in record {
+      count = IfOk-at_ok _ is found.count;
+      some = λ limit s h.
+          let w = IfOk-at_ok _ is (found.some limit s h) in
+          let Q : List (Value A) → Type 0 = λ vs. IsFirstStop limit s b vs n in
+          (w.0, subst Q (sym (adds_all _ _ _ none w.2)) w.1);
+      handed_out = λ limit s h.
+          let w = IfOk-at_ok _ is (found.some limit s h) in
+          subst P (sym (adds_all _ _ _ none w.2)) (found.handed_out limit s h n);
+      none = λ limit s h. tt;
+      refused = λ limit s h. tt;
+      failed = λ h. absurd (ok_is_no_error _ _ _ is (found.failed h).0);
+    }
+lists_found items old b had r None new l is none found = record {
+  count = tt;
+  some = λ limit s h. tt;
+  handed_out = λ limit s h. tt;
+  none = λ limit s h. let w = IfOk-at_ok _ is (found.none limit s h) in (w.0, w.2);
+  refused = λ limit s h. tt;
+  failed = λ h. absurd (ok_is_no_error _ _ _ is (found.failed h).0);
+}
+
+pub list_refused : {A L : Type 0} (items : L → List (Action A)) (old : Parser A) (b : List ℕ)
+    (had all : List (Action A)) (r : Result (Option ℕ) ParseError) (e : ParseError)
+    (new : Parser A) → r ≡ Err e → FindsFirsts old b had r new all
+    → FindsFirstList items old b (Err e) new
+list_refused items old b had all r e new is found = record {
+  count = tt;
+  some = λ limit s h. tt;
+  handed_out = λ limit s h. tt;
+  none = λ limit s h. tt;
+  refused = λ limit s h.
+      let f = IfErr-at_err _ is (found.refused limit s h) in (f.0, f.1, f.2.0, f.3);
+  failed = λ h. let f = found.failed h in (same_error _ _ _ is f.0, f.1);
+}

@@ -10,6 +10,6 @@ pub mod DataLimits
 pub mod DataRuns
 pub mod Sixels
 pub mod Images
-pub mod Paired
+pub mod Errors
 pub mod Alone
 pub mod DataSkips

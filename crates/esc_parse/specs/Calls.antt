@@ -1,5 +1,6 @@
 -- What a call of a parser promises, in the words that its clauses share.
-use Rattle.std.specs.Prelude.{ℕ, ◌≡◌, ◌<◌, ◌≤◌, ◌+◌, ◌⊎◌, List, [], ◌++◌, length, take, Option, Result, Err, IfErr, IfNone, IfOk, IfSome}
+use Rattle.std.specs.Prelude.{ℕ, ◌≡◌, ◌<◌, ◌≤◌, ◌+◌, ◌⊎◌, List, [], ◌++◌, length, map, take, Option, Result, Err, IfErr, IfNone, IfOk, IfSome}
+use Rattle.std.specs.List.{FoldsTo}
 use Rattle.esc_frame.specs.Events.{Awaits}
 use Rattle.esc_frame.specs.Memory.{MayTake}
 use Rattle.esc_frame.specs.declared.error.ParseError.{ParseError}
@@ -10,9 +11,10 @@ use Rattle.esc_actions.specs.Writable.{AreHandedOut, IsHandedOut}
 use Rattle.esc_actions.specs.declared.action.Action.{Action}
 use Rattle.esc_parse.specs.Collected.{Adds, AddsSome}
 use Rattle.esc_parse.specs.Fed.{IsBroken, WasFedWithin}
-use Rattle.esc_parse.specs.Firsts.{IsFirst, IsFirstStop, IsStop}
+use Rattle.esc_parse.specs.Firsts.{IsFirst, IsFirstStop, IsSilentWithin, IsStop}
 use Rattle.esc_parse.specs.Given.{AnyAt, At, StopsAt}
 use Rattle.esc_parse.specs.declared.parser.Parser.{Parser}
+use Rattle.esc_parse.specs.declared.sink.Sink.{Ghosts as Sinks}
 use Rattle.memory.specs.Refusals.{Refused}
 
 -- this holds of each stream that the parser may have been fed, under its limit
@@ -94,6 +96,32 @@ IsSomeOf n b = (0 < n) × (n ≤ length b)
 abbrev pub IsTaken : ℕ → List ℕ → Type 0
 IsTaken n b = (n ≤ length b) × (0 < length b → 0 < n)
 
+-- What a call promises that takes a prefix of the bytes b: `got` holds of the values that it
+-- yields, `nothing` where no byte was taken, and `stopped` where memory was refused.
+pub record TakesPrefix {A : Type 0} (old : Parser A) (b : List ℕ) (result : Result ℕ ParseError)
+    (new : Parser A) (nothing : Type 0) (got : List (Value A) → Type 0)
+    (stopped : Option ℕ → List ℕ → Type 0) : Type 0 where
+  -- the length of the prefix
+  pub count : IfOk result (λ n. IsTaken n b)
+  -- without bytes none is taken
+  pub empty : length b ≡ 0 → nothing
+  -- it was fed, and what it yields was got
+  pub given : After old (λ limit s. IfOk result (λ n. WasFedWithin limit (s ++ take n b) new
+      × got (yield_within limit s (take n b))))
+  -- all but its last byte yield nothing, and leave a segment unfinished
+  pub quiet : After old (λ limit s. IfOk result (λ n. IsSilentWithin A limit s b n))
+  -- an error says that memory was refused
+  pub refused : After old (λ limit s. IsStopped result new (stopped limit s))
+  -- a parser that has failed says so
+  pub failed : IsBroken old → (result ≡ Err Failed) × IsBroken new × nothing
+
+-- where a sink gets what the prefix yields, and is handed back
+abbrev pub GivesPrefix : {A S : Type 0} → Sinks S (Action A) → Parser A → List ℕ → S
+    → Result ℕ ParseError → Parser A → S → Type 0
+GivesPrefix T old b sink result new back =
+    TakesPrefix old b result new (back ≡ sink) (λ vs. FoldsTo (At value_of T.takes) sink vs back)
+    (λ limit s. StopsIn T.takes T.refuses limit s b sink back)
+
 -- What a call for the first action promises, where it is given the bytes b.
 pub record FindsFirst {A : Type 0} (old : Parser A) (b : List ℕ)
     (result : Result (Option (Action A × ℕ)) ParseError) (new : Parser A) : Type 0 where
@@ -108,6 +136,26 @@ pub record FindsFirst {A : Type 0} (old : Parser A) (b : List ℕ)
   pub none : After old (λ limit s. IfNoneFound result (YieldsNone limit s b new))
   -- an error says that memory was refused
   pub refused : After old (λ limit s. IsRefused result new (MayTake (s ++ b)))
+  -- a parser that has failed says so
+  pub failed : StaysBroken old result new
+
+-- What a call promises that makes a list of the first actions, where it is given the bytes b.
+pub record FindsFirstList {A L : Type 0} (items : L → List (Action A)) (old : Parser A) (b : List ℕ)
+    (result : Result (Option (L × ℕ)) ParseError) (new : Parser A) : Type 0 where
+  -- they were found in a prefix of the bytes, of this length
+  pub count : IfFound result (λ x. IsSomeOf x.1 b)
+  -- this prefix, which was fed, is the shortest that adds an action and leaves no segment
+  -- unfinished, and they are the actions that it adds
+  pub some : After old (λ limit s. IfFound result (λ x. WasFedWithin limit (s ++ take x.1 b) new
+      × IsFirstStop limit s b (map value_of (items x.0)) x.1))
+  -- they can be written, but for the exceptions
+  pub handed_out : After old
+      (λ limit s. IfFound result (λ x. AreHandedOut (map value_of (items x.0))))
+  -- where none were found all bytes were fed, and no prefix is such
+  pub none : After old (λ limit s. IfNoneFound result (WasFedWithin limit (s ++ b) new
+      × ((k : ℕ) → k ≤ length b → IsStop A limit s (take k b) → ⊥)))
+  -- an error says that memory was refused
+  pub refused : After old (λ limit s. IsRefused result new (MayWant A limit s b))
   -- a parser that has failed says so
   pub failed : StaysBroken old result new
 

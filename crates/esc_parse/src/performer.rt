@@ -4,7 +4,8 @@ ghost use Rattle.std.specs.List.{FoldsTo};
 ghost use Rattle.esc_values.specs.Clear.{parts_of};
 ghost use Rattle.esc_sequences.specs.Csis.{csi_of, csi_value};
 ghost use Rattle.esc_frame.specs.Events.{Awaits};
-ghost use Rattle.esc_parse.specs.Given.{AnyAt, At, Gives, MayReceive, StopsAt};
+ghost use Rattle.esc_parse.specs.Given.{AnyAt, At, StopsAt};
+ghost use Rattle.esc_parse.specs.Sinks.{Gave, MayGive, StaysReady};
 ghost use Rattle.esc_actions.specs.Values.{Mode, after, csi, datum, given, lone, osc, value_of, wants_memory};
 ghost use Rattle.esc_osc.specs.Reading.{meaning as command_meant};
 ghost use Rattle.esc_osc.specs.declared.command.OperatingSystemCommand.{OperatingSystemCommand};
@@ -48,11 +49,10 @@ fn give_all<A: Allocator, S: Sink<Action<A>>>(
     sink: &mut S,
     values: Vec<CSI<A>, A>,
 ) -> Result<(), AllocError>
-    requires { MayReceive S.is_ready S.may S.takes sink.old
-        (map csi (map csi_value values.items)) }
-    ensures ready { S.is_ready sink.old → OnOk result (S.is_ready sink.new) }
-    ensures given { Gives (Refused A) S.takes S.refuses result sink.old
-        (map csi (map csi_value values.items)) sink.new }
+    requires { MayGive S.Sink sink.old (map csi (map csi_value values.items)) }
+    ensures ready { StaysReady S.Sink sink.old result sink.new }
+    ensures given { Gave S.Sink (Refused A) sink.old
+        (map csi (map csi_value values.items)) result sink.new }
 {
     for value in values {
         sink.receive(Action::CSI(value))?;
@@ -70,11 +70,10 @@ fn give_sequence<A: Allocator + Copy, S: Sink<Action<A>>>(
     parameters_truncated: bool,
     byte: u8,
 ) -> Result<(), AllocError>
-    requires { MayReceive S.is_ready S.may S.takes sink.old
-        (map csi (csi_of params.now parameters_truncated byte)) }
-    ensures ready { S.is_ready sink.old → OnOk result (S.is_ready sink.new) }
-    ensures given { Gives (Refused A) S.takes S.refuses result sink.old
-        (map csi (csi_of params.now parameters_truncated byte)) sink.new }
+    requires { MayGive S.Sink sink.old (map csi (csi_of params.now parameters_truncated byte)) }
+    ensures ready { StaysReady S.Sink sink.old result sink.new }
+    ensures given { Gave S.Sink (Refused A) sink.old
+        (map csi (csi_of params.now parameters_truncated byte)) result sink.new }
 {
     match CSI::parse_one(alloc, params, parameters_truncated, byte) {
         Ok(Some(value)) => sink.receive(Action::CSI(value)),
@@ -92,11 +91,10 @@ fn give_several<A: Allocator + Copy, S: Sink<Action<A>>>(
     parameters_truncated: bool,
     byte: u8,
 ) -> Result<(), AllocError>
-    requires { MayReceive S.is_ready S.may S.takes sink.old
-        (map csi (csi_of params.now parameters_truncated byte)) }
-    ensures ready { S.is_ready sink.old → OnOk result (S.is_ready sink.new) }
-    ensures given { Gives (Refused A) S.takes S.refuses result sink.old
-        (map csi (csi_of params.now parameters_truncated byte)) sink.new }
+    requires { MayGive S.Sink sink.old (map csi (csi_of params.now parameters_truncated byte)) }
+    ensures ready { StaysReady S.Sink sink.old result sink.new }
+    ensures given { Gave S.Sink (Refused A) sink.old
+        (map csi (csi_of params.now parameters_truncated byte)) result sink.new }
 {
     match CSI::parse(alloc, params, parameters_truncated, byte) {
         Ok(values) => give_all(sink, values),
@@ -104,68 +102,29 @@ fn give_several<A: Allocator + Copy, S: Sink<Action<A>>>(
     }
 }
 
-// Gives the sink what a control sequence means, with the action of one short rendition made here.
-#[inline]
-fn give_made<A: Allocator + Copy, S: Sink<Action<A>>>(
-    sink: &mut S,
-    alloc: A,
-    params: &[CsiParam],
-    parameters_truncated: bool,
-    byte: u8,
-) -> Result<(), AllocError>
-    requires { MayReceive S.is_ready S.may S.takes sink.old
-        (map csi (csi_of params.now parameters_truncated byte)) }
-    ensures ready { S.is_ready sink.old → OnOk result (S.is_ready sink.new) }
-    ensures given { Gives (Refused A) S.takes S.refuses result sink.old
-        (map csi (csi_of params.now parameters_truncated byte)) sink.new }
-{
-    match short_rendition(params, parameters_truncated, byte) {
-        Some(sgr) => sink.receive(Action::CSI(CSI::Sgr(sgr))),
-        None => give_sequence(sink, alloc, params, parameters_truncated, byte),
-    }
-}
-
-// The same, where the sink may take it from its parameters.
+// The same, where the sink may take it from its parameters. The action of one short rendition is
+// made here.
 #[inline(never)]
-fn give_asked<A: Allocator + Copy, S: Sink<Action<A>>>(
+fn give_csi<A: Allocator + Copy, S: Sink<Action<A>>>(
     sink: &mut S,
     alloc: A,
     params: &[CsiParam],
     parameters_truncated: bool,
     byte: u8,
 ) -> Result<(), AllocError>
-    requires { MayReceive S.is_ready S.may S.takes sink.old
-        (map csi (csi_of params.now parameters_truncated byte)) }
-    ensures ready { S.is_ready sink.old → OnOk result (S.is_ready sink.new) }
-    ensures given { Gives (Refused A) S.takes S.refuses result sink.old
-        (map csi (csi_of params.now parameters_truncated byte)) sink.new }
+    requires { MayGive S.Sink sink.old (map csi (csi_of params.now parameters_truncated byte)) }
+    ensures ready { StaysReady S.Sink sink.old result sink.new }
+    ensures given { Gave S.Sink (Refused A) sink.old
+        (map csi (csi_of params.now parameters_truncated byte)) result sink.new }
 {
     match sink.receive_sequence(params, parameters_truncated, byte) {
         Ok(true) => Ok(()),
-        Ok(false) => give_made(sink, alloc, params, parameters_truncated, byte),
+        Ok(false) => match short_rendition(params, parameters_truncated, byte) {
+            Some(sgr) => sink.receive(Action::CSI(CSI::Sgr(sgr))),
+            None => give_sequence(sink, alloc, params, parameters_truncated, byte),
+        },
         Err(error) => Err(error),
     }
-}
-
-// The same, where the sink may drop it by its final byte.
-#[inline]
-fn give_csi_params<A: Allocator + Copy, S: Sink<Action<A>>>(
-    sink: &mut S,
-    alloc: A,
-    params: &[CsiParam],
-    parameters_truncated: bool,
-    byte: u8,
-) -> Result<(), AllocError>
-    requires { MayReceive S.is_ready S.may S.takes sink.old
-        (map csi (csi_of params.now parameters_truncated byte)) }
-    ensures ready { S.is_ready sink.old → OnOk result (S.is_ready sink.new) }
-    ensures given { Gives (Refused A) S.takes S.refuses result sink.old
-        (map csi (csi_of params.now parameters_truncated byte)) sink.new }
-{
-    if !parameters_truncated && sink.drops_sequences(byte) {
-        return Ok(());
-    }
-    give_asked(sink, alloc, params, parameters_truncated, byte)
 }
 
 // Gives the sink a command that was made, where there was memory for it.
@@ -177,10 +136,10 @@ fn give_command<A: Allocator + Copy, S: Sink<Action<A>>>(
     requires { S.is_ready sink.old ⊎ ((c : OperatingSystemCommand A)
         × IfOk command (λ d. d ≡ c)
         × Awaits (AnyAt value_of S.may) (At value_of S.takes) sink.old (osc c ∷ [])) }
-    ensures ready { S.is_ready sink.old → OnOk result (S.is_ready sink.new) }
+    ensures ready { StaysReady S.Sink sink.old result sink.new }
     ensures given { (c : OperatingSystemCommand A) → IfOk command (λ d. d ≡ c)
         → OnErr command (Refused A)
-        → Gives (Refused A) S.takes S.refuses result sink.old (osc c ∷ []) sink.new }
+        → Gave S.Sink (Refused A) sink.old (osc c ∷ []) result sink.new }
 {
     match command {
         Ok(command) => match Boxed::new(alloc, command) {
@@ -197,11 +156,10 @@ fn give_text<A: Allocator + Copy, S: Sink<Action<A>>>(
     alloc: A,
     text: &[u8],
 ) -> Result<(), AllocError>
-    requires { MayReceive S.is_ready S.may S.takes sink.old
-        (osc (command_meant (parts_of text.now)) ∷ []) }
-    ensures ready { S.is_ready sink.old → OnOk result (S.is_ready sink.new) }
-    ensures given { Gives (Refused A) S.takes S.refuses result sink.old
-        (osc (command_meant (parts_of text.now)) ∷ []) sink.new }
+    requires { MayGive S.Sink sink.old (osc (command_meant (parts_of text.now)) ∷ []) }
+    ensures ready { StaysReady S.Sink sink.old result sink.new }
+    ensures given { Gave S.Sink (Refused A) sink.old
+        (osc (command_meant (parts_of text.now)) ∷ []) result sink.new }
 {
     match sink.receive_command(text) {
         Ok(true) => Ok(()),
@@ -212,11 +170,9 @@ fn give_text<A: Allocator + Copy, S: Sink<Action<A>>>(
 
 // Gives the sink these bytes of the data of a mode, one after another.
 fn give_data<A: Allocator, S: Sink<Action<A>>>(sink: &mut S, bytes: &[u8]) -> Result<(), AllocError>
-    requires { MayReceive S.is_ready S.may S.takes sink.old
-        (map datum bytes.now) }
-    ensures ready { S.is_ready sink.old → OnOk result (S.is_ready sink.new) }
-    ensures given { Gives ⊥ S.takes S.refuses result sink.old
-        (map datum bytes.now) sink.new }
+    requires { MayGive S.Sink sink.old (map datum bytes.now) }
+    ensures ready { StaysReady S.Sink sink.old result sink.new }
+    ensures given { Gave S.Sink ⊥ sink.old (map datum bytes.now) result sink.new }
 {
     for byte in bytes {
         match sink.receive(Action::DeviceControl(DeviceControlMode::Data(*byte))) {
@@ -347,7 +303,10 @@ impl<A: Allocator + Copy, S: Sink<Action<A>>> VTActor for Performer<S, A> {
         parameters_truncated: bool,
         byte: u8,
     ) -> Result<(), AllocError> {
-        give_csi_params(
+        if !parameters_truncated && self.sink.drops_sequences(byte) {
+            return Ok(());
+        }
+        give_csi(
             &mut self.sink,
             self.alloc,
             params,

@@ -162,8 +162,8 @@ pub trait Sink<T: FromChar> {
     }
 
     /// Whether every control sequence with this final byte, whatever its parameters, would leave it
-    /// as it is. Where it returns true, as it does not by default, none that kept all its parameters
-    /// is given to [`receive_sequence`](Sink::receive_sequence), or made.
+    /// as it is. Where it returns true, as it does not by default, none that kept all parameters is
+    /// made, or given to [`receive_sequence`](Sink::receive_sequence).
     #[inline]
     fn drops_sequences(&self, _control: u8) -> bool
         ensures { IsTrue result → (es : List CsiParam) → FoldsTo (By T.is_sequence takes)

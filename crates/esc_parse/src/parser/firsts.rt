@@ -2,16 +2,13 @@
 //! no segment is unfinished.
 ghost use Rattle.std.specs.Prelude.{◌⊎◌, ◌≡◌, ◌<◌, ◌≤◌, ◌+◌, ℕ, [], ◌∷◌, ◌++◌, IfOk, IfSome, IsTrue, None, Option, Some, length, map, take};
 ghost use Rattle.std.specs.Option.{option_map};
-ghost use Rattle.esc_frame.specs.Stream.{IsQuietWithin};
-ghost use Rattle.esc_parse.specs.Calls.{After, AfterMore, FindsFirst, FindsFirsts, IfFound, IfNoneFound, IsRefused, IsSomeOf, IsStopped, IsTaken, MayParse, StaysBroken, StopsIn, Yields};
+ghost use Rattle.esc_parse.specs.Calls.{After, AfterMore, FindsFirst, FindsFirstList, FindsFirsts, GivesPrefix, MayParse, TakesPrefix, Yields};
 ghost use Rattle.esc_parse.specs.Collected.{Adds, AddsSome};
-ghost use Rattle.esc_parse.specs.Firsts.{IsFirstStop, IsSilentWithin, IsStop, first};
+ghost use Rattle.esc_parse.specs.Firsts.{IsStop, first};
 ghost use Rattle.esc_frame.specs.Memory.{MayTake};
-ghost use Rattle.esc_parse.specs.Given.{At};
-ghost use Rattle.esc_parse.specs.Paired.{with_value};
 ghost use Rattle.esc_actions.specs.Meaning.{MayWant, yield_within};
 ghost use Rattle.esc_actions.specs.Values.{control, value_of};
-ghost use Rattle.esc_actions.specs.Writable.{AreHandedOut};
+ghost use Rattle.memory.specs.Refusals.{Refused};
 
 use crate::parser::Parser;
 use crate::performer::Performer;
@@ -22,19 +19,18 @@ use esc_frame::runs::printing::first_char;
 use std::alloc::Allocator;
 use std::mem;
 
-// How many bytes were taken, with what came of them.
+// The list, with how many bytes it is of, where it is of some.
 #[inline]
-fn paired<V: Drop>(taken: Result<usize, ParseError>, value: V) -> Result<(usize, V), ParseError>
-    ensures { result ≡ with_value value taken }
+fn listed<L: Drop>(list: L, found: Option<usize>) -> Option<(L, usize)>
+    ensures { result ≡ option_map (λ n. (list, n)) found }
 {
-    match taken {
-        Ok(taken) => Ok((taken, value)),
-        Err(error) => Err(error),
+    match found {
+        Some(n) => Some((list, n)),
+        None => None,
     }
 }
 
 impl<A: Allocator + Copy> Parser<A> {
-    ghost use Rattle.std.specs.List.{FoldsTo};
     ghost use Rattle.esc_parse.specs.Fed.{IsBroken, WasFedWithin};
 
     // Gives the sink, in order, the actions that a prefix of `bytes` adds, and hands it back, with
@@ -47,18 +43,7 @@ impl<A: Allocator + Copy> Parser<A> {
         sink: S,
     ) -> (Result<usize, ParseError>, S)
         requires { S.is_ready sink ⊎ MayParse S.may S.takes self.old sink bytes.now }
-        ensures count { IfOk result.0 (λ n. IsTaken n bytes.now) }
-        ensures empty { length bytes.now ≡ 0 → result.1 ≡ sink }
-        ensures given { After self.old (λ limit s. IfOk result.0 (λ n.
-            WasFedWithin limit (s ++ take n bytes.now) self.new
-            × FoldsTo (At value_of S.takes) sink (yield_within limit s (take n bytes.now))
-            result.1)) }
-        ensures quiet { After self.old (λ limit s. IfOk result.0
-            (λ n. IsQuietWithin limit s bytes.now n)) }
-        ensures refused { After self.old (λ limit s. IsStopped result.0 self.new
-            (StopsIn S.takes S.refuses limit s bytes.now sink result.1)) }
-        ensures failed { IsBroken self.old
-            → (result.0 ≡ Err ParseError.Failed) × IsBroken self.new × (result.1 ≡ sink) }
+        ensures { GivesPrefix S.Sink self.old bytes.now sink result.0 self.new result.1 }
     {
         let mut performer = Performer {
             sink,
@@ -87,18 +72,7 @@ impl<A: Allocator + Copy> Parser<A> {
         sink: S,
     ) -> (Result<usize, ParseError>, S)
         requires { S.is_ready sink ⊎ MayParse S.may S.takes self.old sink bytes.now }
-        ensures count { IfOk result.0 (λ n. IsTaken n bytes.now) }
-        ensures empty { length bytes.now ≡ 0 → result.1 ≡ sink }
-        ensures given { After self.old (λ limit s. IfOk result.0 (λ n.
-            WasFedWithin limit (s ++ take n bytes.now) self.new
-            × FoldsTo (At value_of S.takes) sink (yield_within limit s (take n bytes.now))
-            result.1)) }
-        ensures quiet { After self.old (λ limit s. IfOk result.0
-            (λ n. IsSilentWithin A limit s bytes.now n)) }
-        ensures refused { After self.old (λ limit s. IsStopped result.0 self.new
-            (StopsIn S.takes S.refuses limit s bytes.now sink result.1)) }
-        ensures failed { IsBroken self.old
-            → (result.0 ≡ Err ParseError.Failed) × IsBroken self.new × (result.1 ≡ sink) }
+        ensures { GivesPrefix S.Sink self.old bytes.now sink result.0 self.new result.1 }
     {
         let n = self.unfinished.data_ahead(bytes);
         if n == 0 {
@@ -113,20 +87,13 @@ impl<A: Allocator + Copy> Parser<A> {
 
     // The first action that a prefix of `bytes` adds, where it adds one, and the length of the
     // prefix.
-    fn first_in(&mut self, bytes: &[u8]) -> Result<(usize, Option<Action<A>>), ParseError>
-        ensures count { IfOk result (λ x. IsTaken x.0 bytes.now) }
-        ensures empty { length bytes.now ≡ 0 → IfOk result (λ x. x.1 ≡ None) }
-        ensures given { After self.old (λ limit s. IfOk result (λ x.
-            WasFedWithin limit (s ++ take x.0 bytes.now) self.new
-            × (option_map value_of x.1 ≡ first (yield_within limit s (take x.0 bytes.now))))) }
-        ensures quiet { After self.old (λ limit s. IfOk result
-            (λ x. IsSilentWithin A limit s bytes.now x.0)) }
-        ensures refused { After self.old (λ limit s. IsRefused result self.new
-            (MayTake (s ++ bytes.now))) }
-        ensures failed { StaysBroken self.old result self.new }
+    fn first_in(&mut self, bytes: &[u8]) -> (Result<usize, ParseError>, Option<Action<A>>)
+        ensures { TakesPrefix self.old bytes.now result.0 self.new (result.1 ≡ None)
+            (λ vs. option_map value_of result.1 ≡ first vs)
+            (λ limit s. MayTake (s ++ bytes.now) × Refused A) }
     {
         let (taken, First { action }) = self.feed_some(bytes, First { action: None });
-        paired(taken, action)
+        (taken, action)
     }
 
     // The first action of the shortest prefix of `bytes` that adds one, and the length of the
@@ -137,15 +104,16 @@ impl<A: Allocator + Copy> Parser<A> {
         laws::yield_handed_out::<A>();
         let mut at = 0;
         'prefixes: loop {
-            match self.first_in(&bytes[at..]) {
-                Ok((taken, Some(action))) => return Ok(Some((action, at + taken))),
-                Ok((taken, None)) => {
-                    at += taken;
-                    if at == bytes.len() {
-                        return Ok(None);
-                    }
-                }
+            let (taken, action) = self.first_in(&bytes[at..]);
+            match taken {
+                Ok(taken) => at += taken,
                 Err(error) => return Err(error),
+            }
+            if let Some(action) = action {
+                return Ok(Some((action, at)));
+            }
+            if at == bytes.len() {
+                return Ok(None);
             }
         }
     }
@@ -185,30 +153,22 @@ impl<A: Allocator + Copy> Parser<A> {
         }
     }
 
-    // Appends the actions that a prefix of `bytes` adds, and returns the length of the prefix.
+    // Appends the actions that a prefix of `bytes` adds, and hands the list back with the length of
+    // the prefix.
+    #[inline]
     fn more_in(
         &mut self,
         bytes: &[u8],
-        actions: &mut Vec<Action<A>, A>,
-    ) -> Result<usize, ParseError>
-        ensures count { IfOk result (λ n. IsTaken n bytes.now) }
-        ensures empty { length bytes.now ≡ 0 → actions.new.items ≡ actions.old.items }
-        ensures given { After self.old (λ limit s. IfOk result (λ n.
-            WasFedWithin limit (s ++ take n bytes.now) self.new
-            × Adds actions.old.items (yield_within limit s (take n bytes.now))
-            actions.new.items)) }
-        ensures quiet { After self.old (λ limit s. IfOk result
-            (λ n. IsSilentWithin A limit s bytes.now n)) }
-        ensures refused { After self.old (λ limit s. IsRefused result self.new
-            (MayWant A limit s bytes.now
-            × AddsSome actions.old.items (yield_within limit s bytes.now) actions.new.items)) }
-        ensures failed { IsBroken self.old → (result ≡ Err ParseError.Failed) × IsBroken self.new
-            × (actions.new.items ≡ actions.old.items) }
+        actions: Vec<Action<A>, A>,
+    ) -> (Result<usize, ParseError>, Vec<Action<A>, A>)
+        ensures { TakesPrefix self.old bytes.now result.0 self.new
+            (result.1.items ≡ actions.items) (λ vs. Adds actions.items vs result.1.items)
+            (λ limit s. (MayWant A limit s bytes.now
+            × AddsSome actions.items (yield_within limit s bytes.now) result.1.items)
+            × Refused A) }
     {
-        let had = mem::replace(actions, Vec::new(self.alloc));
-        let (taken, Collect { actions: all }) = self.feed_some(bytes, Collect { actions: had });
-        *actions = all;
-        taken
+        let (taken, Collect { actions }) = self.feed_some(bytes, Collect { actions });
+        (taken, actions)
     }
 
     // Whether to stop here, with these actions, after the `had` of them that there were.
@@ -223,8 +183,35 @@ impl<A: Allocator + Copy> Parser<A> {
         actions.len() > had && self.framer.is_ground()
     }
 
-    // Appends the first actions, for which the list may have no room yet, out of the way of the code
-    // that appends one character.
+    // Appends the first actions, and hands the list back.
+    fn firsts_after(
+        &mut self,
+        bytes: &[u8],
+        mut actions: Vec<Action<A>, A>,
+    ) -> (Result<Option<usize>, ParseError>, Vec<Action<A>, A>)
+        ensures { FindsFirsts self.old bytes.now actions.items result.0 self.new result.1.items }
+    {
+        laws::yield_handed_out::<A>();
+        let had = actions.as_slice().len();
+        let mut at = 0;
+        'prefixes: loop {
+            let (taken, all) = self.more_in(&bytes[at..], actions);
+            actions = all;
+            match taken {
+                Ok(taken) => at += taken,
+                Err(error) => return (Err(error), actions),
+            }
+            if self.stops(had, actions.as_slice()) {
+                return (Ok(Some(at)), actions);
+            }
+            if at == bytes.len() {
+                return (Ok(None), actions);
+            }
+        }
+    }
+
+    // The same, in the caller's list, which may have no room yet, out of the way of the code that
+    // appends one character.
     #[inline(never)]
     fn firsts_of(
         &mut self,
@@ -234,21 +221,10 @@ impl<A: Allocator + Copy> Parser<A> {
         ensures { FindsFirsts self.old bytes.now actions.old.items result self.new
             actions.new.items }
     {
-        laws::yield_handed_out::<A>();
-        let had = actions.as_slice().len();
-        let mut at = 0;
-        'prefixes: loop {
-            match self.more_in(&bytes[at..], actions) {
-                Ok(taken) => at += taken,
-                Err(error) => return Err(error),
-            }
-            if self.stops(had, actions.as_slice()) {
-                return Ok(Some(at));
-            }
-            if at == bytes.len() {
-                return Ok(None);
-            }
-        }
+        let had = mem::replace(actions, Vec::new(self.alloc));
+        let (found, all) = self.firsts_after(bytes, had);
+        *actions = all;
+        found
     }
 
     /// Appends to the list all actions of the shortest prefix of `bytes` that adds one and leaves
@@ -300,23 +276,11 @@ impl<A: Allocator + Copy> Parser<A> {
         &mut self,
         bytes: &[u8],
     ) -> Result<Option<(Vec<Action<A>, A>, usize)>, ParseError>
-        ensures count { IfFound result (λ x. IsSomeOf x.1 bytes.now) }
-        ensures some { After self.old (λ limit s. IfFound result (λ x.
-            WasFedWithin limit (s ++ take x.1 bytes.now) self.new
-            × IsFirstStop limit s bytes.now (map value_of x.0.items) x.1)) }
-        ensures handed_out { After self.old (λ limit s. IfFound result
-            (λ x. AreHandedOut (map value_of x.0.items))) }
-        ensures none { After self.old (λ limit s. IfNoneFound result
-            (WasFedWithin limit (s ++ bytes.now) self.new
-            × ((k : ℕ) → k ≤ length bytes.now → IsStop A limit s (take k bytes.now) → ⊥))) }
-        ensures refused { After self.old (λ limit s. IsRefused result self.new
-            (MayWant A limit s bytes.now)) }
-        ensures failed { StaysBroken self.old result self.new }
+        ensures { FindsFirstList (λ l. l.items) self.old bytes.now result self.new }
     {
-        let mut actions = Vec::new(self.alloc);
-        match self.firsts_of(bytes, &mut actions) {
-            Ok(Some(n)) => Ok(Some((actions, n))),
-            Ok(None) => Ok(None),
+        let (found, actions) = self.firsts_after(bytes, Vec::new(self.alloc));
+        match found {
+            Ok(found) => Ok(listed(actions, found)),
             Err(error) => Err(error),
         }
     }

@@ -1,5 +1,6 @@
-use Rattle.std.proofs.Common.{sym, subst, take}
+use Rattle.std.proofs.Common.{sym, subst, take, rules}
 use Rattle.std.proofs.lemmas.Result.{IfErr-at_err, IfOk-at_ok}
+use Rattle.esc_parse.proofs.FirstsGiven.{quiet_silent}
 use Rattle.esc_parse.proofs.Lists.{on_err_at}
 use Rattle.esc_parse.proofs.Yields.{may_feed, performs_fed, performs_some}
 use Rattle.std.proofs.Math.Logic.{⊎_map}
@@ -11,32 +12,44 @@ use Rattle.esc_parse.specs.Given.{AnyAt, At}
 use Rattle.esc_actions.specs.Meaning.{mode_from}
 use Rattle.esc_actions.specs.Values.{plain, value_of}
 
-pub returns-in-Ok-clause-given : goal.returns-in-Ok-clause-given
+pub returns-in-Ok : goal.returns-in-Ok
 unfolding WasFedWithin
-returns-in-Ok-clause-given g c = λ limit s h.
-    let w = IfOk-at_ok _ c.in-Ok.is (c.parse_some-result.ensures.given limit s h.0) in
-    let r = performs_fed (At value_of g.S.Sink.takes) (At value_of g.S.Sink.refuses) limit s
-    (take c.in-Ok.taken c.args.bytes.now) _
-    c.parse_some-result.new.actor w.0.1
-    (subst (λ u. Hooks limit u (mode_from plain (events_within limit s))) (sym c.take.ensures.taken)
-    h.1) in ((w.0.0, r.0), r.1)
-
-pub returns-in-Ok-clause-quiet : goal.returns-in-Ok-clause-quiet
-unfolding WasFedWithin
-returns-in-Ok-clause-quiet g c = λ limit s h.
-    (IfOk-at_ok _ c.in-Ok.is (c.parse_some-result.ensures.given limit s h.0)).1
-
-pub returns-in-Err-clause-refused : goal.returns-in-Err-clause-refused
-unfolding WasFedWithin
-returns-in-Err-clause-refused g c = λ limit s h.
-    let w = IfErr-at_err _ c.in-Err.is (c.parse_some-result.ensures.refused limit s h.0) in (
-      w.0,
-      (on_err_at _ c.in-Err.is c.parse_some-result.ensures.after.ends, c.take.ensures.nothing),
-      performs_some (At value_of g.S.Sink.takes) (At value_of g.S.Sink.refuses) limit s
-          c.args.bytes.now _ c.parse_some-result.new.actor w.1
+returns-in-Ok g c =
+    let some = c.parse_some-result in
+    let bs = c.args.bytes.now in record {
+      count = search rules;
+      empty = search rules;
+      given = λ limit s h.
+          let w = IfOk-at_ok _ c.in-Ok.is (some.ensures.given limit s h.0) in
+          let r = performs_fed (At value_of g.S.Sink.takes) (At value_of g.S.Sink.refuses) limit s
+          (take c.in-Ok.taken bs) _ some.new.actor w.0.1
           (subst (λ u. Hooks limit u (mode_from plain (events_within limit s)))
-          (sym c.take.ensures.taken) h.1),
-    )
+          (sym c.take.ensures.taken) h.1) in ((w.0.0, r.0), r.1);
+      quiet = λ limit s h. quiet_silent g.row.A.Denot limit s bs c.in-Ok.taken
+          (IfOk-at_ok _ c.in-Ok.is (some.ensures.given limit s h.0)).1;
+      refused = search rules;
+      failed = search rules;
+    }
+
+pub returns-in-Err : goal.returns-in-Err
+unfolding WasFedWithin
+returns-in-Err g c =
+    let some = c.parse_some-result in record {
+      count = search rules;
+      empty = search rules;
+      given = search rules;
+      quiet = search rules;
+      refused = λ limit s h.
+          let w = IfErr-at_err _ c.in-Err.is (some.ensures.refused limit s h.0) in (
+            w.0,
+            (on_err_at _ c.in-Err.is some.ensures.after.ends, c.take.ensures.nothing),
+            performs_some (At value_of g.S.Sink.takes) (At value_of g.S.Sink.refuses) limit s
+                c.args.bytes.now _ some.new.actor w.1
+                (subst (λ u. Hooks limit u (mode_from plain (events_within limit s)))
+                (sym c.take.ensures.taken) h.1),
+          );
+      failed = search rules;
+    }
 
 pub parse_some-result-requires : goal.parse_some-result-requires
 unfolding WasFedWithin

@@ -1,33 +1,16 @@
-use Rattle.std.proofs.Common.{◌≡◌, None, ap, refl}
-use Rattle.esc_parse.proofs.Paired.{err_paired, failed_paired, ok_paired, value_paired}
+use Rattle.std.proofs.Common.{ap, refl}
 use Rattle.esc_parse.proofs.FirstsGiven.{keeps_first, stops_itself}
+use Rattle.esc_parse.proofs.Lists.{if_err_third, if_ok_second}
 use Rattle.esc_parse.proofs.parser.Parser.first_in.Goals as goal
 
-pub returns-clause-count : goal.returns-clause-count
-returns-clause-count g c =
-    ok_paired _ _ _ _ _ c.paired.ensures (λ n h. h) c.feed_some-taken.ensures.count
-
-pub returns-clause-quiet : goal.returns-clause-quiet
-returns-clause-quiet g c = λ limit s h.
-    ok_paired _ _ _ _ _ c.paired.ensures (λ n h. h) (c.feed_some-taken.ensures.quiet limit s h)
-
-pub returns-clause-failed : goal.returns-clause-failed
-returns-clause-failed g c = λ h.
-    let f = c.feed_some-taken.ensures.failed h in
-    (failed_paired _ _ _ _ c.paired.ensures f.0, f.1)
-
-pub returns-clause-given : goal.returns-clause-given
-returns-clause-given g c = λ limit s h.
-    ok_paired _ _ _ _ _ c.paired.ensures (λ n w. (w.0, keeps_first _ _ _ w.1 refl))
-    (c.feed_some-taken.ensures.given limit s h)
-
-pub returns-clause-refused : goal.returns-clause-refused
-returns-clause-refused g c = λ limit s h.
-    err_paired _ _ _ _ _ c.paired.ensures (λ e f. let w =
-    stops_itself _ _ _ _ _ _ f.2 in (f.0, f.1, w.0, w.1))
-    (c.feed_some-taken.ensures.refused limit s h)
-
-pub returns-clause-empty : goal.returns-clause-empty
-returns-clause-empty g c = λ e.
-    value_paired _ (λ a. a ≡ None) _ _ c.paired.ensures
-    (ap (λ f. f.action) (c.feed_some-taken.ensures.empty e))
+pub returns : goal.returns
+returns g c = let fed = c.feed_some-taken.ensures in record {
+  count = fed.count;
+  empty = λ e. ap (λ f. f.action) (fed.empty e);
+  given = λ limit s h. if_ok_second _ _ _ c.feed_some-taken.result.0
+      (λ n w. keeps_first _ _ _ w refl) (fed.given limit s h);
+  quiet = fed.quiet;
+  refused = λ limit s h. if_err_third _ _ c.feed_some-taken.result.0 _ _
+      (λ f. stops_itself _ _ _ _ _ _ f) (fed.refused limit s h);
+  failed = λ h. let f = fed.failed h in (f.0, f.1, ap (λ f. f.action) f.2);
+}

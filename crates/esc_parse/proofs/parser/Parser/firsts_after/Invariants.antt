@@ -1,5 +1,5 @@
 use Rattle.std.proofs.Common.{Option, ◌≡◌, ◌≤◌, ◌-◌, ◌++◌, ℕ, List, length, take}
-use Rattle.esc_parse.proofs.parser.Parser.firsts_of.Given as goal
+use Rattle.esc_parse.proofs.parser.Parser.firsts_after.Given as goal
 use Rattle.esc_parse.specs.Collected.{Adds}
 use Rattle.esc_parse.specs.Fed.{IsBroken, WasFedWithin}
 use Rattle.esc_parse.specs.Firsts.{IsStop}
