@@ -2,16 +2,18 @@
 ghost use Rattle.std.specs.Prelude.{◌≡◌, ◌<◌, ◌↔◌, ◌∷◌, ◌++◌, false, true, IfOk, IsErrOf, OnErr, OnOk, length, string_bytes, map};
 ghost use Rattle.std.specs.List.{list_all};
 ghost use Rattle.memory.specs.Refusals.{Refused};
-ghost use Rattle.esc_actions.specs.Meaning.{meaning};
-ghost use Rattle.esc_actions.specs.Texts.{has_text, is_string, list_text, normal, text_after, texts_after, value_text};
+ghost use Rattle.esc_actions.specs.Texts.{has_text, is_string, list_text, text_after, texts_after, value_text};
 ghost use Rattle.esc_actions.specs.Values.{value_of};
 ghost use Rattle.esc_actions.specs.Writable.{AreWritable};
+ghost use Rattle.esc_sixel.specs.Texts.{is_sixel, sixel_text};
+ghost use Rattle.esc_write.specs.Encoding.{ReadsBack};
 
 use crate::direct::append_csi;
 use crate::encode_error::EncodeError;
 use crate::runs::{gather_eights, have_texts};
 use crate::short_text::ShortText;
 use esc_actions::{Action, laws};
+use esc_sixel::Sixel;
 use esc_values::Text;
 use std::alloc::{AllocError, Allocator};
 
@@ -27,13 +29,10 @@ use std::alloc::{AllocError, Allocator};
 pub fn encode<A: Allocator>(alloc: A, actions: &[Action<A>]) -> Result<String<A>, EncodeError>
     ensures text { IfOk result (λ t. string_bytes t ≡ list_text (map value_of actions.now)) }
     ensures reads_back { AreWritable (map value_of actions.now)
-        → IfOk result (λ t. meaning (string_bytes t) ≡ normal (map value_of actions.now)) }
-    ensures same_text { AreWritable (map value_of actions.now)
-        → IfOk result (λ t. list_text (normal (map value_of actions.now)) ≡ string_bytes t) }
+        → IfOk result (λ t. ReadsBack (map value_of actions.now) (string_bytes t)) }
     ensures no_text { IsErrOf result EncodeError.Fmt
         ↔ (list_all (λ a. has_text (value_of a)) actions.now ≡ false) }
-    ensures refused { IsErrOf result EncodeError.Memory → 0 < length actions.now }
-    ensures memory_refused { IsErrOf result EncodeError.Memory → Refused A }
+    ensures refused { IsErrOf result EncodeError.Memory → (0 < length actions.now) × Refused A }
 {
     if !have_texts(actions) {
         return Err(EncodeError::Fmt);
@@ -195,6 +194,7 @@ fn write_whole<A: Allocator>(
 }
 
 // Appends the text of an action by itself.
+#[inline]
 fn write_alone<A: Allocator>(text: &mut Text<A>, action: &Action<A>) -> Result<(), AllocError>
     ensures ok { OnOk result (text.new ≡ text.old ++ value_text (value_of action.now)) }
     ensures refused { has_text (value_of action.now) ≡ true → OnErr result (Refused A) }
@@ -209,6 +209,15 @@ fn write_alone<A: Allocator>(text: &mut Text<A>, action: &Action<A>) -> Result<(
         | Action::KittyImage(_)
         | Action::XtGetTcap(_)
         | Action::DeviceControl(_) => text.push_display(action),
-        Action::Sixel(image) => image.append_to(text),
+        Action::Sixel(image) => write_image(text, image),
     }
+}
+
+// Appends the text of a sixel image, out of the way of what writes all else.
+#[inline(never)]
+fn write_image<A: Allocator>(text: &mut Text<A>, image: &Sixel<A>) -> Result<(), AllocError>
+    ensures ok { OnOk result (text.new ≡ text.old ++ sixel_text image.now) }
+    ensures refused { list_all is_sixel image.now.content ≡ true → OnErr result (Refused A) }
+{
+    image.append_to(text)
 }

@@ -8,12 +8,11 @@ pub returns-in-Ok-clause-text : goal.returns-in-Ok-clause-text
 returns-in-Ok-clause-text g c = c.into_string.ensures ∙ c.in-Ok.ensures.text
 
 pub returns-in-Ok-clause-reads_back : goal.returns-in-Ok-clause-reads_back
-returns-in-Ok-clause-reads_back g c = λ h. ap meaning (c.into_string.ensures ∙ c.in-Ok.ensures.text)
-    ∙ c.reads_back.ensures (map value_of c.args.actions.now) h
-
-pub returns-in-Ok-clause-same_text : goal.returns-in-Ok-clause-same_text
-returns-in-Ok-clause-same_text g c = λ h. c.same_text.ensures (map value_of c.args.actions.now) h
-    ∙ sym (c.into_string.ensures ∙ c.in-Ok.ensures.text)
+returns-in-Ok-clause-reads_back g c = λ h.
+    let text = c.into_string.ensures ∙ c.in-Ok.ensures.text in (
+      ap meaning text ∙ c.reads_back.ensures (map value_of c.args.actions.now) h,
+      c.same_text.ensures (map value_of c.args.actions.now) h ∙ sym text,
+    )
 
 pub returns-in-Ok-clause-no_text : goal.returns-in-Ok-clause-no_text
 returns-in-Ok-clause-no_text g c =
@@ -30,8 +29,7 @@ returns-then-not-have_texts-clause-no_text g c =
     (λ e. sym c.have_texts.ensures ∙ c.if-not-have_texts.true, λ h. refl)
 
 pub returns-in-Err-clause-refused : goal.returns-in-Err-clause-refused
-returns-in-Err-clause-refused g c = λ e. c.in-Err.ensures.refused
-
-pub returns-in-Err-clause-memory_refused : goal.returns-in-Err-clause-memory_refused
-returns-in-Err-clause-memory_refused g c = λ e.
-    c.in-Err.ensures.memory_refused (sym c.have_texts.ensures ∙ c.if-not-have_texts.false)
+returns-in-Err-clause-refused g c = λ e. (
+  c.in-Err.ensures.refused,
+  c.in-Err.ensures.memory_refused (sym c.have_texts.ensures ∙ c.if-not-have_texts.false),
+)
