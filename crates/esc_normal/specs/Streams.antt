@@ -7,6 +7,7 @@ use Rattle.esc_normal.specs.declared.feeding.Feeding.{Ghosts as Feeder}
 use Rattle.esc_normal.specs.declared.filter_error.FilterError.{FilterError}
 use Rattle.esc_normal.specs.declared.filter_error.FilterError.TheVariants as fault
 use Rattle.esc_normal.specs.declared.filtering.TheConstants.{MOST_READS}
+use Rattle.memory.specs.Refusals.{Refused}
 use Rattle.memory.specs.declared.lists.TheConstants.{READ_BUFFER}
 
 -- how many bytes one read gives at most
@@ -105,3 +106,41 @@ abbrev pub PassesPrefixOn : {W : Type 0} → Writer W → (List ℕ → List ℕ
     → Borrowed W → Type 0
 PassesPrefixOn W m s b writer =
     (t : List ℕ) × (m (s ++ b) ≡ m s ++ t) × WritesPrefix W t writer
+
+-- What a call did that feeds a filter, or ends its stream, and writes the text that this adds. Of
+-- the filter's texts and stream `done` holds on Ok, and `begun` after an error:
+pub record WritesAdded {F A W X : Type 0} (V : Feeder F A) (old : F)
+    (done begun : (List ℕ → List ℕ) → (List ℕ → List ℕ) → List ℕ → Type 0)
+    (result : Result X FilterError) (writer : Borrowed W) : Type 0 where
+  -- the text was written
+  pub given : Given V old (λ m c s. OnOk result (done m c s))
+  -- or a prefix of it
+  pub beginning : Given V old (λ m c s. OnErr result (begun m c s))
+  -- where memory was refused, nothing was
+  pub unwritten : IsErrOf result fault.Memory → writer.exit.now ≡ writer.entry.now
+  pub refused : Given V old (λ m c s. IsErrOf result fault.Memory → Refused A)
+  -- of a writer that had not failed before, its error comes exactly where it has failed
+  pub write_fault : FailsWith result fault.Write writer
+  -- and there is no fourth
+  pub no_read : IsErrOf result fault.Read → ⊥
+  pub no_end : IsErrOf result fault.Endless → ⊥
+
+-- What a call did with a filter that was fed nothing: it fed it what it read, by n bytes at most,
+-- and wrote the text of that.
+pub record FeedsAll {F A R W X : Type 0} (V : Feeder F A) (Rd : Reader R) (Wr : Writer W) (n : ℕ)
+    (old : F) (result : Result X FilterError) (new : F) (reader : Borrowed R) (writer : Borrowed W)
+    : Type 0 where
+  -- on Ok that was all
+  pub read_all : OnOk result (IsReadWhole Rd reader)
+  pub fed : New V old (λ m c. OnOk result (HasFed V Rd Wr m c new reader writer))
+  -- the errors are those of `Filters`, with what was written then
+  pub decided : New V old (λ m c.
+      IsErrOf result fault.Read → HasFiltered Rd Wr (IsText m) reader writer)
+  pub endless : New V old (λ m c. IsErrOf result fault.Endless
+      → HasFilteredAtLeast Rd Wr MOST_READS (IsText m) reader writer)
+  pub until_refused : New V old (λ m c. IsErrOf result fault.Memory
+      → HasFilteredAllBut Rd Wr n (IsText m) reader writer)
+  pub beginning : New V old (λ m c. OnErr result (HasBegun Rd Wr c reader writer))
+  pub read_fault : FailsWith result fault.Read reader
+  pub write_fault : FailsWith result fault.Write writer
+  pub refused : New V old (λ m c. IsErrOf result fault.Memory → Refused A)

@@ -1,7 +1,7 @@
 //! From a stream to the text of what takes it in pieces.
 ghost use Rattle.std.specs.Prelude.{ℕ, ◌≡◌, ◌<◌, ◌++◌, List, length, IfErr, IsErrOf, OnErr, OnOk};
-ghost use Rattle.esc_normal.specs.Io.{FailsWith, IsReadWhole, Writes, WritesPrefix};
-ghost use Rattle.esc_normal.specs.Streams.{Filters, Given, HasBegun, HasFed, HasFiltered, HasFilteredAllBut, HasFilteredAtLeast, IsEither, IsText, New, PassesOn, PassesPrefixOn};
+ghost use Rattle.esc_normal.specs.Io.{FailsWith, Writes, WritesPrefix};
+ghost use Rattle.esc_normal.specs.Streams.{FeedsAll, Filters, IsEither, New, PassesOn, PassesPrefixOn, WritesAdded};
 ghost use Rattle.memory.specs.Refusals.{Refused};
 
 use crate::feeding::Feeding;
@@ -51,21 +51,8 @@ fn filter_all<R: Read, W: Write, F: Feeding<A>, A: Allocator + Copy>(
     chunk: &mut [u8],
 ) -> Result<(), FilterError>
     requires { 0 < length chunk.old }
-    ensures read_all { OnOk result (IsReadWhole R.Read reader) }
-    ensures fed { New F.Feeding filter.old (λ m c.
-        OnOk result (HasFed F.Feeding R.Read W.Write m c filter.new reader writer)) }
-    ensures decided { New F.Feeding filter.old (λ m c.
-        IsErrOf result FilterError.Read → HasFiltered R.Read W.Write (IsText m) reader writer) }
-    ensures endless { New F.Feeding filter.old (λ m c. IsErrOf result FilterError.Endless
-        → HasFilteredAtLeast R.Read W.Write MOST_READS (IsText m) reader writer) }
-    ensures until_refused { New F.Feeding filter.old (λ m c. IsErrOf result FilterError.Memory
-        → HasFilteredAllBut R.Read W.Write (length chunk.old) (IsText m) reader writer) }
-    ensures beginning { New F.Feeding filter.old (λ m c.
-        OnErr result (HasBegun R.Read W.Write c reader writer)) }
-    ensures read_fault { FailsWith result FilterError.Read reader }
-    ensures write_fault { FailsWith result FilterError.Write writer }
-    ensures refused { New F.Feeding filter.old (λ m c.
-        IsErrOf result FilterError.Memory → Refused A) }
+    ensures { FeedsAll F.Feeding R.Read W.Write (length chunk.old) filter.old result filter.new
+        reader writer }
 {
     for _ in 0..MOST_READS {
         match reader.read(chunk) {
@@ -83,16 +70,9 @@ fn pass_on<W: Write, F: Feeding<A>, A: Allocator + Copy>(
     bytes: &[u8],
     writer: &mut Watched<W>,
 ) -> Result<(), FilterError>
-    ensures given { Given F.Feeding filter.old (λ m c s.
-        OnOk result (PassesOn F.Feeding W.Write m c s bytes.now filter.new writer)) }
-    ensures beginning { Given F.Feeding filter.old (λ m c s.
-        OnErr result (PassesPrefixOn W.Write m s bytes.now writer)) }
-    ensures no_read { IsErrOf result FilterError.Read → ⊥ }
-    ensures no_end { IsErrOf result FilterError.Endless → ⊥ }
-    ensures unwritten { IsErrOf result FilterError.Memory → writer.new ≡ writer.old }
-    ensures write_fault { FailsWith result FilterError.Write writer }
-    ensures refused { Given F.Feeding filter.old (λ m c s.
-        IsErrOf result FilterError.Memory → Refused A) }
+    ensures { WritesAdded F.Feeding filter.old
+        (λ m c s. PassesOn F.Feeding W.Write m c s bytes.now filter.new writer)
+        (λ m c s. PassesPrefixOn W.Write m s bytes.now writer) result writer }
 {
     match filter.feed_piece(bytes) {
         Ok(()) => write_out(writer, filter.added_text()),
@@ -105,16 +85,10 @@ fn end<W: Write, F: Feeding<A>, A: Allocator + Copy>(
     filter: &mut F,
     output: &mut Watched<W>,
 ) -> Result<(), FilterError>
-    ensures given { Given F.Feeding filter.old (λ m c s.
-        OnOk result ((t : List ℕ) × (c s ≡ m s ++ t) × Writes W.Write t output)) }
-    ensures beginning { Given F.Feeding filter.old (λ m c s.
-        OnErr result ((t : List ℕ) × (c s ≡ m s ++ t) × WritesPrefix W.Write t output)) }
-    ensures no_read { IsErrOf result FilterError.Read → ⊥ }
-    ensures no_end { IsErrOf result FilterError.Endless → ⊥ }
-    ensures unwritten { IsErrOf result FilterError.Memory → output.new ≡ output.old }
-    ensures write_fault { FailsWith result FilterError.Write output }
-    ensures refused { Given F.Feeding filter.old (λ m c s.
-        IsErrOf result FilterError.Memory → Refused A) }
+    ensures { WritesAdded F.Feeding filter.old
+        (λ m c s. (t : List ℕ) × (c s ≡ m s ++ t) × Writes W.Write t output)
+        (λ m c s. (t : List ℕ) × (c s ≡ m s ++ t) × WritesPrefix W.Write t output)
+        result output }
 {
     match filter.finish_all() {
         Ok(()) => write_out(output, filter.added_text()),

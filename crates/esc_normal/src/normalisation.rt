@@ -1,7 +1,9 @@
 //! From a stream to the text of what it means.
-ghost use Rattle.std.specs.Prelude.{◌≡◌, ℕ, List, [], true, Some, IfOk, IfErr, OnOk, OnErr, IfSome, IsTrue, IsErrOf, ◌↔◌, ◌<◌, length};
-ghost use Rattle.esc_normal.specs.Io.{FailsWith, IsReadWhole, Writes, WritesNothing, WritesPrefix, had};
-ghost use Rattle.esc_actions.specs.Meaning.{meaning, meaning_within};
+ghost use Rattle.std.specs.Prelude.{◌≡◌, ℕ, List, [], true, Some, IfOk, IfErr, OnOk, OnErr, ◌<◌, length};
+ghost use Rattle.esc_normal.specs.Io.{FailsWith, Writes, WritesPrefix, had};
+ghost use Rattle.esc_normal.specs.Normalising.{normal_form};
+ghost use Rattle.esc_normal.specs.Whole.{IsOwnText, ReadsAll, WritesText};
+ghost use Rattle.esc_actions.specs.Meaning.{meaning};
 ghost use Rattle.esc_actions.specs.Texts.{list_text};
 ghost use Rattle.esc_actions.specs.Writable.{AreWritable};
 ghost use Rattle.esc_parse.specs.Fed.{WasFedWithin};
@@ -28,16 +30,8 @@ pub fn normalise<R: Read, W: Write, A: Allocator + Copy>(
     reader: &mut Watched<R>,
     writer: &mut Watched<W>,
 ) -> Result<(), NormaliseError>
-    ensures read_all { OnOk result (IsReadWhole R.Read reader) }
-    ensures written { OnOk result (IfSome (had R.Read reader) (λ s.
-        Writes W.Write (list_text (meaning {A = A} s)) writer)) }
-    ensures nothing { IfErr result (λ e. (e ≡ NormaliseError.Write → ⊥)
-        → WritesNothing W.Write writer) }
-    ensures beginning { IsErrOf result NormaliseError.Write → IfSome (had R.Read reader) (λ s.
-        WritesPrefix W.Write (list_text (meaning {A = A} s)) writer) }
-    ensures read_fault { FailsWith result NormaliseError.Read reader }
-    ensures write_fault { FailsWith result NormaliseError.Write writer }
-    ensures refused { IsErrOf result NormaliseError.Memory → Refused A }
+    ensures { WritesText A R.Read W.Write (λ s. list_text (meaning {A = A} s))
+        result reader writer }
 {
     normalise_within(alloc, reader, writer, None)
 }
@@ -51,16 +45,7 @@ pub fn normalise_limited<R: Read, W: Write, A: Allocator + Copy>(
     writer: &mut Watched<W>,
     limit: usize,
 ) -> Result<(), NormaliseError>
-    ensures read_all { OnOk result (IsReadWhole R.Read reader) }
-    ensures written { OnOk result (IfSome (had R.Read reader) (λ s.
-        Writes W.Write (list_text (meaning_within {A = A} (Some limit) s)) writer)) }
-    ensures nothing { IfErr result (λ e. (e ≡ NormaliseError.Write → ⊥)
-        → WritesNothing W.Write writer) }
-    ensures beginning { IsErrOf result NormaliseError.Write → IfSome (had R.Read reader) (λ s.
-        WritesPrefix W.Write (list_text (meaning_within {A = A} (Some limit) s)) writer) }
-    ensures read_fault { FailsWith result NormaliseError.Read reader }
-    ensures write_fault { FailsWith result NormaliseError.Write writer }
-    ensures refused { IsErrOf result NormaliseError.Memory → Refused A }
+    ensures { WritesText A R.Read W.Write (normal_form A (Some limit)) result reader writer }
 {
     normalise_within(alloc, reader, writer, Some(limit))
 }
@@ -75,14 +60,10 @@ pub fn is_normal<R: Read, A: Allocator + Copy>(
     alloc: A,
     reader: &mut Watched<R>,
 ) -> Result<bool, NormaliseError>
-    ensures read_all { OnOk result (IsReadWhole R.Read reader) }
-    ensures equal { IfOk result (λ b. IfSome (had R.Read reader)
-        (λ s. IsTrue b ↔ (list_text (meaning {A = A} s) ≡ s))) }
+    ensures said { ReadsAll A R.Read (IsOwnText (λ s. list_text (meaning {A = A} s)))
+        result reader }
     ensures normalised { (t : List ℕ) → AreWritable {A = A} (meaning t)
         → had R.Read reader ≡ Some (list_text (meaning {A = A} t)) → IfOk result (λ b. b ≡ true) }
-    ensures read_fault { FailsWith result NormaliseError.Read reader }
-    ensures not_write { IsErrOf result NormaliseError.Write → ⊥ }
-    ensures refused { IsErrOf result NormaliseError.Memory → Refused A }
 {
     laws::normal_once::<A>();
     is_normal_within(alloc, reader, None)
@@ -96,12 +77,7 @@ pub fn is_normal_limited<R: Read, A: Allocator + Copy>(
     reader: &mut Watched<R>,
     limit: usize,
 ) -> Result<bool, NormaliseError>
-    ensures read_all { OnOk result (IsReadWhole R.Read reader) }
-    ensures equal { IfOk result (λ b. IfSome (had R.Read reader)
-        (λ s. IsTrue b ↔ (list_text (meaning_within {A = A} (Some limit) s) ≡ s))) }
-    ensures read_fault { FailsWith result NormaliseError.Read reader }
-    ensures not_write { IsErrOf result NormaliseError.Write → ⊥ }
-    ensures refused { IsErrOf result NormaliseError.Memory → Refused A }
+    ensures { ReadsAll A R.Read (IsOwnText (normal_form A (Some limit))) result reader }
 {
     is_normal_within(alloc, reader, Some(limit))
 }
@@ -112,16 +88,7 @@ fn normalise_within<R: Read, W: Write, A: Allocator + Copy>(
     writer: &mut Watched<W>,
     limit: Option<usize>,
 ) -> Result<(), NormaliseError>
-    ensures read_all { OnOk result (IsReadWhole R.Read reader) }
-    ensures written { OnOk result (IfSome (had R.Read reader) (λ s.
-        Writes W.Write (list_text (meaning_within {A = A} limit s)) writer)) }
-    ensures nothing { IfErr result (λ e. (e ≡ NormaliseError.Write → ⊥)
-        → WritesNothing W.Write writer) }
-    ensures beginning { IsErrOf result NormaliseError.Write → IfSome (had R.Read reader) (λ s.
-        WritesPrefix W.Write (list_text (meaning_within {A = A} limit s)) writer) }
-    ensures read_fault { FailsWith result NormaliseError.Read reader }
-    ensures write_fault { FailsWith result NormaliseError.Write writer }
-    ensures refused { IsErrOf result NormaliseError.Memory → Refused A }
+    ensures { WritesText A R.Read W.Write (normal_form A limit) result reader writer }
 {
     let bytes = read_whole(alloc, reader)?;
     let Ok(text) = normal_text(alloc, &bytes, limit) else {
@@ -135,12 +102,7 @@ fn is_normal_within<R: Read, A: Allocator + Copy>(
     reader: &mut Watched<R>,
     limit: Option<usize>,
 ) -> Result<bool, NormaliseError>
-    ensures read_all { OnOk result (IsReadWhole R.Read reader) }
-    ensures equal { IfOk result (λ b. IfSome (had R.Read reader)
-        (λ s. IsTrue b ↔ (list_text (meaning_within {A = A} limit s) ≡ s))) }
-    ensures read_fault { FailsWith result NormaliseError.Read reader }
-    ensures not_write { IsErrOf result NormaliseError.Write → ⊥ }
-    ensures refused { IsErrOf result NormaliseError.Memory → Refused A }
+    ensures { ReadsAll A R.Read (IsOwnText (normal_form A limit)) result reader }
 {
     let stream = read_whole(alloc, reader)?;
     match normal_text(alloc, &stream, limit) {
@@ -154,11 +116,7 @@ fn read_whole<R: Read, A: Allocator + Copy>(
     alloc: A,
     reader: &mut Watched<R>,
 ) -> Result<Vec<u8, A>, NormaliseError>
-    ensures bytes { IfOk result (λ v. IfSome (had R.Read reader) (λ xs. v.items ≡ xs)) }
-    ensures end { OnOk result (IsReadWhole R.Read reader) }
-    ensures emitted { FailsWith result NormaliseError.Read reader }
-    ensures not_write { IsErrOf result NormaliseError.Write → ⊥ }
-    ensures refused { IsErrOf result NormaliseError.Memory → Refused A }
+    ensures { ReadsAll A R.Read (λ v xs. v.items ≡ xs) result reader }
 {
     let Ok(mut chunk) = memory::read_buffer(alloc) else {
         return Err(NormaliseError::Memory);
@@ -173,11 +131,7 @@ fn read_by<R: Read, A: Allocator>(
     chunk: &mut [u8],
 ) -> Result<Vec<u8, A>, NormaliseError>
     requires { 0 < length chunk.old }
-    ensures bytes { IfOk result (λ v. IfSome (had R.Read reader) (λ xs. v.items ≡ xs)) }
-    ensures end { OnOk result (IsReadWhole R.Read reader) }
-    ensures emitted { FailsWith result NormaliseError.Read reader }
-    ensures not_write { IsErrOf result NormaliseError.Write → ⊥ }
-    ensures refused { IsErrOf result NormaliseError.Memory → Refused A }
+    ensures { ReadsAll A R.Read (λ v xs. v.items ≡ xs) result reader }
 {
     let mut bytes = Vec::new(alloc);
     loop {
@@ -200,7 +154,7 @@ pub fn normal_text<A: Allocator + Copy>(
     bytes: &[u8],
     limit: Option<usize>,
 ) -> Result<Text<A>, AllocError>
-    ensures ok { IfOk result (λ t. t ≡ list_text (meaning_within {A = A} limit bytes.now)) }
+    ensures ok { IfOk result (λ t. t ≡ normal_form A limit bytes.now) }
     ensures refused { OnErr result (Refused A) }
 {
     laws::yield_handed_out::<A>();

@@ -1,8 +1,10 @@
 //! What the program does.
-ghost use Rattle.std.specs.Prelude.{◌≡◌, ◌<◌, ℕ, Option, false, IfErr, IfOk, IfSome, IsErrOf, IsTrue, None, OnOk, Some, ◌↔◌, map, string_bytes};
-ghost use Rattle.std.specs.Io.KnownBytes.{Appends, IsAtEnd, Keeps};
+ghost use Rattle.std.specs.Prelude.{◌≡◌, ◌<◌, ℕ, Option, IfOk, IfSome, None, OnOk, Some, map, string_bytes};
+ghost use Rattle.std.specs.Io.KnownBytes.{Appends, IsAtEnd};
 ghost use Rattle.escnorm.specs.Tasks.{IsNormalised, IsVerdict, task_of};
-ghost use Rattle.esc_normal.specs.Io.{AppendsPrefix, has_failed, inner_of};
+ghost use Rattle.esc_normal.specs.Io.{inner_of};
+ghost use Rattle.esc_normal.specs.Normalising.{normal_form};
+ghost use Rattle.esc_normal.specs.Whole.{WritesText};
 ghost use Rattle.esc_actions.specs.Meaning.{meaning_within};
 ghost use Rattle.esc_actions.specs.Texts.{list_text};
 
@@ -161,16 +163,7 @@ fn normalise_and_flush<A: Allocator + Copy, R: Read, W: Write>(
     writer: &mut Watched<W>,
     limit: Option<usize>,
 ) -> Result<(), NormaliseError>
-    ensures read_all { OnOk result (IsAtEnd (R.remaining (inner_of reader.new))) }
-    ensures written { OnOk result (IfSome (R.remaining (inner_of reader.old)) (λ s.
-        Appends (W.contents (inner_of writer.old)) (W.contents (inner_of writer.new))
-        (list_text (meaning_within {A = A} limit s)))) }
-    ensures nothing { IfErr result (λ e. (e ≡ NormaliseError.Write → ⊥)
-        → Keeps (W.contents (inner_of writer.old)) (W.contents (inner_of writer.new))) }
-    ensures read_fault { has_failed reader.old ≡ false
-        → (IsErrOf result NormaliseError.Read ↔ IsTrue (has_failed reader.new)) }
-    ensures write_fault { has_failed writer.old ≡ false
-        → (IsErrOf result NormaliseError.Write ↔ IsTrue (has_failed writer.new)) }
+    ensures { WritesText A R.Read W.Write (normal_form A limit) result reader writer }
 {
     match limit {
         None => normalise(alloc, reader, writer)?,

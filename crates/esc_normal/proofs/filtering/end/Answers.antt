@@ -1,24 +1,33 @@
-use Rattle.std.proofs.Common.{◌++◌, ap, sym, ◌∙◌}
+use Rattle.std.proofs.Common.{◌++◌, ap, rules, sym, ◌∙◌}
 use Rattle.esc_parse.proofs.Lists.{on_ok_more}
 use Rattle.std.proofs.lemmas.Result.{on_err_weaker}
 use Rattle.esc_normal.proofs.Results.{prefix_none}
 use Rattle.esc_normal.proofs.filtering.end.Goals as goal
 
-pub returns-in-Ok-clause-given : goal.returns-in-Ok-clause-given
-returns-in-Ok-clause-given g c = λ m e s h.
-    let k = c.in-Ok.ensures.ended m e s h ∙ ap (λ x. m s ++ x) (sym c.added_text.ensures) in
-    on_ok_more _ _ c.write_out.result (λ a. (c.added_text.result.now, k, a))
-    c.write_out.ensures.whole
+pub returns-in-Ok : goal.returns-in-Ok
+returns-in-Ok g c =
+    let out = c.write_out.ensures in record {
+      given = λ m e s h.
+          let k = c.in-Ok.ensures.ended m e s h ∙ ap (λ x. m s ++ x) (sym c.added_text.ensures) in
+          on_ok_more _ _ c.write_out.result (λ a. (c.added_text.result.now, k, a)) out.whole;
+      beginning = λ m e s h.
+          let k = c.in-Ok.ensures.ended m e s h ∙ ap (λ x. m s ++ x) (sym c.added_text.ensures) in
+          on_err_weaker c.write_out.result (λ a. (c.added_text.result.now, k, a)) out.beginning;
+      unwritten = search rules;
+      refused = search rules;
+      write_fault = out.emitted;
+      no_read = search rules;
+      no_end = search rules;
+    }
 
-pub returns-in-Ok-clause-beginning : goal.returns-in-Ok-clause-beginning
-returns-in-Ok-clause-beginning g c = λ m e s h.
-    let k = c.in-Ok.ensures.ended m e s h ∙ ap (λ x. m s ++ x) (sym c.added_text.ensures) in
-    on_err_weaker c.write_out.result (λ a. (c.added_text.result.now, k, a))
-    c.write_out.ensures.beginning
-
-pub returns-in-Err-clause-beginning : goal.returns-in-Err-clause-beginning
-returns-in-Err-clause-beginning g c = λ m e s h.
-    let k = c.in-Err.ensures.longer m e s h in (k.0, k.1, prefix_none _ _)
-
-pub returns-in-Err-clause-refused : goal.returns-in-Err-clause-refused
-returns-in-Err-clause-refused g c = λ m e s h _. c.in-Err.ensures.refused m e s h
+pub returns-in-Err : goal.returns-in-Err
+returns-in-Err g c = record {
+  given = search rules;
+  beginning = λ m e s h. let k =
+      c.in-Err.ensures.longer m e s h in (k.0, k.1, prefix_none _ _);
+  unwritten = search rules;
+  refused = λ m e s h _. c.in-Err.ensures.refused m e s h;
+  write_fault = search rules;
+  no_read = search rules;
+  no_end = search rules;
+}

@@ -21,33 +21,63 @@ loop-init g c = record {
   );
 }
 
-pub returns-in-Ok-eq0-clause-fed : goal.returns-in-Ok-eq0-clause-fed
-returns-in-Ok-eq0-clause-fed g c = λ m e fresh none more.
-    let r = c.loop.invariant.read m e fresh none in
-    let zero : c.in-Ok-eq0.field-0 ≡ 0 = search rules in (
-      r.0,
-      r.2,
-      read_none _ _ _ r.0 _ c.read.new.buf zero r.1 c.in-Ok-eq0.ensures.bytes.0,
-      r.3,
-    )
+pub returns-in-Ok-eq0 : goal.returns-in-Ok-eq0
+returns-in-Ok-eq0 g c = record {
+  read_all = search rules;
+  fed = λ m e fresh none more.
+      let r = c.loop.invariant.read m e fresh none in
+      let zero : c.in-Ok-eq0.field-0 ≡ 0 = search rules in (
+        r.0,
+        r.2,
+        read_none _ _ _ r.0 _ c.read.new.buf zero r.1 c.in-Ok-eq0.ensures.bytes.0,
+        r.3,
+      );
+  decided = search rules;
+  endless = search rules;
+  until_refused = search rules;
+  beginning = search rules;
+  read_fault = search rules;
+  write_fault = search rules;
+  refused = search rules;
+}
 
-pub returns-in-Err-clause-decided : goal.returns-in-Err-clause-decided
-returns-in-Err-clause-decided g c = λ m e fresh none more _.
-    let r = c.loop.invariant.read m e fresh none in
-    (r.0, m r.0, Consumes-kept _ _ _ r.0 r.1 c.in-Err.ensures.bytes, r.3, refl)
+pub returns-in-Err : goal.returns-in-Err
+returns-in-Err g c = record {
+  read_all = search rules;
+  fed = search rules;
+  decided = λ m e fresh none more _.
+      let r = c.loop.invariant.read m e fresh none in
+      (r.0, m r.0, Consumes-kept _ _ _ r.0 r.1 c.in-Err.ensures.bytes, r.3, refl);
+  endless = search rules;
+  until_refused = search rules;
+  beginning = λ m e fresh none more.
+      let r = c.loop.invariant.read m e fresh none in (
+        r.0,
+        Consumes-kept _ _ _ r.0 r.1 c.in-Err.ensures.bytes,
+        prefix_longer _ _ _ _ (more r.0) (prefix_whole _ _ _ r.3),
+      );
+  read_fault = search rules;
+  write_fault = search rules;
+  refused = search rules;
+}
 
-pub returns-in-Err-clause-beginning : goal.returns-in-Err-clause-beginning
-returns-in-Err-clause-beginning g c = λ m e fresh none more.
-    let r = c.loop.invariant.read m e fresh none in (
-      r.0,
-      Consumes-kept _ _ _ r.0 r.1 c.in-Err.ensures.bytes,
-      prefix_longer _ _ _ _ (more r.0) (prefix_whole _ _ _ r.3),
-    )
-
-pub returns-clause-beginning : goal.returns-clause-beginning
-returns-clause-beginning g c = λ m e fresh none more.
-    let r = c.loop.invariant.read m e fresh none in
-    (r.0, r.1, prefix_longer _ _ _ _ (more r.0) (prefix_whole _ _ _ r.3))
+pub returns : goal.returns
+returns g c = record {
+  read_all = search rules;
+  fed = search rules;
+  decided = search rules;
+  endless = λ m e fresh none more _.
+      let r = c.loop.invariant.read m e fresh none in
+      let least : 18446744073709551615 ≤ length r.0 = omega (arith, r.4) in
+      (r.0, m r.0, least, r.1, r.3, refl);
+  until_refused = search rules;
+  beginning = λ m e fresh none more.
+      let r = c.loop.invariant.read m e fresh none in
+      (r.0, r.1, prefix_longer _ _ _ _ (more r.0) (prefix_whole _ _ _ r.3));
+  read_fault = search rules;
+  write_fault = search rules;
+  refused = search rules;
+}
 
 pub loop-preserved : goal.loop-preserved
 loop-preserved g c =
@@ -67,47 +97,42 @@ loop-preserved g c =
           );
     }
 
-pub returns-in_err-pass_on-in-Ok-clause-beginning
-    : goal.returns-in_err-pass_on-in-Ok-clause-beginning
-returns-in_err-pass_on-in-Ok-clause-beginning g c = λ m e fresh none more.
-    let r = c.loop.invariant.read m e fresh none in
+pub returns-in_err-pass_on-in-Ok : goal.returns-in_err-pass_on-in-Ok
+returns-in_err-pass_on-in-Ok g c =
+    let pass = c.in_err-pass_on-in-Ok.ensures in
     let piece = take c.in-Ok.n c.read.new.buf in
-    let f = c.in_err-pass_on-in-Ok.ensures.beginning m e r.0 r.2 in
-    on_err_any _ c.from_residual.result (
-      r.0 ++ piece,
-      Consumes-trans _ _ _ r.0 piece r.1 c.in-Ok.ensures.bytes.0,
-      prefix_longer _ _ _ _ (more (r.0 ++ piece)) (prefix_after _ _ _ _ f.0 _ r.3 f.2 f.1),
-    )
-
-pub returns-in_err-pass_on-in-Ok-clause-refused : goal.returns-in_err-pass_on-in-Ok-clause-refused
-returns-in_err-pass_on-in-Ok-clause-refused g c = λ m e fresh none more memory.
-    let r = c.loop.invariant.read m e fresh none in
-    let p = err_from_is_err_and c.from_residual.result c.from_residual.ensures.1 in
-    c.in_err-pass_on-in-Ok.ensures.refused m e r.0 r.2
-    (ap Err (sym p.2 ∙ err_is c.from_residual.result p.0 _ p.1 memory))
-
-pub returns-clause-endless : goal.returns-clause-endless
-returns-clause-endless g c = λ m e fresh none more _.
-    let r = c.loop.invariant.read m e fresh none in
-    let least : 18446744073709551615 ≤ length r.0 = omega (arith, r.4) in
-    (r.0, m r.0, least, r.1, r.3, refl)
-
-pub returns-in_err-pass_on-in-Ok-clause-until_refused
-    : goal.returns-in_err-pass_on-in-Ok-clause-until_refused
-returns-in_err-pass_on-in-Ok-clause-until_refused g c = λ m e fresh none more memory.
-    let r = c.loop.invariant.read m e fresh none in
-    let p = err_from_is_err_and c.from_residual.result c.from_residual.ensures.1 in
-    let piece = take c.in-Ok.n c.read.new.buf in
-    let same = c.in_err-pass_on-in-Ok.ensures.unwritten
-    (ap Err (sym p.2 ∙ err_is c.from_residual.result p.0 _ p.1 memory)) in
-    let within : length piece ≤ length c.args.chunk.now =
-    omega (arith, c.in-Ok.ensures.bound.0, c.in-Ok.ensures.bound.1) in (
-      r.0,
-      piece,
-      m r.0,
-      within,
-      Consumes-trans _ _ _ r.0 piece r.1 c.in-Ok.ensures.bytes.0,
-      subst (λ w. Appends (g.W.Write.contents c.args.writer.now.inner)
-          (g.W.Write.contents w.inner) (m r.0)) (sym same) r.3,
-      refl,
-    )
+    let p = err_from_is_err_and c.from_residual.result c.from_residual.ensures.1 in record {
+      read_all = search rules;
+      fed = search rules;
+      decided = search rules;
+      endless = search rules;
+      until_refused = λ m e fresh none more memory.
+          let r = c.loop.invariant.read m e fresh none in
+          let same = pass.unwritten
+          (ap Err (sym p.2 ∙ err_is c.from_residual.result p.0 _ p.1 memory)) in
+          let within : length piece ≤ length c.args.chunk.now =
+          omega (arith, c.in-Ok.ensures.bound.0, c.in-Ok.ensures.bound.1) in (
+            r.0,
+            piece,
+            m r.0,
+            within,
+            Consumes-trans _ _ _ r.0 piece r.1 c.in-Ok.ensures.bytes.0,
+            subst (λ w. Appends (g.W.Write.contents c.args.writer.now.inner)
+                (g.W.Write.contents w.inner) (m r.0)) (sym same) r.3,
+            refl,
+          );
+      beginning = λ m e fresh none more.
+          let r = c.loop.invariant.read m e fresh none in
+          let f = pass.beginning m e r.0 r.2 in
+          on_err_any _ c.from_residual.result (
+            r.0 ++ piece,
+            Consumes-trans _ _ _ r.0 piece r.1 c.in-Ok.ensures.bytes.0,
+            prefix_longer _ _ _ _ (more (r.0 ++ piece)) (prefix_after _ _ _ _ f.0 _ r.3 f.2 f.1),
+          );
+      read_fault = search rules;
+      write_fault = search rules;
+      refused = λ m e fresh none more memory.
+          let r = c.loop.invariant.read m e fresh none in
+          pass.refused m e r.0 r.2
+          (ap Err (sym p.2 ∙ err_is c.from_residual.result p.0 _ p.1 memory));
+    }
