@@ -56,8 +56,9 @@ impl Admit<Global> for Expecting<'_> {
     }
 }
 
-/// Whether a policy that admits all is asked of each action that can be written by itself, and shown each
-/// other one; a policy that admits none is asked of the same, and shown each: once, in order.
+/// Whether a policy that admits all is asked of each action that can be written by itself, and
+/// shown each other one; a policy that admits none is asked of the same, and shown each: once, in
+/// order.
 pub fn is_asked_once(alloc: Global, stream: &[u8], limit: usize) -> bool {
     match &Reading::Whole.read(alloc, stream) {
         Ok(actions) => are_asked_once(alloc, stream, limit, actions),

@@ -13,7 +13,7 @@ use Rattle.esc_filter.specs.declared.written.Written.{Written}
 use Rattle.esc_actions.specs.Values.{Value, print}
 use Rattle.esc_actions.specs.declared.action.Action.{Action}
 use Rattle.esc_actions.specs.declared.action.Action.TheVariants as action
-use Rattle.esc_filter.specs.Fed.{Refuses, Takes}
+use Rattle.esc_filter.specs.Fed.{Refuses, Takes, TakesBy}
 use Rattle.memory.specs.Refusals.{Refused}
 use Rattle.esc_filter.specs.Passing.{passes}
 use Rattle.esc_filter.specs.declared.passing.Passing.{Passing}
@@ -88,11 +88,6 @@ pub str_admitted : (A : Type 0) (p : Policy) (text : List ℕ) → IsUtf8 text
 str_admitted A p text u h = run_admitted A p (chars text) (chars_shown text u h)
 
 -- a run that is admitted passes, character by character
-abbrev pub TakesBy : {P A : Type 0} → (P → Value A → Bool) → Passing P A → Action A → Passing P A
-    → Type 0
-TakesBy allows p a q = Takes (allows p.policy.now) p.written a q.written
-    × (q.policy.now ≡ p.policy.now)
-
 one_passes : {A : Type 0} (b : Bool) (p q : Written A) (c : ℕ) → b ≡ true
     → Notes p (action.Print c) q
     → (b ≡ true → Notes p (action.Print c) q) × (b ≡ false → q ≡ p)

@@ -21,13 +21,12 @@ use Rattle.esc_parse.proofs.Lists.{if_ok_more}
 use Rattle.esc_normal.proofs.Spelling.{IsCommand, IsSequence}
 use Rattle.esc_filter.proofs.Results.{stops_for}
 use Rattle.std.proofs.lemmas.Result.{on_err_weaker}
-use Rattle.esc_filter.proofs.Runs.{TakesBy}
 use Rattle.esc_filter.specs.Rules.{admits, is_plain_param, is_rendition, is_screen_body, is_screen_sequence}
 use Rattle.esc_filter.specs.declared.policy.Policy.{Policy}
 use Rattle.esc_filter.specs.declared.policy.Policy.TheVariants as policy
 use Rattle.esc_filter.specs.Passing.{passes}
 use Rattle.esc_filter.specs.declared.passing.Passing.{Passing}
-use Rattle.esc_filter.specs.Fed.{Refuses}
+use Rattle.esc_filter.specs.Fed.{Refuses, TakesBy}
 use Rattle.memory.specs.Refusals.{Refused}
 
 -- a test that renditions pass, and a sequence of no name, passes what parameters mean

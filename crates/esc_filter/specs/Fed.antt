@@ -1,6 +1,7 @@
 -- What a filter was fed.
-use Rattle.std.specs.Prelude.{ℕ, ◌≡◌, Bool, true, false, List, [], ◌∷◌, ◌++◌, Some}
+use Rattle.std.specs.Prelude.{ℕ, ◌≡◌, Bool, true, false, List, [], ◌∷◌, ◌++◌, IfOk, IsTrue, OnErr, Result, Some}
 use Rattle.std.specs.List.{FoldsTo}
+use Rattle.std.specs.declared.alloc.AllocError.{AllocError}
 use Rattle.esc_values.specs.declared.csi_param.CsiParam.{CsiParam}
 use Rattle.esc_sequences.specs.Csis.{csi_of}
 use Rattle.esc_osc.specs.Reading.{meaning as command_meant}
@@ -28,31 +29,35 @@ Takes admits p a q = (passes admits (value_of a) ≡ true → Notes p a q)
 abbrev pub Refuses : {P A : Type 0} → Passing P A → Action A → Passing P A → Type 0
 Refuses p a q = WriteDenies p.written a q.written
 
--- those of a control sequence, one after another, or up to one that is refused
-abbrev pub TakesSequence : {P A : Type 0} → (P → Value A → Bool) → Passing P A → List CsiParam → ℕ
-    → Passing P A → Type 0
-TakesSequence allows p es f q = FoldsTo (By (λ a c. value_of a ≡ csi c)
-    (λ r a s. Takes (allows r.policy.now) r.written a s.written × (s.policy.now ≡ r.policy.now))) p
-    (csi_of es false f) q
+-- what an action makes of what takes those that pass
+abbrev pub TakesBy : {P A : Type 0} → (P → Value A → Bool) → Passing P A → Action A → Passing P A
+    → Type 0
+TakesBy allows p a q = Takes (allows p.policy.now) p.written a q.written
+    × (q.policy.now ≡ p.policy.now)
 
-abbrev pub StopsSequence : {P A : Type 0} → (P → Value A → Bool) → Passing P A → List CsiParam → ℕ
-    → Passing P A → Type 0
-StopsSequence allows p es f q = StopsAt ⊥ (By (λ a c. value_of a ≡ csi c)
-    (λ r a s. Takes (allows r.policy.now) r.written a s.written × (s.policy.now ≡ r.policy.now)))
-    (By (λ a c. value_of a ≡ csi c) Refuses) p (csi_of es false f) q
+-- What a call did that may take some actions at once, from the bytes that they are read from. They
+-- have these values, and Is says which action has which:
+pub record MayTakeAll {P A V : Type 0} (allows : P → Value A → Bool) (Is : Action A → V → Type 0)
+    (p : Passing P A) (vs : List V) (result : Result Bool AllocError) (q : Passing P A)
+    : Type 0 where
+  -- on true they were taken, one after another
+  pub taken : IfOk result (λ b. IsTrue b → FoldsTo (By Is (TakesBy allows)) p vs q)
+  -- on false nothing was done
+  pub left : IfOk result (λ b. b ≡ false → q ≡ p)
+  -- after an error those before one that was refused were taken
+  pub refused : OnErr result (StopsAt ⊥ (By Is (TakesBy allows)) (By Is Refuses) p vs q)
+
+-- those of a control sequence
+abbrev pub MayTakeSequence : {P A : Type 0} → (P → Value A → Bool) → Passing P A → List CsiParam
+    → ℕ → Result Bool AllocError → Passing P A → Type 0
+MayTakeSequence allows p es f result q =
+    MayTakeAll allows (λ a c. value_of a ≡ csi c) p (csi_of es false f) result q
 
 -- that of a command of these parts
-abbrev pub TakesCommand : {P A : Type 0} → (P → Value A → Bool) → Passing P A → List (List ℕ)
-    → Passing P A → Type 0
-TakesCommand allows p ps q = FoldsTo (By (λ a c. value_of a ≡ osc (command_meant c))
-    (λ r a s. Takes (allows r.policy.now) r.written a s.written
-    × (s.policy.now ≡ r.policy.now))) p (ps ∷ []) q
-
-abbrev pub StopsCommand : {P A : Type 0} → (P → Value A → Bool) → Passing P A → List (List ℕ)
-    → Passing P A → Type 0
-StopsCommand allows p ps q = StopsAt ⊥ (By (λ a c. value_of a ≡ osc (command_meant c))
-    (λ r a s. Takes (allows r.policy.now) r.written a s.written × (s.policy.now ≡ r.policy.now)))
-    (By (λ a c. value_of a ≡ osc (command_meant c)) Refuses) p (ps ∷ []) q
+abbrev pub MayTakeCommand : {P A : Type 0} → (P → Value A → Bool) → Passing P A → List (List ℕ)
+    → Result Bool AllocError → Passing P A → Type 0
+MayTakeCommand allows p ps result q =
+    MayTakeAll allows (λ a c. value_of a ≡ osc (command_meant c)) p (ps ∷ []) result q
 
 -- The filter, of this limit and of a policy that admits these values, was fed these bytes, where u
 -- says what is written of characters that deceive. Where `by_lines`, they are of one line, whose

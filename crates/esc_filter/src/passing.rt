@@ -3,7 +3,7 @@ ghost use Rattle.std.specs.Prelude.{◌≡◌, false, IfOk, IsTrue, MatchResult,
 ghost use Rattle.esc_values.specs.Clear.{parts_of};
 ghost use Rattle.esc_actions.specs.Values.{control};
 ghost use Rattle.esc_actions.specs.declared.action.Action.TheVariants as action;
-ghost use Rattle.esc_filter.specs.Fed.{Refuses, StopsCommand, StopsSequence, Takes, TakesCommand, TakesSequence};
+ghost use Rattle.esc_filter.specs.Fed.{MayTakeCommand, MayTakeSequence, Refuses, Takes, TakesBy};
 ghost use Rattle.esc_filter.specs.Known.{ArePassedLinks, ArePassedRenditions};
 ghost use Rattle.memory.specs.Refusals.{Refused};
 
@@ -93,10 +93,7 @@ impl<'p, P: Admit<A>, A: Allocator> Passing<'p, P, A> {
     #[inline]
     fn take_rendition(&mut self, params: &[CsiParam]) -> Result<bool, AllocError>
         requires { ArePassedRenditions (P.admits self.old.policy.now) }
-        ensures taken { IfOk result (λ b. IsTrue b
-            → TakesSequence P.admits self.old params.now 0x6d self.new) }
-        ensures left { IfOk result (λ b. b ≡ false → self.new ≡ self.old) }
-        ensures refused { OnErr result (StopsSequence P.admits self.old params.now 0x6d self.new) }
+        ensures { MayTakeSequence P.admits self.old params.now 0x6d result self.new }
     {
         if self.written.append_rendition(params)? {
             return Ok(true);
@@ -107,11 +104,7 @@ impl<'p, P: Admit<A>, A: Allocator> Passing<'p, P, A> {
     // Asks the policy of a control sequence.
     #[inline(never)]
     fn ask_sequence(&mut self, params: &[CsiParam], control: u8) -> Result<bool, AllocError>
-        ensures taken { IfOk result (λ b. IsTrue b
-            → TakesSequence P.admits self.old params.now control self.new) }
-        ensures left { IfOk result (λ b. b ≡ false → self.new ≡ self.old) }
-        ensures refused { OnErr result
-            (StopsSequence P.admits self.old params.now control self.new) }
+        ensures { MayTakeSequence P.admits self.old params.now control result self.new }
     {
         match self.policy.admits_sequence(params, control) {
             Some(true) => self.written.receive_sequence(params, false, control),
@@ -124,11 +117,7 @@ impl<'p, P: Admit<A>, A: Allocator> Passing<'p, P, A> {
     #[inline]
     fn take_link(&mut self, text: &[u8]) -> Result<bool, AllocError>
         requires { ArePassedLinks (P.admits self.old.policy.now) }
-        ensures taken { IfOk result (λ b. IsTrue b
-            → TakesCommand P.admits self.old (parts_of text.now) self.new) }
-        ensures left { IfOk result (λ b. b ≡ false → self.new ≡ self.old) }
-        ensures refused { OnErr result
-            (StopsCommand P.admits self.old (parts_of text.now) self.new) }
+        ensures { MayTakeCommand P.admits self.old (parts_of text.now) result self.new }
     {
         if self.written.append_link(text)? {
             return Ok(true);
@@ -139,11 +128,7 @@ impl<'p, P: Admit<A>, A: Allocator> Passing<'p, P, A> {
     // Asks the policy of a command.
     #[inline(never)]
     fn ask_command(&mut self, text: &[u8]) -> Result<bool, AllocError>
-        ensures taken { IfOk result (λ b. IsTrue b
-            → TakesCommand P.admits self.old (parts_of text.now) self.new) }
-        ensures left { IfOk result (λ b. b ≡ false → self.new ≡ self.old) }
-        ensures refused { OnErr result
-            (StopsCommand P.admits self.old (parts_of text.now) self.new) }
+        ensures { MayTakeCommand P.admits self.old (parts_of text.now) result self.new }
     {
         match self.policy.admits_command(text) {
             Some(true) => self.written.receive_command(text),
@@ -158,8 +143,7 @@ impl<'p, P: Admit<A>, A: Allocator> Sink<Action<A>> for Passing<'p, P, A> {
 
     ghost may = { λ _ _. Unit {0} };
 
-    ghost takes = { λ p a q. Takes (P.admits p.policy.now) p.written a q.written
-        × (q.policy.now ≡ p.policy.now) };
+    ghost takes = { TakesBy P.admits };
 
     ghost refuses = { Refuses };
 

@@ -8,7 +8,6 @@ ghost use Rattle.esc_actions.specs.declared.action.Action.TheVariants as action;
 ghost use Rattle.esc_parse.specs.Given.{Receives};
 ghost use Rattle.memory.specs.Refusals.{Refused};
 ghost use Rattle.esc_write.specs.Plain.{IsPlain};
-ghost use Rattle.esc_filter.specs.Closing.{unchanged};
 ghost use Rattle.esc_actions.specs.Values.{control, print, value_of};
 ghost use Rattle.esc_filter.specs.Characters.{in_unicode, instead};
 ghost use Rattle.esc_filter.specs.Noted.{AreKept, HasNoted, Notes, WriteDenies, Writes, WritesLink, WritesRendition, without_text, written_of};
@@ -45,10 +44,7 @@ impl<A: Allocator> Written<A> {
     /// Of no action. Takes no memory.
     pub fn new(alloc: A, by_lines: bool, unicode: Unicode) -> Written<A>
         ensures text { result.spell.text ≡ [] }
-        ensures plain { result.spell.follows_string ≡ false }
-        ensures left { result.left ≡ unchanged }
-        ensures lines { result.by_lines ≡ by_lines }
-        ensures characters { result.unicode ≡ unicode }
+        ensures noted { HasNoted by_lines unicode [] result }
     {
         Written {
             spell: Spell::new(alloc),

@@ -1,5 +1,5 @@
 -- What was fed to a reveal.
-use Rattle.std.specs.Prelude.{ℕ, ◌≡◌, Bool, false, if◌then◌else◌, List, ◌++◌, Some}
+use Rattle.std.specs.Prelude.{ℕ, ◌≡◌, Bool, true, false, if◌then◌else◌, is_ok, List, [], ◌++◌, OnErr, Result, Some}
 use Rattle.esc_filter.specs.declared.admit.Admit.{Ghosts as Admitter}
 use Rattle.esc_frame.specs.Stream.{LeadsToWithin}
 use Rattle.esc_reveal.specs.Grown.{Grows, Keeps}
@@ -56,6 +56,11 @@ AddsTo V s b old new =
 -- it added what the end of s adds
 abbrev pub EndsAs : {P A : Type 0} → Admitter P A → List ℕ → Reveal P A → Reveal P A → Type 0
 EndsAs V s old new = whole_by V old.rule s ≡ text_by V old.rule s ++ added_by new
+
+-- an error is for good, and adds nothing
+abbrev pub FailsForGood : {P A T E : Type 0} → Reveal P A → Result T E → Reveal P A → Type 0
+FailsForGood old result new = (old.has_failed ≡ true → is_ok result ≡ false)
+    × OnErr result ((new.has_failed ≡ true) × (added_by new ≡ []))
 
 -- r is what is unfinished now, and the text grew by what makes `after` of `before`
 abbrev pub Holds : {P A : Type 0} → List ℕ → List ℕ → List ℕ → Reveal P A → Reveal P A → Type 0

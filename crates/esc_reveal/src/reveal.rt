@@ -59,7 +59,7 @@ pub struct Reveal<P, A: Allocator = Global> {
 }
 
 impl<P: Admit<A>, A: Allocator + Copy> Reveal<P, A> {
-    ghost use Rattle.esc_reveal.specs.Fed.{AddsTo, AtRest, EndsAs, GrowsTo, Holds, IsFramed, WasFed, added_by, by_lines_of, closed_text, limit_of, policy_of};
+    ghost use Rattle.esc_reveal.specs.Fed.{AddsTo, AtRest, EndsAs, FailsForGood, GrowsTo, Holds, IsFramed, WasFed, added_by, by_lines_of, closed_text, limit_of, policy_of};
 
     /// One at the beginning of a stream, of which a piece of at most `limit` bytes is kept. Takes
     /// no memory.
@@ -94,8 +94,7 @@ impl<P: Admit<A>, A: Allocator + Copy> Reveal<P, A> {
             (WasFed (s ++ bytes.now) self.new × AddsTo P.Admit s bytes.now self.old self.new) }
         ensures rule { self.new.rule ≡ self.old.rule }
         ensures refused { (s : List ℕ) → WasFed s self.old → OnErr result (Refused A) }
-        ensures stops { OnErr result ((self.new.has_failed ≡ true) × (added_by self.new ≡ [])) }
-        ensures failed { self.old.has_failed ≡ true → is_ok result ≡ false }
+        ensures fails { FailsForGood self.old result self.new }
     {
         self.text.clear();
         if self.has_failed {
@@ -123,8 +122,7 @@ impl<P: Admit<A>, A: Allocator + Copy> Reveal<P, A> {
             (WasFed [] self.new × EndsAs P.Admit s self.old self.new) }
         ensures rule { self.new.rule ≡ self.old.rule }
         ensures refused { (s : List ℕ) → WasFed s self.old → OnErr result (Refused A) }
-        ensures stops { OnErr result ((self.new.has_failed ≡ true) × (added_by self.new ≡ [])) }
-        ensures failed { self.old.has_failed ≡ true → is_ok result ≡ false }
+        ensures fails { FailsForGood self.old result self.new }
     {
         self.text.clear();
         if self.has_failed {

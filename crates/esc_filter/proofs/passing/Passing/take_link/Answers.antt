@@ -1,33 +1,37 @@
-use Rattle.std.proofs.Common.{IfOk, Ok, inl, inr, refl, subst, true}
-use Rattle.std.specs.Prelude.{IsTrue}
+use Rattle.std.proofs.Common.{Ok, inl, inr, refl, subst, true, rules}
 use Rattle.std.specs.declared.alloc.AllocError.{AllocError}
 use Rattle.esc_values.specs.Clear.{parts_of}
 use Rattle.esc_osc.specs.Reading.{meaning as command_meant}
 use Rattle.esc_actions.specs.declared.action.Action.TheVariants as action
 use Rattle.esc_parse.proofs.Lists.{on_err_any}
-use Rattle.esc_filter.specs.Fed.{TakesCommand}
+use Rattle.esc_filter.specs.Fed.{MayTakeCommand}
 use Rattle.esc_filter.proofs.Sequences.{command_passes, link_taken}
 use Rattle.esc_filter.proofs.passing.Passing.take_link.Goals as goal
 
-pub returns-then-branch-clause-taken : goal.returns-then-branch-clause-taken
-returns-then-branch-clause-taken g c =
+pub returns-then-branch : goal.returns-then-branch
+returns-then-branch g c =
     let ps = parts_of c.args.text.now in
-    let w = c.in_ok-append_link.ensures.taken c.if-branch.true in
-    command_passes g.P.Admit.admits {E = AllocError} (Ok true) ps c.args.self.now
-    c.append_link.new.self (c.requires (command_meant ps) w.0)
-    (λ _. link_taken c.args.self.now.written c.append_link.new.self ps w)
+    let w = c.in_ok-append_link.ensures.taken c.if-branch.true in record {
+      taken = command_passes g.P.Admit.admits {E = AllocError} (Ok true) ps c.args.self.now
+          c.append_link.new.self (c.requires (command_meant ps) w.0)
+          (λ _. link_taken c.args.self.now.written c.append_link.new.self ps w);
+      left = search rules;
+      refused = search rules;
+    }
 
-pub returns-in_err-append_link-clause-refused : goal.returns-in_err-append_link-clause-refused
-returns-in_err-append_link-clause-refused g c =
-    on_err_any _ c.from_residual.result (inr (inl (
-      action.OperatingSystemCommand (command_meant (parts_of c.args.text.now)),
-      refl,
-      λ _. c.in_err-append_link.ensures.refused,
-    )))
+pub returns-in_err-append_link : goal.returns-in_err-append_link
+returns-in_err-append_link g c = record {
+  taken = search rules;
+  left = search rules;
+  refused = on_err_any _ c.from_residual.result (inr (inl (
+    action.OperatingSystemCommand (command_meant (parts_of c.args.text.now)),
+    refl,
+    λ _. c.in_err-append_link.ensures.refused,
+  )));
+}
 
-pub returns-clause-taken : goal.returns-clause-taken
-returns-clause-taken g c =
-    let ps = parts_of c.args.text.now in
-    subst (λ w. IfOk c.ask_command.result (λ b. IsTrue b → TakesCommand g.P.Admit.admits
-    (record c.args.self.now { written = w }) ps c.ask_command.new.self))
-    (c.in_ok-append_link.ensures.left c.if-branch.false) c.ask_command.ensures.taken
+pub returns : goal.returns
+returns g c =
+    subst (λ w. MayTakeCommand g.P.Admit.admits (record c.args.self.now { written = w })
+    (parts_of c.args.text.now) c.ask_command.result c.ask_command.new.self)
+    (c.in_ok-append_link.ensures.left c.if-branch.false) c.ask_command.ensures

@@ -4,8 +4,7 @@ use Rattle.std.specs.List.{FoldsTo}
 use Rattle.esc_sequences.specs.Csis.{csi_of}
 use Rattle.esc_normal.proofs.Spelling.{IsSequence}
 use Rattle.esc_parse.specs.Given.{By, StopsAt}
-use Rattle.esc_filter.specs.Fed.{Refuses}
-use Rattle.esc_filter.proofs.Runs.{TakesBy}
+use Rattle.esc_filter.specs.Fed.{Refuses, TakesBy}
 use Rattle.esc_filter.proofs.passing.PassingSinkAction.receive_sequence.Goals as goal
 
 pub returns-then-known-clause-taken : goal.returns-then-known-clause-taken

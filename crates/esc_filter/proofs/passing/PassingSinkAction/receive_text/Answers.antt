@@ -2,8 +2,8 @@ use Rattle.esc_normal.proofs.Spelling.{match_both}
 use Rattle.std.proofs.Common.{arith}
 use Rattle.esc_actions.specs.declared.action.Action.TheVariants.{Print}
 use Rattle.esc_parse.proofs.TextRuns.{stops_next, takes_next}
-use Rattle.esc_filter.proofs.Runs.{TakesBy, run_passes, run_refused}
-use Rattle.esc_filter.specs.Fed.{Refuses}
+use Rattle.esc_filter.proofs.Runs.{run_passes, run_refused}
+use Rattle.esc_filter.specs.Fed.{Refuses, TakesBy}
 use Rattle.esc_filter.proofs.passing.PassingSinkAction.receive_text.Goals as goal
 
 pub returns-then-admits_text-clause-given : goal.returns-then-admits_text-clause-given
