@@ -172,6 +172,20 @@ static void check_refusal(const struct escape_stream_osc *osc, struct bytes text
     }
 }
 
+/* Whether a text has this kind and these fields. */
+bool reads_as(enum reading as, struct bytes text, uint32_t kind, const struct escape_stream_field *fields, size_t count,
+              struct bytes texts) {
+    struct room room = room_of(count, texts.length);
+    bool is_same;
+    call = &CALLS[as];
+    is_same = run(&room, text) == ESCAPE_STREAM_DONE && room.osc->kind == kind && room.osc->field_count == count &&
+              room.osc->text_length == texts.length && memcmp(room.fields, fields, count * sizeof *fields) == 0 &&
+              memcmp(room.out, texts.at, texts.length) == 0;
+    memset(room.fields, JUNK, count * sizeof *fields);
+    memset(room.out, JUNK, texts.length);
+    return is_same;
+}
+
 /* Checks what a text says, as what it is read. */
 void check_command(enum reading as, struct bytes text) {
     struct escape_stream_osc osc;
@@ -180,6 +194,16 @@ void check_command(enum reading as, struct bytes text) {
     check_room(&osc, text);
     if (one_in(4))
         check_refusal(&osc, text);
+    check_written(as, osc.kind, all_fields, osc.field_count, (struct bytes){all_texts, osc.text_length});
+}
+
+/* Writes the sixel image of a text. */
+static void write_again(const int64_t *params, size_t count, struct bytes text) {
+    static struct escape_stream_sixel_item items[STREAM_ROOM];
+    struct escape_stream_sixel sixel;
+    if (escape_stream_read_sixel(params, count, text.at, text.length, &sixel, items, STREAM_ROOM) != ESCAPE_STREAM_DONE)
+        fails("another status", text.length);
+    check_written_sixel(&sixel, items);
 }
 
 /* Checks the sixel image of a text: its items in room for some, and none past these. */
@@ -205,4 +229,6 @@ void check_sixel(struct bytes text) {
     memset(items, JUNK, written * sizeof *items);
     if (!is_all(JUNK, items, item_room * sizeof *items))
         fails("an item past those of the image was written, in room for", item_room);
+    if (one_in(4))
+        write_again(params, count, text);
 }

@@ -79,6 +79,7 @@ static void begin(void) {
     begin_texts();
     begin_pieces();
     begin_commands();
+    begin_writes();
 }
 
 int main(int count, char **words) {

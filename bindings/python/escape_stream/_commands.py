@@ -1,11 +1,11 @@
 # SPDX-License-Identifier: MIT
-"""What operating system commands say: their kind, and their parts as fields."""
+"""What operating system commands say: their kind, and their parts as fields; and the commands that say it."""
 
 from dataclasses import dataclass
 from enum import IntEnum
 
 from escape_stream import _library
-from escape_stream._fields import Fields, FieldName, Value, read
+from escape_stream._fields import Fields, FieldName, Value, read, written
 
 
 class CommandKind(IntEnum):
@@ -72,6 +72,18 @@ class Command:
     def get(self, name: FieldName) -> Value | None:
         """Returns the first field of this name, where there is one."""
         return next((value for it, value in self.fields if it == name), None)
+
+    def to_bytes(self) -> bytes:
+        """Returns the command, from ESC ] to ESC \\ : what `command` reads of the text between these is this value.
+
+        >>> from escape_stream import command
+        >>> command(b"2;a title").to_bytes()
+        b'\\x1b]2;a title\\x1b\\\\'
+
+        Raises ValueError where no command has this kind and these fields, and where its text would not read back as it, as
+        that of a title with a control; MemoryError where a request for memory was refused.
+        """
+        return written(_library.write_osc, self.fields, self.kind)
 
 
 def command(text: bytes) -> Command:

@@ -1,5 +1,5 @@
 # SPDX-License-Identifier: MIT
-"""What device control strings say: sixel images, termcap queries and short requests."""
+"""What device control strings say, sixel images and termcap queries; and the strings that say it."""
 
 from collections.abc import Sequence
 from ctypes import byref, c_int64
@@ -7,7 +7,7 @@ from dataclasses import dataclass
 from enum import IntEnum
 
 from escape_stream import _library
-from escape_stream._fields import read
+from escape_stream._fields import FieldName, read, written
 
 
 class SixelKind(IntEnum):
@@ -64,12 +64,46 @@ class Sixel:
     """Width and height: both that raster attributes say, and else those of what is drawn."""
     items: tuple[SixelItem, ...]
 
+    def to_bytes(self) -> bytes:
+        """Returns the image, from ESC P to ESC \\ : what `sixel` reads of its parameters and its data is this value.
+
+        The `dimensions` follow from the rest, and are not looked at.
+
+        >>> from escape_stream import sixel
+        >>> sixel([9, 1], b"!3~").to_bytes()
+        b'\\x1bP7;1q!3~\\x1b\\\\'
+
+        Raises ValueError where no image has these values, and where its text would not read back as it, as that of a number
+        that is negative; MemoryError where a request for memory was refused.
+        """
+        raw, rows = _library.RawSixel(), (_library.RawSixelItem * len(self.items))(*map(_row, self.items))
+        raw.pan, raw.pad = _library.signed(self.pan), _library.signed(self.pad)
+        raw.background_is_transparent = self.background_is_transparent
+        if self.horizontal_grid_size is not None:
+            raw.has_grid_size, raw.grid_size = True, _library.signed(self.horizontal_grid_size)
+        if self.pixel_width is not None:
+            raw.has_pixel_width, raw.pixel_width = True, _library.within(self.pixel_width, 32)
+        if self.pixel_height is not None:
+            raw.has_pixel_height, raw.pixel_height = True, _library.within(self.pixel_height, 32)
+        return _library.written(_library.write_sixel, byref(raw), rows, len(rows))
+
 
 @dataclass(frozen=True, slots=True)
 class TermcapQuery:
     """The names of capabilities that are asked for (XTGETTCAP), at least one."""
 
     names: tuple[str, ...]
+
+    def to_bytes(self) -> bytes:
+        """Returns the query, from ESC P + q to ESC \\ : what `termcap_query` reads of the data between these is this value.
+
+        >>> from escape_stream import TermcapQuery
+        >>> TermcapQuery(("TN", "Co")).to_bytes()
+        b'\\x1bP+q544e;436f\\x1b\\\\'
+
+        Raises ValueError where there is no name; MemoryError where a request for memory was refused.
+        """
+        return written(_library.write_tcap, tuple((FieldName.NAME, name) for name in self.names))
 
 
 def termcap_query(data: bytes) -> TermcapQuery:
@@ -110,6 +144,13 @@ def sixel(parameters: Sequence[int], data: bytes) -> Sixel:
         (raw.width, raw.height),
         tuple(map(_item, rows[: raw.item_count])),
     )
+
+
+def _row(item: SixelItem) -> _library.RawSixelItem:
+    hue, lightness, saturation = item.hls
+    bits = (32, 32, 16, 16, 8, 8, 8, 8, 8, 8)
+    numbers = (item.kind, item.count, item.color, hue, item.pixels, *item.rgb, lightness, saturation)
+    return _library.RawSixelItem(*map(_library.within, numbers, bits))
 
 
 def _item(row: _library.RawSixelItem) -> SixelItem:

@@ -1,5 +1,5 @@
 # SPDX-License-Identifier: MIT
-"""The fields of a text, as a call of the library gives them."""
+"""The fields of a text, as a call of the library gives them and takes them."""
 
 from collections.abc import Callable, Collection
 from ctypes import byref, c_ubyte
@@ -116,3 +116,19 @@ def _field(
         return name, row.length
     text = texts[row.offset : row.offset + row.length]
     return name, text if (kind, name) in as_bytes else text.decode()
+
+
+def written(call: Callable[..., int], fields: Fields, *kind: int) -> bytes:
+    """Returns the text that a call writes of a kind, where it takes one, and of these fields."""
+    rows, texts = (_library.RawField * len(fields))(), bytearray()
+    for row, (name, value) in zip(rows, fields):
+        row.name = name
+        if not isinstance(value, int):
+            text = value.encode() if isinstance(value, str) else value
+            row.kind, row.offset, row.length = _library.VALUE_TEXT, len(texts), len(text)
+            texts += text
+        elif name == FieldName.SIZE:
+            row.kind, row.length = _library.VALUE_SIZE, _library.within(value, 64)
+        else:
+            row.kind, row.number = _library.VALUE_NUMBER, _library.signed(value)
+    return _library.written(call, *kind, rows, len(rows), bytes(texts), len(texts))

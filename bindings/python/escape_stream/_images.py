@@ -1,11 +1,11 @@
 # SPDX-License-Identifier: MIT
-"""What commands of kitty's graphics protocol say: their kind, and their keys as fields."""
+"""What commands of kitty's graphics protocol say: their kind, and their keys as fields; and the commands that say it."""
 
 from dataclasses import dataclass
 from enum import IntEnum
 
 from escape_stream import _library
-from escape_stream._fields import Fields, FieldName, Value, read
+from escape_stream._fields import Fields, FieldName, Value, read, written
 
 
 class ImageKind(IntEnum):
@@ -57,6 +57,18 @@ class Image:
     def get(self, name: FieldName) -> Value | None:
         """Returns the field of this name, where there is one."""
         return next((value for it, value in self.fields if it == name), None)
+
+    def to_bytes(self) -> bytes:
+        """Returns the command, from ESC _ to ESC \\ : what `image` reads of the text between these is this value.
+
+        >>> from escape_stream import image
+        >>> image(b"Gs=10,f=24,v=20;AAAA").to_bytes()
+        b'\\x1b_Gf=24,s=10,v=20;AAAA\\x1b\\\\'
+
+        Raises ValueError where no command has this kind and these fields, and where its text would not read back as it, as
+        that of pixels that are not in base64; MemoryError where a request for memory was refused.
+        """
+        return written(_library.write_kitty, self.fields, self.kind)
 
 
 def image(text: bytes) -> Image | None:

@@ -7,10 +7,12 @@ pointer is never null; an object that a call writes is of this package alone.
 
 import ctypes
 import struct
-from ctypes import POINTER, Structure, c_bool, c_char_p, c_int64, c_size_t, c_ubyte, c_uint16, c_uint32, c_uint64, c_void_p
+from collections.abc import Callable
+from ctypes import POINTER, Structure, byref
+from ctypes import c_bool, c_char_p, c_int64, c_size_t, c_ubyte, c_uint16, c_uint32, c_uint64, c_void_p
 from pathlib import Path
 
-DONE, NO_MEMORY, UNKNOWN_POLICY, NOT_BEGUN = range(4)
+DONE, NO_MEMORY, UNKNOWN_POLICY, NOT_BEGUN, NO_COMMAND, NOT_WRITABLE = range(6)
 
 NONE, TEXT, CHARACTER, CONTROL, ESCAPE, CSI, OSC = range(7)
 DCS, DATA, DATA_BYTE, DCS_END, APC, FAILED, LIMIT = range(7, 14)
@@ -271,13 +273,62 @@ read_sixel = _long.escape_stream_read_sixel
 read_sixel.argtypes = (POINTER(c_int64), c_size_t, *_length, POINTER(RawSixel), POINTER(RawSixelItem), c_size_t)
 read_sixel.restype = c_uint32
 
+_fields = (POINTER(RawField), c_size_t, *_length)
+_needed = (*_room, POINTER(c_size_t))
+
+write_osc = _short.escape_stream_write_osc
+write_osc.argtypes = (c_uint32, *_fields, *_needed)
+write_osc.restype = c_uint32
+
+write_kitty = _short.escape_stream_write_kitty
+write_kitty.argtypes = (c_uint32, *_fields, *_needed)
+write_kitty.restype = c_uint32
+
+write_tcap = _short.escape_stream_write_tcap
+write_tcap.argtypes = (*_fields, *_needed)
+write_tcap.restype = c_uint32
+
+write_sixel = _long.escape_stream_write_sixel
+write_sixel.argtypes = (POINTER(RawSixel), POINTER(RawSixelItem), c_size_t, *_needed)
+write_sixel.restype = c_uint32
+
 
 def done(status: int) -> None:
     """Raises what a status says, where the call was not done."""
     if status == NO_MEMORY:
         raise MemoryError("escape_stream: a request for memory was refused")
+    if status == NO_COMMAND:
+        raise ValueError("escape_stream: the parts of the value do not go together")
+    if status == NOT_WRITABLE:
+        raise ValueError("escape_stream: the text of the value would not read back as it")
     if status != DONE:
         raise RuntimeError(f"escape_stream: status {status}")
+
+
+def written(call: Callable[..., int], *words: object) -> bytes:
+    """Returns the text that a call writes, which takes these words first."""
+    # First in as much room as most need.
+    room, needed = 256, c_size_t()
+    while True:
+        out = (c_ubyte * room)()
+        done(call(*words, out, room, byref(needed)))
+        if needed.value <= room:
+            return bytes(memoryview(out)[: needed.value])
+        room = needed.value
+
+
+def within(number: int, bits: int) -> int:
+    """Returns a number from 0 up, where it has no more bits: one that ctypes keeps as it is."""
+    if not 0 <= number < 1 << bits:
+        raise ValueError(f"{number} is no number of {bits} bits")
+    return number
+
+
+def signed(number: int) -> int:
+    """Returns a number, where it is one of 64 bits with its sign."""
+    if not -(1 << 63) <= number < 1 << 63:
+        raise ValueError(f"{number} is no number of 64 bits with its sign")
+    return number
 
 
 def bytes_of(stream: bytes) -> bytes:

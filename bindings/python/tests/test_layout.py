@@ -26,7 +26,7 @@ STRUCTS: dict[str, type[ctypes.Structure]] = {
     "escape_stream_sixel": _library.RawSixel,
     "escape_stream_sixel_item": _library.RawSixelItem,
 }
-STATUSES = ("DONE", "NO_MEMORY", "UNKNOWN_POLICY", "NOT_BEGUN")
+STATUSES = ("DONE", "NO_MEMORY", "UNKNOWN_POLICY", "NOT_BEGUN", "NO_COMMAND", "NOT_WRITABLE")
 VALUES = ("VALUE_NUMBER", "VALUE_TEXT", "VALUE_SIZE")
 KINDS = "NONE TEXT CHARACTER CONTROL ESCAPE CSI OSC DCS DATA DATA_BYTE DCS_END APC FAILED LIMIT".split()
 ENUMS: dict[str, type[IntEnum]] = {

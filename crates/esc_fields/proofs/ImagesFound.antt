@@ -1,5 +1,6 @@
--- The parts of kitty's images are read from their numbers.
-use Rattle.std.proofs.Common.{ℕ, ℤ, pos, ◌≡◌, ◌==◌, Bool, true, false, if◌then◌else◌, List, [], ◌∷◌, ◌++◌, Option, Some, None, option_map, map, refl, ap, ◌∙◌}
+-- The parts of kitty's images are read from their numbers, by a reading that gives what is within
+-- bounds as it is.
+use Rattle.std.proofs.Common.{ℕ, ℤ, pos, ◌≡◌, ◌==◌, ◌^◌, Bool, true, false, if◌then◌else◌, List, [], ◌∷◌, ◌++◌, Option, Some, None, option_map, map, refl, ap, ◌∙◌}
 use Rattle.esc_kitty.specs.Texts.{offset_in, size_in}
 use Rattle.esc_kitty.specs.declared.compose.KittyImageFrameCompose.{KittyImageFrameCompose}
 use Rattle.esc_kitty.specs.declared.composition.KittyFrameCompositionMode.{KittyFrameCompositionMode}
@@ -15,21 +16,21 @@ use Rattle.esc_kitty.specs.declared.placement.KittyImagePlacement.{KittyImagePla
 use Rattle.esc_kitty.specs.declared.transmit.KittyImageTransmit.{KittyImageTransmit}
 use Rattle.esc_kitty.specs.declared.verbosity.KittyImageVerbosity.{KittyImageVerbosity}
 use Rattle.esc_kitty.specs.declared.verbosity.KittyImageVerbosity.TheVariants.{Verbose, OnlyErrors, Quiet}
+use Rattle.esc_fields.proofs.ValuesBack.{Fits}
 use Rattle.esc_fields.specs.Fields.{Field, name_number, named}
-use Rattle.esc_fields.specs.Found.{NamedValue, is_named, magnitude, number_of}
+use Rattle.esc_fields.specs.Fields.Value.{Text}
+use Rattle.esc_fields.specs.Found.{Reading}
+use Rattle.esc_fields.specs.FoundImages.{compose_in, composition_of, compression_of, content_of, count, flag, format_in, frame_in, known, look, order, placement_in, transmit_in, verbosity_in, verbosity_of}
+use Rattle.esc_fields.specs.Held.{Bounds}
+use Rattle.esc_fields.specs.HeldImages.{IsCompose, IsContent, IsCount, IsFrame, IsOrder, IsPlacement, IsTransmit}
 use Rattle.esc_fields.specs.Images.{Numbers, bytes_of, compose_numbers, composition_number, compression_number, counted, flagged, format_number, frame_numbers, medium_number, number_fields, optional_field, placement_numbers, transmit_numbers, verbosity_number, verbosity_numbers}
 use Rattle.esc_fields.specs.declared.field_name.FieldName.{FieldName}
-use Rattle.esc_fields.specs.declared.field_name.FieldName.TheVariants as name
 
--- the number of a name, among what rows say, where there is one
+-- whether it is this name
 abbrev is : FieldName → FieldName → Bool
 is n m = name_number m == name_number n
 
-abbrev pub look : List NamedValue → FieldName → Option ℤ
-look [] n = None
-look (s ∷ ss) n = if is_named n s then Some (number_of s.1) else look ss n
-
--- the same among numbers: the first, by what there is after it
+-- what is found among numbers: the first, by what there is after it
 abbrev earlier : Option ℤ → Option ℤ → Option ℤ
 earlier None o = o
 earlier (Some z) None = Some z
@@ -64,53 +65,14 @@ seen_at (s ∷ ss) n = first_seen n s.0 s.1 (number_fields ss)
 pub seen : (ss : Numbers) → look (map named (number_fields ss)) ≡ seek ss
 seen ss = λ k n. seen_at ss n k
 
--- numbers and flags from what was found
-abbrev Found : Type 0
-Found = FieldName → Option ℤ
-
-abbrev pub count : Option ℤ → Option ℕ
-count o = option_map magnitude o
-
-abbrev pub natural : Option ℤ → ℕ
-natural None = 0
-natural (Some z) = magnitude z
-
-abbrev pub flag : Option ℤ → Bool
-flag None = false
-flag (Some z) = if magnitude z == 1 then true else false
-
-abbrev pub whole_number : Option ℤ → ℤ
-whole_number None = pos 0
-whole_number (Some z) = z
-
-pub count_back : (o : Option ℕ) → count (counted o) ≡ o
-count_back None = refl
-count_back (Some n) = refl
-
-pub flag_back : (b : Bool) → flag (flagged b) ≡ b
-flag_back false = refl
-flag_back true = refl
-
--- what the protocol has words for
-abbrev verbosity_of : ℕ → KittyImageVerbosity
-verbosity_of n = if n == 0 then Verbose else if n == 1 then OnlyErrors else Quiet
-
-abbrev format_of : ℕ → KittyImageFormat
-format_of n = if n == 24 then Rgb else if n == 32 then Rgba else Png
-
-abbrev compression_of : ℕ → KittyImageCompression
-compression_of n = if n == 0 then compression.None else compression.Deflate
-
-abbrev composition_of : ℕ → KittyFrameCompositionMode
-composition_of n = if n == 0 then AlphaBlending else Overwrite
-
+-- words by their numbers
 verbosity_is : (v : KittyImageVerbosity) → verbosity_of (verbosity_number v) ≡ v
 verbosity_is Verbose = refl
 verbosity_is OnlyErrors = refl
 verbosity_is Quiet = refl
 
 format_is : (o : Option KittyImageFormat)
-    → option_map format_of (count (counted (option_map format_number o))) ≡ o
+    → format_in (counted (option_map format_number o)) ≡ o
 format_is None = refl
 format_is (Some Rgb) = refl
 format_is (Some Rgba) = refl
@@ -124,136 +86,105 @@ composition_is : (m : KittyFrameCompositionMode) → composition_of (composition
 composition_is AlphaBlending = refl
 composition_is Overwrite = refl
 
--- what is reported
-abbrev pub verbosity_in : Found → KittyImageVerbosity
-verbosity_in l = verbosity_of (natural (l name.Verbosity))
+-- flags, and what is reported
+pub flag_back : (b : Bool) → flag (flagged b) ≡ b
+flag_back false = refl
+flag_back true = refl
 
 pub verbosity_back : (v : KittyImageVerbosity) → verbosity_in (seek (verbosity_numbers v)) ≡ v
 verbosity_back v = verbosity_is v
 
-module _ {A : Type 0} where
-  -- what an image is made of
-  abbrev content_of : ℕ → List ℕ → Option ℕ → Option ℕ → KittyImageData A
-  content_of n t s o = if n == 0 then Direct t else if n == 1 then DirectBin t
-      else if n == 2 then File t s o else if n == 3 then TemporaryFile t s o else SharedMem t s o
+module _ (r : Reading) (b : Bounds) (f : Fits r b) where
+  -- numbers within bounds
+  pub known_back : (n : ℕ) → b.Number (2 ^ 32) n → known r (Some (pos n)) ≡ n
+  known_back n h = f.number (2 ^ 32) n h
 
-  content_is : (c : KittyImageData A) → content_of (medium_number c) (bytes_of c)
-      (count (counted (size_in c))) (count (counted (offset_in c))) ≡ c
-  content_is (Direct t) = refl
-  content_is (DirectBin t) = refl
-  content_is (File t s o) = λ k. File t (count_back s k) (count_back o k)
-  content_is (TemporaryFile t s o) = λ k. TemporaryFile t (count_back s k) (count_back o k)
-  content_is (SharedMem t s o) = λ k. SharedMem t (count_back s k) (count_back o k)
+  pub count_back : (o : Option ℕ) → IsCount b o → count r (counted o) ≡ o
+  count_back None h = refl
+  count_back (Some n) h = ap Some (f.number (2 ^ 32) n h)
 
-  -- an image on its way
-  abbrev pub transmit_in : List ℕ → Found → KittyImageTransmit A
-  transmit_in t l = record {
-    format = option_map format_of (count (l name.Format));
-    content = content_of (natural (l name.Medium)) t (count (l name.DataSize))
-        (count (l name.DataOffset));
-    width = count (l name.PixelWidth);
-    height = count (l name.PixelHeight);
-    image_id = count (l name.ImageId);
-    image_number = count (l name.ImageNumber);
-    compression = compression_of (natural (l name.Compression));
-    more_data_follows = flag (l name.MoreDataFollows);
+  pub order_back : (o : Option ℤ) → IsOrder b o → order r o ≡ o
+  order_back None h = refl
+  order_back (Some z) h = ap Some (f.signed z h)
+
+  -- how an image is shown
+  pub placement_back : (p : KittyImagePlacement) → IsPlacement b p
+      → placement_in r (seek (placement_numbers p)) ≡ p
+  placement_back p h = λ k. record {
+    x = count_back p.x h.x k;
+    y = count_back p.y h.y k;
+    w = count_back p.w h.w k;
+    h = count_back p.h h.h k;
+    x_offset = count_back p.x_offset h.x_offset k;
+    y_offset = count_back p.y_offset h.y_offset k;
+    columns = count_back p.columns h.columns k;
+    rows = count_back p.rows h.rows k;
+    placement_id = count_back p.placement_id h.placement_id k;
+    do_not_move_cursor = flag_back p.do_not_move_cursor k;
+    z_index = order_back p.z_index h.z_index k;
+    unicode_placeholder = flag_back p.unicode_placeholder k;
   }
 
-  pub transmit_back : (t : KittyImageTransmit A)
-      → transmit_in (bytes_of t.content) (seek (transmit_numbers t)) ≡ t
-  transmit_back t = λ k. record {
+  -- frames
+  pub frame_back : (x : KittyImageFrame) → IsFrame b x → frame_in r (seek (frame_numbers x)) ≡ x
+  frame_back x h = λ k. record {
+    x = count_back x.x h.x k;
+    y = count_back x.y h.y k;
+    base_frame = count_back x.base_frame h.base_frame k;
+    frame_number = count_back x.frame_number h.frame_number k;
+    duration_ms = count_back x.duration_ms h.duration_ms k;
+    composition_mode = composition_is x.composition_mode k;
+    background_pixel = count_back x.background_pixel h.background_pixel k;
+  }
+
+  pub compose_back : (x : KittyImageFrameCompose) → IsCompose b x
+      → compose_in r (seek (compose_numbers x)) ≡ x
+  compose_back x h = λ k. record {
+    image_id = count_back x.image_id h.image_id k;
+    image_number = count_back x.image_number h.image_number k;
+    target_frame = count_back x.target_frame h.target_frame k;
+    source_frame = count_back x.source_frame h.source_frame k;
+    x = count_back x.x h.x k;
+    y = count_back x.y h.y k;
+    w = count_back x.w h.w k;
+    h = count_back x.h h.h k;
+    src_x = count_back x.src_x h.src_x k;
+    src_y = count_back x.src_y h.src_y k;
+    composition_mode = composition_is x.composition_mode k;
+  }
+
+  -- what an image is made of
+  content_is : {A : Type 0} (c : KittyImageData A) → IsContent b c
+      → content_of r (medium_number c) (Text (bytes_of c)) (count r (counted (size_in c)))
+      (count r (counted (offset_in c))) ≡ c
+  content_is (Direct t) h = ap Direct (f.text t h)
+  content_is (DirectBin t) h = refl
+  content_is (File t s o) h =
+      let text_is = f.text t h.0 in
+      let size_is = count_back s h.1 in
+      let offset_is = count_back o h.2 in
+      λ k. File (text_is k) (size_is k) (offset_is k)
+  content_is (TemporaryFile t s o) h =
+      let text_is = f.text t h.0 in
+      let size_is = count_back s h.1 in
+      let offset_is = count_back o h.2 in
+      λ k. TemporaryFile (text_is k) (size_is k) (offset_is k)
+  content_is (SharedMem t s o) h =
+      let text_is = f.text t h.0 in
+      let size_is = count_back s h.1 in
+      let offset_is = count_back o h.2 in
+      λ k. SharedMem (text_is k) (size_is k) (offset_is k)
+
+  -- an image on its way
+  pub transmit_back : {A : Type 0} (t : KittyImageTransmit A) → IsTransmit b t
+      → transmit_in r (Text (bytes_of t.content)) (seek (transmit_numbers t)) ≡ t
+  transmit_back t h = λ k. record {
     format = format_is t.format k;
-    content = content_is t.content k;
-    width = count_back t.width k;
-    height = count_back t.height k;
-    image_id = count_back t.image_id k;
-    image_number = count_back t.image_number k;
+    content = content_is t.content h.content k;
+    width = count_back t.width h.width k;
+    height = count_back t.height h.height k;
+    image_id = count_back t.image_id h.image_id k;
+    image_number = count_back t.image_number h.image_number k;
     compression = compression_is t.compression k;
     more_data_follows = flag_back t.more_data_follows k;
   }
-
--- how an image is shown
-abbrev pub placement_in : Found → KittyImagePlacement
-placement_in l = record {
-  x = count (l name.X);
-  y = count (l name.Y);
-  w = count (l name.Width);
-  h = count (l name.Height);
-  x_offset = count (l name.XOffset);
-  y_offset = count (l name.YOffset);
-  columns = count (l name.Columns);
-  rows = count (l name.Rows);
-  placement_id = count (l name.PlacementId);
-  do_not_move_cursor = flag (l name.DoNotMoveCursor);
-  z_index = l name.ZIndex;
-  unicode_placeholder = flag (l name.UnicodePlaceholder);
-}
-
-pub placement_back : (p : KittyImagePlacement) → placement_in (seek (placement_numbers p)) ≡ p
-placement_back p = λ k. record {
-  x = count_back p.x k;
-  y = count_back p.y k;
-  w = count_back p.w k;
-  h = count_back p.h k;
-  x_offset = count_back p.x_offset k;
-  y_offset = count_back p.y_offset k;
-  columns = count_back p.columns k;
-  rows = count_back p.rows k;
-  placement_id = count_back p.placement_id k;
-  do_not_move_cursor = flag_back p.do_not_move_cursor k;
-  z_index = p.z_index;
-  unicode_placeholder = flag_back p.unicode_placeholder k;
-}
-
--- frames
-abbrev pub frame_in : Found → KittyImageFrame
-frame_in l = record {
-  x = count (l name.X);
-  y = count (l name.Y);
-  base_frame = count (l name.BaseFrame);
-  frame_number = count (l name.FrameNumber);
-  duration_ms = count (l name.Duration);
-  composition_mode = composition_of (natural (l name.CompositionMode));
-  background_pixel = count (l name.BackgroundPixel);
-}
-
-pub frame_back : (f : KittyImageFrame) → frame_in (seek (frame_numbers f)) ≡ f
-frame_back f = λ k. record {
-  x = count_back f.x k;
-  y = count_back f.y k;
-  base_frame = count_back f.base_frame k;
-  frame_number = count_back f.frame_number k;
-  duration_ms = count_back f.duration_ms k;
-  composition_mode = composition_is f.composition_mode k;
-  background_pixel = count_back f.background_pixel k;
-}
-
-abbrev pub compose_in : Found → KittyImageFrameCompose
-compose_in l = record {
-  image_id = count (l name.ImageId);
-  image_number = count (l name.ImageNumber);
-  target_frame = count (l name.TargetFrame);
-  source_frame = count (l name.SourceFrame);
-  x = count (l name.X);
-  y = count (l name.Y);
-  w = count (l name.Width);
-  h = count (l name.Height);
-  src_x = count (l name.SourceX);
-  src_y = count (l name.SourceY);
-  composition_mode = composition_of (natural (l name.CompositionMode));
-}
-
-pub compose_back : (f : KittyImageFrameCompose) → compose_in (seek (compose_numbers f)) ≡ f
-compose_back f = λ k. record {
-  image_id = count_back f.image_id k;
-  image_number = count_back f.image_number k;
-  target_frame = count_back f.target_frame k;
-  source_frame = count_back f.source_frame k;
-  x = count_back f.x k;
-  y = count_back f.y k;
-  w = count_back f.w k;
-  h = count_back f.h k;
-  src_x = count_back f.src_x k;
-  src_y = count_back f.src_y k;
-  composition_mode = composition_is f.composition_mode k;
-}

@@ -1,188 +1,293 @@
--- A kind and fields are the whole of an image of kitty's, or of none: it is read from them.
-use Rattle.std.proofs.Common.{ℕ, ℤ, ◌≡◌, false, List, [], ◌∷◌, ◌++◌, Option, Some, None, get_or, map, refl, sym, ap, ◌∙◌}
+-- Kitty images are read back from what their rows say, so a kind and fields are the whole of an
+-- image, or of none.
+use Rattle.std.proofs.Common.{ℕ, ℤ, ◌≡◌, ◌↔◌, Bool, true, false, IsTrue, List, ◌++◌, Option, Some, None, Result, Ok, Err, IfOk, map, refl, sym, subst, ap, ◌∙◌}
+use Rattle.std.proofs.lemmas.Bool.{true≢false}
+use Rattle.std.proofs.lemmas.Option.{none-some}
+use Rattle.esc_kitty.specs.declared.compose.KittyImageFrameCompose.{KittyImageFrameCompose}
+use Rattle.esc_kitty.specs.declared.content.KittyImageData.{KittyImageData}
+use Rattle.esc_kitty.specs.declared.content.KittyImageData.TheVariants.{Direct, DirectBin, File, TemporaryFile, SharedMem}
 use Rattle.esc_kitty.specs.declared.delete.KittyImageDelete.{KittyImageDelete}
 use Rattle.esc_kitty.specs.declared.delete.KittyImageDelete.TheVariants as delete
+use Rattle.esc_kitty.specs.declared.frame.KittyImageFrame.{KittyImageFrame}
 use Rattle.esc_kitty.specs.declared.image.KittyImage.{KittyImage}
 use Rattle.esc_kitty.specs.declared.image.KittyImage.TheVariants as image
+use Rattle.esc_kitty.specs.declared.placement.KittyImagePlacement.{KittyImagePlacement}
+use Rattle.esc_kitty.specs.declared.transmit.KittyImageTransmit.{KittyImageTransmit}
 use Rattle.esc_kitty.specs.declared.verbosity.KittyImageVerbosity.{KittyImageVerbosity}
-use Rattle.esc_fields.proofs.ImagesFound.{compose_back, compose_in, count, count_back, flag, flag_back, frame_back, frame_in, look, natural, placement_back, placement_in, seek, seen, transmit_back, transmit_in, verbosity_back, verbosity_in, whole_number}
+use Rattle.esc_fields.proofs.ImagesFound.{compose_back, count_back, flag_back, frame_back, known_back, placement_back, seek, seen, transmit_back, verbosity_back}
 use Rattle.esc_fields.proofs.Tables.{rows_say}
-use Rattle.esc_fields.specs.Fields.{named, said, table_of, text_of}
-use Rattle.esc_fields.specs.Found.{NamedValue, after, first}
-use Rattle.esc_fields.specs.ImageKinds.{delete_kind, image_kind, image_number}
+use Rattle.esc_fields.proofs.ValuesBack.{Fits, any_bounds, any_fits, any_reading, held_fits}
+use Rattle.esc_fields.specs.Fields.{Table, named, said, table_of}
+use Rattle.esc_fields.specs.Fields.Value.{Text}
+use Rattle.esc_fields.specs.Found.{Reading, held as held_reading}
+use Rattle.esc_fields.specs.FoundImages.{Numbered, compose_in, count, deleted_in, frame_in, image_form_at, image_in, kept_some, placement_in, transmit_in, verbosity_in}
+use Rattle.esc_fields.specs.Held.{Bounds, types}
+use Rattle.esc_fields.specs.HeldImages.{HasImage, IsCompose, IsContent, IsCount, IsDelete, IsFrame, IsHeldImage, IsImageWithin, IsOrder, IsPlacement, IsTransmit}
+use Rattle.esc_fields.specs.ImageKinds.{image_kind, image_number}
 use Rattle.esc_fields.specs.Images.{bytes_of, compose_numbers, delete_numbers, fields_of_image, frame_numbers, id_numbers, number_fields, placement_numbers, transmit_numbers, verbosity_numbers}
-use Rattle.esc_fields.specs.declared.field_name.FieldName.{FieldName}
 use Rattle.esc_fields.specs.declared.field_name.FieldName.TheVariants as name
-use Rattle.esc_fields.specs.declared.image_kind.ImageKind.{ImageKind}
-use Rattle.esc_fields.specs.declared.image_kind.ImageKind.TheVariants as kind
+use Rattle.esc_fields.specs.declared.image_forms.Deletion.{Deletion}
+use Rattle.esc_fields.specs.declared.image_forms.Deletion.TheVariants as deletion
+use Rattle.esc_fields.specs.declared.image_forms.ImageForm.{ImageForm}
+use Rattle.esc_fields.specs.declared.image_forms.ImageForm.TheVariants as form
 
--- the kinds, in order
-abbrev kinds : List ImageKind
-kinds =
-    kind.NoImage ∷ kind.TransmitData ∷ kind.TransmitDataAndDisplay ∷ kind.Display ∷ kind.Query
-    ∷ kind.TransmitFrame ∷ kind.ComposeFrame ∷ kind.DeleteAll ∷ kind.DeleteByImageId
-    ∷ kind.DeleteByImageNumber ∷ kind.DeleteAtCursorPosition ∷ kind.DeleteAnimationFrames
-    ∷ kind.DeleteAt ∷ kind.DeleteAtZ ∷ kind.DeleteColumn ∷ kind.DeleteRow ∷ kind.DeleteZ
-    ∷ kind.DeleteByImageIdRange ∷ []
+module _ (r : Reading) (b : Bounds) (f : Fits r b) {A : Type 0} where
+  -- the images of each form, by what is found
+  abbrev kept : List ℕ → Numbered → Option (KittyImage A)
+  kept t l = Some (image.TransmitData (transmit_in r (Text t) l) (verbosity_in l))
 
-abbrev kind_at : ℕ → ImageKind
-kind_at n = get_or kinds n kind.NoImage
-
-kind_back : (k : ImageKind) → kind_at (image_number k) ≡ k
-kind_back kind.NoImage = refl
-kind_back kind.TransmitData = refl
-kind_back kind.TransmitDataAndDisplay = refl
-kind_back kind.Display = refl
-kind_back kind.Query = refl
-kind_back kind.TransmitFrame = refl
-kind_back kind.ComposeFrame = refl
-kind_back kind.DeleteAll = refl
-kind_back kind.DeleteByImageId = refl
-kind_back kind.DeleteByImageNumber = refl
-kind_back kind.DeleteAtCursorPosition = refl
-kind_back kind.DeleteAnimationFrames = refl
-kind_back kind.DeleteAt = refl
-kind_back kind.DeleteAtZ = refl
-kind_back kind.DeleteColumn = refl
-kind_back kind.DeleteRow = refl
-kind_back kind.DeleteZ = refl
-kind_back kind.DeleteByImageIdRange = refl
-
-abbrev Found : Type 0
-Found = FieldName → Option ℤ
-
--- what is deleted
-abbrev deleted_in : ImageKind → Found → KittyImageDelete
-deleted_in kind.DeleteAll l = delete.All (flag (l name.DeletesData))
-deleted_in kind.DeleteByImageId l = delete.ByImageId (natural (l name.ImageId))
-    (count (l name.PlacementId)) (flag (l name.DeletesData))
-deleted_in kind.DeleteByImageNumber l = delete.ByImageNumber (natural (l name.ImageNumber))
-    (count (l name.PlacementId)) (flag (l name.DeletesData))
-deleted_in kind.DeleteAtCursorPosition l = delete.AtCursorPosition (flag (l name.DeletesData))
-deleted_in kind.DeleteAnimationFrames l = delete.AnimationFrames (flag (l name.DeletesData))
-deleted_in kind.DeleteAt l = delete.DeleteAt (natural (l name.X)) (natural (l name.Y))
-    (flag (l name.DeletesData))
-deleted_in kind.DeleteAtZ l = delete.DeleteAtZ (natural (l name.X)) (natural (l name.Y))
-    (whole_number (l name.ZIndex)) (flag (l name.DeletesData))
-deleted_in kind.DeleteColumn l = delete.DeleteColumn (natural (l name.X))
-    (flag (l name.DeletesData))
-deleted_in kind.DeleteRow l = delete.DeleteRow (natural (l name.Y)) (flag (l name.DeletesData))
-deleted_in kind.DeleteZ l = delete.DeleteZ (whole_number (l name.ZIndex))
-    (flag (l name.DeletesData))
-deleted_in kind.DeleteByImageIdRange l = delete.ByImageIdRange (natural (l name.FirstImageId))
-    (natural (l name.LastImageId)) (flag (l name.DeletesData))
-deleted_in k l = delete.All false
-
-module _ {A : Type 0} where
-  -- the images of each kind
-  abbrev kept : List ℕ → Found → Option (KittyImage A)
-  kept t l = Some (image.TransmitData (transmit_in t l) (verbosity_in l))
-
-  abbrev shown : List ℕ → Found → Option (KittyImage A)
-  shown t l = Some (image.TransmitDataAndDisplay (transmit_in t l) (placement_in l)
+  abbrev shown : List ℕ → Numbered → Option (KittyImage A)
+  shown t l = Some (image.TransmitDataAndDisplay (transmit_in r (Text t) l) (placement_in r l)
       (verbosity_in l))
 
-  abbrev displayed : Found → Option (KittyImage A)
-  displayed l = Some (image.Display (count (l name.ImageId)) (count (l name.ImageNumber))
-      (placement_in l) (verbosity_in l))
+  abbrev displayed : Numbered → Option (KittyImage A)
+  displayed l = Some (image.Display (count r (l name.ImageId)) (count r (l name.ImageNumber))
+      (placement_in r l) (verbosity_in l))
 
-  abbrev asked : List ℕ → Found → Option (KittyImage A)
-  asked t l = Some (image.Query (transmit_in t l))
+  abbrev asked : List ℕ → Numbered → Option (KittyImage A)
+  asked t l = Some (image.Query (transmit_in r (Text t) l))
 
-  abbrev sent : List ℕ → Found → Option (KittyImage A)
-  sent t l = Some (image.TransmitFrame (transmit_in t l) (frame_in l) (verbosity_in l))
+  abbrev sent : List ℕ → Numbered → Option (KittyImage A)
+  sent t l = Some (image.TransmitFrame (transmit_in r (Text t) l) (frame_in r l) (verbosity_in l))
 
-  abbrev composed : Found → Option (KittyImage A)
-  composed l = Some (image.ComposeFrame (compose_in l) (verbosity_in l))
+  abbrev composed : Numbered → Option (KittyImage A)
+  composed l = Some (image.ComposeFrame (compose_in r l) (verbosity_in l))
 
-  abbrev deleted : ImageKind → Found → Option (KittyImage A)
-  deleted k l = Some (image.Delete (deleted_in k l) (verbosity_in l))
+  abbrev deleted : Deletion → Numbered → Option (KittyImage A)
+  deleted d l = Some (image.Delete (deleted_in r d l) (verbosity_in l))
 
-  -- the image of a kind with these fields
-  abbrev image_in : ImageKind → List NamedValue → Option (KittyImage A)
-  image_in kind.NoImage fs = None
-  image_in kind.TransmitData fs = kept (text_of (first fs)) (look (after fs))
-  image_in kind.TransmitDataAndDisplay fs = shown (text_of (first fs)) (look (after fs))
-  image_in kind.Display fs = displayed (look fs)
-  image_in kind.Query fs = asked (text_of (first fs)) (look (after fs))
-  image_in kind.TransmitFrame fs = sent (text_of (first fs)) (look (after fs))
-  image_in kind.ComposeFrame fs = composed (look fs)
-  image_in k fs = deleted k (look fs)
+  -- how the image of a kind is read
+  abbrev form_of : Option (KittyImage A) → ImageForm
+  form_of o = image_form_at (image_number (image_kind o))
 
-  removed : (k : ImageKind) (w : KittyImageDelete) (v : KittyImageVerbosity)
-      → deleted_in k (seek (delete_numbers w ++ verbosity_numbers v)) ≡ w
+  -- a deletion, of what is found of it
+  removed : (d : Deletion) (w : KittyImageDelete) (v : KittyImageVerbosity)
+      → deleted_in r d (seek (delete_numbers w ++ verbosity_numbers v)) ≡ w
       → verbosity_in (seek (delete_numbers w ++ verbosity_numbers v)) ≡ v
-      → deleted k (look (map named (number_fields (delete_numbers w ++ verbosity_numbers v))))
-      ≡ Some (image.Delete w v)
-  removed k w v is also = ap (deleted k) (seen (delete_numbers w ++ verbosity_numbers v))
-      ∙ (λ j. Some (image.Delete (is j) (also j)))
-
-  deletion_back : (w : KittyImageDelete) (v : KittyImageVerbosity)
-      → image_in (delete_kind w)
+      → image_in {A = A} r (form.Deleted d)
       (map named (number_fields (delete_numbers w ++ verbosity_numbers v)))
       ≡ Some (image.Delete w v)
-  deletion_back (delete.All d) v = removed kind.DeleteAll (delete.All d) v
-      (λ k. delete.All (flag_back d k)) (verbosity_back v)
-  deletion_back (delete.ByImageId i p d) v = removed kind.DeleteByImageId (delete.ByImageId i p d) v
-      (λ k. delete.ByImageId i (count_back p k) (flag_back d k)) (verbosity_back v)
-  deletion_back (delete.ByImageNumber n p d) v =
-      removed kind.DeleteByImageNumber (delete.ByImageNumber n p d) v
-      (λ k. delete.ByImageNumber n (count_back p k) (flag_back d k)) (verbosity_back v)
-  deletion_back (delete.AtCursorPosition d) v =
-      removed kind.DeleteAtCursorPosition (delete.AtCursorPosition d) v
-      (λ k. delete.AtCursorPosition (flag_back d k)) (verbosity_back v)
-  deletion_back (delete.AnimationFrames d) v =
-      removed kind.DeleteAnimationFrames (delete.AnimationFrames d) v
-      (λ k. delete.AnimationFrames (flag_back d k)) (verbosity_back v)
-  deletion_back (delete.DeleteAt x y d) v = removed kind.DeleteAt (delete.DeleteAt x y d) v
-      (λ k. delete.DeleteAt x y (flag_back d k)) (verbosity_back v)
-  deletion_back (delete.DeleteAtZ x y z d) v = removed kind.DeleteAtZ (delete.DeleteAtZ x y z d) v
-      (λ k. delete.DeleteAtZ x y z (flag_back d k)) (verbosity_back v)
-  deletion_back (delete.DeleteColumn x d) v = removed kind.DeleteColumn (delete.DeleteColumn x d) v
-      (λ k. delete.DeleteColumn x (flag_back d k)) (verbosity_back v)
-  deletion_back (delete.DeleteRow y d) v = removed kind.DeleteRow (delete.DeleteRow y d) v
-      (λ k. delete.DeleteRow y (flag_back d k)) (verbosity_back v)
-  deletion_back (delete.DeleteZ z d) v = removed kind.DeleteZ (delete.DeleteZ z d) v
-      (λ k. delete.DeleteZ z (flag_back d k)) (verbosity_back v)
-  deletion_back (delete.ByImageIdRange f l d) v =
-      removed kind.DeleteByImageIdRange (delete.ByImageIdRange f l d) v
-      (λ k. delete.ByImageIdRange f l (flag_back d k)) (verbosity_back v)
+  removed d w v is also = ap (deleted d) (seen (delete_numbers w ++ verbosity_numbers v))
+      ∙ (λ j. Some (image.Delete (is j) (also j)))
 
-  image_back : (i : Option (KittyImage A))
-      → image_in (image_kind i) (map named (fields_of_image i)) ≡ i
-  image_back None = refl
-  image_back (Some (image.TransmitData t v)) =
+  deletion_back : (w : KittyImageDelete) (v : KittyImageVerbosity) → IsDelete b w
+      → image_in {A = A} r (form_of (Some (image.Delete w v)))
+      (map named (number_fields (delete_numbers w ++ verbosity_numbers v)))
+      ≡ Some (image.Delete w v)
+  deletion_back (delete.All d) v h = removed deletion.All (delete.All d) v
+      (λ k. delete.All (flag_back d k)) (verbosity_back v)
+  deletion_back (delete.ByImageId i p d) v h =
+      let id_is = known_back r b f i h.0 in
+      let placement_is = count_back r b f p h.1 in
+      removed deletion.ImageId (delete.ByImageId i p d) v
+      (λ k. delete.ByImageId (id_is k) (placement_is k) (flag_back d k)) (verbosity_back v)
+  deletion_back (delete.ByImageNumber n p d) v h =
+      let number_is = known_back r b f n h.0 in
+      let placement_is = count_back r b f p h.1 in
+      removed deletion.ImageNumber (delete.ByImageNumber n p d) v
+      (λ k. delete.ByImageNumber (number_is k) (placement_is k) (flag_back d k))
+      (verbosity_back v)
+  deletion_back (delete.AtCursorPosition d) v h =
+      removed deletion.AtCursor (delete.AtCursorPosition d) v
+      (λ k. delete.AtCursorPosition (flag_back d k)) (verbosity_back v)
+  deletion_back (delete.AnimationFrames d) v h =
+      removed deletion.Frames (delete.AnimationFrames d) v
+      (λ k. delete.AnimationFrames (flag_back d k)) (verbosity_back v)
+  deletion_back (delete.DeleteAt x y d) v h =
+      let x_is = known_back r b f x h.0 in
+      let y_is = known_back r b f y h.1 in
+      removed deletion.At (delete.DeleteAt x y d) v
+      (λ k. delete.DeleteAt (x_is k) (y_is k) (flag_back d k)) (verbosity_back v)
+  deletion_back (delete.DeleteAtZ x y z d) v h =
+      let x_is = known_back r b f x h.0 in
+      let y_is = known_back r b f y h.1 in
+      let z_is = f.signed z h.2 in
+      removed deletion.AtZ (delete.DeleteAtZ x y z d) v
+      (λ k. delete.DeleteAtZ (x_is k) (y_is k) (z_is k) (flag_back d k)) (verbosity_back v)
+  deletion_back (delete.DeleteColumn x d) v h =
+      let x_is = known_back r b f x h in
+      removed deletion.Column (delete.DeleteColumn x d) v
+      (λ k. delete.DeleteColumn (x_is k) (flag_back d k)) (verbosity_back v)
+  deletion_back (delete.DeleteRow y d) v h =
+      let y_is = known_back r b f y h in
+      removed deletion.Row (delete.DeleteRow y d) v
+      (λ k. delete.DeleteRow (y_is k) (flag_back d k)) (verbosity_back v)
+  deletion_back (delete.DeleteZ z d) v h =
+      let z_is = f.signed z h in
+      removed deletion.Z (delete.DeleteZ z d) v
+      (λ k. delete.DeleteZ (z_is k) (flag_back d k)) (verbosity_back v)
+  deletion_back (delete.ByImageIdRange x y d) v h =
+      let first_is = known_back r b f x h.0 in
+      let last_is = known_back r b f y h.1 in
+      removed deletion.Range (delete.ByImageIdRange x y d) v
+      (λ k. delete.ByImageIdRange (first_is k) (last_is k) (flag_back d k)) (verbosity_back v)
+
+  pub image_back : (i : KittyImage A) → IsImageWithin b i
+      → image_in r (form_of (Some i)) (map named (fields_of_image (Some i))) ≡ Some i
+  image_back (image.TransmitData t v) h =
+      let transmit_is = transmit_back r b f t h in
       ap (kept (bytes_of t.content)) (seen (transmit_numbers t ++ verbosity_numbers v))
-      ∙ (λ k. Some (image.TransmitData (transmit_back t k) (verbosity_back v k)))
-  image_back (Some (image.TransmitDataAndDisplay t p v)) =
+      ∙ (λ k. Some (image.TransmitData (transmit_is k) (verbosity_back v k)))
+  image_back (image.TransmitDataAndDisplay t p v) h =
+      let transmit_is = transmit_back r b f t h.0 in
+      let placement_is = placement_back r b f p h.1 in
       ap (shown (bytes_of t.content))
       (seen (transmit_numbers t ++ (placement_numbers p ++ verbosity_numbers v)))
-      ∙ (λ k. Some (image.TransmitDataAndDisplay (transmit_back t k) (placement_back p k)
+      ∙ (λ k. Some (image.TransmitDataAndDisplay (transmit_is k) (placement_is k)
       (verbosity_back v k)))
-  image_back (Some (image.Display i n p v)) =
+  image_back (image.Display i n p v) h =
+      let id_is = count_back r b f i h.0 in
+      let number_is = count_back r b f n h.1 in
+      let placement_is = placement_back r b f p h.2 in
       ap displayed (seen (id_numbers i n ++ (placement_numbers p ++ verbosity_numbers v)))
-      ∙ (λ k. Some (image.Display (count_back i k) (count_back n k) (placement_back p k)
-      (verbosity_back v k)))
-  image_back (Some (image.Delete w v)) = deletion_back w v
-  image_back (Some (image.Query t)) =
+      ∙ (λ k. Some (image.Display (id_is k) (number_is k) (placement_is k) (verbosity_back v k)))
+  image_back (image.Delete w v) h = deletion_back w v h
+  image_back (image.Query t) h =
+      let transmit_is = transmit_back r b f t h in
       ap (asked (bytes_of t.content)) (seen (transmit_numbers t))
-      ∙ (λ k. Some (image.Query (transmit_back t k)))
-  image_back (Some (image.TransmitFrame t f v)) =
+      ∙ (λ k. Some (image.Query (transmit_is k)))
+  image_back (image.TransmitFrame t x v) h =
+      let transmit_is = transmit_back r b f t h.0 in
+      let frame_is = frame_back r b f x h.1 in
       ap (sent (bytes_of t.content))
-      (seen (transmit_numbers t ++ (frame_numbers f ++ verbosity_numbers v)))
-      ∙ (λ k. Some (image.TransmitFrame (transmit_back t k) (frame_back f k)
-      (verbosity_back v k)))
-  image_back (Some (image.ComposeFrame f v)) =
-      ap composed (seen (compose_numbers f ++ verbosity_numbers v))
-      ∙ (λ k. Some (image.ComposeFrame (compose_back f k) (verbosity_back v k)))
+      (seen (transmit_numbers t ++ (frame_numbers x ++ verbosity_numbers v)))
+      ∙ (λ k. Some (image.TransmitFrame (transmit_is k) (frame_is k) (verbosity_back v k)))
+  image_back (image.ComposeFrame x v) h =
+      let frame_is = compose_back r b f x h in
+      ap composed (seen (compose_numbers x ++ verbosity_numbers v))
+      ∙ (λ k. Some (image.ComposeFrame (frame_is k) (verbosity_back v k)))
+
+-- every part is within no bounds
+any_count : (o : Option ℕ) → IsCount any_bounds o
+any_count None = tt
+any_count (Some n) = tt
+
+any_order : (o : Option ℤ) → IsOrder any_bounds o
+any_order None = tt
+any_order (Some z) = tt
+
+any_placement : (p : KittyImagePlacement) → IsPlacement any_bounds p
+any_placement p = record {
+  x = any_count p.x;
+  y = any_count p.y;
+  w = any_count p.w;
+  h = any_count p.h;
+  x_offset = any_count p.x_offset;
+  y_offset = any_count p.y_offset;
+  columns = any_count p.columns;
+  rows = any_count p.rows;
+  placement_id = any_count p.placement_id;
+  z_index = any_order p.z_index;
+}
+
+any_frame : (x : KittyImageFrame) → IsFrame any_bounds x
+any_frame x = record {
+  x = any_count x.x;
+  y = any_count x.y;
+  base_frame = any_count x.base_frame;
+  frame_number = any_count x.frame_number;
+  duration_ms = any_count x.duration_ms;
+  background_pixel = any_count x.background_pixel;
+}
+
+any_compose : (x : KittyImageFrameCompose) → IsCompose any_bounds x
+any_compose x = record {
+  image_id = any_count x.image_id;
+  image_number = any_count x.image_number;
+  target_frame = any_count x.target_frame;
+  source_frame = any_count x.source_frame;
+  x = any_count x.x;
+  y = any_count x.y;
+  w = any_count x.w;
+  h = any_count x.h;
+  src_x = any_count x.src_x;
+  src_y = any_count x.src_y;
+}
+
+any_delete : (w : KittyImageDelete) → IsDelete any_bounds w
+any_delete (delete.All d) = tt
+any_delete (delete.ByImageId i p d) = (tt, any_count p)
+any_delete (delete.ByImageNumber n p d) = (tt, any_count p)
+any_delete (delete.AtCursorPosition d) = tt
+any_delete (delete.AnimationFrames d) = tt
+any_delete (delete.DeleteAt x y d) = (tt, tt)
+any_delete (delete.DeleteAtZ x y z d) = (tt, tt, tt)
+any_delete (delete.DeleteColumn x d) = tt
+any_delete (delete.DeleteRow y d) = tt
+any_delete (delete.DeleteZ z d) = tt
+any_delete (delete.ByImageIdRange x y d) = (tt, tt)
+
+module _ {A : Type 0} where
+  any_content : (c : KittyImageData A) → IsContent any_bounds c
+  any_content (Direct t) = tt
+  any_content (DirectBin t) = tt
+  any_content (File t s o) = (tt, any_count s, any_count o)
+  any_content (TemporaryFile t s o) = (tt, any_count s, any_count o)
+  any_content (SharedMem t s o) = (tt, any_count s, any_count o)
+
+  any_transmit : (t : KittyImageTransmit A) → IsTransmit any_bounds t
+  any_transmit t = record {
+    content = any_content t.content;
+    width = any_count t.width;
+    height = any_count t.height;
+    image_id = any_count t.image_id;
+    image_number = any_count t.image_number;
+  }
+
+  any_image : (i : KittyImage A) → IsImageWithin any_bounds i
+  any_image (image.TransmitData t v) = any_transmit t
+  any_image (image.TransmitDataAndDisplay t p v) = (any_transmit t, any_placement p)
+  any_image (image.Display i n p v) = (any_count i, any_count n, any_placement p)
+  any_image (image.Delete w v) = any_delete w
+  any_image (image.Query t) = any_transmit t
+  any_image (image.TransmitFrame t f v) = (any_transmit t, any_frame f)
+  any_image (image.ComposeFrame f v) = any_compose f
+
+  -- an image, or none, is what its kind and its fields say
+  any_back : (o : Option (KittyImage A))
+      → image_in any_reading (image_form_at (image_number (image_kind o)))
+      (map named (fields_of_image o)) ≡ o
+  any_back None = refl
+  any_back (Some i) = image_back any_reading any_bounds any_fits i (any_image i)
 
   -- images whose kinds have one number, and whose fields have one table, are the same image
   pub images_whole : (i j : Option (KittyImage A))
       → image_number (image_kind i) ≡ image_number (image_kind j)
       → table_of (fields_of_image i) ≡ table_of (fields_of_image j) → i ≡ j
   images_whole i j number table =
-      let kinds = sym (kind_back (image_kind i)) ∙ ap kind_at number
-      ∙ kind_back (image_kind j) in
       let rows = sym (rows_say (fields_of_image i)) ∙ ap said table
       ∙ rows_say (fields_of_image j) in
-      sym (image_back i) ∙ (λ k. image_in (kinds k) (rows k)) ∙ image_back j
+      sym (any_back i) ∙ (λ k. image_in any_reading (image_form_at (number k)) (rows k))
+      ∙ any_back j
+
+  -- what a kind and rows say is the image that has them
+  found : (k : ℕ) (t : Table) (i : KittyImage A) → IsHeldImage i → HasImage k t (Some i)
+      → image_in held_reading (image_form_at k) (said t) ≡ Some i
+  found k t i is_held has =
+      let form_is = ap image_form_at (sym has.0) in
+      let rows_are = ap said (sym has.1) ∙ rows_say (fields_of_image (Some i)) in
+      (λ j. image_in held_reading (form_is j) (rows_are j))
+      ∙ image_back held_reading types held_fits i is_held
+
+  -- where none is kept, none has them
+  none_kept : {E : Type 0} (k : ℕ) (t : Table) (o : Option (KittyImage A)) (has : Result Bool E)
+      → o ≡ image_in held_reading (image_form_at k) (said t)
+      → IfOk has (λ b. IsTrue b ↔ HasImage k t o)
+      → IfOk (kept_some o has) (λ x. x ≡ None → (i : KittyImage A) → IsHeldImage i
+      → HasImage k t (Some i) → ⊥)
+  none_kept k t o (Err e) is told = tt
+  none_kept k t o (Ok true) is told = λ none i is_held it.
+      none-some i (sym none ∙ is ∙ found k t i is_held it)
+  none_kept k t o (Ok false) is told = λ none i is_held it.
+      let same : o ≡ Some i = is ∙ found k t i is_held it in
+      true≢false (sym (told.1 (subst (λ x. HasImage k t x) (sym same) it)))
+
+  pub no_image : {E : Type 0} (k : ℕ) (t : Table) (o : Option (KittyImage A))
+      (has : Result Bool E) (result : Result (Option (KittyImage A)) E)
+      → o ≡ image_in held_reading (image_form_at k) (said t)
+      → IfOk has (λ b. IsTrue b ↔ HasImage k t o) → result ≡ kept_some o has
+      → IfOk result (λ x. x ≡ None → (i : KittyImage A) → IsHeldImage i → HasImage k t (Some i)
+      → ⊥)
+  no_image k t o has result is told result_is =
+      subst (λ r. IfOk r (λ x. x ≡ None → (i : KittyImage A) → IsHeldImage i
+      → HasImage k t (Some i) → ⊥)) (sym result_is) (none_kept k t o has is told)

@@ -10,3 +10,4 @@ mod ItemsBack
 mod FilesBack
 pub mod CommandsBack
 mod RowsSame
+mod NamesBack

@@ -1,31 +1,37 @@
 -- Sixel data is read from its rows, and the names of a query from its fields.
-use Rattle.std.proofs.Common.{ℕ, ◌≡◌, ◌==◌, if◌then◌else◌, List, [], ◌∷◌, map, refl, sym, ap, ◌∙◌}
+use Rattle.std.proofs.Common.{ℕ, zero, suc, arith, ◌≡◌, ◌<◌, List, [], ◌∷◌, get_or, length, map, refl, sym, subst, ap, ◌∙◌}
 use Rattle.esc_sixel.specs.declared.sixel_data.SixelData.{SixelData}
 use Rattle.esc_sixel.specs.declared.sixel_data.SixelData.TheVariants.{CarriageReturn, Data, DefineColorMapHSL, DefineColorMapRGB, NewLine, Repeat, SelectColorMapEntry}
 use Rattle.esc_fields.proofs.Tables.{rows_say}
 use Rattle.esc_fields.specs.Fields.{named, said, table_of, text_of}
+use Rattle.esc_fields.specs.FoundSixels.{item_in}
 use Rattle.esc_fields.specs.Queries.{query_fields}
 use Rattle.esc_fields.specs.Sixels.{sixel_row}
 use Rattle.esc_fields.specs.declared.sixel_row.SixelRow.{SixelRow}
 
-abbrev data_in : SixelRow → SixelData
-data_in r = if r.kind == 0 then Data r.pixels else if r.kind == 1 then Repeat r.pixels r.count
-    else if r.kind == 2 then DefineColorMapRGB r.color (r.red, r.green, r.blue)
-    else if r.kind == 3 then DefineColorMapHSL r.color r.hue r.lightness r.saturation
-    else if r.kind == 4 then SelectColorMapEntry r.color
-    else if r.kind == 5 then CarriageReturn else NewLine
-
-data_back : (d : SixelData) → data_in (sixel_row d) ≡ d
-data_back (Data p) = refl
-data_back (Repeat p n) = refl
-data_back (DefineColorMapRGB n c) = refl
-data_back (DefineColorMapHSL n h l s) = refl
-data_back (SelectColorMapEntry n) = refl
-data_back CarriageReturn = refl
-data_back NewLine = refl
+item_back : (d : SixelData) → item_in (sixel_row d) ≡ d
+item_back (Data p) = refl
+item_back (Repeat p n) = refl
+item_back (DefineColorMapRGB n c) = refl
+item_back (DefineColorMapHSL n h l s) = refl
+item_back (SelectColorMapEntry n) = refl
+item_back CarriageReturn = refl
+item_back NewLine = refl
 
 pub sixels_whole : (d e : SixelData) → sixel_row d ≡ sixel_row e → d ≡ e
-sixels_whole d e is = sym (data_back d) ∙ ap data_in is ∙ data_back e
+sixels_whole d e is = sym (item_back d) ∙ ap item_in is ∙ item_back e
+
+-- each of the rows of pieces is that of one
+one_in : (ds : List SixelData) (i : ℕ) (e : SixelRow) → i < length (map sixel_row ds)
+    → (d : SixelData) × (sixel_row d ≡ get_or (map sixel_row ds) i e)
+one_in [] i e inside = absurd (omega (arith, inside))
+one_in (d ∷ ds) zero e inside = (d, refl)
+one_in (d ∷ ds) (suc i) e inside = one_in ds i e (omega (arith, inside))
+
+pub one_of : (ds : List SixelData) (rs : List SixelRow) (i : ℕ) (e : SixelRow)
+    → map sixel_row ds ≡ rs → i < length rs → (d : SixelData) × (sixel_row d ≡ get_or rs i e)
+one_of ds rs i e has = subst (λ xs. i < length xs
+    → (d : SixelData) × (sixel_row d ≡ get_or xs i e)) has (one_in ds i e)
 
 names_back : (ns : List (List ℕ))
     → map (λ s. text_of s.1) (map named (query_fields ns)) ≡ ns

@@ -13,3 +13,7 @@ pub mod FoundItems
 pub mod FoundPrompts
 pub mod FoundCommands
 pub mod Held
+pub mod FoundImages
+pub mod FoundNames
+pub mod FoundSixels
+pub mod HeldImages

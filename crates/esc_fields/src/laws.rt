@@ -31,7 +31,6 @@ pub fn are_whole<A: Allocator>()
 {}
 
 /// So they are of an image of kitty's, or of none.
-#[tactic(auto, using(crate::proofs::ImagesWhole::images_whole))]
 pub fn images_are_whole<A: Allocator>()
     ensures { (i j : Option (KittyImage A))
         → image_number (image_kind i) ≡ image_number (image_kind j)

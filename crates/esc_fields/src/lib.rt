@@ -12,7 +12,8 @@
 //! `FieldName::Text`, whose row says that its text is the 2 bytes at 0 of `fields.text()`, `hi`.
 //!
 //! The way back: `command_of(alloc, CommandKind::of(&command).number(), fields.rows(),
-//! fields.text())?` is that command again; of rows that are the fields of no command it is none.
+//! fields.text())?` is that command again; of rows that are the fields of no command it is none. So
+//! are [`image_of`], [`names_of`] and [`sixel_items_of`].
 #![tactic(auto)]
 
 mod append;
@@ -29,26 +30,35 @@ pub mod field_name;
 pub mod field_row;
 mod fielded;
 pub mod fields;
+mod image_back;
+mod image_forms;
 pub mod image_kind;
 mod image_numbers;
 mod kinds;
 pub mod laws;
+mod names_back;
 mod read_back;
 mod read_colors;
 mod read_command;
 mod read_file;
+mod read_image;
 mod read_iterm;
 mod read_link;
 mod read_lists;
+mod read_numbers;
 mod read_optional;
 mod read_prompt;
 mod said;
 pub mod sixel_row;
+mod sixels_back;
 
 pub use command_kind::CommandKind;
 pub use field_name::FieldName;
 pub use field_row::{FieldRow, NUMBER, SIZE, TEXT};
 pub use fields::Fields;
+pub use image_back::{has_image, image_of};
 pub use image_kind::ImageKind;
-pub use read_back::{command_of, has_fields};
+pub use names_back::names_of;
+pub use read_back::{are_those, command_of, has_fields};
 pub use sixel_row::SixelRow;
+pub use sixels_back::sixel_items_of;

@@ -50,7 +50,10 @@ fn command_said<A: Allocator + Copy>(
 }
 
 // A value, where it is kept.
-fn kept<T: Drop>(value: T, is_kept: Result<bool, AllocError>) -> Result<Option<T>, AllocError>
+pub(crate) fn kept<T: Drop>(
+    value: T,
+    is_kept: Result<bool, AllocError>,
+) -> Result<Option<T>, AllocError>
     ensures { result ≡ kept value is_kept }
 {
     match is_kept {
@@ -77,8 +80,8 @@ pub fn has_fields<A: Allocator + Copy>(
     Ok(same_kind && are_those(&fields, rows, text))
 }
 
-// Whether the fields have these rows and texts.
-fn are_those<A: Allocator>(fields: &Fields<A>, rows: &[FieldRow], text: &[u8]) -> bool
+/// Whether fields have these rows and texts.
+pub fn are_those<A: Allocator>(fields: &Fields<A>, rows: &[FieldRow], text: &[u8]) -> bool
     ensures { IsTrue result ↔ (fields.now ≡ (rows.now, text.now)) }
 {
     are_rows(fields.rows(), rows) && fields.text() == text

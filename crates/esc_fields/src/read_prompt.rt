@@ -1,13 +1,13 @@
 //! Prompts that rows say. An error is that memory was refused.
 ghost use Rattle.std.specs.Prelude.{◌≡◌, IfOk, OnErr, ℤ};
-ghost use Rattle.esc_fields.specs.Found.{held, number_of, signed};
+ghost use Rattle.esc_fields.specs.Found.{held};
 ghost use Rattle.esc_fields.specs.FoundPrompts.{click_in, click_of, prompt_in, prompt_kind_of};
 ghost use Rattle.memory.specs.Refusals.{Refused};
 
 use crate::field_name::FieldName;
 use crate::kinds::PromptForm;
 use crate::read_optional::{named, past, text};
-use crate::said::{Said, after, first};
+use crate::said::{Said, after, first, signed};
 use esc_prompts::{FinalTermClick, FinalTermPromptKind, FinalTermSemanticPrompt as Prompt};
 use std::alloc::{AllocError, Allocator};
 
@@ -40,21 +40,10 @@ pub(crate) fn prompt<A: Allocator>(
             aid: text(alloc, FieldName::Application, fields)?,
         }),
         PromptForm::CommandStatus => Ok(Prompt::CommandStatus {
-            status: status(first(fields).number()),
+            status: signed(first(fields).number()),
             aid: text(alloc, FieldName::Application, after(fields))?,
         }),
         PromptForm::FreshLine => Ok(Prompt::FreshLine),
-    }
-}
-
-// The number, where it has 32 bits; else 0.
-fn status(number: i64) -> i32
-    ensures { result ≡ signed number }
-{
-    if -2147483648 <= number && number <= 2147483647 {
-        number as i32
-    } else {
-        0
     }
 }
 

@@ -1,7 +1,7 @@
 //! What rows say, each a name and a value.
-ghost use Rattle.std.specs.Prelude.{◌≡◌, ◌++◌, IfOk, OnErr, drop, take};
+ghost use Rattle.std.specs.Prelude.{◌≡◌, ◌++◌, ◌^◌, IfOk, OnErr, drop, take};
 ghost use Rattle.esc_fields.specs.Fields.{row_said, said, text_of};
-ghost use Rattle.esc_fields.specs.Found.{after, byte_of, channel_of, count_of, first, flag_of, held, is_named, length_of, number_of, size_of, string_of};
+ghost use Rattle.esc_fields.specs.Found.{after, below, byte_of, channel_of, count_of, first, flag_of, held, is_named, length_of, magnitude, number_of, signed, size_of, string_of};
 ghost use Rattle.memory.specs.Refusals.{Refused};
 
 use crate::field_name::FieldName;
@@ -87,8 +87,7 @@ impl<'a> Said<'a> {
     pub(crate) fn length(&self) -> u32
         ensures { result ≡ length_of held self.now.1 }
     {
-        let count = self.count();
-        if count < 4294967296 { count as u32 } else { 0 }
+        length_of(self.number())
     }
 
     // Whether its number is over 0.
@@ -130,6 +129,28 @@ impl<'a> Said<'a> {
             Some(text) => Text::from_str(alloc, text),
             None => Ok(Text::new(alloc)),
         }
+    }
+}
+
+// The number; 0 where it is negative, or over 32 bits.
+pub(crate) fn length_of(number: i64) -> u32
+    ensures { result ≡ below (2 ^ 32) (magnitude number) }
+{
+    if 0 <= number && number < 4294967296 {
+        number as u32
+    } else {
+        0
+    }
+}
+
+// The number, where it has 32 bits; else 0.
+pub(crate) fn signed(number: i64) -> i32
+    ensures { result ≡ signed number }
+{
+    if -2147483648 <= number && number <= 2147483647 {
+        number as i32
+    } else {
+        0
     }
 }
 

@@ -1,8 +1,11 @@
 //! Sixel data as rows of numbers, for callers without enums.
-ghost use Rattle.std.specs.Prelude.{◌≡◌};
+ghost use Rattle.std.specs.Prelude.{◌≡◌, ◌↔◌, IfSome, IsTrue, None};
+ghost use Rattle.esc_fields.specs.FoundSixels.{item_in};
 ghost use Rattle.esc_fields.specs.Sixels.{colored, drawn, sixel_row};
+ghost use Rattle.esc_sixel.specs.declared.sixel_data.SixelData.{SixelData as Piece};
 
 use esc_sixel::SixelData;
+use esc_values::RgbColor;
 
 /// The kind of six pixels.
 pub const PIXELS: u32 = 0;
@@ -27,7 +30,7 @@ pub const NEW_LINE: u32 = 6;
 
 /// A piece of sixel data. What has no meaning for its kind is 0.
 #[repr(C)]
-#[derive(Clone, Copy)]
+#[derive(Clone, Copy, PartialEq, Eq)]
 pub struct SixelRow {
     /// What it is: [`PIXELS`], [`REPEAT`] and so on.
     pub kind: u32,
@@ -88,6 +91,53 @@ impl SixelRow {
             SixelData::NewLine => drawn(NEW_LINE, 0, 0),
         }
     }
+
+    /// The piece of data that has this row; none where no piece has it.
+    pub fn item(&self) -> Option<SixelData>
+        ensures has { IfSome result (λ d. sixel_row d ≡ self.now) }
+        ensures none { result ≡ None → (d : Piece) → sixel_row d ≡ self.now → ⊥ }
+    {
+        let item = self.said();
+        let row = SixelRow::of(&item);
+        if are_same(&row, self) {
+            Some(item)
+        } else {
+            None
+        }
+    }
+
+    // What it says by its kind; a new line where there is no such kind.
+    fn said(&self) -> SixelData
+        ensures { result ≡ item_in self.now }
+    {
+        match self.kind {
+            PIXELS => SixelData::Data(self.pixels),
+            REPEAT => SixelData::Repeat {
+                content: self.pixels,
+                repeat_count: self.count,
+            },
+            DEFINE_RGB => SixelData::DefineColorMapRGB {
+                color_number: self.color,
+                rgb: RgbColor::new_8bpc(self.red, self.green, self.blue),
+            },
+            DEFINE_HSL => SixelData::DefineColorMapHSL {
+                color_number: self.color,
+                hue_angle: self.hue,
+                lightness: self.lightness,
+                saturation: self.saturation,
+            },
+            SELECT => SixelData::SelectColorMapEntry(self.color),
+            CARRIAGE_RETURN => SixelData::CarriageReturn,
+            _ => SixelData::NewLine,
+        }
+    }
+}
+
+// Whether two rows are the same.
+fn are_same(row: &SixelRow, other: &SixelRow) -> bool
+    ensures { IsTrue result ↔ (row.now ≡ other.now) }
+{
+    row == other
 }
 
 // A row of this kind, with pixels so many times.

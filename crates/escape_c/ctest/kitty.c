@@ -1,6 +1,6 @@
 /* SPDX-License-Identifier: MIT */
 /*
- * Reads commands of kitty's graphics protocol by escape_stream.h, and compares their fields with what is wanted.
+ * Reads commands of kitty's graphics protocol by escape_stream.h, compares their fields with what is wanted, and writes them again.
  *
  *     kitty
  *
@@ -9,7 +9,8 @@
  * refuses, and sees that all was given back.
  */
 #define PROGRAM "kitty"
-#include "fields.h"
+#define INTRODUCER "\x1b_"
+#include "writes.h"
 
 #define KIND(name) [ESCAPE_STREAM_KITTY_##name] = #name
 static const char *const KINDS[] = {
@@ -32,6 +33,11 @@ static uint32_t read_text(const uint8_t *text, size_t length, struct value *valu
     else
         memcpy(value, &image, sizeof image);
     return status;
+}
+
+static uint32_t write_text(const struct value *value, const struct escape_stream_field *fields, const uint8_t *texts,
+                           uint8_t *out, size_t capacity, size_t *needed) {
+    return escape_stream_write_kitty(value->kind, fields, value->field_count, texts, value->text_length, out, capacity, needed);
 }
 
 static const struct command COMMANDS[] = {
@@ -75,6 +81,48 @@ static const struct command COMMANDS[] = {
     {"Ga=d,d=R,x=1,y=2", "DELETE_BY_IMAGE_ID_RANGE FIRST_IMAGE_ID=1 LAST_IMAGE_ID=2 DELETES_DATA=1 VERBOSITY=0"},
 };
 
+static const struct refusal REFUSALS[] = {
+    {ESCAPE_STREAM_KITTY_NONE, {NUMBER(X, 1)}, 0, "", ESCAPE_STREAM_NO_COMMAND},
+    {18, {NUMBER(DELETES_DATA, 0), NUMBER(VERBOSITY, 0)}, 2, "", ESCAPE_STREAM_NO_COMMAND},
+    {UINT32_MAX, {NUMBER(DELETES_DATA, 0), NUMBER(VERBOSITY, 0)}, 2, "", ESCAPE_STREAM_NO_COMMAND},
+    {ESCAPE_STREAM_KITTY_DELETE_ALL, {NUMBER(DELETES_DATA, 0), NUMBER(VERBOSITY, 0)}, 1, "", ESCAPE_STREAM_NO_COMMAND},
+    {ESCAPE_STREAM_KITTY_DELETE_ALL, {NUMBER(VERBOSITY, 0), NUMBER(DELETES_DATA, 0)}, 2, "", ESCAPE_STREAM_NO_COMMAND},
+    {ESCAPE_STREAM_KITTY_DELETE_ALL, {NUMBER(DELETES_DATA, 2), NUMBER(VERBOSITY, 0)}, 2, "", ESCAPE_STREAM_NO_COMMAND},
+    {ESCAPE_STREAM_KITTY_DELETE_ALL, {NUMBER(DELETES_DATA, 0), NUMBER(VERBOSITY, 3)}, 2, "", ESCAPE_STREAM_NO_COMMAND},
+    {ESCAPE_STREAM_KITTY_DELETE_ROW, {NUMBER(Y, -1), NUMBER(DELETES_DATA, 0), NUMBER(VERBOSITY, 0)}, 3, "", ESCAPE_STREAM_NO_COMMAND},
+    {ESCAPE_STREAM_KITTY_DELETE_ROW, {NUMBER(Y, INT64_C(4294967296)), NUMBER(DELETES_DATA, 0), NUMBER(VERBOSITY, 0)}, 3, "",
+     ESCAPE_STREAM_NO_COMMAND},
+    {ESCAPE_STREAM_KITTY_DELETE_Z, {NUMBER(Z_INDEX, INT64_C(2147483648)), NUMBER(DELETES_DATA, 0), NUMBER(VERBOSITY, 0)}, 3, "",
+     ESCAPE_STREAM_NO_COMMAND},
+    {ESCAPE_STREAM_KITTY_QUERY, {TEXT(CONTENT, 0, 1), NUMBER(MEDIUM, 0), NUMBER(COMPRESSION, 0)}, 3, "a", ESCAPE_STREAM_NO_COMMAND},
+};
+
+/* Pixels by each medium, between the flags that each has. */
+static void check_content(const char *content, int64_t medium, uint32_t wanted) {
+    const struct escape_stream_field fields[] = {TEXT(CONTENT, 0, strlen(content)), NUMBER(MEDIUM, medium), NUMBER(COMPRESSION, 0),
+                                                 NUMBER(MORE_DATA_FOLLOWS, 0)};
+    struct value value = {ESCAPE_STREAM_KITTY_QUERY, 4, strlen(content)};
+    uint8_t out[MOST_WRITTEN];
+    size_t needed = JUNK;
+    wants(write_text(&value, fields, (const uint8_t *)content, out, sizeof out, &needed) == wanted, "another status", content,
+          (size_t)medium);
+    wants((needed == JUNK) == (wanted != ESCAPE_STREAM_DONE), "another length", content, needed);
+}
+
 int main(void) {
-    return check_all(COMMANDS, sizeof COMMANDS / sizeof *COMMANDS);
+    size_t count = sizeof COMMANDS / sizeof *COMMANDS;
+    for (size_t i = 0; i < count; i++)
+        if (strcmp(COMMANDS[i].wanted, "NONE") != 0)
+            check_back(COMMANDS[i].text, true);
+    check_no_commands(REFUSALS, sizeof REFUSALS / sizeof *REFUSALS);
+    check_content("AAAA", ESCAPE_STREAM_MEDIUM_PAYLOAD, ESCAPE_STREAM_DONE);
+    check_content("A\x1b", ESCAPE_STREAM_MEDIUM_PAYLOAD, ESCAPE_STREAM_NOT_WRITABLE);
+    check_content("\xc3\xa9", ESCAPE_STREAM_MEDIUM_PAYLOAD, ESCAPE_STREAM_NOT_WRITABLE);
+    check_content("\xff", ESCAPE_STREAM_MEDIUM_PAYLOAD, ESCAPE_STREAM_NO_COMMAND);
+    check_content("AAAA", ESCAPE_STREAM_MEDIUM_BYTES, ESCAPE_STREAM_NOT_WRITABLE);
+    check_content("\xff", ESCAPE_STREAM_MEDIUM_BYTES, ESCAPE_STREAM_NOT_WRITABLE);
+    check_content("/\x1b\xc3\xa9", ESCAPE_STREAM_MEDIUM_FILE, ESCAPE_STREAM_DONE);
+    check_content("\xff", ESCAPE_STREAM_MEDIUM_FILE, ESCAPE_STREAM_NO_COMMAND);
+    check_content("a", 5, ESCAPE_STREAM_NO_COMMAND);
+    return check_all(COMMANDS, count);
 }

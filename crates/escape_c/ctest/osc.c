@@ -9,9 +9,8 @@
  * refuses, and sees that all was given back.
  */
 #define PROGRAM "osc"
-#include "fields.h"
-
-enum { MOST_WRITTEN = 240 };
+#define INTRODUCER "\x1b]"
+#include "writes.h"
 
 #define KIND(name) [ESCAPE_STREAM_OSC_##name] = #name
 static const char *const KINDS[] = {
@@ -42,6 +41,11 @@ static uint32_t read_text(const uint8_t *text, size_t length, struct value *valu
     else
         memcpy(value, &osc, sizeof osc);
     return status;
+}
+
+static uint32_t write_text(const struct value *value, const struct escape_stream_field *fields, const uint8_t *texts,
+                           uint8_t *out, size_t capacity, size_t *needed) {
+    return escape_stream_write_osc(value->kind, fields, value->field_count, texts, value->text_length, out, capacity, needed);
 }
 
 static const struct command COMMANDS[] = {
@@ -109,117 +113,8 @@ static const struct command COMMANDS[] = {
     {"2;\xff", "UNSPECIFIED PART=2 PART=[ff]"},
 };
 
-static bool is_same(const struct room *room, const struct room *other) {
-    return room->value.kind == other->value.kind && room->value.field_count == other->value.field_count &&
-           room->value.text_length == other->value.text_length &&
-           memcmp(room->fields, other->fields, sizeof room->fields) == 0 && memcmp(room->out, other->out, sizeof room->out) == 0;
-}
-
-/* Writes what was read. */
-static uint32_t write_from(const struct room *from, uint8_t *out, size_t capacity, size_t *needed) {
-    return escape_stream_write_osc(from->value.kind, from->fields, from->value.field_count, from->out, from->value.text_length, out,
-                                   capacity, needed);
-}
-
-/* Each request for memory refused while it is written. */
-static void check_write_refusals(const struct room *whole, const char *text) {
-    static uint8_t out[MOST_WRITTEN];
-    for (unsigned long at = 1; at < 1000; at++) {
-        size_t needed = JUNK;
-        uint32_t status;
-        memset(out, JUNK, sizeof out);
-        requests = 0;
-        refused = at;
-        status = write_from(whole, out, sizeof out, &needed);
-        refused = 0;
-        wants(blocks == 0, "blocks are kept by writing", text, at);
-        if (requests < at) {
-            wants(status == ESCAPE_STREAM_DONE, "another status of writing", text, at);
-            return;
-        }
-        wants(status == ESCAPE_STREAM_NO_MEMORY && needed == JUNK && is_junk(out, sizeof out), "refused, and written", text, at);
-    }
-}
-
-/* The command that was read is written in every room, and reads back as the same fields. */
-static void check_written(const struct room *whole, const char *text) {
-    static uint8_t all[MOST_WRITTEN], out[MOST_WRITTEN];
-    static struct room again;
-    size_t length = 0;
-    memset(all, JUNK, sizeof all);
-    wants(write_from(whole, all, sizeof all, &length) == ESCAPE_STREAM_DONE, "another status of writing", text, 0);
-    wants(length >= 4 && length < sizeof all && memcmp(all, "\x1b]", 2) == 0 && memcmp(all + length - 2, "\x1b\\", 2) == 0 &&
-          is_junk(all + length, sizeof all - length), "no such command", text, length);
-    if (length < 4 || length >= sizeof all)
-        return;
-    for (size_t capacity = 0; capacity <= length + 2; capacity++) {
-        size_t needed = 0, fitting = capacity < length ? capacity : length;
-        memset(out, JUNK, sizeof out);
-        wants(write_from(whole, out, capacity, &needed) == ESCAPE_STREAM_DONE && needed == length, "another length", text, capacity);
-        wants(memcmp(out, all, fitting) == 0 && is_junk(out + fitting, sizeof out - fitting), "another text", text, capacity);
-    }
-    memset(&again, JUNK, sizeof again);
-    wants(read_text(all + 2, length - 4, &again.value, again.fields, MOST_FIELDS, again.out, MOST_BYTES) ==
-          ESCAPE_STREAM_DONE && is_same(&again, whole), "other fields when read again", text, length);
-    check_write_refusals(whole, text);
-}
-
-static void check_not_writable(const struct room *whole, const char *text) {
-    static uint8_t out[MOST_WRITTEN];
-    size_t needed = JUNK;
-    memset(out, JUNK, sizeof out);
-    wants(write_from(whole, out, sizeof out, &needed) == ESCAPE_STREAM_NOT_WRITABLE && needed == JUNK &&
-          is_junk(out, sizeof out), "something was written", text, 0);
-}
-
-/* Changes of each field by one are another command, or none; they are not this one. */
-static void check_changed(const struct room *whole, const char *text) {
-    static struct room changed, again;
-    static uint8_t out[MOST_WRITTEN];
-    for (size_t i = 0; i < whole->value.field_count; i++)
-        for (unsigned which = 0; which < 5; which++) {
-            size_t needed = JUNK;
-            uint32_t status;
-            changed = *whole;
-            changed.fields[i].name += which == 0;
-            changed.fields[i].kind += which == 1;
-            changed.fields[i].number += which == 2;
-            changed.fields[i].offset += which == 3;
-            changed.fields[i].length += which == 4;
-            memset(out, JUNK, sizeof out);
-            status = write_from(&changed, out, sizeof out, &needed);
-            if (status != ESCAPE_STREAM_DONE) {
-                wants((status == ESCAPE_STREAM_NO_COMMAND || status == ESCAPE_STREAM_NOT_WRITABLE) && needed == JUNK &&
-                      is_junk(out, sizeof out), "a change was written", text, i);
-                continue;
-            }
-            memset(&again, JUNK, sizeof again);
-            read_text(out + 2, needed - 4, &again.value, again.fields, MOST_FIELDS, again.out, MOST_BYTES);
-            wants(is_same(&again, &changed), "a change reads otherwise", text, i);
-        }
-}
-
-/* What was read, written; where it has bytes that are no UTF-8, which would be written as U+FFFD, it is not. */
-static void check_back(const char *text) {
-    static struct room whole;
-    read_into(&whole, text, MOST_FIELDS, MOST_BYTES);
-    if (strchr(text, '\xff'))
-        check_not_writable(&whole, text);
-    else
-        check_written(&whole, text);
-    check_changed(&whole, text);
-}
-
 /* Fields that say no command, or one that is not writable. */
-static const struct refusal {
-    uint32_t kind;
-    struct escape_stream_field fields[3];
-    size_t count;
-    const char *text;
-    uint32_t wanted;
-} REFUSALS[] = {
-#define NUMBER(name, number) {ESCAPE_STREAM_FIELD_##name, ESCAPE_STREAM_VALUE_NUMBER, number, 0, 0}
-#define TEXT(name, offset, length) {ESCAPE_STREAM_FIELD_##name, ESCAPE_STREAM_VALUE_TEXT, 0, offset, length}
+static const struct refusal REFUSALS[] = {
     {44, {TEXT(TEXT, 0, 1)}, 1, "a", ESCAPE_STREAM_NO_COMMAND},
     {UINT32_MAX, {TEXT(TEXT, 0, 1)}, 1, "a", ESCAPE_STREAM_NO_COMMAND},
     {ESCAPE_STREAM_OSC_SET_WINDOW_TITLE, {TEXT(TEXT, 0, 1)}, 0, "", ESCAPE_STREAM_NO_COMMAND},
@@ -248,22 +143,11 @@ static const struct refusal {
     {ESCAPE_STREAM_OSC_SET_HYPERLINK, {TEXT(URI, 0, 1), NUMBER(IMPLICIT, 0), TEXT(KEY, 1, 1)}, 3, "uk", ESCAPE_STREAM_NO_COMMAND},
 };
 
-static void check_refusal(size_t number) {
-    const struct refusal *refusal = &REFUSALS[number];
-    uint8_t out[MOST_WRITTEN];
-    size_t needed = JUNK;
-    memset(out, JUNK, sizeof out);
-    wants(escape_stream_write_osc(refusal->kind, refusal->fields, refusal->count, (const uint8_t *)refusal->text,
-                                  strlen(refusal->text), out, sizeof out, &needed) == refusal->wanted,
-          "another status", "refusal", number);
-    wants(needed == JUNK && is_junk(out, sizeof out) && blocks == 0, "something was written", "refusal", number);
-}
-
 int main(void) {
     size_t count = sizeof COMMANDS / sizeof *COMMANDS;
     for (size_t i = 0; i < count; i++)
-        check_back(COMMANDS[i].text);
-    for (size_t i = 0; i < sizeof REFUSALS / sizeof *REFUSALS; i++)
-        check_refusal(i);
+        /* Bytes that are no UTF-8 would be written as U+FFFD. */
+        check_back(COMMANDS[i].text, !strchr(COMMANDS[i].text, '\xff'));
+    check_no_commands(REFUSALS, sizeof REFUSALS / sizeof *REFUSALS);
     return check_all(COMMANDS, count);
 }

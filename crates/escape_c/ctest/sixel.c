@@ -1,6 +1,6 @@
 /* SPDX-License-Identifier: MIT */
 /*
- * Reads sixel images by escape_stream.h, and compares them with what is wanted.
+ * Reads sixel images by escape_stream.h, compares them with what is wanted, and writes them again.
  *
  *     sixel
  *
@@ -118,6 +118,107 @@ static void check_refusals(const struct image *image) {
     }
 }
 
+enum { MOST_WRITTEN = 240 };
+
+static uint32_t write_from(const struct room *from, uint8_t *out, size_t capacity, size_t *needed) {
+    return escape_stream_write_sixel(&from->sixel, from->items, from->sixel.item_count, out, capacity, needed);
+}
+
+/* Reads what was written: the numbers between `ESC P` and `q`, an empty one being 0, and the data between `q` and `ESC \`. */
+static void read_again(struct room *room, const uint8_t *text, size_t length) {
+    int64_t params[MOST_PARAMETERS + 1] = {0};
+    size_t at = 2, count = text[2] != 'q';
+    for (; text[at] != 'q' && count <= MOST_PARAMETERS; at++)
+        if (text[at] == ';')
+            count++;
+        else
+            params[count - 1] = 10 * params[count - 1] + text[at] - '0';
+    memset(room, JUNK, sizeof *room);
+    escape_stream_read_sixel(params, count, text + at + 1, length - at - 3, &room->sixel, room->items, MOST_ITEMS);
+}
+
+static void check_write_refusals(const struct room *whole, const char *text) {
+    for (unsigned long at = 1; at < 1000; at++) {
+        uint8_t out[MOST_WRITTEN];
+        size_t needed = JUNK;
+        uint32_t status;
+        memset(out, JUNK, sizeof out);
+        requests = 0;
+        refused = at;
+        status = write_from(whole, out, sizeof out, &needed);
+        refused = 0;
+        wants(blocks == 0, "blocks are kept by writing", text, at);
+        if (requests < at) {
+            wants(status == ESCAPE_STREAM_DONE, "another status of writing", text, at);
+            return;
+        }
+        wants(status == ESCAPE_STREAM_DONE || (status == ESCAPE_STREAM_NO_MEMORY && needed == JUNK && is_junk(out, sizeof out)),
+              "refused, and written", text, at);
+    }
+}
+
+/* The image that was read is written in every room, and reads back as the same. */
+static void check_written(const struct room *whole, const char *text, const char *wanted) {
+    static struct room again;
+    uint8_t all[MOST_WRITTEN], out[MOST_WRITTEN];
+    size_t length = 0;
+    memset(all, JUNK, sizeof all);
+    wants(write_from(whole, all, sizeof all, &length) == ESCAPE_STREAM_DONE, "another status of writing", text, 0);
+    if (length < 5 || length >= sizeof all || memcmp(all, "\x1bP", 2) != 0 || memcmp(all + length - 2, "\x1b\\", 2) != 0 ||
+        !is_junk(all + length, sizeof all - length)) {
+        wants(false, "no such image", text, length);
+        return;
+    }
+    for (size_t capacity = 0; capacity <= length + 2; capacity++) {
+        size_t needed = 0, fitting = capacity < length ? capacity : length;
+        memset(out, JUNK, sizeof out);
+        wants(write_from(whole, out, capacity, &needed) == ESCAPE_STREAM_DONE && needed == length, "another length", text, capacity);
+        wants(memcmp(out, all, fitting) == 0 && is_junk(out + fitting, sizeof out - fitting), "another text", text, capacity);
+    }
+    read_again(&again, all, length);
+    wants(strcmp(written(&again), wanted) == 0, written(&again), text, length);
+    check_write_refusals(whole, text);
+}
+
+static void check_not_written(const struct room *room, uint32_t wanted, const char *what) {
+    uint8_t out[MOST_WRITTEN];
+    size_t needed = JUNK;
+    memset(out, JUNK, sizeof out);
+    wants(write_from(room, out, sizeof out, &needed) == wanted, "another status of writing", what, 0);
+    wants(needed == JUNK && is_junk(out, sizeof out) && blocks == 0, "something was written", what, 0);
+}
+
+/* Values that no image has, and those of images that are not writable. */
+static void check_no_images(void) {
+    static struct room room;
+    struct escape_stream_sixel_item *item = &room.items[0];
+    static const struct room plain = {{.pan = 1, .pad = 1, .item_count = 1},
+                                      {{.kind = ESCAPE_STREAM_SIXEL_PIXELS, .count = 1, .pixels = 63}}};
+#define CHECK(change, wanted) (room = plain, change, check_not_written(&room, ESCAPE_STREAM_##wanted, #change))
+    CHECK(item->kind = 7, NO_COMMAND);
+    CHECK(item->count = 2, NO_COMMAND);
+    CHECK(item->color = 1, NO_COMMAND);
+    CHECK(item->red = 1, NO_COMMAND);
+    CHECK(item->saturation = 1, NO_COMMAND);
+    CHECK((item->kind = ESCAPE_STREAM_SIXEL_NEW_LINE, item->count = 0), NO_COMMAND);
+    CHECK(room.sixel.grid_size = 1, NO_COMMAND);
+    CHECK(room.sixel.pixel_width = 1, NO_COMMAND);
+    CHECK(room.sixel.pixel_height = 1, NO_COMMAND);
+    CHECK(item->pixels = 64, NOT_WRITABLE);
+    CHECK(room.sixel.pan = -1, NOT_WRITABLE);
+    CHECK(room.sixel.pad = INT64_MIN, NOT_WRITABLE);
+    CHECK(room.sixel.has_pixel_width = true, NOT_WRITABLE);
+    CHECK(room.sixel.has_pixel_height = true, NOT_WRITABLE);
+    CHECK((room.sixel.has_grid_size = true, room.sixel.grid_size = -1), NOT_WRITABLE);
+    CHECK((room.sixel.has_pixel_width = room.sixel.has_pixel_height = true,
+           room.sixel.pixel_width = room.sixel.pixel_height = 10001), NOT_WRITABLE);
+    CHECK((*item = (struct escape_stream_sixel_item){.kind = ESCAPE_STREAM_SIXEL_DEFINE_RGB, .green = 1}), NOT_WRITABLE);
+    /* What follows from the rest is not looked at. */
+    room = plain;
+    room.sixel.width = room.sixel.height = 7;
+    check_written(&room, "a width and a height", "1:1 1x6 | 63");
+}
+
 int main(void) {
     static struct room whole;
     for (size_t i = 0; i < sizeof IMAGES / sizeof *IMAGES; i++) {
@@ -127,7 +228,12 @@ int main(void) {
         for (size_t items = 0; items <= whole.sixel.item_count + 2; items++)
             check_room(&whole, &IMAGES[i], items);
         check_refusals(&IMAGES[i]);
+        if (whole.sixel.has_grid_size && whole.sixel.grid_size < 0)
+            check_not_written(&whole, ESCAPE_STREAM_NOT_WRITABLE, IMAGES[i].text);
+        else
+            check_written(&whole, IMAGES[i].text, IMAGES[i].wanted);
     }
+    check_no_images();
     printf("%lu differences\n", differences);
     return differences != 0;
 }

@@ -1,6 +1,6 @@
 /* SPDX-License-Identifier: MIT */
 /*
- * Reads termcap queries by escape_stream.h, and compares their names with what is wanted.
+ * Reads termcap queries by escape_stream.h, compares their names with what is wanted, and writes them again.
  *
  *     tcap
  *
@@ -9,7 +9,8 @@
  * refuses, and sees that all was given back.
  */
 #define PROGRAM "tcap"
-#include "fields.h"
+#define INTRODUCER "\x1bP+q"
+#include "writes.h"
 
 static const char *kind_name(uint32_t kind) { return kind == 0 ? "QUERY" : "?"; }
 
@@ -26,6 +27,11 @@ static uint32_t read_text(const uint8_t *text, size_t length, struct value *valu
     return status;
 }
 
+static uint32_t write_text(const struct value *value, const struct escape_stream_field *fields, const uint8_t *texts,
+                           uint8_t *out, size_t capacity, size_t *needed) {
+    return escape_stream_write_tcap(fields, value->field_count, texts, value->text_length, out, capacity, needed);
+}
+
 static const struct command COMMANDS[] = {
     {"", "QUERY NAME="},
     {"544e", "QUERY NAME=TN"},
@@ -36,6 +42,21 @@ static const struct command COMMANDS[] = {
     {"c3a9", "QUERY NAME=\xc3\xa9"},
 };
 
+static const struct refusal REFUSALS[] = {
+    {0, {TEXT(NAME, 0, 1)}, 0, "", ESCAPE_STREAM_NOT_WRITABLE},
+    {0, {TEXT(NAME, 0, 1)}, 0, "a", ESCAPE_STREAM_NO_COMMAND},
+    {0, {TEXT(NAME, 0, 1)}, 1, "ab", ESCAPE_STREAM_NO_COMMAND},
+    {0, {TEXT(NAME, 1, 1)}, 1, "ab", ESCAPE_STREAM_NO_COMMAND},
+    {0, {TEXT(NAME, 0, SIZE_MAX)}, 1, "a", ESCAPE_STREAM_NO_COMMAND},
+    {0, {TEXT(TEXT, 0, 1)}, 1, "a", ESCAPE_STREAM_NO_COMMAND},
+    {0, {NUMBER(NAME, 1)}, 1, "", ESCAPE_STREAM_NO_COMMAND},
+    {0, {TEXT(NAME, 0, 1)}, 1, "\xff", ESCAPE_STREAM_NO_COMMAND},
+};
+
 int main(void) {
-    return check_all(COMMANDS, sizeof COMMANDS / sizeof *COMMANDS);
+    size_t count = sizeof COMMANDS / sizeof *COMMANDS;
+    for (size_t i = 0; i < count; i++)
+        check_back(COMMANDS[i].text, true);
+    check_no_commands(REFUSALS, sizeof REFUSALS / sizeof *REFUSALS);
+    return check_all(COMMANDS, count);
 }

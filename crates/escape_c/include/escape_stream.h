@@ -6,7 +6,7 @@
  * ECMA-48 and xterm, such as colours, cursor movements and titles. Any bytes are a stream. Each of the first three calls takes
  * one whole, and keeps nothing. A filter in pieces, escape_stream_filter_begin and the calls after it, takes one as it comes, and
  * so does a page, escape_stream_html_begin and the calls after it. The calls escape_stream_read_.. take the text of one command,
- * query or image, and escape_stream_write_osc writes a command.
+ * query or image, and the calls escape_stream_write_.. write one.
  *
  *     cc -I crates/escape_c/include program.c libescape_c.a liblibc_c.a
  *
@@ -14,8 +14,8 @@
  * it takes for granted. Nothing checks the caller, who owes this at every call:
  *
  *   - No pointer is NULL, also where its length is 0.
- *   - `bytes` or `text` is `length` initialized bytes that can be read, and nobody writes them during the call; of
- *     escape_stream_write_osc so are the `text_length` bytes of `text` and the `count` fields.
+ *   - `bytes` or `text` is `length` initialized bytes that can be read, and nobody writes them during the call; of the calls
+ *     escape_stream_write_.. so are the `text_length` bytes of `text`, the `count` fields or items, and `sixel`.
  *   - `out` is `capacity` initialized bytes that can be read and written; `needed`, `answer`, `osc`, `image`, `query` and `sixel`
  *     point to initialized objects of their types, `fields` to `field_room` of them, `items` to `item_room`, and `params` to
  *     `count`. No two of these and of `bytes` or `text` overlap, but `params` and `text`, and nobody else reads or writes them
@@ -52,8 +52,8 @@ extern "C" {
 #define ESCAPE_STREAM_NO_MEMORY UINT32_C(1)      /* a request for memory was refused */
 #define ESCAPE_STREAM_UNKNOWN_POLICY UINT32_C(2) /* no policy has this number */
 #define ESCAPE_STREAM_NOT_BEGUN UINT32_C(3)      /* the filter or page was not begun, or has ended */
-#define ESCAPE_STREAM_NO_COMMAND UINT32_C(4)     /* no command has this kind and these fields */
-#define ESCAPE_STREAM_NOT_WRITABLE UINT32_C(5)   /* the text of the command would not read back as it */
+#define ESCAPE_STREAM_NO_COMMAND UINT32_C(4)     /* no command, image or query has this kind and these fields, or this value */
+#define ESCAPE_STREAM_NOT_WRITABLE UINT32_C(5)   /* its text would not read back as it */
 
 /*
  * The policies of escape_stream_filter and escape_stream_filter_begin. Each admits all that the one before it does.
@@ -665,6 +665,76 @@ uint32_t escape_stream_read_sixel(const int64_t *params, size_t count, const uin
  */
 uint32_t escape_stream_write_osc(uint32_t kind, const struct escape_stream_field *fields, size_t count, const uint8_t *text,
                                  size_t text_length, uint8_t *out, size_t capacity, size_t *needed);
+
+/*
+ * Writes a command of kitty's graphics protocol: ESC _, its keys and its payload, and ESC \.
+ *
+ *   kind               which command: ESCAPE_STREAM_KITTY_..
+ *   fields, text       its fields and their texts, as escape_stream_read_kitty writes them and as escape_stream_write_osc takes them
+ *
+ * The other arguments are those of escape_stream_write_osc. So are the statuses and what is written, with escape_stream_read_kitty
+ * in the place of escape_stream_read_osc; what is between ESC _ and ESC \ is of bytes from space to DEL.
+ *
+ * ESCAPE_STREAM_NO_COMMAND: no command has this kind and these fields, as ESCAPE_STREAM_KITTY_NONE has none.
+ *
+ * ESCAPE_STREAM_NOT_WRITABLE: one has them, but its text would not read back as it: a payload with another byte than those, one
+ * that is ESCAPE_STREAM_MEDIUM_BYTES, since base64 is read as ESCAPE_STREAM_MEDIUM_PAYLOAD, or the number 0 of a frame or a
+ * duration, which is read as none.
+ */
+uint32_t escape_stream_write_kitty(uint32_t kind, const struct escape_stream_field *fields, size_t count, const uint8_t *text,
+                                   size_t text_length, uint8_t *out, size_t capacity, size_t *needed);
+
+/*
+ * Writes a termcap query (XTGETTCAP): ESC P + q, its names in hexadecimal with `;` between them, and ESC \.
+ *
+ *   fields, text       a field ESCAPE_STREAM_FIELD_NAME for each name, and their texts, as escape_stream_read_tcap writes them and as
+ *                      escape_stream_write_osc takes them
+ *
+ * The other arguments are those of escape_stream_write_osc. So are the statuses and what is written, with escape_stream_read_tcap in
+ * the place of escape_stream_read_osc; what is between ESC P + q and ESC \ is of digits from 0 to 9 and from a to f, and `;`.
+ *
+ * ESCAPE_STREAM_NO_COMMAND: no names have these fields, as where a name is not UTF-8. ESCAPE_STREAM_NOT_WRITABLE: there is no name,
+ * which would be read as one that is empty.
+ */
+uint32_t escape_stream_write_tcap(const struct escape_stream_field *fields, size_t count, const uint8_t *text, size_t text_length,
+                                  uint8_t *out, size_t capacity, size_t *needed);
+
+/*
+ * Writes a sixel image: ESC P, parameters, `q`, data and ESC \.
+ *
+ *   sixel              the image but for its items. Its `width`, `height` and `item_count` follow from the rest, and are not looked at
+ *   items, count       its items, and how many there are
+ *   out, capacity      where the image goes, and for how many bytes there is room
+ *   needed             where the length of the whole image goes
+ *
+ * The rest of `sixel` and the items are as escape_stream_read_sixel writes them: what is absent, or has no meaning for the kind of an
+ * item, is 0.
+ *
+ * ESCAPE_STREAM_DONE: at the beginning of `out` is the image, as much of it as there is room for, and all else there is as it was.
+ * `*needed` is its length, whatever the room; where it is more than `capacity`, call again with room. The parameters are of digits
+ * and `;`, the data is of bytes from space to ~, and escape_stream_read_sixel reads this image and these items of the two.
+ *
+ * ESCAPE_STREAM_NO_COMMAND: no image has these values, as where an item has an unknown kind, or a colour that it has no use for.
+ *
+ * ESCAPE_STREAM_NOT_WRITABLE: one has them, but its text would not read back as it: a number that is negative, a pixel width without
+ * a height or the other way round, or so large that there are more than 100,000,000 pixels, six pixels over 63, or red, green or blue
+ * that are none of 0, 2, 5, 7, .., 255, which the percentages from 0 to 100 are read as: 255 * n / 100, without what is left over.
+ *
+ * ESCAPE_STREAM_NO_MEMORY is the only other status. The call takes memory for the image and its text, and gives it back before it
+ * returns.
+ *
+ * Example: a picture of one red pixel.
+ *
+ *     struct escape_stream_sixel sixel = {.pan = 1, .pad = 1};
+ *     struct escape_stream_sixel_item items[] = {{.kind = ESCAPE_STREAM_SIXEL_DEFINE_RGB, .color = 1, .red = 255},
+ *                                                {.kind = ESCAPE_STREAM_SIXEL_PIXELS, .count = 1, .pixels = 1}};
+ *     uint8_t out[64] = {0};
+ *     size_t needed = 0;
+ *     if (escape_stream_write_sixel(&sixel, items, 2, out, sizeof out, &needed) == ESCAPE_STREAM_DONE && needed <= sizeof out)
+ *         fwrite(out, 1, needed, stdout);
+ */
+uint32_t escape_stream_write_sixel(const struct escape_stream_sixel *sixel, const struct escape_stream_sixel_item *items, size_t count,
+                                   uint8_t *out, size_t capacity, size_t *needed);
 
 #ifdef __cplusplus
 }

@@ -5,3 +5,6 @@ pub mod PageStates
 pub mod SameState
 pub mod Rows
 mod WrittenBack
+mod ImagesWritten
+mod QueriesWritten
+mod SixelsWritten

@@ -8,4 +8,7 @@ pub mod Pieces
 pub mod Policies
 pub mod QueryValues
 pub mod SixelValues
+pub mod WrittenImages
 pub mod WrittenOscs
+pub mod WrittenQueries
+pub mod WrittenSixels

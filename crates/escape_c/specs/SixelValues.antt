@@ -21,13 +21,17 @@ sixel_rows ps t = map sixel_row (sixel_in ps t).content
 abbrev pub IsOptional : {X : Type 0} → X → Option X → Bool → X → Type 0
 IsOptional zero o has x = (has ≡ is_some o) × (x ≡ unwrap_or o zero)
 
--- the value is that of an image
-pub record IsSixel (s : Sixel Global) (v : SixelValue) : Type 0 where
+-- the value has what comes before the data of an image
+pub record IsHeader (s : Sixel Global) (v : SixelValue) : Type 0 where
   pub pan : v.pan ≡ s.pan
   pub pad : v.pad ≡ s.pad
   pub grid : IsOptional (pos 0) s.horizontal_grid_size v.has_grid_size v.grid_size
   pub width : IsOptional 0 s.pixel_width v.has_pixel_width v.pixel_width
   pub height : IsOptional 0 s.pixel_height v.has_pixel_height v.pixel_height
   pub background : v.background_is_transparent ≡ s.background_is_transparent
+
+-- the value is that of an image
+pub record IsSixel (s : Sixel Global) (v : SixelValue) : Type 0 where
+  pub header : IsHeader s v
   pub dimensions : (v.width, v.height) ≡ dimensions_of s
   pub count : v.item_count ≡ length s.content

@@ -9,11 +9,13 @@
 //! Three further calls write a [`FunctionRow`]: what a sequence or a control asks for, by name; and
 //! three an [`OscValue`], an [`ImageValue`] or a [`QueryValue`] and rows of fields: what an
 //! operating system command, an image of kitty's or a termcap query says; and one a [`SixelValue`]
-//! and rows of sixel data. Another takes rows of fields, and writes the command that has them.
+//! and rows of sixel data. Four others take what these calls write, and write the text of which
+//! they read it.
 //! `include/escape_stream.h` declares the calls for C.
 #![tactic(auto)]
 
 mod clear;
+mod ended;
 mod filter;
 mod function;
 mod function_row;
@@ -35,9 +37,13 @@ mod pieces;
 mod query_value;
 mod sixel;
 mod sixel_value;
+mod sixel_writable;
 mod state;
 mod tcap;
+mod write_kitty;
 mod write_osc;
+mod write_sixel;
+mod write_tcap;
 
 pub use filter::escape_stream_filter;
 pub use function::{
@@ -64,7 +70,10 @@ pub use query_value::QueryValue;
 pub use sixel::escape_stream_read_sixel;
 pub use sixel_value::SixelValue;
 pub use tcap::escape_stream_read_tcap;
+pub use write_kitty::escape_stream_write_kitty;
 pub use write_osc::escape_stream_write_osc;
+pub use write_sixel::escape_stream_write_sixel;
+pub use write_tcap::escape_stream_write_tcap;
 
 /// The call was done.
 pub const DONE: u32 = 0;
@@ -78,8 +87,8 @@ pub const UNKNOWN_POLICY: u32 = 2;
 /// The filter or the page in pieces was not begun, or has ended. Nothing was taken.
 pub const NOT_BEGUN: u32 = 3;
 
-/// No command has this kind and these fields. Nothing was written.
+/// No command, image or query has this kind, these fields or this value. Nothing was written.
 pub const NO_COMMAND: u32 = 4;
 
-/// The text of the command would not read back as it. Nothing was written.
+/// The text of the command, image or query would not read back as it. Nothing was written.
 pub const NOT_WRITABLE: u32 = 5;

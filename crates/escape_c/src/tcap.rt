@@ -46,7 +46,7 @@ pub extern "C" fn escape_stream_read_tcap(
 }
 
 // The fields of the query.
-fn read(alloc: Global, text: &[u8]) -> Result<Fields, AllocError>
+pub(crate) fn read(alloc: Global, text: &[u8]) -> Result<Fields, AllocError>
     ensures ok { IfOk result (λ f. f ≡ query_table text.now) }
     ensures refused { OnErr result (Refused Global) }
 {

@@ -1,0 +1,60 @@
+//! The names of a termcap query from fields.
+ghost use Rattle.std.specs.Prelude.{◌≡◌, ◌↔◌, ℕ, List, IfOk, IfSome, IsTrue, None, OnErr};
+ghost use Rattle.esc_fields.specs.Fields.{said};
+ghost use Rattle.esc_fields.specs.Found.{held};
+ghost use Rattle.esc_fields.specs.FoundNames.{HasNames, names_in};
+ghost use Rattle.esc_fields.specs.Held.{AreTexts, types};
+ghost use Rattle.memory.specs.Refusals.{Refused};
+
+use crate::field_row::FieldRow;
+use crate::fields::Fields;
+use crate::read_back::{are_those, kept};
+use crate::read_lists::items;
+use crate::said::said_by;
+use esc_values::{Items, Text};
+use std::alloc::{AllocError, Allocator};
+
+/// The names of a termcap query that have these fields: rows, and their texts one after another, as
+/// [`Fields::of_names`] has them. None where no names have them. The error is that memory was
+/// refused.
+pub fn names_of<A: Allocator + Copy>(
+    alloc: A,
+    rows: &[FieldRow],
+    text: &[u8],
+) -> Result<Option<Items<Text<A>, A>>, AllocError>
+    ensures has { IfOk result (λ o. IfSome o (λ ns. HasNames (rows.now, text.now) ns)) }
+    ensures none { IfOk result (λ o. o ≡ None → (ns : List (List ℕ)) → AreTexts types ns
+        → HasNames (rows.now, text.now) ns → ⊥) }
+    ensures refused { OnErr result (Refused A) }
+{
+    let names = names_said(alloc, rows, text)?;
+    let has = has_names(alloc, names.as_slice(), rows, text);
+    kept(names, has)
+}
+
+// The names that they say.
+fn names_said<A: Allocator + Copy>(
+    alloc: A,
+    rows: &[FieldRow],
+    text: &[u8],
+) -> Result<Items<Text<A>, A>, AllocError>
+    ensures ok { IfOk result (λ ns. ns ≡ names_in held (said (rows.now, text.now))) }
+    ensures refused { OnErr result (Refused A) }
+{
+    let fields = said_by(alloc, rows, text)?;
+    items(alloc, fields.as_slice())
+}
+
+// Whether names have these fields.
+fn has_names<A: Allocator + Copy>(
+    alloc: A,
+    names: &[Text<A>],
+    rows: &[FieldRow],
+    text: &[u8],
+) -> Result<bool, AllocError>
+    ensures has { IfOk result (λ b. IsTrue b ↔ HasNames (rows.now, text.now) names.now) }
+    ensures refused { OnErr result (Refused A) }
+{
+    let fields = Fields::of_names(alloc, names)?;
+    Ok(are_those(&fields, rows, text))
+}

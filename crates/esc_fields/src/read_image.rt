@@ -1,0 +1,233 @@
+//! The kitty image that rows say. An error is that memory was refused.
+ghost use Rattle.std.specs.Prelude.{◌≡◌, IfOk, OnErr};
+ghost use Rattle.esc_fields.specs.Found.{after, first, held};
+ghost use Rattle.esc_fields.specs.FoundImages.{compose_in, content_of, deleted_in, frame_in, image_in, look, placement_in, transmit_in};
+ghost use Rattle.memory.specs.Refusals.{Refused};
+
+use crate::field_name::FieldName;
+use crate::image_forms::{Deletion, ImageForm};
+use crate::read_numbers::{
+    composition, compression, count, flag, format, known, known_order, natural, order, verbosity,
+};
+use crate::said::{Said, after, first};
+use esc_kitty::{
+    KittyImage, KittyImageData, KittyImageDelete, KittyImageFrame, KittyImageFrameCompose,
+    KittyImagePlacement, KittyImageTransmit,
+};
+use esc_values::Items;
+use std::alloc::{AllocError, Allocator};
+
+// The image of a form, or none.
+pub(crate) fn image<A: Allocator>(
+    alloc: A,
+    form: ImageForm,
+    fields: &[Said<'_>],
+) -> Result<Option<KittyImage<A>>, AllocError>
+    ensures ok { IfOk result (λ i. i ≡ image_in held form fields.now) }
+    ensures refused { OnErr result (Refused A) }
+{
+    let rest = after(fields);
+    match form {
+        ImageForm::Nothing => Ok(None),
+        ImageForm::Kept => Ok(Some(KittyImage::TransmitData {
+            transmit: transmit(alloc, fields)?,
+            verbosity: verbosity(rest),
+        })),
+        ImageForm::Shown => Ok(Some(KittyImage::TransmitDataAndDisplay {
+            transmit: transmit(alloc, fields)?,
+            placement: placement(rest),
+            verbosity: verbosity(rest),
+        })),
+        ImageForm::Displayed => Ok(Some(KittyImage::Display {
+            image_id: count(FieldName::ImageId, fields),
+            image_number: count(FieldName::ImageNumber, fields),
+            placement: placement(fields),
+            verbosity: verbosity(fields),
+        })),
+        ImageForm::Asked => Ok(Some(KittyImage::Query {
+            transmit: transmit(alloc, fields)?,
+        })),
+        ImageForm::Sent => Ok(Some(KittyImage::TransmitFrame {
+            transmit: transmit(alloc, fields)?,
+            frame: frame(rest),
+            verbosity: verbosity(rest),
+        })),
+        ImageForm::Composed => Ok(Some(KittyImage::ComposeFrame {
+            frame: compose(fields),
+            verbosity: verbosity(fields),
+        })),
+        ImageForm::Deleted(what) => Ok(Some(KittyImage::Delete {
+            what: deleted(what, fields),
+            verbosity: verbosity(fields),
+        })),
+    }
+}
+
+// An image on its way to the terminal, whose text is the first row.
+fn transmit<A: Allocator>(
+    alloc: A,
+    fields: &[Said<'_>],
+) -> Result<KittyImageTransmit<A>, AllocError>
+    ensures ok { IfOk result (λ t.
+        t ≡ transmit_in held (first fields.now) (look (after fields.now))) }
+    ensures refused { OnErr result (Refused A) }
+{
+    let rest = after(fields);
+    let content = content(
+        alloc,
+        natural(FieldName::Medium, rest),
+        &first(fields),
+        count(FieldName::DataSize, rest),
+        count(FieldName::DataOffset, rest),
+    )?;
+    Ok(KittyImageTransmit {
+        format: format(rest),
+        content,
+        width: count(FieldName::PixelWidth, rest),
+        height: count(FieldName::PixelHeight, rest),
+        image_id: count(FieldName::ImageId, rest),
+        image_number: count(FieldName::ImageNumber, rest),
+        compression: compression(rest),
+        more_data_follows: flag(FieldName::MoreDataFollows, rest),
+    })
+}
+
+// What an image is made of: which of five it is, and its text.
+fn content<A: Allocator>(
+    alloc: A,
+    medium: u64,
+    field: &Said<'_>,
+    data_size: Option<u32>,
+    data_offset: Option<u32>,
+) -> Result<KittyImageData<A>, AllocError>
+    ensures ok { IfOk result (λ c.
+        c ≡ content_of held medium field.now.1 data_size data_offset) }
+    ensures refused { OnErr result (Refused A) }
+{
+    if medium == 1 {
+        return Ok(KittyImageData::DirectBin(Items::from_slice(alloc, field.bytes())?));
+    }
+    let text = field.string(alloc)?;
+    match medium {
+        0 => Ok(KittyImageData::Direct(text)),
+        2 => Ok(KittyImageData::File {
+            path: text,
+            data_size,
+            data_offset,
+        }),
+        3 => Ok(KittyImageData::TemporaryFile {
+            path: text,
+            data_size,
+            data_offset,
+        }),
+        _ => Ok(KittyImageData::SharedMem {
+            name: text,
+            data_size,
+            data_offset,
+        }),
+    }
+}
+
+// How an image is shown.
+fn placement(fields: &[Said<'_>]) -> KittyImagePlacement
+    ensures { result ≡ placement_in held (look fields.now) }
+{
+    KittyImagePlacement {
+        x: count(FieldName::X, fields),
+        y: count(FieldName::Y, fields),
+        w: count(FieldName::Width, fields),
+        h: count(FieldName::Height, fields),
+        x_offset: count(FieldName::XOffset, fields),
+        y_offset: count(FieldName::YOffset, fields),
+        columns: count(FieldName::Columns, fields),
+        rows: count(FieldName::Rows, fields),
+        placement_id: count(FieldName::PlacementId, fields),
+        do_not_move_cursor: flag(FieldName::DoNotMoveCursor, fields),
+        z_index: order(FieldName::ZIndex, fields),
+        unicode_placeholder: flag(FieldName::UnicodePlaceholder, fields),
+    }
+}
+
+// A frame that is sent.
+fn frame(fields: &[Said<'_>]) -> KittyImageFrame
+    ensures { result ≡ frame_in held (look fields.now) }
+{
+    KittyImageFrame {
+        x: count(FieldName::X, fields),
+        y: count(FieldName::Y, fields),
+        base_frame: count(FieldName::BaseFrame, fields),
+        frame_number: count(FieldName::FrameNumber, fields),
+        duration_ms: count(FieldName::Duration, fields),
+        composition_mode: composition(fields),
+        background_pixel: count(FieldName::BackgroundPixel, fields),
+    }
+}
+
+// Frames that are put over others.
+fn compose(fields: &[Said<'_>]) -> KittyImageFrameCompose
+    ensures { result ≡ compose_in held (look fields.now) }
+{
+    KittyImageFrameCompose {
+        image_id: count(FieldName::ImageId, fields),
+        image_number: count(FieldName::ImageNumber, fields),
+        target_frame: count(FieldName::TargetFrame, fields),
+        source_frame: count(FieldName::SourceFrame, fields),
+        x: count(FieldName::X, fields),
+        y: count(FieldName::Y, fields),
+        w: count(FieldName::Width, fields),
+        h: count(FieldName::Height, fields),
+        src_x: count(FieldName::SourceX, fields),
+        src_y: count(FieldName::SourceY, fields),
+        composition_mode: composition(fields),
+    }
+}
+
+// What is deleted.
+fn deleted(what: Deletion, fields: &[Said<'_>]) -> KittyImageDelete
+    ensures { result ≡ deleted_in held what (look fields.now) }
+{
+    let delete = flag(FieldName::DeletesData, fields);
+    match what {
+        Deletion::All => KittyImageDelete::All { delete },
+        Deletion::ImageId => KittyImageDelete::ByImageId {
+            image_id: known(FieldName::ImageId, fields),
+            placement_id: count(FieldName::PlacementId, fields),
+            delete,
+        },
+        Deletion::ImageNumber => KittyImageDelete::ByImageNumber {
+            image_number: known(FieldName::ImageNumber, fields),
+            placement_id: count(FieldName::PlacementId, fields),
+            delete,
+        },
+        Deletion::AtCursor => KittyImageDelete::AtCursorPosition { delete },
+        Deletion::Frames => KittyImageDelete::AnimationFrames { delete },
+        Deletion::At => KittyImageDelete::DeleteAt {
+            x: known(FieldName::X, fields),
+            y: known(FieldName::Y, fields),
+            delete,
+        },
+        Deletion::AtZ => KittyImageDelete::DeleteAtZ {
+            x: known(FieldName::X, fields),
+            y: known(FieldName::Y, fields),
+            z: known_order(FieldName::ZIndex, fields),
+            delete,
+        },
+        Deletion::Column => KittyImageDelete::DeleteColumn {
+            x: known(FieldName::X, fields),
+            delete,
+        },
+        Deletion::Row => KittyImageDelete::DeleteRow {
+            y: known(FieldName::Y, fields),
+            delete,
+        },
+        Deletion::Z => KittyImageDelete::DeleteZ {
+            z: known_order(FieldName::ZIndex, fields),
+            delete,
+        },
+        Deletion::Range => KittyImageDelete::ByImageIdRange {
+            first: known(FieldName::FirstImageId, fields),
+            last: known(FieldName::LastImageId, fields),
+            delete,
+        },
+    }
+}
