@@ -2,12 +2,14 @@
 //! A stream as actions: what is printed, and what each control and each string asks for.
 //!
 //! The names are those of the crate `termwiz`. A control or an escape sequence comes as it is, with
-//! the name of its function.
+//! the name of its function. Values are owned; the module [`borrowed`](crate::borrowed) has those
+//! that are not.
 mod control_code;
 mod device;
 mod device_string;
 mod entries;
 mod parser;
+mod receiver;
 mod sequence;
 mod taker;
 mod written;

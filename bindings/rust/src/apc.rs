@@ -2,7 +2,8 @@
 //! Images of kitty's graphics protocol
 //! (<https://sw.kovidgoyal.net/kitty/graphics-protocol/>) as values.
 //!
-//! The names are those of the crate `termwiz`. Texts are owned.
+//! The names are those of the crate `termwiz`. Texts are owned, but for the values of the module
+//! [`borrowed`].
 mod delete;
 mod transmit;
 mod written;
@@ -10,8 +11,8 @@ mod written;
 pub use delete::KittyImageDelete;
 pub use transmit::{KittyImageCompression, KittyImageData, KittyImageFormat, KittyImageTransmit};
 
-use crate::fields::{Fields, Room, image, name, read};
-use crate::{Error, ffi};
+use crate::fields::{Fields, Room, name};
+use crate::{Error, borrowed};
 
 /// A command of kitty's graphics protocol.
 #[derive(Clone, Debug, PartialEq, Eq)]
@@ -96,17 +97,9 @@ impl KittyImage {
     ///
     /// Those of [`OperatingSystemCommand::parse`](crate::osc::OperatingSystemCommand::parse).
     pub fn parse_apc(text: &[u8]) -> Result<Option<KittyImage>, Error> {
-        KittyImage::parse_in(text, &mut Room::default())
-    }
-
-    pub(crate) fn parse_in(text: &[u8], room: &mut Room) -> Result<Option<KittyImage>, Error> {
-        read(text, room, ffi::read_kitty, |kind, fields| {
-            if kind == image::NONE {
-                Some(None)
-            } else {
-                image_of(kind, fields).map(Some)
-            }
-        })
+        let mut room = Room::default();
+        let image = borrowed::KittyImage::read(text, &mut room)?;
+        Ok(image.map(borrowed::KittyImage::into_owned))
     }
 
     /// What the terminal reports of the command. That of a `Query` is `Verbose`: an answer is what
@@ -125,43 +118,6 @@ impl KittyImage {
     }
 }
 
-// The image of a kind, from its fields.
-fn image_of(kind: u32, fields: &mut Fields<'_>) -> Option<KittyImage> {
-    Some(match kind {
-        image::TRANSMIT_DATA => KittyImage::TransmitData {
-            transmit: KittyImageTransmit::of(fields)?,
-            verbosity: KittyImageVerbosity::of(fields)?,
-        },
-        image::TRANSMIT_DATA_AND_DISPLAY => KittyImage::TransmitDataAndDisplay {
-            transmit: KittyImageTransmit::of(fields)?,
-            placement: KittyImagePlacement::of(fields)?,
-            verbosity: KittyImageVerbosity::of(fields)?,
-        },
-        image::DISPLAY => KittyImage::Display {
-            image_id: fields.optional(name::IMAGE_ID)?,
-            image_number: fields.optional(name::IMAGE_NUMBER)?,
-            placement: KittyImagePlacement::of(fields)?,
-            verbosity: KittyImageVerbosity::of(fields)?,
-        },
-        image::QUERY => KittyImage::Query {
-            transmit: KittyImageTransmit::of(fields)?,
-        },
-        image::TRANSMIT_FRAME => KittyImage::TransmitFrame {
-            transmit: KittyImageTransmit::of(fields)?,
-            frame: KittyImageFrame::of(fields)?,
-            verbosity: KittyImageVerbosity::of(fields)?,
-        },
-        image::COMPOSE_FRAME => KittyImage::ComposeFrame {
-            frame: KittyImageFrameCompose::of(fields)?,
-            verbosity: KittyImageVerbosity::of(fields)?,
-        },
-        _ => KittyImage::Delete {
-            what: KittyImageDelete::of(kind, fields)?,
-            verbosity: KittyImageVerbosity::of(fields)?,
-        },
-    })
-}
-
 /// What the terminal reports of a command.
 #[derive(Clone, Copy, Debug, PartialEq, Eq, Hash)]
 #[cfg_attr(feature = "serde", derive(serde::Serialize, serde::Deserialize))]
@@ -175,7 +131,7 @@ pub enum KittyImageVerbosity {
 }
 
 impl KittyImageVerbosity {
-    fn of(fields: &mut Fields<'_>) -> Option<KittyImageVerbosity> {
+    pub(crate) fn of(fields: &mut Fields<'_>) -> Option<KittyImageVerbosity> {
         use KittyImageVerbosity as Verbosity;
         [Verbosity::Verbose, Verbosity::OnlyErrors, Verbosity::Quiet]
             .get(fields.number::<usize>(name::VERBOSITY)?)
@@ -184,7 +140,7 @@ impl KittyImageVerbosity {
 }
 
 /// How an image is shown.
-#[derive(Clone, Debug, PartialEq, Eq)]
+#[derive(Clone, Copy, Debug, PartialEq, Eq)]
 #[cfg_attr(feature = "serde", derive(serde::Serialize, serde::Deserialize))]
 pub struct KittyImagePlacement {
     /// The left edge of the part of the image that is shown, in pixels.
@@ -214,7 +170,7 @@ pub struct KittyImagePlacement {
 }
 
 impl KittyImagePlacement {
-    fn of(fields: &mut Fields<'_>) -> Option<KittyImagePlacement> {
+    pub(crate) fn of(fields: &mut Fields<'_>) -> Option<KittyImagePlacement> {
         Some(KittyImagePlacement {
             x: fields.optional(name::X)?,
             y: fields.optional(name::Y)?,
@@ -253,7 +209,7 @@ impl KittyFrameCompositionMode {
 }
 
 /// A frame of an animation that is sent.
-#[derive(Clone, Debug, PartialEq, Eq)]
+#[derive(Clone, Copy, Debug, PartialEq, Eq)]
 #[cfg_attr(feature = "serde", derive(serde::Serialize, serde::Deserialize))]
 pub struct KittyImageFrame {
     /// The left edge at which its pixels are put, in pixels.
@@ -274,7 +230,7 @@ pub struct KittyImageFrame {
 }
 
 impl KittyImageFrame {
-    fn of(fields: &mut Fields<'_>) -> Option<KittyImageFrame> {
+    pub(crate) fn of(fields: &mut Fields<'_>) -> Option<KittyImageFrame> {
         Some(KittyImageFrame {
             x: fields.optional(name::X)?,
             y: fields.optional(name::Y)?,
@@ -288,7 +244,7 @@ impl KittyImageFrame {
 }
 
 /// A part of one frame that is put over another of the same image.
-#[derive(Clone, Debug, PartialEq, Eq)]
+#[derive(Clone, Copy, Debug, PartialEq, Eq)]
 #[cfg_attr(feature = "serde", derive(serde::Serialize, serde::Deserialize))]
 pub struct KittyImageFrameCompose {
     /// The image's id.
@@ -316,7 +272,7 @@ pub struct KittyImageFrameCompose {
 }
 
 impl KittyImageFrameCompose {
-    fn of(fields: &mut Fields<'_>) -> Option<KittyImageFrameCompose> {
+    pub(crate) fn of(fields: &mut Fields<'_>) -> Option<KittyImageFrameCompose> {
         Some(KittyImageFrameCompose {
             image_id: fields.optional(name::IMAGE_ID)?,
             image_number: fields.optional(name::IMAGE_NUMBER)?,

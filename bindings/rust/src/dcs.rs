@@ -9,7 +9,8 @@ mod written;
 pub(crate) use read_sixel::read_sixel;
 pub use sixel::{RgbColor, Sixel, SixelData, SixelValue};
 
-use crate::fields::{Fields, Room, name, read};
+use crate::borrowed::List;
+use crate::fields::{Room, read};
 use crate::{Error, ffi};
 use alloc::string::String;
 use alloc::vec::Vec;
@@ -26,10 +27,14 @@ use alloc::vec::Vec;
 ///
 /// Those of [`OperatingSystemCommand::parse`](crate::osc::OperatingSystemCommand::parse).
 pub fn xt_get_tcap(data: &[u8]) -> Result<Vec<String>, Error> {
-    xt_get_tcap_in(data, &mut Room::default())
+    let mut room = Room::default();
+    let names = xt_get_tcap_in(data, &mut room)?;
+    Ok(names.iter().map(String::from).collect())
 }
 
-pub(crate) fn xt_get_tcap_in(data: &[u8], room: &mut Room) -> Result<Vec<String>, Error> {
-    let names = |_, fields: &mut Fields<'_>| fields.all(|it| it.text(name::NAME));
-    read(data, room, ffi::read_tcap, names)
+pub(crate) fn xt_get_tcap_in<'a>(
+    data: &[u8],
+    room: &'a mut Room,
+) -> Result<List<'a, &'a str>, Error> {
+    read(data, room, ffi::read_tcap, |_, fields| List::of(fields))
 }

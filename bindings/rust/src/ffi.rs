@@ -320,6 +320,12 @@ pub struct Event {
 }
 
 impl Event {
+    /// The entries that are kept.
+    #[inline(always)]
+    pub fn entries(&self) -> &[Entry] {
+        self.entries.get(..self.count).unwrap_or(&self.entries)
+    }
+
     /// The intermediates that are kept.
     #[inline(always)]
     pub fn intermediates(&self) -> &[u8] {

@@ -1,8 +1,9 @@
 // SPDX-License-Identifier: MIT
 //! The fields of a command or an image, taken one after another. The numbers are those of `escape_stream.h`.
+use crate::dcs::SixelData;
 use crate::{Error, ffi, numbered};
-use alloc::string::String;
 use alloc::vec::Vec;
+use core::str;
 
 /// Room for what a call writes. It is used again, and grows where more is needed.
 #[derive(Default)]
@@ -10,15 +11,34 @@ pub struct Room {
     rows: Vec<ffi::Field>,
     texts: Vec<u8>,
     pub items: Vec<ffi::SixelItem>,
+    // Room for the data of the next sixel image.
+    pixels: Vec<SixelData>,
+}
+
+// Room for so much sixel data is kept from one image to the next.
+const KEPT_PIXELS: usize = 1 << 14;
+
+impl Room {
+    /// The room for the data of a sixel image, with nothing in it.
+    pub fn pixels(&mut self) -> Vec<SixelData> {
+        core::mem::take(&mut self.pixels)
+    }
+
+    /// Keeps this room for the data of the next sixel image.
+    pub fn keep(&mut self, mut pixels: Vec<SixelData>) {
+        pixels.clear();
+        pixels.shrink_to(KEPT_PIXELS);
+        self.pixels = pixels;
+    }
 }
 
 /// The value of a text: what a call says of it, in first as much room as most need, made of its
-/// kind and its fields.
-pub fn read<T>(
+/// kind and its fields, which lie in this room.
+pub fn read<'a, T>(
     text: &[u8],
-    room: &mut Room,
+    room: &'a mut Room,
     call: impl Fn(&[u8], &mut [ffi::Field], &mut [u8]) -> Result<ffi::Said, Error>,
-    value: impl FnOnce(u32, &mut Fields<'_>) -> Option<T>,
+    value: impl FnOnce(u32, &mut Fields<'a>) -> Option<T>,
 ) -> Result<T, Error> {
     let Room { rows, texts, .. } = room;
     make_room(rows, 8, ffi::NO_FIELD)?;
@@ -95,12 +115,18 @@ numbered! { 0; VALUE_NUMBER VALUE_TEXT VALUE_SIZE }
 
 /// Fields that are left. Each call takes the next one, where it has this name and holds what is
 /// asked for, and else none.
+#[derive(Clone, Copy)]
 pub struct Fields<'a> {
     rows: &'a [ffi::Field],
     texts: &'a [u8],
 }
 
 impl<'a> Fields<'a> {
+    pub const NONE: Fields<'a> = Fields {
+        rows: &[],
+        texts: &[],
+    };
+
     pub fn is_empty(&self) -> bool {
         self.rows.is_empty()
     }
@@ -108,18 +134,6 @@ impl<'a> Fields<'a> {
     /// Whether the next field has this name.
     pub fn has(&self, name: u32) -> bool {
         self.rows.first().is_some_and(|row| row.name == name)
-    }
-
-    /// The values of all fields that are left.
-    pub fn all<T, C: Default + Extend<T>>(
-        &mut self,
-        mut value: impl FnMut(&mut Self) -> Option<T>,
-    ) -> Option<C> {
-        let mut values = C::default();
-        while !self.is_empty() {
-            values.extend([value(self)?]);
-        }
-        Some(values)
     }
 
     fn take(&mut self, name: u32, kind: u32) -> Option<&'a ffi::Field> {
@@ -156,19 +170,18 @@ impl<'a> Fields<'a> {
     }
 
     /// Bytes.
-    pub fn bytes(&mut self, name: u32) -> Option<Vec<u8>> {
+    pub fn bytes(&mut self, name: u32) -> Option<&'a [u8]> {
         let row = self.take(name, VALUE_TEXT)?;
-        let bytes = self.texts.get(row.offset..)?.get(..row.length)?;
-        Some(bytes.to_vec())
+        self.texts.get(row.offset..)?.get(..row.length)
     }
 
     /// A text.
-    pub fn text(&mut self, name: u32) -> Option<String> {
-        String::from_utf8(self.bytes(name)?).ok()
+    pub fn text(&mut self, name: u32) -> Option<&'a str> {
+        str::from_utf8(self.bytes(name)?).ok()
     }
 
     /// A text, where there is one.
-    pub fn optional_text(&mut self, name: u32) -> Option<Option<String>> {
+    pub fn optional_text(&mut self, name: u32) -> Option<Option<&'a str>> {
         if self.has(name) {
             self.text(name).map(Some)
         } else {

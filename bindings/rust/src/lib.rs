@@ -9,8 +9,9 @@
 //! [`ControlFunction`] and [`EscapeFunction`] name what sequences ask for, by tables that are made
 //! from those of the library. [`osc::OperatingSystemCommand`] is what a command says,
 //! [`apc::KittyImage`] and [`dcs::Sixel`] what an image is, and [`action::Parser`] gives a stream as
-//! actions, with such values, which can be written again. The module [`termwiz`] has these at the
-//! paths of the crate `termwiz`.
+//! actions, with such values, which can be written again; those of the module [`borrowed`] lie where
+//! the parser has them. The module [`termwiz`] has the owned ones at the paths of the crate
+//! `termwiz`.
 //!
 //! The work is done by a library that is proved: what each call writes is what its contract says,
 //! for every stream. This crate is not proved. Its module `ffi` is its one place with unsafe code.
@@ -42,6 +43,8 @@ extern crate std;
 pub mod action;
 #[cfg(feature = "oneshot")]
 pub mod apc;
+#[cfg(feature = "oneshot")]
+pub mod borrowed;
 #[cfg(feature = "oneshot")]
 pub mod dcs;
 #[allow(unsafe_code)]

@@ -2,10 +2,9 @@
 //! Operating system commands as values: titles, links, clipboards, colours, prompts and the
 //! commands of iTerm2.
 //!
-//! The names are those of the crate `termwiz`. Texts are owned, and sizes in tenths are whole
-//! numbers.
+//! The names are those of the crate `termwiz`. Texts are owned, but for the values of the module
+//! [`borrowed`], and sizes in tenths are whole numbers.
 mod iterm;
-mod plain;
 mod prompt;
 mod said;
 mod values;
@@ -16,9 +15,9 @@ pub use values::{
     ChangeColorPair, Color16, ColorOrQuery, DynamicColorNumber, Hyperlink, Progress, Selection,
 };
 
-use crate::fields::{Fields, Room, kind, make_room, name, read};
+use crate::fields::{Room, make_room};
 use crate::written::displayed;
-use crate::{Error, ffi};
+use crate::{Error, borrowed, ffi};
 use alloc::string::String;
 use alloc::vec::Vec;
 use said::Said;
@@ -106,18 +105,9 @@ impl OperatingSystemCommand {
     /// as a `String` does. [`Error::Failed`] is excluded by the clauses of the library's call: it
     /// says that a command had other fields than its kind has.
     pub fn parse(text: &[u8]) -> Result<OperatingSystemCommand, Error> {
-        OperatingSystemCommand::parse_in(text, &mut Room::default())
-    }
-
-    #[inline]
-    pub(crate) fn parse_in(text: &[u8], room: &mut Room) -> Result<OperatingSystemCommand, Error> {
-        match plain::plain(text) {
-            Some(command) => {
-                debug_assert!(read_in(text, room).map_or(true, |it| it == command));
-                Ok(command)
-            }
-            None => read_in(text, room),
-        }
+        let mut room = Room::default();
+        let command = borrowed::OperatingSystemCommand::read(text, &mut room)?;
+        Ok(command.into_owned())
     }
 
     /// The bytes of this command: `ESC ]`, its text and `ESC \`. What is between these reads back
@@ -150,59 +140,5 @@ impl OperatingSystemCommand {
         }
         bytes.truncate(needed);
         Ok(bytes)
-    }
-}
-
-// The command that the library reads.
-#[inline(never)]
-fn read_in(text: &[u8], room: &mut Room) -> Result<OperatingSystemCommand, Error> {
-    read(text, room, ffi::read_osc, command)
-}
-
-// The command of a kind, from its fields.
-fn command(of: u32, fields: &mut Fields<'_>) -> Option<OperatingSystemCommand> {
-    use OperatingSystemCommand as Command;
-    Some(match of {
-        kind::UNSPECIFIED => Command::Unspecified(fields.all(|it| it.bytes(name::PART))?),
-        kind::SET_ICON_NAME_AND_WINDOW_TITLE => {
-            Command::SetIconNameAndWindowTitle(fields.text(name::TEXT)?)
-        }
-        kind::SET_WINDOW_TITLE => Command::SetWindowTitle(fields.text(name::TEXT)?),
-        kind::SET_WINDOW_TITLE_SUN => Command::SetWindowTitleSun(fields.text(name::TEXT)?),
-        kind::SET_ICON_NAME => Command::SetIconName(fields.text(name::TEXT)?),
-        kind::SET_ICON_NAME_SUN => Command::SetIconNameSun(fields.text(name::TEXT)?),
-        kind::SET_HYPERLINK if fields.is_empty() => Command::SetHyperlink(None),
-        kind::SET_HYPERLINK => Command::SetHyperlink(Some(Hyperlink::of(fields)?)),
-        kind::CLEAR_SELECTION => Command::ClearSelection(Selection::of(fields)?),
-        kind::QUERY_SELECTION => Command::QuerySelection(Selection::of(fields)?),
-        kind::SET_SELECTION => {
-            Command::SetSelection(Selection::of(fields)?, fields.text(name::TEXT)?)
-        }
-        kind::SYSTEM_NOTIFICATION => Command::SystemNotification(fields.text(name::TEXT)?),
-        kind::CHANGE_COLOR_NUMBER => Command::ChangeColorNumber(fields.all(ChangeColorPair::of)?),
-        kind::CHANGE_DYNAMIC_COLORS => Command::ChangeDynamicColors(
-            DynamicColorNumber::of(fields)?,
-            fields.all(ColorOrQuery::of)?,
-        ),
-        kind::RESET_DYNAMIC_COLOR => Command::ResetDynamicColor(DynamicColorNumber::of(fields)?),
-        kind::CURRENT_WORKING_DIRECTORY => {
-            Command::CurrentWorkingDirectory(fields.text(name::DIRECTORY)?)
-        }
-        kind::RESET_COLORS => {
-            Command::ResetColors(fields.all(|it| it.number::<u8>(name::PALETTE_INDEX))?)
-        }
-        kind::RXVT_EXTENSION => Command::RxvtExtension(fields.all(|it| it.text(name::PART))?),
-        kind::CONEMU_PROGRESS => Command::ConEmuProgress(Progress::of(fields)?),
-        _ => return family(of, fields),
-    })
-}
-
-// The command of a kind that is a prompt, or one of iTerm2.
-fn family(of: u32, fields: &mut Fields<'_>) -> Option<OperatingSystemCommand> {
-    use OperatingSystemCommand as Command;
-    if of < kind::ITERM_SET_MARK {
-        FinalTermSemanticPrompt::of(of, fields).map(Command::FinalTermSemanticPrompt)
-    } else {
-        ITermProprietary::of(of, fields).map(Command::ITermProprietary)
     }
 }

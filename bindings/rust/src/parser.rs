@@ -277,7 +277,7 @@ impl Parser {
                 byte,
             },
             kind::CSI => Event::Csi {
-                entries: &event.entries[..event.count],
+                entries: event.entries(),
                 has_more,
                 byte,
             },

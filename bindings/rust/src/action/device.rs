@@ -1,5 +1,6 @@
 // SPDX-License-Identifier: MIT
 //! What device control strings give, but for images and termcap queries.
+use crate::borrowed::{self, DeviceControlMode as Mode};
 use alloc::boxed::Box;
 use alloc::vec::Vec;
 use core::fmt;
@@ -48,26 +49,14 @@ pub struct ShortDeviceControl {
     pub data: Vec<u8>,
 }
 
-// Bytes as `termwiz` shows them: each as its character and its number.
-struct Shown<'a>(&'a [u8]);
-
-impl fmt::Display for Shown<'_> {
-    fn fmt(&self, f: &mut fmt::Formatter<'_>) -> fmt::Result {
-        let show = |byte: &u8| write!(f, "{:?} {byte:#x}, ", char::from(*byte));
-        self.0.iter().try_for_each(show)
-    }
-}
-
 impl fmt::Debug for DeviceControlMode {
     fn fmt(&self, f: &mut fmt::Formatter<'_>) -> fmt::Result {
         match self {
-            DeviceControlMode::Enter(enter) => write!(f, "Enter({enter:?})"),
-            DeviceControlMode::Exit => f.write_str("Exit"),
-            DeviceControlMode::Data(byte) => {
-                write!(f, "Data({:?} {byte:#x})", char::from(*byte))
-            }
+            DeviceControlMode::Enter(enter) => Mode::Enter(&(&**enter).into()).fmt(f),
+            DeviceControlMode::Exit => Mode::Exit.fmt(f),
+            DeviceControlMode::Data(byte) => Mode::Data(*byte).fmt(f),
             DeviceControlMode::ShortDeviceControl(short) => {
-                write!(f, "ShortDeviceControl({short:?})")
+                Mode::ShortDeviceControl(&(&**short).into()).fmt(f)
             }
         }
     }
@@ -75,28 +64,12 @@ impl fmt::Debug for DeviceControlMode {
 
 impl fmt::Debug for EnterDeviceControlMode {
     fn fmt(&self, f: &mut fmt::Formatter<'_>) -> fmt::Result {
-        let (params, intermediates) = (&self.params, Shown(&self.intermediates));
-        let (character, byte) = (char::from(self.byte), self.byte);
-        let ignored = self.ignored_extra_intermediates;
-        write!(
-            f,
-            "EnterDeviceControlMode(params: {params:?}, intermediates: [{intermediates}], "
-        )?;
-        write!(
-            f,
-            "byte: {character:?} {byte:#x}, ignored_extra_intermediates={ignored})"
-        )
+        borrowed::EnterDeviceControlMode::from(self).fmt(f)
     }
 }
 
 impl fmt::Debug for ShortDeviceControl {
     fn fmt(&self, f: &mut fmt::Formatter<'_>) -> fmt::Result {
-        let (params, intermediates) = (&self.params, Shown(&self.intermediates));
-        let (character, byte, data) = (char::from(self.byte), self.byte, Shown(&self.data));
-        write!(
-            f,
-            "ShortDeviceControl(params: {params:?}, intermediates: [{intermediates}], "
-        )?;
-        write!(f, "byte: {character:?} {byte:#x}, data=[{data})")
+        borrowed::ShortDeviceControl::from(self).fmt(f)
     }
 }

@@ -1,35 +1,50 @@
 // SPDX-License-Identifier: MIT
 //! A device control string on its way.
-use super::{Action, DeviceControlMode, EnterDeviceControlMode, ShortDeviceControl};
+use super::receiver::Receiver;
+use crate::borrowed::{Action, DeviceControlMode, EnterDeviceControlMode, ShortDeviceControl};
 use crate::dcs::{read_sixel, xt_get_tcap_in};
 use crate::fields::Room;
 use crate::{Error, Event, dcs_numbers};
-use alloc::boxed::Box;
 use alloc::vec::Vec;
 
-/// The device control string that is unfinished.
-pub enum DeviceString {
+// Room for so many bytes of data is kept from one string to the next.
+const KEPT_ROOM: usize = 1 << 16;
+
+/// The device control string that is unfinished, with the numbers of its header and the data that
+/// are kept of it.
+#[derive(Default)]
+pub struct DeviceString {
+    kind: Kind,
+    params: Vec<i64>,
+    data: Vec<u8>,
+}
+
+#[derive(Clone, Copy, Default, PartialEq)]
+enum Kind {
+    #[default]
     Nothing,
     /// A mode, of which nothing has to be kept.
     Entered,
     /// More data came than the limit allows.
     Over,
-    Sixel {
-        params: Vec<i64>,
-        data: Vec<u8>,
-    },
-    Termcap(Vec<u8>),
-    Short(Box<ShortDeviceControl>),
+    Sixel,
+    Termcap,
+    Short,
 }
 
 impl DeviceString {
     /// Whether there is one.
     pub fn is_open(&self) -> bool {
-        !matches!(self, DeviceString::Nothing)
+        self.kind != Kind::Nothing
+    }
+
+    /// Whether it is a mode.
+    pub fn is_mode(&self) -> bool {
+        self.kind == Kind::Entered
     }
 
     /// A string begins.
-    pub fn begin(&mut self, event: Event<'_>, act: &mut impl FnMut(Action)) {
+    pub fn begin(&mut self, event: Event<'_>, to: &mut impl Receiver) {
         let Event::Dcs {
             parameters,
             intermediates,
@@ -39,29 +54,23 @@ impl DeviceString {
         else {
             return;
         };
+        self.data.clear();
+        self.params.clear();
         let params = dcs_numbers(parameters).map(Option::unwrap_or_default);
-        let params = params.collect();
-        *self = match (byte, has_more, intermediates) {
-            (b'q', false, []) => DeviceString::Sixel {
-                params,
-                data: Vec::new(),
-            },
-            (b'q', false, b"+") => DeviceString::Termcap(Vec::new()),
-            (b'q', false, b"$") => DeviceString::Short(Box::new(ShortDeviceControl {
-                params,
-                intermediates: intermediates.to_vec(),
-                byte,
-                data: Vec::new(),
-            })),
+        self.params.extend(params);
+        self.kind = match (byte, has_more, intermediates) {
+            (b'q', false, []) => Kind::Sixel,
+            (b'q', false, b"+") => Kind::Termcap,
+            (b'q', false, b"$") => Kind::Short,
             _ => {
-                let enter = Box::new(EnterDeviceControlMode {
+                let enter = EnterDeviceControlMode {
                     byte,
-                    params,
-                    intermediates: intermediates.to_vec(),
+                    params: &self.params,
+                    intermediates,
                     ignored_extra_intermediates: has_more,
-                });
-                act(Action::DeviceControl(DeviceControlMode::Enter(enter)));
-                DeviceString::Entered
+                };
+                to.act(Action::DeviceControl(DeviceControlMode::Enter(&enter)));
+                Kind::Entered
             }
         };
     }
@@ -71,41 +80,57 @@ impl DeviceString {
         &mut self,
         bytes: &[u8],
         limit: usize,
-        act: &mut impl FnMut(Action),
+        to: &mut impl Receiver,
     ) -> Result<(), Error> {
-        let data = match self {
-            DeviceString::Nothing | DeviceString::Over => return Ok(()),
-            DeviceString::Entered => {
+        match self.kind {
+            Kind::Nothing | Kind::Over => {}
+            Kind::Entered => {
                 for byte in bytes {
-                    act(Action::DeviceControl(DeviceControlMode::Data(*byte)));
+                    to.act(Action::DeviceControl(DeviceControlMode::Data(*byte)));
                 }
-                return Ok(());
             }
-            DeviceString::Sixel { data, .. } | DeviceString::Termcap(data) => data,
-            DeviceString::Short(short) => &mut short.data,
-        };
-        if limit - data.len() < bytes.len() {
-            *self = DeviceString::Over;
-            return Ok(());
+            _ if limit - self.data.len() < bytes.len() => {
+                self.kind = Kind::Over;
+                self.forget();
+            }
+            _ => {
+                let more = self.data.try_reserve(bytes.len());
+                more.map_err(|_| Error::Memory)?;
+                self.data.extend_from_slice(bytes);
+            }
         }
-        data.try_reserve(bytes.len()).map_err(|_| Error::Memory)?;
-        data.extend_from_slice(bytes);
         Ok(())
     }
 
     /// It ends.
-    pub fn end(&mut self, room: &mut Room, act: &mut impl FnMut(Action)) -> Result<(), Error> {
-        act(match core::mem::replace(self, DeviceString::Nothing) {
-            DeviceString::Nothing | DeviceString::Over => return Ok(()),
-            DeviceString::Entered => Action::DeviceControl(DeviceControlMode::Exit),
-            DeviceString::Sixel { params, data } => {
-                Action::Sixel(Box::new(read_sixel(&params, &data, room)?))
+    pub fn end(&mut self, room: &mut Room, to: &mut impl Receiver) -> Result<(), Error> {
+        match core::mem::take(&mut self.kind) {
+            Kind::Nothing | Kind::Over => return Ok(()),
+            Kind::Entered => to.act(Action::DeviceControl(DeviceControlMode::Exit)),
+            Kind::Sixel => {
+                let sixel = read_sixel(&self.params, &self.data, room)?;
+                room.keep(to.image(sixel));
             }
-            DeviceString::Termcap(data) => Action::XtGetTcap(xt_get_tcap_in(&data, room)?),
-            DeviceString::Short(short) => {
-                Action::DeviceControl(DeviceControlMode::ShortDeviceControl(short))
+            Kind::Termcap => to.act(Action::XtGetTcap(&xt_get_tcap_in(&self.data, room)?)),
+            Kind::Short => {
+                let short = ShortDeviceControl {
+                    params: &self.params,
+                    intermediates: b"$",
+                    byte: b'q',
+                    data: &self.data,
+                };
+                to.act(Action::DeviceControl(
+                    DeviceControlMode::ShortDeviceControl(&short),
+                ));
             }
-        });
+        }
+        self.forget();
         Ok(())
+    }
+
+    // Drops its data, and keeps some of their room.
+    fn forget(&mut self) {
+        self.data.clear();
+        self.data.shrink_to(KEPT_ROOM);
     }
 }

@@ -1,10 +1,10 @@
 // SPDX-License-Identifier: MIT
 //! A parser that gives actions.
-use super::device_string::DeviceString;
-use super::taker::{Taker, single};
-use super::{Action, CSI, ControlCode, Entries, Esc};
+use super::receiver::{Borrowed, Owned, Receiver};
+use super::taker::Taker;
+use super::{Action, ControlCode, Esc};
 use crate::ffi::kind;
-use crate::{Error, Event, ffi};
+use crate::{Error, Event, borrowed, ffi};
 use alloc::collections::VecDeque;
 use alloc::vec::Vec;
 use core::iter::FusedIterator;
@@ -65,7 +65,34 @@ impl Parser {
     ///
     /// After a [failure](Parser::failure) it calls nothing.
     #[inline]
-    pub fn parse<F: FnMut(Action)>(&mut self, bytes: &[u8], mut callback: F) {
+    pub fn parse<F: FnMut(Action)>(&mut self, bytes: &[u8], callback: F) {
+        self.give(bytes, Owned(callback));
+    }
+
+    /// The same with borrowed actions, which copy nothing: what is printed lies in `bytes`, and all
+    /// else where the parser keeps it. Their [`into_owned`](borrowed::Action::into_owned) gives the
+    /// actions of [`parse`](Parser::parse).
+    ///
+    /// ```
+    /// use escape_stream::action::Parser;
+    /// use escape_stream::borrowed::Action;
+    ///
+    /// let mut columns = Vec::new();
+    /// Parser::new().parse_borrowed(b"\x1b[2;5Ha\x1b[7Gb", |action| {
+    ///     if let Action::CSI(sequence) = action {
+    ///         columns.push(sequence.params.last().and_then(|it| it.number()));
+    ///     }
+    /// });
+    /// assert_eq!(columns, [Some(5), Some(7)]);
+    /// ```
+    #[inline]
+    pub fn parse_borrowed<F: FnMut(borrowed::Action<'_>)>(&mut self, bytes: &[u8], callback: F) {
+        self.give(bytes, Borrowed(callback));
+    }
+
+    // Gives the actions of the next bytes.
+    #[inline(always)]
+    fn give(&mut self, bytes: &[u8], mut to: impl Receiver) {
         if self.failure.is_some() {
             return;
         }
@@ -75,40 +102,35 @@ impl Parser {
             // What comes most often first, each in its own call, so that a closure can be inlined.
             let event = self.events.raw_event();
             if event.kind == kind::CSI {
-                callback(sequence(event));
+                to.sequence(event);
             } else if event.kind == kind::TEXT {
-                let run = ffi::text(event, rest);
-                match single(run) {
-                    Some(c) => callback(Action::Print(c)),
-                    None => callback(Action::PrintString(run.into())),
-                }
+                to.run(ffi::text(event, rest));
             } else if event.kind == kind::CONTROL {
                 if let Some(code) = ControlCode::from_byte(event.byte as u8) {
-                    callback(Action::Control(code));
+                    to.act(borrowed::Action::Control(code));
                 }
             } else if event.kind == kind::ESCAPE {
                 let escape = Esc::of(event.intermediates(), event.byte as u8);
-                callback(Action::Esc(escape));
+                to.act(borrowed::Action::Esc(escape));
             } else if event.kind == kind::OSC {
-                let command = self.taker.command(self.events.string());
-                let Some(command) = self.done(command) else {
+                let done = to.command(self.events.string(), &mut self.taker.room);
+                if self.done(done).is_none() {
                     return;
-                };
-                callback(Action::OperatingSystemCommand(command));
-            } else if event.kind == kind::NONE || !self.take_other(rest, &mut callback) {
+                }
+            } else if event.kind == kind::NONE || !self.take_other(rest, &mut to) {
                 return;
             }
             rest = &rest[taken..];
         }
     }
 
-    // Calls `act` with the actions of the event of a call that was given these bytes, and says
-    // whether it did not fail.
+    // Gives the actions of the event of a call that was given these bytes, and says whether it did
+    // not fail.
     #[inline(never)]
-    fn take_other(&mut self, bytes: &[u8], act: &mut impl FnMut(Action)) -> bool {
+    fn take_other(&mut self, bytes: &[u8], to: &mut impl Receiver) -> bool {
         let taken = match self.events.raw_event().kind {
             kind::FAILED => Err(Error::Failed),
-            _ => self.taker.take(self.events.noted(bytes), act),
+            _ => self.taker.take(self.events.noted(bytes), to),
         };
         self.done(taken).is_some()
     }
@@ -182,9 +204,8 @@ impl Parser {
             };
             let piece = bytes.get(count..length).filter(|it| !it.is_empty())?;
             count += self.take(piece, |taker, event, _| {
-                taker
-                    .take(event, &mut |action| actions.push(action))
-                    .map(|()| false)
+                let push = |action| actions.push(action);
+                taker.take(event, &mut Owned(push)).map(|()| false)
             });
             if self.failure.is_some() {
                 return None;
@@ -236,16 +257,17 @@ impl Parser {
                     excess = run.len() - first;
                     Event::Text(&run[..first])
                 }
-                Event::Data(run) if matches!(taker.device, DeviceString::Entered) => {
+                Event::Data(run) if taker.device.is_mode() => {
                     excess = run.len() - 1;
                     Event::Data(&run[..1])
                 }
                 _ => event,
             };
-            taker.take(event, &mut |action| {
+            let act = |action| {
                 goes_on = false;
                 act(action);
-            })?;
+            };
+            taker.take(event, &mut Owned(act))?;
             Ok(goes_on)
         });
         count.saturating_sub(excess)
@@ -275,16 +297,6 @@ impl Parser {
     }
 }
 
-// The control sequence of an event.
-#[inline(always)]
-fn sequence(event: &ffi::Event) -> Action {
-    Action::CSI(CSI {
-        params: Entries::first(event.count, &event.entries),
-        parameters_truncated: event.has_more,
-        control: event.byte as u8,
-    })
-}
-
 /// The actions of some bytes, one after another: what [`Parser::actions`] returns. Bytes are taken
 /// as they are needed. Where it is dropped before its end, [`rest`](Actions::rest) are not taken.
 pub struct Actions<'a, 'b> {
@@ -308,7 +320,8 @@ impl Iterator for Actions<'_, '_> {
         while self.ready.is_empty() && !self.rest.is_empty() && self.parser.failure.is_none() {
             let ready = &mut self.ready;
             let taken = self.parser.take(self.rest, |taker, event, _| {
-                taker.take(event, &mut |action| ready.push_back(action))?;
+                let push = |action| ready.push_back(action);
+                taker.take(event, &mut Owned(push))?;
                 Ok(ready.is_empty())
             });
             self.rest = self.rest.get(taken..).unwrap_or_default();

@@ -95,7 +95,7 @@ pub enum KittyImageDelete {
 
 impl KittyImageDelete {
     // What a kind deletes, from its fields.
-    pub(super) fn of(kind: u32, fields: &mut Fields<'_>) -> Option<KittyImageDelete> {
+    pub(crate) fn of(kind: u32, fields: &mut Fields<'_>) -> Option<KittyImageDelete> {
         use KittyImageDelete as Delete;
         Some(match kind {
             image::DELETE_ALL => Delete::All {

@@ -1,5 +1,6 @@
 // SPDX-License-Identifier: MIT
 //! Images on their way to the terminal.
+use crate::borrowed;
 use crate::fields::{Fields, name};
 use alloc::string::String;
 use alloc::vec::Vec;
@@ -25,21 +26,6 @@ pub struct KittyImageTransmit {
     pub compression: KittyImageCompression,
     /// Whether more of it follows in further commands.
     pub more_data_follows: bool,
-}
-
-impl KittyImageTransmit {
-    pub(super) fn of(fields: &mut Fields<'_>) -> Option<KittyImageTransmit> {
-        Some(KittyImageTransmit {
-            data: KittyImageData::of(fields)?,
-            format: KittyImageFormat::of(fields)?,
-            width: fields.optional(name::PIXEL_WIDTH)?,
-            height: fields.optional(name::PIXEL_HEIGHT)?,
-            image_id: fields.optional(name::IMAGE_ID)?,
-            image_number: fields.optional(name::IMAGE_NUMBER)?,
-            compression: KittyImageCompression::of(fields)?,
-            more_data_follows: fields.flag(name::MORE_DATA_FOLLOWS)?,
-        })
-    }
 }
 
 /// What an image is made of, or where that lies.
@@ -79,69 +65,10 @@ pub enum KittyImageData {
     },
 }
 
-impl KittyImageData {
-    fn of(fields: &mut Fields<'_>) -> Option<KittyImageData> {
-        let bytes = fields.bytes(name::CONTENT)?;
-        let medium = fields.number::<u8>(name::MEDIUM)?;
-        if medium == 1 {
-            return Some(KittyImageData::DirectBin(bytes));
-        }
-        let text = String::from_utf8(bytes).ok()?;
-        let data_size = fields.optional(name::DATA_SIZE)?;
-        let data_offset = fields.optional(name::DATA_OFFSET)?;
-        match medium {
-            0 => Some(KittyImageData::Direct(text)),
-            2 => Some(KittyImageData::File {
-                path: text,
-                data_size,
-                data_offset,
-            }),
-            3 => Some(KittyImageData::TemporaryFile {
-                path: text,
-                data_size,
-                data_offset,
-            }),
-            4 => Some(KittyImageData::SharedMem {
-                name: text,
-                data_size,
-                data_offset,
-            }),
-            _ => None,
-        }
-    }
-}
-
 /// Of bytes in the command it writes only how many they are, since they may be many.
 impl fmt::Debug for KittyImageData {
     fn fmt(&self, f: &mut fmt::Formatter<'_>) -> fmt::Result {
-        let (variant, field, named, data_size, data_offset) = match self {
-            KittyImageData::Direct(text) => {
-                return write!(f, "Direct({} bytes of data)", text.len());
-            }
-            KittyImageData::DirectBin(bytes) => {
-                return write!(f, "DirectBin({} bytes of data)", bytes.len());
-            }
-            KittyImageData::File {
-                path,
-                data_size,
-                data_offset,
-            } => ("File", "path", path, data_size, data_offset),
-            KittyImageData::TemporaryFile {
-                path,
-                data_size,
-                data_offset,
-            } => ("TemporaryFile", "path", path, data_size, data_offset),
-            KittyImageData::SharedMem {
-                name,
-                data_size,
-                data_offset,
-            } => ("SharedMem", "name", name, data_size, data_offset),
-        };
-        f.debug_struct(variant)
-            .field(field, named)
-            .field("data_offset", data_offset)
-            .field("data_size", data_size)
-            .finish()
+        borrowed::KittyImageData::from(self).fmt(f)
     }
 }
 
@@ -158,7 +85,7 @@ pub enum KittyImageFormat {
 }
 
 impl KittyImageFormat {
-    fn of(fields: &mut Fields<'_>) -> Option<Option<KittyImageFormat>> {
+    pub(crate) fn of(fields: &mut Fields<'_>) -> Option<Option<KittyImageFormat>> {
         match fields.optional::<u8>(name::FORMAT)? {
             None => Some(None),
             Some(24) => Some(Some(KittyImageFormat::Rgb)),
@@ -180,7 +107,7 @@ pub enum KittyImageCompression {
 }
 
 impl KittyImageCompression {
-    fn of(fields: &mut Fields<'_>) -> Option<KittyImageCompression> {
+    pub(crate) fn of(fields: &mut Fields<'_>) -> Option<KittyImageCompression> {
         match fields.number::<u8>(name::COMPRESSION)? {
             0 => Some(KittyImageCompression::None),
             1 => Some(KittyImageCompression::Deflate),

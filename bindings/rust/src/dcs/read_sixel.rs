@@ -149,8 +149,8 @@ fn read_raw<'a>(
 }
 
 fn read_piece(params: &[i64], data: &[u8], room: &mut Room) -> Result<Sixel, Error> {
+    let mut items = room.pixels();
     let (raw, rows) = read_raw(params, data, room)?;
-    let mut items = Vec::new();
     push_rows(rows, &mut items)?;
     let sixel = Sixel {
         pan: raw.pan,

@@ -1,6 +1,6 @@
 // SPDX-License-Identifier: MIT
 //! iTerm2's proprietary commands.
-use crate::fields::{Fields, kind, name};
+use crate::fields::Fields;
 use alloc::boxed::Box;
 use alloc::string::String;
 use alloc::vec::Vec;
@@ -57,47 +57,6 @@ pub enum ITermProprietary {
     UnicodeVersion(ITermUnicodeVersionOp),
 }
 
-impl ITermProprietary {
-    pub(super) fn of(of: u32, fields: &mut Fields<'_>) -> Option<ITermProprietary> {
-        use ITermProprietary as Command;
-        Some(match of {
-            kind::ITERM_SET_MARK => Command::SetMark,
-            kind::ITERM_STEAL_FOCUS => Command::StealFocus,
-            kind::ITERM_CLEAR_SCROLLBACK => Command::ClearScrollback,
-            kind::ITERM_CURRENT_DIR => Command::CurrentDir(fields.text(name::DIRECTORY)?),
-            kind::ITERM_SET_PROFILE => Command::SetProfile(fields.text(name::NAME)?),
-            kind::ITERM_COPY_TO_CLIPBOARD => Command::CopyToClipboard(fields.text(name::NAME)?),
-            kind::ITERM_END_COPY => Command::EndCopy,
-            kind::ITERM_HIGHLIGHT_CURSOR_LINE => {
-                Command::HighlightCursorLine(fields.flag(name::HIGHLIGHTED)?)
-            }
-            kind::ITERM_REQUEST_CELL_SIZE => Command::RequestCellSize,
-            kind::ITERM_REPORT_CELL_SIZE => return Command::cell_size(fields),
-            kind::ITERM_COPY => Command::Copy(fields.text(name::TEXT)?),
-            kind::ITERM_REPORT_VARIABLE => Command::ReportVariable(fields.text(name::NAME)?),
-            kind::ITERM_SET_USER_VAR => Command::SetUserVar {
-                name: fields.text(name::NAME)?,
-                value: fields.text(name::VALUE)?,
-            },
-            kind::ITERM_SET_BADGE_FORMAT => Command::SetBadgeFormat(fields.text(name::TEXT)?),
-            kind::ITERM_FILE => Command::File(Box::new(ITermFileData::of(fields)?)),
-            _ => Command::UnicodeVersion(ITermUnicodeVersionOp::of(of, fields)?),
-        })
-    }
-
-    fn cell_size(fields: &mut Fields<'_>) -> Option<ITermProprietary> {
-        Some(ITermProprietary::ReportCellSize {
-            height_pixels: fields.number(name::CELL_HEIGHT)?,
-            width_pixels: fields.number(name::CELL_WIDTH)?,
-            scale: if fields.has(name::SCALE) {
-                Some(fields.number(name::SCALE)?)
-            } else {
-                None
-            },
-        })
-    }
-}
-
 /// What is done to the version of Unicode by which characters have their widths (iTerm2's
 /// documentation, "Unicode Version").
 #[derive(Clone, Debug, PartialEq, Eq)]
@@ -109,23 +68,6 @@ pub enum ITermUnicodeVersionOp {
     Push(Option<String>),
     /// Sets the version that was kept last, or that under the label, and drops what was kept since.
     Pop(Option<String>),
-}
-
-impl ITermUnicodeVersionOp {
-    fn of(of: u32, fields: &mut Fields<'_>) -> Option<ITermUnicodeVersionOp> {
-        Some(match of {
-            kind::ITERM_SET_UNICODE_VERSION => {
-                ITermUnicodeVersionOp::Set(fields.number(name::VERSION)?)
-            }
-            kind::ITERM_PUSH_UNICODE_VERSION => {
-                ITermUnicodeVersionOp::Push(fields.optional_text(name::LABEL)?)
-            }
-            kind::ITERM_POP_UNICODE_VERSION => {
-                ITermUnicodeVersionOp::Pop(fields.optional_text(name::LABEL)?)
-            }
-            _ => return None,
-        })
-    }
 }
 
 /// A file that is sent to the terminal, to be stored or shown (iTerm2's documentation, "Inline
@@ -151,33 +93,6 @@ pub struct ITermFileData {
     pub data: Vec<u8>,
 }
 
-impl ITermFileData {
-    fn of(fields: &mut Fields<'_>) -> Option<ITermFileData> {
-        Some(ITermFileData {
-            name: fields.optional_text(name::NAME)?,
-            size: if fields.has(name::SIZE) {
-                Some(fields.size(name::SIZE)?)
-            } else {
-                None
-            },
-            width: ITermDimension::of(WIDTHS, fields)?,
-            height: ITermDimension::of(HEIGHTS, fields)?,
-            preserve_aspect_ratio: fields.flag(name::PRESERVE_ASPECT_RATIO)?,
-            inline: fields.flag(name::INLINE)?,
-            do_not_move_cursor: fields.flag(name::DO_NOT_MOVE_CURSOR)?,
-            data: fields.bytes(name::CONTENT)?,
-        })
-    }
-}
-
-// The names of a dimension in cells, in pixels and as a percentage.
-const WIDTHS: [u32; 3] = [name::WIDTH_CELLS, name::WIDTH_PIXELS, name::WIDTH_PERCENT];
-const HEIGHTS: [u32; 3] = [
-    name::HEIGHT_CELLS,
-    name::HEIGHT_PIXELS,
-    name::HEIGHT_PERCENT,
-];
-
 /// The width or the height at which a file is shown. A negative number counts as 0.
 #[derive(Clone, Copy, Debug, Default, PartialEq, Eq, Hash)]
 #[cfg_attr(feature = "serde", derive(serde::Serialize, serde::Deserialize))]
@@ -194,7 +109,7 @@ pub enum ITermDimension {
 }
 
 impl ITermDimension {
-    fn of(names: [u32; 3], fields: &mut Fields<'_>) -> Option<ITermDimension> {
+    pub(crate) fn of(names: [u32; 3], fields: &mut Fields<'_>) -> Option<ITermDimension> {
         let [cells, pixels, percent] = names;
         Some(if fields.has(cells) {
             ITermDimension::Cells(fields.number(cells)?)

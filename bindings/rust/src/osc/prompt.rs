@@ -1,6 +1,6 @@
 // SPDX-License-Identifier: MIT
 //! Semantic prompts.
-use crate::fields::{Fields, kind, name};
+use crate::fields::{Fields, name};
 use alloc::string::String;
 
 /// A mark that a shell writes between its prompts, the user's input, and the output of commands
@@ -45,38 +45,6 @@ pub enum FinalTermSemanticPrompt {
     },
 }
 
-impl FinalTermSemanticPrompt {
-    pub(super) fn of(of: u32, fields: &mut Fields<'_>) -> Option<FinalTermSemanticPrompt> {
-        use FinalTermSemanticPrompt as Prompt;
-        Some(match of {
-            kind::PROMPT_FRESH_LINE => Prompt::FreshLine,
-            kind::PROMPT_FRESH_LINE_AND_START_PROMPT => Prompt::FreshLineAndStartPrompt {
-                aid: fields.optional_text(name::APPLICATION)?,
-                cl: FinalTermClick::of(fields)?,
-            },
-            kind::PROMPT_END_OF_COMMAND_WITH_FRESH_LINE => Prompt::MarkEndOfCommandWithFreshLine {
-                aid: fields.optional_text(name::APPLICATION)?,
-                cl: FinalTermClick::of(fields)?,
-            },
-            kind::PROMPT_START_PROMPT => Prompt::StartPrompt(FinalTermPromptKind::of(fields)?),
-            kind::PROMPT_START_OF_INPUT_UNTIL_NEXT_MARKER => {
-                Prompt::MarkEndOfPromptAndStartOfInputUntilNextMarker
-            }
-            kind::PROMPT_START_OF_INPUT_UNTIL_END_OF_LINE => {
-                Prompt::MarkEndOfPromptAndStartOfInputUntilEndOfLine
-            }
-            kind::PROMPT_START_OF_OUTPUT => Prompt::MarkEndOfInputAndStartOfOutput {
-                aid: fields.optional_text(name::APPLICATION)?,
-            },
-            kind::PROMPT_COMMAND_STATUS => Prompt::CommandStatus {
-                status: fields.number(name::STATUS)?,
-                aid: fields.optional_text(name::APPLICATION)?,
-            },
-            _ => return None,
-        })
-    }
-}
-
 /// Which movements of the cursor the shell takes where the user clicks on its input (FinalTerm; key
 /// `cl`).
 #[derive(Clone, Copy, Debug, PartialEq, Eq, Hash)]
@@ -93,7 +61,7 @@ pub enum FinalTermClick {
 }
 
 impl FinalTermClick {
-    fn of(fields: &mut Fields<'_>) -> Option<Option<FinalTermClick>> {
+    pub(crate) fn of(fields: &mut Fields<'_>) -> Option<Option<FinalTermClick>> {
         if !fields.has(name::CLICK) {
             return Some(None);
         }
@@ -123,7 +91,7 @@ pub enum FinalTermPromptKind {
 }
 
 impl FinalTermPromptKind {
-    fn of(fields: &mut Fields<'_>) -> Option<FinalTermPromptKind> {
+    pub(crate) fn of(fields: &mut Fields<'_>) -> Option<FinalTermPromptKind> {
         Some(match fields.number::<u8>(name::PROMPT_KIND)? {
             0 => FinalTermPromptKind::Initial,
             1 => FinalTermPromptKind::RightSide,

@@ -45,14 +45,6 @@ impl Hyperlink {
     pub fn params(&self) -> &BTreeMap<String, String> {
         &self.params
     }
-
-    pub(super) fn of(fields: &mut Fields<'_>) -> Option<Hyperlink> {
-        Some(Hyperlink {
-            uri: fields.text(name::URI)?,
-            implicit: fields.flag(name::IMPLICIT)?,
-            params: fields.all(|it| Some((it.text(name::KEY)?, it.text(name::VALUE)?)))?,
-        })
-    }
 }
 
 /// Which selections, as a set of bits (xterm's list of control sequences, "Manipulate Selection
@@ -114,7 +106,7 @@ impl Selection {
         self.0 & other.0 == other.0
     }
 
-    pub(super) fn of(fields: &mut Fields<'_>) -> Option<Selection> {
+    pub(crate) fn of(fields: &mut Fields<'_>) -> Option<Selection> {
         fields.number(name::SELECTION).map(Selection)
     }
 }
@@ -150,7 +142,7 @@ pub enum ColorOrQuery {
 }
 
 impl ColorOrQuery {
-    pub(super) fn of(fields: &mut Fields<'_>) -> Option<ColorOrQuery> {
+    pub(crate) fn of(fields: &mut Fields<'_>) -> Option<ColorOrQuery> {
         if fields.has(name::QUERY) {
             fields.flag(name::QUERY)?;
             return Some(ColorOrQuery::Query);
@@ -174,7 +166,7 @@ pub struct ChangeColorPair {
 }
 
 impl ChangeColorPair {
-    pub(super) fn of(fields: &mut Fields<'_>) -> Option<ChangeColorPair> {
+    pub(crate) fn of(fields: &mut Fields<'_>) -> Option<ChangeColorPair> {
         Some(ChangeColorPair {
             palette_index: fields.number(name::PALETTE_INDEX)?,
             color: ColorOrQuery::of(fields)?,
@@ -210,7 +202,7 @@ pub enum DynamicColorNumber {
 }
 
 impl DynamicColorNumber {
-    pub(super) fn of(fields: &mut Fields<'_>) -> Option<DynamicColorNumber> {
+    pub(crate) fn of(fields: &mut Fields<'_>) -> Option<DynamicColorNumber> {
         Some(match fields.number::<u8>(name::DYNAMIC_COLOR)? {
             10 => DynamicColorNumber::TextForegroundColor,
             11 => DynamicColorNumber::TextBackgroundColor,
@@ -244,7 +236,7 @@ pub enum Progress {
 }
 
 impl Progress {
-    pub(super) fn of(fields: &mut Fields<'_>) -> Option<Progress> {
+    pub(crate) fn of(fields: &mut Fields<'_>) -> Option<Progress> {
         Some(match fields.number::<u8>(name::PROGRESS_STATE)? {
             0 => Progress::None,
             1 => Progress::SetPercentage(fields.number(name::PERCENT)?),

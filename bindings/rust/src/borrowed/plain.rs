@@ -1,7 +1,6 @@
 // SPDX-License-Identifier: MIT
 //! Commands that are seen at once from their texts.
-use super::{FinalTermSemanticPrompt, Hyperlink, OperatingSystemCommand};
-use alloc::string::String;
+use super::{FinalTermSemanticPrompt, Hyperlink, List, OperatingSystemCommand};
 use core::str;
 
 /// The command of a text that is a title, a link without parameters or with `id` alone, the end of
@@ -11,10 +10,10 @@ use core::str;
 /// These come most often, and this costs a tenth of what the library's call does, which makes rows
 /// of fields. In debug builds each is compared with what that call says.
 #[inline]
-pub fn plain(text: &[u8]) -> Option<OperatingSystemCommand> {
+pub fn plain(text: &[u8]) -> Option<OperatingSystemCommand<'_>> {
     match text {
         [code @ b'0'..=b'2', b';', title @ ..] => {
-            let title = word(title)?.into();
+            let title = word(title)?;
             Some(match code {
                 b'0' => OperatingSystemCommand::SetIconNameAndWindowTitle(title),
                 b'1' => OperatingSystemCommand::SetIconName(title),
@@ -23,7 +22,7 @@ pub fn plain(text: &[u8]) -> Option<OperatingSystemCommand> {
         }
         b"8;;" => Some(OperatingSystemCommand::SetHyperlink(None)),
         [b'8', b';', b';', uri @ ..] => {
-            let link = Hyperlink::new(word(uri)?);
+            let link = link(List::none(), word(uri)?);
             Some(OperatingSystemCommand::SetHyperlink(Some(link)))
         }
         [b'8', b';', b'i', b'd', b'=', rest @ ..] => {
@@ -33,20 +32,29 @@ pub fn plain(text: &[u8]) -> Option<OperatingSystemCommand> {
             if !is_value(id.as_bytes()) || !is_word(uri.as_bytes()) {
                 return None;
             }
-            let link = Hyperlink::new_with_id(uri, id);
+            let link = link(List::one(("id", id)), uri);
             Some(OperatingSystemCommand::SetHyperlink(Some(link)))
         }
         [b'1', b'3', b'3', b';', letter, rest @ ..] => {
             let aid = match rest {
                 [] => None,
                 [b';', b'a', b'i', b'd', b'=', aid @ ..] if is_value(aid) => {
-                    Some(str::from_utf8(aid).ok()?.into())
+                    Some(str::from_utf8(aid).ok()?)
                 }
                 _ => return None,
             };
             mark(*letter, aid).map(OperatingSystemCommand::FinalTermSemanticPrompt)
         }
         _ => None,
+    }
+}
+
+#[inline]
+fn link<'a>(params: List<'a, (&'a str, &'a str)>, uri: &'a str) -> Hyperlink<'a> {
+    Hyperlink {
+        params,
+        uri,
+        implicit: false,
     }
 }
 
@@ -72,7 +80,7 @@ fn is_value(bytes: &[u8]) -> bool {
 }
 
 #[inline]
-fn mark(letter: u8, aid: Option<String>) -> Option<FinalTermSemanticPrompt> {
+fn mark(letter: u8, aid: Option<&str>) -> Option<FinalTermSemanticPrompt<'_>> {
     use FinalTermSemanticPrompt as Prompt;
     match (letter, aid) {
         (b'A', aid) => Some(Prompt::FreshLineAndStartPrompt { aid, cl: None }),
