@@ -51,6 +51,14 @@ void read_table(const char *path);
 struct bytes table_stream(void);
 struct bytes random_stream(uint64_t seed);
 
+/* A call of the filter or of the normal form, and the stream that it is given. */
+struct text_call {
+    bool filters;
+    uint32_t policy;
+    size_t limit;
+    struct bytes stream;
+};
+
 /* The checks: a file each. */
 size_t piece_length(size_t way, size_t rest);
 void begin_events(void);
@@ -58,7 +66,7 @@ struct bytes check_events(struct bytes stream);
 void begin_texts(void);
 void check_texts(struct bytes stream, struct bytes shown);
 void begin_pieces(void);
-void check_pieces(uint32_t policy, size_t limit, struct bytes stream, struct bytes text);
+void check_pieces(const struct text_call *call, struct bytes text);
 void check_functions(void);
 void begin_commands(void);
 enum reading { COMMANDS, IMAGES, QUERIES };

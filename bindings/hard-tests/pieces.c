@@ -1,37 +1,69 @@
 /* SPDX-License-Identifier: MIT */
-/* The filter in pieces: what it writes of a stream in any pieces is what the call that takes it whole writes. */
+/* The filter and the normal form in pieces: what they write of a stream in any pieces is what the call that takes it whole writes. */
 #include "hard.h"
 #include "escape_stream.h"
 
 #include <string.h>
 
-static struct area filters[2], outs;
+/* A filter or a normalizer, which has the same fields. */
+union in_pieces {
+    bool is_begun;
+    struct escape_stream_filter filter;
+    struct escape_stream_normalizer normalizer;
+};
+
+static struct area areas[2], outs;
 static uint8_t given[TEXT_ROOM];
 
 void begin_pieces(void) {
-    filters[0] = guarded(PAGE);
-    filters[1] = guarded(PAGE);
+    areas[0] = guarded(PAGE);
+    areas[1] = guarded(PAGE);
     outs = guarded(TEXT_ROOM);
 }
 
-/* A copy of a filter at another place is the same filter; the one before it is overwritten. */
-static struct escape_stream_filter *moved(struct escape_stream_filter *filter) {
+static uint32_t begin_it(const struct text_call *call, union in_pieces *it) {
+    at_hand.calls++;
+    return call->filters ? escape_stream_filter_begin(&it->filter, call->policy, call->limit)
+                         : escape_stream_normal_begin(&it->normalizer, call->limit);
+}
+
+static uint32_t feed_it(const struct text_call *call, union in_pieces *it, struct bytes piece) {
+    at_hand.calls++;
+    return call->filters ? escape_stream_filter_feed(&it->filter, piece.at, piece.length)
+                         : escape_stream_normal_feed(&it->normalizer, piece.at, piece.length);
+}
+
+static size_t text_of(const struct text_call *call, union in_pieces *it, size_t from, uint8_t *out, size_t capacity) {
+    at_hand.calls++;
+    return call->filters ? escape_stream_filter_text(&it->filter, from, out, capacity)
+                         : escape_stream_normal_text(&it->normalizer, from, out, capacity);
+}
+
+static void end_it(const struct text_call *call, union in_pieces *it) {
+    at_hand.calls++;
+    if (call->filters)
+        escape_stream_filter_end(&it->filter);
+    else
+        escape_stream_normal_end(&it->normalizer);
+}
+
+/* A copy at another place is the same filter or normalizer; the one before it is overwritten. */
+static union in_pieces *moved(union in_pieces *it) {
     static size_t next;
-    struct escape_stream_filter *copy = (void *)placed(&filters[next++ % 2], sizeof *copy);
-    if (copy == filter)
-        return filter;
-    memmove(copy, filter, sizeof *copy);
-    memset(filter, JUNK, sizeof *filter);
+    union in_pieces *copy = (void *)placed(&areas[next++ % 2], sizeof *copy);
+    if (copy == it)
+        return it;
+    memmove(copy, it, sizeof *copy);
+    memset(it, JUNK, sizeof *it);
     return copy;
 }
 
 /* A text can be read twice, from each of its bytes; past its end there is none. */
-static void check_again(struct escape_stream_filter *filter, struct bytes text, size_t capacity) {
+static void check_again(const struct text_call *call, union in_pieces *it, struct bytes text, size_t capacity) {
     size_t from = below(text.length + 3), rest = from < text.length ? text.length - from : 0;
     size_t fits = rest < capacity ? rest : capacity;
     uint8_t *out = placed(&outs, capacity);
-    at_hand.calls++;
-    if (escape_stream_filter_text(filter, from, out, capacity) != fits)
+    if (text_of(call, it, from, out, capacity) != fits)
         fails("another length of a text that is read again, from", from);
     if (fits && memcmp(out, text.at + from, fits) != 0)
         fails("another text is read again, from", from);
@@ -39,12 +71,11 @@ static void check_again(struct escape_stream_filter *filter, struct bytes text, 
 }
 
 /* Adds what the last piece wrote, read in room for so many bytes at a time, to what was given. */
-static size_t add_text(struct escape_stream_filter *filter, size_t capacity, size_t length) {
+static size_t add_text(const struct text_call *call, union in_pieces *it, size_t capacity, size_t length) {
     size_t count, from = 0, before = length;
     do {
         uint8_t *out = placed(&outs, capacity);
-        count = escape_stream_filter_text(filter, from, out, capacity);
-        at_hand.calls++;
+        count = text_of(call, it, from, out, capacity);
         if (count > capacity || count > sizeof given - length)
             fails("more text than there is room for", count);
         memcpy(given + length, out, count);
@@ -56,55 +87,66 @@ static size_t add_text(struct escape_stream_filter *filter, size_t capacity, siz
         from += count;
     } while (count > 0);
     if (one_in(8))
-        check_again(filter, (struct bytes){given + before, from}, below(2 * capacity));
+        check_again(call, it, (struct bytes){given + before, from}, below(2 * capacity));
     return length;
 }
 
-/* Feeds a stream. The request for memory with the number `at` is refused, where that is not 0. */
-static size_t feed(struct escape_stream_filter *filter, struct bytes stream, size_t way, size_t at, uint32_t *status) {
+/* The end of a stream adds nothing to its normal form, and takes no memory. */
+static void check_finish(union in_pieces *it) {
+    requests = 0;
+    at_hand.calls++;
+    if (escape_stream_normal_finish(&it->normalizer) != ESCAPE_STREAM_DONE || requests != 0)
+        fails("another status of an end, or a request for memory", (size_t)requests);
+    if (escape_stream_normal_text(&it->normalizer, 0, placed(&outs, 1), 1) != 0)
+        fails("the end added a text", 0);
+}
+
+/* Feeds the stream. The request for memory with the number `at` is refused, where that is not 0. */
+static size_t feed(const struct text_call *call, union in_pieces *it, size_t way, size_t at, uint32_t *status) {
     size_t length = 0, capacity = one_in(4) ? 1 + below(4096) : 1 + below(40);
+    struct bytes stream = call->stream;
     requests = 0;
     refused = at;
     while (stream.length > 0 && *status == ESCAPE_STREAM_DONE) {
         size_t count = piece_length(way, stream.length);
-        struct bytes piece = lent((struct bytes){stream.at, count});
-        *status = escape_stream_filter_feed(filter, piece.at, piece.length);
-        at_hand.calls++;
-        length = add_text(filter, capacity, length);
+        *status = feed_it(call, it, lent((struct bytes){stream.at, count}));
+        length = add_text(call, it, capacity, length);
         stream.at += count;
         stream.length -= count;
         if (one_in(8) && *status == ESCAPE_STREAM_DONE)
-            filter = moved(filter);
+            it = moved(it);
     }
     refused = 0;
-    if (*status != ESCAPE_STREAM_DONE && escape_stream_filter_feed(filter, stream.at, 0) != ESCAPE_STREAM_NOT_BEGUN)
-        fails("a filter that was refused memory goes on", at);
-    escape_stream_filter_end(filter);
-    if (filter->is_begun || blocks != 0)
-        fails("a filter that ended keeps something", (size_t)blocks);
+    if (*status != ESCAPE_STREAM_DONE && feed_it(call, it, (struct bytes){stream.at, 0}) != ESCAPE_STREAM_NOT_BEGUN)
+        fails("what was refused memory goes on", at);
+    if (*status == ESCAPE_STREAM_DONE && !call->filters)
+        check_finish(it);
+    end_it(call, it);
+    if (it->is_begun || blocks != 0)
+        fails("what ended keeps something", (size_t)blocks);
     return length;
 }
 
-/* Begins a filter. One that was begun before, and fed, is ended first. */
-static void begin(struct escape_stream_filter *filter, uint32_t policy, size_t limit, struct bytes stream) {
-    memset(filter, 0, sizeof *filter);
+/* Begins a filter or a normalizer. One that was begun before, and fed, is ended first. */
+static void begin(const struct text_call *call, union in_pieces *it) {
+    memset(it, 0, sizeof *it);
     for (size_t times = one_in(8) ? 2 : 1; times > 0; times--) {
-        struct bytes piece = lent((struct bytes){stream.at, below(stream.length + 1)});
-        if (escape_stream_filter_begin(filter, policy, limit) != ESCAPE_STREAM_DONE)
-            fails("a filter was not begun", policy);
-        if (times > 1 && escape_stream_filter_feed(filter, piece.at, piece.length) != ESCAPE_STREAM_DONE)
-            fails("a filter was not fed", piece.length);
+        struct bytes piece = lent((struct bytes){call->stream.at, below(call->stream.length + 1)});
+        if (begin_it(call, it) != ESCAPE_STREAM_DONE)
+            fails("it was not begun", call->policy);
+        if (times > 1 && feed_it(call, it, piece) != ESCAPE_STREAM_DONE)
+            fails("it was not fed", piece.length);
     }
 }
 
-/* Checks that the filter writes `text` of the stream, in pieces. */
-void check_pieces(uint32_t policy, size_t limit, struct bytes stream, struct bytes text) {
-    struct escape_stream_filter *filter = (void *)placed(&filters[0], sizeof *filter);
+/* Checks that `text` is written of the stream of a call, in pieces. */
+void check_pieces(const struct text_call *call, struct bytes text) {
+    union in_pieces *it = (void *)placed(&areas[0], sizeof *it);
     size_t at = one_in(8) ? 1 + below(16) : 0, way = one_in(4) ? below(40) : 1, length;
     uint32_t status = ESCAPE_STREAM_DONE;
-    at_hand.call = "escape_stream_filter_feed";
-    begin(filter, policy, limit, stream);
-    length = feed(filter, stream, way, at, &status);
+    at_hand.call = call->filters ? "escape_stream_filter_feed" : "escape_stream_normal_feed";
+    begin(call, it);
+    length = feed(call, it, way, at, &status);
     if (length > text.length || memcmp(given, text.at, length) != 0)
         fails("another text in pieces, after bytes", length);
     if (status == ESCAPE_STREAM_NO_MEMORY && at != 0)

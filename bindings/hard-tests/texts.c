@@ -7,14 +7,6 @@
 
 enum { EACH_ROOM_UP_TO = 24, EACH_ROOM_OF_SOME = 2000, BESIDE = 32, UNTOUCHED = 99, LARGE = 1048576 };
 
-/* A call, and the stream that it is given. */
-struct call {
-    bool filters;
-    uint32_t policy;
-    size_t limit;
-    struct bytes stream;
-};
-
 static struct area outs, numbers;
 static uint8_t normals[TEXT_ROOM], agains[TEXT_ROOM], texts[TEXT_ROOM];
 
@@ -23,7 +15,7 @@ void begin_texts(void) {
     numbers = guarded(PAGE);
 }
 
-static uint32_t run(const struct call *call, struct bytes stream, uint8_t *out, size_t capacity, size_t *needed) {
+static uint32_t run(const struct text_call *call, struct bytes stream, uint8_t *out, size_t capacity, size_t *needed) {
     uint32_t status;
     *needed = UNTOUCHED;
     at_hand.calls++;
@@ -47,7 +39,7 @@ static bool is_junk(const uint8_t *bytes, size_t length) {
 }
 
 /* All that a call writes, copied to `to`. */
-static struct bytes written(const struct call *call, uint8_t *to) {
+static struct bytes written(const struct text_call *call, uint8_t *to) {
     size_t *needed = a_number();
     if (run(call, lent(call->stream), outs.at, outs.size, needed) != ESCAPE_STREAM_DONE)
         fails("another status", 0);
@@ -65,7 +57,7 @@ static bool is_same(struct bytes one, struct bytes other) {
 }
 
 /* With room for so many bytes as many of the text are written, and nothing else in the room or beside it. */
-static void check_room(const struct call *call, struct bytes stream, struct bytes text, size_t capacity) {
+static void check_room(const struct text_call *call, struct bytes stream, struct bytes text, size_t capacity) {
     uint8_t *out = placed(&outs, capacity);
     size_t *needed = a_number(), fits = capacity < text.length ? capacity : text.length;
     at_hand.rooms++;
@@ -80,7 +72,7 @@ static void check_room(const struct call *call, struct bytes stream, struct byte
         fails("a byte beside the room was written, of", capacity);
 }
 
-static void check_rooms(const struct call *call, struct bytes text) {
+static void check_rooms(const struct text_call *call, struct bytes text) {
     struct bytes stream = lent(call->stream);
     bool has_all = text.length <= EACH_ROOM_UP_TO || (text.length <= EACH_ROOM_OF_SOME && one_in(64));
     for (size_t capacity = 0; has_all && capacity <= text.length + 1; capacity++)
@@ -95,7 +87,7 @@ static void check_rooms(const struct call *call, struct bytes text) {
 }
 
 /* Where a request for memory is refused, nothing is written. */
-static void check_refusal(const struct call *call) {
+static void check_refusal(const struct text_call *call) {
     uint8_t *out = placed(&outs, BESIDE);
     size_t *needed = a_number(), at = 1 + below(8);
     uint32_t status;
@@ -124,14 +116,14 @@ static void check_is_normal(struct bytes stream, bool wanted) {
 
 /* Whether all actions of the stream can be written by themselves, as then the policy all writes what `normal` is. */
 static bool is_writable(struct bytes stream, struct bytes normal) {
-    return is_same(written(&(struct call){true, ESCAPE_STREAM_POLICY_ALL, LARGE, stream}, texts), normal);
+    return is_same(written(&(struct text_call){true, ESCAPE_STREAM_POLICY_ALL, LARGE, stream}, texts), normal);
 }
 
 /* The normal form of a stream whose actions can be written by themselves is its own normal form. */
 static void check_normal(struct bytes stream) {
-    struct call call = {false, 0, 0, stream};
+    struct text_call call = {false, 0, 0, stream};
     struct bytes normal = written(&call, normals);
-    bool has_one = is_same(written(&(struct call){false, 0, 0, normal}, agains), normal);
+    bool has_one = is_same(written(&(struct text_call){false, 0, 0, normal}, agains), normal);
     if (!has_one && is_writable(stream, normal))
         fails("a normal form has another", normal.length);
     check_is_normal(stream, is_same(normal, stream));
@@ -139,6 +131,7 @@ static void check_normal(struct bytes stream) {
     check_rooms(&call, normal);
     if (one_in(4))
         check_refusal(&call);
+    check_pieces(&(struct text_call){false, 0, LARGE, stream}, normal);
 }
 
 /* What shows text alone has neither an escape, nor another control, nor DEL. */
@@ -154,10 +147,10 @@ static void check_shown(struct bytes text) {
 /* What a policy admits is normal, and admitted again. */
 static void check_filter(uint32_t policy, struct bytes stream, struct bytes shown) {
     size_t limit = one_in(2) ? LARGE : below(one_in(2) ? 16 : 200);
-    struct call call = {true, policy, limit, stream};
+    struct text_call call = {true, policy, limit, stream};
     struct bytes text = written(&call, texts);
     check_is_normal(text, true);
-    if (!is_same(written(&(struct call){true, policy, LARGE, text}, agains), text))
+    if (!is_same(written(&(struct text_call){true, policy, LARGE, text}, agains), text))
         fails("what was admitted is not admitted again, by policy", policy);
     if (policy == ESCAPE_STREAM_POLICY_TEXT) {
         check_shown(text);
@@ -167,12 +160,12 @@ static void check_filter(uint32_t policy, struct bytes stream, struct bytes show
     check_rooms(&call, text);
     if (one_in(4))
         check_refusal(&call);
-    check_pieces(policy, limit, stream, text);
+    check_pieces(&call, text);
 }
 
 /* Of a policy that is unknown nothing is written. */
 static void check_unknown(struct bytes stream) {
-    struct call call = {true, (uint32_t)next_number() | 4, LARGE, stream};
+    struct text_call call = {true, (uint32_t)next_number() | 4, LARGE, stream};
     uint8_t *out = placed(&outs, BESIDE);
     size_t *needed = a_number();
     if (run(&call, lent(stream), out, BESIDE, needed) != ESCAPE_STREAM_UNKNOWN_POLICY)

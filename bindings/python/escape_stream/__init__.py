@@ -36,6 +36,7 @@ from escape_stream._fields import FieldName
 from escape_stream._filter import Filter
 from escape_stream._functions import Function, function
 from escape_stream._images import Image, ImageKind, Medium, image
+from escape_stream._normalizer import Normalizer
 from escape_stream._parser import Parser, events, joined
 from escape_stream._whole import DEFAULT_LIMIT, Policy, filter, is_normal, normal
 
@@ -60,6 +61,7 @@ __all__ = [
     "ImageKind",
     "LimitPassed",
     "Medium",
+    "Normalizer",
     "Osc",
     "Parser",
     "Policy",

@@ -34,6 +34,12 @@ class RawPage(Structure):
     _fields_ = [("is_begun", c_bool), ("state", c_void_p)]
 
 
+class RawNormalizer(Structure):
+    """`struct escape_stream_normalizer`."""
+
+    _fields_ = [("is_begun", c_bool), ("state", c_void_p)]
+
+
 class RawEntry(Structure):
     """`struct escape_stream_entry`."""
 
@@ -231,6 +237,26 @@ html_text.restype = c_size_t
 html_end = _short.escape_stream_html_end
 html_end.argtypes = (POINTER(RawPage),)
 html_end.restype = None
+
+normal_begin = _short.escape_stream_normal_begin
+normal_begin.argtypes = (POINTER(RawNormalizer), c_size_t)
+normal_begin.restype = c_uint32
+
+normal_feed = _long.escape_stream_normal_feed
+normal_feed.argtypes = (POINTER(RawNormalizer), *_length)
+normal_feed.restype = c_uint32
+
+normal_finish = _short.escape_stream_normal_finish
+normal_finish.argtypes = (POINTER(RawNormalizer),)
+normal_finish.restype = c_uint32
+
+normal_text = _short.escape_stream_normal_text
+normal_text.argtypes = (POINTER(RawNormalizer), c_size_t, *_room)
+normal_text.restype = c_size_t
+
+normal_end = _short.escape_stream_normal_end
+normal_end.argtypes = (POINTER(RawNormalizer),)
+normal_end.restype = None
 
 begin = _short.escape_stream_begin
 begin.argtypes = (POINTER(RawParser),)

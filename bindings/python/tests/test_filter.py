@@ -1,11 +1,11 @@
 # SPDX-License-Identifier: MIT
-"""The filter in pieces beside the tables: its end, its thread, and wrong arguments."""
+"""The filter and the normal form in pieces beside the tables: their end, their thread, and wrong arguments."""
 
 import threading
 
 import pytest
 
-from escape_stream import Filter, Policy, filter, is_normal, normal
+from escape_stream import Filter, Normalizer, Policy, filter, is_normal, normal
 
 HOSTILE = b"a\x1b]0;a title\x07 \x1b[1;31mred\x1b[2J"
 
@@ -36,6 +36,20 @@ def test_a_closed_filter() -> None:
         other.feed(b"a")
     with pytest.raises(ValueError, match="closed"):
         other.feed(b"a")
+
+
+def test_a_closed_normalizer() -> None:
+    it = Normalizer(limit=3)
+    assert it.feed(b"a\x1b[01") == b"a"
+    assert it.finish() == b""
+    assert it.feed(b"m\x1b]2;ab\x07\x1b]2;a\x07") == b"m\x1b]2;a\x1b\\"
+    it.close()
+    it.close()
+    for call in (lambda: it.feed(b"a"), it.finish):
+        with pytest.raises(ValueError, match="the normalizer is closed"):
+            call()
+    with pytest.raises(ValueError, match="limit"):
+        Normalizer(-1)
 
 
 def test_a_filter_stays_in_its_thread() -> None:
@@ -74,7 +88,7 @@ def test_texts_longer_than_their_streams() -> None:
 
 def test_what_is_no_stream() -> None:
     for wrong in (5, "text", None):
-        for call in (filter, normal, is_normal, Filter().feed):
+        for call in (filter, normal, is_normal, Filter().feed, Normalizer().feed):
             with pytest.raises(TypeError):
                 call(wrong)  # type: ignore[operator]
     with pytest.raises(ValueError, match="limit"):

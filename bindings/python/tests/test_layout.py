@@ -15,6 +15,8 @@ from escape_stream import CommandKind, FieldName, ImageKind, Medium, Policy, Six
 
 STRUCTS: dict[str, type[ctypes.Structure]] = {
     "escape_stream_filter": _library.RawFilter,
+    "escape_stream_html": _library.RawPage,
+    "escape_stream_normalizer": _library.RawNormalizer,
     "escape_stream_entry": _library.RawEntry,
     "escape_stream_event": _library.RawEvent,
     "escape_stream_parser": _library.RawParser,

@@ -3,7 +3,7 @@
 
 from rows import cuts, rows
 
-from escape_stream import Filter, Policy, events, filter, is_normal, joined, normal
+from escape_stream import Filter, Normalizer, Policy, events, filter, is_normal, joined, normal
 
 POLICIES = {"as-text": Policy.TEXT, "as-color": Policy.COLOR, "as-screen": Policy.SCREEN, "as-all": Policy.ALL}
 # Of longer streams the pieces are of one byte, and not of every size.
@@ -27,6 +27,9 @@ def test_normal_forms() -> None:
         text = stream if text is None else text
         assert normal(stream) == text, row.name
         assert is_normal(stream) == (text == stream), row.name
+        for pieces in pieces_of(stream):
+            with Normalizer() as it:
+                assert b"".join(map(it.feed, pieces)) + it.finish() == text, (row.name, len(pieces))
         count += 1
     assert count > 300
 

@@ -12,7 +12,11 @@
 use crate::{Error, Policy};
 
 #[cfg(feature = "oneshot")]
+mod pieces;
+#[cfg(feature = "oneshot")]
 mod texts;
+#[cfg(feature = "oneshot")]
+pub use pieces::{Filter, Normalizer, Page};
 #[cfg(feature = "oneshot")]
 pub use texts::{
     Field, NO_FIELD, NO_ITEM, Said, Sixel, SixelItem, read_kitty, read_osc, read_sixel, read_tcap,
@@ -38,31 +42,6 @@ extern "C" {
         capacity: usize,
         needed: *mut usize,
     ) -> u32;
-    fn escape_stream_filter_begin(filter: *mut Filter, policy: u32, limit: usize) -> u32;
-    fn escape_stream_filter_feed(filter: *mut Filter, bytes: *const u8, length: usize) -> u32;
-    fn escape_stream_filter_finish(filter: *mut Filter) -> u32;
-    fn escape_stream_filter_text(
-        filter: *mut Filter,
-        from: usize,
-        out: *mut u8,
-        capacity: usize,
-    ) -> usize;
-    fn escape_stream_filter_end(filter: *mut Filter);
-    fn escape_stream_html_begin(
-        page: *mut Page,
-        per_line: bool,
-        is_inline: bool,
-        limit: usize,
-    ) -> u32;
-    fn escape_stream_html_feed(page: *mut Page, bytes: *const u8, length: usize) -> u32;
-    fn escape_stream_html_finish(page: *mut Page) -> u32;
-    fn escape_stream_html_text(
-        page: *mut Page,
-        from: usize,
-        out: *mut u8,
-        capacity: usize,
-    ) -> usize;
-    fn escape_stream_html_end(page: *mut Page);
 }
 
 extern "C" {
@@ -151,126 +130,6 @@ fn done<T>(status: u32, value: T) -> Result<T, Error> {
         Ok(value)
     } else {
         Err(Error::Memory)
-    }
-}
-
-/// A filter of a stream in pieces. Its fields are the library's. What it points to is in use by it
-/// alone, since it is never copied; it is not `Send`, for the library does not say that another
-/// thread may have it.
-#[cfg(feature = "oneshot")]
-#[repr(C)]
-#[derive(Debug)]
-pub struct Filter {
-    is_begun: bool,
-    state: *mut u8,
-}
-
-#[cfg(feature = "oneshot")]
-impl Filter {
-    /// One that is not begun.
-    pub fn ended() -> Filter {
-        Filter {
-            is_begun: false,
-            state: core::ptr::null_mut(),
-        }
-    }
-
-    /// Begins a stream.
-    pub fn begin(&mut self, policy: Policy, limit: usize) -> Result<(), Error> {
-        // SAFETY: the reference is what the type asks for, and the filter is as a call or `ended` left
-        // it: where it is begun, its pointer is one that a call put there.
-        let status = unsafe { escape_stream_filter_begin(self, number(policy), limit) };
-        done(status, ())
-    }
-
-    /// Takes a piece.
-    pub fn feed(&mut self, bytes: &[u8]) -> Result<(), Error> {
-        // SAFETY: as in `begin`. By clause `refused` there is no other status than these.
-        match unsafe { escape_stream_filter_feed(self, bytes.as_ptr(), bytes.len()) } {
-            NOT_BEGUN => Err(Error::Failed),
-            status => done(status, ()),
-        }
-    }
-
-    /// Ends the stream.
-    pub fn finish(&mut self) -> Result<(), Error> {
-        // SAFETY: as in `begin`. By clause `refused` there is no other status than these.
-        match unsafe { escape_stream_filter_finish(self) } {
-            NOT_BEGUN => Err(Error::Failed),
-            status => done(status, ()),
-        }
-    }
-
-    /// Writes the text that the last call added, from a byte of it on, and says how much.
-    pub fn text(&mut self, from: usize, out: &mut [u8]) -> usize {
-        // SAFETY: as in `begin`. Clause `written` says what `out` holds, initialized all of it, and that
-        // the count is within it.
-        unsafe { escape_stream_filter_text(self, from, out.as_mut_ptr(), out.len()) }
-    }
-
-    /// Gives back what it took.
-    pub fn end(&mut self) {
-        // SAFETY: as in `begin`.
-        unsafe { escape_stream_filter_end(self) }
-    }
-}
-
-/// A page of a stream in pieces. Its fields are the library's. It is as a `Filter` is.
-#[cfg(feature = "oneshot")]
-#[repr(C)]
-#[derive(Debug)]
-pub struct Page {
-    is_begun: bool,
-    state: *mut u8,
-}
-
-#[cfg(feature = "oneshot")]
-impl Page {
-    /// One that is not begun.
-    pub fn gone() -> Page {
-        Page {
-            is_begun: false,
-            state: core::ptr::null_mut(),
-        }
-    }
-
-    /// Begins a stream.
-    pub fn begin(&mut self, per_line: bool, is_inline: bool, limit: usize) -> Result<(), Error> {
-        // SAFETY: the reference is what the type asks for, and the page is as a call or `gone` left it:
-        // where it is begun, its pointer is one that a call put there.
-        let status = unsafe { escape_stream_html_begin(self, per_line, is_inline, limit) };
-        done(status, ())
-    }
-
-    /// Takes a piece.
-    pub fn feed(&mut self, bytes: &[u8]) -> Result<(), Error> {
-        // SAFETY: as in `begin`. By clause `refused` there is no other status than these.
-        match unsafe { escape_stream_html_feed(self, bytes.as_ptr(), bytes.len()) } {
-            NOT_BEGUN => Err(Error::Failed),
-            status => done(status, ()),
-        }
-    }
-
-    /// Ends the stream.
-    pub fn finish(&mut self) -> Result<(), Error> {
-        // SAFETY: as in `begin`. By clause `refused` the only other status is that of a page that is gone.
-        match unsafe { escape_stream_html_finish(self) } {
-            DONE => Ok(()),
-            _ => Err(Error::Failed),
-        }
-    }
-
-    /// Writes the text that the last call added, from a byte of it on, and says how much.
-    pub fn text(&mut self, from: usize, out: &mut [u8]) -> usize {
-        // SAFETY: as in `begin`. Clause `written` says what `out` holds, initialized all of it, and that
-        // the count is within it.
-        unsafe { escape_stream_html_text(self, from, out.as_mut_ptr(), out.len()) }
-    }
-
-    /// Gives back what it took.
-    pub fn end(&mut self) {
-        // SAFETY: as in `begin`.
-        unsafe { escape_stream_html_end(self) }
     }
 }
 

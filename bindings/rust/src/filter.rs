@@ -1,9 +1,7 @@
 // SPDX-License-Identifier: MIT
 //! A filter of a stream that comes in pieces.
+use crate::pieces::{DEFAULT_LIMIT, in_parts};
 use crate::{Error, Policy, ffi};
-
-/// How many bytes are kept of a string, where no limit is given.
-const DEFAULT_LIMIT: usize = 1_048_576;
 
 /// A filter of a stream that comes in pieces. It keeps what is unfinished, at most its limit, and
 /// stays in the thread that made it. With the feature `std` there is [`Filter`](crate::Filter), a
@@ -73,17 +71,8 @@ impl PieceFilter {
     }
 
     /// Calls `act` with the text that the last piece or the end of the stream added, in parts.
-    pub fn text(&mut self, mut act: impl FnMut(&[u8])) {
-        let mut room = [0; 4096];
-        let mut from = 0;
-        loop {
-            let count = self.text_from(from, &mut room);
-            if count == 0 {
-                return;
-            }
-            act(&room[..count]);
-            from += count;
-        }
+    pub fn text(&mut self, act: impl FnMut(&[u8])) {
+        in_parts(|from, out| self.text_from(from, out), act);
     }
 
     /// Writes the text that the last call added, from its byte `from` on, to the beginning of

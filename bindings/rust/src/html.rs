@@ -1,9 +1,7 @@
 // SPDX-License-Identifier: MIT
 //! Streams as HTML that cannot come alive in a page.
+use crate::pieces::{DEFAULT_LIMIT, in_parts};
 use crate::{Error, ffi};
-
-/// How many bytes are kept of a string, where no limit is given.
-const DEFAULT_LIMIT: usize = 1_048_576;
 
 /// How a page is laid out.
 #[derive(Clone, Copy, Debug, Default, PartialEq, Eq, Hash)]
@@ -57,7 +55,7 @@ impl PiecePage {
     ///
     /// [`Error::Memory`] where a request for memory was refused.
     pub fn with_limit(layout: Layout, limit: usize) -> Result<PiecePage, Error> {
-        let mut raw = ffi::Page::gone();
+        let mut raw = ffi::Page::ended();
         raw.begin(layout.per_line, layout.inline, limit)?;
         Ok(PiecePage { raw })
     }
@@ -84,17 +82,8 @@ impl PiecePage {
     }
 
     /// Calls `act` with the text that the last piece or the end of the stream added, in parts.
-    pub fn text(&mut self, mut act: impl FnMut(&[u8])) {
-        let mut room = [0; 4096];
-        let mut from = 0;
-        loop {
-            let count = self.text_from(from, &mut room);
-            if count == 0 {
-                return;
-            }
-            act(&room[..count]);
-            from += count;
-        }
+    pub fn text(&mut self, act: impl FnMut(&[u8])) {
+        in_parts(|from, out| self.text_from(from, out), act);
     }
 
     /// Writes the text that the last call added, from its byte `from` on, to the beginning of

@@ -3,9 +3,10 @@
 //! origin.
 //!
 //! A stream is bytes as a program writes them to a terminal. Any bytes are a stream; each call
-//! takes one whole, but those of a [`Filter`], a writer, of a [`FilterReader`], of an
-//! [`html::PiecePage`], which gives HTML of it, and of a [`Parser`], which take it in pieces. The
-//! module [`vte`] has that parser with the calls of the crate `vte`.
+//! takes one whole, but those of a [`Filter`], a writer, of a [`FilterReader`], of a
+//! [`NormalWriter`] and a [`NormalReader`], of an [`html::PiecePage`], which gives HTML of it, and of
+//! a [`Parser`], which take it in pieces. The module [`vte`] has that parser with the calls of the
+//! crate `vte`.
 //! [`ControlFunction`] and [`EscapeFunction`] name what sequences ask for, by tables that are made
 //! from those of the library. [`osc::OperatingSystemCommand`] is what a command says,
 //! [`apc::KittyImage`] and [`dcs::Sixel`] what an image is, and [`action::Parser`] gives a stream as
@@ -15,8 +16,8 @@
 //!
 //! The work is done by a library that is proved: what each call writes is what its contract says,
 //! for every stream. This crate is not proved. Its module `ffi` is its one place with unsafe code.
-//! Without the feature `std`, a default, it is `no_std`, over `alloc`, and has [`PieceFilter`] in the
-//! place of [`Filter`].
+//! Without the feature `std`, a default, it is `no_std`, over `alloc`, and has [`PieceFilter`] and
+//! [`Normalizer`] in the place of the readers and writers.
 //!
 //! Without the feature `oneshot`, a default, there are the parsers alone, and of the archives
 //! `libstream_c.a` is enough.
@@ -57,6 +58,8 @@ mod function;
 mod function_rows;
 #[cfg(feature = "oneshot")]
 pub mod html;
+#[cfg(feature = "oneshot")]
+mod normalizer;
 mod numbered;
 #[cfg(feature = "oneshot")]
 mod oneshot;
@@ -65,6 +68,8 @@ pub mod osc;
 mod parameters;
 mod params;
 mod parser;
+#[cfg(feature = "oneshot")]
+mod pieces;
 #[cfg(all(feature = "oneshot", feature = "std"))]
 mod reader;
 #[cfg(feature = "serde")]
@@ -83,14 +88,16 @@ pub use filter::PieceFilter;
 pub use function::Effect;
 pub use function_rows::{C0, ControlFunction, EscapeFunction};
 #[cfg(feature = "oneshot")]
+pub use normalizer::Normalizer;
+#[cfg(feature = "oneshot")]
 pub use oneshot::{Policy, filter, filter_into, is_normal, normal, normal_into};
 pub use parameters::{Parameters, dcs_numbers, osc_number, osc_parts};
 pub use parser::{Entry, Event, Parser};
 #[cfg(all(feature = "oneshot", feature = "std"))]
-pub use reader::FilterReader;
+pub use reader::{FilterReader, NormalReader};
 pub use string_end::StringEnd;
 #[cfg(all(feature = "oneshot", feature = "std"))]
-pub use writer::{Filter, FilterWriter};
+pub use writer::{Filter, FilterWriter, NormalWriter};
 
 pub(crate) use numbered::numbered;
 
@@ -103,8 +110,9 @@ pub enum Error {
     /// A request for memory was refused. Nothing was written.
     Memory,
     /// A [`Parser`] failed, and gives nothing any more: the clause `sound` of the library's call
-    /// excludes it. Or a filter or a page in pieces was refused memory before, or has ended. Or the
-    /// fields of a command are none that its kind has, which the library's call excludes too.
+    /// excludes it. Or a filter, a page or a normalizer in pieces was refused memory before, or has
+    /// ended. Or the fields of a command are none that its kind has, which the library's call
+    /// excludes too.
     Failed,
     /// The bytes of a command or another action would not read back as it, as those of a title with
     /// a control. Nothing was written.

@@ -1,6 +1,7 @@
 // SPDX-License-Identifier: MIT
-//! A reader that filters.
-use crate::{Error, PieceFilter, Policy};
+//! Readers that filter, and that normalise.
+use crate::pieces::InPieces;
+use crate::{Error, Normalizer, PieceFilter, Policy};
 use std::io::{self, Read};
 use std::vec;
 use std::vec::Vec;
@@ -27,12 +28,7 @@ const PIECE: usize = 8192;
 /// ```
 #[derive(Debug)]
 pub struct FilterReader<R> {
-    inner: R,
-    filter: PieceFilter,
-    piece: Vec<u8>,
-    // How much of the text that the last piece added was read.
-    read: usize,
-    has_ended: bool,
+    reader: PieceReader<R, PieceFilter>,
 }
 
 impl<R: Read> FilterReader<R> {
@@ -59,40 +55,23 @@ impl<R: Read> FilterReader<R> {
 
     fn over(inner: R, filter: PieceFilter) -> FilterReader<R> {
         FilterReader {
-            inner,
-            filter,
-            piece: vec![0; PIECE],
-            read: 0,
-            has_ended: false,
+            reader: PieceReader::new(inner, filter),
         }
     }
 
     /// The inner reader.
     pub fn get_ref(&self) -> &R {
-        &self.inner
+        &self.reader.inner
     }
 
     /// The inner reader. What is read from it here is not filtered.
     pub fn get_mut(&mut self) -> &mut R {
-        &mut self.inner
+        &mut self.reader.inner
     }
 
     /// The inner reader, without what is unfinished, or was not read yet.
     pub fn into_inner(self) -> R {
-        self.inner
-    }
-
-    // Takes the next piece, or the end of the stream.
-    fn take(&mut self) -> io::Result<()> {
-        let count = self.inner.read(&mut self.piece)?;
-        self.read = 0;
-        if count == 0 {
-            self.filter.finish()?;
-            self.has_ended = true;
-        } else {
-            self.filter.feed(&self.piece[..count])?;
-        }
-        Ok(())
+        self.reader.inner
     }
 }
 
@@ -100,13 +79,124 @@ impl<R: Read> Read for FilterReader<R> {
     /// Reads from the inner reader until it has something to give, or the stream has ended. Where
     /// memory is refused, now or before, the error is of kind `OutOfMemory`.
     fn read(&mut self, out: &mut [u8]) -> io::Result<usize> {
+        self.reader.read(out)
+    }
+}
+
+/// Reads from another reader the normal form of its stream, as it comes.
+///
+/// What is read is what [`normal`](crate::normal) gives of all that the inner reader gave, where no
+/// string is longer than the limit. A sequence that is unfinished waits for its end, and is dropped
+/// at the end of the stream. An error of the inner reader is handed on, and reading goes on after
+/// it, as where it gives bytes at the next call.
+///
+/// ```
+/// use escape_stream::NormalReader;
+/// use std::io::Read;
+///
+/// let mut text = String::new();
+/// let log = &b"a\x1b]0;a title\x07\x1b[01mb"[..];
+/// NormalReader::new(log)?.read_to_string(&mut text)?;
+/// assert_eq!(text, "a\x1b]0;a title\x1b\\\x1b[1mb");
+/// # Ok::<(), std::io::Error>(())
+/// ```
+#[derive(Debug)]
+pub struct NormalReader<R> {
+    reader: PieceReader<R, Normalizer>,
+}
+
+impl<R: Read> NormalReader<R> {
+    /// A normalizer at the beginning of a stream, which keeps at most 1,048,576 bytes of a string.
+    ///
+    /// # Errors
+    ///
+    /// [`Error::Memory`] where a request for memory was refused.
+    pub fn new(inner: R) -> Result<NormalReader<R>, Error> {
+        Ok(NormalReader::over(inner, Normalizer::new()?))
+    }
+
+    /// The same with another limit: of a string with more bytes nothing is read.
+    ///
+    /// # Errors
+    ///
+    /// [`Error::Memory`] where a request for memory was refused.
+    pub fn with_limit(inner: R, limit: usize) -> Result<NormalReader<R>, Error> {
+        Ok(NormalReader::over(inner, Normalizer::with_limit(limit)?))
+    }
+
+    fn over(inner: R, normalizer: Normalizer) -> NormalReader<R> {
+        NormalReader {
+            reader: PieceReader::new(inner, normalizer),
+        }
+    }
+
+    /// The inner reader.
+    pub fn get_ref(&self) -> &R {
+        &self.reader.inner
+    }
+
+    /// The inner reader. What is read from it here is not normalised.
+    pub fn get_mut(&mut self) -> &mut R {
+        &mut self.reader.inner
+    }
+
+    /// The inner reader, without what is unfinished, or was not read yet.
+    pub fn into_inner(self) -> R {
+        self.reader.inner
+    }
+}
+
+impl<R: Read> Read for NormalReader<R> {
+    /// Reads from the inner reader until it has something to give, or the stream has ended. Where
+    /// memory is refused, now or before, the error is of kind `OutOfMemory`.
+    fn read(&mut self, out: &mut [u8]) -> io::Result<usize> {
+        self.reader.read(out)
+    }
+}
+
+// Reads what a filter or a normalizer has of what another reader gives.
+#[derive(Debug)]
+struct PieceReader<R, P> {
+    inner: R,
+    pieces: P,
+    piece: Vec<u8>,
+    // How much of the text that the last piece added was read.
+    read: usize,
+    has_ended: bool,
+}
+
+impl<R: Read, P: InPieces> PieceReader<R, P> {
+    fn new(inner: R, pieces: P) -> PieceReader<R, P> {
+        PieceReader {
+            inner,
+            pieces,
+            piece: vec![0; PIECE],
+            read: 0,
+            has_ended: false,
+        }
+    }
+
+    fn read(&mut self, out: &mut [u8]) -> io::Result<usize> {
         loop {
-            let count = self.filter.text_from(self.read, out);
+            let count = self.pieces.text_from(self.read, out);
             self.read += count;
             if count > 0 || out.is_empty() || self.has_ended {
                 return Ok(count);
             }
             self.take()?;
         }
+    }
+
+    // Takes the next piece, or the end of the stream.
+    fn take(&mut self) -> io::Result<()> {
+        let count = self.inner.read(&mut self.piece)?;
+        self.read = 0;
+        if count == 0 {
+            self.pieces.finish()?;
+            self.has_ended = true;
+        } else {
+            self.pieces.feed(&self.piece[..count])?;
+        }
+        Ok(())
     }
 }

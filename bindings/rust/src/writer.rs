@@ -1,6 +1,7 @@
 // SPDX-License-Identifier: MIT
-//! A writer that filters.
-use crate::{Error, PieceFilter, Policy};
+//! Writers that filter, and that normalise.
+use crate::pieces::InPieces;
+use crate::{Error, Normalizer, PieceFilter, Policy};
 use std::io::{self, ErrorKind, Write};
 
 /// Writes to another writer what a policy admits of the stream that is written to it, and nothing
@@ -24,10 +25,7 @@ use std::io::{self, ErrorKind, Write};
 /// ```
 #[derive(Debug)]
 pub struct Filter<W: Write> {
-    inner: W,
-    filter: PieceFilter,
-    // How much of the text that the last piece added was written.
-    written: usize,
+    writer: PieceWriter<W, PieceFilter>,
 }
 
 /// [`Filter`], by the name that goes with [`FilterReader`](crate::FilterReader).
@@ -54,25 +52,23 @@ impl<W: Write> Filter<W> {
 
     fn over(inner: W, filter: PieceFilter) -> Filter<W> {
         Filter {
-            inner,
-            filter,
-            written: 0,
+            writer: PieceWriter::new(inner, filter),
         }
     }
 
     /// The inner writer.
     pub fn get_ref(&self) -> &W {
-        &self.inner
+        &self.writer.inner
     }
 
     /// The inner writer. What is written to it here is not filtered.
     pub fn get_mut(&mut self) -> &mut W {
-        &mut self.inner
+        &mut self.writer.inner
     }
 
     /// The inner writer, without what is unfinished, or was not taken by it.
     pub fn into_inner(self) -> W {
-        self.inner
+        self.writer.inner
     }
 
     /// Ends the stream, and begins the next: writes what takes back what the stream left changed at a
@@ -82,9 +78,142 @@ impl<W: Write> Filter<W> {
     ///
     /// What the inner writer reports, and `OutOfMemory` where memory is refused, now or before.
     pub fn finish(&mut self) -> io::Result<()> {
+        self.writer.finish()
+    }
+}
+
+impl<W: Write> Write for Filter<W> {
+    /// Takes all of `bytes`, once what was left before is written. Where memory is refused, now or
+    /// before, the error is of kind `OutOfMemory`.
+    fn write(&mut self, bytes: &[u8]) -> io::Result<usize> {
+        self.writer.write(bytes)
+    }
+
+    fn flush(&mut self) -> io::Result<()> {
+        self.writer.flush()
+    }
+}
+
+/// Writes to another writer the normal form of the stream that is written to it, as it comes.
+///
+/// What is written to the inner writer is what [`normal`](crate::normal) gives of all that was
+/// taken, where no string is longer than the limit, or where it reported an error the beginning of
+/// that. A sequence that is unfinished waits for its end. When it writes, and which errors it reports,
+/// is as of a [`Filter`].
+///
+/// ```
+/// use escape_stream::NormalWriter;
+/// use std::io::Write;
+///
+/// let mut log = NormalWriter::new(Vec::new())?;
+/// write!(log, "a\x1b]0;a ti")?;
+/// write!(log, "tle\x07b")?;
+/// assert_eq!(log.get_ref(), b"a\x1b]0;a title\x1b\\b");
+/// # Ok::<(), std::io::Error>(())
+/// ```
+#[derive(Debug)]
+pub struct NormalWriter<W: Write> {
+    writer: PieceWriter<W, Normalizer>,
+}
+
+impl<W: Write> NormalWriter<W> {
+    /// A normalizer at the beginning of a stream, which keeps at most 1,048,576 bytes of a string.
+    ///
+    /// # Errors
+    ///
+    /// [`Error::Memory`] where a request for memory was refused.
+    pub fn new(inner: W) -> Result<NormalWriter<W>, Error> {
+        Ok(NormalWriter::over(inner, Normalizer::new()?))
+    }
+
+    /// The same with another limit: of a string with more bytes nothing is written.
+    ///
+    /// # Errors
+    ///
+    /// [`Error::Memory`] where a request for memory was refused.
+    pub fn with_limit(inner: W, limit: usize) -> Result<NormalWriter<W>, Error> {
+        Ok(NormalWriter::over(inner, Normalizer::with_limit(limit)?))
+    }
+
+    fn over(inner: W, normalizer: Normalizer) -> NormalWriter<W> {
+        NormalWriter {
+            writer: PieceWriter::new(inner, normalizer),
+        }
+    }
+
+    /// The inner writer.
+    pub fn get_ref(&self) -> &W {
+        &self.writer.inner
+    }
+
+    /// The inner writer. What is written to it here is not normalised.
+    pub fn get_mut(&mut self) -> &mut W {
+        &mut self.writer.inner
+    }
+
+    /// The inner writer, without what is unfinished, or was not taken by it.
+    pub fn into_inner(self) -> W {
+        self.writer.inner
+    }
+
+    /// Ends the stream, and begins the next: drops what is unfinished, and flushes the inner writer.
+    ///
+    /// # Errors
+    ///
+    /// What the inner writer reports, and `OutOfMemory` where memory was refused before.
+    pub fn finish(&mut self) -> io::Result<()> {
+        self.writer.finish()
+    }
+}
+
+impl<W: Write> Write for NormalWriter<W> {
+    /// Takes all of `bytes`, once what was left before is written. Where memory is refused, now or
+    /// before, the error is of kind `OutOfMemory`.
+    fn write(&mut self, bytes: &[u8]) -> io::Result<usize> {
+        self.writer.write(bytes)
+    }
+
+    fn flush(&mut self) -> io::Result<()> {
+        self.writer.flush()
+    }
+}
+
+// Writes to another writer what a filter or a normalizer has of what is written to it.
+#[derive(Debug)]
+struct PieceWriter<W, P> {
+    inner: W,
+    pieces: P,
+    // How much of the text that the last piece added was written.
+    written: usize,
+}
+
+impl<W: Write, P: InPieces> PieceWriter<W, P> {
+    fn new(inner: W, pieces: P) -> PieceWriter<W, P> {
+        PieceWriter {
+            inner,
+            pieces,
+            written: 0,
+        }
+    }
+
+    fn write(&mut self, bytes: &[u8]) -> io::Result<usize> {
         self.write_text()?;
         self.written = 0;
-        self.filter.finish()?;
+        self.pieces.feed(bytes)?;
+        // (what is not taken now is tried again at the next call, since `bytes` were taken)
+        let _ = self.write_text();
+        Ok(bytes.len())
+    }
+
+    fn flush(&mut self) -> io::Result<()> {
+        self.write_text()?;
+        self.inner.flush()
+    }
+
+    fn finish(&mut self) -> io::Result<()> {
+        self.write_text()?;
+        self.written = 0;
+        self.pieces.finish()?;
         self.flush()
     }
 
@@ -92,7 +221,7 @@ impl<W: Write> Filter<W> {
     fn write_text(&mut self) -> io::Result<()> {
         let mut room = [0; 4096];
         loop {
-            let count = self.filter.text_from(self.written, &mut room);
+            let count = self.pieces.text_from(self.written, &mut room);
             if count == 0 {
                 return Ok(());
             }
@@ -103,24 +232,6 @@ impl<W: Write> Filter<W> {
                 Err(error) => return Err(error),
             }
         }
-    }
-}
-
-impl<W: Write> Write for Filter<W> {
-    /// Takes all of `bytes`, once what was left before is written. Where memory is refused, now or
-    /// before, the error is of kind `OutOfMemory`.
-    fn write(&mut self, bytes: &[u8]) -> io::Result<usize> {
-        self.write_text()?;
-        self.written = 0;
-        self.filter.feed(bytes)?;
-        // (what is not taken now is tried again at the next call, since `bytes` were taken)
-        let _ = self.write_text();
-        Ok(bytes.len())
-    }
-
-    fn flush(&mut self) -> io::Result<()> {
-        self.write_text()?;
-        self.inner.flush()
     }
 }
 

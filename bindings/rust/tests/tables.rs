@@ -3,7 +3,9 @@
 //! docs/DEVELOPING.md has their form.
 mod rows;
 
-use escape_stream::{PieceFilter, Policy, filter, filter_into, is_normal, normal, normal_into};
+use escape_stream::{
+    Normalizer, PieceFilter, Policy, filter, filter_into, is_normal, normal, normal_into,
+};
 use rows::{Row, count_rows};
 use std::str;
 
@@ -46,6 +48,17 @@ fn end_of(policy: Policy, limit: usize, stream: &[u8]) -> Vec<u8> {
     end
 }
 
+// The normal form of a stream in pieces of this size.
+fn normal_in_pieces(stream: &[u8], size: usize) -> Vec<u8> {
+    let mut text = Vec::new();
+    let mut normalizer = Normalizer::new().unwrap();
+    for piece in stream.chunks(size) {
+        normalizer.feed(piece).unwrap();
+        normalizer.text(|part| text.extend_from_slice(part));
+    }
+    text
+}
+
 #[test]
 fn normal_forms() {
     let count = count_rows(|row| {
@@ -63,6 +76,13 @@ fn normal_forms() {
             "{}",
             row.name()
         );
+        for size in [1, 5, 4096] {
+            assert!(
+                normal_in_pieces(&stream, size) == text,
+                "{}: {size}",
+                row.name()
+            );
+        }
         check_capacities(row, &text, |out| normal_into(&stream, out).unwrap());
         true
     });

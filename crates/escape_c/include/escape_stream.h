@@ -5,8 +5,8 @@
  * A stream is bytes as a program writes them to a terminal: UTF-8 text, control characters, and the control functions of
  * ECMA-48 and xterm, such as colours, cursor movements and titles. Any bytes are a stream. Each of the first three calls takes
  * one whole, and keeps nothing. A filter in pieces, escape_stream_filter_begin and the calls after it, takes one as it comes, and
- * so does a page, escape_stream_html_begin and the calls after it. The calls escape_stream_read_.. take the text of one command,
- * query or image, and the calls escape_stream_write_.. write one.
+ * so do a page, escape_stream_html_begin and the calls after it, and a normalizer, escape_stream_normal_begin and the calls after
+ * it. The calls escape_stream_read_.. take the text of one command, query or image, and the calls escape_stream_write_.. write one.
  *
  *     cc -I crates/escape_c/include program.c libescape_c.a liblibc_c.a
  *
@@ -24,8 +24,8 @@
  *   - malloc, realloc and free are of one allocator, and align a block to each power of two up to 16 that divides its size.
  *   - The call is made neither in a signal handler, nor in the child of a process with threads that has only forked.
  *
- * Calls may run in several threads at once, but those of one filter or page in one thread alone. None starts a thread, takes a
- * lock, reads a clock or touches a file.
+ * Calls may run in several threads at once, but those of one filter, page or normalizer in one thread alone. None starts a thread,
+ * takes a lock, reads a clock or touches a file.
  */
 #ifndef ESCAPE_STREAM_H
 #define ESCAPE_STREAM_H
@@ -51,7 +51,7 @@ extern "C" {
 #define ESCAPE_STREAM_DONE UINT32_C(0)           /* the call was done */
 #define ESCAPE_STREAM_NO_MEMORY UINT32_C(1)      /* a request for memory was refused */
 #define ESCAPE_STREAM_UNKNOWN_POLICY UINT32_C(2) /* no policy has this number */
-#define ESCAPE_STREAM_NOT_BEGUN UINT32_C(3)      /* the filter or page was not begun, or has ended */
+#define ESCAPE_STREAM_NOT_BEGUN UINT32_C(3)      /* the filter, page or normalizer was not begun, or has ended */
 #define ESCAPE_STREAM_NO_COMMAND UINT32_C(4)     /* no command, image or query has this kind and these fields, or this value */
 #define ESCAPE_STREAM_NOT_WRITABLE UINT32_C(5)   /* its text would not read back as it */
 
@@ -270,6 +270,63 @@ size_t escape_stream_html_text(struct escape_stream_html *page, size_t from, uin
 
 /* Gives back what a page took. One that is not begun stays so. */
 void escape_stream_html_end(struct escape_stream_html *page);
+
+/*
+ * The normal form of a stream that comes in pieces. It lies in the caller's memory as a filter does: set it to zero before the
+ * first call, as by = {0}.
+ */
+struct escape_stream_normalizer {
+    bool is_begun;
+    void *state;
+};
+
+/*
+ * Begins a stream, of which at most `limit` bytes are kept of a string; of one with more nothing is written. 1048576 will do. A
+ * normalizer that was begun before is ended first.
+ *
+ * ESCAPE_STREAM_DONE and ESCAPE_STREAM_NO_MEMORY are the statuses. After the last the normalizer is not begun, and keeps nothing.
+ */
+uint32_t escape_stream_normal_begin(struct escape_stream_normalizer *normalizer, size_t limit);
+
+/*
+ * Takes the next piece of the stream, in whatever pieces it comes. What it adds to the normal form is then what
+ * escape_stream_normal_text gives; that of the piece before is gone. The texts of all pieces, one after another, are what
+ * escape_stream_normal writes of the pieces one after another, where no string is longer than the limit. Of a sequence that the
+ * end of the stream cuts, only what it has done so far is written.
+ *
+ * ESCAPE_STREAM_NO_MEMORY: the normalizer has ended, as by escape_stream_normal_end. The texts before it are the beginning of the
+ * normal form of the whole stream. ESCAPE_STREAM_NOT_BEGUN is the only other status but ESCAPE_STREAM_DONE.
+ */
+uint32_t escape_stream_normal_feed(struct escape_stream_normalizer *normalizer, const uint8_t *bytes, size_t length);
+
+/*
+ * Ends the stream, and begins the next, within the same limit. The end adds nothing to the normal form, so the text that
+ * escape_stream_normal_text gives is then empty. What is unfinished is dropped. It takes no memory.
+ *
+ * ESCAPE_STREAM_NOT_BEGUN is the only other status but ESCAPE_STREAM_DONE.
+ */
+uint32_t escape_stream_normal_finish(struct escape_stream_normalizer *normalizer);
+
+/*
+ * Writes the text that the last piece added, from its byte `from` on, to the beginning of `out`, as escape_stream_filter_text does.
+ *
+ * Example: the normal form of standard input, as it comes.
+ *
+ *     struct escape_stream_normalizer normalizer = {0};
+ *     uint8_t bytes[4096], out[4096] = {0};
+ *     size_t length, count;
+ *     uint32_t status = escape_stream_normal_begin(&normalizer, 1048576);
+ *     while (status == ESCAPE_STREAM_DONE && (length = fread(bytes, 1, sizeof bytes, stdin)) > 0) {
+ *         status = escape_stream_normal_feed(&normalizer, bytes, length);
+ *         for (size_t from = 0; (count = escape_stream_normal_text(&normalizer, from, out, sizeof out)) > 0; from += count)
+ *             fwrite(out, 1, count, stdout);
+ *     }
+ *     escape_stream_normal_end(&normalizer);
+ */
+size_t escape_stream_normal_text(struct escape_stream_normalizer *normalizer, size_t from, uint8_t *out, size_t capacity);
+
+/* Ends a normalizer, and gives back what it took. One that is not begun stays so. */
+void escape_stream_normal_end(struct escape_stream_normalizer *normalizer);
 
 /*
  * What a control function is: a row of docs/FUNCTIONS.md. Where there is none, all of it is 0.

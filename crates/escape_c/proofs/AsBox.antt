@@ -1,4 +1,4 @@
--- What a block with a state owns is what a box at the same types owns.
+-- What a block owns is what a box at the same types owns.
 use Rattle.std.proofs.Common.{◌≡◌, ℕ, List, [], ◌∷◌, ◌++◌, Option, Some, None, refl, subst}
 use mir.Syntax.{impl, tnil, dnil}
 use mir.Raw.{raw as bare}
@@ -23,12 +23,12 @@ use Rattle.std_heap.proofs.Global.TheLaws as heap
 use Rattle.escape_c.specs.Held.{heap as allocator, held_owns}
 use Rattle.escape_c.specs.contracts.held.Held as held
 use Rattle.escape_c.specs.contracts.parts.Parts as parts
-use Rattle.escape_c.specs.contracts.state.State as state
-use Rattle.escape_c.proofs.state.State.TheLaws as laws
+use Rattle.escape_c.specs.contracts.kept.Kept as kept
+use Rattle.escape_c.proofs.kept.Kept.TheLaws as laws
 
 abbrev pub E : Bx
 E = record {
-  row = state.the_row;
+  row = kept.the_row;
   laws = laws.the_row_laws;
   al = record {
     row = Heap.the_row;
@@ -40,13 +40,13 @@ E = record {
 }
 
 abbrev pub R : RattleType
-R = state.the_row
+R = kept.the_row
 
 abbrev pub Held : RattleType
 Held = held.the_row
 
 abbrev pub Parts : RattleType
-Parts = parts.the_row state.the_row Heap.the_row ghosts
+Parts = parts.the_row kept.the_row Heap.the_row ghosts
 
 abbrev pub FromParts : Slot 0
 FromParts = plain (λ _. Parts)
@@ -61,7 +61,7 @@ word p = vstruct (vcons p vnil)
 module _ {M : Type 1} {𝓤 : Ura M} {𝓛 : Logic 𝓤} {K : Type 0} {Γ : List (Item 𝓤)} {G : Goal 𝓤 𝓛.H}
   where
     -- a block is taken apart
-    pub held_out : K → (d : Held.Denot) (x : R.Denot) (vs : List Val) → d.state ≡ Some x
+    pub held_out : K → (d : Held.Denot) (x : R.Denot) (vs : List Val) → d.kept ≡ Some x
         → ((b o : ℕ) → d.at ≡ block_ptr b o → vs ≡ word (vptr b o) ∷ []
         → Seq K 𝓛 (‵ (box_owns (ghosts.dealloc_token allocator) R (block_ptr b o) x) ∷ Γ) G)
         → Seq K 𝓛 (‵ (Held.own_val d vs) ∷ Γ) G
@@ -77,7 +77,7 @@ module _ {M : Type 1} {𝓤 : Ura M} {𝓛 : Logic 𝓤} {K : Type 0} {Γ : List
     -- and is put together
     pub held_in : K → (b o : ℕ) (x : R.Denot)
         → Step K 𝓛
-        (‵ (Held.own_val (record { at = block_ptr b o; state = Some x }) (word (vptr b o) ∷ []))
+        (‵ (Held.own_val (record { at = block_ptr b o; kept = Some x }) (word (vptr b o) ∷ []))
         ∷ Γ) G
         (‵ (box_owns (ghosts.dealloc_token allocator) R (block_ptr b o) x) ∷ Γ) G
     held_in t b o x = step (λ s.
@@ -91,7 +91,7 @@ module _ {M : Type 1} {𝓤 : Ura M} {𝓛 : Logic 𝓤} {K : Type 0} {Γ : List
     -- no block
     pub held_none : K → (p : Ptr)
         → Step K 𝓛
-        (‵ (Held.own_val (record { at = p; state = None }) (word (ptr_val p) ∷ [])) ∷ Γ) G Γ G
+        (‵ (Held.own_val (record { at = p; kept = None }) (word (ptr_val p) ∷ [])) ∷ Γ) G Γ G
     held_none t p = step (λ s.
         nothing t $ nothing t $
         feq_i t (List Val) (ptr_val p ∷ []) (ptr_val p ∷ []) refl $ fjoin t $

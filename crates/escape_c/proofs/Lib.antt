@@ -1,8 +1,6 @@
 pub mod Known
 pub mod AsBox
-pub mod AsPageBox
-pub mod PageStates
-pub mod SameState
+pub mod Keeping
 pub mod Rows
 mod WrittenBack
 mod ImagesWritten

@@ -1,10 +1,14 @@
+pub mod FilterPieces
 pub mod FunctionRows
 pub mod Held
-pub mod HeldPage
 pub mod ImageValues
+pub mod InPieces
+pub mod Kept
+pub mod NormalPieces
 pub mod OscValues
+pub mod Output
 pub mod PagePieces
-pub mod Pieces
+pub mod PageStates
 pub mod Policies
 pub mod QueryValues
 pub mod SixelValues

@@ -1,29 +1,17 @@
-use Rattle.std.proofs.Common.{Global, ◌++◌, false, Some, ap, refl, sym, ◌∙◌}
-use Rattle.esc_html.specs.Pages.{page_text}
-use Rattle.escape_c.proofs.PageStates.{page_fed, text_when}
-use Rattle.escape_c.specs.PagePieces.{page_text_in}
-use Rattle.escape_c.specs.declared.page_state.PageState.{PageState}
+use Rattle.std.proofs.Common.{◌++◌, Some, ap, sym, ◌∙◌}
+use Rattle.escape_c.proofs.Keeping.{kept_has}
+use Rattle.escape_c.specs.InPieces.{text_in}
+use Rattle.escape_c.specs.Kept.{page_in}
+use Rattle.escape_c.specs.PageStates.{IsFed, paged}
 use Rattle.escape_c.proofs.page_pieces.escape_stream_html_feed.Goals as goal
 
-pub returns-in-Ok-clause-taken : goal.returns-in-Ok-clause-taken
-returns-in-Ok-clause-taken c = λ limit y s h done.
-    let old = c.deref_mut.result.now in
-    let is = c.in-Some.ensures.some ∙ ap Some (sym c.deref_mut.ensures.value) in
-    let f = page_fed limit y s c.args.page.now old is h in
-    let k = c.in-Ok.ensures.given limit y s f.0 in
-    let new : PageState = record {
-      writer = c.feed.new.self;
-      has_ended = old.has_ended;
-    } in
+pub returns-then-status-eq-DONE-clause-taken : goal.returns-then-status-eq-DONE-clause-taken
+returns-then-status-eq-DONE-clause-taken c = λ limit y s h done.
+    let is = ap page_in
+    (c.in-Some.ensures.some ∙ ap Some (sym c.deref_mut.ensures.value ∙ c.in-Page.is)) in
+    let f = kept_has page_in (IsFed limit y s) c.args.page.now c.in-Page.state is h in
+    let k = c.feed-status.ensures.taken limit y s f done in
     record {
-      fed = (new, c.of.ensures.begun, k.0, f.1);
-      text = k.1 ∙ ap (λ t. page_text Global (Some limit) y s ++ t)
-          (sym (ap page_text_in c.of.ensures.begun ∙ text_when false new f.1));
+      fed = (c.feed-status.new.self, ap page_in c.of.ensures.begun, k.0);
+      text = k.1 ∙ ap (λ t. paged limit y s ++ t) (sym (ap text_in c.of.ensures.begun));
     }
-
-pub returns-in-Err-clause-memory : goal.returns-in-Err-clause-memory
-returns-in-Err-clause-memory c = λ limit y s h differs.
-    let old = c.deref_mut.result.now in
-    let is = c.in-Some.ensures.some ∙ ap Some (sym c.deref_mut.ensures.value) in
-    let f = page_fed limit y s c.args.page.now old is h in
-    (refl, (c.in-Err.ensures.refused limit y s f.0).3)

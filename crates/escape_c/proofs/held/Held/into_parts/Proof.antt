@@ -54,9 +54,9 @@ module _ {M : Type 1} {𝓤 : Ura M} (𝓛 : Logic 𝓤) (at_mem : Memory → SP
       let Post = (walk_of 𝓛 F.ended stayed (F.clauses 𝓛 at_mem run)).post z in
       let held = z.0.3.0 in let a = z.0.3.1.0 in let vs = z.0.4.0 in let us = z.0.4.1.0 in
       qed 𝓛 ((‵ ftrue ⊛ ‵ (fsep (Held.own_val held vs) (fsep ((Heap.the_row).own_val a us) ftrue)))
-      ∷ raw (fact 𝓤 (held.state ≢ None)) ∷ []) ∵
-      move ! (1 ∷ []) $ heard ! (held.state ≢ None) (λ some.
-      let x = (known held.state some).0 in let is = (known held.state some).1 in
+      ∷ raw (fact 𝓤 (held.kept ≢ None)) ∷ []) ∵
+      move ! (1 ∷ []) $ heard ! (held.kept ≢ None) (λ some.
+      let x = (known held.kept some).0 in let is = (known held.kept some).1 in
       split ! $ drop ! $ fsplit ! $ held_out ! held x vs is (λ b o e ws. move ! (1 ∷ []) $ fsplit !
       $ handle_tells E.al ! a us (λ hv ea fa.
       let d : D E = record { ptr = block_ptr b o; alloc = a; value = x } in

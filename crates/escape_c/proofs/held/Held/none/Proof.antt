@@ -27,7 +27,7 @@ none_spec 𝓤 𝓛 𝓜 𝓡 wired =
     proved 𝓛 F.ended stayed c 𝓜 𝓡 tt #self code.function (code.unfolded 𝓤 𝓛.H 𝓜 𝓡 wired)
     (λ κs. tt) (λ κs. tt) (λ κs qs bounds a n are.
     let y : (walk_of 𝓛 F.ended stayed c).Ghost = ((κs, qs, bounds, a, tt), n) in
-    let made : Held.Denot = record { at = null_ptr; state = None } in
+    let made : Held.Denot = record { at = null_ptr; kept = None } in
     qed 𝓛 (raw (on_entry 𝓛 F.signature κs qs a y.0.4) ∷ raw (emp 𝓤) ∷ []) ∵ drop ! $ drop ! $
     held_none ! null_ptr $ enter ! _ _ _ _ _ $ alloc_all ! (λ l. pass_all ! refl tt $
     sets ! (agg ! (and_then ! (lit ! tt) (no_more !))) refl (tt, (record { fits = lit< tt }, tt)) $

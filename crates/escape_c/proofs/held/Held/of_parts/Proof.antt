@@ -54,7 +54,7 @@ module _ {M : Type 1} {𝓤 : Ura M} (𝓛 : Logic 𝓤) (at_mem : Memory → SP
       (‵ (box_owns (ghosts.dealloc_token allocator) R (block_ptr b o)
       v.value)) (id⊢ 𝓤 _) $
       held_in ! b o v.value $ move ! (1 ∷ 2 ∷ 3 ∷ []) $ drop ! $ drop ! $ drop ! $
-      let made : Held.Denot = record { at = block_ptr b o; state = Some v.value } in
+      let made : Held.Denot = record { at = block_ptr b o; kept = Some v.value } in
       let w = form.word E hv b o in
       let Γ : List (Item 𝓤) = ‵ (Held.own_val made (word (vptr b o) ∷ [])) ∷ [] in
       by ! (subst (λ (us : List Val). ent 𝓤 (types.Kit.⋆ 𝓛 Γ) (WpFn 𝓤 H 𝓣.C 𝓣.Λ code.function (us ++

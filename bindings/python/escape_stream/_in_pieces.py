@@ -1,0 +1,78 @@
+# SPDX-License-Identifier: MIT
+"""What takes a stream in pieces and returns the text that each adds."""
+
+import threading
+from ctypes import Structure, byref, c_ubyte
+from types import TracebackType
+from typing import Any, ClassVar, TypeVar
+
+from escape_stream import _library
+
+_ROOM = 65_536
+_Self = TypeVar("_Self", bound="InPieces")
+
+
+class InPieces:
+    """A filter or a normalizer. It stays in the thread that made it."""
+
+    # What it is called, and the calls of the library: these take its struct first.
+    _name: ClassVar[str]
+    _feed: ClassVar[Any]
+    _finish: ClassVar[Any]
+    _text_from: ClassVar[Any]
+    _end: ClassVar[Any]
+
+    def __init__(self, raw: Structure) -> None:
+        self._thread = threading.get_ident()
+        self._raw = raw
+        self._room = (c_ubyte * _ROOM)()
+
+    def feed(self, piece: bytes) -> bytes:
+        """Takes the next piece of the stream, and returns the text that it adds.
+
+        Raises MemoryError where a request for memory was refused: it is then closed, and the texts before are the beginning of what
+        the stream would have given. Raises ValueError where it is closed, and RuntimeError in another thread.
+        """
+        self._check_thread()
+        piece = _library.bytes_of(piece)
+        return self._text_after(self._feed(byref(self._raw), piece, len(piece)))
+
+    def finish(self) -> bytes:
+        """Ends the stream, and begins the next. Returns the text that the end adds. What is unfinished adds nothing.
+
+        Raises MemoryError where a request for memory was refused: it is then closed. Raises ValueError where it is closed, and
+        RuntimeError in another thread.
+        """
+        self._check_thread()
+        return self._text_after(self._finish(byref(self._raw)))
+
+    def close(self) -> None:
+        """Gives back what it keeps. What is unfinished at the end of a stream adds nothing. It may be closed twice."""
+        self._check_thread()
+        self._end(byref(self._raw))
+
+    def __enter__(self: _Self) -> _Self:
+        return self
+
+    def __exit__(
+        self, kind: type[BaseException] | None, error: BaseException | None, trace: TracebackType | None
+    ) -> None:
+        self.close()
+
+    def __del__(self) -> None:
+        # In another thread the block is left as it is: the library does not say that it may be given back there.
+        if hasattr(self, "_room") and self._thread == threading.get_ident():
+            self._end(byref(self._raw))
+
+    def _check_thread(self) -> None:
+        if self._thread != threading.get_ident():
+            raise RuntimeError(f"a {self._name} stays in the thread that made it")
+
+    def _text_after(self, status: int) -> bytes:
+        if status == _library.NOT_BEGUN:
+            raise ValueError(f"the {self._name} is closed")
+        _library.done(status)
+        text = bytearray()
+        while count := self._text_from(byref(self._raw), len(text), self._room, _ROOM):
+            text += memoryview(self._room)[:count]
+        return bytes(text)

@@ -1,0 +1,35 @@
+# SPDX-License-Identifier: MIT
+"""The normal form of a stream that comes in pieces."""
+
+from ctypes import byref
+
+from escape_stream import _library
+from escape_stream._in_pieces import InPieces
+from escape_stream._whole import DEFAULT_LIMIT
+
+
+class Normalizer(InPieces):
+    """The normal form of a stream that comes in pieces: what `normal` returns of the whole, as it comes.
+
+    >>> from escape_stream import Normalizer
+    >>> with Normalizer() as normalizer:
+    ...     [normalizer.feed(piece) for piece in (b"a\\x1b]0;a ti", b"tle\\x07b\\x1b[03", b"1m")]
+    [b'a', b'\\x1b]0;a title\\x1b\\\\b', b'\\x1b[31m']
+
+    `finish` ends a stream, and adds nothing. It stays in the thread that made it. What it keeps of the stream is given back by
+    `close`, by the end of a `with`, or when nothing names it any more.
+    """
+
+    _name = "normalizer"
+    _feed = _library.normal_feed
+    _finish = _library.normal_finish
+    _text_from = _library.normal_text
+    _end = _library.normal_end
+
+    def __init__(self, limit: int = DEFAULT_LIMIT) -> None:
+        """Begins a stream. `limit` is how many bytes are kept of a string; of one with more nothing is written.
+
+        Raises MemoryError where a request for memory was refused.
+        """
+        super().__init__(_library.RawNormalizer())
+        _library.done(_library.normal_begin(byref(self._raw), _library.limit_of(limit)))

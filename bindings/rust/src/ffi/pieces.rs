@@ -1,0 +1,157 @@
+// SPDX-License-Identifier: MIT
+//! The calls that take a stream in pieces: a filter, a page and a normalizer.
+use super::{NOT_BEGUN, done, number};
+use crate::{Error, Policy};
+
+extern "C" {
+    fn escape_stream_filter_begin(filter: *mut Filter, policy: u32, limit: usize) -> u32;
+    fn escape_stream_filter_feed(filter: *mut Filter, bytes: *const u8, length: usize) -> u32;
+    fn escape_stream_filter_finish(filter: *mut Filter) -> u32;
+    fn escape_stream_filter_text(
+        filter: *mut Filter,
+        from: usize,
+        out: *mut u8,
+        capacity: usize,
+    ) -> usize;
+    fn escape_stream_filter_end(filter: *mut Filter);
+    fn escape_stream_html_begin(
+        page: *mut Page,
+        per_line: bool,
+        is_inline: bool,
+        limit: usize,
+    ) -> u32;
+    fn escape_stream_html_feed(page: *mut Page, bytes: *const u8, length: usize) -> u32;
+    fn escape_stream_html_finish(page: *mut Page) -> u32;
+    fn escape_stream_html_text(
+        page: *mut Page,
+        from: usize,
+        out: *mut u8,
+        capacity: usize,
+    ) -> usize;
+    fn escape_stream_html_end(page: *mut Page);
+    fn escape_stream_normal_begin(normalizer: *mut Normalizer, limit: usize) -> u32;
+    fn escape_stream_normal_feed(
+        normalizer: *mut Normalizer,
+        bytes: *const u8,
+        length: usize,
+    ) -> u32;
+    fn escape_stream_normal_finish(normalizer: *mut Normalizer) -> u32;
+    fn escape_stream_normal_text(
+        normalizer: *mut Normalizer,
+        from: usize,
+        out: *mut u8,
+        capacity: usize,
+    ) -> usize;
+    fn escape_stream_normal_end(normalizer: *mut Normalizer);
+}
+
+// What the three have in common: the struct, whose fields are the library's, and the calls but that
+// which begins it. What it points to is in use by it alone, since it is never copied; it is not
+// `Send`, for the library does not say that another thread may have it.
+macro_rules! in_pieces {
+    ($(#[$doc:meta])* $name:ident, $feed:ident, $finish:ident, $text:ident, $end:ident) => {
+        $(#[$doc])*
+        #[repr(C)]
+        #[derive(Debug)]
+        pub struct $name {
+            is_begun: bool,
+            state: *mut u8,
+        }
+
+        impl $name {
+            /// One that is not begun.
+            pub fn ended() -> $name {
+                $name {
+                    is_begun: false,
+                    state: core::ptr::null_mut(),
+                }
+            }
+
+            /// Takes a piece.
+            pub fn feed(&mut self, bytes: &[u8]) -> Result<(), Error> {
+                // SAFETY: as in `begin`. By clause `refused` there is no other status than these.
+                match unsafe { $feed(self, bytes.as_ptr(), bytes.len()) } {
+                    NOT_BEGUN => Err(Error::Failed),
+                    status => done(status, ()),
+                }
+            }
+
+            /// Ends the stream.
+            pub fn finish(&mut self) -> Result<(), Error> {
+                // SAFETY: as in `begin`. By clause `refused` there is no other status than these.
+                match unsafe { $finish(self) } {
+                    NOT_BEGUN => Err(Error::Failed),
+                    status => done(status, ()),
+                }
+            }
+
+            /// Writes the text that the last call added, from a byte of it on, and says how much.
+            pub fn text(&mut self, from: usize, out: &mut [u8]) -> usize {
+                // SAFETY: as in `begin`. Clause `copied` says what `out` holds, initialized all of
+                // it, and that the count is within it.
+                unsafe { $text(self, from, out.as_mut_ptr(), out.len()) }
+            }
+
+            /// Gives back what it took.
+            pub fn end(&mut self) {
+                // SAFETY: as in `begin`.
+                unsafe { $end(self) }
+            }
+        }
+    };
+}
+
+in_pieces! {
+    /// A filter of a stream in pieces.
+    Filter,
+    escape_stream_filter_feed,
+    escape_stream_filter_finish,
+    escape_stream_filter_text,
+    escape_stream_filter_end
+}
+
+in_pieces! {
+    /// A page of a stream in pieces.
+    Page,
+    escape_stream_html_feed,
+    escape_stream_html_finish,
+    escape_stream_html_text,
+    escape_stream_html_end
+}
+
+in_pieces! {
+    /// The normal form of a stream in pieces.
+    Normalizer,
+    escape_stream_normal_feed,
+    escape_stream_normal_finish,
+    escape_stream_normal_text,
+    escape_stream_normal_end
+}
+
+impl Filter {
+    /// Begins a stream.
+    pub fn begin(&mut self, policy: Policy, limit: usize) -> Result<(), Error> {
+        // SAFETY: the reference is what the type asks for, and the filter is as a call or `ended` left
+        // it: where it is begun, its pointer is one that a call put there.
+        let status = unsafe { escape_stream_filter_begin(self, number(policy), limit) };
+        done(status, ())
+    }
+}
+
+impl Page {
+    /// Begins a stream.
+    pub fn begin(&mut self, per_line: bool, is_inline: bool, limit: usize) -> Result<(), Error> {
+        // SAFETY: as of a filter.
+        let status = unsafe { escape_stream_html_begin(self, per_line, is_inline, limit) };
+        done(status, ())
+    }
+}
+
+impl Normalizer {
+    /// Begins a stream.
+    pub fn begin(&mut self, limit: usize) -> Result<(), Error> {
+        // SAFETY: as of a filter.
+        let status = unsafe { escape_stream_normal_begin(self, limit) };
+        done(status, ())
+    }
+}

@@ -1,0 +1,86 @@
+// SPDX-License-Identifier: MIT
+//! The normal form of a stream that comes in pieces.
+use crate::pieces::{DEFAULT_LIMIT, in_parts};
+use crate::{Error, ffi};
+
+/// The normal form of a stream that comes in pieces: what [`normal`](crate::normal) gives of all of
+/// them, where no string is longer than the limit. It keeps what is unfinished, at most its limit,
+/// and stays in the thread that made it. With the feature `std` there are
+/// [`NormalReader`](crate::NormalReader) and [`NormalWriter`](crate::NormalWriter).
+///
+/// ```
+/// use escape_stream::Normalizer;
+///
+/// let mut text = Vec::new();
+/// let mut normalizer = Normalizer::new()?;
+/// for piece in [&b"a\x1b]0;a ti"[..], b"tle\x07\x1b[0", b"1m"] {
+///     normalizer.feed(piece)?;
+///     normalizer.text(|part| text.extend_from_slice(part));
+/// }
+/// assert_eq!(text, b"a\x1b]0;a title\x1b\\\x1b[1m");
+/// # Ok::<(), escape_stream::Error>(())
+/// ```
+#[derive(Debug)]
+pub struct Normalizer {
+    raw: ffi::Normalizer,
+}
+
+impl Normalizer {
+    /// A normalizer at the beginning of a stream, which keeps at most 1,048,576 bytes of a string.
+    ///
+    /// # Errors
+    ///
+    /// [`Error::Memory`] where a request for memory was refused.
+    pub fn new() -> Result<Normalizer, Error> {
+        Normalizer::with_limit(DEFAULT_LIMIT)
+    }
+
+    /// The same with another limit: of a string with more bytes nothing is written.
+    ///
+    /// # Errors
+    ///
+    /// [`Error::Memory`] where a request for memory was refused.
+    pub fn with_limit(limit: usize) -> Result<Normalizer, Error> {
+        let mut raw = ffi::Normalizer::ended();
+        raw.begin(limit)?;
+        Ok(Normalizer { raw })
+    }
+
+    /// Takes the next piece of the stream. What it adds to the normal form is then what
+    /// [`text`](Normalizer::text) gives, and that of the piece before is gone.
+    ///
+    /// # Errors
+    ///
+    /// [`Error::Memory`] where a request for memory was refused, and from then on
+    /// [`Error::Failed`]. The texts before are the beginning of what the stream would have given.
+    pub fn feed(&mut self, piece: &[u8]) -> Result<(), Error> {
+        self.raw.feed(piece)
+    }
+
+    /// Ends the stream, and begins the next. The end adds no text, and what is unfinished is
+    /// dropped. It takes no memory.
+    ///
+    /// # Errors
+    ///
+    /// [`Error::Failed`] where an earlier call failed.
+    pub fn finish(&mut self) -> Result<(), Error> {
+        self.raw.finish()
+    }
+
+    /// Calls `act` with the text that the last piece added, in parts.
+    pub fn text(&mut self, act: impl FnMut(&[u8])) {
+        in_parts(|from, out| self.text_from(from, out), act);
+    }
+
+    /// Writes the text that the last call added, from its byte `from` on, to the beginning of
+    /// `out`, as much as fits, and returns how many bytes these are: 0 at the end of the text.
+    pub fn text_from(&mut self, from: usize, out: &mut [u8]) -> usize {
+        self.raw.text(from, out)
+    }
+}
+
+impl Drop for Normalizer {
+    fn drop(&mut self) {
+        self.raw.end();
+    }
+}

@@ -1,0 +1,67 @@
+// SPDX-License-Identifier: MIT
+//! What takes a stream in pieces, and has the text of each: a filter, a page and a normalizer.
+#[cfg(feature = "std")]
+use crate::Error;
+
+/// How many bytes are kept of a string, where no limit is given.
+pub(crate) const DEFAULT_LIMIT: usize = 1_048_576;
+
+/// Calls `act` with a text in parts, where `text_from` writes it from a byte on, as much as fits.
+pub(crate) fn in_parts(
+    mut text_from: impl FnMut(usize, &mut [u8]) -> usize,
+    mut act: impl FnMut(&[u8]),
+) {
+    let mut room = [0; 4096];
+    let mut from = 0;
+    loop {
+        let count = text_from(from, &mut room);
+        if count == 0 {
+            return;
+        }
+        act(&room[..count]);
+        from += count;
+    }
+}
+
+/// A filter or a normalizer, for readers and writers.
+#[cfg(feature = "std")]
+pub(crate) trait InPieces {
+    /// Takes the next piece.
+    fn feed(&mut self, piece: &[u8]) -> Result<(), Error>;
+
+    /// Ends the stream, and begins the next.
+    fn finish(&mut self) -> Result<(), Error>;
+
+    /// Writes the text that the last call added, from a byte of it on, and says how much.
+    fn text_from(&mut self, from: usize, out: &mut [u8]) -> usize;
+}
+
+#[cfg(feature = "std")]
+impl InPieces for crate::PieceFilter {
+    fn feed(&mut self, piece: &[u8]) -> Result<(), Error> {
+        self.feed(piece)
+    }
+
+    fn finish(&mut self) -> Result<(), Error> {
+        self.finish()
+    }
+
+    fn text_from(&mut self, from: usize, out: &mut [u8]) -> usize {
+        self.text_from(from, out)
+    }
+}
+
+#[cfg(feature = "std")]
+impl InPieces for crate::Normalizer {
+    fn feed(&mut self, piece: &[u8]) -> Result<(), Error> {
+        self.feed(piece)
+    }
+
+    fn finish(&mut self) -> Result<(), Error> {
+        self.finish()
+    }
+
+    fn text_from(&mut self, from: usize, out: &mut [u8]) -> usize {
+        self.text_from(from, out)
+    }
+}

@@ -1,0 +1,112 @@
+//! The normal form of a stream that comes in pieces.
+ghost use Rattle.std.specs.Prelude.{◌≡◌, ◌≢◌, ◌↔◌, ℕ, List};
+ghost use Rattle.escape_c.specs.InPieces.{Begins, Breaks, IsEnded, KeepsNone, Stays, Takes, text_of};
+ghost use Rattle.escape_c.specs.Kept.{normaliser_in};
+ghost use Rattle.escape_c.specs.NormalPieces.{FinishesNormal, WasFedNormaliser, formed};
+ghost use Rattle.escape_c.specs.Output.{Copies};
+ghost use Rattle.memory.specs.Refusals.{Refused};
+
+use crate::common::{begin, copy_text};
+use crate::in_pieces::InPieces;
+use crate::kept::Kept;
+use crate::{DONE, NO_MEMORY, NOT_BEGUN};
+use esc_actions::laws;
+use esc_normal::Normaliser;
+use std::alloc::Global;
+
+/// Begins a stream, of which at most `limit` bytes are kept of a string. A normaliser that was
+/// begun before is ended first. After `NO_MEMORY` it is not begun.
+#[unsafe(no_mangle)]
+pub extern "C" fn escape_stream_normal_begin(
+    alloc: Global,
+    normaliser: &mut InPieces,
+    limit: usize,
+) -> u32
+    ensures begun { result ≡ DONE → Begins (WasFedNormaliser limit) normaliser.new }
+    ensures refused { result ≢ DONE → (result ≡ NO_MEMORY) × IsEnded normaliser.new }
+    ensures memory { result ≡ NO_MEMORY → Refused Global }
+{
+    let kept = Kept::Normal(Normaliser::new(alloc, Some(limit)));
+    begin(alloc, normaliser, kept)
+}
+
+/// Takes the next piece of the stream. What it adds to the normal form of the stream is then the
+/// text that [`escape_stream_normal_text`] gives.
+///
+/// `NO_MEMORY` says that a request for memory was refused: the normaliser has ended, and what it
+/// kept was given back. `NOT_BEGUN` says that it had not begun, or had ended.
+#[unsafe(no_mangle)]
+pub extern "C" fn escape_stream_normal_feed(
+    alloc: Global,
+    normaliser: &mut InPieces,
+    bytes: &[u8],
+) -> u32
+    ensures taken { (limit : ℕ) (s : List ℕ) → WasFedNormaliser limit s normaliser.old
+        → result ≡ DONE
+        → Takes (WasFedNormaliser limit) (formed limit) s bytes.now normaliser.new }
+    ensures memory { (limit : ℕ) (s : List ℕ) → WasFedNormaliser limit s normaliser.old
+        → result ≢ DONE → (result ≡ NO_MEMORY) × Breaks (formed limit) s bytes.now normaliser.new
+        × Refused Global }
+    ensures refused { result ≢ DONE → (result ≢ NO_MEMORY → result ≡ NOT_BEGUN)
+        × IsEnded normaliser.new }
+    ensures ended { result ≡ NOT_BEGUN ↔ KeepsNone normaliser_in normaliser.old }
+{
+    let Some(mut kept) = normaliser.take(alloc) else {
+        return NOT_BEGUN;
+    };
+    let Kept::Normal(inner) = &mut *kept else {
+        return NOT_BEGUN;
+    };
+    match inner.feed(bytes) {
+        Ok(()) => {
+            *normaliser = InPieces::of(kept);
+            DONE
+        }
+        Err(_) => NO_MEMORY,
+    }
+}
+
+/// Ends the stream, and begins the next, within the same limit. The end adds nothing: the text that
+/// [`escape_stream_normal_text`] gives is then empty. What is unfinished is dropped. It takes no
+/// memory. `NOT_BEGUN` says that the normaliser had not begun, or had ended.
+#[unsafe(no_mangle)]
+pub extern "C" fn escape_stream_normal_finish(alloc: Global, normaliser: &mut InPieces) -> u32
+    ensures finished { (limit : ℕ) (s : List ℕ) → WasFedNormaliser limit s normaliser.old
+        → result ≡ DONE → FinishesNormal limit s normaliser.new }
+    ensures refused { result ≢ DONE → (result ≡ NOT_BEGUN) × IsEnded normaliser.new }
+    ensures ended { result ≡ NOT_BEGUN ↔ KeepsNone normaliser_in normaliser.old }
+{
+    laws::reads_back::<Global>();
+    let Some(mut kept) = normaliser.take(alloc) else {
+        return NOT_BEGUN;
+    };
+    let Kept::Normal(inner) = &mut *kept else {
+        return NOT_BEGUN;
+    };
+    inner.restart();
+    *normaliser = InPieces::of(kept);
+    DONE
+}
+
+/// Copies the text that the last call added, from its byte `from` on, to the beginning of `out`,
+/// as much as fits, and leaves the rest of `out` as it is. Returns how many bytes these are.
+#[unsafe(no_mangle)]
+pub extern "C" fn escape_stream_normal_text(
+    alloc: Global,
+    normaliser: &mut InPieces,
+    from: usize,
+    out: &mut [u8],
+) -> usize
+    ensures copied { Copies (text_of normaliser.old) from out.old out.new result }
+    ensures kept { Stays normaliser.old normaliser.new }
+{
+    copy_text(alloc, normaliser, from, out)
+}
+
+/// Ends a normaliser, and gives back what it kept. One that is not begun stays so.
+#[unsafe(no_mangle)]
+pub extern "C" fn escape_stream_normal_end(alloc: Global, normaliser: &mut InPieces)
+    ensures { IsEnded normaliser.new }
+{
+    drop(normaliser.take(alloc));
+}
