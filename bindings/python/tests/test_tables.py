@@ -28,7 +28,7 @@ def test_normal_forms() -> None:
         assert normal(stream) == text, row.name
         assert is_normal(stream) == (text == stream), row.name
         for pieces in pieces_of(stream):
-            with Normalizer() as it:
+            with Normalizer(len(stream)) as it:
                 assert b"".join(map(it.feed, pieces)) + it.finish() == text, (row.name, len(pieces))
         count += 1
     assert count > 300

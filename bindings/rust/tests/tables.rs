@@ -11,7 +11,7 @@ use std::str;
 
 const LIMIT: usize = 1_048_576;
 
-// Of longer texts only some capacities are tried.
+// Of longer texts only some capacities are tried, and of longer streams large pieces alone.
 const EACH_CAPACITY_UP_TO: usize = 2000;
 
 const POLICIES: [(&str, Policy); 4] = [
@@ -48,10 +48,10 @@ fn end_of(policy: Policy, limit: usize, stream: &[u8]) -> Vec<u8> {
     end
 }
 
-// The normal form of a stream in pieces of this size.
+// The normal form of a stream in pieces of this size, within a limit that no string of it passes.
 fn normal_in_pieces(stream: &[u8], size: usize) -> Vec<u8> {
     let mut text = Vec::new();
-    let mut normalizer = Normalizer::new().unwrap();
+    let mut normalizer = Normalizer::with_limit(stream.len()).unwrap();
     for piece in stream.chunks(size) {
         normalizer.feed(piece).unwrap();
         normalizer.text(|part| text.extend_from_slice(part));
@@ -76,7 +76,12 @@ fn normal_forms() {
             "{}",
             row.name()
         );
-        for size in [1, 5, 4096] {
+        let short = if stream.len() <= EACH_CAPACITY_UP_TO {
+            1
+        } else {
+            4000
+        };
+        for size in [short, 5 * short] {
             assert!(
                 normal_in_pieces(&stream, size) == text,
                 "{}: {size}",
