@@ -1,5 +1,5 @@
 //! How colours are read.
-ghost use Rattle.std.specs.Prelude.{◌≡◌, ◌<◌, ◌≤◌, IfSome, length};
+ghost use Rattle.std.specs.Prelude.{◌≡◌, ◌<◌, ◌≤◌, ◌^◌, IfSome, length};
 ghost use Rattle.esc_osc_values.specs.Colors.{hex_after, hex_of, channel_of, rgb_of, sharp_of, color_from, spec_of};
 
 use crate::color_or_query::ColorOrQuery;
@@ -70,10 +70,7 @@ fn read_channel(digits: &[u8]) -> Option<u16>
 fn read_hex(digits: &[u8]) -> Option<u32>
     requires { length digits.now ≤ 4 }
     ensures value { result ≡ hex_after 0 digits.now }
-    ensures one { length digits.now ≡ 1 → IfSome result (λ v. v < 16) }
-    ensures two { length digits.now ≡ 2 → IfSome result (λ v. v < 256) }
-    ensures three { length digits.now ≡ 3 → IfSome result (λ v. v < 4096) }
-    ensures four { length digits.now ≡ 4 → IfSome result (λ v. v < 65536) }
+    ensures below { IfSome result (λ v. v < 16 ^ length digits.now) }
 {
     let mut value = 0;
     for digit in digits {

@@ -1,10 +1,8 @@
-use Rattle.std.proofs.Common.{◌≡◌, ◌<◌, drop}
+use Rattle.std.proofs.Common.{◌≡◌, ◌<◌, ◌^◌, drop}
 use Rattle.esc_osc_values.specs.Colors.{hex_after}
 use Rattle.esc_osc_values.proofs.read_color.read_hex.Given as goal
 
 abbrev pub invariant-loop-digit : goal.invariant-loop-digit
 invariant-loop-digit l =
     (hex_after 0 l.digits ≡ hex_after l.value (drop l.digit-index l.digits))
-    × (l.digit-index ≡ 0 → l.value < 1) × (l.digit-index ≡ 1 → l.value < 16)
-    × (l.digit-index ≡ 2 → l.value < 256)
-    × (l.digit-index ≡ 3 → l.value < 4096) × (l.digit-index ≡ 4 → l.value < 65536)
+    × (l.value < 16 ^ l.digit-index)
