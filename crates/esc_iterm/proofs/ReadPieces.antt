@@ -2,9 +2,9 @@
 use Rattle.std.proofs.Common.{ℕ, ◌≡◌, List, [], ◌∷◌, ◌++◌, nat_eq, if◌then◌else◌, codes, Option, Some, None, refl, sym, ap, ◌∙◌}
 use Rattle.std.specs.Cmp.Lexicographic.{pointwise}
 use Rattle.std.specs.Option.{option_map}
-use Rattle.esc_values.specs.Cuts.{Pairs, cut_at, last_value}
+use Rattle.esc_values.specs.Cuts.{Pairs, last_value}
 use Rattle.esc_values.specs.Scalars.{and_then}
-use Rattle.esc_iterm.specs.Files.{Values, values_after, piece_pairs, last_pairs, pairs_of}
+use Rattle.esc_iterm.specs.Files.{Values, values_after, piece_pairs, pairs_of}
 use Rattle.esc_iterm.proofs.FilesBack.{same_values}
 
 last_more : (k : List ℕ) (found : Option (List ℕ)) (es more : Pairs)
@@ -57,25 +57,3 @@ pub stop : (v : Values) (p q : List ℕ) (ps : List (List ℕ))
     → None ≡ option_map (values_after v) (piece_pairs p)
     → None ≡ all_values v (pairs_of (p ∷ q ∷ ps))
 stop v p q ps h = stop_by v (piece_pairs p) (pairs_of (q ∷ ps)) h
-
-last_by : (v : Values) (o : Option Values) (r : Option Pairs) (t : List ℕ)
-    → o ≡ option_map (values_after v) r
-    → option_map {U = Values × List ℕ} (λ w. (w, t)) o ≡ all_values v (option_map (λ es. (es, t)) r)
-last_by v o None t h = ap (option_map {U = Values × List ℕ} (λ w. (w, t))) h
-last_by v o (Some es) t h = ap (option_map {U = Values × List ℕ} (λ w. (w, t))) h
-
--- the last piece
-pub last_turn : (v : Values) (o : Option Values) (p x t : List ℕ) → cut_at 0x3a p ≡ Some (x, t)
-    → o ≡ option_map (values_after v) (last_pairs x)
-    → option_map {U = Values × List ℕ} (λ w. (w, t)) o ≡ all_values v (pairs_of (p ∷ []))
-last_turn v o p x t c h = last_by v o (last_pairs x) t h
-    ∙ ap (λ (q : Option (List ℕ × List ℕ)). all_values v
-    (and_then q (λ (d : List ℕ × List ℕ). option_map (λ es. (es, d.1)) (last_pairs d.0)))) (sym c)
-
--- the last piece has no `:`
-pub no_content : (v : Values) (p : List ℕ) → cut_at 0x3a p ≡ None
-    → None ≡ all_values v (pairs_of (p ∷ []))
-no_content v p c =
-    ap (λ (q : Option (List ℕ × List ℕ)). all_values v
-    (and_then q (λ (d : List ℕ × List ℕ). option_map (λ es. (es, d.1)) (last_pairs d.0))))
-    (sym c)

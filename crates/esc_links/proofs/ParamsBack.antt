@@ -133,10 +133,6 @@ pairs_back : (es : Pairs) → AreGood es → pairs_in (map pair_text es) ≡ Som
 pairs_back [] h = refl
 pairs_back (e ∷ es) h = rw (key_back e.0 e.1 h.0.0.0.0 h.0.0.1 h.0.0.0.1, pairs_back es h.1) refl
 
-pair_some : (k r : List ℕ) → k ++ 0x3d ∷ r ≢ []
-pair_some [] r e = cc
-pair_some (b ∷ k) r e = cc
-
 pair_text_some : (e : List ℕ × List ℕ) (r : List ℕ) → pair_text e ++ r ≢ []
 pair_text_some (([], v)) r e = cc
 pair_text_some ((b ∷ k, v)) r e = cc

@@ -4,7 +4,7 @@ use Rattle.std.proofs.Common.{◌∷◌, length, map, get_or, Option, Some, None
 use Rattle.std.specs.Cmp.Lexicographic.{pointwise, same_text}
 use Rattle.std.proofs.Math.Bool.{and-false}
 use Rattle.std.proofs.lemmas.List.{at_drop_more}
-use Rattle.std.proofs.lemmas.Bool.{eqb-true, ne_eqb, lt-leb, le-leb, cases_Bool}
+use Rattle.std.proofs.lemmas.Bool.{ne_eqb, lt-leb, le-leb, cases_Bool}
 use Rattle.std.specs.List.{list_all}
 use Rattle.esc_values.proofs.PlainParts.{is_part_plain}
 use Rattle.esc_osc_values.specs.Codes.{code_text, all_codes, first_named, code_of, code_name}
@@ -91,11 +91,6 @@ pub code_name_more : {X : Type 0} (f : X → List ℕ) (t : List ℕ) (rest : Li
     → nat_eq (length rest) 0 ≡ false → code_name t (map f rest) ≡ t
 code_name_more f t [] h = cc
 code_name_more f t (x ∷ xs) h = refl
-
-pub code_name_only : {X : Type 0} (f : X → List ℕ) (t : List ℕ) (rest : List X)
-    → nat_eq (length rest) 0 ≡ true → code_name t (map f rest) ≡ code_name t []
-code_name_only f t [] h = refl
-code_name_only f t (x ∷ xs) h = absurd (let e : length (x ∷ xs) ≡ 0 = eqb-true _ _ h in omega arith)
 
 pub code_name_letter : (t : List ℕ) → 0 < length t → (get_or t 0 0 < 0x30) ⊎ (0x39 < get_or t 0 0)
     → code_name t [] ≡ get_or t 0 0 ∷ []

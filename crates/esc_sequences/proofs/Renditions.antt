@@ -132,13 +132,6 @@ rest_decides xs n s at below one =
     (after_none (renditions (slice_split is_separator xs))))
     ∙ some_after (sgr s ∷ []) (renditions (slice_split is_separator (drop (n + 1) xs)))
 
--- the only item
-pub only_one : (xs : List CsiParam) (n : ℕ) (s : Sgr) → n ≡ position_or_len is_separator xs
-    → n ≡ length xs → rendition (take n xs) ≡ Some s
-    → renditions (slice_split is_separator xs) ≡ Some (sgr s ∷ [])
-only_one xs n s at all one = last_one xs n s [] (renditions (slice_split is_separator xs)) at all
-    one (after_none (renditions (slice_split is_separator xs)))
-
 put_some : (i : Option Sgr) (o : Option (List CsiValue))
     → IfSome (put_first i o) (λ vs. 1 ≤ length vs)
 put_some None o = tt
