@@ -15,8 +15,9 @@ use Rattle.esc_functions.specs.declared.control_function.ControlFunction.TheVari
 use Rattle.esc_functions.specs.declared.escape_function.EscapeFunction.{EscapeFunction}
 use Rattle.esc_functions.specs.declared.escape_function.EscapeFunction.TheVariants as escape_function
 use Rattle.esc_functions.proofs.Controls.{by_code}
-use Rattle.esc_functions.proofs.Escapes.{of_each as of_each_escape}
-use Rattle.esc_functions.proofs.Functions.{of_each}
+use Rattle.esc_functions.proofs.Escapes.{sheet as escape_sheet}
+use Rattle.esc_functions.proofs.Functions.{sheet}
+use Rattle.esc_functions.proofs.Tables.{of_each}
 use Rattle.esc_osc.specs.declared.command.OperatingSystemCommand.{OperatingSystemCommand}
 use Rattle.esc_osc.specs.declared.command.OperatingSystemCommand.TheVariants as command
 use Rattle.esc_actions.specs.ControlCodes.{code_number}
@@ -159,17 +160,18 @@ control_ruled p n =
 -- no function is text or colour, and what changes the screen alone is in a group of that
 no_text : (f : ControlFunction) → chosen policy.Text (of_function f) ≡ false
 unfolding place of_function
-no_text = of_each (λ f. chosen policy.Text (of_function f)) (λ f. false) refl
+no_text = of_each sheet (λ f. chosen policy.Text (of_function f)) (λ f. false) refl
 
 no_colour : (f : ControlFunction) → chosen policy.Color (of_function f) ≡ false
 unfolding place of_function
-no_colour = of_each (λ f. chosen policy.Color (of_function f)) (λ f. false) refl
+no_colour = of_each sheet (λ f. chosen policy.Color (of_function f)) (λ f. false) refl
 
 in_screen : (f : ControlFunction)
     → (not (changes_screen f) || chosen policy.Screen (of_function f)) ≡ true
 unfolding place of_function changes_screen
 in_screen =
-    of_each (λ f. not (changes_screen f) || chosen policy.Screen (of_function f)) (λ f. true) refl
+    of_each sheet (λ f. not (changes_screen f) || chosen policy.Screen (of_function f))
+    (λ f. true) refl
 
 row_in_screen : (f : ControlFunction) → changes_screen f ≡ true
     → chosen policy.Screen (of_function f) ≡ true
@@ -222,18 +224,18 @@ named_ruled p (Some f) e = some_ruled p f e (changes_with f e) refl
 escape_no_text : (f : EscapeFunction) → chosen policy.Text (of_escape_function f) ≡ false
 unfolding place of_escape_function
 escape_no_text =
-    of_each_escape (λ f. chosen policy.Text (of_escape_function f)) (λ f. false) refl
+    of_each escape_sheet (λ f. chosen policy.Text (of_escape_function f)) (λ f. false) refl
 
 escape_no_colour : (f : EscapeFunction) → chosen policy.Color (of_escape_function f) ≡ false
 unfolding place of_escape_function
 escape_no_colour =
-    of_each_escape (λ f. chosen policy.Color (of_escape_function f)) (λ f. false) refl
+    of_each escape_sheet (λ f. chosen policy.Color (of_escape_function f)) (λ f. false) refl
 
 escape_in_screen : (f : EscapeFunction)
     → (not (escape_changes_screen f) || chosen policy.Screen (of_escape_function f)) ≡ true
 unfolding place of_escape_function escape_changes_screen
 escape_in_screen =
-    of_each_escape
+    of_each escape_sheet
     (λ f. not (escape_changes_screen f) || chosen policy.Screen (of_escape_function f)) (λ f. true)
     refl
 

@@ -10,56 +10,26 @@ use denote.Enum.Declared.{variants}
 use denote.Enum.Enum.{tag_below}
 use Rattle.esc_values.specs.Params.{is_from}
 use Rattle.esc_functions.specs.declared.row.Row.{Row}
-use Rattle.esc_functions.specs.declared.effect.Effect.TheVariants as effect
-use Rattle.esc_functions.specs.declared.parameters.Parameters.TheVariants as has
-use Rattle.esc_functions.specs.declared.standard.Standard.TheVariants as standard
 use Rattle.esc_functions.specs.declared.c0.C0.{C0}
 use Rattle.esc_functions.specs.declared.c0.C0.TheVariants as variant
 use Rattle.esc_functions.specs.declared.c0_table.TheConstants.{ROWS}
 use Rattle.esc_functions.specs.contracts.c0.C0.{the_type}
-use Rattle.esc_functions.specs.Effects.{is_screen_effect, is_answered_effect}
 use Rattle.esc_functions.specs.Controls.{place, key_of, code_of, control_of, changes_screen, is_answered, is_screen}
 use Rattle.esc_functions.proofs.Tables as tables
-use Rattle.esc_functions.proofs.Tables.{Sheet}
+use Rattle.esc_functions.proofs.Tables.{Answers, some_row}
 
 pub below : (c : C0) → place c < 33
 unfolding place
 below c = tag_below (variants the_type) (the_type.to c)
 
-some_row : Row C0
-some_row = record {
-  function = variant.NUL;
-  key = 0;
-  effect = effect.Screen;
-  parameters = has.Nothing;
-  standard = standard.Ecma48;
-}
-
 -- the rows are in the order of the variants
-sheet : Sheet ROWS place key_of changes_screen is_answered
-unfolding place key_of changes_screen is_answered
-sheet = record {
-  table = record { below = below; one = tag_one the_type tt; in_order = refl };
-  keys = refl;
-  theirs = refl;
-  screens = refl;
-  answers = refl;
-  some = some_row;
-}
+pub sheet : tables.Functions ROWS place key_of changes_screen
+unfolding place key_of changes_screen
+sheet = tables.sheet_of below (tag_one the_type tt) refl refl refl some_row
 
-pub row_function : (c : C0) (d : Row C0) → (get_or ROWS (place c) d).function ≡ c
-row_function = tables.row_function sheet
-
-pub row_key : (c : C0) (d : Row C0) → (get_or ROWS (place c) d).key ≡ key_of c
-row_key = tables.row_key sheet
-
-pub row_screen : (c : C0) (d : Row C0)
-    → is_screen_effect (get_or ROWS (place c) d).effect ≡ changes_screen c
-row_screen = tables.row_screen sheet
-
-pub row_answered : (c : C0) (d : Row C0)
-    → is_answered_effect (get_or ROWS (place c) d).effect ≡ is_answered c
-row_answered = tables.row_answered sheet
+pub answers : Answers ROWS is_answered
+unfolding is_answered
+answers = record { each = refl }
 
 -- each row is found by its code
 each_found : map (λ r. control_of (r.key - 256)) ROWS ≡ map (λ r. Some r.function) ROWS
@@ -77,26 +47,29 @@ pub has_its_code : (n : ℕ) (c : C0) → control_of n ≡ Some c → code_of c 
 has_its_code n c h = let key = has_its_key n c h in omega arith
 
 pub not_both : (c : C0) → is_answered c ≡ true → changes_screen c ≡ false
-not_both = tables.not_both sheet
+not_both = tables.not_both sheet answers
 
 -- how a code is looked up: below 20 (hexadecimal) by its place
+first_row : Row C0
+first_row = some_row variant.NUL
+
 by_place : map (λ n. control_of n) (range_with_len 0 32)
-    ≡ map (λ n. Some (get_or ROWS n some_row).function) (range_with_len 0 32)
+    ≡ map (λ n. Some (get_or ROWS n first_row).function) (range_with_len 0 32)
 unfolding control_of
 by_place = refl
 
-placed : (n : ℕ) → n < 32 → control_of n ≡ Some (get_or ROWS n some_row).function
+placed : (n : ℕ) → n < 32 → control_of n ≡ Some (get_or ROWS n first_row).function
 placed n lt =
     sym (get_or-map-range_with_len (λ i. control_of i) 0 32 n n None lt (omega arith))
     ∙ ap (λ t. get_or t n None) by_place
-    ∙ get_or-map-range_with_len (λ i. Some (get_or ROWS i some_row).function) 0 32 n n None lt
+    ∙ get_or-map-range_with_len (λ i. Some (get_or ROWS i first_row).function) 0 32 n n None lt
     (omega arith)
 
 pub in_row : (n : ℕ) (d : Row C0) → n < 32 → Some (get_or ROWS n d).function ≡ control_of n
 in_row n d lt =
     let within : n < 33 = omega arith in
     ap (λ f. Some f) (sym (get_or-map (λ r. r.function) ROWS n d variant.NUL within)
-    ∙ get_or-map (λ r. r.function) ROWS n some_row variant.NUL within) ∙ sym (placed n lt)
+    ∙ get_or-map (λ r. r.function) ROWS n first_row variant.NUL within) ∙ sym (placed n lt)
 
 pub deleted : Some variant.DEL ≡ control_of 0x7f
 unfolding control_of
@@ -114,9 +87,9 @@ no_other : (n : ℕ) (c : C0) → 0x20 ≤ n → (n == 0x7f) ≡ false → key_o
 unfolding is_key
 no_other n c high other e =
     let is : is_key (key_of c) ≡ true =
-    ap is_key (sym (row_key c some_row))
+    ap is_key (sym (tables.row_key sheet c (some_row c)))
     ∙ tables.row_fact ROWS (λ r. r.function) place sheet.table (λ r. is_key r.key) (λ r. true)
-    all_keys c some_row in
+    all_keys c (some_row c) in
     let has : is_key (256 + n) ≡ true = ap is_key (sym e) ∙ is in
     elim (cases_Bool (nat_lt (256 + n) 0x120)) [
       | inl low ↦ let lt = ltb-true (256 + n) 0x120 low in omega arith

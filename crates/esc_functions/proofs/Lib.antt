@@ -1,5 +1,4 @@
-pub mod Keyed
-pub mod Numbered
+pub mod ByKey
 pub mod Tables
 pub mod Controls
 pub mod Functions

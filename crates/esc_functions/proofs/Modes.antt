@@ -1,66 +1,35 @@
 -- Modes of ECMA-48. Each has its row.
-use Rattle.std.proofs.Common.{◌≡◌, ℕ, ◌<◌, true, false, ◌==◌, map, get_or, Option, Some, None, refl, sym, ap, ◌∙◌, inl, inr}
-use Rattle.std.specs.List.{list_all}
-use Rattle.std.proofs.lemmas.List.{get_or-map}
+use Rattle.std.proofs.Common.{◌≡◌, ℕ, ◌<◌, true, false, ◌==◌, map, Option, Some, None, refl, sym, ap, ◌∙◌, inl, inr}
 use Rattle.std.proofs.lemmas.Bool.{cases_Bool, eqb-true}
 use denote.Enum.Bare.{tag_one}
 use denote.Enum.Declared.{variants}
 use denote.Enum.Enum.{tag_below}
-use Rattle.esc_functions.specs.declared.mode_row.ModeRow.{ModeRow}
-use Rattle.esc_functions.specs.declared.effect.Effect.TheVariants as effect
 use Rattle.esc_functions.specs.declared.mode.Mode.{Mode}
-use Rattle.esc_functions.specs.declared.mode.Mode.TheVariants as variant
 use Rattle.esc_functions.specs.declared.mode_table.TheConstants.{ROWS}
 use Rattle.esc_functions.specs.contracts.mode.Mode.{the_type}
-use Rattle.esc_functions.specs.Effects.{is_screen_effect}
 use Rattle.esc_functions.specs.Modes.{place, number_of, mode_of, changes_screen, is_screen}
 use Rattle.esc_functions.proofs.Tables as tables
-use Rattle.esc_functions.proofs.Tables.{Table}
+use Rattle.esc_functions.proofs.Tables.{some_mode}
 
 pub below : (m : Mode) → place m < 22
 unfolding place
 below m = tag_below (variants the_type) (the_type.to m)
 
 -- the rows are in the order of the modes
-table : Table ROWS (λ r. r.mode) place
-unfolding place
-table = record { below = below; one = tag_one the_type tt; in_order = refl }
-
-pub row_number : (m : Mode) (d : ModeRow Mode)
-    → (get_or ROWS (place m) d).number ≡ number_of m
-unfolding number_of
-row_number m d = sym (get_or-map (λ r. r.number) ROWS (place m) d 0 (below m))
-
-screens : map (λ r. is_screen_effect r.effect) ROWS ≡ map (λ r. changes_screen r.mode) ROWS
-unfolding changes_screen
-screens = refl
-
-pub row_screen : (m : Mode) (d : ModeRow Mode)
-    → is_screen_effect (get_or ROWS (place m) d).effect ≡ changes_screen m
-row_screen =
-    tables.variant_fact ROWS (λ r. r.mode) place table (λ r. is_screen_effect r.effect)
-    changes_screen screens
+pub sheet : tables.Modes ROWS place number_of changes_screen
+unfolding place number_of changes_screen
+sheet = tables.sheet_of below (tag_one the_type tt) refl refl refl some_mode
 
 each_found : map (λ r. mode_of r.number) ROWS ≡ map (λ r. Some r.mode) ROWS
 unfolding mode_of
 each_found = refl
 
-some_row : ModeRow Mode
-some_row = record { mode = variant.GATM; number = 0; effect = effect.Other }
-
 pub found_by_number : (m : Mode) → mode_of (number_of m) ≡ Some m
-found_by_number m =
-    ap mode_of (sym (row_number m some_row))
-    ∙ tables.variant_fact ROWS (λ r. r.mode) place table (λ r. mode_of r.number) (λ n. Some n)
-    each_found m some_row
-
-numbers_are_theirs : list_all (λ r. number_of r.mode == r.number) ROWS ≡ true
-unfolding number_of place
-numbers_are_theirs = refl
+found_by_number = tables.of_each_key sheet mode_of (λ m. Some m) each_found
 
 pub has_its_number : (n : ℕ) (m : Mode) → mode_of n ≡ Some m → number_of m ≡ n
 unfolding mode_of
-has_its_number n m h = tables.number_in ROWS number_of numbers_are_theirs n m h
+has_its_number = tables.keyed_in sheet
 
 -- the only mode that changes the screen alone has the number 4
 only_row : map (λ r. r.number == 4) ROWS ≡ map (λ r. changes_screen r.mode) ROWS
@@ -68,10 +37,7 @@ unfolding changes_screen
 only_row = refl
 
 only_mode : (m : Mode) → (number_of m == 4) ≡ changes_screen m
-only_mode m =
-    ap (λ n. n == 4) (sym (row_number m some_row))
-    ∙ tables.variant_fact ROWS (λ r. r.mode) place table (λ r. r.number == 4) changes_screen
-    only_row m some_row
+only_mode = tables.of_each_key sheet (λ n. n == 4) changes_screen only_row
 
 only_found : (n : ℕ) (o : Option Mode) → mode_of n ≡ o → (n == 4) ≡ false → is_screen o ≡ false
 only_found n None e h = refl

@@ -1,67 +1,47 @@
 -- Private modes. Each has its row.
-use Rattle.std.proofs.Common.{◌≡◌, ℕ, ◌<◌, true, false, ◌==◌, map, get_or, Option, Some, None, refl, sym, ap, ◌∙◌, inl, inr}
-use Rattle.std.specs.List.{list_all}
-use Rattle.std.proofs.lemmas.List.{get_or-map}
-use Rattle.std.proofs.lemmas.Bool.{cases_Bool}
+use Rattle.std.proofs.Common.{◌≡◌, ℕ, ◌<◌, Bool, true, false, ◌==◌, List, [], ◌∷◌, map, Option, Some, None, refl, sym, ap, ◌∙◌, inl, inr}
+use Rattle.std.specs.List.{list_all, list_any}
+use Rattle.std.proofs.lemmas.Bool.{cases_Bool, and_parts, eqb-true}
 use denote.Enum.Bare.{tag_one}
 use denote.Enum.Declared.{variants}
 use denote.Enum.Enum.{tag_below}
-use Rattle.esc_functions.specs.declared.mode_row.ModeRow.{ModeRow}
-use Rattle.esc_functions.specs.declared.effect.Effect.TheVariants as effect
 use Rattle.esc_functions.specs.declared.private_mode.PrivateMode.{PrivateMode}
-use Rattle.esc_functions.specs.declared.private_mode.PrivateMode.TheVariants as variant
 use Rattle.esc_functions.specs.declared.private_mode_table.TheConstants.{ROWS}
 use Rattle.esc_functions.specs.contracts.private_mode.PrivateMode.{the_type}
-use Rattle.esc_functions.specs.Effects.{is_screen_effect}
 use Rattle.esc_functions.specs.PrivateModes.{place, number_of, mode_of, changes_screen, is_screen, screen_numbers, is_listed}
-use Rattle.esc_functions.proofs.Numbered.{listed_fact}
 use Rattle.esc_functions.proofs.Tables as tables
-use Rattle.esc_functions.proofs.Tables.{Table}
+use Rattle.esc_functions.proofs.Tables.{some_mode}
 
 pub below : (m : PrivateMode) → place m < 134
 unfolding place
 below m = tag_below (variants the_type) (the_type.to m)
 
 -- the rows are in the order of the modes
-table : Table ROWS (λ r. r.mode) place
-unfolding place
-table = record { below = below; one = tag_one the_type tt; in_order = refl }
-
-pub row_number : (m : PrivateMode) (d : ModeRow PrivateMode)
-    → (get_or ROWS (place m) d).number ≡ number_of m
-unfolding number_of
-row_number m d = sym (get_or-map (λ r. r.number) ROWS (place m) d 0 (below m))
-
-screens : map (λ r. is_screen_effect r.effect) ROWS ≡ map (λ r. changes_screen r.mode) ROWS
-unfolding changes_screen
-screens = refl
-
-pub row_screen : (m : PrivateMode) (d : ModeRow PrivateMode)
-    → is_screen_effect (get_or ROWS (place m) d).effect ≡ changes_screen m
-row_screen =
-    tables.variant_fact ROWS (λ r. r.mode) place table (λ r. is_screen_effect r.effect)
-    changes_screen screens
+pub sheet : tables.Modes ROWS place number_of changes_screen
+unfolding place number_of changes_screen
+sheet = tables.sheet_of below (tag_one the_type tt) refl refl refl some_mode
 
 each_found : map (λ r. mode_of r.number) ROWS ≡ map (λ r. Some r.mode) ROWS
 unfolding mode_of
 each_found = refl
 
-some_row : ModeRow PrivateMode
-some_row = record { mode = variant.DECCKM; number = 0; effect = effect.Other }
-
 pub found_by_number : (m : PrivateMode) → mode_of (number_of m) ≡ Some m
-found_by_number m =
-    ap mode_of (sym (row_number m some_row))
-    ∙ tables.variant_fact ROWS (λ r. r.mode) place table (λ r. mode_of r.number) (λ n. Some n)
-    each_found m some_row
-
-numbers_are_theirs : list_all (λ r. number_of r.mode == r.number) ROWS ≡ true
-unfolding number_of place
-numbers_are_theirs = refl
+found_by_number = tables.of_each_key sheet mode_of (λ m. Some m) each_found
 
 pub has_its_number : (n : ℕ) (m : PrivateMode) → mode_of n ≡ Some m → number_of m ≡ n
 unfolding mode_of
-has_its_number n m h = tables.number_in ROWS number_of numbers_are_theirs n m h
+has_its_number = tables.keyed_in sheet
+
+-- what is so of each number of a list is so of one that is on it
+pub listed_fact : (t : ℕ → Bool) (ks : List ℕ) (n : ℕ) → list_all t ks ≡ true
+    → list_any (λ k. n == k) ks ≡ true → t n ≡ true
+listed_fact t [] n all h = cc
+listed_fact t (k ∷ ks) n all h =
+    let parts = and_parts (t k) (list_all t ks) all in
+    elim (cases_Bool (n == k)) [
+      | inl same ↦ ap t (eqb-true n k same) ∙ parts.0
+      | inr other ↦ listed_fact t ks n parts.1 (rw other at h)
+    ]
 
 -- the numbers of the modes that change the screen alone are those of the list
 listed_are : list_all (λ n. is_screen (mode_of n)) screen_numbers ≡ true
@@ -73,10 +53,7 @@ unfolding changes_screen
 listed_rows = refl
 
 listed_mode : (m : PrivateMode) → is_listed (number_of m) ≡ changes_screen m
-listed_mode m =
-    ap is_listed (sym (row_number m some_row))
-    ∙ tables.variant_fact ROWS (λ r. r.mode) place table (λ r. is_listed r.number) changes_screen
-    listed_rows m some_row
+listed_mode = tables.of_each_key sheet is_listed changes_screen listed_rows
 
 listed_found : (n : ℕ) (o : Option PrivateMode) → mode_of n ≡ o → is_listed n ≡ false
     → is_screen o ≡ false

@@ -27,7 +27,7 @@ words_of c = get_or (map (λ w. w.now) WORDS) (place c) []
 
 -- the control of a code
 unfoldable pub control_of : ℕ → Option C0
-control_of n = first_keyed ROWS (256 + n)
+control_of n = first_keyed (λ r. r.key) (λ r. r.function) ROWS (256 + n)
 
 -- those that change the screen alone
 unfoldable pub changes_screen : C0 → Bool

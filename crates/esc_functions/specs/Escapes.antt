@@ -1,7 +1,7 @@
 -- The control functions of escape sequences and C1 controls, and their keys.
-use Rattle.std.specs.Prelude.{ℕ, ◌+◌, ◌-◌, ◌*◌, ◌%◌, Bool, ◌==◌, ◌||◌, if◌then◌else◌, List, [], map, get_or, Option, Some, None}
+use Rattle.std.specs.Prelude.{ℕ, ◌+◌, ◌-◌, ◌*◌, Bool, ◌==◌, ◌||◌, if◌then◌else◌, List, [], map, get_or, Option, Some, None}
 use Rattle.esc_values.specs.Params.{is_from}
-use Rattle.esc_functions.specs.Rows.{first_keyed, group}
+use Rattle.esc_functions.specs.Rows.{first_grouped, group}
 use Rattle.esc_functions.specs.declared.row.Row.{Row}
 use Rattle.esc_functions.specs.declared.escape_function.EscapeFunction.{EscapeFunction}
 use Rattle.esc_functions.specs.declared.escape_table.TheConstants.{NAMES, ROWS, STARTS, WORDS}
@@ -33,8 +33,7 @@ rows_of i = group ROWS STARTS i
 
 -- the function that has this key: of the rows whose sequence ends in the byte that the key ends in
 unfoldable pub function_of : ℕ → Option EscapeFunction
-function_of k =
-    if is_from 0x20 0x7e (k % 256) then first_keyed (rows_of (k % 256 - 0x20)) k else None
+function_of k = first_grouped (λ r. r.key) (λ r. r.function) rows_of 0x20 k
 
 -- the intermediates `!` `"` `$` `&` and `(` to `/` but `,` designate a set, which the final byte
 -- names

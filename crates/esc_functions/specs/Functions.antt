@@ -1,9 +1,8 @@
 -- The control functions of control sequences, and their keys.
-use Rattle.std.specs.Prelude.{ℕ, ◌+◌, ◌-◌, ◌*◌, ◌%◌, Bool, ◌==◌, ◌&&◌, ◌||◌, nat_le, if◌then◌else◌, List, [], ◌∷◌, map, length, get_or, Option, Some, None}
-use Rattle.esc_values.specs.Params.{is_from}
+use Rattle.std.specs.Prelude.{ℕ, ◌+◌, ◌*◌, Bool, ◌==◌, ◌&&◌, ◌||◌, nat_le, if◌then◌else◌, List, [], ◌∷◌, map, length, get_or, Option, Some, None}
 use Rattle.esc_values.specs.declared.csi_param.CsiParam.{CsiParam}
 use Rattle.esc_values.specs.declared.csi_param.CsiParam.TheVariants.{Integer, P}
-use Rattle.esc_functions.specs.Rows.{packed, first_keyed, group}
+use Rattle.esc_functions.specs.Rows.{packed, first_grouped, group}
 use Rattle.esc_functions.specs.declared.row.Row.{Row}
 use Rattle.esc_functions.specs.declared.control_function.ControlFunction.{ControlFunction}
 use Rattle.esc_functions.specs.declared.control_table.TheConstants.{NAMES, ROWS, STARTS, WORDS}
@@ -33,8 +32,7 @@ rows_of i = group ROWS STARTS i
 
 -- the function that has this key: of the rows whose sequence ends in the byte that the key ends in
 unfoldable pub function_of : ℕ → Option ControlFunction
-function_of k =
-    if is_from 0x40 0x7e (k % 256) then first_keyed (rows_of (k % 256 - 0x40)) k else None
+function_of k = first_grouped (λ r. r.key) (λ r. r.function) rows_of 0x40 k
 
 -- a private prefix or an intermediate: any byte of a body but digits, `;` and `:`
 abbrev pub mark_of : CsiParam → Option ℕ

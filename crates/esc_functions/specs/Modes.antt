@@ -1,9 +1,9 @@
 -- Modes of ECMA-48.
-use Rattle.std.specs.Prelude.{ℕ, Bool, true, false, map, get_or, Option, Some, None}
-use Rattle.esc_functions.specs.Rows.{first_numbered}
+use Rattle.std.specs.Prelude.{ℕ, Bool, true, false, List, [], map, get_or, Option, Some, None}
+use Rattle.esc_functions.specs.Rows.{first_keyed}
 use Rattle.esc_functions.specs.declared.mode.Mode.{Mode}
 use Rattle.esc_functions.specs.declared.mode.Mode.TheVariants as variant
-use Rattle.esc_functions.specs.declared.mode_table.TheConstants.{ROWS}
+use Rattle.esc_functions.specs.declared.mode_table.TheConstants.{NAMES, ROWS, WORDS}
 use Rattle.esc_functions.specs.contracts.mode.Mode.{the_type}
 use denote.Enum.Declared.{tag_of}
 
@@ -15,9 +15,16 @@ place m = tag_of the_type m
 unfoldable pub number_of : Mode → ℕ
 number_of m = get_or (map (λ r. r.number) ROWS) (place m) 0
 
+-- its name, and what is set and reset, in words
+unfoldable pub name_of : Mode → List ℕ
+name_of m = get_or (map (λ n. n.now) NAMES) (place m) []
+
+unfoldable pub words_of : Mode → List ℕ
+words_of m = get_or (map (λ w. w.now) WORDS) (place m) []
+
 -- the mode of a number
 unfoldable pub mode_of : ℕ → Option Mode
-mode_of n = first_numbered ROWS n
+mode_of n = first_keyed (λ r. r.number) (λ r. r.mode) ROWS n
 
 -- those that change the screen alone
 unfoldable pub changes_screen : Mode → Bool

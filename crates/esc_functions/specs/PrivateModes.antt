@@ -1,10 +1,10 @@
 -- Private modes.
 use Rattle.std.specs.Prelude.{ℕ, Bool, true, false, ◌==◌, List, [], ◌∷◌, map, get_or, Option, Some, None}
 use Rattle.std.specs.List.{list_any}
-use Rattle.esc_functions.specs.Rows.{first_numbered}
+use Rattle.esc_functions.specs.Rows.{first_keyed}
 use Rattle.esc_functions.specs.declared.private_mode.PrivateMode.{PrivateMode}
 use Rattle.esc_functions.specs.declared.private_mode.PrivateMode.TheVariants as variant
-use Rattle.esc_functions.specs.declared.private_mode_table.TheConstants.{ROWS}
+use Rattle.esc_functions.specs.declared.private_mode_table.TheConstants.{NAMES, ROWS, WORDS}
 use Rattle.esc_functions.specs.contracts.private_mode.PrivateMode.{the_type}
 use denote.Enum.Declared.{tag_of}
 
@@ -16,9 +16,16 @@ place m = tag_of the_type m
 unfoldable pub number_of : PrivateMode → ℕ
 number_of m = get_or (map (λ r. r.number) ROWS) (place m) 0
 
+-- its name, and what is set and reset, in words
+unfoldable pub name_of : PrivateMode → List ℕ
+name_of m = get_or (map (λ n. n.now) NAMES) (place m) []
+
+unfoldable pub words_of : PrivateMode → List ℕ
+words_of m = get_or (map (λ w. w.now) WORDS) (place m) []
+
 -- the mode of a number
 unfoldable pub mode_of : ℕ → Option PrivateMode
-mode_of n = first_numbered ROWS n
+mode_of n = first_keyed (λ r. r.number) (λ r. r.mode) ROWS n
 
 -- those that change the screen alone
 unfoldable pub changes_screen : PrivateMode → Bool

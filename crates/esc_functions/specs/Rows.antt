@@ -1,25 +1,30 @@
 -- Tables of control functions.
-use Rattle.std.specs.Prelude.{ℕ, ◌+◌, ◌-◌, ◌*◌, ◌==◌, if◌then◌else◌, List, [], ◌∷◌, take, drop, get_or, Option, Some, None}
-use Rattle.esc_functions.specs.declared.row.Row.{Row}
-use Rattle.esc_functions.specs.declared.mode_row.ModeRow.{ModeRow}
+use Rattle.std.specs.Prelude.{ℕ, ◌+◌, ◌-◌, ◌*◌, ◌%◌, ◌<◌, ◌≤◌, ◌==◌, if◌then◌else◌, List, [], ◌∷◌, take, drop, get_or, length, Option, Some, None}
+use Rattle.esc_values.specs.Params.{is_from}
 
 -- bytes as digits to the base 256, after those of n
 abbrev pub packed : ℕ → List ℕ → ℕ
 packed n [] = n
 packed n (b ∷ bs) = packed (256 * n + b) bs
 
--- the function of the first of these rows with this key
-abbrev pub first_keyed : {F : Type 0} → List (Row F) → ℕ → Option F
-first_keyed [] k = None
-first_keyed (r ∷ rs) k = if r.key == k then Some r.function else first_keyed rs k
+-- what the first of these rows that has this key is of
+abbrev pub first_keyed : {R F : Type 0} → (R → ℕ) → (R → F) → List R → ℕ → Option F
+first_keyed key of [] k = None
+first_keyed key of (r ∷ rs) k = if key r == k then Some (of r) else first_keyed key of rs k
 
 -- the rows of the group i, of which starts has the place of the first, and then that of the next
 -- group's first
-abbrev pub group : {F : Type 0} → List (Row F) → List ℕ → ℕ → List (Row F)
+abbrev pub group : {R : Type 0} → List R → List ℕ → ℕ → List R
 group rows starts i = take (get_or starts (i + 1) 0 - get_or starts i 0)
     (drop (get_or starts i 0) rows)
 
--- the mode of the first of these rows with this number
-abbrev pub first_numbered : {M : Type 0} → List (ModeRow M) → ℕ → Option M
-first_numbered [] n = None
-first_numbered (r ∷ rs) n = if r.number == n then Some r.mode else first_numbered rs n
+-- these places rise, up to the number of rows
+abbrev pub Rise : List ℕ → ℕ → Type 0
+Rise starts size = (i : ℕ) → i + 1 < length starts
+    → (get_or starts i 0 ≤ get_or starts (i + 1) 0) × (get_or starts (i + 1) 0 ≤ size)
+
+-- what the first row that has this key is of, where there is a group of rows for each byte from
+-- first to `~`, and the row is in that of the byte in which its key ends
+abbrev pub first_grouped : {R F : Type 0} → (R → ℕ) → (R → F) → (ℕ → List R) → ℕ → ℕ → Option F
+first_grouped key of rows_of first k = if is_from first 0x7e (k % 256)
+    then first_keyed key of (rows_of (k % 256 - first)) k else None

@@ -18,14 +18,14 @@ use crate::find::text_in;
 use crate::parameters::Parameters;
 use crate::row::Row;
 use crate::standard::Standard;
-use crate::table_macros::key;
+use crate::table_macros::{key, name, names, row, rows, words};
 
 // A row a line: the control, its code, what it changes, which standard has it, its name in full.
 //
 // The rows are in the order of the codes, and in that of `C0`.
 macro_rules! controls {
     ($each:ident) => {
-        $each![
+        $each![C0;
             NUL, [0x00], Other, Ecma48, "null";
             SOH, [0x01], Other, Ecma48, "start of heading";
             STX, [0x02], Other, Ecma48, "start of text";
@@ -60,30 +60,6 @@ macro_rules! controls {
             US, [0x1f], Other, Ecma48, "unit separator";
             DEL, [0x7f], Other, Ecma35, "delete";
         ]
-    };
-}
-
-macro_rules! rows {
-    ($($f:ident, [$code:literal], $effect:ident, $standard:ident, $words:literal);+ $(;)?) => {
-        [$(Row {
-            function: C0::$f,
-            key: key!($code),
-            effect: Effect::$effect,
-            parameters: Parameters::Nothing,
-            standard: Standard::$standard,
-        }),+]
-    };
-}
-
-macro_rules! names {
-    ($($f:ident, [$code:literal], $effect:ident, $standard:ident, $words:literal);+ $(;)?) => {
-        [$(stringify!($f)),+]
-    };
-}
-
-macro_rules! words {
-    ($($f:ident, [$code:literal], $effect:ident, $standard:ident, $words:literal);+ $(;)?) => {
-        [$($words),+]
     };
 }
 
@@ -123,6 +99,7 @@ impl C0 {
     }
 
     /// Its name, as the standards abbreviate it.
+    #[tactic(auto, unfolding(crate::specs::Controls::name_of))]
     pub fn name(self) -> &'static str
         ensures { result.now ≡ name_of self }
     {
@@ -130,13 +107,14 @@ impl C0 {
     }
 
     /// Its name in full.
+    #[tactic(auto, unfolding(crate::specs::Controls::words_of))]
     pub fn words(self) -> &'static str
         ensures { result.now ≡ words_of self }
     {
         text_in(&WORDS, place(self))
     }
 
-    /// Whether it changes the screen alone.
+    /// Whether it changes the screen alone: those from BEL to SI.
     #[inline]
     pub fn changes_screen(self) -> bool
         ensures { result ≡ changes_screen self }
@@ -171,6 +149,7 @@ fn is_screen_code(code: u32) -> bool
 }
 
 // The place of its row.
+#[tactic(auto, using(crate::proofs::Controls::below), unfolding(crate::specs::Controls::place))]
 #[inline(always)]
 fn place(control: C0) -> usize
     ensures place { result ≡ place control }

@@ -10,17 +10,17 @@
 ghost use Rattle.std.specs.Prelude.{◌≡◌, ◌<◌, ◌+◌, ◌*◌, []};
 ghost use Rattle.esc_sequences.specs.Csis.{csi_value};
 ghost use Rattle.esc_functions.specs.Effects.{changes_screen, is_answered, is_screen_effect, is_answered_effect};
-ghost use Rattle.esc_functions.specs.Functions.{function_of, key_of, key_with, name_of, named, place, put_mark, rows_of, sequence_key, words_of};
+ghost use Rattle.esc_functions.specs.Functions.{function_of, key_of, key_with, name_of, named, place, put_mark, sequence_key, words_of};
 ghost use Rattle.esc_functions.specs.Rows.{packed};
 
 use crate::control_function::ControlFunction;
 use crate::effect::Effect;
-use crate::find::{first_with, part, text_in};
+use crate::find::{first_in_group, text_in};
 use crate::marks::{key_with, marks_of, packed_marks};
 use crate::parameters::Parameters;
 use crate::row::Row;
 use crate::standard::Standard;
-use crate::table_macros::{key, name};
+use crate::table_macros::{key, name, names, row, rows, starts, words};
 use esc_sequences::CSI;
 use esc_values::CsiParam;
 use std::alloc::Allocator;
@@ -33,7 +33,7 @@ use std::alloc::Allocator;
 // first, and in that of `ControlFunction`.
 macro_rules! functions {
     ($each:ident) => {
-        $each![
+        $each![ControlFunction;
             ICH, [b'@'], Screen, Count, Ecma48, "insert characters";
             SL, [b' ', b'@'], Screen, Count, Ecma48, "scroll left";
             CUU, [b'A'], Screen, Count, Ecma48, "cursor up";
@@ -279,39 +279,6 @@ macro_rules! functions {
     };
 }
 
-macro_rules! rows {
-    ($($f:ident $(= $name:literal)?, [$($b:tt)+], $effect:ident, $parameters:ident, $standard:ident,
-        $words:literal);+ $(;)?) => {
-        [$(Row {
-            function: ControlFunction::$f,
-            key: key!($($b)+),
-            effect: Effect::$effect,
-            parameters: Parameters::$parameters,
-            standard: Standard::$standard,
-        }),+]
-    };
-}
-
-macro_rules! names {
-    ($($f:ident $(= $name:literal)?, [$($b:tt)+], $effect:ident, $parameters:ident, $standard:ident,
-        $words:literal);+ $(;)?) => {
-        [$(name!($f $(= $name)?)),+]
-    };
-}
-
-macro_rules! words {
-    ($($f:ident $(= $name:literal)?, [$($b:tt)+], $effect:ident, $parameters:ident, $standard:ident,
-        $words:literal);+ $(;)?) => {
-        [$($words),+]
-    };
-}
-
-macro_rules! starts {
-    ($($f:ident),+; $end:literal) => {
-        [$(ControlFunction::$f as u16),+, $end]
-    };
-}
-
 static ROWS: [Row<ControlFunction>; 221] = functions!(rows);
 
 static NAMES: [&str; 221] = functions!(names);
@@ -319,7 +286,7 @@ static NAMES: [&str; 221] = functions!(names);
 static WORDS: [&str; 221] = functions!(words);
 
 // The place of the first row of each final byte, `@` to `~`, and how many rows there are.
-static STARTS: [u16; 64] = starts![
+static STARTS: [u16; 64] = starts![ControlFunction;
     ICH, CUU, CUD, CUF, CUB, CNL, CPL, CHA, CUP, CHT, ED, EL, IL, DL, EF, EA, DCH, SEE, CPR, SU,
     SD, NP, PP, CTC, ECH, CVT, CBT, SRS, PTX, SDS, SIMD, GCC, HPA, HPR, REP, DA1, VPA, VPR, HVP,
     TBC, SM, MC, HPB, VPB, RM, SGR, DSR, DAQ, DECSSL, DECLL, DECSTBM, SCOSC, XTWINOPS, SCORC,
@@ -397,6 +364,7 @@ impl ControlFunction {
     }
 
     /// Its name, as the standards abbreviate it.
+    #[tactic(auto, unfolding(crate::specs::Functions::name_of))]
     pub fn name(self) -> &'static str
         ensures { result.now ≡ name_of self }
     {
@@ -404,6 +372,7 @@ impl ControlFunction {
     }
 
     /// What it does, in words.
+    #[tactic(auto, unfolding(crate::specs::Functions::words_of))]
     pub fn words(self) -> &'static str
         ensures { result.now ≡ words_of self }
     {
@@ -428,6 +397,7 @@ impl ControlFunction {
 }
 
 // The place of its row.
+#[tactic(auto, using(crate::proofs::Functions::below), unfolding(crate::specs::Functions::place))]
 #[inline(always)]
 fn place(function: ControlFunction) -> usize
     ensures place { result ≡ place function }
@@ -437,26 +407,10 @@ fn place(function: ControlFunction) -> usize
 }
 
 // The function that has this key.
-#[tactic(auto, using(crate::proofs::Functions::too_low, crate::proofs::Functions::too_high, crate::proofs::Functions::in_rows))]
+#[tactic(auto, using(crate::proofs::Functions::rise), unfolding(crate::specs::Functions::function_of, crate::specs::Functions::rows_of))]
 #[inline]
 fn with_key(key: u32) -> Option<ControlFunction>
     ensures { result ≡ function_of key }
 {
-    let last = key % 0x100;
-    if last < 0x40 {
-        return None;
-    }
-    if last > 0x7e {
-        return None;
-    }
-    first_with(rows_of((last - 0x40) as usize), key)
-}
-
-// The rows of a final byte, from `@` on.
-#[inline]
-fn rows_of(index: usize) -> &'static [Row<ControlFunction>]
-    requires { index < 63 }
-    ensures { result.now ≡ rows_of index }
-{
-    part(&ROWS, &STARTS, index)
+    first_in_group(&ROWS, &STARTS, 0x40, key)
 }

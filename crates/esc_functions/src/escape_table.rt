@@ -9,15 +9,15 @@
 ghost use Rattle.std.specs.Prelude.{◌≡◌, ◌<◌};
 ghost use Rattle.esc_functions.specs.Effects.{is_answered_effect, is_screen_effect};
 ghost use Rattle.esc_functions.specs.EscapeEffects.{changes_screen, is_answered};
-ghost use Rattle.esc_functions.specs.Escapes.{designates, function_of, key_of, name_of, named, named_c1, place, rows_of, sequence_key, words_of};
+ghost use Rattle.esc_functions.specs.Escapes.{designates, function_of, key_of, name_of, named, named_c1, place, sequence_key, words_of};
 
 use crate::effect::Effect;
 use crate::escape_function::EscapeFunction;
-use crate::find::{first_with, part, text_in};
+use crate::find::{first_in_group, text_in};
 use crate::parameters::Parameters;
 use crate::row::Row;
 use crate::standard::Standard;
-use crate::table_macros::{key, name};
+use crate::table_macros::{key, name, names, row, rows, starts, words};
 use esc_sequences::{Esc, EscCode};
 
 // A row a line: the function, and its name where that is another; the bytes of its sequence after
@@ -27,7 +27,7 @@ use esc_sequences::{Esc, EscCode};
 // The rows are in the order of their last bytes, and in that of `EscapeFunction`.
 macro_rules! functions {
     ($each:ident) => {
-        $each![
+        $each![EscapeFunction;
             CZD, [b'!'], Other, Ecma35, "designate the C0 set";
             C1D, [b'"'], Other, Ecma35, "designate the C1 set";
             GZDM4, [b'$'], Other, Ecma35, "designate a set of several bytes as G0";
@@ -109,39 +109,6 @@ macro_rules! functions {
     };
 }
 
-macro_rules! rows {
-    ($($f:ident $(= $name:literal)?, [$($b:tt)+], $effect:ident, $standard:ident,
-        $words:literal);+ $(;)?) => {
-        [$(Row {
-            function: EscapeFunction::$f,
-            key: key!($($b)+),
-            effect: Effect::$effect,
-            parameters: Parameters::Nothing,
-            standard: Standard::$standard,
-        }),+]
-    };
-}
-
-macro_rules! names {
-    ($($f:ident $(= $name:literal)?, [$($b:tt)+], $effect:ident, $standard:ident,
-        $words:literal);+ $(;)?) => {
-        [$(name!($f $(= $name)?)),+]
-    };
-}
-
-macro_rules! words {
-    ($($f:ident $(= $name:literal)?, [$($b:tt)+], $effect:ident, $standard:ident,
-        $words:literal);+ $(;)?) => {
-        [$($words),+]
-    };
-}
-
-macro_rules! starts {
-    ($($f:ident),+; $end:literal) => {
-        [$(EscapeFunction::$f as u16),+, $end]
-    };
-}
-
 static ROWS: [Row<EscapeFunction>; 76] = functions!(rows);
 
 static NAMES: [&str; 76] = functions!(names);
@@ -149,7 +116,7 @@ static NAMES: [&str; 76] = functions!(names);
 static WORDS: [&str; 76] = functions!(words);
 
 // The place of the first row of each last byte, space to `~`, and how many rows there are.
-static STARTS: [u16; 96] = starts![
+static STARTS: [u16; 96] = starts![EscapeFunction;
     CZD, CZD, C1D, GZDM4, GZDM4, IRR, IRR, GZD4, GZD4, G1D4, G2D4, G3D4, G1D6, G1D6, G2D6, G3D6,
     DECDHLT, DECDHLT, DECDHLT, DECDHLT, DECDHLB, DECSWL, DECBI, DECSC, DECRC, DECFI, VT52EXIT,
     VT52EXIT, VT52EXIT, DECKPAM, DECKPNM, PAD, PAD, HOP, BPH, NBH, IND, NEL, SSA, ESA, HTS, HTJ,
@@ -218,6 +185,7 @@ impl EscapeFunction {
     }
 
     /// Its name, as the standards abbreviate it.
+    #[tactic(auto, unfolding(crate::specs::Escapes::name_of))]
     pub fn name(self) -> &'static str
         ensures { result.now ≡ name_of self }
     {
@@ -225,6 +193,7 @@ impl EscapeFunction {
     }
 
     /// What it does, in words.
+    #[tactic(auto, unfolding(crate::specs::Escapes::words_of))]
     pub fn words(self) -> &'static str
         ensures { result.now ≡ words_of self }
     {
@@ -249,6 +218,7 @@ impl EscapeFunction {
 }
 
 // The place of its row.
+#[tactic(auto, using(crate::proofs::Escapes::below), unfolding(crate::specs::Escapes::place))]
 #[inline(always)]
 fn place(function: EscapeFunction) -> usize
     ensures place { result ≡ place function }
@@ -265,26 +235,10 @@ fn designates(byte: u8) -> bool
 }
 
 // The function that has this key.
-#[tactic(auto, using(crate::proofs::Escapes::too_low, crate::proofs::Escapes::too_high, crate::proofs::Escapes::in_rows))]
+#[tactic(auto, using(crate::proofs::Escapes::rise), unfolding(crate::specs::Escapes::function_of, crate::specs::Escapes::rows_of))]
 #[inline]
 fn with_key(key: u32) -> Option<EscapeFunction>
     ensures { result ≡ function_of key }
 {
-    let last = key % 0x100;
-    if last < 0x20 {
-        return None;
-    }
-    if last > 0x7e {
-        return None;
-    }
-    first_with(rows_of((last - 0x20) as usize), key)
-}
-
-// The rows of a last byte, from space on.
-#[inline]
-fn rows_of(index: usize) -> &'static [Row<EscapeFunction>]
-    requires { index < 95 }
-    ensures { result.now ≡ rows_of index }
-{
-    part(&ROWS, &STARTS, index)
+    first_in_group(&ROWS, &STARTS, 0x20, key)
 }

@@ -21,6 +21,7 @@ pub mod effect;
 pub mod escape_function;
 mod escape_table;
 mod find;
+mod keyed;
 pub mod laws;
 mod marks;
 pub mod mode;

@@ -3,14 +3,13 @@
 //! The names are those of ECMA-48, fifth edition, 7.2, of its fourth edition (EBM, LNM) and of the
 //! VT510's manual (CRM, <https://vt100.net/docs/vt510-rm/chapter4.html>).
 ghost use Rattle.std.specs.Prelude.{◌≡◌, ◌<◌};
-ghost use Rattle.esc_functions.specs.Effects.{is_screen_effect};
-ghost use Rattle.esc_functions.specs.Modes.{changes_screen, is_screen, mode_of, number_of, place};
+ghost use Rattle.esc_functions.specs.Modes.{changes_screen, is_screen, mode_of, name_of, number_of, place, words_of};
 
 use crate::effect::Effect;
-use crate::find::numbered;
+use crate::find::{first_with, text_in};
 use crate::mode::Mode;
 use crate::mode_row::ModeRow;
-use crate::table_macros::{mode_names, mode_rows, mode_words};
+use crate::table_macros::{mode_rows, name, names, words};
 
 // A row a line: the mode, its number, whether it changes the screen alone, and what is set and
 // reset. The rows are in the order of the numbers, and in that of `Mode`.
@@ -45,50 +44,48 @@ macro_rules! modes {
 
 static ROWS: [ModeRow<Mode>; 22] = modes!(mode_rows);
 
-static NAMES: [&str; 22] = modes!(mode_names);
+static NAMES: [&str; 22] = modes!(names);
 
-static WORDS: [&str; 22] = modes!(mode_words);
+static WORDS: [&str; 22] = modes!(words);
 
 impl Mode {
     /// The mode of this number, where it has a name.
+    #[tactic(auto, unfolding(crate::specs::Modes::mode_of))]
     pub fn of_number(number: u32) -> Option<Mode>
         ensures { result ≡ mode_of number }
     {
-        numbered(&ROWS, number)
-    }
-
-    // Its row of the table.
-    #[inline]
-    fn row(self) -> &'static ModeRow<Mode>
-        ensures number { result.now.number ≡ number_of self }
-        ensures screen { is_screen_effect result.now.effect ≡ changes_screen self }
-    {
-        &ROWS[place(self)]
+        first_with(&ROWS, number)
     }
 
     /// Its number.
     pub fn number(self) -> u32
         ensures { result ≡ number_of self }
     {
-        self.row().number
+        ROWS[place(self)].number
     }
 
     /// Its name.
-    pub fn name(self) -> &'static str {
-        NAMES[place(self)]
+    #[tactic(auto, unfolding(crate::specs::Modes::name_of))]
+    pub fn name(self) -> &'static str
+        ensures { result.now ≡ name_of self }
+    {
+        text_in(&NAMES, place(self))
     }
 
     /// What is set and reset, in words: a noun, which reads true after "set" and after "reset".
-    pub fn words(self) -> &'static str {
-        WORDS[place(self)]
+    #[tactic(auto, unfolding(crate::specs::Modes::words_of))]
+    pub fn words(self) -> &'static str
+        ensures { result.now ≡ words_of self }
+    {
+        text_in(&WORDS, place(self))
     }
 
-    /// Whether setting and resetting it changes the screen alone.
+    /// Whether setting and resetting it changes the screen alone, as it does of IRM only.
     #[inline]
     pub fn changes_screen(self) -> bool
         ensures { result ≡ changes_screen self }
     {
-        self.row().effect.is_screen()
+        ROWS[place(self)].effect.is_screen()
     }
 
     /// Whether this is the number of a mode that changes the screen alone.
@@ -102,6 +99,7 @@ impl Mode {
 }
 
 // The place of its row.
+#[tactic(auto, using(crate::proofs::Modes::below), unfolding(crate::specs::Modes::place))]
 #[inline(always)]
 fn place(mode: Mode) -> usize
     ensures place { result ≡ place mode }

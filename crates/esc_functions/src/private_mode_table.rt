@@ -6,14 +6,13 @@
 //! readline, VTE, contour (<https://contour-terminal.org/vt-extensions/>), kitty and, from 7700 on,
 //! mintty (<https://github.com/mintty/mintty/wiki/CtrlSeqs>), TeraTerm and Windows.
 ghost use Rattle.std.specs.Prelude.{◌≡◌, ◌<◌};
-ghost use Rattle.esc_functions.specs.Effects.{is_screen_effect};
-ghost use Rattle.esc_functions.specs.PrivateModes.{changes_screen, is_listed, is_screen, mode_of, number_of, place};
+ghost use Rattle.esc_functions.specs.PrivateModes.{changes_screen, is_listed, is_screen, mode_of, name_of, number_of, place, words_of};
 
 use crate::effect::Effect;
-use crate::find::numbered;
+use crate::find::{first_with, text_in};
 use crate::mode_row::ModeRow;
 use crate::private_mode::PrivateMode;
-use crate::table_macros::{mode_names, mode_rows, mode_words};
+use crate::table_macros::{mode_rows, name, names, words};
 
 // A row a line: the mode, its number, whether it changes the screen alone, and what is set and
 // reset. The rows are in the order of the numbers, and in that of `PrivateMode`.
@@ -160,42 +159,40 @@ macro_rules! modes {
 
 static ROWS: [ModeRow<PrivateMode>; 134] = modes!(mode_rows);
 
-static NAMES: [&str; 134] = modes!(mode_names);
+static NAMES: [&str; 134] = modes!(names);
 
-static WORDS: [&str; 134] = modes!(mode_words);
+static WORDS: [&str; 134] = modes!(words);
 
 impl PrivateMode {
     /// The mode of this number, where it has a name.
+    #[tactic(auto, unfolding(crate::specs::PrivateModes::mode_of))]
     pub fn of_number(number: u32) -> Option<PrivateMode>
         ensures { result ≡ mode_of number }
     {
-        numbered(&ROWS, number)
+        first_with(&ROWS, number)
     }
 
-    // Its row of the table.
-    #[inline]
-    fn row(self) -> &'static ModeRow<PrivateMode>
-        ensures number { result.now.number ≡ number_of self }
-        ensures screen { is_screen_effect result.now.effect ≡ changes_screen self }
-    {
-        &ROWS[place(self)]
-    }
-
-    /// Its number.
+    /// Its number, as it comes after `CSI ?`.
     pub fn number(self) -> u32
         ensures { result ≡ number_of self }
     {
-        self.row().number
+        ROWS[place(self)].number
     }
 
     /// Its name.
-    pub fn name(self) -> &'static str {
-        NAMES[place(self)]
+    #[tactic(auto, unfolding(crate::specs::PrivateModes::name_of))]
+    pub fn name(self) -> &'static str
+        ensures { result.now ≡ name_of self }
+    {
+        text_in(&NAMES, place(self))
     }
 
     /// What is set and reset, in words: a noun, which reads true after "set" and after "reset".
-    pub fn words(self) -> &'static str {
-        WORDS[place(self)]
+    #[tactic(auto, unfolding(crate::specs::PrivateModes::words_of))]
+    pub fn words(self) -> &'static str
+        ensures { result.now ≡ words_of self }
+    {
+        text_in(&WORDS, place(self))
     }
 
     /// Whether setting and resetting it changes the screen alone.
@@ -203,7 +200,7 @@ impl PrivateMode {
     pub fn changes_screen(self) -> bool
         ensures { result ≡ changes_screen self }
     {
-        self.row().effect.is_screen()
+        ROWS[place(self)].effect.is_screen()
     }
 
     /// Whether this is the number of a mode that changes the screen alone.
@@ -228,6 +225,7 @@ fn is_listed(number: u64) -> bool
 }
 
 // The place of its row.
+#[tactic(auto, using(crate::proofs::PrivateModes::below), unfolding(crate::specs::PrivateModes::place))]
 #[inline(always)]
 fn place(mode: PrivateMode) -> usize
     ensures place { result ≡ place mode }

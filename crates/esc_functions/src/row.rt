@@ -1,6 +1,7 @@
 //! A row of a table of control functions.
 
 use crate::effect::Effect;
+use crate::keyed::Keyed;
 use crate::parameters::Parameters;
 use crate::standard::Standard;
 
@@ -19,4 +20,22 @@ pub struct Row<F> {
     pub parameters: Parameters,
     /// The standard that has it.
     pub standard: Standard,
+}
+
+impl<F: Copy> Keyed for Row<F> {
+    type Of = F;
+
+    ghost has_key = { λ r. r.key };
+
+    ghost is_of = { λ r. r.function };
+
+    #[inline]
+    fn key(&self) -> u32 {
+        self.key
+    }
+
+    #[inline]
+    fn of(&self) -> F {
+        self.function
+    }
 }

@@ -1,6 +1,30 @@
 //! What the tables have in common: the parts of their rows.
 
-// The rows of a table of modes, their names and their words, of a list of rows.
+// The rows of a table of functions, of its lines.
+macro_rules! rows {
+    ($of:ident; $($f:ident $(= $name:literal)?, [$($b:tt)+], $($field:ident,)+
+        $words:literal);+ $(;)?) => {
+        [$(row!($of::$f, key!($($b)+), $($field),+)),+]
+    };
+}
+
+// A row of a function: of one that has no parameters they are left out.
+macro_rules! row {
+    ($function:expr, $key:expr, $effect:ident, $standard:ident) => {
+        row!($function, $key, $effect, Nothing, $standard)
+    };
+    ($function:expr, $key:expr, $effect:ident, $parameters:ident, $standard:ident) => {
+        Row {
+            function: $function,
+            key: $key,
+            effect: Effect::$effect,
+            parameters: Parameters::$parameters,
+            standard: Standard::$standard,
+        }
+    };
+}
+
+// The rows of a table of modes, of its lines.
 macro_rules! mode_rows {
     ($mode:ident; $($f:ident, $number:literal, $effect:ident, $words:literal);+ $(;)?) => {
         [$(ModeRow {
@@ -11,25 +35,35 @@ macro_rules! mode_rows {
     };
 }
 
-macro_rules! mode_names {
-    ($mode:ident; $($f:ident, $number:literal, $effect:ident, $words:literal);+ $(;)?) => {
-        [$(stringify!($f)),+]
+// The names of a table, of its lines: each that of its variant, or another.
+macro_rules! names {
+    ($of:ident; $($f:ident $(= $name:literal)?, $code:tt, $($field:ident,)+
+        $words:literal);+ $(;)?) => {
+        [$(name!($f $(= $name)?)),+]
     };
 }
 
-macro_rules! mode_words {
-    ($mode:ident; $($f:ident, $number:literal, $effect:ident, $words:literal);+ $(;)?) => {
-        [$($words),+]
-    };
-}
-
-// The name of a function: that of its variant, or another.
 macro_rules! name {
     ($f:ident) => {
         stringify!($f)
     };
     ($f:ident = $name:literal) => {
         $name
+    };
+}
+
+// The words of a table, of its lines.
+macro_rules! words {
+    ($of:ident; $($f:ident $(= $name:literal)?, $code:tt, $($field:ident,)+
+        $words:literal);+ $(;)?) => {
+        [$($words),+]
+    };
+}
+
+// The places of these functions' rows, and how many rows there are.
+macro_rules! starts {
+    ($of:ident; $($f:ident),+; $end:literal) => {
+        [$($of::$f as u16),+, $end]
     };
 }
 
@@ -50,7 +84,10 @@ macro_rules! key {
 }
 
 pub(crate) use key;
-pub(crate) use mode_names;
 pub(crate) use mode_rows;
-pub(crate) use mode_words;
 pub(crate) use name;
+pub(crate) use names;
+pub(crate) use row;
+pub(crate) use rows;
+pub(crate) use starts;
+pub(crate) use words;

@@ -1,14 +1,15 @@
-use Rattle.esc_functions.proofs.Controls.{row_function, row_key, row_screen, row_answered}
+use Rattle.esc_functions.proofs.Controls.{answers, sheet}
+use Rattle.esc_functions.proofs.Tables.{row_answered, row_key, row_of, row_screen}
 use Rattle.esc_functions.proofs.c0.C0.row.Goals as goal
 
 pub returns-clause-function : goal.returns-clause-function
-returns-clause-function c = rw c.place.ensures.place (row_function c.args.self _)
+returns-clause-function c = rw c.place.ensures.place (row_of sheet c.args.self _)
 
 pub returns-clause-key : goal.returns-clause-key
-returns-clause-key c = rw c.place.ensures.place (row_key c.args.self _)
+returns-clause-key c = rw c.place.ensures.place (row_key sheet c.args.self _)
 
 pub returns-clause-screen : goal.returns-clause-screen
-returns-clause-screen c = rw c.place.ensures.place (row_screen c.args.self _)
+returns-clause-screen c = rw c.place.ensures.place (row_screen sheet c.args.self _)
 
 pub returns-clause-answered : goal.returns-clause-answered
-returns-clause-answered c = rw c.place.ensures.place (row_answered c.args.self _)
+returns-clause-answered c = rw c.place.ensures.place (row_answered sheet answers c.args.self _)

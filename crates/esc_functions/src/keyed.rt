@@ -1,0 +1,20 @@
+//! Rows that have keys.
+ghost use Rattle.std.specs.Prelude.{◌≡◌, ℕ};
+
+/// A row of a table, which is found by its key.
+pub(crate) trait Keyed {
+    /// What the row is of.
+    type Of;
+
+    ghost has_key: { Self → ℕ };
+
+    ghost is_of: { Self → Self.Of };
+
+    /// Its key.
+    fn key(&self) -> u32
+        ensures { result ≡ has_key self.now };
+
+    /// What it is of.
+    fn of(&self) -> Self::Of
+        ensures { result ≡ is_of self.now };
+}
