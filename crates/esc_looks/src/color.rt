@@ -1,7 +1,6 @@
 //! Colours.
 ghost use Rattle.std.specs.Prelude.{◌≡◌, ◌≤◌, ◌<◌};
 ghost use Rattle.esc_looks.specs.Colors.{color_at, color_code, color_of, hex_digit, level, palette};
-ghost use Rattle.esc_typed.specs.Numbers.{ansi_color_at};
 
 use esc_typed::{AnsiColor, ColorSpec};
 use esc_values::RgbColor;
@@ -37,33 +36,9 @@ fn at(index: u8) -> Color
     ensures { result ≡ color_at index }
 {
     if index < 16 {
-        Color::Named(named(index))
+        Color::Named(AnsiColor::at(index))
     } else {
         Color::Direct(palette(index))
-    }
-}
-
-// The colour at a place from 0 to 15; at any other, bright white.
-fn named(index: u8) -> AnsiColor
-    ensures { result ≡ ansi_color_at index }
-{
-    match index {
-        0 => AnsiColor::Black,
-        1 => AnsiColor::Red,
-        2 => AnsiColor::Green,
-        3 => AnsiColor::Yellow,
-        4 => AnsiColor::Blue,
-        5 => AnsiColor::Magenta,
-        6 => AnsiColor::Cyan,
-        7 => AnsiColor::White,
-        8 => AnsiColor::BrightBlack,
-        9 => AnsiColor::BrightRed,
-        10 => AnsiColor::BrightGreen,
-        11 => AnsiColor::BrightYellow,
-        12 => AnsiColor::BrightBlue,
-        13 => AnsiColor::BrightMagenta,
-        14 => AnsiColor::BrightCyan,
-        _ => AnsiColor::BrightWhite,
     }
 }
 

@@ -50,9 +50,9 @@ impl AnsiColor {
         self as u8
     }
 
-    // The colour at a place from 0 to 15 of the palette; at any other, bright white.
+    /// The colour at a place from 0 to 15 of the palette; at any other, bright white.
     #[inline]
-    pub(crate) fn at(index: u8) -> AnsiColor
+    pub fn at(index: u8) -> AnsiColor
         ensures { result ≡ ansi_color_at index }
     {
         match index {
