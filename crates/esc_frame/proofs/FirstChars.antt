@@ -7,6 +7,7 @@ use Rattle.std.proofs.lemmas.Bool.{and_parts}
 use Rattle.std.proofs.lemmas.Str.{encode_ascii, encodes-chars, char_from_byte}
 use lib.Utf8.{scalar}
 use Rattle.esc_values.specs.Clear.{is_clear}
+use Rattle.esc_frame.specs.Scans.{StartsFrom}
 use Rattle.esc_frame.specs.Sequences.{is_sequence, number_of}
 use Rattle.esc_frame.specs.Machine.Texts.{IsClearText, IsNext}
 use Rattle.std.proofs.Common.{take, length-drop}
@@ -95,12 +96,14 @@ next_as x r c m n e s is d l =
     subst (λ k. (scalar k ≡ true)
     × IsNext x k n) (sym is) (s, (e ∙ ap (λ y. encode_utf8 c ++ y) (sym d), l))
 
-pub next_two : (x : List ℕ) → IsClearText x → 0 < length x → 0x80 ≤ get_or x 0 0
-    → get_or x 0 0 < 0xe0
+pub next_two : (x : List ℕ) → IsClearText x → StartsFrom 0x80 0xdf x
     → (2 ≤ length x) × (0xc0 ≤ get_or x 0 0) × (0x80 ≤ get_or x 1 0)
     × ((scalar ((get_or x 0 0 - 0xc0) * 64 + (get_or x 1 0 - 0x80)) ≡ true)
     × IsNext x ((get_or x 0 0 - 0xc0) * 64 + (get_or x 1 0 - 0x80)) 2)
-next_two x t some l h =
+next_two x t starts =
+    let some = starts.some in
+    let l = starts.low in
+    let h : get_or x 0 0 < 0xe0 = omega (arith, starts.high) in
     let (c, r, e, k) = lead x t some in
     let w = wide x r c e k l in
     let P : List ℕ → Type 0 = λ z. get_or z 0 0 < 0xe0 → (2 ≤ length z) × (0xc0 ≤ get_or z 0 0)
@@ -110,14 +113,16 @@ next_two x t some l h =
     let q = subst P (sym e) (two_first (encode_utf8 c) r w.1) h in
     (q.0, q.1, q.2, next_as x r c _ 2 e w.0 (sym q.3 ∙ w.2) q.4 q.0)
 
-pub next_three : (x : List ℕ) → IsClearText x → 0 < length x → 0xe0 ≤ get_or x 0 0
-    → get_or x 0 0 < 0xf0
+pub next_three : (x : List ℕ) → IsClearText x → StartsFrom 0xe0 0xef x
     → (3 ≤ length x) × (0x80 ≤ get_or x 1 0) × (0x80 ≤ get_or x 2 0)
     × ((scalar ((get_or x 0 0 - 0xe0) * 4096 + (get_or x 1 0 - 0x80) * 64 + (get_or x 2 0 - 0x80))
     ≡ true)
     × IsNext x ((get_or x 0 0 - 0xe0) * 4096 + (get_or x 1 0 - 0x80) * 64 + (get_or x 2 0 - 0x80))
     3)
-next_three x t some l h =
+next_three x t starts =
+    let some = starts.some in
+    let l = starts.low in
+    let h : get_or x 0 0 < 0xf0 = omega (arith, starts.high) in
     let (c, r, e, k) = lead x t some in
     let w = wide x r c e k (omega (arith, l)) in
     let P : List ℕ → Type 0 = λ z. 0xe0 ≤ get_or z 0 0 → get_or z 0 0 < 0xf0 → (3 ≤ length z)

@@ -17,7 +17,7 @@ use Rattle.esc_frame.specs.Machine.Moves.{after_all, events_all, inside, IsStill
 use Rattle.esc_frame.specs.Scans.{is_body_byte}
 use Rattle.esc_frame.specs.Segments.{csi_events}
 use Rattle.esc_frame.specs.Segments.Opener.{Long}
-use Rattle.esc_frame.specs.Machine.Shorts.{IsShort}
+use Rattle.esc_frame.specs.Machine.Taking.{StartsWithShortCsi}
 use Rattle.esc_frame.proofs.CsiRuns.{csi_opens, body_quiet, body_strip, final_by}
 use Rattle.esc_frame.proofs.Borrows.{after_more, ground_fresh}
 use Rattle.esc_frame.proofs.ManyBytes.{tail_is}
@@ -26,10 +26,8 @@ use Rattle.esc_frame.proofs.Given.{refused_stops, stops_for}
 use Rattle.esc_frame.proofs.Streams.{events_append}
 use Rattle.esc_frame.proofs.Still.{opened_still, body_still}
 
-module _ (limit : Option ℕ) (rest : List ℕ) (run : ℕ) (items : List CsiParam) (some : 2
-    < length rest) (e : get_or rest 0 0 ≡ 0x1b) (b : get_or rest 1 0 ≡ 0x5b)
-    (room : run + 2 < length rest) (read : IsShort items (take run (drop 2 rest)))
-    (final : is_from 0x40 0x7e (get_or rest (run + 2) 0) ≡ true) where
+module _ (limit : Option ℕ) (rest : List ℕ) (run : ℕ) (items : List CsiParam)
+    (starts : StartsWithShortCsi items rest run) where
   abbrev body : List ℕ
   body = take run (drop 2 rest)
 
@@ -37,8 +35,9 @@ module _ (limit : Option ℕ) (rest : List ℕ) (run : ℕ) (items : List CsiPar
   short_run : (after_all Ground (take (run + 2) rest) ≡ InCsi (Long []) body)
       × (events_all limit Ground (take (run + 2) rest) ≡ [])
   short_run =
-      let begin = csi_opens limit rest (omega arith) e b in
-      let q = body_quiet limit (Long []) [] body read.body in
+      let begin = csi_opens limit rest (omega (arith, starts.few)) starts.opens.escape
+      starts.opens.second in
+      let q = body_quiet limit (Long []) [] body starts.read.body in
       let back : run + 2 ≡ 2 + run = omega arith in (
         ap (λ n. after_all Ground (take n rest)) back ∙ after_more Ground rest 2 run
             ∙ ap (λ u. after_all u body) begin.0 ∙ q.0,
@@ -50,10 +49,10 @@ module _ (limit : Option ℕ) (rest : List ℕ) (run : ℕ) (items : List CsiPar
       )
 
   low : 0x40 ≤ get_or rest (run + 2) 0
-  low = grind (arith, nat_tests, final)
+  low = grind (arith, nat_tests, starts.ends)
 
   high : get_or rest (run + 2) 0 ≤ 0x7e
-  high = grind (arith, nat_tests, final)
+  high = grind (arith, nat_tests, starts.ends)
 
   three : run + 3 ≡ run + 2 + 1
   three = omega arith
@@ -62,7 +61,7 @@ module _ (limit : Option ℕ) (rest : List ℕ) (run : ℕ) (items : List CsiPar
   short_after =
       ap (λ n. after_all Ground (take n rest)) three
       ∙ quiet_after {S = Unit {0}} limit (λ _ _ _. Unit {0}) (λ _ _ _.
-      Unit {0}) Ground (InCsi (Long []) body) rest (run + 2) _ tt tt short_run room refl
+      Unit {0}) Ground (InCsi (Long []) body) rest (run + 2) _ tt tt short_run starts.few refl
       ∙ ap (λ m. m.0) (final_by limit (Long []) body (get_or rest (run + 2) 0) low high)
 
   -- the event
@@ -71,8 +70,8 @@ module _ (limit : Option ℕ) (rest : List ℕ) (run : ℕ) (items : List CsiPar
       ≡ CsiDispatch items false (get_or rest (run + 2) 0) ∷ []
   short_event =
       ap (λ m. m.1) (final_by limit (Long []) body (get_or rest (run + 2) 0) low high)
-      ∙ ap (λ x. csi_events x (get_or rest (run + 2) 0)) (body_strip [] body read.body)
-      ∙ rw (read.form, sym read.kept, sym read.more) refl
+      ∙ ap (λ x. csi_events x (get_or rest (run + 2) 0)) (body_strip [] body starts.read.body)
+      ∙ rw (starts.read.form, sym starts.read.kept, sym starts.read.more) refl
 
   pub short_given : {S : Type 0} (takes refuses : S → Event → S → Type 0) (old new : S)
       → takes old (CsiDispatch items false (get_or rest (run + 2) 0)) new
@@ -80,7 +79,7 @@ module _ (limit : Option ℕ) (rest : List ℕ) (run : ℕ) (items : List CsiPar
   short_given takes refuses old new h =
       subst (λ n. FoldsTo takes old (events_all limit Ground (take n rest)) new) (sym three)
       (quiet_given limit takes refuses Ground (InCsi (Long []) body) rest (run + 2) _ old new
-      short_run room refl
+      short_run starts.few refl
       (subst (λ es. FoldsTo takes old es new) (sym short_event) (new, h, refl)))
 
   pub short_stops : {S : Type 0} (takes refuses : S → Event → S → Type 0) (old new : S)
@@ -88,17 +87,20 @@ module _ (limit : Option ℕ) (rest : List ℕ) (run : ℕ) (items : List CsiPar
       → StopsAt ⊥ takes refuses old (events_all limit Ground rest) new
   short_stops takes refuses old new h =
       quiet_stopped limit takes refuses Ground (InCsi (Long []) body) rest (run + 2)
-      _ old new short_run room refl ⊥
+      _ old new short_run starts.few refl ⊥
       (subst (λ es. StopsAt ⊥ takes refuses old es new) (sym short_event)
       (refused_stops ⊥ takes refuses old new _ h))
 
   pub short_still : IsStill limit Ground rest (run + 3)
   short_still =
       let back : 2 + (run + 1) ≡ run + 3 = omega arith in
-      subst (IsStill limit Ground rest) back (opened_still limit (InCsi (Long []) []) rest some e
-      (csi_opens limit rest (omega arith) e b) refl (run + 1)
+      subst (IsStill limit Ground rest) back (opened_still limit (InCsi (Long []) []) rest
+      starts.opens.some starts.opens.escape
+      (csi_opens limit rest (omega (arith, starts.few)) starts.opens.escape starts.opens.second)
+      refl (run + 1)
       (body_still limit (Long []) [] (take (length rest - 2) (drop 2 rest)) run
-      (subst (λ y. list_all is_body_byte (take run y) ≡ true) (sym (tail_is rest 2)) read.body)))
+      (subst (λ y. list_all is_body_byte (take run y) ≡ true) (sym (tail_is rest 2))
+      starts.read.body)))
 
 -- what such a call says of the machine in ground
 pub stays_took : {K A S E : Type 0} (keeps : Option ℕ → K → List ℕ → Type 0)

@@ -13,3 +13,4 @@ pub mod Texts
 pub mod Makes
 pub mod Keeping
 pub mod Allowed
+pub mod Taking

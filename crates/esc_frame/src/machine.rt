@@ -14,13 +14,14 @@ ghost use Rattle.esc_frame.specs.Events.{Awaits, Takes};
 ghost use Rattle.esc_frame.specs.Leads.{Unfinished, Holds, kept_open};
 ghost use Rattle.esc_frame.specs.Leads.Unfinished.{Ground};
 ghost use Rattle.esc_frame.specs.Limits.{most};
-ghost use Rattle.esc_frame.specs.Machine.Calls.{Quietly, Fails, is_between};
+ghost use Rattle.esc_frame.specs.Machine.Calls.{Fails, is_between};
 ghost use Rattle.esc_frame.specs.Machine.Prefixes.{prefix_of};
 ghost use Rattle.esc_frame.specs.Machine.Keeping.{Holding};
 ghost use Rattle.esc_frame.specs.Machine.Allowed.{KeptSegment};
 ghost use Rattle.esc_frame.specs.Machine.Makes.{Emits, Makes, Consumes, Advances, StaysReady};
 ghost use Rattle.esc_frame.specs.Machine.Moves.{move, opened, may_grow_in, may_grow_within, after_all, events_all};
 ghost use Rattle.esc_frame.specs.Segments.{Opener};
+ghost use Rattle.esc_frame.specs.Machine.Taking.{InAny, MayTake, TakesIn};
 
 use crate::classes::{Class, Kind, classify};
 use crate::taker::Taker;
@@ -216,12 +217,10 @@ impl<K: Store, A: Allocator> Machine<K, A> {
     #[inline(always)]
     pub fn take_some<V: Taker>(&mut self, rest: &[u8], actor: &mut V) -> Result<usize>
         requires some { 0 < length rest.now }
-        requires ready { V.is_ready actor.old ⊎ KeptSegment K.Store self.old (λ u.
-            Awaits V.may V.takes actor.old (events_all self.old.limit u rest.now)) }
-        ensures took { Holding K.Store self (λ u.
-            Consumes K.Store V.Taker self.old.limit result u rest.now self actor) }
-        ensures quiet { Holding K.Store self (λ u. Quietly self.old.limit result u rest.now) }
-        ensures count { Advances V.Taker result rest.now self actor }
+        requires ready { MayTake V.Taker (KeptSegment K.Store self.old)
+            self.old.limit rest.now actor.old }
+        ensures { TakesIn (Holding K.Store self) (Holding K.Store self)
+            K.Store V.Taker result rest.now self actor }
     {
         match self.state {
             State::Ground => match self.pending {
@@ -248,8 +247,8 @@ impl<K: Store, A: Allocator> Machine<K, A> {
     #[inline(always)]
     fn take<V: Taker>(&mut self, rest: &[u8], actor: &mut V) -> Result<usize>
         requires some { 0 < length rest.now }
-        requires ready { V.is_ready actor.old ⊎ KeptSegment K.Store self.old (λ u.
-            Awaits V.may V.takes actor.old (events_all self.old.limit u rest.now)) }
+        requires ready { MayTake V.Taker (KeptSegment K.Store self.old)
+            self.old.limit rest.now actor.old }
         ensures took { Holding K.Store self (λ u.
             Consumes K.Store V.Taker self.old.limit result u rest.now self actor) }
         ensures count { Advances V.Taker result rest.now self actor }
@@ -270,13 +269,11 @@ impl<K: Store, A: Allocator> Machine<K, A> {
     /// One byte.
     pub fn take_one<V: Taker>(&mut self, rest: &[u8], actor: &mut V) -> Result<usize>
         requires some { 0 < length rest.now }
-        requires ready { V.is_ready actor.old ⊎ KeptSegment K.Store self.old (λ u.
-            Awaits V.may V.takes actor.old (events_all self.old.limit u rest.now)) }
+        requires ready { MayTake V.Taker (KeptSegment K.Store self.old)
+            self.old.limit rest.now actor.old }
         requires between { is_between self.old.state (prefix_of self.old.pending) ≡ true }
-        ensures took { Holding K.Store self (λ u.
-            Consumes K.Store V.Taker self.old.limit result u rest.now self actor) }
-        ensures quiet { (u : Unfinished) → Quietly self.old.limit result u rest.now }
-        ensures count { Advances V.Taker result rest.now self actor }
+        ensures { TakesIn (Holding K.Store self) InAny
+            K.Store V.Taker result rest.now self actor }
     {
         self.step(rest[0], classify(rest[0]), actor)?;
         Ok(1)

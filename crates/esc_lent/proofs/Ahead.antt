@@ -1,12 +1,11 @@
 -- Controls and short control sequences in ground.
-use Rattle.std.proofs.Common.{ℕ, ◌≡◌, ◌+◌, ◌<◌, ◌≢◌, true, false, List, [], ◌∷◌, take, drop, length, get_or, refl, ap, sym, ◌∙◌, subst, Some, None}
+use Rattle.std.proofs.Common.{ℕ, ◌≡◌, ◌+◌, ◌<◌, ◌≢◌, true, false, List, [], ◌∷◌, take, length, get_or, refl, ap, sym, ◌∙◌, subst, Some, None}
 use Rattle.esc_values.specs.declared.csi_param.CsiParam.{CsiParam}
 use Rattle.esc_frame.specs.Events.{Event}
 use Rattle.esc_frame.specs.Events.Event.{CsiDispatch, Execute}
 use Rattle.esc_frame.specs.Leads.Unfinished.{Ground}
 use Rattle.esc_frame.specs.Machine.Moves.{after_all, events_all}
-use Rattle.esc_frame.specs.Machine.Shorts.{IsShort}
-use Rattle.esc_frame.specs.Sequences.{is_from}
+use Rattle.esc_frame.specs.Machine.Taking.{StartsWithShortCsi}
 use Rattle.esc_frame.proofs.ManyBytes.{one_control}
 use Rattle.esc_frame.proofs.ShortRuns.{short_after, short_given}
 use Rattle.esc_lent.specs.declared.event.EscEvent.{EscEvent}
@@ -17,19 +16,17 @@ use Rattle.esc_lent.specs.Emitted.{sent, is_run}
 use Rattle.esc_lent.proofs.Folds.{Adds, all_said}
 use Rattle.esc_lent.proofs.Kept.{ground_only, text_keeps, text_emits}
 
-pub csi_emits : (e : EscEvent) (bytes : List ℕ) (run : ℕ) (items : List CsiParam) → 2 < length bytes
-    → get_or bytes 0 0 ≡ 0x1b → get_or bytes 1 0 ≡ 0x5b
-    → run + 2 < length bytes → IsShort items (take run (drop 2 bytes))
-    → is_from 0x40 0x7e (get_or bytes (run + 2) 0) ≡ true
+pub csi_emits : (e : EscEvent) (bytes : List ℕ) (run : ℕ) (items : List CsiParam)
+    → StartsWithShortCsi items bytes run
     → ((out : List ℕ) → sent e out ≡ CsiDispatch items false (get_or bytes (run + 2) 0) ∷ [])
     → EmitsEvent e (take (run + 3) bytes)
-csi_emits e bytes run items some a b room short final says =
+csi_emits e bytes run items starts says =
     let event : List Event = CsiDispatch items false (get_or bytes (run + 2) 0) ∷ [] in (
-      short_after None bytes run items some a b room short final,
+      short_after None bytes run items starts,
       λ limit out.
           says out ∙ (all_said (λ s. s) (λ s. true) (events_all limit Ground (take (run + 3) bytes))
           [] event
-          (short_given limit bytes run items some a b room short final (Adds (λ s. s) (λ s. true))
+          (short_given limit bytes run items starts (Adds (λ s. s) (λ s. true))
           (λ _ _ _. Unit {0}) [] event (refl, λ h. h))).0,
     )
 

@@ -11,8 +11,9 @@ ghost use Rattle.esc_frame.specs.Machine.Keeping.{Holding, KeepingDcs, KeepingHe
 ghost use Rattle.esc_frame.specs.Machine.Allowed.{KeptDcs, KeptHeader, KeptPassthrough, KeptSegment};
 ghost use Rattle.esc_frame.specs.Machine.Makes.{MayEmit, Emits, Makes, Consumes, Advances, StaysReady};
 ghost use Rattle.esc_frame.specs.Machine.Keeps.{KeepsDcs, parameters_of};
-ghost use Rattle.esc_frame.specs.Machine.Moves.{events_all, emitting, ground_move, move};
+ghost use Rattle.esc_frame.specs.Machine.Moves.{emitting, ground_move, move};
 ghost use Rattle.esc_frame.specs.Segments.{hook_event};
+ghost use Rattle.esc_frame.specs.Machine.Taking.{MayTake};
 
 use crate::classes::Class;
 use crate::machine::{Machine, Result, State};
@@ -95,8 +96,8 @@ impl<K: Store, A: Allocator> Machine<K, A> {
     #[inline(always)]
     pub fn take_in_data<V: Taker>(&mut self, rest: &[u8], actor: &mut V) -> Result<usize>
         requires some { 0 < length rest.now }
-        requires ready { V.is_ready actor.old ⊎ KeptSegment K.Store self.old (λ u.
-            Awaits V.may V.takes actor.old (events_all self.old.limit u rest.now)) }
+        requires ready { MayTake V.Taker (KeptSegment K.Store self.old)
+            self.old.limit rest.now actor.old }
         requires state { self.old.state ≡ State.Data }
         ensures took { Holding K.Store self (λ u.
             Consumes K.Store V.Taker self.old.limit result u rest.now self actor) }

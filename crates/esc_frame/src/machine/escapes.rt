@@ -1,23 +1,21 @@
 //! The machine in escape sequences and control sequences.
 #![tactic(auto)]
 
-ghost use Rattle.std.specs.Prelude.{◌≡◌, ◌⊎◌, ◌≤◌, ◌<◌, ◌++◌, ◌+◌, ℕ, List, Option, None, [], ◌∷◌, length, take, drop, true, false, slice_index, IfOk, OnOk};
+ghost use Rattle.std.specs.Prelude.{◌≡◌, ◌⊎◌, ◌≤◌, ◌<◌, ◌++◌, ◌+◌, ℕ, List, Option, None, [], ◌∷◌, length, take, true, false, slice_index, IfOk, OnOk};
 ghost use Rattle.std.specs.List.{list_all};
 ghost use Rattle.esc_frame.specs.Classes.{class_of};
 ghost use Rattle.esc_frame.specs.Events.Event.{EscDispatch};
-ghost use Rattle.esc_frame.specs.Leads.{Unfinished, Holds};
+ghost use Rattle.esc_frame.specs.Leads.{Holds};
 ghost use Rattle.esc_frame.specs.Leads.Unfinished.{Ground};
-ghost use Rattle.esc_frame.specs.Machine.Calls.{Quietly};
 ghost use Rattle.esc_frame.specs.Machine.Keeping.{Holding, KeepingEscape, KeepingCsi, KeepingCsiAnd, AnyCsi};
 ghost use Rattle.esc_frame.specs.Machine.Allowed.{KeptBody, KeptCsi, KeptCsiAnd, KeptEscape, KeptSegment};
 ghost use Rattle.esc_frame.specs.Events.{Awaits};
-ghost use Rattle.esc_frame.specs.Machine.Makes.{MayEmit, MayEmitAll, Emits, EmitsOne, Makes, Consumes, ConsumesSome, StaysInGround, Advances, StaysReady, StaysAtGround};
+ghost use Rattle.esc_frame.specs.Machine.Makes.{MayEmit, MayEmitAll, Emits, EmitsOne, Makes, Consumes, ConsumesSome, StaysReady};
 ghost use Rattle.esc_frame.specs.Machine.Keeps.{KeepsBody};
-ghost use Rattle.esc_frame.specs.Machine.Shorts.{IsShort};
-ghost use Rattle.esc_frame.specs.Scans.{is_body_byte};
+ghost use Rattle.esc_frame.specs.Scans.{StartsFrom, is_body_byte};
 ghost use Rattle.esc_frame.specs.Machine.Moves.{events_all, move};
 ghost use Rattle.esc_frame.specs.Segments.{csi_events, csi_event};
-ghost use Rattle.esc_frame.specs.Sequences.{is_from};
+ghost use Rattle.esc_frame.specs.Machine.Taking.{TakesInGround, InAny, HasRun, AreAll, OpensCsi, StartsWithShortCsi, MayTake, MayTakeUnder, TakesIn, TakesUnder, TakesSequence};
 
 use crate::classes::{Class, Kind, classify};
 use crate::machine::{Machine, Result, State};
@@ -84,13 +82,11 @@ impl<K: Store, A: Allocator> Machine<K, A> {
     #[inline(always)]
     pub fn take_in_escape<V: Taker>(&mut self, rest: &[u8], actor: &mut V) -> Result<usize>
         requires some { 0 < length rest.now }
-        requires ready { V.is_ready actor.old ⊎ KeptSegment K.Store self.old (λ u.
-            Awaits V.may V.takes actor.old (events_all self.old.limit u rest.now)) }
+        requires ready { MayTake V.Taker (KeptSegment K.Store self.old)
+            self.old.limit rest.now actor.old }
         requires state { self.old.state ≡ State.Escape }
-        ensures took { Holding K.Store self (λ u.
-            Consumes K.Store V.Taker self.old.limit result u rest.now self actor) }
-        ensures quiet { (u : Unfinished) → Quietly self.old.limit result u rest.now }
-        ensures count { Advances V.Taker result rest.now self actor }
+        ensures { TakesIn (Holding K.Store self) InAny
+            K.Store V.Taker result rest.now self actor }
     {
         self.in_escape(rest[0], classify(rest[0]), actor)?;
         Ok(1)
@@ -180,8 +176,7 @@ impl<K: Store, A: Allocator> Machine<K, A> {
         requires escape { slice_index rest.now 0 ≡ 0x1b }
         requires ready { MayEmitAll V.Taker Ground rest.now actor.old }
         requires ground { Holds K.keeps None self.old Ground }
-        ensures ground { StaysAtGround K.Store result self }
-        ensures stays { StaysInGround V.Taker result rest.now actor }
+        ensures { TakesInGround K.Store V.Taker result rest.now self actor }
     {
         if rest.len() <= 2 {
             return Ok(0);
@@ -203,9 +198,7 @@ impl<K: Store, A: Allocator> Machine<K, A> {
     // A control sequence: at once, where it is short and whole in the bytes.
     #[inline(always)]
     fn take_csi<V: Taker>(&mut self, rest: &[u8], actor: &mut V) -> Result<usize>
-        requires some { 2 < length rest.now }
-        requires escape { slice_index rest.now 0 ≡ 0x1b }
-        requires bracket { slice_index rest.now 1 ≡ 0x5b }
+        requires opens { OpensCsi rest.now }
         requires ready { MayEmitAll V.Taker Ground rest.now actor.old }
         ensures { (limit : Option ℕ)
             → ConsumesSome K.Store V.Taker limit result rest.now self actor }
@@ -226,19 +219,11 @@ impl<K: Store, A: Allocator> Machine<K, A> {
     // A control sequence whose parameters were read.
     #[inline(always)]
     fn take_short_csi<V: Taker>(&mut self, rest: &[u8], run: usize, actor: &mut V) -> Result<usize>
-        requires some { 2 < length rest.now }
-        requires escape { slice_index rest.now 0 ≡ 0x1b }
-        requires bracket { slice_index rest.now 1 ≡ 0x5b }
-        requires few { run + 2 < length rest.now }
-        requires read { IsShort (take self.old.short.count self.old.short.items)
-            (take run (drop 2 rest.now)) }
-        requires ends { is_from 0x40 0x7e (slice_index rest.now (run + 2)) ≡ true }
+        requires starts { StartsWithShortCsi (take self.old.short.count self.old.short.items)
+            rest.now run }
         requires ground { Holds K.keeps None self.old Ground }
         requires ready { MayEmitAll V.Taker Ground rest.now actor.old }
-        ensures ground { StaysAtGround K.Store result self }
-        ensures stays { StaysInGround V.Taker result rest.now actor }
-        ensures some { IfOk result (λ n. 0 < n) }
-        ensures quiet { (limit : Option ℕ) → Quietly limit result Ground rest.now }
+        ensures { TakesSequence K.Store V.Taker result rest.now self actor }
     {
         actor.csi_dispatch(self.short.as_slice(), false, rest[run + 2])?;
         Ok(run + 3)
@@ -246,9 +231,7 @@ impl<K: Store, A: Allocator> Machine<K, A> {
 
     // A control sequence, up to its final byte or what else is not of its body.
     fn take_long_csi<V: Taker>(&mut self, rest: &[u8], actor: &mut V) -> Result<usize>
-        requires some { 2 < length rest.now }
-        requires escape { slice_index rest.now 0 ≡ 0x1b }
-        requires bracket { slice_index rest.now 1 ≡ 0x5b }
+        requires opens { OpensCsi rest.now }
         requires ready { MayEmitAll V.Taker Ground rest.now actor.old }
         ensures { (limit : Option ℕ)
             → ConsumesSome K.Store V.Taker limit result rest.now self actor }
@@ -262,13 +245,10 @@ impl<K: Store, A: Allocator> Machine<K, A> {
     #[inline(always)]
     pub fn take_in_csi<V: Taker>(&mut self, rest: &[u8], actor: &mut V) -> Result<usize>
         requires some { 0 < length rest.now }
-        requires ready { V.is_ready actor.old ⊎ KeptCsi self.old (λ limit u.
-            Awaits V.may V.takes actor.old (events_all limit u rest.now)) }
+        requires ready { MayTakeUnder V.Taker (KeptCsi self.old) rest.now actor.old }
         requires state { self.old.state ≡ State.Csi }
-        ensures took { KeepingCsi self (λ limit u.
-            Consumes K.Store V.Taker limit result u rest.now self actor) }
-        ensures quiet { AnyCsi (λ limit u. Quietly limit result u rest.now) }
-        ensures count { Advances V.Taker result rest.now self actor }
+        ensures { TakesUnder (KeepingCsi self) AnyCsi
+            K.Store V.Taker result rest.now self actor }
     {
         let run = push_run(&mut self.body, rest);
         self.take_after_body(rest, run, actor)
@@ -277,16 +257,12 @@ impl<K: Store, A: Allocator> Machine<K, A> {
     // The byte after a run in a control sequence that was kept.
     #[inline(always)]
     fn take_after_body<V: Taker>(&mut self, rest: &[u8], run: usize, actor: &mut V) -> Result<usize>
-        requires some { 0 < length rest.now }
-        requires few { run ≤ length rest.now }
-        requires passes { list_all is_body_byte (take run rest.now) ≡ true }
-        requires ready { V.is_ready actor.old ⊎ KeptCsiAnd (take run rest.now) self.old (λ limit u.
-            Awaits V.may V.takes actor.old (events_all limit u rest.now)) }
+        requires run { HasRun (AreAll is_body_byte) rest.now run }
+        requires ready { MayTakeUnder V.Taker (KeptCsiAnd (take run rest.now) self.old)
+            rest.now actor.old }
         requires state { self.old.state ≡ State.Csi }
-        ensures took { KeepingCsiAnd (take run rest.now) self (λ limit u.
-            Consumes K.Store V.Taker limit result u rest.now self actor) }
-        ensures quiet { AnyCsi (λ limit u. Quietly limit result u rest.now) }
-        ensures count { Advances V.Taker result rest.now self actor }
+        ensures { TakesUnder (KeepingCsiAnd (take run rest.now) self) AnyCsi
+            K.Store V.Taker result rest.now self actor }
     {
         if run == rest.len() {
             return Ok(run);
@@ -347,9 +323,7 @@ fn push_run(body: &mut CsiBody, rest: &[u8]) -> usize
 // Pushes a run of digits, or a byte, and returns its length.
 #[inline(always)]
 fn push_next(body: &mut CsiBody, rest: &[u8]) -> usize
-    requires some { 0 < length rest.now }
-    requires low { 0x20 ≤ slice_index rest.now 0 }
-    requires high { slice_index rest.now 0 ≤ 0x3f }
+    requires starts { StartsFrom 0x20 0x3f rest.now }
     ensures keeps { (x : List ℕ) → KeepsBody body.old x
         → KeepsBody body.new (x ++ take result rest.now) }
     ensures run { list_all is_body_byte (take result rest.now) ≡ true }

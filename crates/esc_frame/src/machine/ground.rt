@@ -6,10 +6,11 @@ ghost use Rattle.esc_frame.specs.Classes.{class_of};
 ghost use Rattle.esc_frame.specs.Leads.{Holds};
 ghost use Rattle.esc_frame.specs.Leads.Unfinished.{Ground, InEscape};
 ghost use Rattle.esc_frame.specs.Machine.Prefixes.{prefix_of};
-ghost use Rattle.esc_frame.specs.Machine.Makes.{MayEmit, MayEmitAll, Makes, AlwaysMakes, Consumes, ConsumesSome, StaysInGround, Advances, StaysReady, StaysAtGround};
+ghost use Rattle.esc_frame.specs.Machine.Makes.{MayEmit, MayEmitAll, Makes, AlwaysMakes, Consumes, ConsumesSome, Advances, StaysReady};
 ghost use Rattle.esc_frame.specs.Machine.Moves.{events_all, emitting, ground_move, pair_move, pending_move};
 ghost use Rattle.esc_frame.specs.Events.Event.{Print};
 ghost use Rattle.esc_frame.specs.Sequences.{outcome, is_sequence};
+ghost use Rattle.esc_frame.specs.Machine.Taking.{TakesInGround};
 
 use crate::classes::{Breaker, Class, classify};
 use crate::machine::{Machine, Result, State};
@@ -78,8 +79,8 @@ impl<K: Store, A: Allocator> Machine<K, A> {
     fn break_in_ground<V: Taker>(&mut self, b: u8, breaker: Breaker, actor: &mut V) -> Result<()>
         requires ready { MayEmit V.Taker
             (ground_move b (Class.Breaks breaker)).1 actor.old }
-        requires ground { self.old.state ≡ State.Ground }
-        requires whole { self.old.pending ≡ Pending.Nothing }
+        requires ground { (self.old.state ≡ State.Ground)
+            × (self.old.pending ≡ Pending.Nothing) }
         ensures moved { AlwaysMakes K.Store V.Taker result
             (ground_move b (Class.Breaks breaker)) self actor }
         ensures ready { StaysReady V.Taker result self actor }
@@ -201,8 +202,7 @@ impl<K: Store, A: Allocator> Machine<K, A> {
     fn take_quick<V: Taker>(&mut self, rest: &[u8], actor: &mut V) -> Result<usize>
         requires ready { MayEmitAll V.Taker Ground rest.now actor.old }
         requires ground { Holds K.keeps None self.old Ground }
-        ensures ground { StaysAtGround K.Store result self }
-        ensures stays { StaysInGround V.Taker result rest.now actor }
+        ensures { TakesInGround K.Store V.Taker result rest.now self actor }
     {
         let mut at = 0;
         while at < rest.len() {
@@ -221,8 +221,7 @@ impl<K: Store, A: Allocator> Machine<K, A> {
         requires some { 0 < length rest.now }
         requires ready { MayEmitAll V.Taker Ground rest.now actor.old }
         requires ground { Holds K.keeps None self.old Ground }
-        ensures ground { StaysAtGround K.Store result self }
-        ensures stays { StaysInGround V.Taker result rest.now actor }
+        ensures { TakesInGround K.Store V.Taker result rest.now self actor }
     {
         if rest[0] >= 0x20 {
             return print_one(rest, actor);

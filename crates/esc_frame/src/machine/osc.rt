@@ -5,16 +5,17 @@ ghost use Rattle.std.specs.Prelude.{◌≡◌, ◌⊎◌, ◌++◌, ◌≤◌, �
 ghost use Rattle.esc_frame.specs.Classes.{class_of};
 ghost use Rattle.esc_frame.specs.Limits.{has_few_parts};
 ghost use Rattle.esc_frame.specs.Leads.Unfinished.{Ground};
-ghost use Rattle.esc_frame.specs.Machine.Calls.{Quietly, Stops};
+ghost use Rattle.esc_frame.specs.Machine.Calls.{Stops};
 ghost use Rattle.esc_frame.specs.Machine.Prefixes.{prefix_of};
-ghost use Rattle.esc_frame.specs.Machine.Keeping.{StoresText, Unborrowed, KeepingText, KeepingOsc, KeepingOscAnd, KeepingOscPending, FreshOsc, AnyOsc};
+ghost use Rattle.esc_frame.specs.Machine.Keeping.{StoresText, KeepingText, KeepingOsc, KeepingOscAnd, KeepingOscPending, FreshOsc, AnyOsc};
 ghost use Rattle.esc_frame.specs.Machine.Allowed.{KeptPieces, KeptOsc, KeptOscAnd, KeptOscPending, KeptText, NewOsc};
 ghost use Rattle.esc_frame.specs.Events.{Awaits};
-ghost use Rattle.esc_frame.specs.Machine.Makes.{MayEmit, Emits, Makes, AlwaysMakes, Consumes, ConsumesSome, Advances, StaysReady};
+ghost use Rattle.esc_frame.specs.Machine.Makes.{MayEmit, Emits, Makes, AlwaysMakes, ConsumesSome, StaysReady};
 ghost use Rattle.esc_frame.specs.Machine.Moves.{events_all, emitting, ground_move, pair_move, osc_pending_move, osc_left, ends_osc, move};
 ghost use Rattle.esc_frame.specs.Machine.TextRuns.{IsTextRun};
 ghost use Rattle.esc_frame.specs.Segments.{Opener, Piece, text_of, osc_events};
 ghost use Rattle.esc_frame.specs.Sequences.{is_from, outcome};
+ghost use Rattle.esc_frame.specs.Machine.Taking.{HasRun, HasEndedRun, HasRunToPair, OpensOsc, IsBetweenUnits, MayTake, Unlent, TakesIn};
 
 use crate::classes::{Class, Kind, classify};
 use crate::machine::{Machine, Result, State};
@@ -131,9 +132,7 @@ impl<K: Store, A: Allocator> Machine<K, A> {
     /// An operating system command, up to its end or what else its text does not keep as it is.
     #[inline(always)]
     pub fn take_osc<V: Taker>(&mut self, rest: &[u8], actor: &mut V) -> Result<usize>
-        requires some { 2 < length rest.now }
-        requires escape { slice_index rest.now 0 ≡ 0x1b }
-        requires bracket { slice_index rest.now 1 ≡ 0x5d }
+        requires opens { OpensOsc rest.now }
         requires ready { MayEmit V.Taker (events_all self.old.limit Ground rest.now) actor.old }
         ensures { ConsumesSome K.Store V.Taker self.old.limit result rest.now self actor }
     {
@@ -146,12 +145,8 @@ impl<K: Store, A: Allocator> Machine<K, A> {
     #[inline(always)]
     fn take_body<V: Taker>(&mut self, rest: &[u8], actor: &mut V) -> Result<usize>
         requires some { 0 < length rest.now }
-        requires ready { V.is_ready actor.old ⊎ NewOsc (λ u.
-            Awaits V.may V.takes actor.old (events_all self.old.limit u rest.now)) }
-        ensures took { FreshOsc (λ u.
-            Consumes K.Store V.Taker self.old.limit result u rest.now self actor) }
-        ensures quiet { AnyOsc (λ u. Quietly self.old.limit result u rest.now) }
-        ensures count { Advances V.Taker result rest.now self actor }
+        requires ready { MayTake V.Taker NewOsc self.old.limit rest.now actor.old }
+        ensures { TakesIn FreshOsc AnyOsc K.Store V.Taker result rest.now self actor }
     {
         let run = units_run(rest);
         if run == rest.len() {
@@ -169,15 +164,10 @@ impl<K: Store, A: Allocator> Machine<K, A> {
 
     // A text that is kept from its first byte on.
     fn keep_body<V: Taker>(&mut self, rest: &[u8], run: usize, actor: &mut V) -> Result<usize>
-        requires some { 0 < length rest.now }
-        requires few { run ≤ length rest.now }
-        requires passes { IsTextRun (take run rest.now) }
-        requires ready { V.is_ready actor.old ⊎ NewOsc (λ u.
-            Awaits V.may V.takes actor.old (events_all self.old.limit u rest.now)) }
-        ensures took { FreshOsc (Unborrowed rest.now (λ u.
-            Consumes K.Store V.Taker self.old.limit result u rest.now self actor)) }
-        ensures quiet { AnyOsc (λ u. Quietly self.old.limit result u rest.now) }
-        ensures count { Advances V.Taker result rest.now self actor }
+        requires run { HasRun IsTextRun rest.now run }
+        requires ready { MayTake V.Taker NewOsc self.old.limit rest.now actor.old }
+        ensures { TakesIn (Unlent rest.now FreshOsc) AnyOsc K.Store V.Taker result rest.now self
+            actor }
     {
         self.open(Kind::Osc);
         self.take_units(rest, run, actor)
@@ -186,15 +176,9 @@ impl<K: Store, A: Allocator> Machine<K, A> {
     // A text, and the byte that ends it.
     #[inline(always)]
     fn take_borrowed<V: Taker>(&mut self, rest: &[u8], run: usize, actor: &mut V) -> Result<usize>
-        requires few { run < length rest.now }
-        requires passes { IsTextRun (take run rest.now) }
-        requires ends { ends_osc (class_of (slice_index rest.now run)) ≡ true }
-        requires ready { V.is_ready actor.old ⊎ NewOsc (λ u.
-            Awaits V.may V.takes actor.old (events_all self.old.limit u rest.now)) }
-        ensures took { FreshOsc (λ u.
-            Consumes K.Store V.Taker self.old.limit result u rest.now self actor) }
-        ensures quiet { AnyOsc (λ u. Quietly self.old.limit result u rest.now) }
-        ensures count { Advances V.Taker result rest.now self actor }
+        requires run { HasEndedRun IsTextRun (λ b. ends_osc (class_of b)) rest.now run }
+        requires ready { MayTake V.Taker NewOsc self.old.limit rest.now actor.old }
+        ensures { TakesIn FreshOsc AnyOsc K.Store V.Taker result rest.now self actor }
     {
         self.end_borrowed(&rest[..run], rest[run], actor)?;
         Ok(run + 1)
@@ -208,16 +192,9 @@ impl<K: Store, A: Allocator> Machine<K, A> {
         run: usize,
         actor: &mut V,
     ) -> Result<usize>
-        requires few { run + 1 < length rest.now }
-        requires passes { IsTextRun (take run rest.now) }
-        requires lead { slice_index rest.now run ≡ 0xc2 }
-        requires control { is_from 0x80 0x9f (slice_index rest.now (run + 1)) ≡ true }
-        requires ready { V.is_ready actor.old ⊎ NewOsc (λ u.
-            Awaits V.may V.takes actor.old (events_all self.old.limit u rest.now)) }
-        ensures took { FreshOsc (λ u.
-            Consumes K.Store V.Taker self.old.limit result u rest.now self actor) }
-        ensures quiet { AnyOsc (λ u. Quietly self.old.limit result u rest.now) }
-        ensures count { Advances V.Taker result rest.now self actor }
+        requires run { HasRunToPair IsTextRun rest.now run }
+        requires ready { MayTake V.Taker NewOsc self.old.limit rest.now actor.old }
+        ensures { TakesIn FreshOsc AnyOsc K.Store V.Taker result rest.now self actor }
     {
         self.end_borrowed_by_pair(&rest[..run], rest[run + 1], actor)?;
         Ok(run + 2)
@@ -268,14 +245,11 @@ impl<K: Store, A: Allocator> Machine<K, A> {
     #[inline(never)]
     pub fn take_in_osc<V: Taker>(&mut self, rest: &[u8], actor: &mut V) -> Result<usize>
         requires some { 0 < length rest.now }
-        requires ready { V.is_ready actor.old ⊎ KeptOsc K.Store self.old (λ u.
-            Awaits V.may V.takes actor.old (events_all self.old.limit u rest.now)) }
-        requires state { self.old.state ≡ State.Osc }
-        requires whole { prefix_of self.old.pending ≡ [] }
-        ensures took { KeepingOsc K.Store self (λ u.
-            Consumes K.Store V.Taker self.old.limit result u rest.now self actor) }
-        ensures quiet { AnyOsc (λ u. Quietly self.old.limit result u rest.now) }
-        ensures count { Advances V.Taker result rest.now self actor }
+        requires ready { MayTake V.Taker (KeptOsc K.Store self.old) self.old.limit rest.now
+            actor.old }
+        requires state { IsBetweenUnits self.old }
+        ensures { TakesIn (KeepingOsc K.Store self) AnyOsc
+            K.Store V.Taker result rest.now self actor }
     {
         if self.text.is_new() {
             return self.take_body(rest, actor);
@@ -287,17 +261,12 @@ impl<K: Store, A: Allocator> Machine<K, A> {
     // A run of units, which is kept, and the byte after them.
     #[inline(always)]
     fn take_units<V: Taker>(&mut self, rest: &[u8], run: usize, actor: &mut V) -> Result<usize>
-        requires some { 0 < length rest.now }
-        requires few { run ≤ length rest.now }
-        requires passes { IsTextRun (take run rest.now) }
-        requires ready { V.is_ready actor.old ⊎ KeptOsc K.Store self.old (λ u.
-            Awaits V.may V.takes actor.old (events_all self.old.limit u rest.now)) }
-        requires state { self.old.state ≡ State.Osc }
-        requires whole { prefix_of self.old.pending ≡ [] }
-        ensures took { KeepingOsc K.Store self (Unborrowed rest.now (λ u.
-            Consumes K.Store V.Taker self.old.limit result u rest.now self actor)) }
-        ensures quiet { AnyOsc (λ u. Quietly self.old.limit result u rest.now) }
-        ensures count { Advances V.Taker result rest.now self actor }
+        requires run { HasRun IsTextRun rest.now run }
+        requires ready { MayTake V.Taker (KeptOsc K.Store self.old) self.old.limit rest.now
+            actor.old }
+        requires state { IsBetweenUnits self.old }
+        ensures { TakesIn (Unlent rest.now (KeepingOsc K.Store self)) AnyOsc
+            K.Store V.Taker result rest.now self actor }
     {
         self.text.push(self.limit, &rest[..run])?;
         self.take_after_text(rest, run, actor)
@@ -306,19 +275,12 @@ impl<K: Store, A: Allocator> Machine<K, A> {
     // The byte after units of an operating system command that were kept.
     #[inline(always)]
     fn take_after_text<V: Taker>(&mut self, rest: &[u8], run: usize, actor: &mut V) -> Result<usize>
-        requires some { 0 < length rest.now }
-        requires few { run ≤ length rest.now }
-        requires passes { IsTextRun (take run rest.now) }
-        requires ready { V.is_ready actor.old ⊎ KeptOscAnd K.Store
-            (take run rest.now) self.old (λ u.
-            Awaits V.may V.takes actor.old (events_all self.old.limit u rest.now)) }
-        requires state { self.old.state ≡ State.Osc }
-        requires whole { prefix_of self.old.pending ≡ [] }
-        ensures took { KeepingOscAnd K.Store (take run rest.now) self
-            (Unborrowed rest.now (λ u.
-            Consumes K.Store V.Taker self.old.limit result u rest.now self actor)) }
-        ensures quiet { AnyOsc (λ u. Quietly self.old.limit result u rest.now) }
-        ensures count { Advances V.Taker result rest.now self actor }
+        requires run { HasRun IsTextRun rest.now run }
+        requires ready { MayTake V.Taker (KeptOscAnd K.Store (take run rest.now) self.old)
+            self.old.limit rest.now actor.old }
+        requires state { IsBetweenUnits self.old }
+        ensures { TakesIn (Unlent rest.now (KeepingOscAnd K.Store (take run rest.now) self)) AnyOsc
+            K.Store V.Taker result rest.now self actor }
     {
         if run == rest.len() {
             return Ok(run);

@@ -2,17 +2,16 @@
 //! device control strings whose header has another form.
 #![tactic(auto)]
 
-ghost use Rattle.std.specs.Prelude.{◌≡◌, ◌⊎◌, ◌++◌, [], cond, ◌≤◌, ◌<◌, Bool, true, false, length, take, slice_index, OnOk};
-ghost use Rattle.std.specs.List.{list_all};
+ghost use Rattle.std.specs.Prelude.{◌≡◌, ◌⊎◌, ◌++◌, [], cond, ◌≤◌, ◌<◌, Bool, true, false, length, take, OnOk};
 ghost use Rattle.esc_frame.specs.Classes.{class_of, is_breaker};
-ghost use Rattle.esc_frame.specs.Machine.Calls.{Quietly};
-ghost use Rattle.esc_frame.specs.Machine.Keeping.{Holding, Unborrowed, KeepingText, KeepingApc, KeepingApcAnd, FreshApc, AnyApc, InDcsIgnore, InIgnoredString};
+ghost use Rattle.esc_frame.specs.Machine.Keeping.{Holding, KeepingText, KeepingApc, KeepingApcAnd, FreshApc, AnyApc, InDcsIgnore, InIgnoredString};
 ghost use Rattle.esc_frame.specs.Machine.Allowed.{KeptApc, KeptApcAnd, KeptSegment, KeptText, NewApc};
 ghost use Rattle.esc_frame.specs.Events.{Awaits};
-ghost use Rattle.esc_frame.specs.Machine.Makes.{MayEmit, Emits, Makes, Consumes, Advances, StaysReady};
-ghost use Rattle.esc_frame.specs.Machine.Moves.{events_all, emitting, ground_move, move};
+ghost use Rattle.esc_frame.specs.Machine.Makes.{MayEmit, Emits, Makes, StaysReady};
+ghost use Rattle.esc_frame.specs.Machine.Moves.{emitting, ground_move, move};
 ghost use Rattle.esc_frame.specs.Scans.{is_text_byte};
 ghost use Rattle.esc_frame.specs.Segments.{apc_events};
+ghost use Rattle.esc_frame.specs.Machine.Taking.{HasRun, AreAll, HasEndedRun, MayTake, Unlent, TakesIn};
 
 use crate::classes::{Class, classify};
 use crate::machine::{Machine, Result, State};
@@ -86,13 +85,11 @@ impl<K: Store, A: Allocator> Machine<K, A> {
     #[inline(always)]
     pub fn take_in_apc<V: Taker>(&mut self, rest: &[u8], actor: &mut V) -> Result<usize>
         requires some { 0 < length rest.now }
-        requires ready { V.is_ready actor.old ⊎ KeptApc K.Store self.old (λ u.
-            Awaits V.may V.takes actor.old (events_all self.old.limit u rest.now)) }
+        requires ready { MayTake V.Taker (KeptApc K.Store self.old) self.old.limit rest.now
+            actor.old }
         requires state { self.old.state ≡ State.Apc }
-        ensures took { KeepingApc K.Store self (λ u.
-            Consumes K.Store V.Taker self.old.limit result u rest.now self actor) }
-        ensures quiet { AnyApc (λ u. Quietly self.old.limit result u rest.now) }
-        ensures count { Advances V.Taker result rest.now self actor }
+        ensures { TakesIn (KeepingApc K.Store self) AnyApc
+            K.Store V.Taker result rest.now self actor }
     {
         let run = ascii_run(rest);
         if run == rest.len() {
@@ -110,16 +107,12 @@ impl<K: Store, A: Allocator> Machine<K, A> {
 
     // A run in an application program command, which is kept, and the byte after it.
     fn keep_apc<V: Taker>(&mut self, rest: &[u8], run: usize, actor: &mut V) -> Result<usize>
-        requires some { 0 < length rest.now }
-        requires few { run ≤ length rest.now }
-        requires passes { list_all is_text_byte (take run rest.now) ≡ true }
-        requires ready { V.is_ready actor.old ⊎ KeptApc K.Store self.old (λ u.
-            Awaits V.may V.takes actor.old (events_all self.old.limit u rest.now)) }
+        requires run { HasRun (AreAll is_text_byte) rest.now run }
+        requires ready { MayTake V.Taker (KeptApc K.Store self.old) self.old.limit rest.now
+            actor.old }
         requires state { self.old.state ≡ State.Apc }
-        ensures took { KeepingApc K.Store self (Unborrowed rest.now (λ u.
-            Consumes K.Store V.Taker self.old.limit result u rest.now self actor)) }
-        ensures quiet { AnyApc (λ u. Quietly self.old.limit result u rest.now) }
-        ensures count { Advances V.Taker result rest.now self actor }
+        ensures { TakesIn (Unlent rest.now (KeepingApc K.Store self)) AnyApc
+            K.Store V.Taker result rest.now self actor }
     {
         self.text.push(self.limit, &rest[..run])?;
         self.take_after_apc(rest, run, actor)
@@ -128,18 +121,12 @@ impl<K: Store, A: Allocator> Machine<K, A> {
     // The byte after a run in an application program command that was kept.
     #[inline(always)]
     fn take_after_apc<V: Taker>(&mut self, rest: &[u8], run: usize, actor: &mut V) -> Result<usize>
-        requires some { 0 < length rest.now }
-        requires few { run ≤ length rest.now }
-        requires passes { list_all is_text_byte (take run rest.now) ≡ true }
-        requires ready { V.is_ready actor.old ⊎ KeptApcAnd K.Store
-            (take run rest.now) self.old (λ u.
-            Awaits V.may V.takes actor.old (events_all self.old.limit u rest.now)) }
+        requires run { HasRun (AreAll is_text_byte) rest.now run }
+        requires ready { MayTake V.Taker (KeptApcAnd K.Store (take run rest.now) self.old)
+            self.old.limit rest.now actor.old }
         requires state { self.old.state ≡ State.Apc }
-        ensures took { KeepingApcAnd K.Store (take run rest.now) self
-            (Unborrowed rest.now (λ u.
-            Consumes K.Store V.Taker self.old.limit result u rest.now self actor)) }
-        ensures quiet { AnyApc (λ u. Quietly self.old.limit result u rest.now) }
-        ensures count { Advances V.Taker result rest.now self actor }
+        ensures { TakesIn (Unlent rest.now (KeepingApcAnd K.Store (take run rest.now) self)) AnyApc
+            K.Store V.Taker result rest.now self actor }
     {
         if run == rest.len() {
             return Ok(run);
@@ -156,15 +143,10 @@ impl<K: Store, A: Allocator> Machine<K, A> {
         run: usize,
         actor: &mut V,
     ) -> Result<usize>
-        requires few { run < length rest.now }
-        requires passes { list_all is_text_byte (take run rest.now) ≡ true }
-        requires ends { is_breaker (class_of (slice_index rest.now run)) ≡ true }
-        requires ready { V.is_ready actor.old ⊎ NewApc (λ u.
-            Awaits V.may V.takes actor.old (events_all self.old.limit u rest.now)) }
-        ensures took { FreshApc (λ u.
-            Consumes K.Store V.Taker self.old.limit result u rest.now self actor) }
-        ensures quiet { AnyApc (λ u. Quietly self.old.limit result u rest.now) }
-        ensures count { Advances V.Taker result rest.now self actor }
+        requires run { HasEndedRun (AreAll is_text_byte) (λ b. is_breaker (class_of b)) rest.now
+            run }
+        requires ready { MayTake V.Taker NewApc self.old.limit rest.now actor.old }
+        ensures { TakesIn FreshApc AnyApc K.Store V.Taker result rest.now self actor }
     {
         self.end_borrowed_apc(&rest[..run], rest[run], actor)?;
         Ok(run + 1)
@@ -188,13 +170,11 @@ impl<K: Store, A: Allocator> Machine<K, A> {
     #[inline(always)]
     pub fn take_in_ignored<V: Taker>(&mut self, rest: &[u8], actor: &mut V) -> Result<usize>
         requires some { 0 < length rest.now }
-        requires ready { V.is_ready actor.old ⊎ KeptSegment K.Store self.old (λ u.
-            Awaits V.may V.takes actor.old (events_all self.old.limit u rest.now)) }
+        requires ready { MayTake V.Taker (KeptSegment K.Store self.old)
+            self.old.limit rest.now actor.old }
         requires state { self.old.state ≡ State.Ignored }
-        ensures took { Holding K.Store self (λ u.
-            Consumes K.Store V.Taker self.old.limit result u rest.now self actor) }
-        ensures quiet { Holding K.Store self (λ u. Quietly self.old.limit result u rest.now) }
-        ensures count { Advances V.Taker result rest.now self actor }
+        ensures { TakesIn (Holding K.Store self) (Holding K.Store self)
+            K.Store V.Taker result rest.now self actor }
     {
         let run = ascii_run(rest);
         if run == 0 {

@@ -8,6 +8,7 @@ ghost use Rattle.esc_frame.specs.Machine.Characters.{IsAhead};
 ghost use Rattle.esc_frame.specs.Leads.Unfinished.{Ground};
 ghost use Rattle.esc_frame.specs.Machine.Makes.{MayEmitAll, StaysInGround};
 ghost use Rattle.esc_frame.specs.Machine.Moves.{IsStill};
+ghost use Rattle.esc_frame.specs.Scans.{StartsFrom};
 
 use crate::machine::Result;
 use crate::runs::scans::{ascii_run, free_run};
@@ -298,9 +299,7 @@ fn print_lone<V: Taker>(rest: &[u8], actor: &mut V) -> Result<usize>
 
 #[inline(always)]
 fn print_text<V: Taker>(rest: &[u8], actor: &mut V) -> Result<usize>
-    requires some { 0 < length rest.now }
-    requires low { 0x20 ≤ slice_index rest.now 0 }
-    requires high { slice_index rest.now 0 < 0x80 }
+    requires starts { StartsFrom 0x20 0x7f rest.now }
     requires ready { MayEmitAll V.Taker Ground rest.now actor.old }
     ensures { StaysInGround V.Taker result rest.now actor }
 {

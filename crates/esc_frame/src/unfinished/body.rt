@@ -1,10 +1,11 @@
 //! The body of a control sequence, byte by byte.
 #![tactic(auto)]
 
-ghost use Rattle.std.specs.Prelude.{◌≡◌, ◌<◌, ◌≤◌, ◌++◌, true, length, take, ℕ, List, [], ◌∷◌, slice_index};
+ghost use Rattle.std.specs.Prelude.{◌≡◌, ◌<◌, ◌≤◌, ◌++◌, true, length, take, ℕ, List, [], ◌∷◌};
 ghost use Rattle.std.specs.List.{list_all};
 ghost use Rattle.esc_frame.specs.Bodies.{is_digit, is_private_prefix, is_csi_parameter, is_intermediate_byte, is_csi_body, kept_csi_params, has_more_csi_params};
 ghost use Rattle.esc_frame.specs.Machine.Keeps.{KeepsBody, next_form, is_formed};
+ghost use Rattle.esc_frame.specs.Scans.{StartsWithDigit};
 
 use crate::unfinished::csi_params::Params;
 use crate::utf8::sequence::lies_from;
@@ -124,9 +125,7 @@ impl CsiBody {
     /// Takes the run of digits that comes first, at least one, and returns its length.
     #[inline(always)]
     pub fn push_digits(&mut self, bytes: &[u8]) -> usize
-        requires some { 0 < length bytes.now }
-        requires low { 0x30 ≤ slice_index bytes.now 0 }
-        requires high { slice_index bytes.now 0 ≤ 0x39 }
+        requires digit { StartsWithDigit bytes.now }
         ensures count { (0 < result) × (result ≤ length bytes.now) }
         ensures digits { list_all is_digit (take result bytes.now) ≡ true }
         ensures keeps { (x : List ℕ) → KeepsBody self.old x

@@ -1,9 +1,10 @@
 //! The parameters of a control sequence, byte by byte.
 #![tactic(auto)]
 
-ghost use Rattle.std.specs.Prelude.{◌≡◌, ◌++◌, ◌<◌, ◌≤◌, ◌-◌, ◌+◌, ◌*◌, ℕ, List, [], ◌∷◌, take, length, Option, true, false, slice_index};
+ghost use Rattle.std.specs.Prelude.{◌≡◌, ◌++◌, ◌<◌, ◌≤◌, ◌-◌, ◌+◌, ◌*◌, ℕ, List, [], ◌∷◌, take, length, Option, true, false};
 ghost use Rattle.std.specs.List.{list_all};
 ghost use Rattle.esc_frame.specs.Bodies.{held, is_digit, kept_csi_params, has_more_csi_params};
+ghost use Rattle.esc_frame.specs.Scans.{StartsWithDigit};
 
 use crate::unfinished::param_list::ParamList;
 use esc_values::csi_param::CsiParam;
@@ -91,9 +92,7 @@ impl Params {
     /// Takes the run of digits that comes first, at least one, and returns its length.
     #[inline(always)]
     pub fn push_digits(&mut self, bytes: &[u8]) -> usize
-        requires some { 0 < length bytes.now }
-        requires low { 0x30 ≤ slice_index bytes.now 0 }
-        requires high { slice_index bytes.now 0 ≤ 0x39 }
+        requires digit { StartsWithDigit bytes.now }
         ensures count { (0 < result) × (result ≤ length bytes.now) }
         ensures digits { list_all is_digit (take result bytes.now) ≡ true }
         ensures keeps { (x : List ℕ) → KeepsEntries self.old x
@@ -125,9 +124,9 @@ impl Params {
         requires high { b ≤ 0x39 }
         ensures number { (o : Option ℕ) → IsNumber self.old o
             → IsNumber self.new (next_number_of o b) }
-        ensures items { self.new.items ≡ self.old.items }
-        ensures truncated { self.new.is_truncated ≡ self.old.is_truncated }
-        ensures limit { self.new.limit ≡ self.old.limit }
+        ensures others { (self.new.items ≡ self.old.items)
+            × (self.new.is_truncated ≡ self.old.is_truncated)
+            × (self.new.limit ≡ self.old.limit) }
     {
         if self.is_open {
             self.number = next_number(self.number, b - b'0');

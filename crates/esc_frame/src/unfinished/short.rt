@@ -1,10 +1,9 @@
 //! The bodies of control sequences that are short, read at once.
 #![tactic(auto)]
 
-ghost use Rattle.std.specs.Prelude.{◌≡◌, ◌<◌, ◌≤◌, ◌+◌, ◌-◌, ◌++◌, true, false, ℕ, List, [], ◌∷◌, length, take, slice_index, pos};
-ghost use Rattle.std.specs.List.{list_all};
-ghost use Rattle.esc_frame.specs.Bodies.{is_digit, held, value_after};
-ghost use Rattle.esc_frame.specs.Machine.Shorts.{IsAfter, IsPrefix, IsShort};
+ghost use Rattle.std.specs.Prelude.{◌≡◌, ◌<◌, ◌≤◌, ◌+◌, ◌-◌, ◌++◌, true, false, ℕ, List, [], ◌∷◌, length, take, pos};
+ghost use Rattle.esc_frame.specs.Machine.Shorts.{ReadsNumber, IsAfter, IsPrefix, IsShort};
+ghost use Rattle.esc_frame.specs.Scans.{StartsWithDigit};
 
 use crate::unfinished::csi_params::next_number;
 use crate::utf8::sequence::lies_from;
@@ -22,13 +21,8 @@ pub struct Short {
 // numbers have at most three.
 #[inline(always)]
 fn read_number(rest: &[u8]) -> (u64, usize)
-    requires some { 0 < length rest.now }
-    requires low { 0x30 ≤ slice_index rest.now 0 }
-    requires high { slice_index rest.now 0 ≤ 0x39 }
-    ensures count { (0 < result.1) × (result.1 ≤ length rest.now) }
-    ensures digits { list_all is_digit (take result.1 rest.now) ≡ true }
-    ensures value { result.0 ≡ held (value_after 0 (take result.1 rest.now)) }
-    ensures small { result.0 ≤ 0x7fff_ffff_ffff_ffff }
+    requires digit { StartsWithDigit rest.now }
+    ensures { ReadsNumber result.0 result.1 rest.now }
 {
     if rest.len() < 4 {
         return read_any_number(rest);
@@ -51,13 +45,8 @@ fn read_number(rest: &[u8]) -> (u64, usize)
 // The same for any number of digits, out of the way of the code for few.
 #[inline(never)]
 fn read_any_number(rest: &[u8]) -> (u64, usize)
-    requires some { 0 < length rest.now }
-    requires low { 0x30 ≤ slice_index rest.now 0 }
-    requires high { slice_index rest.now 0 ≤ 0x39 }
-    ensures count { (0 < result.1) × (result.1 ≤ length rest.now) }
-    ensures digits { list_all is_digit (take result.1 rest.now) ≡ true }
-    ensures value { result.0 ≡ held (value_after 0 (take result.1 rest.now)) }
-    ensures small { result.0 ≤ 0x7fff_ffff_ffff_ffff }
+    requires digit { StartsWithDigit rest.now }
+    ensures { ReadsNumber result.0 result.1 rest.now }
 {
     let mut number = next_number(0, rest[0] - b'0');
     let mut end = 1;
@@ -111,9 +100,7 @@ impl Short {
     #[inline(always)]
     fn push_number(&mut self, rest: &[u8]) -> usize
         requires room { self.old.count < 32 }
-        requires some { 0 < length rest.now }
-        requires low { 0x30 ≤ slice_index rest.now 0 }
-        requires high { slice_index rest.now 0 ≤ 0x39 }
+        requires digit { StartsWithDigit rest.now }
         ensures count { (0 < result) × (result ≤ length rest.now) }
         ensures csi_params { self.new.count ≡ self.old.count + 1 }
         ensures keeps { (x : List ℕ) → IsPrefix (take self.old.count self.old.items) x

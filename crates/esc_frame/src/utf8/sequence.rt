@@ -2,7 +2,7 @@
 #![tactic(auto)]
 
 ghost use Rattle.std.specs.Prelude.{◌≡◌, ◌++◌, ℕ, List, [], ◌∷◌, ◌-◌, ◌*◌, ◌+◌, ◌≤◌, if◌then◌else◌, true, OnOk, OnErr, ◌<◌, false, length};
-ghost use Rattle.esc_frame.specs.Sequences.{is_from, is_second, is_sequence, is_prefix, is_pair, outcome, number_of};
+ghost use Rattle.esc_frame.specs.Sequences.{IsTail, is_from, is_second, is_sequence, is_prefix, is_pair, outcome, number_of};
 ghost use Rattle.esc_frame.specs.Machine.Characters.{IsAhead, IsCharacter, NoneAhead};
 ghost use Rattle.esc_frame.specs.Machine.Prefixes.{prefix_of};
 
@@ -147,8 +147,7 @@ impl Pending {
 fn two(a: u8, b: u8) -> char
     requires first { 0xc2 ≤ a }
     requires last { a ≤ 0xdf }
-    requires low { 0x80 ≤ b }
-    requires high { b ≤ 0xbf }
+    requires second { IsTail b }
     ensures { result ≡ (a - 0xc0) * 64 + (b - 0x80) }
 {
     match char::from_u32((a as u32 - 0xc0) * 64 + (b as u32 - 0x80)) {
@@ -161,8 +160,7 @@ fn two(a: u8, b: u8) -> char
 fn three(a: u8, b: u8, c: u8) -> char
     requires first { is_from 0xe0 0xef a ≡ true }
     requires second { is_second a b ≡ true }
-    requires low { 0x80 ≤ c }
-    requires high { c ≤ 0xbf }
+    requires third { IsTail c }
     ensures { result ≡ (a - 0xe0) * 4096 + (b - 0x80) * 64 + (c - 0x80) }
 {
     match char::from_u32((a as u32 - 0xe0) * 4096 + (b as u32 - 0x80) * 64 + (c as u32 - 0x80)) {
@@ -175,10 +173,8 @@ fn three(a: u8, b: u8, c: u8) -> char
 fn four(a: u8, b: u8, c: u8, d: u8) -> char
     requires first { is_from 0xf0 0xf4 a ≡ true }
     requires second { is_second a b ≡ true }
-    requires third_low { 0x80 ≤ c }
-    requires third_high { c ≤ 0xbf }
-    requires low { 0x80 ≤ d }
-    requires high { d ≤ 0xbf }
+    requires third { IsTail c }
+    requires fourth { IsTail d }
     ensures { result ≡ (a - 0xf0) * 262144 + (b - 0x80) * 4096 + (c - 0x80) * 64 + (d - 0x80) }
 {
     match char::from_u32(

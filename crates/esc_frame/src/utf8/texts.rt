@@ -3,6 +3,7 @@
 
 ghost use Rattle.std.specs.Prelude.{◌<◌, ◌≤◌, length, slice_index};
 ghost use Rattle.esc_frame.specs.Machine.Texts.{IsClearText, IsNext};
+ghost use Rattle.esc_frame.specs.Scans.{StartsFrom};
 
 /// The character that comes first, and how many bytes it takes.
 #[inline(always)]
@@ -26,9 +27,7 @@ pub fn first_of(text: &[u8]) -> (char, usize)
 // The character of two bytes that comes first.
 #[inline(always)]
 fn two_of(text: &[u8]) -> char
-    requires some { 0 < length text.now }
-    requires low { 0x80 ≤ slice_index text.now 0 }
-    requires high { slice_index text.now 0 < 0xe0 }
+    requires starts { StartsFrom 0x80 0xdf text.now }
     requires clear { IsClearText text.now }
     ensures { IsNext text.now result 2 }
 {
@@ -39,9 +38,7 @@ fn two_of(text: &[u8]) -> char
 // The character of three bytes that comes first.
 #[inline(always)]
 fn three_of(text: &[u8]) -> char
-    requires some { 0 < length text.now }
-    requires low { 0xe0 ≤ slice_index text.now 0 }
-    requires high { slice_index text.now 0 < 0xf0 }
+    requires starts { StartsFrom 0xe0 0xef text.now }
     requires clear { IsClearText text.now }
     ensures { IsNext text.now result 3 }
 {

@@ -3,6 +3,7 @@ use Rattle.std.proofs.lemmas.Bool.Decides.{nat_tests}
 use Rattle.std.proofs.lemmas.List.{take_rest, get_or-drop}
 use Rattle.esc_frame.specs.Events.Event.{CsiDispatch}
 use Rattle.esc_frame.specs.Machine.Shorts.{IsShort}
+use Rattle.esc_frame.specs.Machine.Taking.{StartsWithShortCsi}
 use Rattle.esc_frame.specs.Sequences.{is_from}
 use Rattle.esc_frame.proofs.ManyBytes.{tail_length}
 use Rattle.esc_lent.specs.Emitted.{param_of}
@@ -32,8 +33,16 @@ returns-then-lies_from-clause-notes c = record {
       let same : get_or bs (run + 2) 0 ≡ body.after =
       ap (λ n. get_or bs n 0) (sym back) ∙ sym (get_or-drop 2 bs run 0)
       ∙ ap (λ y. get_or y run 0) (sym (take_rest bs 2)) ∙ after.1 in
-      csi_emits c.end_csi.new.event bs run items (omega arith) c.requires.escape
-      c.if-bytes-ne91.false
-      room read (ap (is_from 0x40 0x7e) same ∙ final)
+      let starts : StartsWithShortCsi items bs run = record {
+        opens = record {
+          some = omega arith;
+          escape = c.requires.escape;
+          second = c.if-bytes-ne91.false;
+        };
+        few = room;
+        read = read;
+        ends = ap (is_from 0x40 0x7e) same ∙ final;
+      } in
+      csi_emits c.end_csi.new.event bs run items starts
       (λ out. c.end_csi.ensures.said out ∙ ap (λ b. CsiDispatch items false b ∷ []) (sym same));
 }

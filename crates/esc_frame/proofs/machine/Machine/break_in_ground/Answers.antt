@@ -23,5 +23,5 @@ returns-in-Cancel-clause-moved g c = λ limit own.
     limit own g.V.Taker.takes g.V.Taker.refuses
     c.execute_c0_or_c1.result c.args.b (Breaks c.args.breaker)
     c.args.self.now c.args.actor.now
-    c.execute_c0_or_c1.new.self (c.requires.ground, ap prefix_of c.requires.whole) t
+    c.execute_c0_or_c1.new.self (c.requires.ground.0, ap prefix_of c.requires.ground.1) t
     c.execute_c0_or_c1.ensures.receives

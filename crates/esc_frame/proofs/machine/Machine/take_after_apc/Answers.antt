@@ -1,4 +1,4 @@
-use Rattle.std.proofs.Common.{◌+◌, ◌++◌, take, refl, sym, subst, arith}
+use Rattle.std.proofs.Common.{rules, ◌+◌, ◌++◌, take, refl, sym, subst, arith}
 use Rattle.esc_frame.specs.Leads.Unfinished.{InApc}
 use Rattle.esc_frame.proofs.Borrows.{unborrowed_fresh}
 use Rattle.esc_frame.proofs.QuietRuns.{quiet_took, quiet_stops}
@@ -9,58 +9,64 @@ use Rattle.esc_frame.proofs.Awaited.{next_awaited}
 use Rattle.esc_frame.proofs.Failed.{error_of}
 use Rattle.esc_frame.proofs.machine.Machine.take_after_apc.Goals as goal
 
-pub returns-then-run-rest-clause-took : goal.returns-then-run-rest-clause-took
-returns-then-run-rest-clause-took g c = λ o d k not_borrowed.
-    let xs = take c.args.run c.args.rest.now in
-    let q = apc_text c.args.self.now.limit o d xs c.requires.passes in
-    let fresh = unborrowed_fresh (InApc o d) c.args.rest.now c.args.run not_borrowed in (
-      rw q.0 (
-        c.requires.state,
-        subst (g.K.Store.keeps c.args.self.now.limit c.args.self.now.text)
-            (sym (apc_kept d xs c.requires.passes)) k,
-      ),
-      rw q.1 refl,
-      fresh,
-    )
+pub returns-then-run-rest : goal.returns-then-run-rest
+returns-then-run-rest g c = record {
+  took = λ o d k not_borrowed.
+      let xs = take c.args.run c.args.rest.now in
+      let q = apc_text c.args.self.now.limit o d xs c.requires.run.passes in
+      let fresh = unborrowed_fresh (InApc o d) c.args.rest.now c.args.run not_borrowed in (
+        rw q.0 (
+          c.requires.state,
+          subst (g.K.Store.keeps c.args.self.now.limit c.args.self.now.text)
+              (sym (apc_kept d xs c.requires.run.passes)) k,
+        ),
+        rw q.1 refl,
+        fresh,
+      );
+  quiet = λ o d.
+      less_still c.args.self.now.limit (InApc o d) c.args.rest.now c.args.run (c.args.run + 1)
+      (omega arith)
+      (apc_end_still c.args.self.now.limit o d c.args.rest.now c.args.run c.requires.run.passes);
+  count = search rules;
+}
 
-pub returns-clause-took : goal.returns-clause-took
-returns-clause-took g c = λ o d k not_borrowed.
-    let xs = take c.args.run c.args.rest.now in
-    quiet_took c.args.self.now.limit g.V.Taker.takes g.V.Taker.refuses (InApc o d)
-    (InApc o (d ++ xs))
-    c.args.rest.now c.args.run _ c.args.actor.now
-    c.in_apc.new.actor
-    (apc_text c.args.self.now.limit o d xs c.requires.passes) (omega arith) c.classify.ensures
-    g.K.Store.keeps c.in_apc.new.self
-    (unborrowed_fresh (InApc o d) c.args.rest.now (c.args.run + 1) not_borrowed)
-    (c.in_ok-in_apc.ensures.moved c.classify.ensures o (d ++ xs)
-    (subst (g.K.Store.keeps c.args.self.now.limit c.args.self.now.text)
-    (sym (apc_kept d xs c.requires.passes)) k))
+pub returns : goal.returns
+returns g c = record {
+  took = λ o d k not_borrowed.
+      let xs = take c.args.run c.args.rest.now in
+      quiet_took c.args.self.now.limit g.V.Taker.takes g.V.Taker.refuses (InApc o d)
+      (InApc o (d ++ xs))
+      c.args.rest.now c.args.run _ c.args.actor.now
+      c.in_apc.new.actor
+      (apc_text c.args.self.now.limit o d xs c.requires.run.passes) (omega arith) c.classify.ensures
+      g.K.Store.keeps c.in_apc.new.self
+      (unborrowed_fresh (InApc o d) c.args.rest.now (c.args.run + 1) not_borrowed)
+      (c.in_ok-in_apc.ensures.moved c.classify.ensures o (d ++ xs)
+      (subst (g.K.Store.keeps c.args.self.now.limit c.args.self.now.text)
+      (sym (apc_kept d xs c.requires.run.passes)) k));
+  quiet = λ o d. apc_end_still c.args.self.now.limit o d c.args.rest.now c.args.run
+      c.requires.run.passes;
+  count = search rules;
+}
 
-pub returns-in_err-in_apc-clause-took : goal.returns-in_err-in_apc-clause-took
-returns-in_err-in_apc-clause-took g c = λ o d k not_borrowed.
-    rw (error_of c.from_residual.result c.from_residual.ensures.0).1
-    (let xs = take c.args.run c.args.rest.now in
-    quiet_stops c.args.self.now.limit g.V.Taker.takes g.V.Taker.refuses (InApc o d)
-    (InApc o (d ++ xs))
-    c.args.rest.now c.args.run _ c.args.actor.now
-    c.in_apc.new.actor
-    (apc_text c.args.self.now.limit o d xs c.requires.passes) (omega arith) c.classify.ensures
-    (λ may.
-    not_borrowed)
-    (c.in_err-in_apc.ensures.moved c.classify.ensures o (d ++ xs)
-    (subst (g.K.Store.keeps c.args.self.now.limit c.args.self.now.text)
-    (sym (apc_kept d xs c.requires.passes)) k)))
-
-pub returns-then-run-rest-clause-quiet : goal.returns-then-run-rest-clause-quiet
-returns-then-run-rest-clause-quiet g c = λ o d.
-    less_still c.args.self.now.limit (InApc o d) c.args.rest.now c.args.run (c.args.run + 1)
-    (omega arith)
-    (apc_end_still c.args.self.now.limit o d c.args.rest.now c.args.run c.requires.passes)
-
-pub returns-clause-quiet : goal.returns-clause-quiet
-returns-clause-quiet g c =
-    λ o d. apc_end_still c.args.self.now.limit o d c.args.rest.now c.args.run c.requires.passes
+pub returns-in_err-in_apc : goal.returns-in_err-in_apc
+returns-in_err-in_apc g c = record {
+  took = λ o d k not_borrowed.
+      rw (error_of c.from_residual.result c.from_residual.ensures.0).1
+      (let xs = take c.args.run c.args.rest.now in
+      quiet_stops c.args.self.now.limit g.V.Taker.takes g.V.Taker.refuses (InApc o d)
+      (InApc o (d ++ xs))
+      c.args.rest.now c.args.run _ c.args.actor.now
+      c.in_apc.new.actor
+      (apc_text c.args.self.now.limit o d xs c.requires.run.passes) (omega arith) c.classify.ensures
+      (λ may.
+      not_borrowed)
+      (c.in_err-in_apc.ensures.moved c.classify.ensures o (d ++ xs)
+      (subst (g.K.Store.keeps c.args.self.now.limit c.args.self.now.text)
+      (sym (apc_kept d xs c.requires.run.passes)) k)));
+  quiet = search rules;
+  count = search rules;
+}
 
 pub in_apc-requires : goal.in_apc-requires
 in_apc-requires g c =
@@ -69,9 +75,9 @@ in_apc-requires g c =
       w.0,
       w.1 ++ xs,
       subst (g.K.Store.keeps c.args.self.now.limit c.args.self.now.text)
-          (sym (apc_kept w.1 xs c.requires.passes)) w.2,
+          (sym (apc_kept w.1 xs c.requires.run.passes)) w.2,
       next_awaited g.V.Taker.may g.V.Taker.takes c.args.self.now.limit (InApc w.0 w.1) (InApc w.0
           (w.1 ++ xs)) c.args.rest.now c.args.run _
-          (apc_text c.args.self.now.limit w.0 w.1 xs c.requires.passes) (omega arith)
+          (apc_text c.args.self.now.limit w.0 w.1 xs c.requires.run.passes) (omega arith)
           c.classify.ensures w.3,
     )) c.requires.ready

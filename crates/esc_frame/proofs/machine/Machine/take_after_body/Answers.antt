@@ -1,4 +1,4 @@
-use Rattle.std.proofs.Common.{ℕ, ◌+◌, ◌++◌, List, take, refl, sym, ap, subst, arith}
+use Rattle.std.proofs.Common.{rules, ℕ, ◌+◌, ◌++◌, List, take, refl, sym, ap, subst, arith}
 use Rattle.esc_frame.specs.Leads.Unfinished.{InCsi}
 use Rattle.esc_frame.specs.Machine.Keeps.{KeepsBody}
 use Rattle.esc_frame.specs.Machine.Moves.{is_fresh}
@@ -10,48 +10,52 @@ use Rattle.esc_frame.proofs.Awaited.{next_awaited}
 use Rattle.esc_frame.proofs.Failed.{error_of}
 use Rattle.esc_frame.proofs.machine.Machine.take_after_body.Goals as goal
 
-pub returns-then-run-rest-clause-took : goal.returns-then-run-rest-clause-took
-returns-then-run-rest-clause-took g c = λ limit o x k.
-    let xs : List ℕ = take c.args.run c.args.rest.now in
-    let q = body_quiet limit o x xs c.requires.passes in (
-      rw q.0 (
-        c.requires.state,
-        subst (KeepsBody c.args.self.now.body) (sym (body_strip x xs c.requires.passes)) k,
-      ),
-      rw q.1 refl,
-      λ l. ap is_fresh q.0,
-    )
+pub returns-then-run-rest : goal.returns-then-run-rest
+returns-then-run-rest g c = record {
+  took = λ limit o x k.
+      let xs : List ℕ = take c.args.run c.args.rest.now in
+      let q = body_quiet limit o x xs c.requires.run.passes in (
+        rw q.0 (
+          c.requires.state,
+          subst (KeepsBody c.args.self.now.body) (sym (body_strip x xs c.requires.run.passes)) k,
+        ),
+        rw q.1 refl,
+        λ l. ap is_fresh q.0,
+      );
+  quiet = λ limit o x. less_still limit (InCsi o x) c.args.rest.now c.args.run (c.args.run + 1)
+      (omega arith)
+      (body_still limit o x c.args.rest.now c.args.run c.requires.run.passes);
+  count = search rules;
+}
 
-pub returns-clause-took : goal.returns-clause-took
-returns-clause-took g c = λ limit o x k.
-    let xs : List ℕ = take c.args.run c.args.rest.now in
-    quiet_took limit g.V.Taker.takes g.V.Taker.refuses (InCsi o x) (InCsi o (x ++ xs))
-    c.args.rest.now c.args.run _ c.args.actor.now c.end_body.new.actor
-    (body_quiet limit o x xs c.requires.passes) (omega arith) refl g.K.Store.keeps
-    c.end_body.new.self
-    (body_fresh o x c.args.rest.now c.args.run c.requires.passes (omega arith))
-    (c.in_ok-end_body.ensures.moved limit o (x ++ xs)
-    (subst (KeepsBody c.args.self.now.body) (sym (body_strip x xs c.requires.passes)) k))
+pub returns : goal.returns
+returns g c = record {
+  took = λ limit o x k.
+      let xs : List ℕ = take c.args.run c.args.rest.now in
+      quiet_took limit g.V.Taker.takes g.V.Taker.refuses (InCsi o x) (InCsi o (x ++ xs))
+      c.args.rest.now c.args.run _ c.args.actor.now c.end_body.new.actor
+      (body_quiet limit o x xs c.requires.run.passes) (omega arith) refl g.K.Store.keeps
+      c.end_body.new.self
+      (body_fresh o x c.args.rest.now c.args.run c.requires.run.passes (omega arith))
+      (c.in_ok-end_body.ensures.moved limit o (x ++ xs)
+      (subst (KeepsBody c.args.self.now.body) (sym (body_strip x xs c.requires.run.passes)) k));
+  quiet = λ limit o x. body_still limit o x c.args.rest.now c.args.run c.requires.run.passes;
+  count = search rules;
+}
 
-pub returns-in_err-end_body-clause-took : goal.returns-in_err-end_body-clause-took
-returns-in_err-end_body-clause-took g c = λ limit o x k.
-    rw (error_of c.from_residual.result c.from_residual.ensures.0).1
-    (let xs : List ℕ = take c.args.run c.args.rest.now in
-    quiet_stops limit g.V.Taker.takes g.V.Taker.refuses (InCsi o x) (InCsi o (x ++ xs))
-    c.args.rest.now c.args.run _ c.args.actor.now c.end_body.new.actor
-    (body_quiet limit o x xs c.requires.passes) (omega arith) refl (λ may. absurd cc)
-    (c.in_err-end_body.ensures.moved limit o (x ++ xs)
-    (subst (KeepsBody c.args.self.now.body) (sym (body_strip x xs c.requires.passes)) k)))
-
-pub returns-then-run-rest-clause-quiet : goal.returns-then-run-rest-clause-quiet
-returns-then-run-rest-clause-quiet g c =
-    λ limit o x. less_still limit (InCsi o x) c.args.rest.now c.args.run (c.args.run + 1)
-    (omega arith)
-    (body_still limit o x c.args.rest.now c.args.run c.requires.passes)
-
-pub returns-clause-quiet : goal.returns-clause-quiet
-returns-clause-quiet g c =
-    λ limit o x. body_still limit o x c.args.rest.now c.args.run c.requires.passes
+pub returns-in_err-end_body : goal.returns-in_err-end_body
+returns-in_err-end_body g c = record {
+  took = λ limit o x k.
+      rw (error_of c.from_residual.result c.from_residual.ensures.0).1
+      (let xs : List ℕ = take c.args.run c.args.rest.now in
+      quiet_stops limit g.V.Taker.takes g.V.Taker.refuses (InCsi o x) (InCsi o (x ++ xs))
+      c.args.rest.now c.args.run _ c.args.actor.now c.end_body.new.actor
+      (body_quiet limit o x xs c.requires.run.passes) (omega arith) refl (λ may. absurd cc)
+      (c.in_err-end_body.ensures.moved limit o (x ++ xs)
+      (subst (KeepsBody c.args.self.now.body) (sym (body_strip x xs c.requires.run.passes)) k)));
+  quiet = search rules;
+  count = search rules;
+}
 
 pub end_body-requires : goal.end_body-requires
 end_body-requires g c =
@@ -60,8 +64,9 @@ end_body-requires g c =
       w.0,
       w.1,
       w.2 ++ xs,
-      subst (KeepsBody c.args.self.now.body) (sym (body_strip w.2 xs c.requires.passes)) w.3,
+      subst (KeepsBody c.args.self.now.body) (sym (body_strip w.2 xs c.requires.run.passes)) w.3,
       next_awaited g.V.Taker.may g.V.Taker.takes w.0 (InCsi w.1 w.2) (InCsi w.1 (w.2 ++ xs))
-          c.args.rest.now c.args.run _ (body_quiet w.0 w.1 w.2 xs c.requires.passes) (omega arith)
+          c.args.rest.now c.args.run _ (body_quiet w.0 w.1 w.2 xs c.requires.run.passes) (omega
+          arith)
           refl w.4,
     )) c.requires.ready

@@ -1,4 +1,4 @@
-use Rattle.std.proofs.Common.{true, false, ◌≡◌, take, get_or, refl}
+use Rattle.std.proofs.Common.{rules, true, false, ◌≡◌, take, get_or, refl}
 use Rattle.std.specs.List.{FoldsTo}
 use Rattle.esc_frame.specs.Events.{StopsAt, Awaits}
 use Rattle.esc_frame.specs.Leads.{Holds}
@@ -14,35 +14,43 @@ use Rattle.esc_frame.proofs.States.{escape_only}
 use Rattle.esc_frame.proofs.Failed.{error_of}
 use Rattle.esc_frame.proofs.machine.Machine.take_in_escape.Goals as goal
 
-pub returns-clause-took : goal.returns-clause-took
-returns-clause-took g c = λ u h.
-    escape_only g.K.Store.keeps c.args.self.now.limit c.args.self.now u c.requires.state h
-    (λ v. Holds g.K.Store.keeps c.args.self.now.limit c.in_escape.new.self
-    (after_all v (take 1 c.args.rest.now))
-    × FoldsTo g.V.Taker.takes c.args.actor.now
-    (events_all c.args.self.now.limit v (take 1 c.args.rest.now))
-    c.in_escape.new.actor × StaysFresh v c.args.rest.now 1)
-    (λ x k. quiet_took c.args.self.now.limit g.V.Taker.takes g.V.Taker.refuses (InEscape x)
-    (InEscape x)
-    c.args.rest.now 0 _ c.args.actor.now _ (refl, refl)
-    c.requires.some c.classify.ensures
-    g.K.Store.keeps c.in_escape.new.self (one_fresh (InEscape x) c.args.rest.now refl)
-    (c.in_ok-in_escape.ensures.moved c.classify.ensures c.args.self.now.limit false x k.1))
+pub returns : goal.returns
+returns g c = record {
+  took = λ u h.
+      escape_only g.K.Store.keeps c.args.self.now.limit c.args.self.now u c.requires.state h
+      (λ v. Holds g.K.Store.keeps c.args.self.now.limit c.in_escape.new.self
+      (after_all v (take 1 c.args.rest.now))
+      × FoldsTo g.V.Taker.takes c.args.actor.now
+      (events_all c.args.self.now.limit v (take 1 c.args.rest.now))
+      c.in_escape.new.actor × StaysFresh v c.args.rest.now 1)
+      (λ x k. quiet_took c.args.self.now.limit g.V.Taker.takes g.V.Taker.refuses (InEscape x)
+      (InEscape x)
+      c.args.rest.now 0 _ c.args.actor.now _ (refl, refl)
+      c.requires.some c.classify.ensures
+      g.K.Store.keeps c.in_escape.new.self (one_fresh (InEscape x) c.args.rest.now refl)
+      (c.in_ok-in_escape.ensures.moved c.classify.ensures c.args.self.now.limit false x k.1));
+  quiet = search rules;
+  count = search rules;
+}
 
-pub returns-in_err-in_escape-clause-took : goal.returns-in_err-in_escape-clause-took
-returns-in_err-in_escape-clause-took g c = λ u h.
-    rw (error_of c.from_residual.result c.from_residual.ensures.0).1
-    (escape_only g.K.Store.keeps c.args.self.now.limit c.args.self.now u c.requires.state h
-    (λ v. StopsAt ((may_grow_within v c.args.rest.now ≡ true)
-    × Fails g.K.Store.denied g.V.Taker.stops g.row.A.Denot c.args.self.now.limit)
-    g.V.Taker.takes g.V.Taker.refuses c.args.actor.now
-    (events_all c.args.self.now.limit v c.args.rest.now)
-    c.in_escape.new.actor)
-    (λ x k. quiet_stops c.args.self.now.limit g.V.Taker.takes g.V.Taker.refuses (InEscape x)
-    (InEscape x)
-    c.args.rest.now 0 _ c.args.actor.now _ (refl, refl)
-    c.requires.some c.classify.ensures (one_unborrowed (InEscape x) c.args.rest.now refl)
-    (c.in_err-in_escape.ensures.moved c.classify.ensures c.args.self.now.limit false x k.1)))
+pub returns-in_err-in_escape : goal.returns-in_err-in_escape
+returns-in_err-in_escape g c = record {
+  took = λ u h.
+      rw (error_of c.from_residual.result c.from_residual.ensures.0).1
+      (escape_only g.K.Store.keeps c.args.self.now.limit c.args.self.now u c.requires.state h
+      (λ v. StopsAt ((may_grow_within v c.args.rest.now ≡ true)
+      × Fails g.K.Store.denied g.V.Taker.stops g.row.A.Denot c.args.self.now.limit)
+      g.V.Taker.takes g.V.Taker.refuses c.args.actor.now
+      (events_all c.args.self.now.limit v c.args.rest.now)
+      c.in_escape.new.actor)
+      (λ x k. quiet_stops c.args.self.now.limit g.V.Taker.takes g.V.Taker.refuses (InEscape x)
+      (InEscape x)
+      c.args.rest.now 0 _ c.args.actor.now _ (refl, refl)
+      c.requires.some c.classify.ensures (one_unborrowed (InEscape x) c.args.rest.now refl)
+      (c.in_err-in_escape.ensures.moved c.classify.ensures c.args.self.now.limit false x k.1)));
+  quiet = search rules;
+  count = search rules;
+}
 
 pub in_escape-requires : goal.in_escape-requires
 in_escape-requires g c =

@@ -1,27 +1,28 @@
-use Rattle.std.proofs.Common.{take, refl}
+use Rattle.std.proofs.Common.{rules, take, refl}
 use Rattle.esc_frame.proofs.QuietRuns.{quiet_folds}
 use Rattle.esc_frame.proofs.StringRuns.{skip_holds, prefix_passes}
 use Rattle.esc_frame.proofs.States.{skip_fresh}
 use Rattle.esc_frame.proofs.Still.{skip_still}
 use Rattle.esc_frame.proofs.machine.Machine.take_in_ignored.Goals as goal
 
-pub returns-clause-took : goal.returns-clause-took
-returns-clause-took g c = λ u h.
-    let q = skip_holds g.K.Store.keeps c.args.self.now.limit c.args.self.now
-    (take c.ascii_run-run.result c.args.rest.now)
-    (prefix_passes c.args.rest.now c.ascii_run-run.result c.ascii_run-run.ensures.run) u
-    c.requires.state h in (
-      q.0,
-      quiet_folds g.V.Taker.takes _ c.args.actor.now q.1,
-      skip_fresh g.K.Store.keeps c.args.self.now.limit c.args.self.now u c.args.rest.now
-          c.ascii_run-run.result c.requires.state h,
-    )
-
-pub returns-clause-quiet : goal.returns-clause-quiet
-returns-clause-quiet g c = λ u h.
-    skip_still g.K.Store.keeps c.args.self.now.limit c.args.self.now u c.args.rest.now
-    c.ascii_run-run.result
-    c.ascii_run-run.ensures.run h c.requires.state
+pub returns : goal.returns
+returns g c = record {
+  took = λ u h.
+      let q = skip_holds g.K.Store.keeps c.args.self.now.limit c.args.self.now
+      (take c.ascii_run-run.result c.args.rest.now)
+      (prefix_passes c.args.rest.now c.ascii_run-run.result c.ascii_run-run.ensures.run) u
+      c.requires.state h in (
+        q.0,
+        quiet_folds g.V.Taker.takes _ c.args.actor.now q.1,
+        skip_fresh g.K.Store.keeps c.args.self.now.limit c.args.self.now u c.args.rest.now
+            c.ascii_run-run.result c.requires.state h,
+      );
+  quiet = λ u h.
+      skip_still g.K.Store.keeps c.args.self.now.limit c.args.self.now u c.args.rest.now
+      c.ascii_run-run.result
+      c.ascii_run-run.ensures.run h c.requires.state;
+  count = search rules;
+}
 
 pub take_one-requires-clause-between : goal.take_one-requires-clause-between
 take_one-requires-clause-between g c = rw c.requires.state refl

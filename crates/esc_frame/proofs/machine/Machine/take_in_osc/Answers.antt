@@ -1,18 +1,26 @@
-use Rattle.std.proofs.Common.{◌∙◌, ◌&&◌, ap, sym}
+use Rattle.std.proofs.Common.{rules, ◌∙◌, ◌&&◌, ap, sym}
 use Rattle.esc_frame.specs.Leads.Unfinished.{InOsc}
 use Rattle.esc_frame.specs.Machine.Moves.{borrows}
 use Rattle.esc_frame.specs.Segments.{text_of}
 use Rattle.esc_frame.proofs.KeptStrings.{empty_is}
 use Rattle.esc_frame.proofs.machine.Machine.take_in_osc.Goals as goal
 
-pub returns-then-is_new-clause-took : goal.returns-then-is_new-clause-took
-returns-then-is_new-clause-took g c = λ o ps k.
-    c.take_body.ensures.took o ps
-    (empty_is (text_of ps) (sym (c.is_new.ensures c.args.self.now.limit (text_of ps) k)
-    ∙ c.if-is_new.true))
+pub returns-then-is_new : goal.returns-then-is_new
+returns-then-is_new g c = record {
+  took = λ o ps k.
+      c.take_body.ensures.took o ps
+      (empty_is (text_of ps) (sym (c.is_new.ensures c.args.self.now.limit (text_of ps) k)
+      ∙ c.if-is_new.true));
+  quiet = search rules;
+  count = search rules;
+}
 
-pub returns-clause-took : goal.returns-clause-took
-returns-clause-took g c = λ o ps k.
-    c.take_units.ensures.took o ps k
-    (ap (λ t. t && borrows (InOsc o ps) c.args.rest.now)
-    (sym (c.is_new.ensures c.args.self.now.limit (text_of ps) k) ∙ c.if-is_new.false))
+pub returns : goal.returns
+returns g c = record {
+  took = λ o ps k.
+      c.take_units.ensures.took o ps k
+      (ap (λ t. t && borrows (InOsc o ps) c.args.rest.now)
+      (sym (c.is_new.ensures c.args.self.now.limit (text_of ps) k) ∙ c.if-is_new.false));
+  quiet = search rules;
+  count = search rules;
+}

@@ -18,8 +18,10 @@ take_in_csi-requires-clause-state g c = (c.open.ensures.holds None (Long [])).0
 pub returns : goal.returns
 returns g c = λ limit.
     let count = c.in_ok-n.ensures.count in
-    opened_took limit (InCsi (Long []) []) c.args.rest.now c.requires.some c.requires.escape
-    (csi_opens limit c.args.rest.now (omega arith) c.requires.escape c.requires.bracket) refl
+    opened_took limit (InCsi (Long []) []) c.args.rest.now c.requires.opens.some
+    c.requires.opens.escape
+    (csi_opens limit c.args.rest.now (omega arith) c.requires.opens.escape c.requires.opens.second)
+    refl
     g.V.Taker.takes g.V.Taker.refuses g.V.Taker.is_ready
     c.args.actor.now c.take_in_csi.new.actor (opened_fresh kind.Csi (Long []))
     g.K.Store.keeps (Fails g.K.Store.denied g.V.Taker.stops g.row.A.Denot)
@@ -31,8 +33,10 @@ returns g c = λ limit.
 pub returns-in_err-n : goal.returns-in_err-n
 returns-in_err-n g c = λ limit.
     rw (error_of c.from_residual.result c.from_residual.ensures.0).1 (
-      opened_stops limit (InCsi (Long []) []) c.args.rest.now c.requires.some c.requires.escape
-          (csi_opens limit c.args.rest.now (omega arith) c.requires.escape c.requires.bracket) refl
+      opened_stops limit (InCsi (Long []) []) c.args.rest.now c.requires.opens.some
+          c.requires.opens.escape
+          (csi_opens limit c.args.rest.now (omega arith) c.requires.opens.escape
+          c.requires.opens.second) refl
           g.V.Taker.takes g.V.Taker.refuses g.V.Taker.is_ready
           c.args.actor.now c.take_in_csi.new.actor (opened_fresh kind.Csi (Long []))
           (c.in_err-n.ensures.took limit (Long []) [] (c.open.ensures.holds limit (Long [])).1),
@@ -48,5 +52,6 @@ take_in_csi-requires-clause-ready g c =
       [],
       (c.open.ensures.holds w.0 (Long [])).1,
       rest_awaited g.V.Taker.may g.V.Taker.takes w.0 Ground (InCsi (Long []) []) c.args.rest.now 2
-          _ (csi_opens w.0 c.args.rest.now (omega arith) c.requires.escape c.requires.bracket) w.1,
+          _ (csi_opens w.0 c.args.rest.now (omega arith) c.requires.opens.escape
+          c.requires.opens.second) w.1,
     )) c.requires.ready

@@ -1,4 +1,4 @@
-use Rattle.std.proofs.Common.{refl}
+use Rattle.std.proofs.Common.{rules, refl}
 use Rattle.esc_frame.proofs.Borrows.{one_fresh, one_unborrowed}
 use Rattle.esc_frame.proofs.QuietRuns.{quiet_took, quiet_stops}
 use Rattle.esc_frame.proofs.States.{no_string}
@@ -7,25 +7,34 @@ use Rattle.esc_frame.proofs.Awaited.{next_awaited}
 use Rattle.esc_frame.proofs.Failed.{error_of}
 use Rattle.esc_frame.proofs.machine.Machine.take_one.Goals as goal
 
-pub returns-clause-took : goal.returns-clause-took
-returns-clause-took g c = λ u h.
-    quiet_took c.args.self.now.limit g.V.Taker.takes g.V.Taker.refuses u u c.args.rest.now 0 _
-    c.args.actor.now _ (refl, refl) c.requires.some c.classify.ensures
-    g.K.Store.keeps c.step.new.self
-    (one_fresh u c.args.rest.now (no_string g.K.Store.keeps c.args.self.now.limit c.args.self.now u
-    h
-    c.requires.between))
-    (c.in_ok-step.ensures.moved c.classify.ensures u h)
+pub returns : goal.returns
+returns g c = record {
+  took = λ u h.
+      quiet_took c.args.self.now.limit g.V.Taker.takes g.V.Taker.refuses u u c.args.rest.now 0 _
+      c.args.actor.now _ (refl, refl) c.requires.some c.classify.ensures
+      g.K.Store.keeps c.step.new.self
+      (one_fresh u c.args.rest.now (no_string g.K.Store.keeps c.args.self.now.limit c.args.self.now
+      u
+      h
+      c.requires.between))
+      (c.in_ok-step.ensures.moved c.classify.ensures u h);
+  quiet = search rules;
+  count = search rules;
+}
 
-pub returns-in_err-step-clause-took : goal.returns-in_err-step-clause-took
-returns-in_err-step-clause-took g c = λ u h.
-    rw (error_of c.from_residual.result c.from_residual.ensures.0).1
-    (quiet_stops c.args.self.now.limit g.V.Taker.takes g.V.Taker.refuses u u c.args.rest.now 0 _
-    c.args.actor.now _ (refl, refl) c.requires.some c.classify.ensures
-    (one_unborrowed u c.args.rest.now (no_string g.K.Store.keeps c.args.self.now.limit
-    c.args.self.now u h
-    c.requires.between))
-    (c.in_err-step.ensures.moved c.classify.ensures u h))
+pub returns-in_err-step : goal.returns-in_err-step
+returns-in_err-step g c = record {
+  took = λ u h.
+      rw (error_of c.from_residual.result c.from_residual.ensures.0).1
+      (quiet_stops c.args.self.now.limit g.V.Taker.takes g.V.Taker.refuses u u c.args.rest.now 0 _
+      c.args.actor.now _ (refl, refl) c.requires.some c.classify.ensures
+      (one_unborrowed u c.args.rest.now (no_string g.K.Store.keeps c.args.self.now.limit
+      c.args.self.now u h
+      c.requires.between))
+      (c.in_err-step.ensures.moved c.classify.ensures u h));
+  quiet = search rules;
+  count = search rules;
+}
 
 pub step-requires : goal.step-requires
 step-requires g c =

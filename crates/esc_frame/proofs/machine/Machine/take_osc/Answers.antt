@@ -14,10 +14,10 @@ use Rattle.esc_frame.proofs.machine.Machine.take_osc.Goals as goal
 
 pub returns : goal.returns
 returns g c =
-    opened_took c.args.self.now.limit (InOsc (Long []) []) c.args.rest.now c.requires.some
-    c.requires.escape
-    (osc_opens c.args.self.now.limit c.args.rest.now (omega arith) c.requires.escape
-    c.requires.bracket) refl
+    opened_took c.args.self.now.limit (InOsc (Long []) []) c.args.rest.now c.requires.opens.some
+    c.requires.opens.escape
+    (osc_opens c.args.self.now.limit c.args.rest.now (omega arith) c.requires.opens.escape
+    c.requires.opens.second) refl
     g.V.Taker.takes g.V.Taker.refuses g.V.Taker.is_ready
     c.args.actor.now c.take_body.new.actor (opened_fresh kind.Osc (Long []))
     g.K.Store.keeps (Fails g.K.Store.denied g.V.Taker.stops g.row.A.Denot)
@@ -28,10 +28,10 @@ returns g c =
 pub returns-in_err-n : goal.returns-in_err-n
 returns-in_err-n g c =
     rw (error_of c.from_residual.result c.from_residual.ensures.0).1 (
-      opened_stops c.args.self.now.limit (InOsc (Long []) []) c.args.rest.now c.requires.some
-          c.requires.escape
-          (osc_opens c.args.self.now.limit c.args.rest.now (omega arith) c.requires.escape
-          c.requires.bracket) refl g.V.Taker.takes g.V.Taker.refuses
+      opened_stops c.args.self.now.limit (InOsc (Long []) []) c.args.rest.now c.requires.opens.some
+          c.requires.opens.escape
+          (osc_opens c.args.self.now.limit c.args.rest.now (omega arith) c.requires.opens.escape
+          c.requires.opens.second) refl g.V.Taker.takes g.V.Taker.refuses
           g.V.Taker.is_ready
           c.args.actor.now c.take_body.new.actor (opened_fresh kind.Osc (Long []))
           (c.in_err-n.ensures.took (Long []) [] refl),
@@ -47,6 +47,6 @@ take_body-requires-clause-ready g c =
       refl,
       rest_awaited g.V.Taker.may g.V.Taker.takes c.args.self.now.limit Ground (InOsc (Long []) [])
           c.args.rest.now 2 _
-          (osc_opens c.args.self.now.limit c.args.rest.now (omega arith) c.requires.escape
-          c.requires.bracket) w,
+          (osc_opens c.args.self.now.limit c.args.rest.now (omega arith) c.requires.opens.escape
+          c.requires.opens.second) w,
     )) c.requires.ready

@@ -11,18 +11,22 @@ loop-at-preserved g c = let ground = c.in-Ok.ensures.ground in (
   (ground.0, ground.1 ∙ c.loop-at.invariant.1.1),
 )
 
-pub returns-in-Err-clause-stays : goal.returns-in-Err-clause-stays
-returns-in-Err-clause-stays g c =
-    ran_refused g.V.Taker.takes g.V.Taker.refuses g.V.Taker.is_ready c.args.rest.now
-    c.loop-at.at c.args.actor.now
-    _ _ c.loop-at.invariant.0 c.in-Err.ensures.stays
+pub returns-in-Err : goal.returns-in-Err
+returns-in-Err g c = record {
+  ground = search rules;
+  stays = ran_refused g.V.Taker.takes g.V.Taker.refuses g.V.Taker.is_ready c.args.rest.now
+      c.loop-at.at c.args.actor.now
+      _ _ c.loop-at.invariant.0 c.in-Err.ensures.stays;
+}
 
-pub returns-in-Ok-eq0-clause-stays : goal.returns-in-Ok-eq0-clause-stays
-returns-in-Ok-eq0-clause-stays g c =
-    let none : c.in-Ok-eq0.field-0 ≡ 0 = search rules in
-    ran_none g.V.Taker.takes g.V.Taker.refuses g.V.Taker.is_ready c.args.rest.now c.loop-at.at
-    c.in-Ok-eq0.field-0 c.args.actor.now _ _ none
-    c.loop-at.invariant.0 c.in-Ok-eq0.ensures.stays
+pub returns-in-Ok-eq0 : goal.returns-in-Ok-eq0
+returns-in-Ok-eq0 g c = record {
+  ground = search rules;
+  stays = let none : c.in-Ok-eq0.field-0 ≡ 0 = search rules in
+      ran_none g.V.Taker.takes g.V.Taker.refuses g.V.Taker.is_ready c.args.rest.now c.loop-at.at
+      c.in-Ok-eq0.field-0 c.args.actor.now _ _ none
+      c.loop-at.invariant.0 c.in-Ok-eq0.ensures.stays;
+}
 
 pub take_quick_one-requires-clause-ready : goal.take_quick_one-requires-clause-ready
 take_quick_one-requires-clause-ready g c =

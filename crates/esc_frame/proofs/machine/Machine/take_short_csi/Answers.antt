@@ -1,4 +1,4 @@
-use Rattle.std.proofs.Common.{◌+◌, ◌⊎◌, false, get_or, refl, subst, sym, arith, None, List, []}
+use Rattle.std.proofs.Common.{rules, ◌+◌, ◌⊎◌, false, get_or, refl, subst, sym, arith, None, List, []}
 use Rattle.esc_values.specs.declared.csi_param.CsiParam.{CsiParam}
 use Rattle.esc_frame.specs.Events.{Event}
 use Rattle.esc_frame.specs.Events.Event.{CsiDispatch}
@@ -8,38 +8,39 @@ use Rattle.esc_frame.proofs.ShortRuns.{short_after, short_given, short_stops, sh
 use Rattle.esc_frame.proofs.Failed.{error_of}
 use Rattle.esc_frame.proofs.machine.Machine.take_short_csi.Goals as goal
 
-pub returns-clause-stays : goal.returns-clause-stays
-returns-clause-stays g c = (
-  omega arith,
-  short_after None c.args.rest.now c.args.run _ c.requires.some c.requires.escape c.requires.bracket
-      c.requires.few c.requires.read c.requires.ends,
-  λ limit. short_given limit c.args.rest.now c.args.run _ c.requires.some c.requires.escape
-      c.requires.bracket c.requires.few c.requires.read c.requires.ends
+pub returns : goal.returns
+returns g c = record {
+  ground = search rules;
+  stays = (
+    omega arith,
+    short_after None c.args.rest.now c.args.run _ c.requires.starts,
+    λ limit. short_given limit c.args.rest.now c.args.run _ c.requires.starts
+        g.V.Taker.takes g.V.Taker.refuses c.args.actor.now c.csi_dispatch.new.self
+        (subst (λ es.
+        g.V.Taker.takes c.args.actor.now
+        (CsiDispatch es false (get_or c.args.rest.now (c.args.run + 2) 0))
+        c.csi_dispatch.new.self)
+        c.as_slice.ensures c.in_ok-csi_dispatch.ensures.receives),
+    c.in_ok-csi_dispatch.ensures.ready,
+  );
+  some = search rules;
+  quiet = λ limit.
+      short_still limit c.args.rest.now c.args.run _ c.requires.starts;
+}
+
+pub returns-in_err-csi_dispatch : goal.returns-in_err-csi_dispatch
+returns-in_err-csi_dispatch g c = record {
+  ground = search rules;
+  stays = rw (error_of c.from_residual.result c.from_residual.ensures.0).1
+      (λ limit. short_stops limit c.args.rest.now c.args.run _ c.requires.starts
       g.V.Taker.takes g.V.Taker.refuses c.args.actor.now c.csi_dispatch.new.self
       (subst (λ es.
-      g.V.Taker.takes c.args.actor.now
-      (CsiDispatch es false (get_or c.args.rest.now (c.args.run + 2) 0))
-      c.csi_dispatch.new.self)
-      c.as_slice.ensures c.in_ok-csi_dispatch.ensures.receives),
-  c.in_ok-csi_dispatch.ensures.ready,
-)
-
-pub returns-clause-quiet : goal.returns-clause-quiet
-returns-clause-quiet g c = λ limit.
-    short_still limit c.args.rest.now c.args.run _ c.requires.some c.requires.escape
-    c.requires.bracket c.requires.few
-    c.requires.read c.requires.ends
-
-pub returns-in_err-csi_dispatch-clause-stays : goal.returns-in_err-csi_dispatch-clause-stays
-returns-in_err-csi_dispatch-clause-stays g c =
-    rw (error_of c.from_residual.result c.from_residual.ensures.0).1
-    (λ limit. short_stops limit c.args.rest.now c.args.run _ c.requires.some c.requires.escape
-    c.requires.bracket c.requires.few c.requires.read c.requires.ends
-    g.V.Taker.takes g.V.Taker.refuses c.args.actor.now c.csi_dispatch.new.self
-    (subst (λ es.
-    g.V.Taker.refuses c.args.actor.now
-    (CsiDispatch es false (get_or c.args.rest.now (c.args.run + 2) 0)) c.csi_dispatch.new.self)
-    c.as_slice.ensures c.in_err-csi_dispatch.ensures.receives))
+      g.V.Taker.refuses c.args.actor.now
+      (CsiDispatch es false (get_or c.args.rest.now (c.args.run + 2) 0)) c.csi_dispatch.new.self)
+      c.as_slice.ensures c.in_err-csi_dispatch.ensures.receives));
+  some = search rules;
+  quiet = search rules;
+}
 
 pub csi_dispatch-requires : goal.csi_dispatch-requires
 csi_dispatch-requires g c =
@@ -48,9 +49,8 @@ csi_dispatch-requires g c =
     let a = c.args.actor.now in
     subst (λ es. g.V.Taker.is_ready a ⊎ g.V.Taker.may a (event es)) (sym c.as_slice.ensures)
     (may_one g.V.Taker.is_ready g.V.Taker.may g.V.Taker.takes c.args.rest.now (c.args.run + 3) _ a (
-      short_after None c.args.rest.now c.args.run _ c.requires.some c.requires.escape
-          c.requires.bracket c.requires.few c.requires.read c.requires.ends,
-      λ limit. sym (logged [] _ _ (short_given limit c.args.rest.now c.args.run _ c.requires.some
-          c.requires.escape c.requires.bracket c.requires.few c.requires.read c.requires.ends
+      short_after None c.args.rest.now c.args.run _ c.requires.starts,
+      λ limit. sym (logged [] _ _ (short_given limit c.args.rest.now c.args.run _
+          c.requires.starts
           Logs Logs [] _ refl)),
     ) c.requires.ready)

@@ -1,4 +1,4 @@
-use Rattle.std.proofs.Common.{◌≡◌, ◌<◌, true, length, take, subst, sym}
+use Rattle.std.proofs.Common.{◌≡◌, ◌<◌, true, length, take, subst, sym, arith}
 use Rattle.std.specs.List.{list_all}
 use Rattle.esc_frame.specs.Scans.{is_text_byte}
 use Rattle.esc_frame.proofs.ManyBytes.{run_passes, some_run, text_given, text_stops}
@@ -24,7 +24,10 @@ print_text-requires-clause-text g c =
 pub print_text-requires-clause-some : goal.print_text-requires-clause-some
 print_text-requires-clause-some g c =
     subst (λ k. 0 < length (take k c.args.rest.now)) (sym c.ascii_run-run.ensures.run)
-    (some_run c.args.rest.now c.requires.some c.requires.low c.requires.high)
+    (some_run c.args.rest.now c.requires.starts.some c.requires.starts.low (omega (
+      arith,
+      c.requires.starts.high,
+    )))
 
 pub print_text-requires-clause-ready : goal.print_text-requires-clause-ready
 print_text-requires-clause-ready g c =

@@ -8,8 +8,8 @@ loop-end-init c =
       omega arith,
       omega arith,
       c.next_number-number.ensures.small,
-      digits_first bs c.requires.some c.requires.low c.requires.high,
-      c.next_number-number.ensures.value ∙ number_next 0 bs 0 0 c.requires.some refl,
+      digits_first bs c.requires.digit.some c.requires.digit.low c.requires.digit.high,
+      c.next_number-number.ensures.value ∙ number_next 0 bs 0 0 c.requires.digit.some refl,
     )
 
 pub loop-end-preserved : goal.loop-end-preserved

@@ -10,14 +10,14 @@ returns-then-b-le57 c = λ x h.
     let b = c.args.b in
     let d : is_digit b ≡ true = digit_yes b (omega arith) (omega arith) in (
       rw (
-        c.take_digit.ensures.items,
-        c.take_digit.ensures.truncated,
-        c.take_digit.ensures.limit,
+        c.take_digit.ensures.others.0,
+        c.take_digit.ensures.others.1,
+        c.take_digit.ensures.others.2,
         closed_digit x b d,
       ) h.0,
       subst (λ o. IsNumber c.take_digit.new.self o) (sym (number_push None x b))
           (c.take_digit.ensures.number (number_of_run None x) h.1),
-      rw c.take_digit.ensures.limit h.2,
+      rw c.take_digit.ensures.others.2 h.2,
     )
 
 pub returns-then-b-lt48 : goal.returns-then-b-lt48

@@ -9,8 +9,9 @@ loop-end-init c =
       omega arith,
       omega arith,
       c.next_number-number.ensures.small,
-      digits_first bs c.requires.some c.requires.low c.requires.high,
-      λ o h. c.next_number-number.ensures.value ∙ number_next (number_at o) bs 0 _ c.requires.some
+      digits_first bs c.requires.digit.some c.requires.digit.low c.requires.digit.high,
+      λ o h. c.next_number-number.ensures.value ∙ number_next (number_at o) bs 0 _
+          c.requires.digit.some
           (c.number_so_far.ensures.value o h),
     )
 

@@ -1,0 +1,126 @@
+-- What a call that takes bytes in one state of the machine is given, and what it says, in the same
+-- words for each state. Only private contracts cite it.
+use Rattle.std.specs.Prelude.{ℕ, ◌≡◌, ◌<◌, ◌≤◌, ◌+◌, ◌⊎◌, true, Bool, List, [], Option, Result, IfOk, length, take, drop, slice_index}
+use Rattle.std.specs.List.{list_all}
+use Rattle.esc_values.specs.declared.csi_param.CsiParam.{CsiParam}
+use Rattle.esc_frame.specs.declared.machine.Machine.{Machine}
+use Rattle.esc_frame.specs.declared.machine.State.TheVariants as state
+use Rattle.esc_frame.specs.declared.taker.Taker.{Ghosts as Actor}
+use Rattle.esc_frame.specs.declared.unfinished.store.Store.{Ghosts as Keeper}
+use Rattle.esc_frame.specs.Changed.{Changed}
+use Rattle.esc_frame.specs.Events.{Awaits}
+use Rattle.esc_frame.specs.Leads.{Unfinished}
+use Rattle.esc_frame.specs.Leads.Unfinished.{Ground}
+use Rattle.esc_frame.specs.Machine.Keeping.{Unborrowed}
+use Rattle.esc_frame.specs.Machine.Makes.{Advances, Consumes, StaysAtGround, StaysInGround}
+use Rattle.esc_frame.specs.Machine.Calls.{Quietly}
+use Rattle.esc_frame.specs.Machine.Moves.{events_all}
+use Rattle.esc_frame.specs.Machine.Prefixes.{prefix_of}
+use Rattle.esc_frame.specs.Machine.Shorts.{IsShort}
+use Rattle.esc_frame.specs.Sequences.{is_from}
+
+-- what the machine may keep in a state: this holds of each, or of one
+abbrev pub InState : Type 1
+InState = (Unfinished → Type 0) → Type 0
+
+-- the same, under a limit
+abbrev pub InStateUnder : Type 1
+InStateUnder = (Option ℕ → Unfinished → Type 0) → Type 0
+
+-- in any state
+abbrev pub InAny : InState
+InAny P = (u : Unfinished) → P u
+
+-- The rest starts with a run of such bytes.
+pub record HasRun (IsRun : List ℕ → Type 0) (rest : List ℕ) (run : ℕ) : Type 0 where
+  pub some : 0 < length rest
+  pub few : run ≤ length rest
+  pub passes : IsRun (take run rest)
+
+-- each of the bytes passes
+abbrev pub AreAll : (ℕ → Bool) → List ℕ → Type 0
+AreAll passes x = list_all passes x ≡ true
+
+-- The rest starts with a run of such bytes, and one that ends them.
+pub record HasEndedRun (IsRun : List ℕ → Type 0) (is_end : ℕ → Bool) (rest : List ℕ) (run : ℕ)
+    : Type 0 where
+  pub few : run < length rest
+  pub passes : IsRun (take run rest)
+  pub ends : is_end (slice_index rest run) ≡ true
+
+-- The rest starts with a run of such bytes, and a control of C1 after C2.
+pub record HasRunToPair (IsRun : List ℕ → Type 0) (rest : List ℕ) (run : ℕ) : Type 0 where
+  pub few : run + 1 < length rest
+  pub passes : IsRun (take run rest)
+  pub lead : slice_index rest run ≡ 0xc2
+  pub control : is_from 0x80 0x9f (slice_index rest (run + 1)) ≡ true
+
+-- The rest starts with ESC, this byte and another.
+pub record Opens (b : ℕ) (rest : List ℕ) : Type 0 where
+  pub some : 2 < length rest
+  pub escape : slice_index rest 0 ≡ 0x1b
+  pub second : slice_index rest 1 ≡ b
+
+abbrev pub OpensCsi : List ℕ → Type 0
+OpensCsi = Opens 0x5b
+
+abbrev pub OpensOsc : List ℕ → Type 0
+OpensOsc = Opens 0x5d
+
+-- The rest starts with a control sequence whose parameters, this many bytes, are these.
+pub record StartsWithShortCsi (items : List CsiParam) (rest : List ℕ) (run : ℕ) : Type 0 where
+  pub opens : OpensCsi rest
+  pub few : run + 2 < length rest
+  pub read : IsShort items (take run (drop 2 rest))
+  pub ends : is_from 0x40 0x7e (slice_index rest (run + 2)) ≡ true
+
+-- the machine is in the text of an operating system command, between two units
+abbrev pub IsBetweenUnits : {K A : Type 0} → Machine K A → Type 0
+IsBetweenUnits machine = (machine.state ≡ state.Osc) × (prefix_of machine.pending ≡ [])
+
+-- the actor is ready, or awaits the events of the rest, where one of these is unfinished
+abbrev pub MayTake : {S : Type 0} → Actor S → InState → Option ℕ → List ℕ → S → Type 0
+MayTake V Kept limit rest old =
+    V.is_ready old ⊎ Kept (λ u. Awaits V.may V.takes old (events_all limit u rest))
+
+-- the same, under any limit
+abbrev pub MayTakeUnder : {S : Type 0} → Actor S → InStateUnder → List ℕ → S → Type 0
+MayTakeUnder V Kept rest old =
+    V.is_ready old ⊎ Kept (λ limit u. Awaits V.may V.takes old (events_all limit u rest))
+
+-- where not all strings in the rest can be lent
+abbrev pub Unlent : List ℕ → InState → InState
+Unlent rest Keeping P = Keeping (Unborrowed rest P)
+
+-- Some of the rest was taken.
+pub record TakesIn {T A S E : Type 0} (Keeping Any : InState) (K : Keeper T) (V : Actor S)
+    (result : Result ℕ E) (rest : List ℕ) (self : Changed (Machine T A)) (actor : Changed S)
+    : Type 0 where
+  -- what was unfinished and is kept, goes on with what was taken
+  pub took : Keeping (λ u. Consumes K V self.entry.now.limit result u rest self actor)
+  -- whatever was unfinished, all that was taken but the last byte emits nothing
+  pub quiet : Any (λ u. Quietly self.entry.now.limit result u rest)
+  -- one byte at least was
+  pub count : Advances V result rest self actor
+
+-- The same, under any limit.
+pub record TakesUnder {T A S E : Type 0} (Keeping Any : InStateUnder) (K : Keeper T) (V : Actor S)
+    (result : Result ℕ E) (rest : List ℕ) (self : Changed (Machine T A)) (actor : Changed S)
+    : Type 0 where
+  pub took : Keeping (λ limit u. Consumes K V limit result u rest self actor)
+  pub quiet : Any (λ limit u. Quietly limit result u rest)
+  pub count : Advances V result rest self actor
+
+-- A whole sequence was taken in ground.
+pub record TakesSequence {T A S E : Type 0} (K : Keeper T) (V : Actor S) (result : Result ℕ E)
+    (rest : List ℕ) (self : Changed (Machine T A)) (actor : Changed S) : Type 0 where
+  pub ground : StaysAtGround K result self
+  pub stays : StaysInGround V result rest actor
+  pub some : IfOk result (λ n. 0 < n)
+  pub quiet : (limit : Option ℕ) → Quietly limit result Ground rest
+
+-- Bytes that leave nothing unfinished were taken in ground.
+pub record TakesInGround {T A S E : Type 0} (K : Keeper T) (V : Actor S) (result : Result ℕ E)
+    (rest : List ℕ) (self : Changed (Machine T A)) (actor : Changed S) : Type 0 where
+  pub ground : StaysAtGround K result self
+  pub stays : StaysInGround V result rest actor
