@@ -13,6 +13,29 @@ pub struct Known {
     pub takes: Takes,
 }
 
+impl Known {
+    /// The file to write to, in place of the standard output.
+    pub const OUTPUT: Known = Known {
+        name: "--output",
+        letter: "-o",
+        takes: Takes::OneOf("file", &[]),
+    };
+
+    /// What the program is for, and its options.
+    pub const HELP: Known = Known {
+        name: "--help",
+        letter: "-h",
+        takes: Takes::Nothing,
+    };
+
+    /// Which version of the program it is.
+    pub const VERSION: Known = Known {
+        name: "--version",
+        letter: "-V",
+        takes: Takes::Nothing,
+    };
+}
+
 /// What an option takes.
 #[derive(Clone, Copy)]
 pub enum Takes {

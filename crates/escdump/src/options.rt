@@ -126,16 +126,8 @@ const KNOWN: &[Known] = &[
         letter: "",
         takes: WHEN,
     },
-    Known {
-        name: "--help",
-        letter: "-h",
-        takes: Takes::Nothing,
-    },
-    Known {
-        name: "--version",
-        letter: "-V",
-        takes: Takes::Nothing,
-    },
+    Known::HELP,
+    Known::VERSION,
 ];
 
 impl<'a> Task<'a> {

@@ -140,26 +140,14 @@ const KNOWN: &[Known] = &[
         letter: "",
         takes: Takes::Nothing,
     },
-    Known {
-        name: "--output",
-        letter: "-o",
-        takes: Takes::OneOf("file", &[]),
-    },
+    Known::OUTPUT,
     Known {
         name: "--in-place",
         letter: "-i",
         takes: Takes::Maybe("suffix", &[]),
     },
-    Known {
-        name: "--help",
-        letter: "-h",
-        takes: Takes::Nothing,
-    },
-    Known {
-        name: "--version",
-        letter: "-V",
-        takes: Takes::Nothing,
-    },
+    Known::HELP,
+    Known::VERSION,
 ];
 
 impl<'a, A: Allocator + Copy> Task<'a, A> {

@@ -94,21 +94,9 @@ const KNOWN: &[Known] = &[
         letter: "",
         takes: Takes::Size,
     },
-    Known {
-        name: "--output",
-        letter: "-o",
-        takes: Takes::OneOf("file", &[]),
-    },
-    Known {
-        name: "--help",
-        letter: "-h",
-        takes: Takes::Nothing,
-    },
-    Known {
-        name: "--version",
-        letter: "-V",
-        takes: Takes::Nothing,
-    },
+    Known::OUTPUT,
+    Known::HELP,
+    Known::VERSION,
 ];
 
 impl<'a, A: Allocator + Copy> Task<'a, A> {
