@@ -84,12 +84,6 @@ pending_is : (u : Unfinished) (f : List ℕ) → last_of u ≡ Broken f → u �
 pending_is (Pending x) f e = cc
 pending_is _ f e = absurd cc
 
-escape_is : (u : Unfinished) (f : List ℕ) → is_ground u ≡ false → last_of u ≡ CutEscape f
-    → u ≡ InEscape f
-escape_is Ground f n e = absurd cc
-escape_is (InEscape x) f n e = cc
-escape_is _ f n e = absurd cc
-
 csi_is : (u : Unfinished) (o : Opener) (x : List ℕ) → last_of u ≡ CutCsi o x → u ≡ InCsi o x
 csi_is (InCsi p y) o x e = cc
 csi_is _ o x e = absurd cc

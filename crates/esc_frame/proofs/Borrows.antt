@@ -34,10 +34,6 @@ or_assoc : (r s t : Bool) → (r || (s || t)) ≡ ((r || s) || t)
 or_assoc true s t = refl
 or_assoc false s t = refl
 
-not_if : (t : Bool) → (t ≡ true → ⊥) → not t ≡ true
-not_if true h = absurd (h refl)
-not_if false h = refl
-
 pub not_so : (t : Bool) → not t ≡ true → t ≡ true → ⊥
 not_so true h k = cc
 not_so false h k = cc

@@ -1,5 +1,5 @@
 -- The header of a device control string, from what is kept of it.
-use Rattle.std.proofs.Common.{ℕ, ℤ, ◌≡◌, Bool, true, false, not, cond, if◌then◌else◌, ◌==◌, List, [], ◌∷◌, ◌++◌, length, take, map, pos, nat_lt, refl, ap}
+use Rattle.std.proofs.Common.{ℕ, ℤ, ◌≡◌, Bool, true, false, not, cond, if◌then◌else◌, List, [], ◌∷◌, ◌++◌, length, take, map, pos, nat_lt, refl, ap}
 use Rattle.std.proofs.Common.{sym, Option}
 use Rattle.std.proofs.Common.{◌∙◌, arith}
 use Rattle.std.specs.List.{list_all, take_while}
@@ -9,14 +9,13 @@ use Rattle.std.proofs.lemmas.List.{append-nil}
 use Rattle.std.proofs.lemmas.Bool.{and_parts}
 use Rattle.std.proofs.lemmas.Bool.Decides.{nat_tests}
 use Rattle.esc_values.specs.Clear.{parts_of}
-use Rattle.esc_frame.specs.declared.unfinished.body.Form.{Form}
 use Rattle.esc_frame.specs.declared.unfinished.body.Form.TheVariants as form
 use Rattle.esc_frame.specs.declared.unfinished.header.DcsHeader.{DcsHeader}
-use Rattle.esc_frame.specs.Bodies.{is_private_prefix, is_intermediate_byte, is_csi_parameter, is_dcs_parameter, is_dcs_header, after_private_prefix, drop_while}
+use Rattle.esc_frame.specs.Bodies.{is_private_prefix, is_intermediate_byte, is_dcs_parameter, is_dcs_header, after_private_prefix, drop_while}
 use Rattle.esc_frame.specs.Bodies.{held, value_after, dcs_params, dcs_intermediates}
 use Rattle.esc_frame.specs.Events.Event.{DcsHook}
 use Rattle.esc_frame.specs.Limits.{is_within, is_read, header_count}
-use Rattle.esc_frame.specs.Machine.Keeps.{KeepsDcs, next_form_by, next_form, form_by, is_formed, parameters_of, others_of}
+use Rattle.esc_frame.specs.Machine.Keeps.{KeepsDcs, form_by, is_formed, parameters_of, others_of}
 use Rattle.esc_frame.specs.Segments.{hook_event}
 use Rattle.esc_frame.proofs.Forms.{drop_while-cons, formed_by}
 
@@ -26,23 +25,6 @@ pub header_formed : (x : List ℕ)
     → is_formed (form_by is_dcs_parameter form.Empty x) ≡ is_dcs_header x
 unfolding is_dcs_header
 header_formed x = formed_by is_dcs_parameter x
-
--- but for 3A the bytes of a CSI's form
-other_parameter : (b : ℕ) → (b == 0x3a) ≡ false → is_csi_parameter b ≡ is_dcs_parameter b
-other_parameter b h = grind (arith, nat_tests)
-
-pub next_other : (f : Form) (b : ℕ) → (b == 0x3a) ≡ false
-    → next_form f b ≡ next_form_by is_dcs_parameter f b
-next_other form.Empty b h = rw (other_parameter b h) refl
-next_other form.Parameters b h = rw (other_parameter b h) refl
-next_other form.Intermediates b h = refl
-next_other form.Malformed b h = refl
-
-pub next_colon : (f : Form) → next_form_by is_dcs_parameter f 0x3a ≡ form.Malformed
-next_colon form.Empty = refl
-next_colon form.Parameters = refl
-next_colon form.Intermediates = refl
-next_colon form.Malformed = refl
 
 -- ---- its parameter bytes, and the others
 
@@ -93,15 +75,6 @@ marked_by b x true m h = let q = body_kept x h in
 marked_by b x false m h = body_kept (b ∷ x) h
 
 -- with a byte more
-pub parameters_push : (x : List ℕ) (b : ℕ) → is_dcs_parameter b ≡ true
-    → parameters_of x ++ b ∷ [] ≡ parameters_of (x ++ b ∷ [])
-parameters_push x b h = sym (filter-append is_dcs_parameter x (b ∷ []) ∙ rw h refl)
-
-pub parameters_same : (x : List ℕ) (b : ℕ) → is_dcs_parameter b ≡ false
-    → parameters_of x ≡ parameters_of (x ++ b ∷ [])
-parameters_same x b h =
-    sym (filter-append is_dcs_parameter x (b ∷ []) ∙ rw h (append-nil (parameters_of x)))
-
 pub others_push : (x : List ℕ) (b : ℕ) → is_dcs_parameter b ≡ false
     → others_of x ++ b ∷ [] ≡ others_of (x ++ b ∷ [])
 others_push x b h = sym (filter-append (λ b. not (is_dcs_parameter b)) x (b ∷ []) ∙ rw h refl)

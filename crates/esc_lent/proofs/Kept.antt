@@ -130,27 +130,7 @@ module _ (p : EscParser) (memory : List ℕ) (five : p.state ≡ 5) (bytes : Lis
         ← same,
       ) (sym (data_text (Some (length memory)) o x f d (take n bytes) r passes).1)) u h
 
--- ---- what is still to be handed out is no part of what is kept
-
-pub kept_queued : (p : EscParser) (kind : ℕ) (memory : List ℕ) (u : Unfinished) → KeptIn p memory u
-    → KeptIn (record p { queued_kind = kind }) memory u
-kept_queued p kind memory Ground h = h
-kept_queued p kind memory (Pending f) h = h
-kept_queued p kind memory (InEscape x) h = h
-kept_queued p kind memory (InCsi o x) h = h
-kept_queued p kind memory (InDcs o x) h = h
-kept_queued p kind memory (InData o x f d) h = h
-kept_queued p kind memory (InApc o d) h = h
-kept_queued p kind memory (InIgnored k o d) h = h
-kept_queued p kind memory (InOsc o ps) h = h
-kept_queued p kind memory (InOscPending o ps f) h = h
-
 -- ---- where nothing changed
-
-pub kept_still : (p q : EscParser) (memory later : List ℕ) → q ≡ p → later ≡ memory
-    → (u : Unfinished) → KeptIn p memory u → KeptIn q later u
-kept_still p q memory later same kept u h =
-    subst (λ r. KeptIn r later u) (sym same) (subst (λ m. KeptIn p m u) (sym kept) h)
 
 pub given_still : (p q r : EscParser) (e : EscEvent) (out memory later after x : List ℕ) → q ≡ p
     → later ≡ memory → Gives q r e out later after x → Gives p r e out memory after x

@@ -29,12 +29,6 @@ number_loaded : (p : EscParser) (b : CsiBody) (o : Option ℕ) → b.csi_params.
 number_loaded p b None e n h = e ∙ h
 number_loaded p b (Some k) e n h = (e ∙ h.0, omega (arith, h.1))
 
-number_stored : (p : EscParser) (b : CsiBody) (o : Option ℕ) → p.is_open ≡ b.csi_params.is_open
-    → p.number ≡ b.csi_params.number
-    → IsNumber b.csi_params o → NumberIn p o
-number_stored p b None e n h = e ∙ h
-number_stored p b (Some k) e n h = (e ∙ h.0, n ∙ h.1)
-
 pub body_loaded : (p : EscParser) (b : CsiBody) (x : List ℕ)
     → b.csi_params.items ≡ map param_of (take (min p.count 256) p.csi_params)
     → b.csi_params.limit ≡ 256
@@ -53,24 +47,4 @@ body_loaded p b x items limit more opened number form h =
         limit,
       ),
       form ∙ h.3,
-    )
-
-pub body_stored : (p : EscParser) (b : CsiBody) (x : List ℕ)
-    → map param_of (take p.count p.csi_params) ≡ b.csi_params.items
-    → p.count ≡ length b.csi_params.items
-    → p.is_truncated ≡ b.csi_params.is_truncated → p.is_open ≡ b.csi_params.is_open
-    → p.number ≡ b.csi_params.number
-    → form_numbered p.form ≡ b.form → KeepsBody b x → BodyIn p x
-body_stored p b x items count more opened number form h =
-    let a = h.0.0 in
-    let limit = h.0.2 in
-    let kept : b.csi_params.items ≡ take 256 (closed_of None x) =
-    a.kept ∙ ap (λ n. take n (closed_of None x)) limit in (
-      omega (arith, count, ap length kept, length-take 256 (closed_of None x)),
-      record {
-        kept = items ∙ kept;
-        more = more ∙ a.more ∙ ap (λ n. nat_lt n (length (closed_of None x))) limit;
-      },
-      number_stored p b (number_of_run None x) opened number h.0.1,
-      form ∙ h.1,
     )

@@ -5,7 +5,7 @@ use Rattle.std.proofs.Common.{append_assoc, length-append, ◌⊎◌, inl, inr}
 use Rattle.std.proofs.Math.Seq.{get_or-append_seam}
 use Rattle.std.proofs.lemmas.List.Folds.{list_all_at}
 use Rattle.std.specs.List.{list_all, prefix_len}
-use Rattle.std.proofs.lemmas.List.{take_at, drop_at, take_rest}
+use Rattle.std.proofs.lemmas.List.{take_rest}
 use Rattle.std.proofs.lemmas.Bool.{and_parts}
 use Rattle.esc_frame.specs.declared.classes.Kind.{Kind}
 use Rattle.esc_frame.specs.declared.classes.Kind.TheVariants as kind
@@ -34,14 +34,6 @@ raw_least kind.Sos = omega arith
 raw_least kind.Pm = omega arith
 raw_least kind.Apc = omega arith
 
-raw_most : (k : Kind) → raw_of k ≤ 0x9f
-raw_most kind.Csi = omega arith
-raw_most kind.Osc = omega arith
-raw_most kind.Dcs = omega arith
-raw_most kind.Sos = omega arith
-raw_most kind.Pm = omega arith
-raw_most kind.Apc = omega arith
-
 first_byte : (bytes other : List ℕ) → bytes ≡ other → get_or bytes 0 0 ≡ get_or other 0 0
 first_byte bytes other e = ap (λ y. get_or y 0 0) e
 
@@ -68,35 +60,6 @@ escape_len bytes r f h k Pair body i e =
     let z : get_or bytes 0 0 ≡ 0xc2 = first_byte bytes (opener k Pair ++ body) e in
     absurd (omega arith)
 
-pub pair_len : (bytes : List ℕ) (r : ℕ) → get_or bytes 0 0 ≡ 0xc2 → (2 ≤ length bytes → r ≡ 2)
-    → (k : Kind) (o : Opener) (body : List ℕ) → IsOpener o
-    → bytes ≡ opener k o ++ body → r ≡ length (opener k o)
-pair_len bytes r f h k (Long n) body i e =
-    let z : get_or bytes 0 0 ≡ 0x1b = first_byte bytes (opener k (Long n) ++ body) e in
-    absurd (omega arith)
-pair_len bytes r f h k Raw body i e =
-    let z : 0xc2 ≡ raw_of k = sym f ∙ first_byte bytes (opener k Raw ++ body) e in
-    absurd (omega (arith, raw_most k))
-pair_len bytes r f h k Pair body i e =
-    let l : length (0xc2 ∷ raw_of k ∷ body) ≡ 2 + length body = omega arith in
-    h (omega (arith, ap length e))
-
-pub raw_len : (bytes : List ℕ) → (get_or bytes 0 0 ≡ 0x1b → ⊥) → (get_or bytes 0 0 ≡ 0xc2 → ⊥)
-    → (k : Kind) (o : Opener) (body : List ℕ) → IsOpener o
-    → bytes ≡ opener k o ++ body → 1 ≡ length (opener k o)
-raw_len bytes f g k (Long n) body i e = absurd (f (first_byte bytes (opener k (Long n) ++ body) e))
-raw_len bytes f g k Raw body i e = refl
-raw_len bytes f g k Pair body i e = absurd (g (first_byte bytes (opener k Pair ++ body) e))
-
-no_opener : (k : Kind) (o : Opener) (body : List ℕ) → 0 < length (opener k o ++ body)
-no_opener k (Long n) body = omega arith
-no_opener k Raw body = omega arith
-no_opener k Pair body = omega arith
-
-pub empty_len : (bytes : List ℕ) → length bytes ≡ 0 → (k : Kind) (o : Opener) (body : List ℕ)
-    → bytes ≡ opener k o ++ body → 0 ≡ length (opener k o)
-empty_len bytes z k o body e = absurd (omega (arith, ap length e, no_opener k o body))
-
 -- noise up to the letter, as the code counts it
 pub noise_len : (bytes : List ℕ) (noise : ℕ)
     → noise ≡ prefix_len (λ b. is_noise (class_of b)) (take (length bytes - 1) (drop 1 bytes))
@@ -112,13 +75,6 @@ noise_len bytes noise p n body letter a s e =
           letter body a s,
       omega (arith, ap length e, length-append (0x1b ∷ n) (letter ∷ body)),
     )
-
--- the bytes, split where the opener ends
-pub split_is : (bytes prefix back : List ℕ) (n : ℕ) → prefix ≡ take n bytes → back ≡ drop n bytes
-    → (p body : List ℕ) → n ≡ length p → bytes ≡ p ++ body
-    → (prefix ≡ p) × (back ≡ body)
-split_is bytes prefix back n f b p body l e =
-    (f ∙ ap (take n) e ∙ take_at p body n (sym l), b ∙ ap (drop n) e ∙ drop_at p body n (sym l))
 
 -- ---- which opener it is
 

@@ -16,12 +16,6 @@ takes_then own takes refuses (Ok v) xs ys old mid new h t = folds_then takes xs 
 takes_then own takes refuses (Err v) xs ys old mid new h t =
     stops_then own takes refuses xs ys old mid new h t
 
--- no events
-pub takes_none : {S E : Type 0} (own : Type 0) (takes refuses : S → Event → S → Type 0)
-    (result : Result (Unit {0}) E) (old new : S)
-    → Takes own takes refuses result old [] new → Takes own takes refuses result old [] new
-takes_none own takes refuses result old new t = t
-
 -- where the call stops by itself for no reason, it does so for any
 pub takes_by : {S E : Type 0} (own : Type 0) (takes refuses : S → Event → S → Type 0)
     (result : Result (Unit {0}) E) (es : List Event) (old new : S)

@@ -33,13 +33,6 @@ osc_no_lead : (c : Class) → in_osc c ≡ true → is_lead c ≡ true → ⊥
 osc_no_lead Lead h l = absurd cc
 osc_no_lead _ h l = absurd cc
 
--- the whole text
-pub left_all : (ps : List Piece) (e : Ending) (text after : List ℕ)
-    → text ≡ text_bytes ps ++ ending_bytes e → ArePieces ps (ending_bytes e ++ after)
-    → is_over e ≡ true → IsLeft [] text after (text_of ps)
-left_all ps e text after w a o =
-    record { pieces = ps; ending = e; over = o; whole = w; each = a; same = refl }
-
 -- the same text, and what it keeps
 moved : (kept bytes other after t : List ℕ) → bytes ≡ other → IsLeft kept bytes after t
     → IsLeft kept other after t

@@ -2,7 +2,7 @@
 use Rattle.std.specs.Prelude.{ℕ, ◌≡◌, Bool, List}
 use Rattle.esc_frame.specs.declared.classes.Kind.{Kind}
 use Rattle.esc_frame.specs.Segments.{Segment, Opener, Piece, Ending}
-use Rattle.esc_frame.specs.Segments.Segment.{Character, Wide, Broken, Stray, Control, HighControl, Terminator, Escape, Csi, Osc, Dcs, Apc, Ignored}
+use Rattle.esc_frame.specs.Segments.Segment.{Character, Wide, Broken, Stray, Control, HighControl, Escape, Csi, Osc, Dcs, Apc, Ignored}
 use Rattle.esc_frame.specs.Segments.Segment.{CutEscape, CutCsi, CutDcs}
 use Rattle.esc_segments.specs.Items.{kind_of}
 use Rattle.esc_segments.specs.declared.kind.SegmentKind.TheVariants as kinds
@@ -28,11 +28,6 @@ pub controls : (P : Segment → Type 0) (g : Segment) → kind_of g ≡ kinds.Co
 controls P (Control b) e h i = h b
 controls P (HighControl p b) e h i = i p b
 controls P _ e h i = absurd cc
-
-pub terminators : (P : Segment → Type 0) (g : Segment) → kind_of g ≡ kinds.Terminator
-    → ((p : Bool) (b : ℕ) → P (Terminator p b)) → P g
-terminators P (Terminator p b) e h = h p b
-terminators P _ e h = absurd cc
 
 pub escapes : (P : Segment → Type 0) (g : Segment) → kind_of g ≡ kinds.Escape
     → ((x : List ℕ) (f : ℕ) → P (Escape x f)) → P g

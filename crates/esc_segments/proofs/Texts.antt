@@ -57,18 +57,6 @@ run_unit text n e h l =
       ),
     )
 
-bell_by : (text : List ℕ) (b : ℕ) → b ≡ 0x07 → text ≡ b ∷ drop 1 text → text ≡ 0x07 ∷ drop 1 text
-bell_by text b e h = h ∙ ap (λ x. x ∷ drop 1 text) e
-
-pub bell_unit : (text : List ℕ) → 0 < length text → get_or text 0 0 ≡ 0x07 → IsUnit text units.Bell
-bell_unit [] l h = absurd (omega arith)
-bell_unit (b ∷ text) l h = ap (λ x. x ∷ text) h
-
-pub breaker_unit : (text : List ℕ) → 0 < length text
-    → is_breaker (class_of (get_or text 0 0)) ≡ true → IsUnit text units.Breaker
-breaker_unit [] l h = absurd (omega arith)
-breaker_unit (b ∷ text) l h = rw h refl
-
 -- what is no unit of one byte, no bell and no breaker, begins a sequence of UTF-8
 bell_is : (b : ℕ) → class_of b ≡ Bell → b ≡ 0x07
 unfolding class_of
@@ -119,9 +107,6 @@ pub broken_unit : (text : List ℕ) (n : ℕ) → IsSequence text (ahead.Broken 
     → IsUnit text (units.Kept n)
 broken_unit text n (p, l, s, q) =
     (p, l, (BrokenOff (take n text) ∷ [], append-nil (take n text), ((s, q), tt)))
-
-pub pending_unit : (text : List ℕ) → IsSequence text ahead.Pending → IsUnit text units.Pending
-pending_unit text h = h
 
 pub control_unit : (text : List ℕ) (b : ℕ) → IsSequence text (ahead.Control b)
     → IsUnit text units.Breaker
