@@ -3,6 +3,7 @@ pub mod Sequences
 pub mod Bodies
 pub mod Limits
 pub mod Events
+pub mod Takers
 pub mod Changed
 pub mod Segments
 pub mod Counts

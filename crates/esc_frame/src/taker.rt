@@ -1,14 +1,15 @@
 //! What a machine gives its events.
 #![tactic(auto)]
 
-ghost use Rattle.std.specs.Prelude.{◌≡◌, ◌<◌, ◌⊎◌, [], ◌∷◌, ℕ, List, length, map, pos, OnOk, true};
+ghost use Rattle.std.specs.Prelude.{◌≡◌, ◌<◌, [], ◌∷◌, ℕ, List, length, map, not, true};
 ghost use Rattle.std.specs.List.{list_all};
 ghost use Rattle.std.specs.Str.{chars};
 ghost use Rattle.esc_values.specs.Clear.{is_clear, parts_of};
 ghost use Rattle.esc_frame.specs.Bodies.{hook_by};
-ghost use Rattle.esc_frame.specs.Events.{Event, MayGet, Receives, Takes};
+ghost use Rattle.esc_frame.specs.Events.{Event, MayGet};
 ghost use Rattle.esc_frame.specs.Limits.{has_few_parts};
 ghost use Rattle.esc_frame.specs.Scans.{is_text_byte, is_data_byte};
+ghost use Rattle.esc_frame.specs.Takers.{MayGetOne, TakesAll, TakesOne};
 ghost use Rattle.memory.specs.Refusals.{Refused};
 ghost use Rattle.esc_frame.specs.Events.Event.{Print, Execute, EscDispatch, CsiDispatch, OscDispatch, DcsHook, DcsPut, DcsUnhook, ApcDispatch};
 
@@ -19,7 +20,8 @@ use std::alloc::{AllocError, Allocator};
 
 /// What a machine gives its events, one call an event. Every [`VTActor`] is one. A type that takes
 /// the texts of strings as they are, and asks for no memory, can say so here, by `stops`, which a
-/// `VTActor` cannot: its default methods make lists.
+/// `VTActor` cannot: its default methods make lists. But for that each method asks and promises
+/// what the one of `VTActor` does, as one fact.
 pub trait Taker {
     // what an event may make of a value
     ghost takes: { Self → Event → Self → Type 0 };
@@ -39,9 +41,8 @@ pub trait Taker {
 
     /// A character.
     fn print(&mut self, c: char) -> Result<(), AllocError>
-        requires { is_ready self.old ⊎ may self.old (Print c) }
-        ensures receives { Receives takes refuses result self.old (Print c) self.new }
-        ensures ready { is_ready self.old → OnOk result (is_ready self.new) };
+        requires { MayGetOne is_ready may self.old (Print c) }
+        ensures { TakesOne takes refuses is_ready result self.old (Print c) self.new };
 
     /// A run of characters 20 to 7F, one byte each, never empty.
     #[inline(always)]
@@ -49,8 +50,7 @@ pub trait Taker {
         requires ready { MayGet is_ready may takes self.old (map Print text.now) }
         requires some { 0 < length text.now }
         requires text { list_all is_text_byte text.now ≡ true }
-        ensures emitted { Takes ⊥ takes refuses result self.old (map Print text.now) self.new }
-        ensures ready { is_ready self.old → OnOk result (is_ready self.new) }
+        ensures { TakesAll ⊥ takes refuses is_ready result self.old (map Print text.now) self.new }
     {
         for b in text {
             self.print(*b as char)?;
@@ -64,9 +64,8 @@ pub trait Taker {
         requires ready { MayGet is_ready may takes self.old (map Print (chars text.now)) }
         requires some { 0 < length text.now }
         requires clear { list_all is_clear (chars text.now) ≡ true }
-        ensures emitted { Takes ⊥ takes refuses result self.old
+        ensures { TakesAll ⊥ takes refuses is_ready result self.old
             (map Print (chars text.now)) self.new }
-        ensures ready { is_ready self.old → OnOk result (is_ready self.new) }
     {
         let bytes = text.as_bytes();
         let mut at = 0;
@@ -80,9 +79,8 @@ pub trait Taker {
 
     /// A control of C0 or C1.
     fn execute_c0_or_c1(&mut self, control: u8) -> Result<(), AllocError>
-        requires { is_ready self.old ⊎ may self.old (Execute control) }
-        ensures receives { Receives takes refuses result self.old (Execute control) self.new }
-        ensures ready { is_ready self.old → OnOk result (is_ready self.new) };
+        requires { MayGetOne is_ready may self.old (Execute control) }
+        ensures { TakesOne takes refuses is_ready result self.old (Execute control) self.new };
 
     /// A device control string begins, with its parameter bytes as they came.
     fn dcs_header<A: Allocator + Copy>(
@@ -93,18 +91,16 @@ pub trait Taker {
         intermediates: &[u8],
         ignored_extra_intermediates: bool,
     ) -> Result<(), AllocError>
-        requires { is_ready self.old ⊎ may self.old
+        requires { MayGetOne is_ready may self.old
             (hook_by byte parameters.now intermediates.now ignored_extra_intermediates) }
-        ensures emitted { Takes (stops (Refused A) parameters.now) takes refuses result self.old
+        ensures { TakesAll (stops (Refused A) parameters.now) takes refuses is_ready result self.old
             (hook_by byte parameters.now intermediates.now ignored_extra_intermediates ∷ [])
-            self.new }
-        ensures ready { is_ready self.old → OnOk result (is_ready self.new) };
+            self.new };
 
     /// A byte of its data.
     fn dcs_put(&mut self, byte: u8) -> Result<(), AllocError>
-        requires { is_ready self.old ⊎ may self.old (DcsPut byte) }
-        ensures receives { Receives takes refuses result self.old (DcsPut byte) self.new }
-        ensures ready { is_ready self.old → OnOk result (is_ready self.new) };
+        requires { MayGetOne is_ready may self.old (DcsPut byte) }
+        ensures { TakesOne takes refuses is_ready result self.old (DcsPut byte) self.new };
 
     /// A run of its data, bytes 20 to 7E, never empty.
     #[inline(always)]
@@ -112,8 +108,8 @@ pub trait Taker {
         requires ready { MayGet is_ready may takes self.old (map DcsPut bytes.now) }
         requires some { 0 < length bytes.now }
         requires bytes { list_all is_data_byte bytes.now ≡ true }
-        ensures emitted { Takes ⊥ takes refuses result self.old (map DcsPut bytes.now) self.new }
-        ensures ready { is_ready self.old → OnOk result (is_ready self.new) }
+        ensures { TakesAll ⊥ takes refuses is_ready result self.old
+            (map DcsPut bytes.now) self.new }
     {
         for b in bytes {
             self.dcs_put(*b)?;
@@ -123,9 +119,8 @@ pub trait Taker {
 
     /// It ends.
     fn dcs_unhook(&mut self) -> Result<(), AllocError>
-        requires { is_ready self.old ⊎ may self.old (DcsUnhook) }
-        ensures receives { Receives takes refuses result self.old DcsUnhook self.new }
-        ensures ready { is_ready self.old → OnOk result (is_ready self.new) };
+        requires { MayGetOne is_ready may self.old (DcsUnhook) }
+        ensures { TakesOne takes refuses is_ready result self.old DcsUnhook self.new };
 
     /// An escape sequence.
     fn esc_dispatch(
@@ -135,12 +130,11 @@ pub trait Taker {
         ignored_extra_intermediates: bool,
         byte: u8,
     ) -> Result<(), AllocError>
-        requires ready { is_ready self.old ⊎ may self.old
+        requires ready { MayGetOne is_ready may self.old
             (EscDispatch intermediates.now ignored_extra_intermediates byte) }
         requires no_params { params.now ≡ [] }
-        ensures receives { Receives takes refuses result self.old
-            (EscDispatch intermediates.now ignored_extra_intermediates byte) self.new }
-        ensures ready { is_ready self.old → OnOk result (is_ready self.new) };
+        ensures { TakesOne takes refuses is_ready result self.old
+            (EscDispatch intermediates.now ignored_extra_intermediates byte) self.new };
 
     /// A control sequence.
     fn csi_dispatch(
@@ -149,27 +143,22 @@ pub trait Taker {
         parameters_truncated: bool,
         byte: u8,
     ) -> Result<(), AllocError>
-        requires { is_ready self.old ⊎ may self.old
+        requires { MayGetOne is_ready may self.old
             (CsiDispatch params.now parameters_truncated byte) }
-        ensures receives { Receives takes refuses result self.old
-            (CsiDispatch params.now parameters_truncated byte) self.new }
-        ensures ready { is_ready self.old → OnOk result (is_ready self.new) };
+        ensures { TakesOne takes refuses is_ready result self.old
+            (CsiDispatch params.now parameters_truncated byte) self.new };
 
     /// The text of an operating system command, whole.
     fn osc_text<A: Allocator>(&mut self, alloc: A, text: &[u8]) -> Result<(), AllocError>
-        requires { is_ready self.old ⊎ may self.old (OscDispatch (parts_of text.now)) }
-        ensures emitted { Takes (stops (Refused A) text.now) takes refuses result self.old
-            (OscDispatch (parts_of text.now) ∷ []) self.new }
-        ensures few { has_few_parts text.now ≡ true
-            → Takes ⊥ takes refuses result self.old
-            (OscDispatch (parts_of text.now) ∷ []) self.new }
-        ensures ready { is_ready self.old → OnOk result (is_ready self.new) };
+        requires { MayGetOne is_ready may self.old (OscDispatch (parts_of text.now)) }
+        ensures { TakesAll ((not (has_few_parts text.now) ≡ true) × stops (Refused A) text.now)
+            takes refuses is_ready result self.old
+            (OscDispatch (parts_of text.now) ∷ []) self.new };
 
     /// The text of an application program command.
     fn apc_dispatch(&mut self, text: &[u8]) -> Result<(), AllocError>
-        requires { is_ready self.old ⊎ may self.old (ApcDispatch text.now) }
-        ensures receives { Receives takes refuses result self.old (ApcDispatch text.now) self.new }
-        ensures ready { is_ready self.old → OnOk result (is_ready self.new) };
+        requires { MayGetOne is_ready may self.old (ApcDispatch text.now) }
+        ensures { TakesOne takes refuses is_ready result self.old (ApcDispatch text.now) self.new };
 }
 
 impl<V: VTActor> Taker for V {

@@ -5,7 +5,7 @@ use Rattle.esc_frame.specs.Events.{Takes}
 use Rattle.esc_frame.specs.Events.Event.{OscDispatch}
 use Rattle.esc_frame.specs.Limits.{has_few_parts}
 use Rattle.esc_frame.specs.Machine.Calls.{Stops}
-use Rattle.esc_frame.proofs.Given.{takes_few, takes_for}
+use Rattle.esc_frame.proofs.Given.{takes_for}
 use Rattle.esc_frame.proofs.Borrowed.{within_by, osc_emitted, osc_unemitted}
 use Rattle.esc_frame.proofs.May.{get_first}
 use Rattle.esc_frame.specs.Events.{MayGet}
@@ -14,19 +14,15 @@ use Rattle.esc_frame.proofs.machine.osc.emit_borrowed.Goals as goal
 pub returns-then-fits-clause-emitted : goal.returns-then-fits-clause-emitted
 returns-then-fits-clause-emitted g c =
     let t = c.args.text.now in
-    let stops : Type 0 = Stops g.V.Taker.stops g.row.A.Denot c.args.limit in
-    let own : Type 0 = (not (has_few_parts t) ≡ true) × stops in
+    let own : Type 0 = (not (has_few_parts t) ≡ true)
+    × Stops g.V.Taker.stops g.row.A.Denot c.args.limit in
     let within = within_by c.args.limit (length t) _ c.fits.ensures ∙ c.if-fits.true in
     subst (λ es. Takes own g.V.Taker.takes g.V.Taker.refuses c.osc_text.result c.args.actor.now
     es c.osc_text.new.self)
     (osc_emitted c.args.limit t within)
-    (takes_few (has_few_parts t) stops
-    g.V.Taker.takes g.V.Taker.refuses c.osc_text.result
-    c.args.actor.now c.osc_text.new.self (OscDispatch (parts_of t) ∷ [])
-    (takes_for _ _ g.V.Taker.takes g.V.Taker.refuses c.osc_text.result c.args.actor.now
+    (takes_for _ own g.V.Taker.takes g.V.Taker.refuses c.osc_text.result c.args.actor.now
     c.osc_text.new.self
-    (OscDispatch (parts_of t) ∷ []) (λ w. (t, within, w)) c.osc_text.ensures.emitted)
-    c.osc_text.ensures.few)
+    (OscDispatch (parts_of t) ∷ []) (λ w. (w.0, (t, within, w.1))) c.osc_text.ensures.emitted)
 
 pub returns-else-fits-clause-emitted : goal.returns-else-fits-clause-emitted
 returns-else-fits-clause-emitted g c =

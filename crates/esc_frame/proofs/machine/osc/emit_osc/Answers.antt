@@ -34,5 +34,5 @@ returns-else-is_over-clause-emitted g c = λ limit t k.
     (takes_for _ _ g.V.Taker.takes g.V.Taker.refuses c.osc_text.result c.args.actor.now
     c.osc_text.new.self
     (OscDispatch (parts_of c.bytes.result.now) ∷ [])
-    (λ y. (c.bytes.result.now, subst (λ x. is_within limit (length x) ≡ true) (sym kept) w, y))
+    (λ y. (c.bytes.result.now, subst (λ x. is_within limit (length x) ≡ true) (sym kept) w, y.1))
     c.osc_text.ensures.emitted))

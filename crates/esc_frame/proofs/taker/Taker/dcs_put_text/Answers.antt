@@ -5,11 +5,14 @@ use Rattle.esc_frame.proofs.May.{get_each}
 use Rattle.esc_frame.proofs.Failed.{error_of}
 use Rattle.esc_frame.proofs.taker.Taker.dcs_put_text.Goals as goal
 
-pub returns-in_err-dcs_put-clause-emitted : goal.returns-in_err-dcs_put-clause-emitted
-returns-in_err-dcs_put-clause-emitted g c =
-    rw (error_of c.from_residual.result c.from_residual.ensures.0).1
-    (each_stop g.Self.Taker.takes g.Self.Taker.refuses DcsPut c.args.bytes.now c.loop-b.b-index
-    (omega arith) c.args.self.now _ _ c.loop-b.invariant.1 _ c.in_err-dcs_put.ensures.receives)
+pub returns-in_err-dcs_put : goal.returns-in_err-dcs_put
+returns-in_err-dcs_put g c =
+    let err = error_of c.from_residual.result c.from_residual.ensures.0 in rw err.1 (record {
+      emitted = each_stop g.Self.Taker.takes g.Self.Taker.refuses DcsPut c.args.bytes.now
+          c.loop-b.b-index (omega arith) c.args.self.now _ _ c.loop-b.invariant.1 _
+          c.in_err-dcs_put.ensures.receives;
+      ready = λ r. tt;
+    })
 
 pub loop-b-preserved : goal.loop-b-preserved
 loop-b-preserved g c = (

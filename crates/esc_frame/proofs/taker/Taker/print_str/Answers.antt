@@ -14,22 +14,26 @@ loop-at-preserved g c =
     (tail_next c.as_bytes-bytes.result.now c.loop-at.at _ _ c.first_of-c.ensures.next)
     c.in_ok-print.ensures.receives c.in_ok-print.ensures.ready
 
-pub returns-in_err-print-clause-emitted : goal.returns-in_err-print-clause-emitted
-returns-in_err-print-clause-emitted g c =
-    rw (error_of c.from_residual.result c.from_residual.ensures.0).1
-    (stop_given g.Self.Taker.takes g.Self.Taker.refuses g.Self.Taker.is_ready
-    c.as_bytes-bytes.result.now _ c.as_bytes-bytes.ensures.value c.loop-at.at _ _ c.args.self.now _
-    _ c.loop-at.invariant
-    (tail_next c.as_bytes-bytes.result.now c.loop-at.at _ _ c.first_of-c.ensures.next)
-    ⊥ c.in_err-print.ensures.receives)
+pub returns-in_err-print : goal.returns-in_err-print
+returns-in_err-print g c =
+    let err = error_of c.from_residual.result c.from_residual.ensures.0 in rw err.1 (record {
+      emitted = stop_given g.Self.Taker.takes g.Self.Taker.refuses g.Self.Taker.is_ready
+          c.as_bytes-bytes.result.now _ c.as_bytes-bytes.ensures.value c.loop-at.at _ _
+          c.args.self.now _ _ c.loop-at.invariant
+          (tail_next c.as_bytes-bytes.result.now c.loop-at.at _ _ c.first_of-c.ensures.next)
+          ⊥ c.in_err-print.ensures.receives;
+      ready = λ r. tt;
+    })
 
-pub returns-clause-emitted : goal.returns-clause-emitted
-returns-clause-emitted g c =
-    subst (λ y. FoldsTo g.Self.Taker.takes c.args.self.now (map Print (chars y)) c.loop-at.self)
-    c.as_bytes-bytes.ensures.value
-    (all_spelled g.Self.Taker.takes g.Self.Taker.refuses g.Self.Taker.is_ready
-    c.as_bytes-bytes.result.now c.loop-at.at c.args.self.now _
-    (omega arith) c.loop-at.invariant)
+pub returns : goal.returns
+returns g c = record {
+  emitted = subst (λ y. FoldsTo g.Self.Taker.takes c.args.self.now (map Print (chars y))
+      c.loop-at.self) c.as_bytes-bytes.ensures.value
+      (all_spelled g.Self.Taker.takes g.Self.Taker.refuses g.Self.Taker.is_ready
+      c.as_bytes-bytes.result.now c.loop-at.at c.args.self.now _
+      (omega arith) c.loop-at.invariant);
+  ready = c.loop-at.invariant.3;
+}
 
 pub first_of-c-requires-clause-some : goal.first_of-c-requires-clause-some
 first_of-c-requires-clause-some g c =
