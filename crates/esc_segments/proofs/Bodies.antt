@@ -10,7 +10,6 @@ use Rattle.esc_segments.specs.declared.kind.SegmentKind.TheVariants as kinds
 use Rattle.esc_segments.specs.Places.{found, IsOpened}
 use Rattle.esc_frame.specs.declared.classes.Class.{Class}
 use Rattle.esc_frame.specs.declared.classes.Class.TheVariants.{Introducer, Final, Breaks}
-use Rattle.esc_frame.specs.declared.classes.Breaker.TheVariants.{Cancel, Escape, C1Introducer, C1Terminator, C1}
 use Rattle.esc_frame.specs.declared.classes.Kind.{Kind}
 use Rattle.esc_frame.specs.declared.classes.Kind.TheVariants as kind
 use Rattle.esc_frame.specs.Classes.{class_of, AllOf, in_csi, ends_csi, in_data, is_breaker, is_ignored}

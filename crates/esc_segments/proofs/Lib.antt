@@ -5,6 +5,7 @@ pub mod Sequences
 pub mod Escapes
 pub mod Cutting
 pub mod Emitted
+pub mod ByKind
 pub mod Executes
 pub mod Beginnings
 pub mod KeptUnits
