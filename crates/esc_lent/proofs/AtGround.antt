@@ -1,5 +1,5 @@
 -- What is kept of a stream of which nothing is unfinished.
-use Rattle.std.proofs.Common.{◌≡◌, ◌↔◌, Bool, true, false, if◌then◌else◌, ℕ, List, [], ◌∷◌, Some, length, refl, sym, ap, ◌∙◌, subst}
+use Rattle.std.proofs.Common.{◌≡◌, Bool, true, false, if◌then◌else◌, ℕ, List, [], Some, length, refl, sym, ap, ◌∙◌, subst}
 use Rattle.esc_frame.specs.Classes.{strip}
 use Rattle.esc_frame.specs.Leads.{Unfinished}
 use Rattle.esc_frame.specs.Leads.Unfinished.{Ground, Pending as Begun, InEscape, InCsi, InOsc, InOscPending, InDcs, InData, InApc, InIgnored}
@@ -12,7 +12,6 @@ use Rattle.esc_frame.specs.Stream.{IsAtGround}
 use Rattle.esc_frame.specs.declared.utf8.sequence.Pending.{Pending}
 use Rattle.esc_frame.specs.declared.utf8.sequence.Pending.TheVariants.{Nothing, One, Two, Three}
 use Rattle.esc_frame.proofs.AtGround.{from_ground, to_ground}
-use Rattle.esc_frame.specs.declared.machine.State.{State}
 use Rattle.esc_frame.specs.declared.machine.State.TheVariants as state
 use Rattle.esc_lent.specs.Numbers.{state_numbered}
 use Rattle.esc_lent.specs.States.{IsAt, KeptIn, begun_in}

@@ -223,6 +223,23 @@ pub record NotesText (kind room : ℕ) (event : Changed EscEvent) (is_taken : Ty
   pub some : is_taken → (event.exit.now.kind ≡ kind) × (event.exit.now.length ≤ room)
   pub within : IsCountedAs event.exit.now event.entry.now
 
+-- Bytes are there, the parser is in this state, and no event has come yet; the length that it has
+-- of an earlier one is within this room.
+pub record GoesOn (number : ℕ) (parser : EscParser) (event : EscEvent) (room : ℕ)
+    (bytes : List ℕ) : Type 0 where
+  pub some : 0 < length bytes
+  pub state : parser.state ≡ number
+  pub none : event.kind ≡ NONE
+  pub length : event.length ≤ room
+
+-- Bytes of a string were taken, and the event is none, or of this kind, that of its text.
+pub record TakesPieceOf (text : ℕ) (parser : Changed EscParser) (memory out : Changed (List ℕ))
+    (event : Changed EscEvent) (bytes : List ℕ) (taken : ℕ) : Type 0 where
+  pub takes : TakesPiece parser memory out event bytes taken
+  pub kind : (event.exit.now.kind ≡ NONE) ⊎ (event.exit.now.kind ≡ text)
+  pub within : IsCountedAs event.exit.now event.entry.now
+      × (event.exit.now.length ≤ length out.entry.now)
+
 -- no more parameters and intermediates are counted than the event has places for, and its text is
 -- within this room
 abbrev pub IsInRoom : EscEvent → ℕ → Type 0

@@ -2,16 +2,16 @@
 //! where the parser keeps it.
 #![tactic(auto)]
 
-ghost use Rattle.std.specs.Prelude.{◌≡◌, ◌≤◌, ◌<◌, ◌⊎◌, ◌++◌, ◌∷◌, [], true, false, length};
+ghost use Rattle.std.specs.Prelude.{◌≡◌, ◌++◌, ◌∷◌, [], true, false, length};
 ghost use Rattle.std.specs.List.{list_all};
 ghost use Rattle.esc_frame.specs.Scans.{is_text_byte};
 ghost use Rattle.esc_frame.specs.Machine.TextRuns.{IsTextRun};
 ghost use Rattle.esc_frame.specs.Machine.Prefixes.{prefix_of};
 ghost use Rattle.esc_lent.specs.Runs.{Passes};
-ghost use Rattle.esc_lent.specs.Takes.{Appends, IsCountedAs, NotesText, TakesEnd, TakesPiece, TakesText};
+ghost use Rattle.esc_lent.specs.Takes.{Appends, GoesOn, NotesText, TakesEnd, TakesPieceOf, TakesText};
 
 use crate::characters::put_pending;
-use crate::event::{APC, EscEvent, NONE, OSC};
+use crate::event::{APC, EscEvent, OSC};
 use crate::numbers::{APC_STATE, OSC_STATE, pending_in};
 use crate::openers::escape;
 use crate::parser::EscParser;
@@ -128,13 +128,8 @@ pub fn note_in_osc(
     bytes: &[u8],
     event: &mut EscEvent,
 ) -> usize
-    requires some { 0 < length bytes.now }
-    requires state { parser.old.state ≡ OSC_STATE }
-    requires none { event.old.kind ≡ NONE }
-    requires length { event.old.length ≤ length out.old }
-    ensures takes { TakesPiece parser memory out event bytes.now result }
-    ensures kind { (event.new.kind ≡ NONE) ⊎ (event.new.kind ≡ OSC) }
-    ensures within { IsCountedAs event.new event.old × (event.new.length ≤ length out.old) }
+    requires { GoesOn OSC_STATE parser.old event.old (length out.old) bytes.now }
+    ensures { TakesPieceOf OSC parser memory out event bytes.now result }
 {
     if parser.pending == 0 {
         let run = units_run(bytes);
@@ -240,13 +235,8 @@ pub fn note_in_apc(
     bytes: &[u8],
     event: &mut EscEvent,
 ) -> usize
-    requires some { 0 < length bytes.now }
-    requires state { parser.old.state ≡ APC_STATE }
-    requires none { event.old.kind ≡ NONE }
-    requires length { event.old.length ≤ length out.old }
-    ensures takes { TakesPiece parser memory out event bytes.now result }
-    ensures kind { (event.new.kind ≡ NONE) ⊎ (event.new.kind ≡ APC) }
-    ensures within { IsCountedAs event.new event.old × (event.new.length ≤ length out.old) }
+    requires { GoesOn APC_STATE parser.old event.old (length out.old) bytes.now }
+    ensures { TakesPieceOf APC parser memory out event bytes.now result }
 {
     let run = ascii_run(bytes);
     if run > 0 {
