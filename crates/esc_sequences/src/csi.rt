@@ -120,9 +120,10 @@ impl<A: Allocator + Copy> CSI<A> {
     }
 }
 
-// The sequence as it is.
+/// The sequence of these parameters and this final byte as it is, without a look for renditions.
+/// The error is that memory was refused.
 #[inline]
-fn as_it_came<A: Allocator + Copy>(
+pub fn as_it_came<A: Allocator + Copy>(
     alloc: A,
     params: &[CsiParam],
     parameters_truncated: bool,

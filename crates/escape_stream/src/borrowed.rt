@@ -1,15 +1,15 @@
 //! Actions that borrow what the parser has of them.
-ghost use Rattle.std.specs.Prelude.{◌≡◌, ◌+◌, ◌≤◌, [], ◌∷◌, IfOk, OnErr, OnOk, length, map, vec_capacity, vec_len};
+ghost use Rattle.std.specs.Prelude.{◌≡◌, ◌+◌, ◌≤◌, [], ◌∷◌, OnErr, OnOk, length, map, vec_capacity, vec_len};
 ghost use Rattle.std.specs.Str.{chars};
-ghost use Rattle.esc_sequences.specs.Csis.{csi_value, unspecified};
 ghost use Rattle.esc_actions.specs.Values.{print, value_of};
 ghost use Rattle.escape_stream.specs.Borrowed.{HasGrown, values_of};
 ghost use Rattle.memory.specs.Refusals.{Refused};
 
 use esc_actions::{Action, ControlCode};
 use esc_parse::commands::command_in;
-use esc_sequences::{CSI, Sgr, Unspecified};
-use esc_values::{Boxed, CsiParam, Items};
+use esc_sequences::csi::as_it_came;
+use esc_sequences::{CSI, Sgr};
+use esc_values::{Boxed, CsiParam};
 use std::alloc::{AllocError, Allocator};
 
 /// Actions as [`parse_borrowed`](crate::parse_borrowed) hands them out: text, parameters and
@@ -63,7 +63,7 @@ impl<A: Allocator + Copy> ActionRef<'_, Action<A>> {
                 parameters_truncated,
                 control,
             } => {
-                let sequence = as_it_is(alloc, params, parameters_truncated, control)?;
+                let sequence = as_it_came(alloc, params, parameters_truncated, control)?;
                 append(Action::CSI(sequence), actions)
             }
             ActionRef::Command(text) => {
@@ -108,23 +108,4 @@ fn push_text<A: Allocator>(text: &str, actions: &mut Vec<Action<A>, A>)
     for c in text.chars() {
         actions.push_reserved(Action::Print(c));
     }
-}
-
-// The sequence of these parameters, as it is.
-fn as_it_is<A: Allocator + Copy>(
-    alloc: A,
-    params: &[CsiParam],
-    parameters_truncated: bool,
-    control: u8,
-) -> Result<CSI<A>, AllocError>
-    ensures ok { IfOk result (λ c.
-        csi_value c ≡ unspecified params.now parameters_truncated control) }
-    ensures refused { OnErr result (Refused A) }
-{
-    let kept = Unspecified {
-        params: Items::from_vec(memory::copied(alloc, params)?),
-        parameters_truncated,
-        control,
-    };
-    Ok(CSI::Unspecified(Boxed::new(alloc, kept)?))
 }
