@@ -1,6 +1,6 @@
 //! Values that the framing and the codecs share: texts, lists and boxes that contracts see as plain
 //! values, the error of a reading that may fail, numbers, colours of three channels, base64, a text
-//! cut at a byte, and a parameter of a control sequence's parameters.
+//! cut at a byte, ASCII as a text, and a parameter of a control sequence's parameters.
 //!
 //! A list that takes memory of the allocator it owns: `let mut parameters =
 //! Items::from_slice(alloc,
@@ -10,6 +10,7 @@
 //! A user of this library takes these names from `esc_below` or `escape_stream`.
 #![tactic(auto)]
 
+pub mod ascii;
 pub mod base64_text;
 pub mod boxed;
 pub mod csi_param;
