@@ -96,42 +96,30 @@ fn four_values_of(block: &[u8]) -> [u8; 4]
     (u8x4::from_slice(block) - u8x4::splat(0x3f)).to_array()
 }
 
-// Appends the first eight of these bytes as pixels, for which there is room.
+// Appends four times six pixels, for which there is room.
 #[inline(always)]
-fn put_block<A: Allocator>(vec: &mut Vec<SixelData, A>, block: &[u8])
-    requires room { vec_len vec.old + 8 ≤ vec_capacity vec.old }
-    requires block { 8 ≤ length block.now }
-    requires pixels { All IsPixels (take 8 block.now) }
-    ensures items { vec.new.items ≡ vec.old.items ++ drawn (take 8 block.now) }
-    ensures len { vec_len vec.new ≡ vec_len vec.old + 8 }
-    ensures capacity { vec_capacity vec.new ≡ vec_capacity vec.old }
-{
-    let values = values_of(block);
-    put(vec, values[0]);
-    put(vec, values[1]);
-    put(vec, values[2]);
-    put(vec, values[3]);
-    put(vec, values[4]);
-    put(vec, values[5]);
-    put(vec, values[6]);
-    put(vec, values[7]);
-}
-
-// Appends the first four of these bytes as pixels, for which there is room.
-#[inline(always)]
-fn put_four<A: Allocator>(vec: &mut Vec<SixelData, A>, block: &[u8])
-    requires room { vec_len vec.old + 4 ≤ vec_capacity vec.old }
-    requires block { 4 ≤ length block.now }
-    requires pixels { All IsPixels (take 4 block.now) }
-    ensures items { vec.new.items ≡ vec.old.items ++ drawn (take 4 block.now) }
+fn put_four<A: Allocator>(vec: &mut Vec<SixelData, A>, values: [u8; 4])
+    requires { vec_len vec.old + 4 ≤ vec_capacity vec.old }
+    ensures items { vec.new.items ≡ vec.old.items ++ map Data values }
     ensures len { vec_len vec.new ≡ vec_len vec.old + 4 }
     ensures capacity { vec_capacity vec.new ≡ vec_capacity vec.old }
 {
-    let values = four_values_of(block);
     put(vec, values[0]);
     put(vec, values[1]);
     put(vec, values[2]);
     put(vec, values[3]);
+}
+
+// Appends eight times six pixels, for which there is room.
+#[inline(always)]
+fn put_block<A: Allocator>(vec: &mut Vec<SixelData, A>, values: [u8; 8])
+    requires { vec_len vec.old + 8 ≤ vec_capacity vec.old }
+    ensures items { vec.new.items ≡ vec.old.items ++ map Data values }
+    ensures len { vec_len vec.new ≡ vec_len vec.old + 8 }
+    ensures capacity { vec_capacity vec.new ≡ vec_capacity vec.old }
+{
+    put_four(vec, [values[0], values[1], values[2], values[3]]);
+    put_four(vec, [values[4], values[5], values[6], values[7]]);
 }
 
 // Appends the first two of these bytes as pixels, for which there is room.
@@ -158,11 +146,11 @@ fn fill<A: Allocator>(vec: Vec<SixelData, A>, run: &[u8]) -> Vec<SixelData, A>
     let mut vec = vec;
     let mut at = 0;
     'by_block: while run.len() - at >= 8 {
-        put_block(&mut vec, &run[at..]);
+        put_block(&mut vec, values_of(&run[at..]));
         at += 8;
     }
     'by_four: while run.len() - at >= 4 {
-        put_four(&mut vec, &run[at..]);
+        put_four(&mut vec, four_values_of(&run[at..]));
         at += 4;
     }
     'by_two: while run.len() - at >= 2 {

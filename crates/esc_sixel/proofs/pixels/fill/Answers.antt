@@ -8,7 +8,8 @@ pub by_block-preserved : goal.by_block-preserved
 by_block-preserved g c = record {
   within = omega (arith, c.by_block-test.true, c.by_block.invariant.within);
   items = drawn_more c.args.vec.items c.by_block.vec.items _ c.args.run.now c.by_block.at 8
-      c.by_block.invariant.items c.put_block.ensures.items;
+      c.by_block.invariant.items
+      (c.put_block.ensures.items ∙ ap (λ t. c.by_block.vec.items ++ t) c.values_of.ensures);
   room = omega (
     arith,
     c.by_block.invariant.room,
@@ -21,7 +22,8 @@ pub by_four-preserved : goal.by_four-preserved
 by_four-preserved g c = record {
   within = omega (arith, c.by_four-test.true, c.by_four.invariant.within);
   items = drawn_more c.args.vec.items c.by_four.vec.items _ c.args.run.now c.by_four.at 4
-      c.by_four.invariant.items c.put_four.ensures.items;
+      c.by_four.invariant.items
+      (c.put_four.ensures.items ∙ ap (λ t. c.by_four.vec.items ++ t) c.four_values_of.ensures);
   room = omega (
     arith,
     c.by_four.invariant.room,
@@ -46,11 +48,12 @@ loop-at-preserved g c = record {
   room = omega (arith, c.loop-at.invariant.room, c.put.ensures.len, c.put.ensures.capacity);
 }
 
-pub put_block-requires-clause-pixels : goal.put_block-requires-clause-pixels
-put_block-requires-clause-pixels g c = some_pixels c.args.run.now c.by_block.at 8 c.requires.pixels
+pub values_of-requires-clause-pixels : goal.values_of-requires-clause-pixels
+values_of-requires-clause-pixels g c = some_pixels c.args.run.now c.by_block.at 8 c.requires.pixels
 
-pub put_four-requires-clause-pixels : goal.put_four-requires-clause-pixels
-put_four-requires-clause-pixels g c = some_pixels c.args.run.now c.by_four.at 4 c.requires.pixels
+pub four_values_of-requires-clause-pixels : goal.four_values_of-requires-clause-pixels
+four_values_of-requires-clause-pixels g c =
+    some_pixels c.args.run.now c.by_four.at 4 c.requires.pixels
 
 pub put_two-requires-clause-pixels : goal.put_two-requires-clause-pixels
 put_two-requires-clause-pixels g c = some_pixels c.args.run.now c.by_two.at 2 c.requires.pixels

@@ -10,5 +10,4 @@ returns-clause-items g c =
     let s2 = put_more xs _ _ _ _ s1 c.put-2.ensures.items in
     let s3 = put_more xs _ _ _ _ s2 c.put-3.ensures.items in
     let s4 = put_more xs _ _ _ _ s3 c.put-4.ensures.items in
-    s4 ∙ ap (λ t. xs ++ t) (four c.four_values_of-values.result (omega arith)
-    ∙ c.four_values_of-values.ensures)
+    s4 ∙ ap (λ t. xs ++ t) (four c.args.values (omega arith))
