@@ -1,6 +1,8 @@
 -- What the parts of a line of pixels give.
-use Rattle.std.specs.Prelude.{ℕ, ◌≡◌, ◌+◌, ◌-◌, ◌*◌, ◌⊎◌, List, [], ◌∷◌, None}
+use Rattle.std.specs.Prelude.{ℕ, ◌≡◌, ◌<◌, ◌≤◌, ◌+◌, ◌-◌, ◌*◌, ◌⊎◌, List, [], ◌∷◌, None, drop, length, slice_index, take}
+use Rattle.std.specs.List.{All}
 use Rattle.esc_values.specs.Params.{held}
+use Rattle.esc_sixel.specs.Classes.{IsDigit}
 use Rattle.esc_sixel.specs.declared.parameters.Parameters.{Parameters}
 use Rattle.esc_sixel.specs.declared.sixel_data.SixelData.{SixelData}
 use Rattle.esc_sixel.specs.declared.sixel_data.SixelData.TheVariants.{CarriageReturn, NewLine}
@@ -9,6 +11,20 @@ use Rattle.esc_sixel.specs.declared.sixel_data.SixelData.TheVariants.{CarriageRe
 abbrev pub number_after : ℕ → List ℕ → ℕ
 number_after n [] = n
 number_after n (b ∷ bs) = number_after (held (10 * n + (b - 0x30))) bs
+
+-- the bytes from a place on
+abbrev pub rest_at : ℕ → List ℕ → List ℕ
+rest_at at xs = take (length xs - at) (drop at xs)
+
+-- at this place are k digits, one or more, whose number is n, and right after them is b
+pub record NumberBefore (xs : List ℕ) (at b n k : ℕ) : Type 0 where
+  pub some : 0 < k
+  pub few : k ≤ length (rest_at at xs)
+  pub digits : All IsDigit (take k (rest_at at xs))
+  pub number : n ≡ number_after 0 (take k (rest_at at xs))
+  pub small : n < 10000
+  pub within : at + k < length xs
+  pub mark : slice_index xs (at + k) ≡ b
 
 -- parameters of which nothing has come
 abbrev pub fresh : Parameters

@@ -1,5 +1,6 @@
 //! The text of sixel data, which is gathered in an array and appended from there.
 ghost use Rattle.std.specs.Prelude.{◌≡◌, ◌+◌, ◌<◌, ◌≤◌, ◌++◌, ◌∷◌, [], length, take, false, true, IfSome, IsNone, OnErr, OnOk};
+ghost use Rattle.std.specs.Option.{is_some};
 ghost use Rattle.std.specs.Fmt.{decimal};
 ghost use Rattle.std.specs.List.{list_all};
 ghost use Rattle.std.specs.Str.{IsAscii};
@@ -11,8 +12,8 @@ use crate::sixel_data::SixelData;
 use crate::write_data::least_percentage;
 use crate::write_header::Header;
 use esc_values::Text;
+use esc_values::ascii::as_str;
 use std::alloc::{AllocError, Allocator};
-use std::str;
 
 // How many bytes are gathered at most.
 pub(crate) const ROOM: usize = 128;
@@ -55,8 +56,7 @@ fn append_content<B: Allocator>(content: &[SixelData], text: &mut Text<B>) -> Re
 pub(crate) fn gather(content: &[SixelData], bytes: &mut [u8; ROOM]) -> (usize, usize)
     requires { IsAscii bytes.old }
     ensures ascii { IsAscii bytes.new }
-    ensures count { result.0 ≤ length content.now }
-    ensures room { result.1 ≤ 128 }
+    ensures within { (result.0 ≤ length content.now) × (result.1 ≤ 128) }
     ensures text { take result.1 bytes.new ≡ content_text (take result.0 content.now) }
     ensures none { result.0 ≡ 0 → 0 < length content.now → list_all is_sixel content.now ≡ false }
 {
@@ -113,10 +113,10 @@ pub(crate) fn put(bytes: &mut [u8; ROOM], at: usize, item: SixelData) -> Option<
     requires room { at ≤ 82 }
     requires ascii { IsAscii bytes.old }
     ensures ascii { IsAscii bytes.new }
-    ensures room { IfSome result (λ e. e ≤ 128) }
-    ensures text { IfSome result (λ e. take e bytes.new ≡ take at bytes.old ++ data_text item) }
-    ensures fits { IfSome result (λ e. is_sixel item ≡ true) }
-    ensures none { IsNone result → (bytes.new ≡ bytes.old) × (is_sixel item ≡ false) }
+    ensures text { IfSome result (λ e. (e ≤ 128)
+        × (take e bytes.new ≡ take at bytes.old ++ data_text item)) }
+    ensures fits { is_some result ≡ is_sixel item }
+    ensures none { IsNone result → bytes.new ≡ bytes.old }
 {
     match item {
         SixelData::Data(value) if value < 64 => Some(put_byte(bytes, at, value + 63)),
@@ -224,13 +224,4 @@ fn put_byte(bytes: &mut [u8; ROOM], at: usize, byte: u8) -> usize
 {
     bytes[at] = byte;
     at + 1
-}
-
-// ASCII as a text.
-#[inline(always)]
-pub(crate) fn as_str(bytes: &[u8]) -> &str
-    requires { IsAscii bytes.now }
-    ensures { result.now ≡ bytes.now }
-{
-    unsafe { str::from_utf8_unchecked(bytes) }
 }

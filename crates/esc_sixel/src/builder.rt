@@ -129,11 +129,9 @@ impl<A: Allocator> SixelBuilder<A> {
         ensures each { OnOk result (FoldsTo Pushes self.old bytes.now self.new) }
         ensures ok { (ps : List ℤ) (s : List ℕ) → LeadsTo ps s self.old
             → OnOk result (LeadsTo ps (s ++ bytes.now) self.new) }
-        ensures err { (ps : List ℤ) (s : List ℕ) → LeadsTo ps s self.old
-            → OnErr result ((n : ℕ) × (n < length bytes.now)
-            × LeadsTo ps (s ++ take n bytes.now) self.new) }
+        ensures err { OnErr result ((n : ℕ) × (n < length bytes.now)
+            × FoldsTo Pushes self.old (take n bytes.now) self.new) }
         ensures refused { OnErr result (Refused A) }
-        ensures asks { OnErr result (0 < length bytes.now) }
     {
         if bytes.is_empty() {
             return Ok(());

@@ -1,8 +1,8 @@
 //! Numbers of few digits.
-ghost use Rattle.std.specs.Prelude.{◌≡◌, ◌<◌, ◌≤◌, ◌+◌, ◌-◌, IfSome, drop, length, slice_index, take};
+ghost use Rattle.std.specs.Prelude.{◌≡◌, ◌<◌, ◌≤◌, IfSome, length, take};
 ghost use Rattle.std.specs.List.{All};
 ghost use Rattle.esc_sixel.specs.Classes.{IsDigit};
-ghost use Rattle.esc_sixel.specs.Lines.{number_after};
+ghost use Rattle.esc_sixel.specs.Lines.{NumberBefore, number_after};
 
 // The number of the digits that come first, up to four, and how many these are. It takes none of
 // fewer than four bytes.
@@ -36,16 +36,7 @@ pub(crate) fn few_digits(rest: &[u8]) -> (u32, usize)
 #[inline(always)]
 pub(crate) fn number_before(rest: &[u8], at: usize, mark: u8) -> Option<(u32, usize)>
     requires { at ≤ length rest.now }
-    ensures some { IfSome result (λ r. 0 < r.1) }
-    ensures few { IfSome result (λ r.
-        r.1 ≤ length (take (length rest.now - at) (drop at rest.now))) }
-    ensures digits { IfSome result (λ r.
-        All IsDigit (take r.1 (take (length rest.now - at) (drop at rest.now)))) }
-    ensures number { IfSome result (λ r.
-        r.0 ≡ number_after 0 (take r.1 (take (length rest.now - at) (drop at rest.now)))) }
-    ensures small { IfSome result (λ r. r.0 < 10000) }
-    ensures within { IfSome result (λ r. at + r.1 < length rest.now) }
-    ensures mark { IfSome result (λ r. slice_index rest.now (at + r.1) ≡ mark) }
+    ensures { IfSome result (λ r. NumberBefore rest.now at mark r.0 r.1) }
 {
     let (number, digits) = few_digits(&rest[at..]);
     let end = at + digits;

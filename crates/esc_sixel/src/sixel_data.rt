@@ -1,8 +1,9 @@
 //! What sixel data consists of.
 ghost use Rattle.esc_sixel.specs.Texts.{data_output};
 
-use crate::appending::{ROOM, as_str, put};
+use crate::appending::{ROOM, put};
 use esc_values::RgbColor;
+use esc_values::ascii::as_str;
 use std::fmt;
 
 /// Six pixels, one above the other, as the bits of a number from 0 to 63. The lowest bit is the top

@@ -3,8 +3,9 @@ ghost use Rattle.std.specs.Prelude.{◌≡◌};
 ghost use Rattle.std.specs.Fmt.{DisplaysOnOk};
 ghost use Rattle.esc_sixel.specs.Texts.{least_percent, content_output};
 
-use crate::appending::{ROOM, as_str, gather};
+use crate::appending::{ROOM, gather};
 use crate::sixel_data::SixelData;
+use esc_values::ascii::as_str;
 use std::fmt;
 
 // The least percentage that is read as no less than this channel of a colour.

@@ -9,10 +9,10 @@ items-preserved c =
     let item = c.index-content-count.result in (
       omega arith,
       (
-        c.in-Some.ensures.room,
+        c.in-Some.ensures.text.0,
         (
           c.put.ensures.ascii,
-          c.in-Some.ensures.text
+          c.in-Some.ensures.text.1
               ∙ ap (λ t. t ++ data_text item)
               (text_more [] _ _ _ c.args.content.now c.items.count c.put_pixels-run.result
               c.items.invariant.1.1.1 c.put_pixels-run.ensures.text refl)
@@ -28,6 +28,6 @@ returns-then-count-content-clause-text c =
 
 pub returns-in-None-clause-text : goal.returns-in-None-clause-text
 returns-in-None-clause-text c =
-    ap (take (c.items.end + c.put_pixels-run.result)) (c.in-None.ensures.none refl).0
+    ap (take (c.items.end + c.put_pixels-run.result)) (c.in-None.ensures.none refl)
     ∙ text_more [] _ _ _ c.args.content.now c.items.count c.put_pixels-run.result
     c.items.invariant.1.1.1 c.put_pixels-run.ensures.text refl

@@ -19,9 +19,11 @@ runs-preserved g c = (
     λ plain.
         let so_far = c.runs.invariant.1.1 plain in
         let before = content_text (take c.runs.at c.args.content.now) in
-        put_two _ _ _ _ before c.as_str.result.now _ so_far
+        let run = c.as_str.result.now in
+        let gathered = c.as_str.ensures ∙ c.gather-count.ensures.text in
+        put_two _ _ _ _ before run _ so_far
         (c.in_ok-write_str.ensures.writes so_far.plain (refl {a = true}))
-        (text_more [] before (before ++ c.as_str.result.now) c.as_str.result.now c.args.content.now
-        c.runs.at c.gather-count.result.0 refl refl (c.as_str.ensures ∙ c.gather-count.ensures.text)),
+        (text_more [] before (before ++ run) run c.args.content.now c.runs.at
+        c.gather-count.result.0 refl refl gathered),
   ),
 )

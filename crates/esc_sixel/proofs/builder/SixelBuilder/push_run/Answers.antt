@@ -1,4 +1,4 @@
-use Rattle.std.proofs.Common.{subst, sym, arith, ◌++◌, take}
+use Rattle.std.proofs.Common.{subst, sym, arith, take}
 use Rattle.std.proofs.lemmas.List.{take_all}
 use Rattle.std.specs.List.{FoldsTo}
 use Rattle.esc_sixel.specs.Steps.{LeadsTo, Pushes}
@@ -6,14 +6,12 @@ use Rattle.esc_sixel.proofs.Pushed.{folds_more, on_err, run_leads}
 use Rattle.esc_sixel.proofs.builder.SixelBuilder.push_run.Goals as goal
 
 pub returns-in_err-at-clause-err : goal.returns-in_err-at-clause-err
-returns-in_err-at-clause-err g c = λ ps s h.
-    let before = run_leads ps s (take c.loop-at.at c.args.bytes.now) c.args.self.now c.loop-at.self
-    c.loop-at.invariant.1 h in
+returns-in_err-at-clause-err g c =
     on_err c.from_residual-in_err-at.result (
       c.loop-at.at,
       omega arith,
-      subst (LeadsTo ps (s ++ take c.loop-at.at c.args.bytes.now)) (sym c.in_err-at.ensures.err)
-          before,
+      subst (FoldsTo Pushes c.args.self.now (take c.loop-at.at c.args.bytes.now))
+          (sym c.in_err-at.ensures.err) c.loop-at.invariant.1,
     )
 
 pub loop-at-preserved : goal.loop-at-preserved
