@@ -35,25 +35,6 @@ pub renamed : {A : Type 0} (p after q of : SixelBuilder A) (xs : List ℕ) → a
 renamed p after q of xs e f h =
     subst (λ z. FoldsTo Pushes z xs q) e (subst (λ z. FoldsTo Pushes after xs z) f h)
 
--- none of five
-pub all_none : (k : Parameters) → length k.values ≡ 5 → k.count ≡ 0 → get_or k.values 0 None ≡ None
-    → get_or k.values 1 None ≡ None
-    → get_or k.values 2 None ≡ None
-    → get_or k.values 3 None ≡ None → get_or k.values 4 None ≡ None → k ≡ fresh
-all_none k l n a b c d e = by_items k.values k.count l n a b c d e
-  where
-    by_items : (xs : List (Option ℕ)) (n : ℕ) → length xs ≡ 5 → n ≡ 0 → get_or xs 0 None ≡ None
-        → get_or xs 1 None ≡ None → get_or xs 2 None ≡ None
-        → get_or xs 3 None ≡ None → get_or xs 4 None ≡ None → let made : Parameters =
-        record { values = xs; count = n } in made ≡ fresh
-    by_items [] n l z a b c d e = absurd (omega (arith, l))
-    by_items (u ∷ []) n l z a b c d e = absurd (omega (arith, l))
-    by_items (u ∷ v ∷ []) n l z a b c d e = absurd (omega (arith, l))
-    by_items (u ∷ v ∷ w ∷ []) n l z a b c d e = absurd (omega (arith, l))
-    by_items (u ∷ v ∷ w ∷ x ∷ []) n l z a b c d e = absurd (omega (arith, l))
-    by_items (u ∷ v ∷ w ∷ x ∷ y ∷ []) n l z a b c d e = rw (a, b, c, d, e, z) refl
-    by_items (u ∷ v ∷ w ∷ x ∷ y ∷ o ∷ xs) n l z a b c d e = absurd (omega (arith, l))
-
 -- one more `;`
 separator_class : (b : ℕ) → b ≡ 0x3b → class_of b ≡ Separator
 unfolding class_of

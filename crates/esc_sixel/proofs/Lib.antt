@@ -1,4 +1,3 @@
-pub mod Ascii
 pub mod Cut
 pub mod Defined
 pub mod DigitRuns

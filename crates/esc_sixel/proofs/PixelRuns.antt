@@ -77,9 +77,6 @@ pub pixels_class : (b : ℕ) → IsPixels b → class_of b ≡ Pixels (b - 0x3f)
 unfolding class_of
 pixels_class b h = grind (arith, nat_tests)
 
-pub pixels_least : (b : ℕ) → IsPixels b → 0x3f ≤ b
-pixels_least b h = grind (arith, nat_tests)
-
 -- the last of a list in place of what was pushed
 pub last_set : {X : Type 0} (xs ys : List X) (y z : X) (n : ℕ) → ys ≡ xs ++ y ∷ [] → n ≡ length xs
     → slice_set ys n z ≡ xs ++ z ∷ []

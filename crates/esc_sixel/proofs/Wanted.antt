@@ -1,27 +1,13 @@
 -- Where a byte takes memory.
-use Rattle.std.proofs.Common.{Result, Ok, Err, OnErr, ◌≡◌, ℕ, Bool, true, false, List, [], ◌∷◌}
-use Rattle.std.proofs.Common.{Option, Some, None, refl}
-use Rattle.std.specs.List.{flat_map}
+use Rattle.std.proofs.Common.{Result, Ok, Err, OnErr, ◌≡◌, ℕ, true, Option, Some, None, refl}
 use Rattle.esc_sixel.specs.Classes.{class_of}
-use Rattle.esc_sixel.specs.Meaning.{gives}
-use Rattle.esc_sixel.specs.Steps.{Open, Closed, In, closed_by, wants_memory}
+use Rattle.esc_sixel.specs.Steps.{Open, Closed, In, WantsForData, wants_memory}
 use Rattle.esc_sixel.specs.declared.class.Class.{Class}
 use Rattle.esc_sixel.specs.declared.class.Class.TheVariants.{Return}
 use Rattle.esc_sixel.specs.declared.introducer.Introducer.{Introducer}
 use Rattle.esc_sixel.specs.declared.introducer.Introducer.TheVariants as introducer
-use Rattle.esc_sixel.specs.declared.sixel_data.SixelData.{SixelData}
 
-abbrev pub introducer_of : Open → Option Introducer
-introducer_of Closed = None
-introducer_of (In m r) = Some m
-
-abbrev pub some : List SixelData → Bool
-some [] = false
-some (d ∷ ds) = true
-
--- a byte takes memory exactly where the items that it closes give data
-pub wants_for_data : (o : Open) (c : Class) (b : ℕ)
-    → wants_memory (introducer_of o) c ≡ some (flat_map gives (closed_by o c b))
+pub wants_for_data : (o : Open) (c : Class) (b : ℕ) → WantsForData o c b
 wants_for_data Closed Return b = refl
 wants_for_data Closed c b = refl
 wants_for_data (In introducer.Repeat r) Return b = refl

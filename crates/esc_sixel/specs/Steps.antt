@@ -1,6 +1,7 @@
 -- One byte more of sixel data: the items that no later byte changes, and the command that may go
 -- on. Only the builder is stated by it; what data means is in Items and Meaning.
 use Rattle.std.specs.Prelude.{ℕ, ℤ, ◌≡◌, Bool, true, false, if◌then◌else◌, List, [], ◌∷◌, ◌++◌, Option, Some, None, option_map, unwrap_or, option_to_list}
+use Rattle.std.specs.List.{flat_map}
 use Rattle.esc_sixel.specs.Classes.{class_of}
 use Rattle.esc_sixel.specs.Items.{Item, OfReturn, OfLine, OfPixels, OfRepeat, OfColor, OfRaster, OfJunk, in_run}
 use Rattle.esc_sixel.specs.Meaning.{sixel_of, raster_pan, raster_pad, raster_sizes, is_oversize, gives}
@@ -101,10 +102,22 @@ gives_at_end m more = more
 
 -- Whether a byte takes memory, where this command is open, or none: where it is data, or ends a
 -- `#`. So no digit or `;` of a command does, and outside a `#` no byte that is dropped or begins a
--- command. It is so exactly where the items that the byte closes give data (proofs/Wanted.antt).
+-- command. It is so exactly where the items that the byte closes give data (`WantsForData`).
 abbrev pub wants_memory : Option Introducer → Class → Bool
 wants_memory None c = is_data c
 wants_memory (Some m) c = if in_run c then false else gives_at_end m (is_data c)
+
+abbrev pub introducer_of : Open → Option Introducer
+introducer_of Closed = None
+introducer_of (In m r) = Some m
+
+abbrev pub has_data : List SixelData → Bool
+has_data [] = false
+has_data (d ∷ ds) = true
+
+abbrev pub WantsForData : Open → Class → ℕ → Type 0
+WantsForData o c b =
+    wants_memory (introducer_of o) c ≡ has_data (flat_map gives (closed_by o c b))
 
 -- a builder with these parameters that was pushed these bytes
 unfoldable pub LeadsTo : {A : Type 0} → List ℤ → List ℕ → SixelBuilder A → Type 0

@@ -1,9 +1,11 @@
-//! Laws of sixel images: the items of data are a cut of it, what is written reads back, and what is
-//! read can be written.
+//! Laws of sixel images: the items of data are a cut of it, what is written reads back, what is
+//! read can be written, and where a byte takes memory.
 ghost use Rattle.std.specs.Prelude.{ℕ, ℤ, List};
 ghost use Rattle.esc_sixel.specs.Items.{IsCut, items};
 ghost use Rattle.esc_sixel.specs.Meaning.{sixel_of};
+ghost use Rattle.esc_sixel.specs.Steps.{Open, WantsForData};
 ghost use Rattle.esc_sixel.specs.Writable.{AreNatural, IsWritable, WritesBack};
+ghost use Rattle.esc_sixel.specs.declared.class.Class.{Class};
 ghost use Rattle.esc_sixel.specs.declared.sixel.Sixel.{Sixel};
 
 use std::alloc::Allocator;
@@ -23,4 +25,10 @@ pub fn writes_back<A: Allocator>()
 pub fn data_is_writable<A: Allocator>()
     ensures { (ps : List ℤ) (bs : List ℕ) → AreNatural ps
         → IsWritable (sixel_of {A = A} ps (items bs)) }
+{}
+
+/// A byte takes memory exactly where the items that it closes give data.
+#[tactic(auto, using(crate::proofs::Wanted::wants_for_data))]
+pub fn wants_for_data()
+    ensures { (o : Open) (c : Class) (b : ℕ) → WantsForData o c b }
 {}
