@@ -1,24 +1,33 @@
 //! Control sequences of short numbers, appended to a text from arrays of bytes whose lengths are
 //! known as the program is made.
-ghost use Rattle.std.specs.Prelude.{◌≡◌, ◌<◌, ◌≤◌, ◌∷◌, ◌++◌, [], Bool, pos, IfSome, OnErr, OnOk};
-ghost use Rattle.std.specs.Str.{IsAscii};
+ghost use Rattle.std.specs.Prelude.{◌≡◌, ◌<◌, ◌∷◌, ◌++◌, [], Bool, pos, IfSome, OnErr, OnOk};
 ghost use Rattle.memory.specs.Refusals.{Refused};
 ghost use Rattle.esc_sequences.specs.Csis.{csi_text, unspecified};
 ghost use Rattle.esc_values.specs.declared.csi_param.CsiParam.TheVariants.{Integer, P};
 ghost use Rattle.esc_write.specs.Plain.{AreParams, IsPlain, indexed_text, last_text, number_text, pair_text, short_text};
 
 use crate::indexed::Indexed;
+use esc_values::ascii::as_str;
 use esc_values::{CsiParam, Text};
 use std::alloc::{AllocError, Allocator};
-use std::str;
 
-// ASCII as a text.
-#[inline(always)]
-fn ascii(bytes: &[u8]) -> &str
-    requires { IsAscii bytes.now }
-    ensures { result.now ≡ bytes.now }
-{
-    unsafe { str::from_utf8_unchecked(bytes) }
+// Appends bytes of ASCII, the digits of a number below 256, and a byte after them, at once.
+macro_rules! push_number {
+    ($text:expr, [$($head:expr),*], $number:expr, $last:expr) => {
+        if $number < 10 {
+            $text.push_str(as_str(&[$($head,)* 48 + $number, $last]))
+        } else if $number < 100 {
+            $text.push_str(as_str(&[$($head,)* 48 + $number / 10, 48 + $number % 10, $last]))
+        } else {
+            $text.push_str(as_str(&[
+                $($head,)*
+                48 + $number / 100,
+                48 + $number / 10 % 10,
+                48 + $number % 10,
+                $last,
+            ]))
+        }
+    };
 }
 
 // The number that a parameter is, where it is below 256.
@@ -93,20 +102,7 @@ fn append_number<A: Allocator>(
     ensures ok { OnOk result (text.new ≡ text.old ++ number_text number control) }
     ensures refused { OnErr result (Refused A) }
 {
-    if number < 10 {
-        text.push_str(ascii(&[0x1b, b'[', 48 + number, control]))
-    } else if number < 100 {
-        text.push_str(ascii(&[0x1b, b'[', 48 + number / 10, 48 + number % 10, control]))
-    } else {
-        text.push_str(ascii(&[
-            0x1b,
-            b'[',
-            48 + number / 100,
-            48 + number / 10 % 10,
-            48 + number % 10,
-            control,
-        ]))
-    }
+    push_number!(text, [0x1b, b'['], number, control)
 }
 
 // Appends a number and the final byte after it.
@@ -116,18 +112,7 @@ fn append_last<A: Allocator>(text: &mut Text<A>, number: u8, control: u8) -> Res
     ensures ok { OnOk result (text.new ≡ text.old ++ last_text number control) }
     ensures refused { OnErr result (Refused A) }
 {
-    if number < 10 {
-        text.push_str(ascii(&[48 + number, control]))
-    } else if number < 100 {
-        text.push_str(ascii(&[48 + number / 10, 48 + number % 10, control]))
-    } else {
-        text.push_str(ascii(&[
-            48 + number / 100,
-            48 + number / 10 % 10,
-            48 + number % 10,
-            control,
-        ]))
-    }
+    push_number!(text, [], number, control)
 }
 
 // Appends the text of a control sequence of two numbers.
@@ -146,89 +131,7 @@ fn append_pair<A: Allocator>(
     append_last(text, second, control)
 }
 
-// Appends the text of a control sequence of such numbers, of which the third has one digit.
-#[inline(always)]
-fn append_one<A: Allocator>(
-    text: &mut Text<A>,
-    numbers: Indexed,
-    control: u8,
-) -> Result<(), AllocError>
-    requires third { numbers.third < 10 }
-    requires ascii { control < 128 }
-    ensures ok { OnOk result (text.new
-        ≡ text.old ++ indexed_text numbers.first numbers.second numbers.third control) }
-    ensures refused { OnErr result (Refused A) }
-{
-    text.push_str(ascii(&[
-        0x1b,
-        b'[',
-        48 + numbers.first / 10,
-        48 + numbers.first % 10,
-        b';',
-        48 + numbers.second,
-        b';',
-        48 + numbers.third,
-        control,
-    ]))
-}
-
-// The same, of which it has two.
-#[inline(always)]
-fn append_two<A: Allocator>(
-    text: &mut Text<A>,
-    numbers: Indexed,
-    control: u8,
-) -> Result<(), AllocError>
-    requires third_low { 10 ≤ numbers.third }
-    requires third { numbers.third < 100 }
-    requires ascii { control < 128 }
-    ensures ok { OnOk result (text.new
-        ≡ text.old ++ indexed_text numbers.first numbers.second numbers.third control) }
-    ensures refused { OnErr result (Refused A) }
-{
-    text.push_str(ascii(&[
-        0x1b,
-        b'[',
-        48 + numbers.first / 10,
-        48 + numbers.first % 10,
-        b';',
-        48 + numbers.second,
-        b';',
-        48 + numbers.third / 10,
-        48 + numbers.third % 10,
-        control,
-    ]))
-}
-
-// The same, of which it has three.
-#[inline(always)]
-fn append_three<A: Allocator>(
-    text: &mut Text<A>,
-    numbers: Indexed,
-    control: u8,
-) -> Result<(), AllocError>
-    requires third { 100 ≤ numbers.third }
-    requires ascii { control < 128 }
-    ensures ok { OnOk result (text.new
-        ≡ text.old ++ indexed_text numbers.first numbers.second numbers.third control) }
-    ensures refused { OnErr result (Refused A) }
-{
-    text.push_str(ascii(&[
-        0x1b,
-        b'[',
-        48 + numbers.first / 10,
-        48 + numbers.first % 10,
-        b';',
-        48 + numbers.second,
-        b';',
-        48 + numbers.third / 100,
-        48 + numbers.third / 10 % 10,
-        48 + numbers.third % 10,
-        control,
-    ]))
-}
-
-// Appends the text of a control sequence of such numbers.
+// Appends the text of a control sequence of the numbers of a colour of the palette.
 #[inline(always)]
 fn append_indexed<A: Allocator>(
     text: &mut Text<A>,
@@ -240,13 +143,21 @@ fn append_indexed<A: Allocator>(
         ≡ text.old ++ indexed_text numbers.first numbers.second numbers.third control) }
     ensures refused { OnErr result (Refused A) }
 {
-    if numbers.third < 10 {
-        append_one(text, numbers, control)
-    } else if numbers.third < 100 {
-        append_two(text, numbers, control)
-    } else {
-        append_three(text, numbers, control)
-    }
+    let third = numbers.third;
+    push_number!(
+        text,
+        [
+            0x1b,
+            b'[',
+            48 + numbers.first / 10,
+            48 + numbers.first % 10,
+            b';',
+            48 + numbers.second,
+            b';'
+        ],
+        third,
+        control
+    )
 }
 
 /// The parameters of a control sequence that is written at once: none, one or two numbers, or
@@ -300,7 +211,7 @@ impl ShortNumbers {
         ensures refused { OnErr result (Refused A) }
     {
         match self {
-            ShortNumbers::Nothing => text.push_str(ascii(&[0x1b, b'[', control])),
+            ShortNumbers::Nothing => text.push_str(as_str(&[0x1b, b'[', control])),
             ShortNumbers::Lone(number) => append_number(text, number, control),
             ShortNumbers::Pair(first, second) => append_pair(text, first, second, control),
             ShortNumbers::Palette(numbers) => append_indexed(text, numbers, control),
