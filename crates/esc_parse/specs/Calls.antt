@@ -30,6 +30,10 @@ MayParse may takes p old b =
     IsBroken p ⊎ ((limit : Option ℕ) × (s : List ℕ) × WasFedWithin limit s p
     × Awaits (AnyAt value_of may) (At value_of takes) old (yield_within limit s b))
 
+-- the sink is ready for any action, or for these
+abbrev pub MayFeed : {A S : Type 0} → Sinks S (Action A) → Parser A → S → List ℕ → Type 0
+MayFeed T old sink b = T.is_ready sink ⊎ MayParse T.may T.takes old sink b
+
 -- One of two holds. It begins with an arrow, since a caller's proof that a closure can be called
 -- always is found there, and not on a side of a sum.
 abbrev pub OneOf : Type 0 → Type 0 → Type 0

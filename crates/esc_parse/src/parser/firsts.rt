@@ -1,8 +1,8 @@
 //! Calls that take a prefix of the bytes: up to the first action, or to the first ones after which
 //! no segment is unfinished.
-ghost use Rattle.std.specs.Prelude.{◌⊎◌, ◌≡◌, ◌<◌, ◌≤◌, ◌+◌, ℕ, [], ◌∷◌, ◌++◌, IfOk, IfSome, IsTrue, None, Option, Some, length, map, take};
+ghost use Rattle.std.specs.Prelude.{◌≡◌, ◌<◌, ◌≤◌, ◌+◌, ℕ, [], ◌∷◌, ◌++◌, IfOk, IfSome, IsTrue, None, Option, Some, length, map, take};
 ghost use Rattle.std.specs.Option.{option_map};
-ghost use Rattle.esc_parse.specs.Calls.{After, AfterMore, FindsFirst, FindsFirstList, FindsFirsts, GivesPrefix, MayParse, TakesPrefix, Yields};
+ghost use Rattle.esc_parse.specs.Calls.{After, AfterMore, FindsFirst, FindsFirstList, FindsFirsts, GivesPrefix, MayFeed, TakesPrefix, Yields};
 ghost use Rattle.esc_parse.specs.Collected.{Adds, AddsSome};
 ghost use Rattle.esc_parse.specs.Firsts.{IsStop, first};
 ghost use Rattle.esc_frame.specs.Memory.{MayTake};
@@ -42,7 +42,7 @@ impl<A: Allocator + Copy> Parser<A> {
         bytes: &[u8],
         sink: S,
     ) -> (Result<usize, ParseError>, S)
-        requires { S.is_ready sink ⊎ MayParse S.may S.takes self.old sink bytes.now }
+        requires { MayFeed S.Sink self.old sink bytes.now }
         ensures { GivesPrefix S.Sink self.old bytes.now sink result.0 self.new result.1 }
     {
         let mut performer = Performer {
@@ -71,7 +71,7 @@ impl<A: Allocator + Copy> Parser<A> {
         bytes: &[u8],
         sink: S,
     ) -> (Result<usize, ParseError>, S)
-        requires { S.is_ready sink ⊎ MayParse S.may S.takes self.old sink bytes.now }
+        requires { MayFeed S.Sink self.old sink bytes.now }
         ensures { GivesPrefix S.Sink self.old bytes.now sink result.0 self.new result.1 }
     {
         let n = self.unfinished.data_ahead(bytes);
