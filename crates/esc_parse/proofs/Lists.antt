@@ -166,11 +166,6 @@ pub if_err_parts : {T E : Type 0} (Y Z W V : Type 0) (r : Result T E) (A B : E �
 if_err_parts Y Z W V (Ok x) A B f w = tt
 if_err_parts Y Z W V (Err e) A B f w = let p = f w.2 in (w.0, w.1, p.0.0, p.0.1, p.1)
 
-pub if_err_join : {T E : Type 0} (B Y Z : Type 0) (r : Result T E) (A : E → Type 0) → (Y → Z)
-    → OnErr r B → IfErr r (λ e. A e × Y) → IfErr r (λ e. A e × B × Z)
-if_err_join B Y Z (Ok x) A f b w = tt
-if_err_join B Y Z (Err e) A f b w = (w.0, b, f w.1)
-
 -- no error, where its cause never is
 pub is_ok_unless : {T E : Type 0} (P : T → Type 0) (B : E → Type 0) (W : Type 0) (r : Result T E)
     → (W → ⊥) → IfOk r P
