@@ -2,10 +2,10 @@
 use Rattle.std.proofs.Common.{ℕ, zero, suc, ◌≡◌, ◌<◌, ◌+◌, ◌&&◌, Bool, List, [], ◌∷◌, ◌++◌, codes, length, take, get_or, Option, Some, None, is_none, refl, ap, sym, ◌∙◌, append_assoc, arith}
 use Rattle.std.proofs.lemmas.Grind.{flat_map-append}
 use Rattle.std.proofs.lemmas.List.{append-nil}
-use Rattle.esc_html.specs.Attributes.{begun_classes, begun_styles, ended, is_empty, next_class, next_style}
+use Rattle.esc_html.specs.Attributes.{begun_classes, begun_styles, is_empty, next_class, next_style}
 use Rattle.esc_looks.specs.Classes.{class_name, more_names}
 use Rattle.esc_looks.specs.Looks.{present}
-use Rattle.esc_html.specs.Pieces.{attribute_text, attributes_text, class_attribute, style_attribute}
+use Rattle.esc_html.specs.Pieces.{attribute_text, attributes_text}
 use Rattle.esc_looks.specs.Styles.{style_text, styles_text}
 use Rattle.esc_looks.specs.declared.class.Class.{Class}
 use Rattle.esc_looks.specs.declared.style.Style.{Style}
@@ -59,11 +59,6 @@ classes_next (d ∷ cs) (Some c) =
     ∙ ap (λ x. codes " class=\"" ++ x)
     (sym (append_assoc (class_name d) (more_names cs) (0x20 ∷ class_name c)))
 
-pub classes_ended : (cs : List Class)
-    → begun_classes cs ++ ended (is_empty cs) ≡ attributes_text (class_attribute cs)
-classes_ended [] = refl
-classes_ended (c ∷ cs) = sym (append-nil (begun_classes (c ∷ cs) ++ codes "\""))
-
 -- ---- styles
 
 styles_next : (ss : List Style) (o : Option Style)
@@ -74,11 +69,6 @@ styles_next (d ∷ ss) (Some s) =
     ap (λ x. codes " style=\"" ++ x)
     (flat_map-append style_text (d ∷ ss) (s ∷ [])
     ∙ ap (λ y. styles_text (d ∷ ss) ++ y) (append-nil (style_text s)))
-
-pub styles_ended : (ss : List Style)
-    → begun_styles ss ++ ended (is_empty ss) ≡ attributes_text (style_attribute ss)
-styles_ended [] = refl
-styles_ended (s ∷ ss) = sym (append-nil (begun_styles (s ∷ ss) ++ codes "\""))
 
 -- ---- one more of them
 
