@@ -1,5 +1,5 @@
 -- The text of a stream whose lines are streams of their own, as it grows.
-use Rattle.std.proofs.Common.{ℕ, ◌≡◌, ◌+◌, ◌-◌, length, take, drop, Bool, true, false, ◌||◌, if◌then◌else◌, List, [], ◌∷◌, ◌++◌, Some, Result, Ok, Err, IfErr, OnErr, ◌⊎◌, inl, inr, arith, refl, ap, sym, ◌∙◌, subst, append_assoc}
+use Rattle.std.proofs.Common.{ℕ, ◌≡◌, ◌+◌, ◌-◌, length, take, drop, Bool, true, false, ◌||◌, if◌then◌else◌, List, [], ◌∷◌, ◌++◌, Some, ◌⊎◌, inl, inr, arith, refl, ap, sym, ◌∙◌, subst, append_assoc}
 use Rattle.std.specs.List.{flat_map, filter}
 use Rattle.std.proofs.lemmas.Bool.Decides.{nat_tests}
 use Rattle.std.proofs.lemmas.Grind.{flat_map-append}
@@ -19,11 +19,6 @@ use Rattle.esc_filter.proofs.Characters.{in_none}
 use Rattle.esc_filter.specs.Characters.{in_characters}
 use Rattle.esc_filter.specs.declared.unicode.Unicode.{Unicode}
 use Rattle.esc_filter.specs.declared.line_filter.LineFilter.{LineFilter}
-
-pub if_err_on : {X E R : Type 0} {Q : E → Type 0} (r : Result X E) → ((e : E) → Q e → R)
-    → IfErr r Q → OnErr r R
-if_err_on (Ok x) f h = h
-if_err_on (Err e) f h = f e h
 
 -- ---- line feeds
 
@@ -89,10 +84,6 @@ pub line_feed_is : (b : ℕ) → is_line_feed b ≡ true → b ≡ 0x0a
 line_feed_is b h = grind (arith, nat_tests)
 
 -- ---- lines
-
-begin_append : (b : ℕ) (ls ks : List (List ℕ)) (l : List ℕ)
-    → begin_with b ((l ∷ ls) ++ ks) ≡ begin_with b (l ∷ ls) ++ ks
-begin_append b ls ks l = refl
 
 -- some bytes have some line
 first_of : (b : ℕ) (s : List ℕ) → (l : List ℕ) × (ls : List (List ℕ)) × (lines (b ∷ s) ≡ l ∷ ls)

@@ -1,5 +1,5 @@
 -- Characters that deceive, and what is written of them.
-use Rattle.std.proofs.Common.{◌≡◌, ℕ, ◌<◌, ◌/◌, ◌%◌, ◌||◌, ◌⊎◌, inl, inr, arith, Bool, true, false, nat_lt, if◌then◌else◌, List, [], ◌∷◌, ◌++◌, map, refl, sym, ap, ◌∙◌, subst, OnOk, Result}
+use Rattle.std.proofs.Common.{◌≡◌, ℕ, ◌<◌, ◌/◌, ◌%◌, ◌||◌, ◌⊎◌, inl, inr, arith, Bool, true, false, nat_lt, if◌then◌else◌, List, [], ◌∷◌, ◌++◌, map, refl, sym, ap, ◌∙◌, subst}
 use Rattle.std.specs.Fmt.{digit_glyph}
 use Rattle.std.specs.List.{filter, list_all, list_any}
 use Rattle.std.proofs.lemmas.Bool.{and_parts}
@@ -9,11 +9,10 @@ use Rattle.esc_visible.specs.Characters.{digit_at, is_deceiving, leading, number
 use Rattle.esc_frame.specs.Scans.{is_text_byte}
 use Rattle.std.proofs.lemmas.Grind.{flat_map-append}
 use Rattle.std.proofs.lemmas.Str.{encode_ascii}
-use Rattle.esc_parse.proofs.Lists.{on_ok_more}
 use Rattle.esc_values.specs.Clear.{is_clear}
 use Rattle.esc_actions.specs.Texts.{texts_after}
 use Rattle.esc_actions.specs.Values.{Value, print, string, control, esc, csi, osc, kitty, sixel, termcap, short, enter, datum, exit}
-use Rattle.esc_filter.specs.Characters.{in_characters, in_unicode, instead}
+use Rattle.esc_filter.specs.Characters.{in_characters, in_unicode}
 use Rattle.esc_filter.specs.Closing.{Left, after_values}
 use Rattle.esc_filter.specs.Noted.{AreKept, Writes}
 use Rattle.esc_filter.specs.declared.written.Written.{Written}
@@ -210,12 +209,3 @@ writes_number {A} p q c t e o b u = (
   b,
   u,
 )
-
--- what is written of a character that deceives
-pub instead_one : {A : Type 0} (u : Unicode) (c : ℕ) → is_deceiving c ≡ true
-    → in_unicode {A = A} u (print c) ≡ instead u c
-instead_one u c h = rw h refl
-
-pub writes_as : {A E : Type 0} (r : Result (Unit {0}) E) (p q : Written A) (vs ws : List (Value A))
-    → ws ≡ vs → OnOk r (Writes p vs q) → OnOk r (Writes p ws q)
-writes_as r p q vs ws e h = on_ok_more _ _ r (subst (λ x. Writes p x q) (sym e)) h

@@ -6,9 +6,8 @@ use Rattle.esc_sequences.specs.Csis.{csi_of, sgr, unspecified}
 use Rattle.esc_values.specs.declared.csi_param.CsiParam.{CsiParam}
 use Rattle.esc_actions.specs.Values.{Value, csi}
 use Rattle.esc_filter.specs.Known.{ArePassedRenditions, IsKnown, nothing}
-use Rattle.esc_filter.specs.Rules.{admits, is_plain_param, is_rendition}
+use Rattle.esc_filter.specs.Rules.{is_plain_param, is_rendition}
 use Rattle.esc_filter.specs.declared.known.Known.{Known}
-use Rattle.esc_filter.specs.declared.policy.Policy.TheVariants as policy
 use Rattle.esc_filter.proofs.Sequences.{each_of, nameless}
 
 pub nothing_known : {A : Type 0} (admits : Value A → Bool) → IsKnown admits nothing
@@ -38,69 +37,3 @@ pub renditions_pass : {A : Type 0} (admits : Value A → Bool) (es : List CsiPar
 renditions_pass admits es pass plain =
     each_of (λ c. admits (csi c)) (λ s. pass (sgr s) refl) es 0x6d
     (pass (unspecified es false 0x6d) (rw plain refl))
-
--- ---- the policies
-
-pub text_known : (A : Type 0) → IsKnown {A = A} (admits policy.Text) (record {
-  text = true;
-  renditions = false;
-  links = false;
-  no_functions = true;
-  no_commands = true;
-  no_escapes = true;
-})
-text_known A = record {
-  text = λ h v t. t;
-  renditions = λ h. absurd cc;
-  links = λ h. absurd cc;
-  no_functions = λ h c t. refl;
-  no_commands = λ h c t. refl;
-  no_escapes = λ h e. refl;
-}
-
-pub colour_known : (A : Type 0) → IsKnown {A = A} (admits policy.Color) (record {
-  text = true;
-  renditions = true;
-  links = true;
-  no_functions = true;
-  no_commands = true;
-  no_escapes = true;
-})
-colour_known A = record {
-  text = λ h v t. rw t refl;
-  renditions = λ h c t. t;
-  links = λ h c t. t;
-  no_functions = λ h c t. t;
-  no_commands = λ h c t. t;
-  no_escapes = λ h e. refl;
-}
-
-abbrev more : Known
-more = record {
-  text = true;
-  renditions = true;
-  links = true;
-  no_functions = false;
-  no_commands = false;
-  no_escapes = false;
-}
-
-pub screen_known : (A : Type 0) → IsKnown {A = A} (admits policy.Screen) more
-screen_known A = record {
-  text = λ h v t. rw t refl;
-  renditions = λ h c t. rw t refl;
-  links = λ h c t. rw t refl;
-  no_functions = λ h. absurd cc;
-  no_commands = λ h. absurd cc;
-  no_escapes = λ h. absurd cc;
-}
-
-pub all_known : (A : Type 0) → IsKnown {A = A} (admits policy.All) more
-all_known A = record {
-  text = λ h v t. refl;
-  renditions = λ h c t. refl;
-  links = λ h c t. refl;
-  no_functions = λ h. absurd cc;
-  no_commands = λ h. absurd cc;
-  no_escapes = λ h. absurd cc;
-}

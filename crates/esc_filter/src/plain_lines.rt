@@ -1,11 +1,10 @@
 //! Lines that are written as they are.
 ghost use Rattle.std.specs.Prelude.{◌≡◌, ◌≤◌, length, take, IfSome};
-ghost use Rattle.std.specs.Str.{IsAscii};
 ghost use Rattle.esc_filter.specs.Lines.{ArePlainLines, IsNumber, IsShortRendition};
 
 use esc_frame::runs::scans::data_run;
+use esc_values::ascii::as_str;
 use std::alloc::Allocator;
-use std::str;
 
 /// The lines that come first and have nothing before their line feeds but bytes 20 to 7E, tabs,
 /// carriage returns and, where `renditions` is true, renditions that are written as they came, of
@@ -92,12 +91,4 @@ fn last_number(bytes: &[u8]) -> Option<(usize, bool)>
         return None;
     }
     Some((4, true))
-}
-
-// ASCII as a text.
-fn as_str(lines: &[u8]) -> &str
-    requires { IsAscii lines.now }
-    ensures { result.now ≡ lines.now }
-{
-    unsafe { str::from_utf8_unchecked(lines) }
 }
