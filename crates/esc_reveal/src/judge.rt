@@ -153,10 +153,19 @@ pub(crate) fn judge_piece<P: Admit<A>, A: Allocator + Copy>(
         ≡ are_kept (P.admits policy.now) (meaning_within (Some limit) (take x.0 bytes.now))) }
     ensures refused { LeadsToWithin (Some limit) [] framer.old → OnErr result (Refused A) }
 {
-    match judge_control(framer, policy, bytes) {
-        Some(passes) => Ok((1, passes)),
-        None => judge_other(alloc, framer, policy, limit, bytes),
+    if let Some(passes) = judge_control(framer, policy, bytes) {
+        return Ok((1, passes));
     }
+    let mut performer = unasked(alloc, policy, limit);
+    let mut at = 0;
+    while at < bytes.len() {
+        let n = judge_some(framer, &mut performer, &bytes[at..])?;
+        at += n;
+        if framer.is_ground() {
+            return Ok((at, performer.sink.verdict.keeps()));
+        }
+    }
+    Ok((at, performer.sink.verdict.keeps()))
 }
 
 // Whether the control that comes first passes. None where none does.
@@ -171,35 +180,6 @@ fn judge_control<P: Admit<A>, A: Allocator>(
 {
     let code = ControlCode::from_byte(framer.first_control(bytes)?)?;
     Some(passes(policy, &Action::Control(code)))
-}
-
-// The same of any other piece.
-fn judge_other<P: Admit<A>, A: Allocator + Copy>(
-    alloc: A,
-    framer: &mut VTParser<A>,
-    policy: &P,
-    limit: usize,
-    bytes: &[u8],
-) -> Result<(usize, bool), AllocError>
-    requires { 0 < length bytes.now }
-    ensures count { IfOk result (λ x. (0 < x.0) × (x.0 ≤ length bytes.now)) }
-    ensures framed { LeadsToWithin (Some limit) [] framer.old → IfOk result
-        (λ x. LeadsToWithin (Some limit) (take x.0 bytes.now) framer.new
-        × IsQuietTo x.0 bytes.now) }
-    ensures judged { LeadsToWithin (Some limit) [] framer.old → IfOk result (λ x. x.1
-        ≡ are_kept (P.admits policy.now) (meaning_within (Some limit) (take x.0 bytes.now))) }
-    ensures refused { LeadsToWithin (Some limit) [] framer.old → OnErr result (Refused A) }
-{
-    let mut performer = unasked(alloc, policy, limit);
-    let mut at = 0;
-    while at < bytes.len() {
-        let n = judge_some(framer, &mut performer, &bytes[at..])?;
-        at += n;
-        if framer.is_ground() {
-            return Ok((at, performer.sink.verdict.keeps()));
-        }
-    }
-    Ok((at, performer.sink.verdict.keeps()))
 }
 
 // Frames some of these bytes, one at least.

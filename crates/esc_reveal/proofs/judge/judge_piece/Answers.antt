@@ -1,5 +1,109 @@
-use Rattle.std.proofs.Common.{arith}
+use Rattle.std.proofs.Common.{◌≡◌, ◌-◌, ◌+◌, ◌++◌, false, List, ℕ, Some, length, take, drop, sym, ap, ◌∙◌, subst, arith}
+use Rattle.esc_frame.proofs.CsiRuns.{run_joins}
+use Rattle.esc_frame.proofs.ManyBytes.{tail_length}
+use Rattle.esc_reveal.proofs.Ground.{ground_test}
+use Rattle.esc_reveal.proofs.Judging.{finds, judged_first, on_any}
+use Rattle.esc_reveal.proofs.Quiet.{quiet_more}
+use Rattle.esc_actions.specs.Meaning.{meaning_within}
+use Rattle.esc_frame.specs.Stream.{LeadsToWithin}
+use Rattle.esc_reveal.specs.Judged.{HasJudged, begun, folded}
+use Rattle.esc_reveal.specs.Pieces.{is_at_ground}
 use Rattle.esc_reveal.proofs.judge.judge_piece.Goals as goal
+
+-- the bytes from a place on
+abbrev tail : List ℕ → ℕ → List ℕ
+tail bytes at = take (length bytes - at) (drop at bytes)
+
+pub loop-at-init : goal.loop-at-init
+loop-at-init g c = record {
+  within = omega arith;
+  judged = λ h. (
+    judged_first g.P.Admit c.args.limit c.args.framer.now c.unasked-performer.result h
+        c.unasked-performer.ensures.hooks c.unasked-performer.ensures.verdict,
+    c.unasked-performer.ensures.policy,
+  );
+  quiet = λ h. (λ k a b. absurd (omega (arith, b)), λ a. absurd (omega (arith, a)));
+}
+
+-- what is known of the bytes so far, and of those that came now
+pub loop-at-preserved : goal.loop-at-preserved
+loop-at-preserved g c =
+    let bs = c.args.bytes.now in
+    let at = c.loop-at.at in
+    let n = c.in_ok-n.n in
+    let inv = c.loop-at.invariant in
+    let l = tail_length bs at in
+    let limit = c.args.limit in
+    record {
+      within = omega (arith, c.in_ok-n.ensures.count, l, inv.within);
+      judged = λ h.
+          let k = inv.judged h in
+          let more = c.in_ok-n.ensures.given limit (take at bs) k.0 in (
+            subst (λ s. HasJudged g.P.Admit limit s c.judge_some.new.framer
+                c.judge_some.new.performer) (run_joins bs at n) more.0,
+            more.1 ∙ k.1,
+          );
+      quiet = λ h.
+          let k = inv.judged h in
+          let q = inv.quiet h in
+          let more = c.in_ok-n.ensures.given limit (take at bs) k.0 in
+          let test = ground_test c.is_ground.result (take at bs ++ take n (tail bs at))
+          (c.is_ground.ensures.ground (Some limit) (take at bs ++ take n (tail bs at))
+          more.0.framed) in (
+            quiet_more (Some limit) bs at n q.0 q.1 more.2,
+            λ a. subst (λ s. is_at_ground s ≡ false) (run_joins bs at n)
+                (sym test ∙ c.if-is_ground.false),
+          );
+    }
+
+pub returns-then-is_ground-clause-framed : goal.returns-then-is_ground-clause-framed
+returns-then-is_ground-clause-framed g c = λ h.
+    let bs = c.args.bytes.now in
+    let at = c.loop-at.at in
+    let n = c.in_ok-n.n in
+    let k = c.loop-at.invariant.judged h in
+    let q = c.loop-at.invariant.quiet h in
+    let more = c.in_ok-n.ensures.given c.args.limit (take at bs) k.0 in (
+      subst (λ s. LeadsToWithin (Some c.args.limit) s c.judge_some.new.framer)
+          (run_joins bs at n) more.0.framed,
+      quiet_more (Some c.args.limit) bs at n q.0 q.1 more.2,
+    )
+
+pub returns-then-is_ground-clause-judged : goal.returns-then-is_ground-clause-judged
+returns-then-is_ground-clause-judged g c = λ h.
+    let bs = c.args.bytes.now in
+    let at = c.loop-at.at in
+    let n = c.in_ok-n.n in
+    let k = c.loop-at.invariant.judged h in
+    let more = c.in_ok-n.ensures.given c.args.limit (take at bs) k.0 in
+    let s = take (at + n) bs in
+    let all = subst (λ s. HasJudged g.P.Admit c.args.limit s c.judge_some.new.framer
+    c.judge_some.new.performer) (run_joins bs at n) more.0 in
+    c.keeps.ensures
+    ∙ finds (g.P.Admit.admits c.args.policy.now) _ (meaning_within (Some c.args.limit) s)
+    (all.judged
+    ∙ ap (λ p. folded (g.P.Admit.admits p) begun (meaning_within (Some c.args.limit) s))
+    (more.1 ∙ k.1))
+
+pub returns-clause-framed : goal.returns-clause-framed
+returns-clause-framed g c = λ h.
+    let bs = c.args.bytes.now in
+    ((c.loop-at.invariant.judged h).0.framed, (c.loop-at.invariant.quiet h).0)
+
+pub returns-clause-judged : goal.returns-clause-judged
+returns-clause-judged g c = λ h.
+    let k = c.loop-at.invariant.judged h in
+    let s = take c.loop-at.at c.args.bytes.now in
+    c.keeps-2.ensures
+    ∙ finds (g.P.Admit.admits c.args.policy.now) _ (meaning_within (Some c.args.limit) s)
+    (k.0.judged
+    ∙ ap (λ p. folded (g.P.Admit.admits p) begun (meaning_within (Some c.args.limit) s)) k.1)
+
+pub returns-in_err-n-clause-refused : goal.returns-in_err-n-clause-refused
+returns-in_err-n-clause-refused g c = λ h.
+    on_any c.from_residual.result
+    (c.in_err-n.ensures.refused c.args.limit (take c.loop-at.at c.args.bytes.now)
+    (c.loop-at.invariant.judged h).0)
 
 pub returns-in-Some-clause-framed : goal.returns-in-Some-clause-framed
 returns-in-Some-clause-framed g c = λ h.

@@ -2,7 +2,7 @@ use Rattle.std.proofs.Common.{◌≡◌, ◌<◌, ◌≤◌, ◌-◌, false, [],
 use Rattle.esc_frame.specs.Stream.{LeadsToWithin}
 use Rattle.esc_reveal.specs.Judged.{HasJudged, IsQuietTo}
 use Rattle.esc_reveal.specs.Pieces.{is_at_ground}
-use Rattle.esc_reveal.proofs.judge.judge_other.Given as goal
+use Rattle.esc_reveal.proofs.judge.judge_piece.Given as goal
 
 abbrev pub invariant-loop-at : goal.invariant-loop-at
 invariant-loop-at g l = record {
