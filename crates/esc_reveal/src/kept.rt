@@ -4,7 +4,7 @@ ghost use Rattle.esc_reveal.specs.Grown.{Grows, Keeps};
 ghost use Rattle.esc_reveal.specs.Visible.{rest_text, visible};
 ghost use Rattle.memory.specs.Refusals.{Refused};
 
-use crate::shown::{push_runs, push_shown};
+use crate::shown::{push_runs, push_visible};
 use crate::visible::push_stray;
 use esc_frame::utf8::sequence::Pending;
 use std::alloc::{AllocError, Allocator, Global};
@@ -104,7 +104,7 @@ impl<A: Allocator> Kept<A> {
             self.clear();
             return Ok(());
         }
-        push_shown(text, &self.piece)?;
+        push_visible(text, &self.piece)?;
         self.clear();
         Ok(())
     }

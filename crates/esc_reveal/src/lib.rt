@@ -21,4 +21,4 @@ pub use laws::{
 };
 pub use reveal::Reveal;
 pub use revealing::Revealing;
-pub use visible::push_visible;
+pub use shown::push_visible;

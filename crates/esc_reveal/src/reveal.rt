@@ -10,7 +10,7 @@ ghost use Rattle.memory.specs.Refusals.{Refused};
 
 use crate::judge::{judge_piece, stays_whole};
 use crate::kept::Kept;
-use crate::shown::push_shown;
+use crate::shown::push_visible;
 use crate::silent::frame_some;
 use crate::text::admitted_run;
 use crate::whole::may_stay;
@@ -287,7 +287,7 @@ impl<P: Admit<A>, A: Allocator + Copy> Reveal<P, A> {
         if may_stay(self.rule.limit, passes, bytes) {
             memory::extend(&mut self.text, bytes)
         } else {
-            push_shown(&mut self.text, bytes)
+            push_visible(&mut self.text, bytes)
         }
     }
 

@@ -10,11 +10,15 @@ use crate::visible::{push_next, push_stray};
 use esc_frame::utf8::sequence::Pending;
 use std::alloc::{AllocError, Allocator};
 
-/// Appends the visible text of `bytes`, as [`push_visible`](crate::push_visible) does.
-pub(crate) fn push_shown<A: Allocator>(
-    text: &mut Vec<u8, A>,
-    bytes: &[u8],
-) -> Result<(), AllocError>
+/// Appends the visible text of `bytes`: of each well-formed character of UTF-8 (Unicode, Table 3-7)
+/// and of each byte that is no part of one. Controls are `^X` and `^?`, as `cat -v` writes them;
+/// `^`, `<` and bytes that are no part of a character are their numbers, as `<9D>`; characters that
+/// do not show as themselves, among them C1 and those that have no width or change the direction of
+/// text, are `<U+202E>`, as `less` writes both; any other character is itself. So the text can be
+/// read back as `bytes`.
+///
+/// The error says that memory was refused: a part of the text was appended then.
+pub fn push_visible<A: Allocator>(text: &mut Vec<u8, A>, bytes: &[u8]) -> Result<(), AllocError>
     ensures ok { OnOk result (text.new.items ≡ text.old.items ++ visible bytes.now) }
     ensures refused { OnErr result (Refused A) }
 {

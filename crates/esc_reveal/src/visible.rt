@@ -1,50 +1,16 @@
-//! Bytes as text that shows each of them.
+//! The visible text of a byte, and of what has begun before it.
 ghost use Rattle.std.specs.Prelude.{◌≡◌, ◌<◌, ◌++◌, ◌∷◌, [], IfOk, OnErr, OnOk, true};
 ghost use Rattle.esc_frame.specs.Machine.Prefixes.{prefix_of};
 ghost use Rattle.esc_frame.specs.Sequences.{is_prefix, is_sequence, number_of, outcome};
-ghost use Rattle.esc_reveal.specs.Visible.{ascii_text, begun_after, character_text, first_begun, first_text, hex_byte, is_mark, next_begun, next_text, printed_text, settled, single_text, stray_text, visible};
+ghost use Rattle.esc_reveal.specs.Visible.{ascii_text, character_text, first_begun, first_text, hex_byte, is_mark, next_begun, next_text, printed_text, single_text, stray_text};
 ghost use Rattle.memory.specs.Refusals.{Refused};
 
 use esc_frame::utf8::sequence::{Outcome, Pending, lies_from};
 use esc_visible::{hex_digit, is_shown, number_text};
 use std::alloc::{AllocError, Allocator};
 
-/// Appends the visible text of `bytes`: of each well-formed character of UTF-8 (Unicode, Table 3-7)
-/// and of each byte that is no part of one. Controls are `^X` and `^?`, as `cat -v` writes them;
-/// `^`, `<` and bytes that are no part of a character are their numbers, as `<9D>`; characters that
-/// do not show as themselves, among them C1 and those that have no width or change the direction of
-/// text, are `<U+202E>`, as `less` writes both; any other character is itself. So the text can be
-/// read back as `bytes`.
-///
-/// The error says that memory was refused: a part of the text was appended then.
-pub fn push_visible<A: Allocator>(text: &mut Vec<u8, A>, bytes: &[u8]) -> Result<(), AllocError>
-    ensures ok { OnOk result (text.new.items ≡ text.old.items ++ visible bytes.now) }
-    ensures refused { OnErr result (Refused A) }
-{
-    let last = push_settled(text, Pending::Nothing, bytes)?;
-    push_stray(text, last)
-}
-
-/// Appends the text that `bytes` after `begun` show whatever follows, and returns what has begun at
-/// their end.
-pub(crate) fn push_settled<A: Allocator>(
-    text: &mut Vec<u8, A>,
-    begun: Pending,
-    bytes: &[u8],
-) -> Result<Pending, AllocError>
-    ensures ok { IfOk result (λ p.
-        (text.new.items ≡ text.old.items ++ settled (prefix_of begun) bytes.now)
-        × (prefix_of p ≡ begun_after (prefix_of begun) bytes.now)) }
-    ensures refused { OnErr result (Refused A) }
-{
-    let mut last = begun;
-    for b in bytes {
-        last = push_next(text, last, *b)?;
-    }
-    Ok(last)
-}
-
-// The same of one byte.
+// Appends the text that a byte after `begun` shows whatever follows, and returns what has begun
+// then.
 pub(crate) fn push_next<A: Allocator>(
     text: &mut Vec<u8, A>,
     begun: Pending,

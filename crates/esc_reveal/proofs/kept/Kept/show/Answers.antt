@@ -14,8 +14,8 @@ returns-then-self-clause-given g c = λ limit r h. (
 pub returns-clause-given : goal.returns-clause-given
 returns-clause-given g c = λ limit r h. (
   c.clear-2.ensures limit,
-  shows_whole limit r c.args.self.now c.args.text.now.items c.push_shown.new.text.items
+  shows_whole limit r c.args.self.now c.args.text.now.items c.push_visible.new.text.items
       (subst (KeepsBy limit r c.args.self.now) c.if-self.false h)
-      (c.in_ok-push_shown.ensures.ok
+      (c.in_ok-push_visible.ensures.ok
       ∙ ap (λ p. c.args.text.now.items ++ visible p) c.deref.ensures.value),
 )
