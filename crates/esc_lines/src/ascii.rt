@@ -3,8 +3,8 @@ ghost use Rattle.std.specs.Prelude.{◌≡◌, ◌++◌, OnErr, OnOk, string_byt
 ghost use Rattle.std.specs.Str.{IsAscii};
 ghost use Rattle.memory.specs.Refusals.{Refused};
 
+use esc_values::ascii::as_str;
 use std::alloc::{AllocError, Allocator};
-use std::str;
 
 /// Appends ASCII.
 #[inline]
@@ -14,13 +14,4 @@ pub(crate) fn push_ascii<A: Allocator>(text: &mut String<A>, bytes: &[u8]) -> Re
     ensures refused { OnErr result (Refused A) }
 {
     memory::push_str(text, as_str(bytes))
-}
-
-// ASCII as a text.
-#[inline(always)]
-fn as_str(bytes: &[u8]) -> &str
-    requires { IsAscii bytes.now }
-    ensures { result.now ≡ bytes.now }
-{
-    unsafe { str::from_utf8_unchecked(bytes) }
 }
