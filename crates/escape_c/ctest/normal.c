@@ -10,36 +10,10 @@
  * was given back.
  */
 #define PROGRAM "normal"
-#include "memory.h"
-
-enum { MOST = 4096, LIMIT = 1000 };
-
-static const char *const STREAMS[] = {
-    "plain \x1b[31mred\x1b[m\r\n caf\xc3\xa9 \xe2\x82\xac \xf0\x9f\x98\x80 \xff\xe2\x82(",
-    "\x1b]0;a title\x07\x1b]8;;http://example.com/\x1b\\link\x1b]8;;\x1b\\\x1b]0;cut\x18\x1b]\x07",
-    "\x1bP1;2;3q#0~~@@vv\n\x7f\xc3\xa9\x1b\\\x1bP+q544e\x1b\\\x1bP1:2q never\x1b\\",
-    "\x1b_Gi=1,a=q;AAAA\x1b\\\x1bXno\x1b^no\x9cyes\x1b[?25;1004h\x1b[38:2::1:2:3m\x1b[1;\n2H\x1b[1 q",
-    "\x1b(B\x1b#8\x1b $%&'x\x1b" "7\x1b\x1b" "c\x1b\n=\x85\xc2\x85\x9c\x9b" "7m\xc2\x9b" "8m",
-    "\x1b]2;t\x07\x1b\\\x1b]2;u\x1b\\\x1b\\\x1bP1$r",
-    "",
-};
-
-/* Appends the text that the last piece added, read in this capacity, with guards beside it. */
-static size_t append(struct escape_stream_normalizer *it, size_t capacity, uint8_t *text, size_t length) {
-    uint8_t area[64];
-    size_t count, from = 0;
-    do {
-        memset(area, JUNK, sizeof area);
-        count = escape_stream_normal_text(it, from, area + 8, capacity);
-        wants(count <= capacity, "more than fits", "", count);
-        wants(is_junk(area, 8) && is_junk(area + 8 + count, sizeof area - 8 - count), "a byte past the text was written", "", count);
-        memcpy(text + length, area + 8, count);
-        length += count;
-        from += count;
-    } while (count > 0);
-    wants(escape_stream_normal_text(it, from + 5, area, 8) == 0, "a text past its end", "", from);
-    return length;
-}
+#define IN_PIECES escape_stream_normalizer
+#define ADDED escape_stream_normal_text
+#include "added.h"
+#include "streams.h"
 
 /* The stream in pieces of this size. Returns the status; the text is the beginning of what is wanted, and where it is done all of it. */
 static uint32_t feed_all(const char *stream, size_t size, size_t capacity, const uint8_t *wanted, size_t needed) {

@@ -118,10 +118,14 @@ static void check_refusals(const struct image *image) {
     }
 }
 
-enum { MOST_WRITTEN = 240 };
+#include "written.h"
 
 static uint32_t write_from(const struct room *from, uint8_t *out, size_t capacity, size_t *needed) {
     return escape_stream_write_sixel(&from->sixel, from->items, from->sixel.item_count, out, capacity, needed);
+}
+
+static bool is_framed(const uint8_t *text, size_t length) {
+    return length >= 5 && memcmp(text, "\x1bP", 2) == 0 && memcmp(text + length - 2, "\x1b\\", 2) == 0;
 }
 
 /* Reads what was written: the numbers between `ESC P` and `q`, an empty one being 0, and the data between `q` and `ESC \`. */
@@ -137,55 +141,15 @@ static void read_again(struct room *room, const uint8_t *text, size_t length) {
     escape_stream_read_sixel(params, count, text + at + 1, length - at - 3, &room->sixel, room->items, MOST_ITEMS);
 }
 
-static void check_write_refusals(const struct room *whole, const char *text) {
-    for (unsigned long at = 1; at < 1000; at++) {
-        uint8_t out[MOST_WRITTEN];
-        size_t needed = JUNK;
-        uint32_t status;
-        memset(out, JUNK, sizeof out);
-        requests = 0;
-        refused = at;
-        status = write_from(whole, out, sizeof out, &needed);
-        refused = 0;
-        wants(blocks == 0, "blocks are kept by writing", text, at);
-        if (requests < at) {
-            wants(status == ESCAPE_STREAM_DONE, "another status of writing", text, at);
-            return;
-        }
-        wants(status == ESCAPE_STREAM_DONE || (status == ESCAPE_STREAM_NO_MEMORY && needed == JUNK && is_junk(out, sizeof out)),
-              "refused, and written", text, at);
-    }
-}
-
 /* The image that was read is written in every room, and reads back as the same. */
 static void check_written(const struct room *whole, const char *text, const char *wanted) {
+    static struct written_text all;
     static struct room again;
-    uint8_t all[MOST_WRITTEN], out[MOST_WRITTEN];
-    size_t length = 0;
-    memset(all, JUNK, sizeof all);
-    wants(write_from(whole, all, sizeof all, &length) == ESCAPE_STREAM_DONE, "another status of writing", text, 0);
-    if (length < 5 || length >= sizeof all || memcmp(all, "\x1bP", 2) != 0 || memcmp(all + length - 2, "\x1b\\", 2) != 0 ||
-        !is_junk(all + length, sizeof all - length)) {
-        wants(false, "no such image", text, length);
+    if (!write_whole(&all, whole, text))
         return;
-    }
-    for (size_t capacity = 0; capacity <= length + 2; capacity++) {
-        size_t needed = 0, fitting = capacity < length ? capacity : length;
-        memset(out, JUNK, sizeof out);
-        wants(write_from(whole, out, capacity, &needed) == ESCAPE_STREAM_DONE && needed == length, "another length", text, capacity);
-        wants(memcmp(out, all, fitting) == 0 && is_junk(out + fitting, sizeof out - fitting), "another text", text, capacity);
-    }
-    read_again(&again, all, length);
-    wants(strcmp(written(&again), wanted) == 0, written(&again), text, length);
-    check_write_refusals(whole, text);
-}
-
-static void check_not_written(const struct room *room, uint32_t wanted, const char *what) {
-    uint8_t out[MOST_WRITTEN];
-    size_t needed = JUNK;
-    memset(out, JUNK, sizeof out);
-    wants(write_from(room, out, sizeof out, &needed) == wanted, "another status of writing", what, 0);
-    wants(needed == JUNK && is_junk(out, sizeof out) && blocks == 0, "something was written", what, 0);
+    read_again(&again, all.bytes, all.length);
+    wants(strcmp(written(&again), wanted) == 0, written(&again), text, all.length);
+    check_write_refusals(&all, whole, text);
 }
 
 /* Values that no image has, and those of images that are not writable. */

@@ -1,13 +1,13 @@
 /* SPDX-License-Identifier: MIT */
 /*
- * Writes what was read by a call of escape_stream.h: in every room, with guards beside it, and with each request for memory refused
- * in turn; and fields that say nothing.
+ * Writes what was read by a call of escape_stream.h that gives a kind and fields, and reads it again; and fields that say nothing.
  *
  * What includes it defines INTRODUCER, with which a text begins, and write_text, the call, and all that fields.h wants.
  */
 #include "fields.h"
+#include "written.h"
 
-enum { MOST_WRITTEN = 240, BEFORE = sizeof INTRODUCER - 1 };
+enum { BEFORE = sizeof INTRODUCER - 1 };
 
 static uint32_t write_text(const struct value *value, const struct escape_stream_field *fields, const uint8_t *texts, uint8_t *out,
                            size_t capacity, size_t *needed);
@@ -36,56 +36,13 @@ static bool reads_as(const struct room *wanted, const uint8_t *text, size_t leng
                ESCAPE_STREAM_DONE && is_same(&again, wanted);
 }
 
-/* Each request for memory refused while it is written. */
-static void check_write_refusals(const struct room *whole, const char *text) {
-    static uint8_t out[MOST_WRITTEN];
-    for (unsigned long at = 1; at < 1000; at++) {
-        size_t needed = JUNK;
-        uint32_t status;
-        memset(out, JUNK, sizeof out);
-        requests = 0;
-        refused = at;
-        status = write_from(whole, out, sizeof out, &needed);
-        refused = 0;
-        wants(blocks == 0, "blocks are kept by writing", text, at);
-        if (requests < at) {
-            wants(status == ESCAPE_STREAM_DONE, "another status of writing", text, at);
-            return;
-        }
-        /* A request that only makes room ahead may be refused without harm. */
-        if (status == ESCAPE_STREAM_DONE)
-            wants(is_framed(out, needed) && reads_as(whole, out, needed), "another text", text, at);
-        else
-            wants(status == ESCAPE_STREAM_NO_MEMORY && needed == JUNK && is_junk(out, sizeof out), "refused, and written", text, at);
-    }
-}
-
 /* The command that was read is written in every room, and reads back as the same fields. */
 static void check_written(const struct room *whole, const char *text) {
-    static uint8_t all[MOST_WRITTEN], out[MOST_WRITTEN];
-    size_t length = 0;
-    memset(all, JUNK, sizeof all);
-    wants(write_from(whole, all, sizeof all, &length) == ESCAPE_STREAM_DONE, "another status of writing", text, 0);
-    if (length >= sizeof all || !is_framed(all, length) || !is_junk(all + length, sizeof all - length)) {
-        wants(false, "no such command", text, length);
+    static struct written_text all;
+    if (!write_whole(&all, whole, text))
         return;
-    }
-    for (size_t capacity = 0; capacity <= length + 2; capacity++) {
-        size_t needed = 0, fitting = capacity < length ? capacity : length;
-        memset(out, JUNK, sizeof out);
-        wants(write_from(whole, out, capacity, &needed) == ESCAPE_STREAM_DONE && needed == length, "another length", text, capacity);
-        wants(memcmp(out, all, fitting) == 0 && is_junk(out + fitting, sizeof out - fitting), "another text", text, capacity);
-    }
-    wants(reads_as(whole, all, length), "other fields when read again", text, length);
-    check_write_refusals(whole, text);
-}
-
-static void check_not_writable(const struct room *whole, const char *text) {
-    static uint8_t out[MOST_WRITTEN];
-    size_t needed = JUNK;
-    memset(out, JUNK, sizeof out);
-    wants(write_from(whole, out, sizeof out, &needed) == ESCAPE_STREAM_NOT_WRITABLE && needed == JUNK &&
-          is_junk(out, sizeof out), "something was written", text, 0);
+    wants(reads_as(whole, all.bytes, all.length), "other fields when read again", text, all.length);
+    check_write_refusals(&all, whole, text);
 }
 
 /* Changes of each field by one are another command, or none; they are not this one. */
@@ -120,7 +77,7 @@ static void check_back(const char *text, bool is_writable) {
     if (is_writable)
         check_written(&whole, text);
     else
-        check_not_writable(&whole, text);
+        check_not_written(&whole, ESCAPE_STREAM_NOT_WRITABLE, text);
     check_changed(&whole, text);
 }
 
