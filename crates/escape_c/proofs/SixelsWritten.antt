@@ -9,22 +9,9 @@ use Rattle.esc_sixel.proofs.WritesBack.{writes_back}
 use Rattle.esc_sixel.specs.Writable.{AreWritableData, IsWritable, IsWritableData}
 use Rattle.esc_sixel.specs.declared.sixel.Sixel.{Sixel}
 use Rattle.esc_sixel.specs.declared.sixel_data.SixelData.{SixelData}
-use Rattle.escape_c.specs.SixelValues.{IsHeader, IsOptional}
-use Rattle.escape_c.specs.WrittenSixels.{AreGiven, HasSixel, IsGiven, IsWrittenAs, optional}
+use Rattle.escape_c.specs.SixelValues.{IsOptional}
+use Rattle.escape_c.specs.WrittenSixels.{HasSixel, IsWrittenAs, optional}
 use Rattle.escape_c.specs.declared.sixel_value.SixelValue.{SixelValue}
-
--- what is absent is 0 in the value of an image
-given : {X : Type 0} (zero : X) (o : Option X) (has : Bool) (x : X) → IsOptional zero o has x
-    → IsGiven zero has x
-given zero None has x h = subst (λ b. IsGiven zero b x) (sym h.0) (refl, h.1)
-given zero (Some y) has x h = subst (λ b. IsGiven zero b x) (sym h.0) (refl, refl)
-
-pub all_given : (v : SixelValue) (s : Sixel Global) → IsHeader s v → AreGiven v
-all_given v s h = (
-  given (pos 0) s.horizontal_grid_size v.has_grid_size v.grid_size h.grid,
-  given 0 s.pixel_width v.has_pixel_width v.pixel_width h.width,
-  given 0 s.pixel_height v.has_pixel_height v.pixel_height h.height,
-)
 
 -- a value and rows are those of one image
 optional_is : {X : Type 0} (zero : X) (o : Option X) (has : Bool) (x : X) → IsOptional zero o has x
