@@ -1,6 +1,7 @@
 pub mod Known
 pub mod AsBox
 pub mod Keeping
+pub mod Outputs
 pub mod Rows
 mod WrittenBack
 mod ImagesWritten

@@ -2,9 +2,10 @@
 use Rattle.std.specs.Prelude.{ℕ, ◌≡◌, false, true, List, [], ◌++◌, Some}
 use Rattle.std.specs.Global.{Global}
 use Rattle.esc_filter.specs.Fed.{WasFed, policy_of}
-use Rattle.esc_filter.specs.Passing.{IsFiltered, closed_text, passed_text}
+use Rattle.esc_filter.specs.Passing.{IsFiltered, closed_text}
 use Rattle.esc_filter.specs.Rules.{admits}
 use Rattle.esc_filter.specs.declared.policy.Policy.{Policy}
+use Rattle.escape_c.specs.Filtered.{passed}
 use Rattle.escape_c.specs.InPieces.{Keeps, Takes, text_of}
 use Rattle.escape_c.specs.Kept.{filter_in}
 use Rattle.escape_c.specs.declared.in_pieces.InPieces.{InPieces}
@@ -14,10 +15,7 @@ abbrev pub WasFedFilter : ℕ → Policy → List ℕ → InPieces → Type 0
 WasFedFilter limit p s = Keeps filter_in
     (λ f. WasFed {A = Global} limit (admits p) s f × (policy_of f ≡ p))
 
--- the text of a stream that goes on, and of one that has ended
-abbrev pub passed : ℕ → Policy → List ℕ → List ℕ
-passed limit p = passed_text {A = Global} (Some limit) (admits p)
-
+-- the text of a stream that has ended
 abbrev pub closed : ℕ → Policy → List ℕ → List ℕ
 closed limit p = closed_text {A = Global} (Some limit) (admits p)
 

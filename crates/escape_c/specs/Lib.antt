@@ -1,4 +1,5 @@
 pub mod FilterPieces
+pub mod Filtered
 pub mod FunctionRows
 pub mod Held
 pub mod ImageValues
@@ -11,7 +12,9 @@ pub mod PagePieces
 pub mod PageStates
 pub mod Policies
 pub mod QueryValues
+pub mod Reads
 pub mod SixelValues
+pub mod Written
 pub mod WrittenImages
 pub mod WrittenOscs
 pub mod WrittenQueries

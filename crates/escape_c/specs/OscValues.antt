@@ -1,5 +1,5 @@
 -- What is written of the command that the text of an OSC means.
-use Rattle.std.specs.Prelude.{ℕ, ◌≡◌, List, ◌++◌, take, drop, length}
+use Rattle.std.specs.Prelude.{ℕ, ◌≡◌, List, length}
 use Rattle.std.specs.Global.{Global}
 use Rattle.esc_values.specs.Clear.{parts_of}
 use Rattle.esc_osc.specs.Reading.{meaning}
@@ -23,7 +23,3 @@ pub record IsValue (t : List ℕ) (v : OscValue) : Type 0 where
   pub kind : v.kind ≡ kind_number (kind_of (command_of t))
   pub count : v.field_count ≡ length (table_in t).0
   pub length : v.text_length ≡ length (table_in t).1
-
--- as many of these as there is room for, and after them what was there
-abbrev pub put_into : {X : Type 0} → List X → List X → List X
-put_into xs room = take (length room) xs ++ drop (length xs) room

@@ -1,5 +1,5 @@
 -- What is written of the kitty image that a kind and fields say.
-use Rattle.std.specs.Prelude.{ℕ, ◌≡◌, ◌⊎◌, true, List, ◌++◌, Some}
+use Rattle.std.specs.Prelude.{ℕ, ◌≡◌, true, List, ◌++◌, Some}
 use Rattle.std.specs.Global.{Global}
 use Rattle.std.specs.List.{list_all}
 use Rattle.esc_fields.specs.Fields.{Table}
@@ -8,9 +8,7 @@ use Rattle.esc_kitty.specs.Texts.{image_body, image_text}
 use Rattle.esc_kitty.specs.Writable.{IsWritableImage, is_kept}
 use Rattle.esc_kitty.specs.declared.image.KittyImage.{KittyImage}
 use Rattle.escape_c.specs.ImageValues.{image_read}
-use Rattle.escape_c.specs.WrittenQueries.{string_end}
-use Rattle.escape_c.specs.declared.TheConstants.{NO_COMMAND, NO_MEMORY, NOT_WRITABLE}
-use Rattle.memory.specs.Refusals.{Refused}
+use Rattle.escape_c.specs.Written.{RefusedFor, string_end}
 
 -- the number of a kind and the fields are those of the image; what is between `ESC _` and `ESC \`
 -- in its text is of bytes from space to DEL, and is the same image
@@ -23,12 +21,6 @@ pub record IsWrittenAs (k : ℕ) (t : Table) (i : KittyImage Global) : Type 0 wh
 abbrev pub IsText : ℕ → Table → List ℕ → Type 0
 IsText k t s = (i : KittyImage Global) × IsWrittenAs k t i × (s ≡ image_text i ++ string_end)
 
--- why none was written: no image has the kind and the fields, none that is writable has them, or
--- memory was refused
-pub record IsRefusal (k : ℕ) (t : Table) (status : ℕ) : Type 0 where
-  pub known : (status ≡ NO_COMMAND) ⊎ ((status ≡ NOT_WRITABLE) ⊎ (status ≡ NO_MEMORY))
-  pub none : status ≡ NO_COMMAND
-      → (i : KittyImage Global) → IsHeldImage i → HasImage k t (Some i) → ⊥
-  pub unwritable : status ≡ NOT_WRITABLE
-      → (i : KittyImage Global) → IsWritableImage i → HasImage k t (Some i) → ⊥
-  pub memory : status ≡ NO_MEMORY → Refused Global
+-- why none was written
+abbrev pub IsRefusal : ℕ → Table → ℕ → Type 0
+IsRefusal k t = RefusedFor (λ i. HasImage {A = Global} k t (Some i)) IsHeldImage IsWritableImage

@@ -1,5 +1,5 @@
 -- What is written of the sixel image that a value and rows say.
-use Rattle.std.specs.Prelude.{ℕ, pos, ◌≡◌, ◌⊎◌, Bool, true, if◌then◌else◌, List, ◌∷◌, ◌++◌, Option, Some, None, map}
+use Rattle.std.specs.Prelude.{ℕ, pos, ◌≡◌, Bool, true, if◌then◌else◌, List, ◌∷◌, ◌++◌, Option, Some, None, map, ⊤}
 use Rattle.std.specs.Global.{Global}
 use Rattle.std.specs.List.{list_all}
 use Rattle.esc_fields.specs.Sixels.{sixel_row}
@@ -8,10 +8,8 @@ use Rattle.esc_sixel.specs.Texts.{sixel_output}
 use Rattle.esc_sixel.specs.Writable.{IsWritable, is_data_byte, is_parameter_byte, params_of}
 use Rattle.esc_sixel.specs.declared.sixel.Sixel.{Sixel}
 use Rattle.escape_c.specs.SixelValues.{IsHeader, IsOptional, sixel_in}
-use Rattle.escape_c.specs.WrittenQueries.{string_end}
-use Rattle.escape_c.specs.declared.TheConstants.{NO_COMMAND, NO_MEMORY, NOT_WRITABLE}
+use Rattle.escape_c.specs.Written.{RefusedFor, string_end}
 use Rattle.escape_c.specs.declared.sixel_value.SixelValue.{SixelValue}
-use Rattle.memory.specs.Refusals.{Refused}
 
 -- a number of a value: none where it is absent. It is 0 there
 abbrev pub optional : {X : Type 0} → Bool → X → Option X
@@ -47,11 +45,9 @@ abbrev pub IsText : SixelValue → List SixelRow → List ℕ → Type 0
 IsText v rs t = (s : Sixel Global) × (x : List ℕ) × (d : List ℕ) × IsWrittenAs v rs s x d
     × (t ≡ sixel_string x d ++ string_end)
 
--- why none was written: no image has the value and the rows, none that is writable has them, or
--- memory was refused
-pub record IsRefusal (v : SixelValue) (rs : List SixelRow) (status : ℕ) : Type 0 where
-  pub known : (status ≡ NO_COMMAND) ⊎ ((status ≡ NOT_WRITABLE) ⊎ (status ≡ NO_MEMORY))
-  pub none : status ≡ NO_COMMAND → (s : Sixel Global) → HasSixel v rs s → ⊥
-  pub unwritable : status ≡ NOT_WRITABLE
-      → (s : Sixel Global) → IsWritable s → HasSixel v rs s → ⊥
-  pub memory : status ≡ NO_MEMORY → Refused Global
+-- any image can be held, and why none was written
+abbrev pub IsHeld : Sixel Global → Type 0
+IsHeld s = ⊤
+
+abbrev pub IsRefusal : SixelValue → List SixelRow → ℕ → Type 0
+IsRefusal v rs = RefusedFor (HasSixel v rs) IsHeld IsWritable

@@ -1,8 +1,8 @@
 //! What a policy admits of a stream.
-ghost use Rattle.std.specs.Prelude.{◌≡◌, ◌≢◌, ◌↔◌, ◌++◌, IfOk, IfSome, OnErr, drop, false, length, take};
+ghost use Rattle.std.specs.Prelude.{◌≡◌, ◌↔◌, IfOk, None, OnErr};
 ghost use Rattle.esc_filter.specs.Fed.{added_by};
-ghost use Rattle.esc_filter.specs.Passing.{IsFiltered, passed_text};
-ghost use Rattle.esc_filter.specs.Rules.{admits};
+ghost use Rattle.escape_c.specs.Filtered.{IsAdmitted, IsFilterRefusal, passed};
+ghost use Rattle.escape_c.specs.Output.{LacksMemory, Writes};
 ghost use Rattle.escape_c.specs.Policies.{policy_numbered};
 ghost use Rattle.memory.specs.Refusals.{Refused};
 
@@ -30,19 +30,9 @@ pub extern "C" fn escape_stream_filter(
     out: &mut [u8],
     needed: &mut usize,
 ) -> u32
-    ensures needed { result ≡ DONE
-        → IfSome (policy_numbered policy) (λ p.
-        needed.new ≡ length (passed_text {A = Global} (Some limit) (admits p) bytes.now)) }
-    ensures written { result ≡ DONE → IfSome (policy_numbered policy) (λ p.
-        out.new ≡ take (length out.old) (passed_text {A = Global} (Some limit) (admits p) bytes.now)
-        ++ drop (needed.new) out.old) }
-    ensures filtered { result ≡ DONE → IfSome (policy_numbered policy) (λ p.
-        IsFiltered {A = Global} false (Some limit) (admits p) bytes.now
-        (passed_text {A = Global} (Some limit) (admits p) bytes.now)) }
+    ensures written { Writes (IsAdmitted (policy_numbered policy) limit bytes.now) IsFilterRefusal
+        result (out.old, needed.old) (out.new, needed.new) }
     ensures unknown { result ≡ UNKNOWN_POLICY ↔ (policy_numbered policy ≡ None) }
-    ensures refused { result ≢ DONE → (result ≢ NO_MEMORY → result ≡ UNKNOWN_POLICY)
-        × (out.new ≡ out.old) × (needed.new ≡ needed.old) }
-    ensures memory { result ≡ NO_MEMORY → Refused Global }
 {
     passed_reads_back::<Global>();
     match policy_of(policy) {
@@ -73,16 +63,8 @@ fn filter_by(
     out: &mut [u8],
     needed: &mut usize,
 ) -> u32
-    ensures needed { result ≡ DONE
-        → needed.new
-        ≡ length (passed_text {A = Global} (Some limit) (admits policy) bytes.now) }
-    ensures written { result ≡ DONE
-        → out.new ≡ take (length out.old) (passed_text {A = Global} (Some limit) (admits policy)
-        bytes.now) ++ drop (needed.new) out.old }
-    ensures refused { result ≢ DONE → (result ≡ NO_MEMORY) × (out.new ≡ out.old)
-        × (needed.new ≡ needed.old) }
-    ensures memory { result ≡ NO_MEMORY → Refused Global }
-    ensures known { result ≢ UNKNOWN_POLICY }
+    ensures { Writes (λ t. t ≡ passed limit policy bytes.now) LacksMemory result
+        (out.old, needed.old) (out.new, needed.new) }
 {
     match filtered(alloc, policy, limit, bytes) {
         Ok(filter) => {
@@ -100,8 +82,7 @@ fn filtered(
     limit: usize,
     bytes: &[u8],
 ) -> Result<Filter<Policy>, ParseError>
-    ensures ok { IfOk result
-        (λ f. added_by f ≡ passed_text {A = Global} (Some limit) (admits policy) bytes.now) }
+    ensures ok { IfOk result (λ f. added_by f ≡ passed limit policy bytes.now) }
     ensures refused { OnErr result (Refused Global) }
 {
     let mut filter = Filter::new(alloc, limit, policy);

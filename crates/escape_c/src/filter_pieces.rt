@@ -1,7 +1,8 @@
 //! What a policy admits of a stream that comes in pieces.
 ghost use Rattle.std.specs.Prelude.{◌≡◌, ◌≢◌, ◌↔◌, ℕ, IfSome, List, None};
 ghost use Rattle.esc_filter.specs.declared.policy.Policy.{Policy};
-ghost use Rattle.escape_c.specs.FilterPieces.{FinishesFilter, TakesFilter, WasFedFilter, passed};
+ghost use Rattle.escape_c.specs.FilterPieces.{FinishesFilter, TakesFilter, WasFedFilter};
+ghost use Rattle.escape_c.specs.Filtered.{passed};
 ghost use Rattle.escape_c.specs.InPieces.{Begins, Breaks, IsEnded, KeepsNone, Stays, text_of};
 ghost use Rattle.escape_c.specs.Kept.{filter_in};
 ghost use Rattle.escape_c.specs.Policies.{policy_numbered};

@@ -1,14 +1,11 @@
 //! The image of kitty's that the text of an APC is, as fields.
-ghost use Rattle.std.specs.Prelude.{◌≡◌, ◌≢◌, IfOk, OnErr};
-ghost use Rattle.esc_fields.specs.ImageKinds.{image_kind};
-ghost use Rattle.escape_c.specs.ImageValues.{IsImage, image_read, image_table};
-ghost use Rattle.escape_c.specs.OscValues.{put_into};
+ghost use Rattle.std.specs.Prelude.{◌≡◌, IfOk, OnErr};
+ghost use Rattle.escape_c.specs.ImageValues.{IsImage, image_table};
+ghost use Rattle.escape_c.specs.Reads.{Reads};
 ghost use Rattle.memory.specs.Refusals.{Refused};
 
 use crate::image_value::ImageValue;
-use crate::osc::put_rows;
-use crate::output::put;
-use crate::{DONE, NO_MEMORY};
+use crate::output::put_read;
 use esc_fields::{FieldRow, Fields, ImageKind};
 use esc_kitty::KittyImage;
 use std::alloc::{AllocError, Global};
@@ -28,33 +25,24 @@ pub extern "C" fn escape_stream_read_kitty(
     fields: &mut [FieldRow],
     out: &mut [u8],
 ) -> u32
-    ensures value { result ≡ DONE → IsImage text.now value.new }
-    ensures written { result ≡ DONE → (fields.new ≡ put_into (image_table text.now).0 fields.old)
-        × (out.new ≡ put_into (image_table text.now).1 out.old) }
-    ensures refused { result ≢ DONE → (result ≡ NO_MEMORY) × (value.new ≡ value.old)
-        × (fields.new ≡ fields.old) × (out.new ≡ out.old) }
-    ensures memory { result ≡ NO_MEMORY → Refused Global }
+    ensures { Reads (IsImage text.now) (image_table text.now) result
+        (value.old, fields.old, out.old) (value.new, fields.new, out.new) }
 {
-    match read(alloc, text) {
-        Ok((kind, read)) => {
-            *value = ImageValue {
-                kind: kind.number(),
-                field_count: put_rows(read.rows(), fields),
-                text_length: put(read.text(), out),
-            };
-            DONE
-        }
-        Err(_) => NO_MEMORY,
-    }
+    put_read(read(alloc, text), value, fields, out)
 }
 
-// The kind of the image, and its fields.
-fn read(alloc: Global, text: &[u8]) -> Result<(ImageKind, Fields), AllocError>
-    ensures kind { IfOk result (λ r. r.0 ≡ image_kind (image_read text.now)) }
+// The image, and its fields.
+fn read(alloc: Global, text: &[u8]) -> Result<(ImageValue, Fields), AllocError>
+    ensures value { IfOk result (λ r. IsImage text.now r.0) }
     ensures fields { IfOk result (λ r. r.1 ≡ image_table text.now) }
     ensures refused { OnErr result (Refused Global) }
 {
     let image = KittyImage::parse_apc(alloc, text)?;
     let fields = Fields::of_image(alloc, &image)?;
-    Ok((ImageKind::of(&image), fields))
+    let value = ImageValue {
+        kind: ImageKind::of(&image).number(),
+        field_count: fields.rows().len(),
+        text_length: fields.text().len(),
+    };
+    Ok((value, fields))
 }

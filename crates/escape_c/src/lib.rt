@@ -16,7 +16,6 @@
 
 mod clear;
 mod common;
-mod ended;
 mod filter;
 mod filter_pieces;
 mod function;
@@ -36,6 +35,8 @@ mod page_pieces;
 mod page_state;
 mod parts;
 mod query_value;
+mod refusal;
+mod shown;
 mod sixel;
 mod sixel_value;
 mod sixel_writable;

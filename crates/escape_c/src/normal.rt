@@ -1,8 +1,8 @@
 //! The normal form of a stream.
-ghost use Rattle.std.specs.Prelude.{◌≡◌, ◌≢◌, ◌≤◌, ◌++◌, drop, length, take};
+ghost use Rattle.std.specs.Prelude.{◌≡◌};
 ghost use Rattle.esc_actions.specs.Meaning.{meaning};
 ghost use Rattle.esc_actions.specs.Texts.{list_text};
-ghost use Rattle.memory.specs.Refusals.{Refused};
+ghost use Rattle.escape_c.specs.Output.{LacksMemory, Writes};
 
 use crate::output::put;
 use crate::{DONE, NO_MEMORY};
@@ -21,14 +21,8 @@ pub extern "C" fn escape_stream_normal(
     out: &mut [u8],
     needed: &mut usize,
 ) -> u32
-    ensures needed { result ≡ DONE
-        → needed.new ≡ length (list_text (meaning {A = Global} bytes.now)) }
-    ensures written { result ≡ DONE
-        → out.new ≡ take (length out.old) (list_text (meaning {A = Global} bytes.now))
-        ++ drop (needed.new) out.old }
-    ensures refused { result ≢ DONE → (result ≡ NO_MEMORY) × (out.new ≡ out.old)
-        × (needed.new ≡ needed.old) }
-    ensures memory { result ≡ NO_MEMORY → Refused Global }
+    ensures { Writes (λ t. t ≡ list_text (meaning {A = Global} bytes.now)) LacksMemory result
+        (out.old, needed.old) (out.new, needed.new) }
 {
     match normal_text(alloc, bytes, None) {
         Ok(text) => {

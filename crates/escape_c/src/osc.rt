@@ -1,14 +1,11 @@
 //! The command that the text of an OSC means, as fields.
-ghost use Rattle.std.specs.Prelude.{◌≡◌, ◌≢◌, IfOk, OnErr, ◌++◌, drop, length, take};
-ghost use Rattle.esc_fields.specs.Commands.{fields_of};
-ghost use Rattle.esc_fields.specs.Fields.{table_of};
-ghost use Rattle.esc_fields.specs.Kinds.{kind_number, kind_of};
-ghost use Rattle.escape_c.specs.OscValues.{IsValue, command_of, put_into, table_in};
+ghost use Rattle.std.specs.Prelude.{◌≡◌, IfOk, OnErr};
+ghost use Rattle.escape_c.specs.OscValues.{IsValue, table_in};
+ghost use Rattle.escape_c.specs.Reads.{Reads};
 ghost use Rattle.memory.specs.Refusals.{Refused};
 
 use crate::osc_value::OscValue;
-use crate::output::put;
-use crate::{DONE, NO_MEMORY};
+use crate::output::put_read;
 use esc_fields::{CommandKind, FieldRow, Fields};
 use esc_parse::commands::command_in;
 use std::alloc::{AllocError, Global};
@@ -28,45 +25,24 @@ pub extern "C" fn escape_stream_read_osc(
     fields: &mut [FieldRow],
     out: &mut [u8],
 ) -> u32
-    ensures value { result ≡ DONE → IsValue text.now value.new }
-    ensures written { result ≡ DONE → (fields.new ≡ put_into (table_in text.now).0 fields.old)
-        × (out.new ≡ put_into (table_in text.now).1 out.old) }
-    ensures refused { result ≢ DONE → (result ≡ NO_MEMORY) × (value.new ≡ value.old)
-        × (fields.new ≡ fields.old) × (out.new ≡ out.old) }
-    ensures memory { result ≡ NO_MEMORY → Refused Global }
+    ensures { Reads (IsValue text.now) (table_in text.now) result
+        (value.old, fields.old, out.old) (value.new, fields.new, out.new) }
 {
-    match read(alloc, text) {
-        Ok((kind, read)) => {
-            *value = OscValue {
-                kind: kind.number(),
-                field_count: put_rows(read.rows(), fields),
-                text_length: put(read.text(), out),
-            };
-            DONE
-        }
-        Err(_) => NO_MEMORY,
-    }
+    put_read(read(alloc, text), value, fields, out)
 }
 
-// The kind of the command, and its fields.
-fn read(alloc: Global, text: &[u8]) -> Result<(CommandKind, Fields), AllocError>
-    ensures kind { IfOk result (λ r. r.0 ≡ kind_of (command_of text.now)) }
+// The command, and its fields.
+fn read(alloc: Global, text: &[u8]) -> Result<(OscValue, Fields), AllocError>
+    ensures value { IfOk result (λ r. IsValue text.now r.0) }
     ensures fields { IfOk result (λ r. r.1 ≡ table_in text.now) }
     ensures refused { OnErr result (Refused Global) }
 {
     let command = command_in(alloc, text)?;
     let fields = Fields::of(alloc, &command)?;
-    Ok((CommandKind::of(&command), fields))
-}
-
-// Copies as many rows as there is room for, and leaves the other places as they are. Returns how
-// many there are.
-pub(crate) fn put_rows(rows: &[FieldRow], fields: &mut [FieldRow]) -> usize
-    ensures needed { result ≡ length rows.now }
-    ensures written { fields.new ≡ put_into rows.now fields.old }
-{
-    let needed = rows.len();
-    let fitting = needed.min(fields.len());
-    fields[..fitting].copy_from_slice(&rows[..fitting]);
-    needed
+    let value = OscValue {
+        kind: CommandKind::of(&command).number(),
+        field_count: fields.rows().len(),
+        text_length: fields.text().len(),
+    };
+    Ok((value, fields))
 }

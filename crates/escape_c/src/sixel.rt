@@ -1,7 +1,7 @@
 //! The sixel image that parameters and data are, as rows.
 ghost use Rattle.std.specs.Prelude.{◌≡◌, ◌≢◌, IfOk, OnErr, length, map};
 ghost use Rattle.esc_fields.specs.Sixels.{sixel_row};
-ghost use Rattle.escape_c.specs.OscValues.{put_into};
+ghost use Rattle.escape_c.specs.Output.{put_into};
 ghost use Rattle.escape_c.specs.SixelValues.{IsSixel, sixel_in, sixel_rows};
 ghost use Rattle.memory.specs.Refusals.{Refused};
 

@@ -1,13 +1,11 @@
 //! The names that a termcap query asks for, as fields.
-ghost use Rattle.std.specs.Prelude.{◌≡◌, ◌≢◌, IfOk, OnErr};
-ghost use Rattle.escape_c.specs.OscValues.{put_into};
+ghost use Rattle.std.specs.Prelude.{◌≡◌, IfOk, OnErr};
 ghost use Rattle.escape_c.specs.QueryValues.{IsQuery, query_table};
+ghost use Rattle.escape_c.specs.Reads.{Reads};
 ghost use Rattle.memory.specs.Refusals.{Refused};
 
-use crate::osc::put_rows;
-use crate::output::put;
+use crate::output::put_read;
 use crate::query_value::QueryValue;
-use crate::{DONE, NO_MEMORY};
 use esc_fields::{FieldRow, Fields};
 use esc_tcap::GetTcapBuilder;
 use std::alloc::{AllocError, Global};
@@ -26,27 +24,28 @@ pub extern "C" fn escape_stream_read_tcap(
     fields: &mut [FieldRow],
     out: &mut [u8],
 ) -> u32
-    ensures value { result ≡ DONE → IsQuery text.now value.new }
-    ensures written { result ≡ DONE → (fields.new ≡ put_into (query_table text.now).0 fields.old)
-        × (out.new ≡ put_into (query_table text.now).1 out.old) }
-    ensures refused { result ≢ DONE → (result ≡ NO_MEMORY) × (value.new ≡ value.old)
-        × (fields.new ≡ fields.old) × (out.new ≡ out.old) }
-    ensures memory { result ≡ NO_MEMORY → Refused Global }
+    ensures { Reads (IsQuery text.now) (query_table text.now) result
+        (value.old, fields.old, out.old) (value.new, fields.new, out.new) }
 {
-    match read(alloc, text) {
-        Ok(read) => {
-            *value = QueryValue {
-                name_count: put_rows(read.rows(), fields),
-                text_length: put(read.text(), out),
-            };
-            DONE
-        }
-        Err(_) => NO_MEMORY,
-    }
+    put_read(read(alloc, text), value, fields, out)
 }
 
-// The fields of the query.
-pub(crate) fn read(alloc: Global, text: &[u8]) -> Result<Fields, AllocError>
+// The query, and its names.
+fn read(alloc: Global, text: &[u8]) -> Result<(QueryValue, Fields), AllocError>
+    ensures value { IfOk result (λ r. IsQuery text.now r.0) }
+    ensures fields { IfOk result (λ r. r.1 ≡ query_table text.now) }
+    ensures refused { OnErr result (Refused Global) }
+{
+    let fields = names_of_query(alloc, text)?;
+    let value = QueryValue {
+        name_count: fields.rows().len(),
+        text_length: fields.text().len(),
+    };
+    Ok((value, fields))
+}
+
+/// The names of the query, as fields.
+pub(crate) fn names_of_query(alloc: Global, text: &[u8]) -> Result<Fields, AllocError>
     ensures ok { IfOk result (λ f. f ≡ query_table text.now) }
     ensures refused { OnErr result (Refused Global) }
 {

@@ -1,18 +1,19 @@
 //! The text of the kitty image that a kind and fields say.
-ghost use Rattle.std.specs.Prelude.{◌≡◌, ◌≢◌, ◌↔◌, ℕ, IfErr, IfOk, IfSome, IsTrue, List, None, OnErr, Some, drop, length, true};
+ghost use Rattle.std.specs.Prelude.{◌≡◌, ◌↔◌, IfErr, IfOk, IsTrue, OnErr, Some, drop, true};
 ghost use Rattle.std.specs.List.{list_all};
-ghost use Rattle.esc_fields.specs.HeldImages.{HasImage, IsHeldImage};
+ghost use Rattle.esc_fields.specs.HeldImages.{HasImage};
 ghost use Rattle.esc_kitty.specs.Texts.{image_text};
 ghost use Rattle.esc_kitty.specs.Writable.{is_kept};
 ghost use Rattle.esc_kitty.specs.declared.image.KittyImage.{KittyImage};
 ghost use Rattle.escape_c.specs.ImageValues.{image_read};
-ghost use Rattle.escape_c.specs.OscValues.{put_into};
+ghost use Rattle.escape_c.specs.Output.{Writes};
+ghost use Rattle.escape_c.specs.Written.{status_of};
 ghost use Rattle.escape_c.specs.WrittenImages.{IsRefusal, IsText};
 ghost use Rattle.memory.specs.Refusals.{Refused};
 
-use crate::ended::ended;
-use crate::output::put;
-use crate::{DONE, NO_COMMAND, NO_MEMORY, NOT_WRITABLE};
+use crate::output::put_text;
+use crate::refusal::Refusal;
+use crate::shown::{display, ended};
 use esc_fields::{FieldRow, has_image, image_of};
 use esc_kitty::KittyImage as Image;
 use esc_values::Text;
@@ -36,64 +37,34 @@ pub extern "C" fn escape_stream_write_kitty(
     out: &mut [u8],
     needed: &mut usize,
 ) -> u32
-    ensures written { result ≡ DONE → (t : List ℕ) × IsText kind (fields.now, text.now) t
-        × (needed.new ≡ length t) × (out.new ≡ put_into t out.old) }
-    ensures refused { result ≢ DONE → IsRefusal kind (fields.now, text.now) result
-        × (out.new ≡ out.old) × (needed.new ≡ needed.old) }
+    ensures { Writes (IsText kind (fields.now, text.now)) (IsRefusal kind (fields.now, text.now))
+        result (out.old, needed.old) (out.new, needed.new) }
 {
-    match written(alloc, kind, fields, text) {
-        Ok(text) => {
-            *needed = put(text.as_bytes(), out);
-            DONE
-        }
-        Err(status) => status,
-    }
+    put_text(written(alloc, kind, fields, text), out, needed)
 }
 
-// The text of the image; or the status that says why there is none.
-fn written(alloc: Global, kind: u32, fields: &[FieldRow], text: &[u8]) -> Result<Text, u32>
-    ensures text { IfOk result (λ t. IsText kind (fields.now, text.now) t) }
-    ensures refused { IfErr result (λ e. IsRefusal kind (fields.now, text.now) e) }
+// The text of the image, where it reads back as it.
+fn written(alloc: Global, kind: u32, fields: &[FieldRow], text: &[u8]) -> Result<Text, Refusal>
+    ensures text { IfOk result (IsText kind (fields.now, text.now)) }
+    ensures refused { IfErr result (λ e. IsRefusal kind (fields.now, text.now) (status_of e)) }
 {
-    let written = match text_of(alloc, kind, fields, text) {
-        Ok(Some(written)) => written,
-        Ok(None) => return Err(NO_COMMAND),
-        Err(_) => return Err(NO_MEMORY),
+    let written = text_of(alloc, kind, fields, text)?;
+    if !is_back(alloc, body_in(written.as_bytes()), kind, fields, text)? {
+        return Err(Refusal::NotWritable);
+    }
+    Ok(ended(written)?)
+}
+
+// The text of the image, without its end.
+fn text_of(alloc: Global, kind: u32, fields: &[FieldRow], text: &[u8]) -> Result<Text, Refusal>
+    ensures text { IfOk result (λ t. (i : KittyImage Global)
+        × HasImage kind (fields.now, text.now) (Some i) × (t ≡ image_text i)) }
+    ensures refused { IfErr result (λ e. IsRefusal kind (fields.now, text.now) (status_of e)) }
+{
+    let Some(image) = image_of(alloc, kind, fields, text)? else {
+        return Err(Refusal::NoCommand);
     };
-    match is_back(alloc, body_in(written.as_bytes()), kind, fields, text) {
-        Ok(true) => ended(written),
-        Ok(false) => Err(NOT_WRITABLE),
-        Err(_) => Err(NO_MEMORY),
-    }
-}
-
-// The text of the image of this kind that has these fields, where there is one, without its end.
-fn text_of(
-    alloc: Global,
-    kind: u32,
-    fields: &[FieldRow],
-    text: &[u8],
-) -> Result<Option<Text>, AllocError>
-    ensures text { IfOk result (λ o. IfSome o (λ t. (i : KittyImage Global)
-        × HasImage kind (fields.now, text.now) (Some i) × (t ≡ image_text i))) }
-    ensures none { IfOk result (λ o. o ≡ None → (i : KittyImage Global) → IsHeldImage i
-        → HasImage kind (fields.now, text.now) (Some i) → ⊥) }
-    ensures refused { OnErr result (Refused Global) }
-{
-    match image_of(alloc, kind, fields, text)? {
-        Some(image) => Ok(Some(display(alloc, &image)?)),
-        None => Ok(None),
-    }
-}
-
-// The text of an image.
-fn display(alloc: Global, image: &Image) -> Result<Text, AllocError>
-    ensures text { IfOk result (λ t. t ≡ image_text image.now) }
-    ensures refused { OnErr result (Refused Global) }
-{
-    let mut text = Text::new(alloc);
-    text.push_display(image)?;
-    Ok(text)
+    Ok(display(alloc, &image)?)
 }
 
 // What comes after `ESC _`.

@@ -1,18 +1,20 @@
 //! The text of the command that a kind and fields say.
-ghost use Rattle.std.specs.Prelude.{◌≡◌, ◌≢◌, ◌↔◌, IfErr, IfOk, IfSome, IsTrue, None, OnErr, List, ℕ, length};
+ghost use Rattle.std.specs.Prelude.{◌≡◌, ◌↔◌, ℕ, IfErr, IfOk, IsTrue, List, OnErr};
 ghost use Rattle.esc_values.specs.Clear.{framed, IsClearText};
 ghost use Rattle.esc_osc.specs.Commands.{command_text};
 ghost use Rattle.esc_osc.specs.declared.command.OperatingSystemCommand.{OperatingSystemCommand};
-ghost use Rattle.esc_fields.specs.Held.{Has, IsHeld};
-ghost use Rattle.escape_c.specs.OscValues.{command_of, put_into};
+ghost use Rattle.esc_fields.specs.Held.{Has};
+ghost use Rattle.escape_c.specs.OscValues.{command_of};
+ghost use Rattle.escape_c.specs.Output.{Writes};
+ghost use Rattle.escape_c.specs.Written.{status_of};
 ghost use Rattle.escape_c.specs.WrittenOscs.{IsRefusal, IsText};
 ghost use Rattle.memory.specs.Refusals.{Refused};
 
 use crate::clear::is_clear_text;
-use crate::output::put;
-use crate::{DONE, NO_COMMAND, NO_MEMORY, NOT_WRITABLE};
+use crate::output::put_text;
+use crate::refusal::Refusal;
+use crate::shown::display;
 use esc_fields::{FieldRow, command_of, has_fields};
-use esc_osc::OperatingSystemCommand as Command;
 use esc_parse::commands::command_in;
 use esc_values::Text;
 use std::alloc::{AllocError, Global};
@@ -35,64 +37,34 @@ pub extern "C" fn escape_stream_write_osc(
     out: &mut [u8],
     needed: &mut usize,
 ) -> u32
-    ensures written { result ≡ DONE → (t : List ℕ) × IsText kind (fields.now, text.now) t
-        × (needed.new ≡ length t) × (out.new ≡ put_into t out.old) }
-    ensures refused { result ≢ DONE → IsRefusal kind (fields.now, text.now) result
-        × (out.new ≡ out.old) × (needed.new ≡ needed.old) }
+    ensures { Writes (IsText kind (fields.now, text.now)) (IsRefusal kind (fields.now, text.now))
+        result (out.old, needed.old) (out.new, needed.new) }
 {
-    match written(alloc, kind, fields, text) {
-        Ok(text) => {
-            *needed = put(text.as_bytes(), out);
-            DONE
-        }
-        Err(status) => status,
-    }
+    put_text(written(alloc, kind, fields, text), out, needed)
 }
 
-// The text of the command; or the status that says why there is none.
-fn written(alloc: Global, kind: u32, fields: &[FieldRow], text: &[u8]) -> Result<Text, u32>
-    ensures text { IfOk result (λ t. IsText kind (fields.now, text.now) t) }
-    ensures refused { IfErr result (λ e. IsRefusal kind (fields.now, text.now) e) }
+// The text of the command, where it reads back as it.
+fn written(alloc: Global, kind: u32, fields: &[FieldRow], text: &[u8]) -> Result<Text, Refusal>
+    ensures text { IfOk result (IsText kind (fields.now, text.now)) }
+    ensures refused { IfErr result (λ e. IsRefusal kind (fields.now, text.now) (status_of e)) }
 {
-    let written = match text_of(alloc, kind, fields, text) {
-        Ok(Some(written)) => written,
-        Ok(None) => return Err(NO_COMMAND),
-        Err(_) => return Err(NO_MEMORY),
+    let written = text_of(alloc, kind, fields, text)?;
+    if !is_back(alloc, inner(written.as_bytes()), kind, fields, text)? {
+        return Err(Refusal::NotWritable);
+    }
+    Ok(written)
+}
+
+// The text of the command.
+fn text_of(alloc: Global, kind: u32, fields: &[FieldRow], text: &[u8]) -> Result<Text, Refusal>
+    ensures text { IfOk result (λ t. (c : OperatingSystemCommand Global)
+        × Has kind (fields.now, text.now) c × (t ≡ command_text c)) }
+    ensures refused { IfErr result (λ e. IsRefusal kind (fields.now, text.now) (status_of e)) }
+{
+    let Some(command) = command_of(alloc, kind, fields, text)? else {
+        return Err(Refusal::NoCommand);
     };
-    match is_back(alloc, inner(written.as_bytes()), kind, fields, text) {
-        Ok(true) => Ok(written),
-        Ok(false) => Err(NOT_WRITABLE),
-        Err(_) => Err(NO_MEMORY),
-    }
-}
-
-// The text of the command of this kind that has these fields, where there is one.
-fn text_of(
-    alloc: Global,
-    kind: u32,
-    fields: &[FieldRow],
-    text: &[u8],
-) -> Result<Option<Text>, AllocError>
-    ensures text { IfOk result (λ o. IfSome o (λ t. (c : OperatingSystemCommand Global)
-        × Has kind (fields.now, text.now) c × (t ≡ command_text c))) }
-    ensures none { IfOk result (λ o. o ≡ None → (c : OperatingSystemCommand Global) → IsHeld c
-        → Has kind (fields.now, text.now) c → ⊥) }
-    ensures refused { OnErr result (Refused Global) }
-{
-    match command_of(alloc, kind, fields, text)? {
-        Some(command) => Ok(Some(display(alloc, &command)?)),
-        None => Ok(None),
-    }
-}
-
-// The text of a command.
-fn display(alloc: Global, command: &Command) -> Result<Text, AllocError>
-    ensures text { IfOk result (λ t. t ≡ command_text command.now) }
-    ensures refused { OnErr result (Refused Global) }
-{
-    let mut text = Text::new(alloc);
-    text.push_display(command)?;
-    Ok(text)
+    Ok(display(alloc, &command)?)
 }
 
 // What is between `ESC ]` and `ESC \`.

@@ -1,18 +1,18 @@
 //! The text of the sixel image that a value and rows say.
-ghost use Rattle.std.specs.Prelude.{◌≡◌, ◌≢◌, ◌↔◌, ℕ, pos, IfErr, IfOk, IfSome, IsTrue, List, None, OnErr, Some, length};
+ghost use Rattle.std.specs.Prelude.{◌≡◌, ◌↔◌, pos, IfErr, IfOk, IfSome, IsTrue, None, OnErr};
 ghost use Rattle.std.specs.Global.{Global};
-ghost use Rattle.esc_sixel.specs.Texts.{sixel_output};
 ghost use Rattle.esc_sixel.specs.declared.sixel.Sixel.{Sixel as Image};
-ghost use Rattle.escape_c.specs.OscValues.{put_into};
+ghost use Rattle.escape_c.specs.Output.{Writes};
 ghost use Rattle.escape_c.specs.SixelValues.{IsHeader};
+ghost use Rattle.escape_c.specs.Written.{status_of};
 ghost use Rattle.escape_c.specs.WrittenSixels.{AreGiven, HasSixel, IsGiven, IsRefusal, IsText, optional};
 ghost use Rattle.memory.specs.Refusals.{Refused};
 
-use crate::ended::ended;
-use crate::output::put;
+use crate::output::put_text;
+use crate::refusal::Refusal;
+use crate::shown::{display, ended};
 use crate::sixel_value::SixelValue;
 use crate::sixel_writable::is_writable;
-use crate::{DONE, NO_COMMAND, NO_MEMORY, NOT_WRITABLE};
 use esc_fields::{SixelRow, sixel_items_of};
 use esc_sixel::{Sixel, SixelData};
 use esc_values::{Items, Text};
@@ -35,37 +35,24 @@ pub extern "C" fn escape_stream_write_sixel(
     out: &mut [u8],
     needed: &mut usize,
 ) -> u32
-    ensures written { result ≡ DONE → (t : List ℕ) × IsText value.now rows.now t
-        × (needed.new ≡ length t) × (out.new ≡ put_into t out.old) }
-    ensures refused { result ≢ DONE → IsRefusal value.now rows.now result
-        × (out.new ≡ out.old) × (needed.new ≡ needed.old) }
+    ensures { Writes (IsText value.now rows.now) (IsRefusal value.now rows.now)
+        result (out.old, needed.old) (out.new, needed.new) }
 {
-    match written(alloc, value, rows) {
-        Ok(text) => {
-            *needed = put(text.as_bytes(), out);
-            DONE
-        }
-        Err(status) => status,
-    }
+    put_text(written(alloc, value, rows), out, needed)
 }
 
-// The text of the image; or the status that says why there is none.
-fn written(alloc: Global, value: &SixelValue, rows: &[SixelRow]) -> Result<Text, u32>
-    ensures text { IfOk result (λ t. IsText value.now rows.now t) }
-    ensures refused { IfErr result (λ e. IsRefusal value.now rows.now e) }
+// The text of the image, where it reads back as it.
+fn written(alloc: Global, value: &SixelValue, rows: &[SixelRow]) -> Result<Text, Refusal>
+    ensures text { IfOk result (IsText value.now rows.now) }
+    ensures refused { IfErr result (λ e. IsRefusal value.now rows.now (status_of e)) }
 {
-    let sixel = match image_of(alloc, value, rows) {
-        Ok(Some(sixel)) => sixel,
-        Ok(None) => return Err(NO_COMMAND),
-        Err(_) => return Err(NO_MEMORY),
+    let Some(sixel) = image_of(alloc, value, rows)? else {
+        return Err(Refusal::NoCommand);
     };
     if !is_writable(&sixel) {
-        return Err(NOT_WRITABLE);
+        return Err(Refusal::NotWritable);
     }
-    match display(alloc, &sixel) {
-        Ok(text) => ended(text),
-        Err(_) => Err(NO_MEMORY),
-    }
+    Ok(ended(display(alloc, &sixel)?)?)
 }
 
 // The image that has this value and these rows, where there is one.
@@ -139,14 +126,4 @@ fn size(is_there: bool, number: u32) -> Option<u32>
     ensures { result ≡ optional is_there number }
 {
     if is_there { Some(number) } else { None }
-}
-
-// The text of an image, where it has one, without its end.
-fn display(alloc: Global, sixel: &Sixel) -> Result<Text, AllocError>
-    ensures text { (t : List ℕ) → sixel_output sixel.now ≡ Some t → IfOk result (λ x. x ≡ t) }
-    ensures refused { OnErr result (Refused Global) }
-{
-    let mut text = Text::new(alloc);
-    text.push_display(sixel)?;
-    Ok(text)
 }

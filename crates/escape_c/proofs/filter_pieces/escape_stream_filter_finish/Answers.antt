@@ -4,7 +4,7 @@ use Rattle.esc_filter.specs.Rules.{admits}
 use Rattle.esc_filter.specs.declared.unicode.Unicode.TheVariants.{Keep}
 use Rattle.escape_c.proofs.Keeping.{filter_fed}
 use Rattle.escape_c.proofs.filter_pieces.escape_stream_filter_finish.Goals as goal
-use Rattle.escape_c.specs.FilterPieces.{passed}
+use Rattle.escape_c.specs.Filtered.{passed}
 use Rattle.escape_c.specs.InPieces.{text_in}
 use Rattle.escape_c.specs.Kept.{filter_in}
 

@@ -1,8 +1,8 @@
-use Rattle.std.proofs.Common.{rules, ℕ, ◌≡◌, List, IfSome, sym, subst, ◌∙◌}
+use Rattle.std.proofs.Common.{rules, ◌≡◌, sym, subst, ◌∙◌}
 use Rattle.std.proofs.lemmas.Bool.{true≢false}
 use Rattle.std.specs.Global.{Global}
 use Rattle.esc_values.specs.Clear.{IsClearText}
-use Rattle.esc_osc.specs.Commands.{command_text, inner_text}
+use Rattle.esc_osc.specs.Commands.{inner_text}
 use Rattle.esc_osc.specs.Writable.{IsWritable}
 use Rattle.esc_osc.specs.declared.command.OperatingSystemCommand.{OperatingSystemCommand}
 use Rattle.esc_fields.specs.Fields.{Table}
@@ -11,22 +11,17 @@ use Rattle.escape_c.proofs.WrittenBack.{writable_back}
 use Rattle.escape_c.specs.OscValues.{command_of}
 use Rattle.escape_c.proofs.write_osc.written.Goals as goal
 
--- the text of a command that has them
-abbrev IsTextFor : ℕ → Table → List ℕ → Type 0
-IsTextFor k t s = (c : OperatingSystemCommand Global) × Has k t c × (s ≡ command_text c)
-
-pub returns-in-Ok-false-clause-refused : goal.returns-in-Ok-false-clause-refused
-returns-in-Ok-false-clause-refused c =
+pub returns-then-not-branch-clause-refused : goal.returns-then-not-branch-clause-refused
+returns-then-not-branch-clause-refused c =
     let k = c.args.kind in
     let t : Table = (c.args.fields.now, c.args.text.now) in
-    let said : IsTextFor k t c.in-Ok-Some.written =
-    subst (λ o. IfSome o (IsTextFor k t)) c.in-Ok-Some.field-0-is c.in-Ok-Some.ensures.text in
+    let said = c.in_ok-written.ensures.text in
     let inner_is : c.inner.result.now ≡ inner_text said.0 =
     c.inner.ensures (inner_text said.0) (c.as_bytes.ensures ∙ said.2) in
     let unwritable : (d : OperatingSystemCommand Global) → IsWritable d → Has k t d → ⊥ =
     λ d writable of_d.
     let back = writable_back k t said.0 d said.1 writable of_d in
-    let yes = c.in-Ok-false.ensures.back.1
+    let yes = c.in_ok-is_back.ensures.back.1
     (subst (λ s. IsClearText s × Has k t (command_of s)) (sym inner_is) back) in
-    true≢false (sym yes ∙ c.in-Ok-false.field-0-test) in
+    true≢false (sym yes ∙ c.if-not-branch.true) in
     search (rules, unwritable)

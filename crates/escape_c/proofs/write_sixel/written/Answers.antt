@@ -1,40 +1,38 @@
 use Rattle.std.proofs.Common.{rules, ◌≡◌, ◌++◌, IfSome, ap, sym, subst, ◌∙◌}
 use Rattle.std.proofs.lemmas.Bool.{true≢false}
-use Rattle.std.proofs.lemmas.Result.{IfOk-weaker}
 use Rattle.std.specs.Global.{Global}
 use Rattle.esc_sixel.specs.Writable.{IsWritable}
 use Rattle.esc_sixel.specs.declared.sixel.Sixel.{Sixel}
 use Rattle.escape_c.proofs.SixelsWritten.{none_writable, sixel_written}
-use Rattle.escape_c.specs.WrittenQueries.{string_end}
-use Rattle.escape_c.specs.WrittenSixels.{HasSixel, IsText, sixel_string}
+use Rattle.escape_c.specs.Written.{string_end}
+use Rattle.escape_c.specs.WrittenSixels.{HasSixel, sixel_string}
 use Rattle.escape_c.proofs.write_sixel.written.Goals as goal
 
 pub returns-then-not-is_writable-clause-refused : goal.returns-then-not-is_writable-clause-refused
 returns-then-not-is_writable-clause-refused c =
     let v = c.args.value.now in
     let rs = c.args.rows.now in
-    let has : HasSixel v rs c.in-Ok-Some.sixel =
-    subst (λ o. IfSome o (HasSixel v rs)) c.in-Ok-Some.field-0-is c.in-Ok-Some.ensures.has in
+    let has : HasSixel v rs c.in-Some.sixel =
+    subst (λ o. IfSome o (HasSixel v rs)) c.in-Some.is c.in_ok-sixel.ensures.has in
     let unwritable : (s : Sixel Global) → IsWritable s → HasSixel v rs s → ⊥ =
-    none_writable v rs c.in-Ok-Some.sixel has (λ writable.
+    none_writable v rs c.in-Some.sixel has (λ writable.
     true≢false (sym (c.is_writable.ensures.1 writable) ∙ c.if-not-is_writable.true)) in
     search (rules, unwritable)
 
-pub returns-in-Ok-clause-text : goal.returns-in-Ok-clause-text
-returns-in-Ok-clause-text c =
+pub returns-clause-text : goal.returns-clause-text
+returns-clause-text c =
     let v = c.args.value.now in
     let rs = c.args.rows.now in
-    let has : HasSixel v rs c.in-Ok-Some.sixel =
-    subst (λ o. IfSome o (HasSixel v rs)) c.in-Ok-Some.field-0-is c.in-Ok-Some.ensures.has in
-    let it = sixel_written v rs c.in-Ok-Some.sixel has
+    let has : HasSixel v rs c.in-Some.sixel =
+    subst (λ o. IfSome o (HasSixel v rs)) c.in-Some.is c.in_ok-sixel.ensures.has in
+    let it = sixel_written v rs c.in-Some.sixel has
     (c.is_writable.ensures.0 c.if-not-is_writable.false) in
-    let text_is : c.in-Ok.text ≡ sixel_string it.0 it.1 =
-    c.in-Ok.ensures.text (sixel_string it.0 it.1) it.2.output in
-    IfOk-weaker c.ended.result (λ s. s ≡ c.in-Ok.text ++ string_end) (λ s. IsText v rs s)
-    (λ s is. (
-      c.in-Ok-Some.sixel,
+    let text_is : c.in_ok-display.field-0 ≡ sixel_string it.0 it.1 =
+    subst (λ o. IfSome o (λ t. c.in_ok-display.field-0 ≡ t)) it.2.output
+    c.in_ok-display.ensures.text in (
+      c.in-Some.sixel,
       it.0,
       it.1,
       it.2,
-      is ∙ ap (λ x. x ++ string_end) text_is,
-    )) c.ended.ensures.text
+      c.in_ok-ended.ensures.text ∙ ap (λ x. x ++ string_end) text_is,
+    )
