@@ -9,6 +9,7 @@ ghost use Rattle.escape_c.specs.Policies.{policy_numbered};
 ghost use Rattle.escape_c.specs.Output.{Copies};
 ghost use Rattle.memory.specs.Refusals.{Refused};
 
+use crate::change_kept::change_kept;
 use crate::common::{begin, copy_text};
 use crate::filter::policy_of;
 use crate::in_pieces::InPieces;
@@ -63,19 +64,7 @@ pub extern "C" fn escape_stream_filter_feed(
     ensures ended { result ≡ NOT_BEGUN ↔ KeepsNone filter_in filter.old }
 {
     passed_reads_back::<Global>();
-    let Some(mut kept) = filter.take(alloc) else {
-        return NOT_BEGUN;
-    };
-    let Kept::Filter(inner) = &mut *kept else {
-        return NOT_BEGUN;
-    };
-    match inner.feed(bytes) {
-        Ok(()) => {
-            *filter = InPieces::of(kept);
-            DONE
-        }
-        Err(_) => NO_MEMORY,
-    }
+    change_kept!(alloc, filter, Filter(inner), inner.feed(bytes))
 }
 
 /// Ends the stream, and begins the next, within the same limit and by the same policy. What takes
@@ -95,19 +84,7 @@ pub extern "C" fn escape_stream_filter_finish(alloc: Global, filter: &mut InPiec
 {
     passed_reads_back::<Global>();
     closing_comes_last::<Global>();
-    let Some(mut kept) = filter.take(alloc) else {
-        return NOT_BEGUN;
-    };
-    let Kept::Filter(inner) = &mut *kept else {
-        return NOT_BEGUN;
-    };
-    match inner.finish() {
-        Ok(()) => {
-            *filter = InPieces::of(kept);
-            DONE
-        }
-        Err(_) => NO_MEMORY,
-    }
+    change_kept!(alloc, filter, Filter(inner), inner.finish())
 }
 
 /// Copies the text that the last call added, from its byte `from` on, to the beginning of `out`,

@@ -14,6 +14,7 @@
 //! `include/escape_stream.h` declares the calls for C.
 #![tactic(auto)]
 
+mod change_kept;
 mod clear;
 mod common;
 mod filter;

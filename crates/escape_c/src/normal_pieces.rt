@@ -6,6 +6,7 @@ ghost use Rattle.escape_c.specs.NormalPieces.{FinishesNormal, WasFedNormaliser, 
 ghost use Rattle.escape_c.specs.Output.{Copies};
 ghost use Rattle.memory.specs.Refusals.{Refused};
 
+use crate::change_kept::change_kept;
 use crate::common::{begin, copy_text};
 use crate::in_pieces::InPieces;
 use crate::kept::Kept;
@@ -51,19 +52,7 @@ pub extern "C" fn escape_stream_normal_feed(
         × IsEnded normaliser.new }
     ensures ended { result ≡ NOT_BEGUN ↔ KeepsNone normaliser_in normaliser.old }
 {
-    let Some(mut kept) = normaliser.take(alloc) else {
-        return NOT_BEGUN;
-    };
-    let Kept::Normal(inner) = &mut *kept else {
-        return NOT_BEGUN;
-    };
-    match inner.feed(bytes) {
-        Ok(()) => {
-            *normaliser = InPieces::of(kept);
-            DONE
-        }
-        Err(_) => NO_MEMORY,
-    }
+    change_kept!(alloc, normaliser, Normal(inner), inner.feed(bytes))
 }
 
 /// Ends the stream, and begins the next, within the same limit. The end adds nothing: the text that
@@ -77,15 +66,7 @@ pub extern "C" fn escape_stream_normal_finish(alloc: Global, normaliser: &mut In
     ensures ended { result ≡ NOT_BEGUN ↔ KeepsNone normaliser_in normaliser.old }
 {
     laws::reads_back::<Global>();
-    let Some(mut kept) = normaliser.take(alloc) else {
-        return NOT_BEGUN;
-    };
-    let Kept::Normal(inner) = &mut *kept else {
-        return NOT_BEGUN;
-    };
-    inner.restart();
-    *normaliser = InPieces::of(kept);
-    DONE
+    change_kept!(alloc, normaliser, Normal(inner), always inner.restart())
 }
 
 /// Copies the text that the last call added, from its byte `from` on, to the beginning of `out`,

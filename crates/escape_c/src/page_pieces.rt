@@ -8,6 +8,7 @@ ghost use Rattle.escape_c.specs.PageStates.{paged};
 ghost use Rattle.escape_c.specs.Output.{Copies};
 ghost use Rattle.memory.specs.Refusals.{Refused};
 
+use crate::change_kept::change_kept;
 use crate::common::{begin, copy_text};
 use crate::in_pieces::InPieces;
 use crate::kept::Kept;
@@ -82,15 +83,7 @@ pub extern "C" fn escape_stream_html_finish(alloc: Global, page: &mut InPieces) 
     ensures gone { result ≡ NOT_BEGUN ↔ KeepsNone page_in page.old }
 {
     laws::streams_are_pages::<Global>();
-    let Some(mut kept) = page.take(alloc) else {
-        return NOT_BEGUN;
-    };
-    let Kept::Page(state) = &mut *kept else {
-        return NOT_BEGUN;
-    };
-    state.has_ended = true;
-    *page = InPieces::of(kept);
-    DONE
+    change_kept!(alloc, page, Page(state), always state.has_ended = true)
 }
 
 /// Copies the text that the last call added, from its byte `from` on, to the beginning of `out`,

@@ -1,0 +1,35 @@
+//! How a call changes what a stream in pieces keeps.
+
+// Takes what the stream keeps, where that is of this kind, and changes it. Where that is done the
+// stream keeps it on. Else it has ended, and the status says why: it kept none, or memory was
+// refused. A change that `always` is done is refused none.
+macro_rules! change_kept {
+    ($alloc:ident, $stream:ident, $kind:ident($inner:ident), always $change:expr) => {{
+        let Some(mut kept) = $stream.take($alloc) else {
+            return NOT_BEGUN;
+        };
+        let Kept::$kind($inner) = &mut *kept else {
+            return NOT_BEGUN;
+        };
+        $change;
+        *$stream = InPieces::of(kept);
+        DONE
+    }};
+    ($alloc:ident, $stream:ident, $kind:ident($inner:ident), $change:expr) => {{
+        let Some(mut kept) = $stream.take($alloc) else {
+            return NOT_BEGUN;
+        };
+        let Kept::$kind($inner) = &mut *kept else {
+            return NOT_BEGUN;
+        };
+        match $change {
+            Ok(()) => {
+                *$stream = InPieces::of(kept);
+                DONE
+            }
+            Err(_) => NO_MEMORY,
+        }
+    }};
+}
+
+pub(crate) use change_kept;
