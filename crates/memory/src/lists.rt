@@ -2,6 +2,7 @@
 ghost use Rattle.std.specs.Prelude.{⊤, List, ◌≡◌, ◌+◌, ◌++◌, ◌∷◌, ◌≤◌, [], length, is_ok, if◌then◌else◌, IfOk, IfErr, OnOk, OnErr, vec_len, vec_capacity};
 ghost use Rattle.std.specs.Iterator.{DrainsIf, IsFinite};
 ghost use Rattle.std.specs.Iterator.Runs.{WholeRun};
+ghost use Rattle.memory.specs.Lists.{IsUnchanged};
 ghost use Rattle.memory.specs.Refusals.{Refused};
 
 use crate::answered::answered;
@@ -35,8 +36,7 @@ pub fn extend<T: Copy, A: Allocator>(vec: &mut Vec<T, A>, more: &[T]) -> Result<
 #[inline(always)]
 pub fn reserve<T, A: Allocator>(vec: &mut Vec<T, A>, additional: usize) -> Result<(), AllocError>
     requires { additional ≤ 16 }
-    ensures items { vec.new.items ≡ vec.old.items }
-    ensures len { vec_len vec.new ≡ vec_len vec.old }
+    ensures unchanged { IsUnchanged vec.old vec.new }
     ensures ok { OnOk result (vec_len vec.new + additional ≤ vec_capacity vec.new) }
     ensures refused { OnErr result (Refused A) }
 {
@@ -51,8 +51,7 @@ pub fn reserve_for<T, U, A: Allocator>(
     others: usize,
 ) -> Result<(), AllocError>
     requires few { others ≤ 16 }
-    ensures items { vec.new.items ≡ vec.old.items }
-    ensures len { vec_len vec.new ≡ vec_len vec.old }
+    ensures unchanged { IsUnchanged vec.old vec.new }
     ensures ok { OnOk result (vec_len vec.new + (length like.now + others) ≤ vec_capacity vec.new) }
     ensures refused { OnErr result (Refused A) }
 {
@@ -85,8 +84,7 @@ pub fn collect<I: Iterator + Drop, A: Allocator>(
 ) -> Result<Vec<I::Item, A>, AllocError>
 where
     I::Item: Drop,
-    requires can { I.can_next items }
-    requires finite { IsFinite (I.remaining items) }
+    requires { I.can_next items × IsFinite (I.remaining items) }
     ensures ran { IfOk result (λ v. (xs : List I.Item) × DrainsIf I.next_gives ⊤ items xs
         × ((v.items ≡ xs) × (vec_len v ≡ length xs))) }
     ensures runs { IfOk result (λ v. WholeRun I.next_gives items (λ p. (v.items ≡ p.items)

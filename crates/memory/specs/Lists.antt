@@ -1,0 +1,7 @@
+-- What a call for room leaves of a list.
+use Rattle.std.specs.Prelude.{◌≡◌, Vec, vec_len}
+
+-- it is as it was
+pub record IsUnchanged {T A : Type 0} (old new : Vec T A) : Type 0 where
+  pub items : new.items ≡ old.items
+  pub len : vec_len new ≡ vec_len old
