@@ -28,7 +28,7 @@ pub data Unfinished : Type 0 where
   InApc : Opener → List ℕ → Unfinished
   InIgnored : Kind → Opener → List ℕ → Unfinished
   InOsc : Opener → List Piece → Unfinished
-  -- a prefix stands after the units
+  -- a prefix follows the units
   InOscPending : Opener → List Piece → List ℕ → Unfinished
 
 abbrev pub osc_bytes : Opener → List Piece → List ℕ

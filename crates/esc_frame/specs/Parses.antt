@@ -46,22 +46,6 @@ Feeds V limit s b self actor =
     LeadsToWithin limit (s ++ b) self.exit.now
     × FoldsTo V.takes actor.entry.now (added_within limit s b) actor.exit.now
 
--- this is so of all of b, but for an error
-abbrev pub Parses : {A S T : Type 0} → Actor S → Result T ParseError → List ℕ
-    → Changed (VTParser A) → Changed S
-    → Option ℕ → List ℕ
-    → Type 0
-Parses V result b self actor limit s = OnOk result (Feeds V limit s b self actor)
-
--- This is so of the first n bytes of b, n being the result, but for an error; and all but the last
--- of them add no event and leave a segment unfinished.
-abbrev pub ParsesSome : {A S : Type 0} → Actor S → Result ℕ ParseError → List ℕ
-    → Changed (VTParser A) → Changed S
-    → Option ℕ → List ℕ
-    → Type 0
-ParsesSome V result b self actor limit s =
-    IfOk result (λ n. Feeds V limit s (take n b) self actor × IsQuietWithin limit s b n)
-
 -- An error is `Memory`: of what b adds the actor was given a prefix, and refused the next event,
 -- or the parser stopped by itself, which it does only for this reason.
 abbrev pub StopsFor : {S T : Type 0} → Type 0 → Actor S → Result T ParseError → List ℕ
@@ -77,6 +61,24 @@ abbrev pub IsRefused : {S T : Type 0} → Type 0 → Actor S → Result T ParseE
     → Type 0
 IsRefused A V result b actor limit s =
     StopsFor (MayGrow (s ++ b) × Refused A) V result b actor limit s
+
+-- What a call does with b, after s.
+pub record Parses {S T : Type 0} (A : Type 0) (V : Actor S) (result : Result T ParseError)
+    (b : List ℕ) (self : Changed (VTParser A)) (actor : Changed S) (limit : Option ℕ) (s : List ℕ)
+    : Type 0 where
+  -- all of b was fed
+  pub given : OnOk result (Feeds V limit s b self actor)
+  -- but for an error
+  pub refused : IsRefused A V result b actor limit s
+
+-- What a call does that takes a prefix of b, and returns its length.
+pub record ParsesSome {S : Type 0} (A : Type 0) (V : Actor S) (result : Result ℕ ParseError)
+    (b : List ℕ) (self : Changed (VTParser A)) (actor : Changed S) (limit : Option ℕ) (s : List ℕ)
+    : Type 0 where
+  -- the prefix was fed, and all but its last byte add no event and leave a segment unfinished
+  pub given : IfOk result (λ n. Feeds V limit s (take n b) self actor × IsQuietWithin limit s b n)
+  -- but for an error
+  pub refused : IsRefused A V result b actor limit s
 
 -- there is no such reason: the actor refused
 abbrev pub IsRefusedByActor : {S T : Type 0} → Actor S → Result T ParseError → List ℕ

@@ -74,11 +74,11 @@ pub data Segment : Type 0 where
   Broken : List ℕ → Segment
   -- a stray byte: A0-C1, F5-FF
   Stray : ℕ → Segment
-  -- a C0 that stands alone
+  -- a C0 by itself
   Control : ℕ → Segment
-  -- a C1 that stands alone, raw (false) or after C2 (true)
+  -- a C1 by itself, raw (false) or after C2 (true)
   HighControl : Bool → ℕ → Segment
-  -- a string terminator that stands alone, raw (false) or after C2 (true)
+  -- a string terminator by itself, raw (false) or after C2 (true)
   Terminator : Bool → ℕ → Segment
   -- ESC, intermediates and noise, the final byte
   Escape : List ℕ → ℕ → Segment

@@ -18,10 +18,10 @@ ghost use Rattle.esc_frame.specs.Machine.Calls.{Fails, is_between};
 ghost use Rattle.esc_frame.specs.Machine.Prefixes.{prefix_of};
 ghost use Rattle.esc_frame.specs.Machine.Keeping.{Holding};
 ghost use Rattle.esc_frame.specs.Machine.Allowed.{KeptSegment};
-ghost use Rattle.esc_frame.specs.Machine.Makes.{Emits, Makes, Consumes, Advances, StaysReady};
+ghost use Rattle.esc_frame.specs.Machine.Makes.{Emits, Makes, StaysReady};
 ghost use Rattle.esc_frame.specs.Machine.Moves.{move, opened, may_grow_in, may_grow_within, after_all, events_all};
 ghost use Rattle.esc_frame.specs.Segments.{Opener};
-ghost use Rattle.esc_frame.specs.Machine.Taking.{InAny, MayTake, TakesIn};
+ghost use Rattle.esc_frame.specs.Machine.Taking.{InAny, MayTake, TakesIn, TakesSome};
 
 use crate::classes::{Class, Kind, classify};
 use crate::taker::Taker;
@@ -212,8 +212,8 @@ impl<K: Store, A: Allocator> Machine<K, A> {
         Ok(())
     }
 
-    /// Takes a prefix of the bytes, at least one, and returns its length: all but the last tell
-    /// nothing and leave something unfinished. After an error nothing is said of the machine.
+    /// Takes a prefix of the bytes, at least one, and returns its length: all but the last emit
+    /// nothing and leave a segment unfinished. After an error nothing is said of the machine.
     #[inline(always)]
     pub fn take_some<V: Taker>(&mut self, rest: &[u8], actor: &mut V) -> Result<usize>
         requires some { 0 < length rest.now }
@@ -249,9 +249,7 @@ impl<K: Store, A: Allocator> Machine<K, A> {
         requires some { 0 < length rest.now }
         requires ready { MayTake V.Taker (KeptSegment K.Store self.old)
             self.old.limit rest.now actor.old }
-        ensures took { Holding K.Store self (λ u.
-            Consumes K.Store V.Taker self.old.limit result u rest.now self actor) }
-        ensures count { Advances V.Taker result rest.now self actor }
+        ensures { TakesSome (Holding K.Store self) K.Store V.Taker result rest.now self actor }
     {
         match self.state {
             State::Ground => match self.pending {

@@ -2,9 +2,8 @@
 #![tactic(auto)]
 
 ghost use Rattle.std.specs.Prelude.{◌≡◌, ◌≢◌, ◌<◌, ◌≤◌, ◌∷◌, [], length, take, IsTrue, ◌↔◌, IfSome, IsSome, None, Some, false};
-ghost use Rattle.esc_frame.specs.Limits.{most};
 ghost use Rattle.esc_frame.specs.Events.Event.{Execute, Print};
-ghost use Rattle.esc_frame.specs.Parses.{MayGive, After, AfterGround, FirstByte, AddsOne, Parses, ParsesSome, IsRefused, IsRefusedByActor, TakesSome, Leaves, IsKeptOf};
+ghost use Rattle.esc_frame.specs.Parses.{MayGive, After, AfterGround, FirstByte, AddsOne, Parses, ParsesSome, IsRefusedByActor, TakesSome, Leaves, IsKeptOf};
 ghost use Rattle.esc_frame.specs.Memory.{AreBorrowed};
 ghost use Rattle.esc_frame.specs.Stream.{LeadsTo, LeadsToWithin, HasFailed, IsAtGround, IsQuietWithin};
 
@@ -22,10 +21,14 @@ use std::alloc::{Allocator, Global};
 /// in operating system commands, and with application program commands handed out.
 ///
 /// Neither the stream nor its events are kept, but what is unfinished: of an escape sequence two
-/// intermediates, of a control sequence 256 parameters, of an operating system command or an
-/// application program command its text, of a device control string its header.
-/// [`with_limit`](VTParser::with_limit) bounds what is kept of such a string. Intermediates and
+/// intermediates, of a control sequence 256 parameters and separators, of an operating system
+/// command or an application program command its text, of a device control string its header. Of
+/// its data, and of a start of string (SOS) or a privacy message (PM), nothing is kept.
+/// [`with_limit`](VTParser::with_limit) bounds what is kept of a string. Intermediates and
 /// parameters lie in the parser, in some 4 KB: only a string takes memory.
+///
+/// A call that returns `ParseError::Memory` is the last that parses: from then on each call that is
+/// given bytes for an actor returns `ParseError::Failed`, and gives the actor nothing.
 #[derive(Drop)]
 pub struct VTParser<A: Allocator = Global> {
     machine: Machine<Kept<A>, A>,
@@ -101,7 +104,8 @@ impl<A: Allocator> VTParser<A> {
         !self.has_failed && self.machine.is_ground()
     }
 
-    /// Whether an earlier call was refused memory. Then every call returns `ParseError::Failed`.
+    /// Whether an earlier call returned an error. Then each call that is given bytes for an actor
+    /// returns `ParseError::Failed`, nothing is kept, and no first character or control is found.
     #[tactic(auto, unfolding(crate::specs::Stream::LeadsToWithin, crate::specs::Stream::HasFailed))]
     pub fn has_failed(&self) -> bool
         ensures failed { IsTrue result ↔ HasFailed self.now }
@@ -159,13 +163,12 @@ impl<A: Allocator> VTParser<A> {
     /// of the bytes before.
     ///
     /// The error is `Memory` where the actor refused a call, or where memory for a string was
-    /// refused: no control sequence takes any. A prefix of these events was given then, and every
-    /// later call returns `Failed` and gives nothing.
+    /// refused: no control sequence takes any. A prefix of these events was given then, and the
+    /// parser has failed. The error is `Failed` where it had, and the actor is as it was.
     #[tactic(auto, unfolding(crate::specs::Stream::LeadsToWithin, crate::specs::Stream::HasFailed))]
     pub fn parse_byte<V: VTActor>(&mut self, byte: u8, actor: &mut V) -> Result<(), ParseError>
         requires { MayGive V.VTActor self.old (byte ∷ []) actor.old }
-        ensures given { After self.old (Parses V.VTActor result (byte ∷ []) self actor) }
-        ensures refused { After self.old (IsRefused A V.VTActor result (byte ∷ []) actor) }
+        ensures parsed { After self.old (Parses A V.VTActor result (byte ∷ []) self actor) }
         ensures after { Leaves V.VTActor result self actor }
     {
         if self.has_failed {
@@ -185,20 +188,19 @@ impl<A: Allocator> VTParser<A> {
     /// events are the same.
     ///
     /// The error is `Memory` where the actor refused a call, or where memory for a string was
-    /// refused: no control sequence takes any. A prefix of these events was given then, and every
-    /// later call returns `Failed` and gives nothing.
+    /// refused: no control sequence takes any. A prefix of these events was given then, and the
+    /// parser has failed. The error is `Failed` where it had, and the actor is as it was.
     ///
-    /// Two strings that are whole in `bytes` are given to the actor as slices of `bytes` and take
-    /// no memory: an operating system command of at most 16 parts with a text of bytes 20 to 7F and
-    /// well-formed UTF-8 alone, and an application program command with a text of bytes 20 to 7F
-    /// alone. So where no segment is unfinished before and after these bytes, and they hold such
-    /// commands, text, controls, escape sequences and control sequences alone, the error comes only
-    /// of a call that the actor refused.
+    /// Two kinds of string are given to the actor as slices of `bytes` where they are whole there,
+    /// and take no memory: an operating system command of at most 16 parts with a text of bytes 20
+    /// to 7F and well-formed UTF-8 alone, and an application program command with a text of bytes
+    /// 20 to 7F alone. So where no segment is unfinished before and after these bytes, and they
+    /// hold such commands, text, controls, escape sequences and control sequences alone, the error
+    /// comes only of a call that the actor refused.
     #[tactic(auto, unfolding(crate::specs::Stream::LeadsToWithin, crate::specs::Stream::HasFailed))]
     pub fn parse<V: VTActor>(&mut self, bytes: &[u8], actor: &mut V) -> Result<(), ParseError>
         requires { MayGive V.VTActor self.old bytes.now actor.old }
-        ensures given { After self.old (Parses V.VTActor result bytes.now self actor) }
-        ensures refused { After self.old (IsRefused A V.VTActor result bytes.now actor) }
+        ensures parsed { After self.old (Parses A V.VTActor result bytes.now self actor) }
         ensures borrowed { AfterGround self.old (λ limit s. AreBorrowed bytes.now
             → IsRefusedByActor V.VTActor result bytes.now actor limit s) }
         ensures after { Leaves V.VTActor result self actor }
@@ -221,8 +223,8 @@ impl<A: Allocator> VTParser<A> {
     /// after it to a later call.
     ///
     /// The error is `Memory` where the actor refused a call, or where memory for a string was
-    /// refused: a prefix of the events that the bytes add was given then, and every later call
-    /// returns `Failed` and gives nothing.
+    /// refused: a prefix of the events that the bytes add was given then, and the parser has
+    /// failed. The error is `Failed` where it had, and the actor is as it was.
     #[tactic(auto, unfolding(crate::specs::Stream::LeadsToWithin, crate::specs::Stream::HasFailed))]
     pub fn parse_some<V: VTActor>(
         &mut self,
@@ -231,8 +233,7 @@ impl<A: Allocator> VTParser<A> {
     ) -> Result<usize, ParseError>
         requires { MayGive V.VTActor self.old bytes.now actor.old }
         ensures count { TakesSome result bytes.now actor }
-        ensures given { After self.old (ParsesSome V.VTActor result bytes.now self actor) }
-        ensures refused { After self.old (IsRefused A V.VTActor result bytes.now actor) }
+        ensures parsed { After self.old (ParsesSome A V.VTActor result bytes.now self actor) }
         ensures after { Leaves V.VTActor result self actor }
     {
         if self.has_failed {

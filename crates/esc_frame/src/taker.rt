@@ -2,13 +2,12 @@
 #![tactic(auto)]
 
 ghost use Rattle.std.specs.Prelude.{◌≡◌, ◌<◌, [], ◌∷◌, ℕ, List, length, map, not, true};
-ghost use Rattle.std.specs.List.{list_all};
 ghost use Rattle.std.specs.Str.{chars};
-ghost use Rattle.esc_values.specs.Clear.{is_clear, parts_of};
+ghost use Rattle.esc_values.specs.Clear.{parts_of};
 ghost use Rattle.esc_frame.specs.Bodies.{hook_by};
 ghost use Rattle.esc_frame.specs.Events.{Event, MayGet};
 ghost use Rattle.esc_frame.specs.Limits.{has_few_parts};
-ghost use Rattle.esc_frame.specs.Scans.{is_text_byte, is_data_byte};
+ghost use Rattle.esc_frame.specs.Scans.{IsRun, IsClearRun, is_text_byte, is_data_byte};
 ghost use Rattle.esc_frame.specs.Takers.{MayGetOne, TakesAll, TakesOne};
 ghost use Rattle.memory.specs.Refusals.{Refused};
 ghost use Rattle.esc_frame.specs.Events.Event.{Print, Execute, EscDispatch, CsiDispatch, OscDispatch, DcsHook, DcsPut, DcsUnhook, ApcDispatch};
@@ -18,10 +17,10 @@ use crate::utf8::texts::first_of;
 use esc_values::csi_param::CsiParam;
 use std::alloc::{AllocError, Allocator};
 
-/// What a machine gives its events, one call an event. Every [`VTActor`] is one. A type that takes
-/// the texts of strings as they are, and asks for no memory, can say so here, by `stops`, which a
-/// `VTActor` cannot: its default methods make lists. But for that each method asks and promises
-/// what the one of `VTActor` does, as one fact.
+/// What a machine gives its events, by the calls of a [`VTActor`]. Every `VTActor` is one. A type
+/// that takes the texts of strings as they are, and asks for no memory, can say so here, by
+/// `stops`, which a `VTActor` cannot: its default methods make lists. But for that each method asks
+/// and promises what the one of `VTActor` does, as one fact.
 pub trait Taker {
     // what an event may make of a value
     ghost takes: { Self → Event → Self → Type 0 };
@@ -48,8 +47,7 @@ pub trait Taker {
     #[inline(always)]
     fn print_text(&mut self, text: &[u8]) -> Result<(), AllocError>
         requires ready { MayGet is_ready may takes self.old (map Print text.now) }
-        requires some { 0 < length text.now }
-        requires text { list_all is_text_byte text.now ≡ true }
+        requires run { IsRun is_text_byte text.now }
         ensures { TakesAll ⊥ takes refuses is_ready result self.old (map Print text.now) self.new }
     {
         for b in text {
@@ -62,8 +60,7 @@ pub trait Taker {
     #[inline(always)]
     fn print_str(&mut self, text: &str) -> Result<(), AllocError>
         requires ready { MayGet is_ready may takes self.old (map Print (chars text.now)) }
-        requires some { 0 < length text.now }
-        requires clear { list_all is_clear (chars text.now) ≡ true }
+        requires run { IsClearRun text.now }
         ensures { TakesAll ⊥ takes refuses is_ready result self.old
             (map Print (chars text.now)) self.new }
     {
@@ -106,8 +103,7 @@ pub trait Taker {
     #[inline(always)]
     fn dcs_put_text(&mut self, bytes: &[u8]) -> Result<(), AllocError>
         requires ready { MayGet is_ready may takes self.old (map DcsPut bytes.now) }
-        requires some { 0 < length bytes.now }
-        requires bytes { list_all is_data_byte bytes.now ≡ true }
+        requires run { IsRun is_data_byte bytes.now }
         ensures { TakesAll ⊥ takes refuses is_ready result self.old
             (map DcsPut bytes.now) self.new }
     {
@@ -119,7 +115,7 @@ pub trait Taker {
 
     /// It ends.
     fn dcs_unhook(&mut self) -> Result<(), AllocError>
-        requires { MayGetOne is_ready may self.old (DcsUnhook) }
+        requires { MayGetOne is_ready may self.old DcsUnhook }
         ensures { TakesOne takes refuses is_ready result self.old DcsUnhook self.new };
 
     /// An escape sequence.

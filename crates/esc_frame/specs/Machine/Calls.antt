@@ -65,11 +65,11 @@ Advances is_ready result rest before machine old new =
     IfOk result (λ n. (0 < n) × (n ≤ length rest) × (is_ready old → is_ready new)
     × (machine.limit ≡ before.limit))
 
--- of the bytes that it took, all but the last tell nothing and leave something unfinished
+-- of the bytes that it took, all but the last emit nothing and leave a segment unfinished
 abbrev pub Quietly : {E : Type 0} → Option ℕ → Result ℕ E → Unfinished → List ℕ → Type 0
 Quietly limit result u rest = IfOk result (λ n. IsStill limit u rest n)
 
--- in ground these bytes tell one event, whatever the limit, and leave nothing unfinished
+-- in ground these bytes emit one event, whatever the limit, and leave nothing unfinished
 abbrev pub EmitsOne : List ℕ → Event → Type 0
 EmitsOne x e = (after_all Ground x ≡ Ground)
     × ((limit : Option ℕ) → events_all limit Ground x ≡ e ∷ [])

@@ -221,8 +221,8 @@ may_grow_within u bs = reaches_growing u bs && not (is_borrowable u bs)
 
 -- ---- prefixes that stop at the first event
 
--- Of the first n bytes of the rest, where u was unfinished before, all but the last tell nothing
--- and leave something unfinished.
+-- Of the first n bytes of the rest, where u was unfinished before, all but the last emit nothing
+-- and leave a segment unfinished.
 abbrev pub IsStill : Option ℕ → Unfinished → List ℕ → ℕ → Type 0
 IsStill limit u rest n = (k : ℕ) → 0 < k → k < n → (events_all limit u (take k rest) ≡ [])
     × (is_ground (after_all u (take k rest)) ≡ false)

@@ -1,5 +1,6 @@
--- Bodies of control sequences that have few parameters. Only private contracts cite it.
-use Rattle.std.specs.Prelude.{ℕ, ◌≡◌, ◌<◌, ◌≤◌, Bool, true, false, List, None, length, take}
+-- Bodies of control sequences that have few parameters. Contracts of parts cite it, here and in
+-- `esc_lent`.
+use Rattle.std.specs.Prelude.{ℕ, ◌≡◌, ◌<◌, ◌≤◌, ◌+◌, ◌++◌, Bool, true, false, List, None, length, take}
 use Rattle.std.specs.List.{list_all}
 use Rattle.esc_values.specs.declared.csi_param.CsiParam.{CsiParam}
 use Rattle.esc_frame.specs.declared.unfinished.body.Form.{Form}
@@ -8,7 +9,7 @@ use Rattle.esc_frame.specs.Bodies.{csi_params, is_csi_body, kept_csi_params, has
 use Rattle.esc_frame.specs.Machine.Keeps.{number_of_run, form_from}
 use Rattle.esc_frame.specs.Scans.{is_body_byte}
 
--- a parameter byte may stand after it
+-- a parameter byte may follow it
 abbrev pub is_early : Form → Bool
 is_early form.Empty = true
 is_early form.Parameters = true
@@ -21,10 +22,28 @@ pub record IsAfter (items : List CsiParam) (x : List ℕ) : Type 0 where
   pub form : is_early (form_from form.Empty x) ≡ true
   pub body : list_all is_body_byte x ≡ true
 
--- and no run of digits stands at the end
+-- and it ends in no run of digits
 pub record IsPrefix (items : List CsiParam) (x : List ℕ) : Type 0 where
   pub so : IsAfter items x
   pub closed : number_of_run None x ≡ None
+
+-- A number was read, of so many digits, and pushed: of the `had` parameters `before` it made the
+-- `have` parameters `after`.
+pub record PushesNumber (had have : ℕ) (before after : List CsiParam) (rest : List ℕ) (run : ℕ)
+    : Type 0 where
+  pub count : (0 < run) × (run ≤ length rest)
+  pub csi_params : have ≡ had + 1
+  pub keeps : (x : List ℕ) → IsPrefix before x → IsAfter after (x ++ take run rest)
+
+-- A field was, of this length: a number, if one came, and a separator after it, if `goes_on`.
+pub record PushesField (had have : ℕ) (before after : List CsiParam) (rest : List ℕ) (run : ℕ)
+    (goes_on : Bool) : Type 0 where
+  pub few : run ≤ length rest
+  pub csi_params : have ≤ had + 2
+  pub more : goes_on ≡ true
+      → (0 < run) × ((x : List ℕ) → IsPrefix before x → IsPrefix after (x ++ take run rest))
+  pub ends : goes_on ≡ false
+      → (x : List ℕ) → IsPrefix before x → IsAfter after (x ++ take run rest)
 
 -- these are the parameters that are kept of a body
 pub record IsShort (items : List CsiParam) (x : List ℕ) : Type 0 where

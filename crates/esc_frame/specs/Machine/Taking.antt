@@ -1,5 +1,5 @@
 -- What a call that takes bytes in one state of the machine is given, and what it says, in the same
--- words for each state. Only private contracts cite it.
+-- words for each state. Contracts of parts cite it, here and in `esc_lent`.
 use Rattle.std.specs.Prelude.{ℕ, ◌≡◌, ◌<◌, ◌≤◌, ◌+◌, ◌⊎◌, true, Bool, List, [], Option, Result, IfOk, length, take, drop, slice_index}
 use Rattle.std.specs.List.{list_all}
 use Rattle.esc_values.specs.declared.csi_param.CsiParam.{CsiParam}
@@ -26,6 +26,14 @@ InState = (Unfinished → Type 0) → Type 0
 -- the same, under a limit
 abbrev pub InStateUnder : Type 1
 InStateUnder = (Option ℕ → Unfinished → Type 0) → Type 0
+
+-- under this limit
+abbrev pub UnderOne : Option ℕ → InState → InStateUnder
+UnderOne limit Keeping P = Keeping (P limit)
+
+-- between segments
+abbrev pub InGround : InState
+InGround P = P Ground
 
 -- in any state
 abbrev pub InAny : InState
@@ -79,48 +87,52 @@ abbrev pub IsBetweenUnits : {K A : Type 0} → Machine K A → Type 0
 IsBetweenUnits machine = (machine.state ≡ state.Osc) × (prefix_of machine.pending ≡ [])
 
 -- the actor is ready, or awaits the events of the rest, where one of these is unfinished
-abbrev pub MayTake : {S : Type 0} → Actor S → InState → Option ℕ → List ℕ → S → Type 0
-MayTake V Kept limit rest old =
-    V.is_ready old ⊎ Kept (λ u. Awaits V.may V.takes old (events_all limit u rest))
-
--- the same, under any limit
 abbrev pub MayTakeUnder : {S : Type 0} → Actor S → InStateUnder → List ℕ → S → Type 0
 MayTakeUnder V Kept rest old =
     V.is_ready old ⊎ Kept (λ limit u. Awaits V.may V.takes old (events_all limit u rest))
+
+abbrev pub MayTake : {S : Type 0} → Actor S → InState → Option ℕ → List ℕ → S → Type 0
+MayTake V Kept limit rest old = MayTakeUnder V (UnderOne limit Kept) rest old
 
 -- where not all strings in the rest can be lent
 abbrev pub Unlent : List ℕ → InState → InState
 Unlent rest Keeping P = Keeping (Unborrowed rest P)
 
 -- Some of the rest was taken.
-pub record TakesIn {T A S E : Type 0} (Keeping Any : InState) (K : Keeper T) (V : Actor S)
+pub record TakesSome {T A S E : Type 0} (Keeping : InState) (K : Keeper T) (V : Actor S)
     (result : Result ℕ E) (rest : List ℕ) (self : Changed (Machine T A)) (actor : Changed S)
     : Type 0 where
   -- what was unfinished and is kept, goes on with what was taken
   pub took : Keeping (λ u. Consumes K V self.entry.now.limit result u rest self actor)
-  -- whatever was unfinished, all that was taken but the last byte emits nothing
-  pub quiet : Any (λ u. Quietly self.entry.now.limit result u rest)
   -- one byte at least was
   pub count : Advances V result rest self actor
 
--- The same, under any limit.
+-- The same, under any limit, and all of it but the last byte emits nothing.
 pub record TakesUnder {T A S E : Type 0} (Keeping Any : InStateUnder) (K : Keeper T) (V : Actor S)
     (result : Result ℕ E) (rest : List ℕ) (self : Changed (Machine T A)) (actor : Changed S)
     : Type 0 where
   pub took : Keeping (λ limit u. Consumes K V limit result u rest self actor)
+  -- whatever was unfinished
   pub quiet : Any (λ limit u. Quietly limit result u rest)
   pub count : Advances V result rest self actor
 
--- A whole sequence was taken in ground.
-pub record TakesSequence {T A S E : Type 0} (K : Keeper T) (V : Actor S) (result : Result ℕ E)
-    (rest : List ℕ) (self : Changed (Machine T A)) (actor : Changed S) : Type 0 where
-  pub ground : StaysAtGround K result self
-  pub stays : StaysInGround V result rest actor
-  pub some : IfOk result (λ n. 0 < n)
-  pub quiet : (limit : Option ℕ) → Quietly limit result Ground rest
+-- the same, under the machine's limit
+abbrev pub TakesIn : {T A S E : Type 0} → InState → InState → Keeper T → Actor S → Result ℕ E
+    → List ℕ → Changed (Machine T A) → Changed S
+    → Type 0
+TakesIn Keeping Any K V result rest self actor =
+    TakesUnder (UnderOne self.entry.now.limit Keeping) (UnderOne self.entry.now.limit Any) K V
+    result rest self actor
 
 -- Bytes that leave nothing unfinished were taken in ground.
 pub record TakesInGround {T A S E : Type 0} (K : Keeper T) (V : Actor S) (result : Result ℕ E)
     (rest : List ℕ) (self : Changed (Machine T A)) (actor : Changed S) : Type 0 where
   pub ground : StaysAtGround K result self
   pub stays : StaysInGround V result rest actor
+
+-- They are a whole sequence.
+pub record TakesSequence {T A S E : Type 0} (K : Keeper T) (V : Actor S) (result : Result ℕ E)
+    (rest : List ℕ) (self : Changed (Machine T A)) (actor : Changed S) : Type 0 where
+  pub taken : TakesInGround K V result rest self actor
+  pub some : IfOk result (λ n. 0 < n)
+  pub quiet : (limit : Option ℕ) → Quietly limit result Ground rest

@@ -9,11 +9,11 @@ ghost use Rattle.esc_frame.specs.Limits.{is_read};
 ghost use Rattle.esc_frame.specs.Machine.Calls.{Stops};
 ghost use Rattle.esc_frame.specs.Machine.Keeping.{Holding, KeepingDcs, KeepingHeader, InPassthrough};
 ghost use Rattle.esc_frame.specs.Machine.Allowed.{KeptDcs, KeptHeader, KeptPassthrough, KeptSegment};
-ghost use Rattle.esc_frame.specs.Machine.Makes.{MayEmit, Emits, Makes, Consumes, Advances, StaysReady};
+ghost use Rattle.esc_frame.specs.Machine.Makes.{MayEmit, Emits, Makes, StaysReady};
 ghost use Rattle.esc_frame.specs.Machine.Keeps.{KeepsDcs, parameters_of};
 ghost use Rattle.esc_frame.specs.Machine.Moves.{emitting, ground_move, move};
 ghost use Rattle.esc_frame.specs.Segments.{hook_event};
-ghost use Rattle.esc_frame.specs.Machine.Taking.{MayTake};
+ghost use Rattle.esc_frame.specs.Machine.Taking.{MayTake, TakesSome};
 
 use crate::classes::Class;
 use crate::machine::{Machine, Result, State};
@@ -99,9 +99,7 @@ impl<K: Store, A: Allocator> Machine<K, A> {
         requires ready { MayTake V.Taker (KeptSegment K.Store self.old)
             self.old.limit rest.now actor.old }
         requires state { self.old.state ≡ State.Data }
-        ensures took { Holding K.Store self (λ u.
-            Consumes K.Store V.Taker self.old.limit result u rest.now self actor) }
-        ensures count { Advances V.Taker result rest.now self actor }
+        ensures { TakesSome (Holding K.Store self) K.Store V.Taker result rest.now self actor }
     {
         let run = data_run(rest);
         if run == 0 {

@@ -6,11 +6,11 @@ ghost use Rattle.esc_frame.specs.Classes.{class_of};
 ghost use Rattle.esc_frame.specs.Leads.{Holds};
 ghost use Rattle.esc_frame.specs.Leads.Unfinished.{Ground, InEscape};
 ghost use Rattle.esc_frame.specs.Machine.Prefixes.{prefix_of};
-ghost use Rattle.esc_frame.specs.Machine.Makes.{MayEmit, MayEmitAll, Makes, AlwaysMakes, Consumes, ConsumesSome, Advances, StaysReady};
+ghost use Rattle.esc_frame.specs.Machine.Makes.{MayEmit, MayEmitAll, Makes, AlwaysMakes, ConsumesSome, StaysReady};
 ghost use Rattle.esc_frame.specs.Machine.Moves.{events_all, emitting, ground_move, pair_move, pending_move};
 ghost use Rattle.esc_frame.specs.Events.Event.{Print};
 ghost use Rattle.esc_frame.specs.Sequences.{outcome, is_sequence};
-ghost use Rattle.esc_frame.specs.Machine.Taking.{TakesInGround};
+ghost use Rattle.esc_frame.specs.Machine.Taking.{InGround, TakesInGround, TakesSome};
 
 use crate::classes::{Breaker, Class, classify};
 use crate::machine::{Machine, Result, State};
@@ -186,8 +186,7 @@ impl<K: Store, A: Allocator> Machine<K, A> {
         requires some { 0 < length rest.now }
         requires ready { MayEmit V.Taker (events_all self.old.limit Ground rest.now) actor.old }
         requires ground { Holds K.keeps self.old.limit self.old Ground }
-        ensures took { Consumes K.Store V.Taker self.old.limit result Ground rest.now self actor }
-        ensures count { Advances V.Taker result rest.now self actor }
+        ensures { TakesSome InGround K.Store V.Taker result rest.now self actor }
     {
         let printed = self.take_quick(rest, actor)?;
         if printed == rest.len() {
@@ -253,8 +252,7 @@ impl<K: Store, A: Allocator> Machine<K, A> {
     fn take_string<V: Taker>(&mut self, rest: &[u8], actor: &mut V) -> Result<usize>
         requires some { 0 < length rest.now }
         requires ready { MayEmit V.Taker (events_all self.old.limit Ground rest.now) actor.old }
-        ensures took { Consumes K.Store V.Taker self.old.limit result Ground rest.now self actor }
-        ensures count { Advances V.Taker result rest.now self actor }
+        ensures { TakesSome InGround K.Store V.Taker result rest.now self actor }
     {
         let n = self.take_control(rest, actor)?;
         let more = self.take_terminator(&rest[n..], actor)?;

@@ -8,7 +8,7 @@ ghost use Rattle.esc_frame.specs.Machine.Characters.{IsAhead};
 ghost use Rattle.esc_frame.specs.Leads.Unfinished.{Ground};
 ghost use Rattle.esc_frame.specs.Machine.Makes.{MayEmitAll, StaysInGround};
 ghost use Rattle.esc_frame.specs.Machine.Moves.{IsStill};
-ghost use Rattle.esc_frame.specs.Scans.{StartsFrom};
+ghost use Rattle.esc_frame.specs.Scans.{StartsFrom, StartsWithControl};
 
 use crate::machine::Result;
 use crate::runs::scans::{ascii_run, free_run};
@@ -58,9 +58,7 @@ pub fn first_control(rest: &[u8]) -> Option<u8>
 /// The control that comes first.
 #[inline(always)]
 pub fn execute_one<V: Taker>(rest: &[u8], actor: &mut V) -> Result<usize>
-    requires some { 0 < length rest.now }
-    requires low { slice_index rest.now 0 < 0x20 }
-    requires other { slice_index rest.now 0 ≢ 0x1b }
+    requires control { StartsWithControl rest.now }
     requires ready { MayEmitAll V.Taker Ground rest.now actor.old }
     ensures { StaysInGround V.Taker result rest.now actor }
 {

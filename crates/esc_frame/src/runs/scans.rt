@@ -4,7 +4,7 @@
 ghost use Rattle.std.specs.Prelude.{◌≡◌, ◌+◌, ◌<◌, ◌≤◌, true, false, length, take, drop, slice_index, IsTrue};
 ghost use Rattle.std.specs.List.{prefix_len};
 ghost use Rattle.esc_frame.specs.Machine.TextRuns.{IsTextRun, NoUnitAhead};
-ghost use Rattle.esc_frame.specs.Scans.{is_text_byte, is_data_byte, is_free_byte, is_unmarked, IsFreeTo, lowest};
+ghost use Rattle.esc_frame.specs.Scans.{IsPartOfRun, is_text_byte, is_data_byte, is_free_byte, is_unmarked, IsFreeTo, lowest};
 ghost use Rattle.esc_frame.specs.Sequences.{is_from};
 
 use crate::utf8::sequence::{ahead, ahead_of_few};
@@ -78,9 +78,7 @@ fn short_run_to(bytes: &[u8], last: u8) -> usize
 #[inline(always)]
 fn run_from(bytes: &[u8], from: usize, last: u8) -> usize
     requires last { is_from 0x7e 0x7f last ≡ true }
-    requires some { from ≤ length bytes.now }
-    requires part { prefix_len (is_from 0x20 last) bytes.now
-        ≡ from + prefix_len (is_from 0x20 last) (drop from bytes.now) }
+    requires part { IsPartOfRun (is_from 0x20 last) bytes.now from }
     ensures run { result ≡ prefix_len (is_from 0x20 last) bytes.now }
     ensures few { result ≤ length bytes.now }
 {

@@ -2,7 +2,7 @@
 #![tactic(auto)]
 
 ghost use Rattle.std.specs.Prelude.{◌≡◌, ◌<◌, ◌≤◌, ◌+◌, ◌-◌, ◌++◌, true, false, ℕ, List, [], ◌∷◌, length, take, pos};
-ghost use Rattle.esc_frame.specs.Machine.Shorts.{ReadsNumber, IsAfter, IsPrefix, IsShort};
+ghost use Rattle.esc_frame.specs.Machine.Shorts.{ReadsNumber, PushesNumber, PushesField, IsAfter, IsPrefix, IsShort};
 ghost use Rattle.esc_frame.specs.Scans.{StartsWithDigit};
 
 use crate::unfinished::csi_params::next_number;
@@ -101,10 +101,8 @@ impl Short {
     fn push_number(&mut self, rest: &[u8]) -> usize
         requires room { self.old.count < 32 }
         requires digit { StartsWithDigit rest.now }
-        ensures count { (0 < result) × (result ≤ length rest.now) }
-        ensures csi_params { self.new.count ≡ self.old.count + 1 }
-        ensures keeps { (x : List ℕ) → IsPrefix (take self.old.count self.old.items) x
-            → IsAfter (take self.new.count self.new.items) (x ++ take result rest.now) }
+        ensures { PushesNumber self.old.count self.new.count (take self.old.count self.old.items)
+            (take self.new.count self.new.items) rest.now result }
     {
         let (number, end) = read_number(rest);
         self.push_integer(number);
@@ -152,15 +150,8 @@ impl Short {
     fn push_field(&mut self, rest: &[u8]) -> (usize, bool)
         requires room { self.old.count < 31 }
         requires some { 0 < length rest.now }
-        ensures few { result.0 ≤ length rest.now }
-        ensures csi_params { self.new.count ≤ self.old.count + 2 }
-        ensures goes_on { result.1 ≡ true
-            → (0 < result.0)
-            × ((x : List ℕ) → IsPrefix (take self.old.count self.old.items) x
-            → IsPrefix (take self.new.count self.new.items) (x ++ take result.0 rest.now)) }
-        ensures ends { result.1 ≡ false → (x : List ℕ)
-            → IsPrefix (take self.old.count self.old.items) x
-            → IsAfter (take self.new.count self.new.items) (x ++ take result.0 rest.now) }
+        ensures { PushesField self.old.count self.new.count (take self.old.count self.old.items)
+            (take self.new.count self.new.items) rest.now result.0 result.1 }
     {
         if b'0' <= rest[0] && rest[0] <= b'9' {
             let n = self.push_number(rest);

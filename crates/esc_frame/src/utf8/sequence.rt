@@ -2,7 +2,7 @@
 #![tactic(auto)]
 
 ghost use Rattle.std.specs.Prelude.{◌≡◌, ◌++◌, ℕ, List, [], ◌∷◌, ◌-◌, ◌*◌, ◌+◌, ◌≤◌, if◌then◌else◌, true, OnOk, OnErr, ◌<◌, false, length};
-ghost use Rattle.esc_frame.specs.Sequences.{IsTail, is_from, is_second, is_sequence, is_prefix, is_pair, outcome, number_of};
+ghost use Rattle.esc_frame.specs.Sequences.{is_from, is_second, is_sequence, is_prefix, is_pair, outcome, number_of};
 ghost use Rattle.esc_frame.specs.Machine.Characters.{IsAhead, IsCharacter, NoneAhead};
 ghost use Rattle.esc_frame.specs.Machine.Prefixes.{prefix_of};
 
@@ -143,11 +143,10 @@ impl Pending {
     }
 }
 
+#[tactic(auto, unfolding(crate::specs::Sequences::is_sequence))]
 #[inline(always)]
 fn two(a: u8, b: u8) -> char
-    requires first { 0xc2 ≤ a }
-    requires last { a ≤ 0xdf }
-    requires second { IsTail b }
+    requires { is_sequence (a ∷ b ∷ []) ≡ true }
     ensures { result ≡ (a - 0xc0) * 64 + (b - 0x80) }
 {
     match char::from_u32((a as u32 - 0xc0) * 64 + (b as u32 - 0x80)) {
@@ -156,11 +155,10 @@ fn two(a: u8, b: u8) -> char
     }
 }
 
+#[tactic(auto, unfolding(crate::specs::Sequences::is_sequence))]
 #[inline(always)]
 fn three(a: u8, b: u8, c: u8) -> char
-    requires first { is_from 0xe0 0xef a ≡ true }
-    requires second { is_second a b ≡ true }
-    requires third { IsTail c }
+    requires { is_sequence (a ∷ b ∷ c ∷ []) ≡ true }
     ensures { result ≡ (a - 0xe0) * 4096 + (b - 0x80) * 64 + (c - 0x80) }
 {
     match char::from_u32((a as u32 - 0xe0) * 4096 + (b as u32 - 0x80) * 64 + (c as u32 - 0x80)) {
@@ -169,12 +167,10 @@ fn three(a: u8, b: u8, c: u8) -> char
     }
 }
 
+#[tactic(auto, unfolding(crate::specs::Sequences::is_sequence))]
 #[inline(always)]
 fn four(a: u8, b: u8, c: u8, d: u8) -> char
-    requires first { is_from 0xf0 0xf4 a ≡ true }
-    requires second { is_second a b ≡ true }
-    requires third { IsTail c }
-    requires fourth { IsTail d }
+    requires { is_sequence (a ∷ b ∷ c ∷ d ∷ []) ≡ true }
     ensures { result ≡ (a - 0xf0) * 262144 + (b - 0x80) * 4096 + (c - 0x80) * 64 + (d - 0x80) }
 {
     match char::from_u32(

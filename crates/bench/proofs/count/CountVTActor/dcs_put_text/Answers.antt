@@ -4,4 +4,4 @@ use Rattle.bench.proofs.count.CountVTActor.dcs_put_text.Goals as goal
 
 pub returns-clause-emitted : goal.returns-clause-emitted
 returns-clause-emitted c =
-    anything_run DcsPut c.args.bytes.now c.args.self.now c.add.new.self c.requires.some
+    anything_run DcsPut c.args.bytes.now c.args.self.now c.add.new.self c.requires.run.some

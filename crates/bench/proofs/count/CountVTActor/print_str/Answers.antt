@@ -7,4 +7,4 @@ use Rattle.bench.proofs.count.CountVTActor.print_str.Goals as goal
 pub returns-clause-emitted : goal.returns-clause-emitted
 returns-clause-emitted c =
     anything_run Print (chars c.args.text.now) c.args.self.now c.add.new.self
-    (some_chars c.args.text.now c.utf8.text c.requires.some)
+    (some_chars c.args.text.now c.utf8.text c.requires.run.some)

@@ -11,7 +11,7 @@ returns-then-lies_from g c = λ limit.
     limit g.V.Taker.takes g.V.Taker.refuses
     g.V.Taker.is_ready c.take_short_csi.result c.args.rest.now
     c.args.self.now c.take_short_csi.new.self c.args.actor.now c.take_short_csi.new.actor
-    c.take_short_csi.ensures.ground c.take_short_csi.ensures.stays
+    c.take_short_csi.ensures.taken.ground c.take_short_csi.ensures.taken.stays
     c.take_short_csi.ensures.some (c.take_short_csi.ensures.quiet limit)
 
 pub returns-else-lies_from : goal.returns-else-lies_from

@@ -27,6 +27,6 @@ returns-else-lies_from g c = record {
 
 pub returns-then-lies_from : goal.returns-then-lies_from
 returns-then-lies_from g c = record {
-  ground = c.take_short_csi.ensures.ground;
-  stays = c.take_short_csi.ensures.stays;
+  ground = c.take_short_csi.ensures.taken.ground;
+  stays = c.take_short_csi.ensures.taken.stays;
 }

@@ -10,19 +10,21 @@ use Rattle.esc_frame.proofs.machine.Machine.take_short_csi.Goals as goal
 
 pub returns : goal.returns
 returns g c = record {
-  ground = search rules;
-  stays = (
-    omega arith,
-    short_after None c.args.rest.now c.args.run _ c.requires.starts,
-    λ limit. short_given limit c.args.rest.now c.args.run _ c.requires.starts
-        g.V.Taker.takes g.V.Taker.refuses c.args.actor.now c.csi_dispatch.new.self
-        (subst (λ es.
-        g.V.Taker.takes c.args.actor.now
-        (CsiDispatch es false (get_or c.args.rest.now (c.args.run + 2) 0))
-        c.csi_dispatch.new.self)
-        c.as_slice.ensures c.in_ok-csi_dispatch.ensures.receives),
-    c.in_ok-csi_dispatch.ensures.ready,
-  );
+  taken = record {
+    ground = search rules;
+    stays = (
+      omega arith,
+      short_after None c.args.rest.now c.args.run _ c.requires.starts,
+      λ limit. short_given limit c.args.rest.now c.args.run _ c.requires.starts
+          g.V.Taker.takes g.V.Taker.refuses c.args.actor.now c.csi_dispatch.new.self
+          (subst (λ es.
+          g.V.Taker.takes c.args.actor.now
+          (CsiDispatch es false (get_or c.args.rest.now (c.args.run + 2) 0))
+          c.csi_dispatch.new.self)
+          c.as_slice.ensures c.in_ok-csi_dispatch.ensures.receives),
+      c.in_ok-csi_dispatch.ensures.ready,
+    );
+  };
   some = search rules;
   quiet = λ limit.
       short_still limit c.args.rest.now c.args.run _ c.requires.starts;
@@ -30,14 +32,16 @@ returns g c = record {
 
 pub returns-in_err-csi_dispatch : goal.returns-in_err-csi_dispatch
 returns-in_err-csi_dispatch g c = record {
-  ground = search rules;
-  stays = rw (error_of c.from_residual.result c.from_residual.ensures.0).1
-      (λ limit. short_stops limit c.args.rest.now c.args.run _ c.requires.starts
-      g.V.Taker.takes g.V.Taker.refuses c.args.actor.now c.csi_dispatch.new.self
-      (subst (λ es.
-      g.V.Taker.refuses c.args.actor.now
-      (CsiDispatch es false (get_or c.args.rest.now (c.args.run + 2) 0)) c.csi_dispatch.new.self)
-      c.as_slice.ensures c.in_err-csi_dispatch.ensures.receives));
+  taken = record {
+    ground = search rules;
+    stays = rw (error_of c.from_residual.result c.from_residual.ensures.0).1
+        (λ limit. short_stops limit c.args.rest.now c.args.run _ c.requires.starts
+        g.V.Taker.takes g.V.Taker.refuses c.args.actor.now c.csi_dispatch.new.self
+        (subst (λ es.
+        g.V.Taker.refuses c.args.actor.now
+        (CsiDispatch es false (get_or c.args.rest.now (c.args.run + 2) 0)) c.csi_dispatch.new.self)
+        c.as_slice.ensures c.in_err-csi_dispatch.ensures.receives));
+  };
   some = search rules;
   quiet = search rules;
 }

@@ -1,4 +1,4 @@
-use Rattle.std.proofs.Common.{take, refl, sym, subst, Ok, Err}
+use Rattle.std.proofs.Common.{take, refl, sym, subst, Ok, Err, rules}
 use Rattle.esc_frame.specs.Leads.Unfinished.{Ground}
 use Rattle.esc_frame.specs.Leads.{Holds}
 use Rattle.esc_frame.specs.Machine.Calls.{Fails}
@@ -10,36 +10,40 @@ use Rattle.esc_frame.proofs.MayRun.{cut_rest}
 use Rattle.esc_frame.proofs.Failed.{error_of}
 use Rattle.esc_frame.proofs.machine.Machine.take_string.Goals as goal
 
-pub returns-clause-took : goal.returns-clause-took
-returns-clause-took g c =
-    let so = c.in_ok-n.ensures.0 in
-    let same = c.in_ok-n.ensures.2.3 in
-    let u = after_all Ground (take c.in_ok-n.n c.args.rest.now) in
-    ran_took c.args.self.now.limit g.V.Taker.takes g.V.Taker.refuses Ground u c.args.rest.now
-    c.in_ok-n.n
-    c.args.actor.now _ _ refl so.1 g.K.Store.keeps
-    c.take_terminator.new.self
-    c.in_ok-more.more so.2
-    (took_under {E = Unit {0}} g.K.Store.keeps
-    (Fails g.K.Store.denied g.V.Taker.stops g.row.A.Denot) g.V.Taker.takes g.V.Taker.refuses
-    (Ok c.in_ok-more.more) u _ c.take_terminator.new.self _ _ same
-    (c.in_ok-more.ensures.took u
-    (subst (λ l. Holds g.K.Store.keeps l c.take_control.new.self u) (sym same) so.0)))
+pub returns : goal.returns
+returns g c = record {
+  took = let so = c.in_ok-n.ensures.0 in
+      let same = c.in_ok-n.ensures.2.3 in
+      let u = after_all Ground (take c.in_ok-n.n c.args.rest.now) in
+      ran_took c.args.self.now.limit g.V.Taker.takes g.V.Taker.refuses Ground u c.args.rest.now
+      c.in_ok-n.n
+      c.args.actor.now _ _ refl so.1 g.K.Store.keeps
+      c.take_terminator.new.self
+      c.in_ok-more.more so.2
+      (took_under {E = Unit {0}} g.K.Store.keeps
+      (Fails g.K.Store.denied g.V.Taker.stops g.row.A.Denot) g.V.Taker.takes g.V.Taker.refuses
+      (Ok c.in_ok-more.more) u _ c.take_terminator.new.self _ _ same
+      (c.in_ok-more.ensures.took u
+      (subst (λ l. Holds g.K.Store.keeps l c.take_control.new.self u) (sym same) so.0)));
+  count = search rules;
+}
 
-pub returns-in_err-more-clause-took : goal.returns-in_err-more-clause-took
-returns-in_err-more-clause-took g c =
-    rw (error_of c.from_residual-in_err-more.result c.from_residual-in_err-more.ensures.0).1
-    (let so = c.in_ok-n.ensures.0 in
-    let same = c.in_ok-n.ensures.2.3 in
-    let u = after_all Ground (take c.in_ok-n.n c.args.rest.now) in
-    ran_ends c.args.self.now.limit g.V.Taker.takes g.V.Taker.refuses Ground u c.args.rest.now
-    c.in_ok-n.n
-    c.args.actor.now _ _ refl so.1 so.2
-    (took_under g.K.Store.keeps
-    (Fails g.K.Store.denied g.V.Taker.stops g.row.A.Denot) g.V.Taker.takes g.V.Taker.refuses
-    (Err (tt {0})) u _ c.take_terminator.new.self _ _ same
-    (c.in_err-more.ensures.took u
-    (subst (λ l. Holds g.K.Store.keeps l c.take_control.new.self u) (sym same) so.0))))
+pub returns-in_err-more : goal.returns-in_err-more
+returns-in_err-more g c = record {
+  took = rw (error_of c.from_residual-in_err-more.result c.from_residual-in_err-more.ensures.0).1
+      (let so = c.in_ok-n.ensures.0 in
+      let same = c.in_ok-n.ensures.2.3 in
+      let u = after_all Ground (take c.in_ok-n.n c.args.rest.now) in
+      ran_ends c.args.self.now.limit g.V.Taker.takes g.V.Taker.refuses Ground u c.args.rest.now
+      c.in_ok-n.n
+      c.args.actor.now _ _ refl so.1 so.2
+      (took_under g.K.Store.keeps
+      (Fails g.K.Store.denied g.V.Taker.stops g.row.A.Denot) g.V.Taker.takes g.V.Taker.refuses
+      (Err (tt {0})) u _ c.take_terminator.new.self _ _ same
+      (c.in_err-more.ensures.took u
+      (subst (λ l. Holds g.K.Store.keeps l c.take_control.new.self u) (sym same) so.0))));
+  count = search rules;
+}
 
 pub take_terminator-requires : goal.take_terminator-requires
 take_terminator-requires g c =

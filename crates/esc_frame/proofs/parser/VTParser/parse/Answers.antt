@@ -9,34 +9,39 @@ use Rattle.esc_frame.proofs.Fed.{kept_all, given_all, refused_all, refused_borro
 use Rattle.esc_frame.proofs.BorrowedCuts.{borrowed_borrows}
 use Rattle.esc_frame.proofs.parser.VTParser.parse.Goals as goal
 
-pub returns-in-Ok-clause-given : goal.returns-in-Ok-clause-given
+pub returns-in-Ok-clause-parsed : goal.returns-in-Ok-clause-parsed
 unfolding LeadsToWithin
-returns-in-Ok-clause-given g c = λ limit s (f, i, h).
-    let bs = c.args.bytes.now in
-    let u = after_all Ground s in
-    let kept = c.in-Ok.ensures.holds u h in (
-      (
-        f,
-        kept.1 ∙ i,
-        subst (λ l. Holds KeepsText l c.take_all.new.self (after_all Ground (s ++ bs)))
-            (sym kept.1)
-            (kept_all KeepsText c.args.self.now.machine.limit c.take_all.new.self s bs
-            kept.0),
-      ),
-      given_all c.args.self.now.machine.limit limit i g.V.VTActor.takes s bs c.args.actor.now
-          c.take_all.new.actor
-          (c.in-Ok.ensures.emitted u h),
-    )
+returns-in-Ok-clause-parsed g c = λ limit s (f, i, h). record {
+  given = let bs = c.args.bytes.now in
+      let u = after_all Ground s in
+      let kept = c.in-Ok.ensures.holds u h in (
+        (
+          f,
+          kept.1 ∙ i,
+          subst (λ l. Holds KeepsText l c.take_all.new.self (after_all Ground (s ++ bs)))
+              (sym kept.1)
+              (kept_all KeepsText c.args.self.now.machine.limit c.take_all.new.self s bs
+              kept.0),
+        ),
+        given_all c.args.self.now.machine.limit limit i g.V.VTActor.takes s bs c.args.actor.now
+            c.take_all.new.actor
+            (c.in-Ok.ensures.emitted u h),
+      );
+  refused = search rules;
+}
 
-pub returns-in-Err-clause-refused : goal.returns-in-Err-clause-refused
+pub returns-in-Err-clause-parsed : goal.returns-in-Err-clause-parsed
 unfolding LeadsToWithin
-returns-in-Err-clause-refused g c = λ limit s (f, i, h). (
-  refl,
-  refused_all g.row.A.Denot c.args.self.now.machine.limit limit i g.V.VTActor.takes
-      g.V.VTActor.refuses s
-      c.args.bytes.now c.args.actor.now c.take_all.new.actor
-      (c.in-Err.ensures.emitted (after_all Ground s) h),
-)
+returns-in-Err-clause-parsed g c = λ limit s (f, i, h). record {
+  refused = (
+    refl,
+    refused_all g.row.A.Denot c.args.self.now.machine.limit limit i g.V.VTActor.takes
+        g.V.VTActor.refuses s
+        c.args.bytes.now c.args.actor.now c.take_all.new.actor
+        (c.in-Err.ensures.emitted (after_all Ground s) h),
+  );
+  given = search rules;
+}
 
 pub returns-in-Err-clause-borrowed : goal.returns-in-Err-clause-borrowed
 unfolding LeadsToWithin

@@ -11,35 +11,39 @@ use Rattle.std.proofs.Math.Logic.{⊎_map}
 use Rattle.esc_frame.proofs.May.{take_prefix}
 use Rattle.esc_frame.proofs.parser.VTParser.parse_byte.Goals as goal
 
-pub returns-in-Ok-clause-given : goal.returns-in-Ok-clause-given
+pub returns-in-Ok-clause-parsed : goal.returns-in-Ok-clause-parsed
 unfolding LeadsToWithin
-returns-in-Ok-clause-given g c = λ limit s (f, i, h).
-    let b = c.args.byte in
-    let same = c.in-Ok.ensures.ready.0 in
-    let u = after_all Ground s in
-    let k = c.classify.ensures in (
-      (
-        f,
-        same ∙ i,
-        subst (λ l. Holds KeepsText l c.step.new.self (after_all Ground (s ++ b ∷ []))) (sym same)
-            (kept_one KeepsText c.args.self.now.machine.limit c.step.new.self s b _ k
-            (c.in-Ok.ensures.moved k u h).0),
-      ),
-      given_one c.args.self.now.machine.limit limit i g.V.VTActor.takes s b _ c.args.actor.now
-          c.step.new.actor k
-          (c.in-Ok.ensures.moved k u h).1,
-    )
+returns-in-Ok-clause-parsed g c = λ limit s (f, i, h). record {
+  given = let b = c.args.byte in
+      let same = c.in-Ok.ensures.ready.0 in
+      let u = after_all Ground s in
+      let k = c.classify.ensures in (
+        (
+          f,
+          same ∙ i,
+          subst (λ l. Holds KeepsText l c.step.new.self (after_all Ground (s ++ b ∷ []))) (sym same)
+              (kept_one KeepsText c.args.self.now.machine.limit c.step.new.self s b _ k
+              (c.in-Ok.ensures.moved k u h).0),
+        ),
+        given_one c.args.self.now.machine.limit limit i g.V.VTActor.takes s b _ c.args.actor.now
+            c.step.new.actor k
+            (c.in-Ok.ensures.moved k u h).1,
+      );
+  refused = search rules;
+}
 
-pub returns-in-Err-clause-refused : goal.returns-in-Err-clause-refused
+pub returns-in-Err-clause-parsed : goal.returns-in-Err-clause-parsed
 unfolding LeadsToWithin
-returns-in-Err-clause-refused g c = λ limit s (f, i, h).
-    let k = c.classify.ensures in (
-      refl,
-      refused_one g.row.A.Denot c.args.self.now.machine.limit limit i g.V.VTActor.takes
-          g.V.VTActor.refuses
-          s c.args.byte _ c.args.actor.now c.step.new.actor k
-          (c.in-Err.ensures.moved k (after_all Ground s) h),
-    )
+returns-in-Err-clause-parsed g c = λ limit s (f, i, h). record {
+  refused = let k = c.classify.ensures in (
+    refl,
+    refused_one g.row.A.Denot c.args.self.now.machine.limit limit i g.V.VTActor.takes
+        g.V.VTActor.refuses
+        s c.args.byte _ c.args.actor.now c.step.new.actor k
+        (c.in-Err.ensures.moved k (after_all Ground s) h),
+  );
+  given = search rules;
+}
 
 pub step-requires : goal.step-requires
 step-requires g c =

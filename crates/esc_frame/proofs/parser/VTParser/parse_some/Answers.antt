@@ -8,50 +8,57 @@ use Rattle.esc_frame.proofs.Fed.{kept_all, given_all, refused_all, may_feed}
 use Rattle.esc_frame.proofs.Still.{quiet_all}
 use Rattle.esc_frame.proofs.parser.VTParser.parse_some.Goals as goal
 
-pub returns-then-is_empty-clause-given : goal.returns-then-is_empty-clause-given
+pub returns-then-is_empty-clause-parsed : goal.returns-then-is_empty-clause-parsed
 unfolding LeadsToWithin
-returns-then-is_empty-clause-given g c =
-    λ limit s (f, i, h). (
-      (
-        (f, i, kept_all KeepsText c.args.self.now.machine.limit c.args.self.now.machine s [] h),
-        given_all c.args.self.now.machine.limit limit i g.V.VTActor.takes s
-            [] c.args.actor.now c.args.actor.now refl,
-      ),
-      λ k some few. absurd (omega (arith, some, few)),
-    )
+returns-then-is_empty-clause-parsed g c = λ limit s (f, i, h). record {
+  given = (
+    (
+      (f, i, kept_all KeepsText c.args.self.now.machine.limit c.args.self.now.machine s [] h),
+      given_all c.args.self.now.machine.limit limit i g.V.VTActor.takes s
+          [] c.args.actor.now c.args.actor.now refl,
+    ),
+    λ k some few. absurd (omega (arith, some, few)),
+  );
+  refused = search rules;
+}
 
-pub returns-in-Ok-clause-given : goal.returns-in-Ok-clause-given
+pub returns-in-Ok-clause-parsed : goal.returns-in-Ok-clause-parsed
 unfolding LeadsToWithin
-returns-in-Ok-clause-given g c = λ limit s (f, i, h).
-    let bs = take c.in-Ok.n c.args.bytes.now in
-    let same = c.in-Ok.ensures.count.3 in
-    let u = after_all Ground s in (
-      (
+returns-in-Ok-clause-parsed g c = λ limit s (f, i, h). record {
+  given = let bs = take c.in-Ok.n c.args.bytes.now in
+      let same = c.in-Ok.ensures.count.3 in
+      let u = after_all Ground s in (
         (
-          f,
-          same ∙ i,
-          subst (λ l. Holds KeepsText l c.take_some.new.self (after_all Ground (s ++ bs)))
-              (sym same)
-              (kept_all KeepsText c.args.self.now.machine.limit c.take_some.new.self s bs
-              (c.in-Ok.ensures.took u h).0),
+          (
+            f,
+            same ∙ i,
+            subst (λ l. Holds KeepsText l c.take_some.new.self (after_all Ground (s ++ bs)))
+                (sym same)
+                (kept_all KeepsText c.args.self.now.machine.limit c.take_some.new.self s bs
+                (c.in-Ok.ensures.took u h).0),
+          ),
+          given_all c.args.self.now.machine.limit limit i g.V.VTActor.takes s bs c.args.actor.now
+              c.take_some.new.actor (c.in-Ok.ensures.took u h).1,
         ),
-        given_all c.args.self.now.machine.limit limit i g.V.VTActor.takes s bs c.args.actor.now
-            c.take_some.new.actor (c.in-Ok.ensures.took u h).1,
-      ),
-      subst (λ l. IsQuietWithin l s c.args.bytes.now c.in-Ok.n) i
-          (quiet_all c.args.self.now.machine.limit s c.args.bytes.now c.in-Ok.n
-          (c.in-Ok.ensures.quiet u h)),
-    )
+        subst (λ l. IsQuietWithin l s c.args.bytes.now c.in-Ok.n) i
+            (quiet_all c.args.self.now.machine.limit s c.args.bytes.now c.in-Ok.n
+            (c.in-Ok.ensures.quiet u h)),
+      );
+  refused = search rules;
+}
 
-pub returns-in-Err-clause-refused : goal.returns-in-Err-clause-refused
+pub returns-in-Err-clause-parsed : goal.returns-in-Err-clause-parsed
 unfolding LeadsToWithin
-returns-in-Err-clause-refused g c = λ limit s (f, i, h). (
-  refl,
-  refused_all g.row.A.Denot c.args.self.now.machine.limit limit i g.V.VTActor.takes
-      g.V.VTActor.refuses s
-      c.args.bytes.now c.args.actor.now c.take_some.new.actor
-      (c.in-Err.ensures.took (after_all Ground s) h),
-)
+returns-in-Err-clause-parsed g c = λ limit s (f, i, h). record {
+  refused = (
+    refl,
+    refused_all g.row.A.Denot c.args.self.now.machine.limit limit i g.V.VTActor.takes
+        g.V.VTActor.refuses s
+        c.args.bytes.now c.args.actor.now c.take_some.new.actor
+        (c.in-Err.ensures.took (after_all Ground s) h),
+  );
+  given = search rules;
+}
 
 pub take_some-requires-clause-ready : goal.take_some-requires-clause-ready
 take_some-requires-clause-ready g c =

@@ -4,8 +4,8 @@ use Rattle.esc_frame.proofs.runs.printing.execute_one.Goals as goal
 
 pub returns-in-Ok : goal.returns-in-Ok
 returns-in-Ok g c =
-    let one = one_control c.args.rest.now c.requires.some c.requires.low c.requires.other in (
-      c.requires.some,
+    let one = one_control c.args.rest.now c.requires.control.some c.requires.control.low c.requires.control.other in (
+      c.requires.control.some,
       one.0,
       event_given g.V.Taker.takes g.V.Taker.refuses c.args.rest.now 1 _ c.args.actor.now _ one
           c.in-Ok.ensures.receives,
@@ -15,11 +15,11 @@ returns-in-Ok g c =
 pub returns-in-Err : goal.returns-in-Err
 returns-in-Err g c =
     event_stops g.V.Taker.takes g.V.Taker.refuses c.args.rest.now 1 _ c.args.actor.now _
-    (one_control c.args.rest.now c.requires.some c.requires.low
-    c.requires.other) _ c.in-Err.ensures.receives
+    (one_control c.args.rest.now c.requires.control.some c.requires.control.low
+    c.requires.control.other) _ c.in-Err.ensures.receives
 
 pub execute_c0_or_c1-requires : goal.execute_c0_or_c1-requires
 execute_c0_or_c1-requires g c =
     may_one g.V.Taker.is_ready g.V.Taker.may g.V.Taker.takes c.args.rest.now 1 _
     c.args.actor.now
-    (one_control c.args.rest.now c.requires.some c.requires.low c.requires.other) c.requires.ready
+    (one_control c.args.rest.now c.requires.control.some c.requires.control.low c.requires.control.other) c.requires.ready

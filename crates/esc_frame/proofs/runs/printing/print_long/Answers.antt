@@ -1,13 +1,16 @@
+use Rattle.std.proofs.Common.{rules}
 use Rattle.esc_frame.specs.Leads.Unfinished.{Ground}
 use Rattle.esc_frame.proofs.ClearRuns.{str_events, str_clear, str_given, str_stops}
 use Rattle.esc_frame.proofs.MayRun.{may_first}
 use Rattle.esc_frame.proofs.runs.printing.print_long.Goals as goal
 
-pub print_str-requires-clause-clear : goal.print_str-requires-clause-clear
-print_str-requires-clause-clear g c =
-    str_clear g.V.Taker.takes g.V.Taker.refuses c.args.rest.now c.in-Ok.text.now
-    c.free_run-run.result c.args.actor.now c.args.actor.now
-    c.free_run-run.ensures.run c.in-Ok.ensures.0 c.in-Ok.ensures.1
+pub print_str-requires-clause-run : goal.print_str-requires-clause-run
+print_str-requires-clause-run g c = record {
+  some = search rules;
+  all = str_clear g.V.Taker.takes g.V.Taker.refuses c.args.rest.now c.in-Ok.text.now
+      c.free_run-run.result c.args.actor.now c.args.actor.now
+      c.free_run-run.ensures.run c.in-Ok.ensures.0 c.in-Ok.ensures.1;
+}
 
 pub returns-in-Ok-print_str : goal.returns-in-Ok-print_str
 returns-in-Ok-print_str g c =

@@ -12,6 +12,8 @@ returns-then-run-lt16 c =
     record { run = omega (arith, e); few = omega arith }
 
 pub run_from-requires-clause-part : goal.run_from-requires-clause-part
-run_from-requires-clause-part c =
-    run_full (is_from 0x20 c.args.last) 16 c.args.bytes.now 0 _ (omega arith)
-    c.run_in_lanes-run.ensures c.if-run-lt16.false (omega arith)
+run_from-requires-clause-part c = record {
+  some = omega arith;
+  part = run_full (is_from 0x20 c.args.last) 16 c.args.bytes.now 0 _ (omega arith)
+      c.run_in_lanes-run.ensures c.if-run-lt16.false (omega arith);
+}

@@ -22,7 +22,7 @@ returns-in-Ok-push_run-clause-emitted g c =
 pub returns-in-Err-push_run-clause-emitted : goal.returns-in-Err-push_run-clause-emitted
 returns-in-Err-push_run-clause-emitted g c =
     quiet_refused g.S.Sink.takes g.S.Sink.refuses ⊥ c.args.bytes.now c.args.self.now _
-    c.requires.some (sym c.if-is_entered.ensures.mode)
+    c.requires.run.some (sym c.if-is_entered.ensures.mode)
     c.in-Err-push_run.ensures.refused
 
 pub give_data-requires : goal.give_data-requires

@@ -24,7 +24,7 @@ loop-at-preserved c =
     let l = tail_length rest i in (
       omega (arith, c.push_field-n.ensures.few),
       subst (λ y. IsPrefix (take s.count s.items) y) (run_joins rest i _)
-          ((c.push_field-n.ensures.goes_on yes).1 (take i rest) c.loop-at.invariant.1),
+          ((c.push_field-n.ensures.more yes).1 (take i rest) c.loop-at.invariant.1),
     )
 
 pub returns-else-self-lt31-clause-keeps : goal.returns-else-self-lt31-clause-keeps
