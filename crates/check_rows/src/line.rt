@@ -1,7 +1,7 @@
 //! The lines of a row.
 use crate::fault::Fault;
 
-/// A line: its word, how many times over its text stands, and the text.
+/// A line: its word, how many times its text is repeated, and the text.
 #[derive(Clone, Copy)]
 pub struct Line<'a> {
     pub word: &'a str,

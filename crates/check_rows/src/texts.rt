@@ -65,7 +65,7 @@ pub fn is_displayed<T: Display + Drop>(
     }
 }
 
-// What is after the text of an item, before which a terminator may stand. A terminator may be left
+// What is after the text of an item, before which a terminator may come. A terminator may be left
 // out.
 fn skip<'a>(text: Option<&'a [u8]>, shown: &[u8]) -> Option<&'a [u8]> {
     let text = text?;

@@ -16,7 +16,7 @@ pub enum Wrong<'a> {
     Size(&'static str, &'a str),
     /// This option takes something, as its values are called, and no word follows it.
     Nothing(&'static str, &'static str),
-    /// This option takes nothing, and a value stands after `=`.
+    /// This option takes nothing, and a value follows `=`.
     Something(&'static str),
     /// No word is wrong: memory was refused.
     Memory,

@@ -100,8 +100,8 @@ pub trait Admit<A: Allocator> {
     /// implementation does.
     fn leaves_out(&self, _action: &Action<A>) {}
 
-    /// Is told that a line feed was added to the text of a line, whose own was taken away: in most
-    /// cases by a string that nobody had ended. It does nothing, unless an implementation does.
+    /// A line feed was added to the text of a line, whose own was taken away: in most cases by a
+    /// string that nobody had ended. It does nothing, unless an implementation does.
     fn closes_line(&self) {}
 }
 

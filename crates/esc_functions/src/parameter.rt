@@ -30,8 +30,8 @@ pub enum Parameter {
 }
 
 impl Parameter {
-    /// What stands for the parameter where it is left out: 1 for a count, a line, a column and a
-    /// page; its own for a choice; 0 for a rendition and any other number. `None` where the size of
+    /// What is meant where the parameter is left out: 1 for a count, a line, a column and a page;
+    /// its own for a choice; 0 for a rendition and any other number. `None` where the size of
     /// the screen decides, and for a mode, which has to be there.
     pub fn default_value(self) -> Option<u16>
         ensures { result ≡ default_of self }

@@ -155,7 +155,7 @@ fn read_assigned<A: Allocator + Copy>(
     }
 }
 
-// A form with a text that stands as it is.
+// A form with a text as it is.
 fn read_plain<A: Allocator>(
     alloc: A,
     form: TextForm,

@@ -58,7 +58,7 @@ fn write_form<W: fmt::Write, A: Allocator>(
     }
 }
 
-// What stands before a text, and the text.
+// What comes before a text, and the text.
 pub(crate) fn write_text<W: fmt::Write, A: Allocator>(
     before: &str,
     text: &Text<A>,
@@ -70,7 +70,7 @@ pub(crate) fn write_text<W: fmt::Write, A: Allocator>(
     f.write_str(text.as_str())
 }
 
-// What stands before a text, and the text in base64.
+// What comes before a text, and the text in base64.
 fn write_encoded<W: fmt::Write, A: Allocator>(
     before: &str,
     text: &Text<A>,

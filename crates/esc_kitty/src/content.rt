@@ -13,7 +13,7 @@ use std::fmt::Display;
 #[derive(Drop)]
 #[derive_where(PartialEq, Eq)]
 pub enum KittyImageData<A: Allocator = Global> {
-    /// `d`: the payload as it stands in the command, which is base64. It is not decoded.
+    /// `d`: the payload as it is in the command, which is base64. It is not decoded.
     Direct(Text<A>),
     /// Bytes that are written as base64. They are never read: what was written so reads as
     /// `Direct`.
@@ -24,7 +24,7 @@ pub enum KittyImageData<A: Allocator = Global> {
         path: Text<A>,
         /// How many bytes of it are the image, key `S`; where there is none, all.
         data_size: Option<u32>,
-        /// How many bytes of it stand before them, key `O`.
+        /// How many bytes of it come before them, key `O`.
         data_offset: Option<u32>,
     },
     /// `t`: a file that the terminal deletes once it is read.
@@ -33,7 +33,7 @@ pub enum KittyImageData<A: Allocator = Global> {
         path: Text<A>,
         /// How many bytes of it are the image, key `S`; where there is none, all.
         data_size: Option<u32>,
-        /// How many bytes of it stand before them, key `O`.
+        /// How many bytes of it come before them, key `O`.
         data_offset: Option<u32>,
     },
     /// `s`: a shared memory object (POSIX `shm_open`).
@@ -42,7 +42,7 @@ pub enum KittyImageData<A: Allocator = Global> {
         name: Text<A>,
         /// How many bytes of it are the image, key `S`; where there is none, all.
         data_size: Option<u32>,
-        /// How many bytes of it stand before them, key `O`.
+        /// How many bytes of it come before them, key `O`.
         data_offset: Option<u32>,
     },
 }

@@ -27,6 +27,6 @@ pub struct KittyImagePlacement {
     pub do_not_move_cursor: bool,
     /// Its order above and below others, key `z`. Below 0 it is shown below the text.
     pub z_index: Option<i32>,
-    /// Whether it is shown where placeholder characters stand, U+10EEEE, key `U`.
+    /// Whether it is shown where placeholder characters are, U+10EEEE, key `U`.
     pub unicode_placeholder: bool,
 }

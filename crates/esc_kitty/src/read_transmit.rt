@@ -93,7 +93,7 @@ fn read_content_by<A: Allocator>(
     }
 }
 
-// The payload as it stands, where it is a text.
+// The payload as it is, where it is a text.
 fn read_direct<A: Allocator>(
     alloc: A,
     payload: &[u8],

@@ -60,7 +60,7 @@ fn write_key<W: fmt::Write>(key: &Key<'_>, is_first: bool, f: &mut fmt::Formatte
     write!(f, "{separator}{name}={value}")
 }
 
-// What stands before a key.
+// What comes before a key.
 fn separator(is_first: bool) -> &'static str
     ensures { result.now ≡ separator is_first }
 {

@@ -45,7 +45,7 @@ impl<A: Allocator> fmt::Display for FinalTermSemanticPrompt<A> {
     }
 }
 
-// What stands before the keys, and the keys that are there.
+// What comes before the keys, and the keys that are there.
 fn write_keys<W: fmt::Write, A: Allocator>(
     before: &str,
     aid: &Option<Text<A>>,

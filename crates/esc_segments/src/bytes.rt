@@ -4,7 +4,7 @@
 ghost use Rattle.std.specs.Prelude.{◌≡◌};
 ghost use Rattle.esc_frame.specs.Classes.{class_of, is_breaker, is_noise, is_c0, is_text, is_put, in_escape, in_csi, in_osc, opens};
 
-/// Whether the byte ends what stands before it: 18, 1A, 1B, 80 to 9F.
+/// Whether the byte ends what comes before it: 18, 1A, 1B, 80 to 9F.
 #[tactic(auto, unfolding(esc_frame::specs::Classes::class_of))]
 #[inline(always)]
 pub fn is_breaker(b: u8) -> bool
@@ -49,7 +49,7 @@ pub fn is_put(b: u8) -> bool
     b != 0x7f && !is_breaker(b)
 }
 
-/// Whether it may stand between ESC and the final byte: noise, or 20 to 2F.
+/// Whether it may come between ESC and the final byte: noise, or 20 to 2F.
 #[tactic(auto, unfolding(esc_frame::specs::Classes::class_of))]
 #[inline(always)]
 pub fn is_in_escape(b: u8) -> bool
@@ -58,7 +58,7 @@ pub fn is_in_escape(b: u8) -> bool
     !is_breaker(b) && (b < 0x30 || 0x7f <= b)
 }
 
-/// Whether it may stand between CSI or DCS and the final byte: noise, or 20 to 3F.
+/// Whether it may come between CSI or DCS and the final byte: noise, or 20 to 3F.
 #[tactic(auto, unfolding(esc_frame::specs::Classes::class_of))]
 #[inline(always)]
 pub fn is_in_header(b: u8) -> bool

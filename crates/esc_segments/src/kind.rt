@@ -11,10 +11,10 @@ pub enum SegmentKind {
     Broken,
     /// A byte A0 to C1 or F5 to FF, which begins no sequence of UTF-8.
     Stray,
-    /// A control that stands alone: one of C0 (ECMA-48, 5.2) but ESC, or one of C1 (5.3) that opens
+    /// A control by itself: one of C0 (ECMA-48, 5.2) but ESC, or one of C1 (5.3) that opens
     /// and ends nothing, raw or as the two bytes of its UTF-8.
     Control,
-    /// A string terminator (ST) of C1 that stands alone: 9C or C2 9C. `ESC \` is an
+    /// A string terminator (ST) of C1 by itself: 9C or C2 9C. `ESC \` is an
     /// [`Escape`](SegmentKind::Escape).
     Terminator,
     /// An escape sequence: ESC, intermediates 20 to 2F and a final byte 30 to 7E.

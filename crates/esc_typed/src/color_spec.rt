@@ -2,7 +2,7 @@
 
 use esc_values::RgbColor;
 
-/// A colour of characters, of what is behind them, or of their underline, that has no name (xterm's
+/// A colour of characters, of their background or of their underline, that has no name (xterm's
 /// list, "Character Attributes (SGR)"; ISO 8613-6 for the parts of 38 and 48; kitty for 58,
 /// <https://sw.kovidgoyal.net/kitty/underlines/>).
 #[derive(Clone, Copy, Debug, PartialEq, Eq)]

@@ -33,7 +33,7 @@ pub enum Rendition {
     Underline(Underline),
     /// 5, 6 or 25: how they blink.
     Blink(Blink),
-    /// 7 or 27: whether their colour and that behind them are exchanged.
+    /// 7 or 27: whether their colour and that of the background are exchanged.
     Inverse(bool),
     /// 8 or 28: whether they are hidden.
     Invisible(bool),
@@ -45,11 +45,11 @@ pub enum Rendition {
     Proportional(bool),
     /// 30 to 37, or 90 to 97: their colour, by its name.
     AnsiForeground(AnsiColor),
-    /// 40 to 47, or 100 to 107: the colour behind them, by its name.
+    /// 40 to 47, or 100 to 107: the colour of the background, by its name.
     AnsiBackground(AnsiColor),
     /// 38 or 39: their colour.
     Foreground(ColorSpec),
-    /// 48 or 49: the colour behind them.
+    /// 48 or 49: the colour of the background.
     Background(ColorSpec),
     /// 58 or 59: the colour of their underline.
     UnderlineColor(ColorSpec),

@@ -39,7 +39,7 @@ fn are_clear(text: &str) -> bool
     true
 }
 
-// Whether the control stands alone: it opens and ends no sequence and no string.
+// Whether the control is by itself: it opens and ends no sequence and no string.
 pub(crate) fn cut_alone(code: ControlCode) -> bool
     ensures { result ≡ is_lone_control (code_number code) }
 {
