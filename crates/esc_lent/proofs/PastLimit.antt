@@ -11,6 +11,7 @@ use Rattle.esc_frame.specs.Leads.Unfinished.{Ground, Pending, InEscape, InCsi, I
 use Rattle.esc_frame.specs.Limits.{is_within, is_read, header_count}
 use Rattle.esc_frame.specs.Machine.Keeps.{is_formed, parameters_of}
 use Rattle.esc_frame.specs.Machine.Moves.{after_all, events_all, inside, goes_on, hooks}
+use Rattle.esc_frame.specs.Machine.Taking.{OpensOsc}
 use Rattle.esc_frame.specs.Segments.{Opener, text_of, is_empty, hook_event}
 use Rattle.esc_frame.specs.Segments.Opener.{Long}
 use Rattle.esc_frame.specs.declared.machine.State.{State}
@@ -27,7 +28,7 @@ use Rattle.esc_lent.specs.Emitted.{said}
 use Rattle.esc_lent.specs.Limited.{IsLimited}
 use Rattle.esc_lent.specs.Numbers.{state_numbered, form_numbered, begun}
 use Rattle.esc_lent.specs.States.{KeptIn, TextIn, begun_in}
-use Rattle.esc_lent.specs.Strings.{HasLeft, OpensOsc, EndsString, IsQuiet, NotesLimit}
+use Rattle.esc_lent.specs.Strings.{HasLeft, EndsString, IsQuiet, NotesLimit}
 use Rattle.esc_lent.proofs.Fewer.{none_of, is_osc, is_blank_osc, hands_osc, osc_fewer, is_apc, any, hands_apc, apc_fewer, fewer_then}
 use Rattle.esc_lent.proofs.Kept.{ground_only}
 
@@ -207,11 +208,12 @@ from_opener : (q : EscParser) (limit : ℕ) (later : List ℕ) (x : List ℕ)
     → OpensOsc x → KeptIn q later (after_all Ground x)
     → none_of hands_osc (events_all (Some limit) Ground x) → HasLeft 3 0x9d q x
     → IsLimited limit Ground x
-from_opener q limit later [] opens after none left = absurd (omega (arith, opens.0))
-from_opener q limit later (a ∷ []) opens after none left = absurd (omega (arith, opens.0))
-from_opener q limit later (a ∷ b ∷ []) opens after none left = absurd (omega (arith, opens.0))
+from_opener q limit later [] opens after none left = absurd (omega (arith, opens.some))
+from_opener q limit later (a ∷ []) opens after none left = absurd (omega (arith, opens.some))
+from_opener q limit later (a ∷ b ∷ []) opens after none left = absurd (omega (arith, opens.some))
 from_opener q limit later (a ∷ b ∷ c ∷ x) opens after none left =
-    let begin = osc_opens (Some limit) (a ∷ b ∷ c ∷ x) (omega (arith, opens.0)) opens.1 opens.2 in
+    let begin = osc_opens (Some limit) (a ∷ b ∷ c ∷ x) (omega (arith, opens.some)) opens.escape
+    opens.second in
     let v : Unfinished = InOsc (Long []) [] in
     let same : events_all (Some limit) Ground (a ∷ b ∷ c ∷ x) ≡ events_all (Some limit) v (c ∷ x) =
     events_append (Some limit) Ground (a ∷ b ∷ []) (c ∷ x)

@@ -1,5 +1,6 @@
 -- What the numbers of a parser say, after a step, of a string that it was in before.
-use Rattle.std.specs.Prelude.{ℕ, ◌≡◌, ◌≢◌, ◌<◌, ◌≤◌, ◌⊎◌, ◌-◌, true, false, List, length, slice_index}
+use Rattle.std.specs.Prelude.{ℕ, ◌≡◌, ◌≢◌, ◌≤◌, ◌⊎◌, ◌-◌, true, false, List, length, slice_index}
+use Rattle.esc_frame.specs.Machine.Taking.{OpensOsc}
 use Rattle.esc_lent.specs.declared.event.EscEvent.{EscEvent}
 use Rattle.esc_lent.specs.declared.event.TheConstants.{NONE, CONTROL, LIMIT_PASSED}
 use Rattle.esc_lent.specs.declared.limited.Place.{Place}
@@ -15,10 +16,6 @@ abbrev pub HasLeft : ℕ → ℕ → EscParser → List ℕ → Type 0
 HasLeft state introducer p x =
     (p.state ≢ state)
     ⊎ ((p.text ≡ 0) × (p.is_over ≡ false) × (p.pending ≡ 0) × (last_byte x ≡ introducer))
-
--- these bytes begin with the opener of an operating system command, and have more after it
-abbrev pub OpensOsc : List ℕ → Type 0
-OpensOsc x = (2 < length x) × (slice_index x 0 ≡ 0x1b) × (slice_index x 1 ≡ 0x5d)
 
 -- the final byte of the header of a device control string which is past the limit, and has its form
 abbrev pub EndsHeader : Place → List ℕ → Type 0

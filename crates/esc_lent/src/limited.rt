@@ -2,7 +2,8 @@
 #![tactic(auto)]
 
 ghost use Rattle.std.specs.Prelude.{◌≡◌, ◌<◌, length, IsTrue};
-ghost use Rattle.esc_lent.specs.Strings.{HasLeft, OpensOsc, EndsHeader, EndsString, IsQuiet, NotesLimit};
+ghost use Rattle.esc_frame.specs.Machine.Taking.{OpensOsc};
+ghost use Rattle.esc_lent.specs.Strings.{HasLeft, EndsHeader, EndsString, IsQuiet, NotesLimit};
 
 use crate::event::{CONTROL, EscEvent, LIMIT_PASSED, NONE};
 use crate::numbers::{APC_STATE, GROUND, HEADER_STATE, MALFORMED, OSC_STATE};
