@@ -1,6 +1,7 @@
 -- Bytes of the header of a device control string that lie in a later piece than its opener.
 use Rattle.std.proofs.Common.{ℕ, ◌≡◌, ◌≢◌, ◌≤◌, Bool, true, false, ◌&&◌, List, [], ◌∷◌, ◌++◌, take, length, length-take, refl, ap, sym, ◌∙◌, subst, Some, Option, min, if◌then◌else◌, arith}
 use Rattle.std.proofs.lemmas.Bool.Decides.{nat_tests}
+use Rattle.std.proofs.lemmas.List.Elements.{filter-append}
 use Rattle.esc_frame.specs.declared.classes.Class.{Class}
 use Rattle.esc_frame.specs.declared.unfinished.body.Form.TheVariants as forms
 use Rattle.esc_frame.specs.Bodies.{is_dcs_header, is_dcs_parameter}
@@ -28,6 +29,10 @@ use Rattle.esc_lent.proofs.PastLimit.{formed_number}
 use Rattle.esc_lent.proofs.Sequences.{noise_goes}
 
 -- ---- a byte more
+
+pub parameters_push : (x : List ℕ) (b : ℕ) → is_dcs_parameter b ≡ true
+    → parameters_of x ++ b ∷ [] ≡ parameters_of (x ++ b ∷ [])
+parameters_push x b is = sym (filter-append is_dcs_parameter x (b ∷ []) ∙ rw is refl)
 
 module _ (p q : EscParser) (x : List ℕ) (b : ℕ) (h : HeaderIn p x)
     (next : form_numbered q.form ≡ next_form_by is_dcs_parameter (form_numbered p.form) b) where

@@ -28,14 +28,17 @@ pub record Fits (e : EscEvent) (room : ℕ) (bytes : List ℕ) (taken : ℕ) : T
   -- a run of characters is UTF-8
   pub utf8 : e.kind ≡ TEXT → IsUtf8 (take e.length bytes)
 
--- So many of the bytes were taken, and are an event.
-pub record NotesFirst (event : Changed EscEvent) (bytes : List ℕ) (taken : ℕ) : Type 0 where
+-- So many of the bytes were taken, and are an event, whose text has so much room.
+pub record NotesFirst (event : Changed EscEvent) (room : ℕ) (bytes : List ℕ) (taken : ℕ)
+    : Type 0 where
   -- no more than there are
   pub few : taken ≤ length bytes
   -- where none are taken, nothing is noted
   pub none : taken ≡ 0 → IsParamsChange event.exit.now event.entry.now
   -- where some are, an event is noted
   pub some : 0 < taken → (event.exit.now.kind ≢ NONE) × (event.exit.now.kind < FAILED)
+  -- its counts and its places are within what they count
+  pub fits : Fits event.exit.now room bytes taken
 
 -- So many of the bytes were taken, and are a run of characters or of data, where the parser is.
 pub record NotesRun (parser : EscParser) (event : Changed EscEvent) (bytes : List ℕ) (taken : ℕ)
@@ -74,6 +77,17 @@ pub record NotesQuick (event : Changed EscEvent) (bytes : List ℕ) (taken : ℕ
       × (event.exit.now.start ≡ event.entry.now.start)
   -- the event says what is emitted, and nothing is unfinished
   pub emits : 0 < taken → EmitsEvent event.exit.now (take taken bytes)
+
+-- The same of a parser that is in ground, if any are taken.
+pub record NotesInGround (parser : EscParser) (event : Changed EscEvent) (bytes : List ℕ)
+    (taken : ℕ) : Type 0 where
+  pub notes : NotesQuick event bytes taken
+  -- where some are taken, an event is noted, and it is no run
+  pub some : 0 < taken → (event.exit.now.kind ≢ NONE) × (event.exit.now.kind < FAILED)
+      × (is_run event.exit.now.kind ≡ false)
+  -- no more parameters than the event has places for
+  pub count : event.exit.now.count ≤ 256
+  pub ground : 0 < taken → (parser.state ≡ GROUND) × (parser.pending ≡ 0)
 
 -- So many of the bytes were taken, and are a run of characters or a control in ground.
 pub record NotesPlain (event : Changed EscEvent) (bytes : List ℕ) (taken : ℕ) : Type 0 where

@@ -5,7 +5,9 @@ pub mod States
 pub mod Runs
 pub mod Noted
 pub mod Takes
+pub mod Asked
 pub mod Reads
+pub mod Puts
 pub mod Ahead
 pub mod Next
 pub mod Limited

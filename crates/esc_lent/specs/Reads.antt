@@ -1,8 +1,7 @@
 -- What is read from the first of some bytes.
-use Rattle.std.specs.Prelude.{ℕ, ◌≡◌, ◌≤◌, ◌<◌, true, List, length, map, take, slice_index}
-use Rattle.std.specs.List.{list_all}
+use Rattle.std.specs.Prelude.{ℕ, ◌≡◌, ◌≤◌, ◌<◌, List, length, map, take, slice_index}
 use Rattle.esc_values.specs.declared.csi_param.CsiParam.{CsiParam}
-use Rattle.esc_frame.specs.Bodies.{is_digit, held, value_after}
+use Rattle.esc_frame.specs.Machine.Shorts.{ReadsNumber}
 use Rattle.esc_lent.specs.declared.event.EscEntry.{EscEntry}
 use Rattle.esc_lent.specs.Emitted.{param_of}
 use Rattle.esc_lent.specs.Runs.{IsTextRun}
@@ -23,13 +22,8 @@ abbrev pub IsFollowed : List ℕ → ℕ → ℕ → Type 0
 IsFollowed bytes taken after = 0 < after
     → (taken < length bytes) × (slice_index bytes taken ≡ after)
 
--- So many of the bytes, from the first, are digits that write this number.
-pub record ReadsNumber (bytes : List ℕ) (number taken next : ℕ) : Type 0 where
-  -- at least one
-  pub count : (0 < taken) × (taken ≤ length bytes)
-  pub digits : list_all is_digit (take taken bytes) ≡ true
-  -- the largest number that a parameter holds, where they write a larger one
-  pub value : number ≡ held (value_after 0 (take taken bytes))
-  pub small : number ≤ 0x7fff_ffff_ffff_ffff
-  -- the byte after them, or 0
+-- So many of the bytes, from the first, are digits that write this number, and then this byte
+-- comes; nothing is said of it where it is 0.
+pub record ReadsFollowed (bytes : List ℕ) (number taken next : ℕ) : Type 0 where
+  pub reads : ReadsNumber number taken bytes
   pub after : IsFollowed bytes taken next

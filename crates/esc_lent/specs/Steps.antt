@@ -6,6 +6,7 @@ use Rattle.esc_frame.specs.declared.machine.State.{State}
 use Rattle.esc_frame.specs.Leads.{Unfinished}
 use Rattle.esc_frame.specs.Machine.Moves.{after_all, events_all}
 use Rattle.esc_lent.specs.declared.event.EscEvent.{EscEvent}
+use Rattle.esc_lent.specs.declared.named.Named.{Ghosts as Names}
 use Rattle.esc_lent.specs.declared.parser.EscParser.{EscParser}
 use Rattle.esc_lent.specs.declared.step.Borrow.{Borrow}
 use Rattle.esc_lent.specs.Emitted.{is_run, said}
@@ -38,6 +39,20 @@ pub record TakesStep (parser : Changed EscParser) (old new : Halves) (before eve
       → (has_failed ≡ false) × GivesSound event parser.exit.now.queued_kind (length old.out)
   -- the parser has failed where it had
   pub failed : parser.exit.now.has_failed ≡ parser.entry.now.has_failed
+
+-- The text that is handed out, and the event, are lent under these names, and the text has so much
+-- place.
+pub record IsLentToNote {S : Type 0} (N : Names S) (out event : GName) (place : ℕ) : Type 0 where
+  pub text : out ≡ N.out
+  pub size : place ≡ N.place
+  pub noted : event ≡ N.event
+
+-- The same, and the memory that keeps an unfinished string, of which there is so much.
+pub record IsLentToStep {S : Type 0} (N : Names S) (kept out event : GName) (room place : ℕ)
+    : Type 0 where
+  pub memory : kept ≡ N.kept
+  pub size : room ≡ N.room
+  pub noting : IsLentToNote N out event place
 
 -- What was lent, by its names, is given back, and there is as much memory as there was.
 pub record IsGivenBack (kept : GName) (room : ℕ) (out event : GName) (borrow : Borrow)

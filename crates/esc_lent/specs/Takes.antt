@@ -1,13 +1,14 @@
 -- What calls that take a byte, or the bytes that come first, promise of the parser and the event.
-use Rattle.std.specs.Prelude.{ℕ, ◌≡◌, ◌≤◌, ◌<◌, ◌⊎◌, Bool, true, false, List, [], ◌∷◌, ◌++◌, length, take}
+use Rattle.std.specs.Prelude.{ℕ, ◌≡◌, ◌≢◌, ◌≤◌, ◌<◌, ◌⊎◌, Bool, true, false, List, [], ◌∷◌, ◌++◌, length, take}
 use Rattle.esc_frame.specs.Changed.{Changed}
+use Rattle.esc_frame.specs.Machine.Keeps.{parameters_of}
 use Rattle.esc_frame.specs.Machine.Moves.{Move}
 use Rattle.esc_lent.specs.declared.event.EscEvent.{EscEvent}
-use Rattle.esc_lent.specs.declared.event.TheConstants.{NONE}
+use Rattle.esc_lent.specs.declared.event.TheConstants.{ESCAPE, FAILED, NONE, TEXT}
 use Rattle.esc_lent.specs.declared.parser.EscParser.{EscParser}
-use Rattle.esc_lent.specs.Emitted.{queued_of, sent}
-use Rattle.esc_lent.specs.Runs.{Gives, IsBodyChange, IsDueAs, Notes, PassesIn, Steps}
-use Rattle.esc_lent.specs.States.{BodyIn, KeptIn, TextIn}
+use Rattle.esc_lent.specs.Emitted.{is_run, queued_of, sent}
+use Rattle.esc_lent.specs.Runs.{Gives, IsBodyChange, IsDueAs, Notes, Passes, PassesIn, Steps}
+use Rattle.esc_lent.specs.States.{BodyIn, HeaderIn, KeptIn, TextIn}
 
 -- ---- a byte
 
@@ -134,7 +135,33 @@ pub record AddsToBody (parser : Changed EscParser) (byte : ℕ) : Type 0 where
   -- but for the body the parser is as before
   pub same : IsBodyChange parser.exit.now parser.entry.now
 
+-- A parameter byte was added to the header of a device control string, or it was not.
+pub record AddsToHeader (parser : Changed EscParser) (memory : Changed (List ℕ)) (byte : ℕ)
+    (is_taken : Bool) : Type 0 where
+  -- a byte that is not taken changes nothing
+  pub other : is_taken ≡ false
+      → (parser.exit.now ≡ parser.entry.now) × (memory.exit.now ≡ memory.entry.now)
+  -- the parser is in the state that it was in
+  pub same : StaysIn parser.exit.now parser.entry.now
+  -- the parameter bytes that are kept, and the header, have the byte at their end
+  pub text : is_taken ≡ true → (x : List ℕ)
+      → TextIn parser.entry.now memory.entry.now (parameters_of x)
+      → TextIn parser.exit.now memory.exit.now (parameters_of (x ++ byte ∷ []))
+  pub header : is_taken ≡ true → (x : List ℕ) → HeaderIn parser.entry.now x
+      → HeaderIn parser.exit.now (x ++ byte ∷ [])
+
 -- ---- the bytes that come first
+
+-- Bytes that are passed over were taken, from the first on, or none.
+pub record Skips (parser : Changed EscParser) (bytes : List ℕ) (taken : ℕ) : Type 0 where
+  -- no more than there are
+  pub few : taken ≤ length bytes
+  -- where none are taken, nothing changed
+  pub none : taken ≡ 0 → parser.exit.now ≡ parser.entry.now
+  -- what is queued stays, and so does a failure
+  pub queued : IsDueAs parser.exit.now parser.entry.now
+  -- the parser keeps what is unfinished after these bytes, and they emit nothing
+  pub passes : 0 < taken → Passes parser.entry.now parser.exit.now (take taken bytes)
 
 -- Bytes were taken, from the first on, or none. `notes` says of some bytes what holds of parser and
 -- event where they are those that were taken.
@@ -223,15 +250,6 @@ pub record NotesText (kind room : ℕ) (event : Changed EscEvent) (is_taken : Ty
   pub some : is_taken → (event.exit.now.kind ≡ kind) × (event.exit.now.length ≤ room)
   pub within : IsCountedAs event.exit.now event.entry.now
 
--- Bytes are there, the parser is in this state, and no event has come yet; the length that it has
--- of an earlier one is within this room.
-pub record GoesOn (number : ℕ) (parser : EscParser) (event : EscEvent) (room : ℕ)
-    (bytes : List ℕ) : Type 0 where
-  pub some : 0 < length bytes
-  pub state : parser.state ≡ number
-  pub none : event.kind ≡ NONE
-  pub length : event.length ≤ room
-
 -- Bytes of a string were taken, and the event is none, or of this kind, that of its text.
 pub record TakesPieceOf (text : ℕ) (parser : Changed EscParser) (memory out : Changed (List ℕ))
     (event : Changed EscEvent) (bytes : List ℕ) (taken : ℕ) : Type 0 where
@@ -244,3 +262,16 @@ pub record TakesPieceOf (text : ℕ) (parser : Changed EscParser) (memory out : 
 -- within this room
 abbrev pub IsInRoom : EscEvent → ℕ → Type 0
 IsInRoom e room = (e.count ≤ 256) × (e.kept ≤ 2) × (e.length ≤ room)
+
+-- Where bytes were taken, the event is an escape sequence without intermediates.
+pub record NotesFinal (event : Changed EscEvent) (is_taken : Type 0) : Type 0 where
+  pub some : is_taken → (event.exit.now.kind ≡ ESCAPE) × (event.exit.now.kept ≡ 0)
+  -- it has the parameters and the text that it had
+  pub within : (event.exit.now.count ≡ event.entry.now.count)
+      × (event.exit.now.length ≡ event.entry.now.length)
+
+-- Where bytes were taken, the event is a sequence or a command, and no run; it is within this room.
+pub record NotesSequence (event : EscEvent) (room : ℕ) (is_taken : Type 0) : Type 0 where
+  pub some : is_taken → (event.kind ≢ NONE) × (event.kind ≢ TEXT) × (event.kind < FAILED)
+      × (is_run event.kind ≡ false)
+  pub within : IsInRoom event room

@@ -5,7 +5,8 @@ ghost use Rattle.std.specs.Prelude.{◌≡◌, ◌≤◌, ◌<◌, [], ℕ, List
 ghost use Rattle.esc_lent.specs.Runs.{Emits, IsDueAs};
 ghost use Rattle.esc_lent.specs.Noted.{IsSound};
 ghost use Rattle.esc_lent.specs.Emitted.{queued_of, is_run};
-ghost use Rattle.esc_lent.specs.Ahead.{Fits, NotesFirst, NotesRun};
+ghost use Rattle.esc_lent.specs.Ahead.{NotesFirst, NotesRun};
+ghost use Rattle.esc_lent.specs.Asked.{Asked, AskedWithin};
 ghost use Rattle.esc_lent.specs.Next.{Advances, IsReady, both};
 ghost use Rattle.esc_lent.specs.Takes.{IsInRoom};
 
@@ -23,8 +24,7 @@ use esc_frame::runs::scans::data_run;
 // changes no state.
 #[inline(always)]
 fn run_ahead(parser: &EscParser, bytes: &[u8], event: &mut EscEvent) -> usize
-    requires some { 0 < length bytes.now }
-    requires none { event.old.kind ≡ NONE }
+    requires { Asked event.old bytes.now }
     ensures { NotesRun parser.now event bytes.now result }
 {
     if parser.state == 0 && parser.pending == 0 {
@@ -56,11 +56,8 @@ fn note_run(event: &mut EscEvent, kind: u32, run: usize) -> usize
 // nothing where something else comes.
 #[inline(always)]
 fn note_first(parser: &EscParser, bytes: &[u8], event: &mut EscEvent) -> usize
-    requires some { 0 < length bytes.now }
-    requires none { event.old.kind ≡ NONE }
-    requires within { (event.old.count ≤ 256) × (event.old.kept ≤ 2) }
-    ensures notes { NotesFirst event bytes.now result }
-    ensures fits { Fits event.new event.old.length bytes.now result }
+    requires { AskedWithin event.old bytes.now ((event.old.count ≤ 256) × (event.old.kept ≤ 2)) }
+    ensures notes { NotesFirst event event.old.length bytes.now result }
     ensures same { (event.new.start ≡ event.old.start)
         × (is_run event.new.kind ≡ false → event.new.length ≡ event.old.length) }
     ensures emits { 0 < result → (out : List ℕ) (limit : ℕ)
@@ -83,11 +80,8 @@ pub fn ahead(
     bytes: &[u8],
     event: &mut EscEvent,
 ) -> usize
-    requires some { 0 < length bytes.now }
-    requires none { event.old.kind ≡ NONE }
-    requires within { IsInRoom event.old (length out.old) }
-    ensures notes { NotesFirst event bytes.now result }
-    ensures fits { Fits event.new (length out.old) bytes.now result }
+    requires { AskedWithin event.old bytes.now (IsInRoom event.old (length out.old)) }
+    ensures notes { NotesFirst event (length out.old) bytes.now result }
     ensures parser { (result ≡ 0 → parser.new ≡ parser.old) × IsDueAs parser.new parser.old }
     ensures emits { 0 < result
         → Emits parser.old parser.new event.new out.new limit bytes.now (take result bytes.now) }

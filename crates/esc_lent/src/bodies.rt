@@ -6,7 +6,7 @@ ghost use Rattle.std.specs.Prelude.{◌≡◌, ◌≤◌, ◌<◌, ◌⊎◌, �
 ghost use Rattle.esc_values.specs.declared.csi_param.CsiParam.{CsiParam as Param};
 ghost use Rattle.esc_frame.specs.Bodies.{is_digit, held};
 ghost use Rattle.esc_frame.specs.Machine.Keeps.{shown, number_at};
-ghost use Rattle.esc_frame.specs.Sequences.{is_from};
+ghost use Rattle.esc_lent.specs.Asked.{AskedIn, EndsIn};
 ghost use Rattle.esc_lent.specs.States.{NumberIn, ParamsIn};
 ghost use Rattle.esc_lent.specs.Emitted.{param_of};
 ghost use Rattle.esc_lent.specs.Takes.{AddsToBody, KeepsForm, NotesCsi, TakesByte};
@@ -125,10 +125,7 @@ fn copy_params(csi_params: &mut [EscEntry], params: &[EscEntry], count: usize)
 // Notes a control sequence whose parameters are all, if its body has its form.
 #[inline(always)]
 fn end(parser: &mut EscParser, byte: u8, event: &mut EscEvent)
-    requires state { parser.old.state ≡ CSI_STATE }
-    requires none { event.old.kind ≡ NONE }
-    requires count { event.old.count ≤ 256 }
-    requires ends { is_from 0x40 0x7e byte ≡ true }
+    requires { EndsIn CSI_STATE parser.old event.old byte (event.old.count ≤ 256) }
     ensures kind { (event.new.kind ≡ NONE) ⊎ (event.new.kind ≡ CSI) }
     ensures noted { NotesCsi event }
     ensures takes { TakesByte parser event byte true }
@@ -150,9 +147,7 @@ fn end(parser: &mut EscParser, byte: u8, event: &mut EscEvent)
 /// Takes a byte of a control sequence, or one that breaks it off.
 #[inline(always)]
 pub fn note_in_csi(parser: &mut EscParser, byte: u8, event: &mut EscEvent) -> bool
-    requires state { parser.old.state ≡ CSI_STATE }
-    requires none { event.old.kind ≡ NONE }
-    requires count { event.old.count ≤ 256 }
+    requires { AskedIn CSI_STATE parser.old event.old (event.old.count ≤ 256) }
     ensures takes { TakesByte parser event byte result }
     ensures kind { (event.new.kind ≡ NONE) ⊎ (event.new.kind ≡ CHARACTER)
         ⊎ (event.new.kind ≡ CONTROL) ⊎ (event.new.kind ≡ CSI) }

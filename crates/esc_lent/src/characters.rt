@@ -5,6 +5,7 @@ ghost use Rattle.std.specs.Prelude.{◌≡◌, true, false};
 ghost use Rattle.esc_frame.specs.Machine.Prefixes.{prefix_of};
 ghost use Rattle.esc_frame.specs.Segments.{is_empty};
 ghost use Rattle.esc_frame.specs.Sequences.{outcome};
+ghost use Rattle.esc_lent.specs.Asked.{BreaksCharacter};
 ghost use Rattle.esc_lent.specs.States.{begun_in};
 ghost use Rattle.esc_lent.specs.Takes.{GivesByte, NotesSingle, TakesByte};
 
@@ -80,9 +81,7 @@ pub fn is_broken(parser: &EscParser, byte: u8) -> bool
 /// Notes a character that was broken off, as U+FFFD. What the byte gives that broke it off is
 /// handed out after it.
 pub fn note_broken(parser: &mut EscParser, byte: u8, event: &mut EscEvent)
-    requires ground { parser.old.state ≡ GROUND }
-    requires broken { outcome (begun_in parser.old) byte ≡ Outcome.Broken }
-    requires some { is_empty (begun_in parser.old) ≡ false }
+    requires { BreaksCharacter parser.old byte }
     ensures event { event.new ≡ record event.old { kind = CHARACTER; byte = REPLACEMENT } }
     ensures takes { GivesByte parser event.new byte }
 {

@@ -2,13 +2,14 @@
 //! where the parser keeps it.
 #![tactic(auto)]
 
-ghost use Rattle.std.specs.Prelude.{◌≡◌, ◌++◌, ◌∷◌, [], true, false, length};
+ghost use Rattle.std.specs.Prelude.{◌≡◌, ◌≤◌, ◌++◌, ◌∷◌, [], true, false, length};
 ghost use Rattle.std.specs.List.{list_all};
 ghost use Rattle.esc_frame.specs.Scans.{is_text_byte};
 ghost use Rattle.esc_frame.specs.Machine.TextRuns.{IsTextRun};
 ghost use Rattle.esc_frame.specs.Machine.Prefixes.{prefix_of};
 ghost use Rattle.esc_lent.specs.Runs.{Passes};
-ghost use Rattle.esc_lent.specs.Takes.{Appends, GoesOn, NotesText, TakesEnd, TakesPieceOf, TakesText};
+ghost use Rattle.esc_lent.specs.Asked.{GoesOn};
+ghost use Rattle.esc_lent.specs.Takes.{Appends, NotesText, TakesEnd, TakesPieceOf, TakesText};
 
 use crate::characters::put_pending;
 use crate::event::{APC, EscEvent, OSC};
@@ -128,7 +129,7 @@ pub fn note_in_osc(
     bytes: &[u8],
     event: &mut EscEvent,
 ) -> usize
-    requires { GoesOn OSC_STATE parser.old event.old (length out.old) bytes.now }
+    requires { GoesOn OSC_STATE parser.old event.old bytes.now (event.old.length ≤ length out.old) }
     ensures { TakesPieceOf OSC parser memory out event bytes.now result }
 {
     if parser.pending == 0 {
@@ -235,7 +236,7 @@ pub fn note_in_apc(
     bytes: &[u8],
     event: &mut EscEvent,
 ) -> usize
-    requires { GoesOn APC_STATE parser.old event.old (length out.old) bytes.now }
+    requires { GoesOn APC_STATE parser.old event.old bytes.now (event.old.length ≤ length out.old) }
     ensures { TakesPieceOf APC parser memory out event bytes.now result }
 {
     let run = ascii_run(bytes);

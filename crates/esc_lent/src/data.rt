@@ -1,9 +1,10 @@
 //! The data of a device control string, and what is passed over, where they come in pieces.
 #![tactic(auto)]
 
-ghost use Rattle.std.specs.Prelude.{◌≡◌, ◌≤◌, ◌<◌, ◌∷◌, [], true, false, length, take};
+ghost use Rattle.std.specs.Prelude.{◌≡◌, ◌∷◌, [], true, false};
 ghost use Rattle.esc_lent.specs.Runs.{IsDueAs, Passes};
-ghost use Rattle.esc_lent.specs.Takes.{NotesSingle, TakesByte};
+ghost use Rattle.esc_lent.specs.Asked.{FedIn};
+ghost use Rattle.esc_lent.specs.Takes.{NotesSingle, Skips, TakesByte};
 
 use crate::event::{DATA_BYTE, DCS_END, EscEvent, NONE};
 use crate::numbers::{DATA_STATE, IGNORED_STATE};
@@ -78,12 +79,8 @@ fn skip_one(parser: &mut EscParser, byte: u8) -> bool
 /// control ends it.
 #[inline(never)]
 pub fn note_ignored(parser: &mut EscParser, bytes: &[u8]) -> usize
-    requires some { 0 < length bytes.now }
-    requires state { parser.old.state ≡ IGNORED_STATE }
-    ensures few { result ≤ length bytes.now }
-    ensures none { result ≡ 0 → parser.new ≡ parser.old }
-    ensures queued { IsDueAs parser.new parser.old }
-    ensures passes { 0 < result → Passes parser.old parser.new (take result bytes.now) }
+    requires { FedIn IGNORED_STATE parser.old bytes.now }
+    ensures { Skips parser bytes.now result }
 {
     let run = ascii_run(bytes);
     if run > 0 {

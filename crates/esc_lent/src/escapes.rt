@@ -1,9 +1,8 @@
 //! Escape sequences that come in pieces, and controls in the middle of a sequence.
 #![tactic(auto)]
 
-ghost use Rattle.std.specs.Prelude.{◌≡◌, ◌≢◌, ◌<◌, ◌≤◌, ◌⊎◌, ◌++◌, ◌∷◌, [], ℕ, List, true, false};
-ghost use Rattle.esc_frame.specs.Classes.{class_of, ends_escape, opens};
-ghost use Rattle.esc_frame.specs.declared.classes.Class.TheVariants.{Introducer};
+ghost use Rattle.std.specs.Prelude.{◌≡◌, ◌≤◌, ◌⊎◌, ◌++◌, ◌∷◌, [], ℕ, List, true, false};
+ghost use Rattle.esc_lent.specs.Asked.{AskedIn, EndsEscape, OpensInEscape};
 ghost use Rattle.esc_lent.specs.Runs.{IsDueAs, Passes};
 ghost use Rattle.esc_lent.specs.States.{FirstIn};
 ghost use Rattle.esc_lent.specs.Takes.{NotesSingle, TakesByte};
@@ -42,9 +41,7 @@ pub fn note_noise(parser: &mut EscParser, byte: u8, event: &mut EscEvent) -> boo
 // The letter after an ESC alone that opens a sequence or a string.
 #[inline(always)]
 fn open_after(parser: &mut EscParser, byte: u8, kind: Kind)
-    requires state { parser.old.state ≡ ESCAPED }
-    requires first { parser.old.kept ≡ 0 }
-    requires class { class_of byte ≡ Introducer kind }
+    requires { OpensInEscape parser.old byte kind }
     ensures queued { IsDueAs parser.new parser.old }
     ensures passes { Passes parser.old parser.new (byte ∷ []) }
 {
@@ -72,9 +69,7 @@ pub fn push_intermediate(parser: &mut EscParser, byte: u8)
 // The final byte of an escape sequence.
 #[inline(always)]
 fn dispatch(parser: &mut EscParser, byte: u8, event: &mut EscEvent)
-    requires state { parser.old.state ≡ ESCAPED }
-    requires class { ends_escape (class_of byte) ≡ true }
-    requires letter { opens (class_of byte) ≡ true → parser.old.kept ≢ 0 }
+    requires { EndsEscape parser.old byte }
     ensures event { event.new ≡ record event.old {
       kind = ESCAPE;
       byte = byte;
@@ -97,9 +92,7 @@ fn dispatch(parser: &mut EscParser, byte: u8, event: &mut EscEvent)
 /// Takes a byte of an escape sequence, or one that breaks it off.
 #[inline(always)]
 pub fn note_in_escape(parser: &mut EscParser, byte: u8, event: &mut EscEvent) -> bool
-    requires state { parser.old.state ≡ ESCAPED }
-    requires none { event.old.kind ≡ NONE }
-    requires kept { event.old.kept ≤ 2 }
+    requires { AskedIn ESCAPED parser.old event.old (event.old.kept ≤ 2) }
     ensures takes { TakesByte parser event byte result }
     ensures kind { (event.new.kind ≡ NONE) ⊎ (event.new.kind ≡ CHARACTER)
         ⊎ (event.new.kind ≡ CONTROL) ⊎ (event.new.kind ≡ ESCAPE) }

@@ -1,10 +1,12 @@
 //! The body of a short control sequence, read straight into the parameters of an event.
 #![tactic(auto)]
 
-ghost use Rattle.std.specs.Prelude.{◌≡◌, ◌<◌, ◌≤◌, ◌+◌, ◌++◌, true, false, ℕ, List, ◌∷◌, [], length, take, slice_index, pos};
-ghost use Rattle.esc_frame.specs.Machine.Shorts.{IsAfter, IsPrefix, IsShort};
+ghost use Rattle.std.specs.Prelude.{◌≡◌, ◌<◌, ◌≤◌, ◌+◌, ◌++◌, true, false, ℕ, List, ◌∷◌, [], length, take, pos};
+ghost use Rattle.esc_frame.specs.Machine.Shorts.{IsAfter, IsPrefix};
+ghost use Rattle.esc_frame.specs.Scans.{StartsWithDigit};
 ghost use Rattle.esc_lent.specs.Emitted.{param_of};
-ghost use Rattle.esc_lent.specs.Reads.{IsFollowed, ReadsNumber, first_params};
+ghost use Rattle.esc_lent.specs.Puts.{PutsBody, PutsField, PutsNumber};
+ghost use Rattle.esc_lent.specs.Reads.{ReadsFollowed, first_params};
 
 use crate::event::EscEntry;
 use esc_frame::unfinished::csi_params::next_number;
@@ -76,10 +78,8 @@ fn put_integer(csi_params: &mut [EscEntry], count: usize, number: u64)
 // where `any` says so.
 #[inline(always)]
 fn read_number(rest: &[u8], any: bool) -> (u64, usize, u8)
-    requires some { 0 < length rest.now }
-    requires low { 0x30 ≤ slice_index rest.now 0 }
-    requires high { slice_index rest.now 0 ≤ 0x39 }
-    ensures { ReadsNumber rest.now result.0 result.1 result.2 }
+    requires { StartsWithDigit rest.now }
+    ensures { ReadsFollowed rest.now result.0 result.1 result.2 }
 {
     let one = next_number(0, rest[0] - b'0');
     if rest.len() < 4 {
@@ -110,10 +110,8 @@ fn read_number(rest: &[u8], any: bool) -> (u64, usize, u8)
 // The same for any number of digits, out of the way of the code for few.
 #[inline(never)]
 fn read_any_number(rest: &[u8]) -> (u64, usize, u8)
-    requires some { 0 < length rest.now }
-    requires low { 0x30 ≤ slice_index rest.now 0 }
-    requires high { slice_index rest.now 0 ≤ 0x39 }
-    ensures { ReadsNumber rest.now result.0 result.1 result.2 }
+    requires { StartsWithDigit rest.now }
+    ensures { ReadsFollowed rest.now result.0 result.1 result.2 }
 {
     let mut number = next_number(0, rest[0] - b'0');
     let mut end = 1;
@@ -132,13 +130,8 @@ fn read_any_number(rest: &[u8]) -> (u64, usize, u8)
 #[inline(always)]
 fn put_number(csi_params: &mut [EscEntry], count: usize, rest: &[u8], any: bool) -> (usize, u8)
     requires room { count < length csi_params.old }
-    requires some { 0 < length rest.now }
-    requires low { 0x30 ≤ slice_index rest.now 0 }
-    requires high { slice_index rest.now 0 ≤ 0x39 }
-    ensures count { (0 < result.0) × (result.0 ≤ length rest.now) }
-    ensures after { IsFollowed rest.now result.0 result.1 }
-    ensures keeps { (x : List ℕ) → IsPrefix (first_params count csi_params.old) x
-        → IsAfter (first_params (count + 1) csi_params.new) (x ++ take result.0 rest.now) }
+    requires digit { StartsWithDigit rest.now }
+    ensures { PutsNumber csi_params count rest.now result.0 result.1 }
 {
     let (number, length, after) = read_number(rest, any);
     put_integer(csi_params, count, number);
@@ -191,16 +184,7 @@ fn put_private_prefix(csi_params: &mut [EscEntry], rest: &[u8]) -> usize
 fn put_field(csi_params: &mut [EscEntry], count: usize, rest: &[u8], any: bool) -> Field
     requires room { count + 1 < length csi_params.old }
     requires some { 0 < length rest.now }
-    ensures few { (result.length ≤ length rest.now) × (result.count ≤ count + 2) }
-    ensures goes_on { result.goes_on ≡ true → (0 < result.length) × ((x : List ℕ)
-        → IsPrefix (first_params count csi_params.old) x
-        → IsPrefix (first_params result.count csi_params.new)
-        (x ++ take result.length rest.now)) }
-    ensures ends { result.goes_on ≡ false → (x : List ℕ)
-        → IsPrefix (first_params count csi_params.old) x
-        → IsAfter (first_params result.count csi_params.new)
-        (x ++ take result.length rest.now) }
-    ensures after { IsFollowed rest.now result.length result.after }
+    ensures { PutsField csi_params count rest.now result }
 {
     if b'0' <= rest[0] && rest[0] <= b'9' {
         let (n, after) = put_number(csi_params, count, rest, any);
@@ -250,11 +234,7 @@ fn least(any: bool) -> usize
 #[inline(always)]
 pub fn read_body(csi_params: &mut [EscEntry], rest: &[u8], any: bool) -> Body
     requires { length csi_params.old ≡ 256 }
-    ensures few { result.length ≤ length rest.now }
-    ensures count { result.count ≤ 256 }
-    ensures keeps { IsShort (first_params result.count csi_params.new)
-        (take result.length rest.now) }
-    ensures after { IsFollowed rest.now result.length result.after }
+    ensures { PutsBody csi_params rest.now result }
 {
     let mut count = put_private_prefix(csi_params, rest);
     let mut at = count;

@@ -5,10 +5,10 @@ ghost use Rattle.std.specs.Prelude.{◌≡◌, ◌⊎◌, ◌++◌, ◌∷◌, [
 ghost use Rattle.esc_frame.specs.Bodies.{is_dcs_parameter};
 ghost use Rattle.esc_frame.specs.Machine.Keeps.{next_form_by, parameters_of};
 ghost use Rattle.esc_frame.specs.Scans.{is_body_byte};
-ghost use Rattle.esc_frame.specs.Sequences.{is_from};
+ghost use Rattle.esc_lent.specs.Asked.{AskedIn, EndsIn};
 ghost use Rattle.esc_lent.specs.Numbers.{form_numbered};
 ghost use Rattle.esc_lent.specs.States.{HeaderIn, TextIn};
-ghost use Rattle.esc_lent.specs.Takes.{IsInRoom, StaysIn, TakesEnd, TakesHeaderByte, TakesText};
+ghost use Rattle.esc_lent.specs.Takes.{AddsToHeader, IsInRoom, StaysIn, TakesEnd, TakesHeaderByte, TakesText};
 
 use crate::breaks::note_break;
 use crate::commands::append;
@@ -38,12 +38,7 @@ fn next_form(form: u32, byte: u8) -> u32
 #[inline(always)]
 fn push_parameter(parser: &mut EscParser, memory: &mut [u8], byte: u8) -> bool
     requires { is_dcs_parameter byte ≡ true }
-    ensures other { result ≡ false → (parser.new ≡ parser.old) × (memory.new ≡ memory.old) }
-    ensures same { StaysIn parser.new parser.old }
-    ensures text { result ≡ true → (x : List ℕ) → TextIn parser.old memory.old (parameters_of x)
-        → TextIn parser.new memory.new (parameters_of (x ++ byte ∷ [])) }
-    ensures header { result ≡ true → (x : List ℕ) → HeaderIn parser.old x
-        → HeaderIn parser.new (x ++ byte ∷ []) }
+    ensures { AddsToHeader parser memory byte result }
 {
     if !append(parser, memory, &[byte]) {
         return false;
@@ -107,10 +102,7 @@ fn end(
     byte: u8,
     event: &mut EscEvent,
 ) -> bool
-    requires state { parser.old.state ≡ HEADER_STATE }
-    requires none { event.old.kind ≡ NONE }
-    requires within { IsInRoom event.old (length out.old) }
-    requires ends { is_from 0x40 0x7e byte ≡ true }
+    requires { EndsIn HEADER_STATE parser.old event.old byte (IsInRoom event.old (length out.old)) }
     ensures takes { TakesEnd parser memory.now out event byte result }
     ensures kind { (event.new.kind ≡ NONE) ⊎ (event.new.kind ≡ DCS) }
     ensures within { IsInRoom event.new (length out.old) }
@@ -139,9 +131,7 @@ pub fn note_in_header(
     byte: u8,
     event: &mut EscEvent,
 ) -> bool
-    requires state { parser.old.state ≡ HEADER_STATE }
-    requires none { event.old.kind ≡ NONE }
-    requires within { IsInRoom event.old (length out.old) }
+    requires { AskedIn HEADER_STATE parser.old event.old (IsInRoom event.old (length out.old)) }
     ensures takes { TakesHeaderByte parser memory out event byte result }
     ensures kind { (event.new.kind ≡ NONE) ⊎ (event.new.kind ≡ CHARACTER)
         ⊎ (event.new.kind ≡ CONTROL) ⊎ (event.new.kind ≡ DCS) }

@@ -5,6 +5,7 @@
 ghost use Rattle.std.specs.Prelude.{◌≡◌, ◌≢◌, ◌⊎◌, true, false, length};
 ghost use Rattle.esc_frame.specs.Classes.{class_of, is_breaker};
 ghost use Rattle.esc_frame.specs.Machine.Moves.{ground_move};
+ghost use Rattle.esc_lent.specs.Asked.{AskedToLeave};
 ghost use Rattle.esc_lent.specs.Emitted.{queued_of};
 ghost use Rattle.esc_lent.specs.Noted.{IsSound};
 ghost use Rattle.esc_lent.specs.Takes.{GivesByte, IsInRoom, KeepsAfter, Leaves, NotesText};
@@ -84,9 +85,7 @@ pub fn note_left(
     byte: u8,
     event: &mut EscEvent,
 ) -> bool
-    requires breaks { is_breaker (class_of byte) ≡ true }
-    requires none { event.old.kind ≡ NONE }
-    requires within { IsInRoom event.old (length out.old) }
+    requires { AskedToLeave byte event.old (IsInRoom event.old (length out.old)) }
     ensures takes { Leaves parser memory.now out event byte result }
     ensures some { result ≡ true → event.new.kind ≢ NONE }
     ensures sound { IsSound event.new (length out.old) }

@@ -2,6 +2,7 @@
 #![tactic(auto)]
 
 ghost use Rattle.std.specs.Prelude.{◌≡◌, ◌≤◌, ◌<◌, true, false, length};
+ghost use Rattle.esc_lent.specs.Asked.{AskedWithin, GoesOn, IsFresh};
 ghost use Rattle.esc_lent.specs.Emitted.{is_run};
 ghost use Rattle.esc_lent.specs.Takes.{GivesPiece, IsInRoom, NotesSingle, TakesByte, TakesPiece};
 ghost use Rattle.esc_lent.specs.Noted.{IsSound};
@@ -39,8 +40,7 @@ fn note_in_ground(parser: &mut EscParser, byte: u8, event: &mut EscEvent) -> boo
 // Takes the first byte, where it is one of a sequence, of a character or of data.
 #[inline(always)]
 fn note_byte(parser: &mut EscParser, byte: u8, event: &mut EscEvent) -> bool
-    requires none { event.old.kind ≡ NONE }
-    requires within { (event.old.count ≤ 256) × (event.old.kept ≤ 2) }
+    requires { IsFresh event.old ((event.old.count ≤ 256) × (event.old.kept ≤ 2)) }
     ensures takes { TakesByte parser event byte result }
     ensures kind { (event.new.kind < FAILED) × (is_run event.new.kind ≡ false) }
     ensures within { (event.new.count ≤ 256) × (event.new.kept ≤ 2)
@@ -68,10 +68,8 @@ fn note_header(
     bytes: &[u8],
     event: &mut EscEvent,
 ) -> usize
-    requires some { 0 < length bytes.now }
-    requires state { parser.old.state ≡ HEADER_STATE }
-    requires none { event.old.kind ≡ NONE }
-    requires within { IsInRoom event.old (length out.old) }
+    requires { GoesOn HEADER_STATE parser.old event.old bytes.now
+        (IsInRoom event.old (length out.old)) }
     ensures few { result ≤ 1 }
     ensures takes { TakesPiece parser memory out event bytes.now result }
     ensures sound { IsSound event.new (length out.old) }
@@ -93,9 +91,7 @@ fn note_step(
     bytes: &[u8],
     event: &mut EscEvent,
 ) -> usize
-    requires some { 0 < length bytes.now }
-    requires none { event.old.kind ≡ NONE }
-    requires within { IsInRoom event.old (length out.old) }
+    requires { AskedWithin event.old bytes.now (IsInRoom event.old (length out.old)) }
     ensures takes { TakesPiece parser memory out event bytes.now result }
     ensures sound { IsSound event.new (length out.old) }
 {

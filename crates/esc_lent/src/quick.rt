@@ -3,10 +3,11 @@
 
 ghost use Rattle.std.specs.Prelude.{◌≡◌, ◌≢◌, ◌≤◌, ◌<◌, ◌∷◌, [], ℕ, List, false, length, map, take, slice_index};
 ghost use Rattle.esc_frame.specs.Events.Event.{CsiDispatch};
-ghost use Rattle.esc_lent.specs.Emitted.{is_run, param_of, sent};
-ghost use Rattle.esc_lent.specs.Ahead.{NotesPlain, NotesQuick};
+ghost use Rattle.esc_lent.specs.Emitted.{param_of, sent};
+ghost use Rattle.esc_lent.specs.Ahead.{NotesInGround, NotesPlain, NotesQuick};
+ghost use Rattle.esc_lent.specs.Asked.{AskedWithin};
 
-use crate::event::{CONTROL, CSI, EscEvent, FAILED, NONE, TEXT};
+use crate::event::{CONTROL, CSI, EscEvent, TEXT};
 use crate::fields::read_body;
 use crate::numbers::GROUND;
 use crate::parser::EscParser;
@@ -17,14 +18,8 @@ use esc_frame::utf8::sequence::lies_from;
 /// ground; nothing where something else comes.
 #[inline(always)]
 pub fn note_quick(parser: &EscParser, bytes: &[u8], event: &mut EscEvent) -> usize
-    requires some { 0 < length bytes.now }
-    requires none { event.old.kind ≡ NONE }
-    requires count { event.old.count ≤ 256 }
-    ensures notes { NotesQuick event bytes.now result }
-    ensures some { 0 < result → (event.new.kind ≢ NONE) × (event.new.kind < FAILED)
-        × (is_run event.new.kind ≡ false) }
-    ensures count { event.new.count ≤ 256 }
-    ensures ground { 0 < result → (parser.now.state ≡ GROUND) × (parser.now.pending ≡ 0) }
+    requires { AskedWithin event.old bytes.now (event.old.count ≤ 256) }
+    ensures { NotesInGround parser.now event bytes.now result }
 {
     if parser.state != 0 || parser.pending != 0 {
         return 0;

@@ -1,11 +1,12 @@
 //! What notes the events of a call.
 #![tactic(auto)]
 
-ghost use Rattle.std.specs.Prelude.{◌≡◌, ◌≢◌, ◌≤◌, ◌<◌, ◌∷◌, [], true, false, length, ℕ, List, IsTrue};
+ghost use Rattle.std.specs.Prelude.{◌≡◌, ◌≢◌, ◌≤◌, ◌<◌, true, false, length, IsTrue};
 ghost use Rattle.esc_values.specs.Clear.{parts_of};
-ghost use Rattle.esc_frame.specs.Events.Event.{Print, Execute, EscDispatch, CsiDispatch, OscDispatch, DcsHook};
+ghost use Rattle.esc_frame.specs.Events.Event.{Print, Execute, OscDispatch, DcsHook};
 ghost use Rattle.esc_lent.specs.Noted.{Adds};
-ghost use Rattle.esc_lent.specs.Emitted.{sent, text_of, intermediates_of, parameters_of};
+ghost use Rattle.esc_lent.specs.Emitted.{text_of, intermediates_of, parameters_of};
+ghost use Rattle.esc_lent.specs.Puts.{PutsCsi, PutsEscape};
 ghost use Rattle.esc_lent.specs.Takes.{IsCountedAs};
 
 use crate::csi_params::put_csi_params;
@@ -36,11 +37,7 @@ pub struct Recorder<'b, 'c, N: Named> {
 /// Notes a control sequence.
 pub fn put_csi(event: &mut EscEvent, params: &[CsiParam], parameters_truncated: bool, byte: u8)
     requires { length params.now ≤ 256 }
-    ensures said { (out : List ℕ) → sent event.new out
-        ≡ CsiDispatch params.now parameters_truncated byte ∷ [] }
-    ensures kind { event.new.kind ≡ CSI }
-    ensures count { event.new.count ≡ length params.now }
-    ensures same { (event.new.kept ≡ event.old.kept) × (event.new.length ≡ event.old.length) }
+    ensures { PutsCsi params.now parameters_truncated byte event }
 {
     put_csi_params(&mut event.csi_params, params);
     event.count = params.len();
@@ -67,11 +64,7 @@ fn put_intermediates(event: &mut EscEvent, intermediates: &[u8], has_more: bool,
 // Notes an escape sequence.
 fn put_escape(event: &mut EscEvent, intermediates: &[u8], has_more: bool, byte: u8)
     requires { length intermediates.now ≤ 2 }
-    ensures said { (out : List ℕ) → sent event.new out
-        ≡ EscDispatch intermediates.now has_more byte ∷ [] }
-    ensures kind { event.new.kind ≡ ESCAPE }
-    ensures counts { (event.new.count ≡ event.old.count) × (event.new.length ≡ event.old.length) }
-    ensures kept { event.new.kept ≡ length intermediates.now }
+    ensures { PutsEscape intermediates.now has_more byte event }
 {
     event.kind = ESCAPE;
     put_intermediates(event, intermediates, has_more, byte);

@@ -1,9 +1,10 @@
 //! One step of the machine, on what is lent for a call.
 #![tactic(auto)]
 
-ghost use Rattle.std.specs.Prelude.{◌≡◌, ◌<◌, ◌||◌, ℕ, true, false, length, Ok};
+ghost use Rattle.std.specs.Prelude.{◌≡◌, ◌||◌, ℕ, true, false, length, Ok};
+ghost use Rattle.esc_lent.specs.Asked.{Asked};
 ghost use Rattle.esc_lent.specs.Next.{both};
-ghost use Rattle.esc_lent.specs.Steps.{IsGivenBack, TakesStep};
+ghost use Rattle.esc_lent.specs.Steps.{IsGivenBack, IsLentToNote, IsLentToStep, TakesStep};
 
 use crate::event::{EscEvent, NONE};
 use crate::load::load;
@@ -36,13 +37,9 @@ fn step_in<'a, 'b, 'c, N: Named>(
     event: &'c mut EscEvent,
     bytes: &[u8],
 ) -> Borrow<'a, 'b, 'c>
-    requires some { 0 < length bytes.now }
-    requires memory { memory.ghost_name ≡ N.kept }
-    requires room { length memory.old ≡ N.room }
-    requires out { out.ghost_name ≡ N.out }
-    requires place { length out.old ≡ N.place }
-    requires event { event.ghost_name ≡ N.event }
-    requires none { event.old.kind ≡ NONE }
+    requires asked { Asked event.old bytes.now }
+    requires lent { IsLentToStep N.Named memory.ghost_name out.ghost_name event.ghost_name
+        (length memory.old) (length out.old) }
     ensures step { TakesStep parser (both memory.old out.old)
         (both result.memory.now result.out.now) event.old result.event.now bytes.now result.taken
         result.has_failed }
@@ -72,11 +69,8 @@ fn taken_of(outcome: Result<usize, AllocError>) -> (usize, bool)
 
 // Notes nothing yet.
 fn listen<'b, 'c, N: Named>(out: &'b mut [u8], event: &'c mut EscEvent) -> Recorder<'b, 'c, N>
-    requires out { out.ghost_name ≡ N.out }
-    requires place { length out.old ≡ N.place }
-    requires event { event.ghost_name ≡ N.event }
-    ensures out { result.out.now ≡ out.old }
-    ensures event { result.event.now ≡ event.old }
+    requires { IsLentToNote N.Named out.ghost_name event.ghost_name (length out.old) }
+    ensures now { (result.out.now ≡ out.old) × (result.event.now ≡ event.old) }
     ensures queued { result.queued_kind ≡ NONE }
     ensures lost { result.is_lost ≡ false }
 {
@@ -149,8 +143,7 @@ pub fn step(
     event: &mut EscEvent,
     bytes: &[u8],
 ) -> (usize, bool)
-    requires some { 0 < length bytes.now }
-    requires none { event.old.kind ≡ NONE }
+    requires { Asked event.old bytes.now }
     ensures { TakesStep parser (both memory.old out.old) (both memory.new out.new) event.old
         event.new bytes.now result.0 result.1 }
 {

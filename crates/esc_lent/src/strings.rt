@@ -2,13 +2,14 @@
 //! machine.
 #![tactic(auto)]
 
-ghost use Rattle.std.specs.Prelude.{◌≡◌, ◌≢◌, ◌≤◌, ◌<◌, ◌∷◌, [], ℕ, List, false, length, slice_index};
-ghost use Rattle.esc_frame.specs.Events.Event.{EscDispatch};
+ghost use Rattle.std.specs.Prelude.{◌≡◌, ◌≤◌, ◌<◌, [], ℕ, List, false, length};
+ghost use Rattle.esc_frame.specs.Machine.Taking.{OpensOsc};
+ghost use Rattle.esc_lent.specs.Asked.{FedIn};
+ghost use Rattle.esc_lent.specs.Puts.{PutsEscape, PutsText};
 ghost use Rattle.esc_lent.specs.Runs.{Notes, closes_escape};
-ghost use Rattle.esc_lent.specs.Emitted.{is_run, sent, text_of};
-ghost use Rattle.esc_lent.specs.Takes.{IsCountedAs, IsInRoom, NotesText, TakesWhole};
+ghost use Rattle.esc_lent.specs.Takes.{IsInRoom, NotesFinal, NotesSequence, NotesText, TakesWhole};
 
-use crate::event::{ESCAPE, EscEvent, FAILED, NONE, OSC, TEXT};
+use crate::event::{ESCAPE, EscEvent, OSC};
 use crate::numbers::{ESCAPED, GROUND};
 use crate::openers::escape;
 use crate::parser::EscParser;
@@ -19,10 +20,7 @@ use esc_frame::runs::scans::units_run;
 #[inline(always)]
 pub fn put_text(out: &mut [u8], event: &mut EscEvent, kind: u32, text: &[u8])
     requires { length text.now ≤ length out.old }
-    ensures text { text_of event.new out.new ≡ text.now }
-    ensures kind { event.new.kind ≡ kind }
-    ensures length { event.new.length ≡ length text.now }
-    ensures within { IsCountedAs event.new event.old }
+    ensures { PutsText kind text.now out.new event }
 {
     out[..text.len()].copy_from_slice(text);
     event.length = text.len();
@@ -39,9 +37,7 @@ fn note_osc(
     bytes: &[u8],
     event: &mut EscEvent,
 ) -> usize
-    requires some { 2 < length bytes.now }
-    requires escape { slice_index bytes.now 0 ≡ 0x1b }
-    requires bracket { slice_index bytes.now 1 ≡ 0x5d }
+    requires opens { OpensOsc bytes.now }
     requires ground { (parser.old.state ≡ GROUND) × (parser.old.pending ≡ 0) }
     ensures takes { TakesWhole parser event bytes.now result
         (Notes parser.old parser.new event.new out.new limit) }
@@ -66,13 +62,11 @@ fn note_osc(
 // The final byte of an escape sequence without intermediates, where it opens nothing.
 #[inline(always)]
 fn note_final(parser: &mut EscParser, bytes: &[u8], event: &mut EscEvent) -> usize
-    requires some { 0 < length bytes.now }
-    requires state { parser.old.state ≡ ESCAPED }
+    requires { FedIn ESCAPED parser.old bytes.now }
     ensures few { result ≤ 1 }
     ensures takes { TakesWhole parser event bytes.now result (λ x. (out : List ℕ) (limit : ℕ)
         → Notes parser.old parser.new event.new out limit x) }
-    ensures some { 0 < result → (event.new.kind ≡ ESCAPE) × (event.new.kept ≡ 0) }
-    ensures within { (event.new.count ≡ event.old.count) × (event.new.length ≡ event.old.length) }
+    ensures noted { NotesFinal event (0 < result) }
 {
     if parser.kept > 0 {
         return 0;
@@ -108,9 +102,7 @@ fn closes_escape(class: Class) -> bool
 // An escape sequence of an ESC and this byte.
 #[inline(always)]
 fn put_final(event: &mut EscEvent, byte: u8)
-    ensures said { (out : List ℕ) → sent event.new out ≡ EscDispatch [] false byte ∷ [] }
-    ensures some { (event.new.kind ≡ ESCAPE) × (event.new.kept ≡ 0) }
-    ensures within { (event.new.count ≡ event.old.count) × (event.new.length ≡ event.old.length) }
+    ensures { PutsEscape [] false byte event }
 {
     event.kind = ESCAPE;
     event.kept = 0;
@@ -132,9 +124,7 @@ pub fn note_string(
     requires within { IsInRoom event.old (length out.old) }
     ensures takes { TakesWhole parser event bytes.now result
         (Notes parser.old parser.new event.new out.new limit) }
-    ensures some { 0 < result → (event.new.kind ≢ NONE) × (event.new.kind ≢ TEXT)
-        × (event.new.kind < FAILED) × (is_run event.new.kind ≡ false) }
-    ensures within { IsInRoom event.new (length out.old) }
+    ensures noted { NotesSequence event.new (length out.old) (0 < result) }
 {
     if parser.state == 1 {
         return note_final(parser, bytes, event);

@@ -14,8 +14,8 @@ returns-then-parser-eq-MALFORMED-clause-takes c = record {
       let high : b ≤ 0x7e = grind (arith, nat_tests, c.requires.ends) in
       let r = c.close.new.parser in
       malformed_notes c.args.parser.now (record r { state = 0; pending = 0 }) c.args.event.now b
-      c.requires.state low high refl refl
-      (sym c.close.ensures.same.0 ∙ c.if-parser-eq-MALFORMED.true) c.requires.none;
+      c.requires.asked.state low high refl refl
+      (sym c.close.ensures.same.0 ∙ c.if-parser-eq-MALFORMED.true) c.requires.asked.fresh.none;
 }
 
 pub returns-clause-takes : goal.returns-clause-takes
@@ -34,7 +34,7 @@ returns-clause-takes c = record {
         has_more = r.is_truncated;
         byte = b;
         kind = 5;
-      }) b c.requires.state low high refl refl r
+      }) b c.requires.asked.state low high refl refl r
       (λ e. c.if-parser-eq-MALFORMED.false (c.close.ensures.same.0 ∙ e))
       c.close.ensures.first refl c.min-count.ensures
       (subst (λ k. take k c.copy_params.new.csi_params ≡ take k r.csi_params) c.min-count.ensures

@@ -8,7 +8,7 @@ returns-then-lies_from-clause-takes c = record {
   queued = search rules;
   notes = λ yes.
       nothing_noted c.args.parser.now c.push.new.parser c.args.event.now (c.args.byte ∷ [])
-      c.requires.none
+      c.requires.fresh.none
       (body_passes c.args.parser.now c.push.new.parser c.args.byte c.requires.state
       (ap (λ q. q.state) c.push.ensures.same) (sym c.lies_from.ensures ∙ c.if-lies_from.true)
       c.push.ensures.body);

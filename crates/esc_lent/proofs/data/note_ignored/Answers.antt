@@ -1,4 +1,4 @@
-use Rattle.std.proofs.Common.{sym, subst}
+use Rattle.std.proofs.Common.{rules, sym, subst}
 use Rattle.esc_frame.specs.Scans.{is_text_byte}
 use Rattle.esc_frame.proofs.StringRuns.{prefix_passes}
 use Rattle.esc_lent.specs.Runs.{Passes}
@@ -6,13 +6,23 @@ use Rattle.esc_lent.proofs.DataBytes.{skip_passes, text_goes_on}
 use Rattle.esc_lent.proofs.OneByte.{first_taken}
 use Rattle.esc_lent.proofs.data.note_ignored.Goals as goal
 
-pub returns-then-run-gt0-clause-passes : goal.returns-then-run-gt0-clause-passes
-returns-then-run-gt0-clause-passes c = λ some.
-    skip_passes is_text_byte text_goes_on c.args.parser.now c.requires.state _
-    (prefix_passes c.args.bytes.now c.ascii_run-run.result c.ascii_run-run.ensures.run)
+pub returns-then-run-gt0 : goal.returns-then-run-gt0
+returns-then-run-gt0 c = record {
+  few = search rules;
+  none = search rules;
+  queued = search rules;
+  passes = λ some.
+      skip_passes is_text_byte text_goes_on c.args.parser.now c.requires.state _
+      (prefix_passes c.args.bytes.now c.ascii_run-run.result c.ascii_run-run.ensures.run);
+}
 
-pub returns-then-skip_one-clause-passes : goal.returns-then-skip_one-clause-passes
-returns-then-skip_one-clause-passes c = λ some.
-    subst (Passes c.args.parser.now c.skip_one.new.parser)
-    (sym (first_taken c.args.bytes.now c.requires.some))
-    (c.skip_one.ensures.passes c.if-skip_one.true)
+pub returns-then-skip_one : goal.returns-then-skip_one
+returns-then-skip_one c = record {
+  few = search rules;
+  none = search rules;
+  queued = search rules;
+  passes = λ some.
+      subst (Passes c.args.parser.now c.skip_one.new.parser)
+      (sym (first_taken c.args.bytes.now c.requires.some))
+      (c.skip_one.ensures.passes c.if-skip_one.true);
+}

@@ -11,7 +11,7 @@ returns-in-Intermediate-clause-takes c = record {
       let p = c.args.parser.now in
       let q = c.push_intermediate.new.parser in
       let b = c.args.byte in
-      nothing_noted p q c.args.event.now (b ∷ []) c.requires.none
+      nothing_noted p q c.args.event.now (b ∷ []) c.requires.fresh.none
       (intermediate_passes p q b c.requires.state
       (ap (λ q. q.state) c.push_intermediate.ensures.same)
       (sym c.classify.ensures ∙ c.in-Intermediate.is) c.push_intermediate.ensures.first);

@@ -15,7 +15,8 @@ returns-then-parser-eq-MALFORMED-clause-takes c = record {
       let high : b ≤ 0x7e = grind (arith, nat_tests, c.requires.ends) in
       let p = c.args.parser.now in
       malformed_steps p (record p { state = 6 }) c.args.event.now c.args.memory.now c.args.out.now b
-      c.requires.state low high c.if-parser-eq-MALFORMED.true refl c.requires.none;
+      c.requires.asked.state low high c.if-parser-eq-MALFORMED.true refl
+      c.requires.asked.fresh.none;
 }
 
 pub returns-clause-takes : goal.returns-clause-takes
@@ -32,8 +33,8 @@ returns-clause-takes c = record {
       let put = c.put_header.ensures.event in
       let text : text_of e out ≡ take p.text c.args.memory.now =
       ap (λ f. text_of f out) put ∙ c.put_text.ensures.text in
-      hook_steps p (record p { state = 5 }) e c.args.memory.now out b c.requires.state low high
-      c.if-parser.false c.if-parser-eq-MALFORMED.false refl
+      hook_steps p (record p { state = 5 }) e c.args.memory.now out b c.requires.asked.state low
+      high c.if-parser.false c.if-parser-eq-MALFORMED.false refl
       (ap (λ f. f.kind) put ∙ c.put_text.ensures.kind) (ap (λ f. f.byte) put) text
       (ap (λ f. f.intermediates) put) c.put_header.ensures.kept (ap (λ f. f.has_more) put);
 }

@@ -12,7 +12,7 @@ returns-in-C0-clause-takes c = record {
       let noise : is_noise k ≡ true = search (rules, c.in-C0.is) in
       let r = header_noise c.args.parser.now c.args.memory.now c.args.byte k c.requires.state
       c.classify.ensures noise u h in
-      (r.0, rw c.requires.none (sym r.1));
+      (r.0, rw c.requires.fresh.none (sym r.1));
 }
 
 pub returns-in-Breaks-clause-takes : goal.returns-in-Breaks-clause-takes

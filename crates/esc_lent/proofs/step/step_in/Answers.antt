@@ -12,10 +12,10 @@ pub returns-clause-step : goal.returns-clause-step
 returns-clause-step g c =
     let old = c.listen-recorder.result in
     let new = c.take_some.new.actor in
-    let room = c.requires.room in
-    let place = c.requires.place in
-    let kind : old.event.now.kind ≡ 0 = ap (λ x. x.kind) c.listen-recorder.ensures.event
-    ∙ c.requires.none in
+    let room = c.requires.lent.size in
+    let place = c.requires.lent.noting.size in
+    let kind : old.event.now.kind ≡ 0 = ap (λ x. x.kind) c.listen-recorder.ensures.now.1
+    ∙ c.requires.asked.none in
     let limit = c.load-machine.result.limit in
     let same = c.load-machine.ensures.limit in
     let n = c.taken_of-taken.result.0 in
@@ -54,7 +54,7 @@ returns-clause-step g c =
           let fits = subst (λ r. r ≤ g.N.Named.place) room
           (subst (λ p. length c.args.memory.now ≤ p) place less) in
           let before = subst (λ p. IsSound old.event.now p) place
-          (subst (λ e. IsSound e (length c.args.out.now)) (sym c.listen-recorder.ensures.event)
+          (subst (λ e. IsSound e (length c.args.out.now)) (sym c.listen-recorder.ensures.now.1)
           bounds) in
           let k = took_sound (λ limit k t. KeepsBorrowed limit k.is_over k.count k.memory.now t)
           (λ s. s.event.now) (λ s. s.out.now) (λ s. s.queued_kind) (λ s. s.queued_value)

@@ -28,9 +28,8 @@ returns-then-bytes-run-eq27-clause-takes c = record {
       let back : run + 2 - 2 ≡ run = omega arith in
       let text : text_of c.put_text.new.event c.put_text.new.out ≡ take run (drop 2 bs) =
       c.put_text.ensures.text ∙ ap (λ n. take n (drop 2 bs)) back in
-      let ends = escape_ends (Some limit) bs run c.requires.some c.requires.escape
-      c.requires.bracket
-      units room fits c.if-bytes-run-eq27.true in
+      let ends = escape_ends (Some limit) bs run c.requires.opens.some
+      c.requires.opens.escape c.requires.opens.second units room fits c.if-bytes-run-eq27.true in
       let s = c.escape.ensures.state in
       from_ground p q c.put_text.new.event c.put_text.new.out limit (take (run + 3) bs)
       (InEscape [])
@@ -59,8 +58,8 @@ returns-then-bytes-run-eq7-clause-takes c = record {
       let back : run + 2 - 2 ≡ run = omega arith in
       let text : text_of put.new.event put.new.out ≡ take run (drop 2 bs) =
       put.ensures.text ∙ ap (λ n. take n (drop 2 bs)) back in
-      let ends = bell_ends (Some limit) bs run c.requires.some c.requires.escape c.requires.bracket
-      units room fits c.if-bytes-run-eq7.true in
+      let ends = bell_ends (Some limit) bs run c.requires.opens.some c.requires.opens.escape
+      c.requires.opens.second units room fits c.if-bytes-run-eq7.true in
       from_ground p p put.new.event put.new.out limit (take (run + 3) bs) Ground c.requires.ground.0
       c.requires.ground.1 ends.0
       (osc_said put.new.event put.new.out _ put.ensures.kind text ∙ sym ends.1) (λ memory.
