@@ -8,12 +8,21 @@ use Rattle.std.specs.Str.{IsAscii}
 use Rattle.std.specs.List.{list_all}
 use Rattle.std.proofs.lemmas.Bool.{and_parts}
 use Rattle.std.proofs.lemmas.List.Folds.{list_all-append}
+use Rattle.esc_sixel.specs.Putting.{Puts}
 use Rattle.esc_sixel.specs.Texts.{content_text, data_text, is_sixel}
 use Rattle.esc_sixel.specs.declared.sixel_data.SixelData.{SixelData}
 
 pub zeros_ascii : (n : ℕ) → IsAscii (replicate n 0)
 zeros_ascii zero = IsAscii-nil
 zeros_ascii (suc n) = IsAscii-cons 0 (replicate n 0) (omega arith) (zeros_ascii n)
+
+-- one text put after another
+pub puts_more : (old mid new : List ℕ) (at to end : ℕ) (x y : List ℕ) → Puts old at x mid to
+    → Puts mid to y new end → Puts old at (x ++ y) new end
+puts_more old mid new at to end x y p q = record {
+  ascii = q.ascii;
+  text = q.text ∙ ap (λ t. t ++ y) p.text ∙ append_assoc (take at old) x y;
+}
 
 -- data whose text is appended goes on
 pub text_more : (old before after run : List ℕ) (ds : List SixelData) (at n : ℕ)

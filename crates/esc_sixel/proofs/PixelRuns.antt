@@ -11,6 +11,7 @@ use Rattle.std.proofs.lemmas.List.Elements.{All-from_get_or, All-append, All-nil
 use Rattle.std.proofs.Math.Seq.{take-add, set-append_seam}
 use Rattle.std.proofs.lemmas.Simd.{map-map, mask_l-mod, first_set_mask_l, chunk-fits, length-chunk}
 use lib.Lanes.{Each1, mask_l, top}
+use Rattle.esc_sixel.specs.Appending.{BeginsWithPixels}
 use Rattle.esc_sixel.specs.Classes.{class_of, is_pixels, IsPixels, lowest}
 use Rattle.esc_sixel.specs.Meaning.{drawn}
 use Rattle.esc_sixel.specs.declared.class.Class.TheVariants.{Pixels}
@@ -169,7 +170,9 @@ drawn_one items before after xs at v lt e is f =
     ∙ ap (λ t. items ++ drawn t) (sym (take_more xs at 0 lt))
 
 -- some of a run, and one of it
-pub some_pixels : (xs : List ℕ) (at n : ℕ) → All IsPixels xs
-    → All IsPixels (take n (take (length xs - at) (drop at xs)))
-some_pixels xs at n h =
-    All-take IsPixels n _ (All-take IsPixels (length xs - at) _ (All-drop IsPixels at xs h))
+pub some_pixels : (xs : List ℕ) (at n : ℕ) → at + n ≤ length xs → All IsPixels xs
+    → BeginsWithPixels n (take (length xs - at) (drop at xs))
+some_pixels xs at n within h = record {
+  room = omega (arith, length-take (length xs - at) (drop at xs), length-drop at xs);
+  pixels = All-take IsPixels n _ (All-take IsPixels (length xs - at) _ (All-drop IsPixels at xs h));
+}

@@ -14,6 +14,7 @@ use Rattle.esc_sixel.specs.Runs.{Keeps, param, separators, more_digit, more_digi
 use Rattle.esc_sixel.proofs.DigitRuns.{digits_written}
 use Rattle.esc_sixel.specs.Meaning.{color_of, drawn, repeat_of}
 use Rattle.esc_sixel.specs.Steps.{LeadsTo, Pushes, HoldsOpen, Closed, closed_of, open_of, with_items, alone, opened}
+use Rattle.esc_sixel.specs.Taking.{with_data}
 use Rattle.esc_sixel.specs.declared.builder.SixelBuilder.{SixelBuilder}
 use Rattle.esc_sixel.specs.declared.class.Class.{Class}
 use Rattle.esc_sixel.specs.declared.class.Class.TheVariants.{Introduces, Line, Pixels, Return}
@@ -62,10 +63,6 @@ run_leads ps s [] p q e h =
 run_leads ps s (b ∷ bs) p q (j, one, rest) h =
     subst (λ t. LeadsTo ps t q) (append_assoc s (b ∷ []) bs)
     (run_leads ps (s ++ b ∷ []) bs j q rest (one ps s h))
-
--- the image with one more piece of data
-abbrev pub with_data : {A : Type 0} → Sixel A → SixelData → Sixel A
-with_data s d = record s { content = s.content ++ d ∷ [] }
 
 -- six pixels outside a command
 abbrev pub with_drawn : {A : Type 0} → SixelBuilder A → List ℕ → SixelBuilder A

@@ -1,9 +1,12 @@
+pub mod Appending
 pub mod Classes
 pub mod Dimensions
 pub mod Items
 pub mod Lines
 pub mod Meaning
+pub mod Putting
 pub mod Runs
 pub mod Steps
+pub mod Taking
 pub mod Texts
 pub mod Writable

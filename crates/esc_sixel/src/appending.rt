@@ -5,6 +5,7 @@ ghost use Rattle.std.specs.Fmt.{decimal};
 ghost use Rattle.std.specs.List.{list_all};
 ghost use Rattle.std.specs.Str.{IsAscii};
 ghost use Rattle.memory.specs.Refusals.{Refused};
+ghost use Rattle.esc_sixel.specs.Putting.{HasRoom, Puts};
 ghost use Rattle.esc_sixel.specs.Texts.{content_text, data_text, is_sixel, sixel_text};
 
 use crate::sixel::Sixel;
@@ -55,9 +56,8 @@ fn append_content<B: Allocator>(content: &[SixelData], text: &mut Text<B>) -> Re
 // it. Returns how much data that is, and how many bytes.
 pub(crate) fn gather(content: &[SixelData], bytes: &mut [u8; ROOM]) -> (usize, usize)
     requires { IsAscii bytes.old }
-    ensures ascii { IsAscii bytes.new }
     ensures within { (result.0 ≤ length content.now) × (result.1 ≤ 128) }
-    ensures text { take result.1 bytes.new ≡ content_text (take result.0 content.now) }
+    ensures puts { Puts bytes.old 0 (content_text (take result.0 content.now)) bytes.new result.1 }
     ensures none { result.0 ≡ 0 → 0 < length content.now → list_all is_sixel content.now ≡ false }
 {
     let mut count = 0;
@@ -84,13 +84,10 @@ pub(crate) fn gather(content: &[SixelData], bytes: &mut [u8; ROOM]) -> (usize, u
 // them, and returns how many these are.
 #[inline(always)]
 fn put_pixels(bytes: &mut [u8; ROOM], at: usize, content: &[SixelData]) -> usize
-    requires room { at ≤ 128 }
-    requires ascii { IsAscii bytes.old }
-    ensures ascii { IsAscii bytes.new }
-    ensures room { at + result ≤ 128 }
-    ensures count { result ≤ length content.now }
-    ensures text { take (at + result) bytes.new
-        ≡ take at bytes.old ++ content_text (take result content.now) }
+    requires { HasRoom bytes.old at 0 }
+    ensures within { (at + result ≤ 128) × (result ≤ length content.now) }
+    ensures puts { Puts bytes.old at (content_text (take result content.now)) bytes.new
+        (at + result) }
 {
     let most = content.len().min(ROOM - at);
     let mut count = 0;
@@ -110,11 +107,9 @@ fn put_pixels(bytes: &mut [u8; ROOM], at: usize, content: &[SixelData]) -> usize
 // value is over 63.
 #[inline]
 pub(crate) fn put(bytes: &mut [u8; ROOM], at: usize, item: SixelData) -> Option<usize>
-    requires room { at ≤ 82 }
-    requires ascii { IsAscii bytes.old }
-    ensures ascii { IsAscii bytes.new }
-    ensures text { IfSome result (λ e. (e ≤ 128)
-        × (take e bytes.new ≡ take at bytes.old ++ data_text item)) }
+    requires { HasRoom bytes.old at 46 }
+    ensures puts { IfSome result (λ e. (e ≤ 128)
+        × Puts bytes.old at (data_text item) bytes.new e) }
     ensures fits { is_some result ≡ is_sixel item }
     ensures none { IsNone result → bytes.new ≡ bytes.old }
 {
@@ -166,14 +161,12 @@ fn put_color(
     system: u8,
     color: (u32, u32, u32),
 ) -> usize
-    requires room { at ≤ 82 }
+    requires room { HasRoom bytes.old at 46 }
     requires small { system < 128 }
-    requires ascii { IsAscii bytes.old }
-    ensures ascii { IsAscii bytes.new }
     ensures few { result ≤ at + 46 }
-    ensures text { take result bytes.new ≡ take at bytes.old ++ 0x23 ∷ (decimal number
+    ensures puts { Puts bytes.old at (0x23 ∷ (decimal number
         ++ 0x3b ∷ system ∷ 0x3b ∷ (decimal color.0
-        ++ 0x3b ∷ (decimal color.1 ++ 0x3b ∷ decimal color.2))) }
+        ++ 0x3b ∷ (decimal color.1 ++ 0x3b ∷ decimal color.2)))) bytes.new result }
 {
     let at = put_byte(bytes, at, b'#');
     let at = put_number(bytes, at, u32::from(number));
@@ -186,11 +179,9 @@ fn put_color(
 
 // Puts a parameter, with the `;` before it.
 fn put_parameter(bytes: &mut [u8; ROOM], at: usize, number: u32) -> usize
-    requires room { at ≤ 117 }
-    requires ascii { IsAscii bytes.old }
-    ensures ascii { IsAscii bytes.new }
+    requires { HasRoom bytes.old at 11 }
     ensures few { result ≤ at + 11 }
-    ensures text { take result bytes.new ≡ take at bytes.old ++ 0x3b ∷ decimal number }
+    ensures puts { Puts bytes.old at (0x3b ∷ decimal number) bytes.new result }
 {
     let at = put_byte(bytes, at, b';');
     put_number(bytes, at, number)
@@ -198,12 +189,10 @@ fn put_parameter(bytes: &mut [u8; ROOM], at: usize, number: u32) -> usize
 
 // Puts a number at this place, and returns the place after it.
 fn put_number(bytes: &mut [u8; ROOM], at: usize, number: u32) -> usize
-    requires room { at ≤ 118 }
-    requires ascii { IsAscii bytes.old }
-    ensures ascii { IsAscii bytes.new }
+    requires { HasRoom bytes.old at 10 }
     ensures place { result ≡ at + length (decimal number) }
     ensures few { result ≤ at + 10 }
-    ensures text { take result bytes.new ≡ take at bytes.old ++ decimal number }
+    ensures puts { Puts bytes.old at (decimal number) bytes.new result }
 {
     if number < 10 {
         return put_byte(bytes, at, 48 + number as u8);
@@ -215,12 +204,10 @@ fn put_number(bytes: &mut [u8; ROOM], at: usize, number: u32) -> usize
 // Puts a byte at this place, and returns the place after it.
 #[inline(always)]
 fn put_byte(bytes: &mut [u8; ROOM], at: usize, byte: u8) -> usize
-    requires room { at < 128 }
+    requires room { HasRoom bytes.old at 1 }
     requires small { byte < 128 }
-    requires ascii { IsAscii bytes.old }
-    ensures ascii { IsAscii bytes.new }
     ensures place { result ≡ at + 1 }
-    ensures text { take result bytes.new ≡ take at bytes.old ++ byte ∷ [] }
+    ensures puts { Puts bytes.old at (byte ∷ []) bytes.new result }
 {
     bytes[at] = byte;
     at + 1

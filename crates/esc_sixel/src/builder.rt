@@ -1,5 +1,5 @@
 //! How a sixel string is read, byte by byte.
-ghost use Rattle.std.specs.Prelude.{◌≡◌, ◌<◌, ◌≤◌, IfOk, IfSome, ℕ, ℤ, get_or, length, take, List, [], ◌∷◌, ◌++◌, OnOk, OnErr, Some, None, false, true};
+ghost use Rattle.std.specs.Prelude.{◌≡◌, ◌<◌, ◌≤◌, IfOk, IfSome, ℕ, ℤ, length, take, List, [], ◌∷◌, ◌++◌, OnOk, OnErr, Some, None, false, true};
 ghost use Rattle.std.specs.List.{FoldsTo, slice_get};
 ghost use Rattle.std.specs.Option.{is_some};
 ghost use Rattle.memory.specs.Refusals.{Refused};
@@ -9,7 +9,8 @@ ghost use Rattle.esc_sixel.specs.Meaning.{sixel_of, header_pan, is_one};
 ghost use Rattle.esc_sixel.specs.Runs.{Keeps};
 ghost use Rattle.esc_sixel.specs.declared.class.Class.TheVariants.{Pixels};
 ghost use Rattle.esc_sixel.specs.Steps.{add_to, ended, alone, LeadsTo, HoldsOpen, In, Pushes, closed_by, open_by, opened, with_item, with_items};
-ghost use Rattle.esc_sixel.specs.Steps.{gives_at_end, is_data, wants_memory};
+ghost use Rattle.esc_sixel.specs.Steps.{Closed, gives_at_end, is_data, wants_memory};
+ghost use Rattle.esc_sixel.specs.Taking.{AreOutside, ComesOutside, TakesFirst, with_piece};
 ghost use Rattle.esc_sixel.specs.declared.introducer.Introducer.TheVariants.{Color};
 
 use crate::class::{Class, classify};
@@ -153,8 +154,7 @@ impl<A: Allocator> SixelBuilder<A> {
     #[inline(always)]
     fn push_some(&mut self, rest: &[u8]) -> Result<usize, AllocError>
         requires { 0 < length rest.now }
-        ensures ok { IfOk result (λ n. (0 < n) × (n ≤ length rest.now)
-            × FoldsTo Pushes self.old (take n rest.now) self.new) }
+        ensures ok { IfOk result (λ n. TakesFirst self.old rest.now n self.new) }
         ensures err { OnErr result (self.new ≡ self.old) }
         ensures refused { OnErr result (Refused A) }
     {
@@ -212,11 +212,8 @@ impl<A: Allocator> SixelBuilder<A> {
     // up to four digits, else the `#`; returns how many bytes it took.
     #[inline(always)]
     fn push_selected(&mut self, rest: &[u8]) -> Result<usize, AllocError>
-        requires bytes { 0 < length rest.now }
-        requires begins { get_or rest.now 0 0 ≡ 0x23 }
-        requires closed { self.old.introducer ≡ None }
-        ensures ok { IfOk result (λ n. (0 < n) × (n ≤ length rest.now)
-            × FoldsTo Pushes self.old (take n rest.now) self.new) }
+        requires { ComesOutside self.old 0x23 rest.now }
+        ensures ok { IfOk result (λ n. TakesFirst self.old rest.now n self.new) }
         ensures err { OnErr result (self.new ≡ self.old) }
         ensures refused { OnErr result (Refused A) }
     {
@@ -249,15 +246,9 @@ impl<A: Allocator> SixelBuilder<A> {
     // first. Gives the pixels, and how many bytes these are.
     #[inline(always)]
     fn repeated(&self, rest: &[u8]) -> Option<(SixelData, usize)>
-        requires bytes { 0 < length rest.now }
-        requires closed { self.now.introducer ≡ None }
-        ensures some { IfSome result (λ r. 0 < r.1) }
-        ensures few { IfSome result (λ r. r.1 ≤ length rest.now) }
-        ensures pushes { IfSome result (λ r. FoldsTo Pushes self.now (take r.1 rest.now)
-            (record self.now {
-              sixel =
-                  record self.now.sixel { content = self.now.sixel.content ++ r.0 ∷ [] };
-            })) }
+        requires { AreOutside self.now rest.now }
+        ensures { IfSome result (λ r. TakesFirst self.now rest.now r.1
+            (with_piece self.now r.0)) }
     {
         if rest[0] != b'!' {
             return None;
@@ -279,13 +270,8 @@ impl<A: Allocator> SixelBuilder<A> {
     // another `#`, where these come first. Gives the colour, and how many bytes these are.
     #[inline(always)]
     fn defined(&self, rest: &[u8]) -> Option<(SixelData, usize)>
-        ensures some { IfSome result (λ r. 0 < r.1) }
-        ensures few { IfSome result (λ r. r.1 ≤ length rest.now) }
-        ensures pushes { IfSome result (λ r. FoldsTo Pushes self.now (take r.1 rest.now)
-            (record self.now {
-              sixel =
-                  record self.now.sixel { content = self.now.sixel.content ++ r.0 ∷ [] };
-            })) }
+        ensures { IfSome result (λ r. TakesFirst self.now rest.now r.1
+            (with_piece self.now r.0)) }
     {
         let Some(Introducer::Color) = self.introducer else {
             return None;
@@ -488,8 +474,7 @@ impl<A: Allocator> SixelBuilder<A> {
     // A byte outside a command.
     #[inline(always)]
     fn push_alone(&mut self, byte: u8) -> Result<(), AllocError>
-        requires { self.old.introducer ≡ None }
-        ensures ok { (b : ℕ)
+        ensures ok { (b : ℕ) → HoldsOpen Closed self.old.introducer self.old.parameters
             → OnOk result ((self.new.sixel ≡ with_items self.old.sixel (alone (class_of byte) b))
             × HoldsOpen (opened (class_of byte)) self.new.introducer self.new.parameters) }
         ensures err { OnErr result (self.new ≡ self.old) }

@@ -2,6 +2,7 @@
 ghost use Rattle.std.specs.Prelude.{◌≡◌, ◌<◌, ◌≤◌, ◌+◌, ◌++◌, ◌∷◌, [], length, map, take, drop, IfSome, OnOk, OnErr, vec_len, vec_capacity};
 ghost use Rattle.std.specs.List.{All};
 ghost use Rattle.memory.specs.Refusals.{Refused};
+ghost use Rattle.esc_sixel.specs.Appending.{Appends, BeginsWithPixels};
 ghost use Rattle.esc_sixel.specs.Classes.{IsPixels, lowest};
 ghost use Rattle.esc_sixel.specs.Lines.{Ends};
 ghost use Rattle.esc_sixel.specs.Meaning.{drawn};
@@ -65,9 +66,7 @@ pub(crate) fn pixels_run(bytes: &[u8]) -> usize
 #[inline(always)]
 fn put<A: Allocator>(vec: &mut Vec<SixelData, A>, value: u8)
     requires { vec_len vec.old < vec_capacity vec.old }
-    ensures items { vec.new.items ≡ vec.old.items ++ Data value ∷ [] }
-    ensures len { vec_len vec.new ≡ vec_len vec.old + 1 }
-    ensures capacity { vec_capacity vec.new ≡ vec_capacity vec.old }
+    ensures { Appends vec.old 1 (Data value ∷ []) vec.new }
 {
     let len = vec.len();
     vec.push_reserved(SixelData::Data(0));
@@ -79,8 +78,7 @@ fn put<A: Allocator>(vec: &mut Vec<SixelData, A>, value: u8)
 // Eight bytes as pixels.
 #[inline(always)]
 fn values_of(block: &[u8]) -> [u8; 8]
-    requires room { 8 ≤ length block.now }
-    requires pixels { All IsPixels (take 8 block.now) }
+    requires { BeginsWithPixels 8 block.now }
     ensures { map Data result ≡ drawn (take 8 block.now) }
 {
     (u8x8::from_slice(block) - u8x8::splat(0x3f)).to_array()
@@ -89,8 +87,7 @@ fn values_of(block: &[u8]) -> [u8; 8]
 // Four bytes as pixels.
 #[inline(always)]
 fn four_values_of(block: &[u8]) -> [u8; 4]
-    requires room { 4 ≤ length block.now }
-    requires pixels { All IsPixels (take 4 block.now) }
+    requires { BeginsWithPixels 4 block.now }
     ensures { map Data result ≡ drawn (take 4 block.now) }
 {
     (u8x4::from_slice(block) - u8x4::splat(0x3f)).to_array()
@@ -100,9 +97,7 @@ fn four_values_of(block: &[u8]) -> [u8; 4]
 #[inline(always)]
 fn put_four<A: Allocator>(vec: &mut Vec<SixelData, A>, values: [u8; 4])
     requires { vec_len vec.old + 4 ≤ vec_capacity vec.old }
-    ensures items { vec.new.items ≡ vec.old.items ++ map Data values }
-    ensures len { vec_len vec.new ≡ vec_len vec.old + 4 }
-    ensures capacity { vec_capacity vec.new ≡ vec_capacity vec.old }
+    ensures { Appends vec.old 4 (map Data values) vec.new }
 {
     put(vec, values[0]);
     put(vec, values[1]);
@@ -114,9 +109,7 @@ fn put_four<A: Allocator>(vec: &mut Vec<SixelData, A>, values: [u8; 4])
 #[inline(always)]
 fn put_block<A: Allocator>(vec: &mut Vec<SixelData, A>, values: [u8; 8])
     requires { vec_len vec.old + 8 ≤ vec_capacity vec.old }
-    ensures items { vec.new.items ≡ vec.old.items ++ map Data values }
-    ensures len { vec_len vec.new ≡ vec_len vec.old + 8 }
-    ensures capacity { vec_capacity vec.new ≡ vec_capacity vec.old }
+    ensures { Appends vec.old 8 (map Data values) vec.new }
 {
     put_four(vec, [values[0], values[1], values[2], values[3]]);
     put_four(vec, [values[4], values[5], values[6], values[7]]);
@@ -126,11 +119,8 @@ fn put_block<A: Allocator>(vec: &mut Vec<SixelData, A>, values: [u8; 8])
 #[inline(always)]
 fn put_two<A: Allocator>(vec: &mut Vec<SixelData, A>, block: &[u8])
     requires room { vec_len vec.old + 2 ≤ vec_capacity vec.old }
-    requires block { 2 ≤ length block.now }
-    requires pixels { All IsPixels (take 2 block.now) }
-    ensures items { vec.new.items ≡ vec.old.items ++ drawn (take 2 block.now) }
-    ensures len { vec_len vec.new ≡ vec_len vec.old + 2 }
-    ensures capacity { vec_capacity vec.new ≡ vec_capacity vec.old }
+    requires pixels { BeginsWithPixels 2 block.now }
+    ensures { Appends vec.old 2 (drawn (take 2 block.now)) vec.new }
 {
     put(vec, block[0] - 0x3f);
     put(vec, block[1] - 0x3f);

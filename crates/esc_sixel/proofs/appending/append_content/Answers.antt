@@ -9,10 +9,10 @@ pub runs-preserved : goal.runs-preserved
 runs-preserved g c = (
   omega arith,
   (
-    c.gather-count.ensures.ascii,
+    c.gather-count.ensures.puts.ascii,
     text_more c.args.text.now c.runs.text c.push_str.new.self c.as_str.result.now
         c.args.content.now c.runs.at c.gather-count.result.0 c.runs.invariant.1.1
-        c.in_ok-push_str.ensures.ok (c.as_str.ensures ∙ c.gather-count.ensures.text),
+        c.in_ok-push_str.ensures.ok (c.as_str.ensures ∙ c.gather-count.ensures.puts.text),
   ),
 )
 

@@ -1,4 +1,5 @@
-use Rattle.std.proofs.Common.{◌+◌, ◌++◌, ◌∙◌, [], ap, refl, arith, take}
+use Rattle.std.proofs.Common.{◌+◌, ◌++◌, ◌∙◌, [], ap, refl, arith, subst, sym, take}
+use Rattle.std.specs.Str.{IsAscii}
 use Rattle.esc_sixel.proofs.Gathered.{one_more, text_more}
 use Rattle.esc_sixel.specs.Texts.{data_text}
 use Rattle.esc_sixel.proofs.appending.gather.Goals as goal
@@ -9,25 +10,29 @@ items-preserved c =
     let item = c.index-content-count.result in (
       omega arith,
       (
-        c.in-Some.ensures.text.0,
+        c.in-Some.ensures.puts.0,
         (
-          c.put.ensures.ascii,
-          c.in-Some.ensures.text.1
+          c.in-Some.ensures.puts.1.ascii,
+          c.in-Some.ensures.puts.1.text
               ∙ ap (λ t. t ++ data_text item)
               (text_more [] _ _ _ c.args.content.now c.items.count c.put_pixels-run.result
-              c.items.invariant.1.1.1 c.put_pixels-run.ensures.text refl)
+              c.items.invariant.1.1.1 c.put_pixels-run.ensures.puts.text refl)
               ∙ one_more c.args.content.now at item c.index-content-count.is (omega arith),
         ),
       ),
     )
 
-pub returns-then-count-content-clause-text : goal.returns-then-count-content-clause-text
-returns-then-count-content-clause-text c =
-    text_more [] _ _ _ c.args.content.now c.items.count c.put_pixels-run.result
-    c.items.invariant.1.1.1 c.put_pixels-run.ensures.text refl
+pub returns-then-count-content-clause-puts : goal.returns-then-count-content-clause-puts
+returns-then-count-content-clause-puts c = record {
+  ascii = c.put_pixels-run.ensures.puts.ascii;
+  text = text_more [] _ _ _ c.args.content.now c.items.count c.put_pixels-run.result
+      c.items.invariant.1.1.1 c.put_pixels-run.ensures.puts.text refl;
+}
 
-pub returns-in-None-clause-text : goal.returns-in-None-clause-text
-returns-in-None-clause-text c =
-    ap (take (c.items.end + c.put_pixels-run.result)) (c.in-None.ensures.none refl)
-    ∙ text_more [] _ _ _ c.args.content.now c.items.count c.put_pixels-run.result
-    c.items.invariant.1.1.1 c.put_pixels-run.ensures.text refl
+pub returns-in-None-clause-puts : goal.returns-in-None-clause-puts
+returns-in-None-clause-puts c = record {
+  ascii = subst IsAscii (sym (c.in-None.ensures.none refl)) c.put_pixels-run.ensures.puts.ascii;
+  text = ap (take (c.items.end + c.put_pixels-run.result)) (c.in-None.ensures.none refl)
+      ∙ text_more [] _ _ _ c.args.content.now c.items.count c.put_pixels-run.result
+      c.items.invariant.1.1.1 c.put_pixels-run.ensures.puts.text refl;
+}

@@ -48,15 +48,17 @@ loop-at-preserved g c = record {
   room = omega (arith, c.loop-at.invariant.room, c.put.ensures.len, c.put.ensures.capacity);
 }
 
-pub values_of-requires-clause-pixels : goal.values_of-requires-clause-pixels
-values_of-requires-clause-pixels g c = some_pixels c.args.run.now c.by_block.at 8 c.requires.pixels
+pub values_of-requires : goal.values_of-requires
+values_of-requires g c = some_pixels c.args.run.now c.by_block.at 8
+    (omega (arith, c.by_block-test.true)) c.requires.pixels
 
-pub four_values_of-requires-clause-pixels : goal.four_values_of-requires-clause-pixels
-four_values_of-requires-clause-pixels g c =
-    some_pixels c.args.run.now c.by_four.at 4 c.requires.pixels
+pub four_values_of-requires : goal.four_values_of-requires
+four_values_of-requires g c = some_pixels c.args.run.now c.by_four.at 4
+    (omega (arith, c.by_four-test.true)) c.requires.pixels
 
 pub put_two-requires-clause-pixels : goal.put_two-requires-clause-pixels
-put_two-requires-clause-pixels g c = some_pixels c.args.run.now c.by_two.at 2 c.requires.pixels
+put_two-requires-clause-pixels g c = some_pixels c.args.run.now c.by_two.at 2
+    (omega (arith, c.by_two-test.true)) c.requires.pixels
 
 pub returns : goal.returns
 returns g c =

@@ -2,12 +2,16 @@ use Rattle.std.proofs.Common.{◌∙◌, ◌++◌, ap, append-nil, arith, sym}
 use Rattle.esc_sixel.proofs.PixelRuns.{four, put_more}
 use Rattle.esc_sixel.proofs.pixels.put_four.Goals as goal
 
-pub returns-clause-items : goal.returns-clause-items
-returns-clause-items g c =
+pub returns : goal.returns
+returns g c =
     let xs = c.args.vec.now.items in
     let s0 = sym (append-nil xs) in
     let s1 = put_more xs _ _ _ _ s0 c.put.ensures.items in
     let s2 = put_more xs _ _ _ _ s1 c.put-2.ensures.items in
     let s3 = put_more xs _ _ _ _ s2 c.put-3.ensures.items in
     let s4 = put_more xs _ _ _ _ s3 c.put-4.ensures.items in
-    s4 ∙ ap (λ t. xs ++ t) (four c.args.values (omega arith))
+    record {
+      items = s4 ∙ ap (λ t. xs ++ t) (four c.args.values (omega arith));
+      len = omega arith;
+      capacity = omega arith;
+    }

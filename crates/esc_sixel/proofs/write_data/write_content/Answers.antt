@@ -15,12 +15,12 @@ pub runs-preserved : goal.runs-preserved
 runs-preserved g c = (
   omega arith,
   (
-    c.gather-count.ensures.ascii,
+    c.gather-count.ensures.puts.ascii,
     λ plain.
         let so_far = c.runs.invariant.1.1 plain in
         let before = content_text (take c.runs.at c.args.content.now) in
         let run = c.as_str.result.now in
-        let gathered = c.as_str.ensures ∙ c.gather-count.ensures.text in
+        let gathered = c.as_str.ensures ∙ c.gather-count.ensures.puts.text in
         put_two _ _ _ _ before run _ so_far
         (c.in_ok-write_str.ensures.writes so_far.plain (refl {a = true}))
         (text_more [] before (before ++ run) run c.args.content.now c.runs.at

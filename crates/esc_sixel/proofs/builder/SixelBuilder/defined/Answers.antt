@@ -3,14 +3,15 @@ use Rattle.std.specs.List.{FoldsTo}
 use Rattle.esc_sixel.specs.Lines.{fresh}
 use Rattle.esc_sixel.specs.Meaning.{percent}
 use Rattle.esc_sixel.specs.Steps.{Pushes}
+use Rattle.esc_sixel.specs.Taking.{with_piece}
 use Rattle.esc_sixel.specs.declared.sixel_data.SixelData.TheVariants.{DefineColorMapRGB}
 use Rattle.esc_sixel.specs.declared.introducer.Introducer.TheVariants as introducer
 use Rattle.esc_sixel.proofs.Defined.{defines, holding, is_color, made, number_pushed, open_at, opened, renamed, separator_pushed, two_pushed}
-use Rattle.esc_sixel.proofs.Pushed.{color_class, folds_more, folds_one, fresh_keeps, selected_begins, some_taken, with_data}
+use Rattle.esc_sixel.proofs.Pushed.{color_class, folds_more, folds_one, fresh_keeps, selected_begins, some_taken}
 use Rattle.esc_sixel.proofs.builder.SixelBuilder.defined.Goals as goal
 
-pub returns-clause-pushes : goal.returns-clause-pushes
-returns-clause-pushes g c =
+pub returns : goal.returns
+returns g c =
     let p = c.args.self.now in
     let xs = c.args.rest.now in
     let n = c.in-Some.digits in
@@ -92,7 +93,7 @@ returns-clause-pushes g c =
     made number red green blue c.new_8bpc-rgb.result c.channel_of.result c.channel_of-2.result
     c.channel_of-3.result c.new_8bpc-rgb.ensures
     c.channel_of.ensures c.channel_of-2.ensures c.channel_of-3.ensures in
-    let q = record p { sixel = with_data p.sixel d } in
+    let q = with_piece p d in
     let last : FoldsTo Pushes (open_at p fresh) (take (at3 + b + 1) xs) (open_at q fresh) =
     folds_one Pushes (open_at p fresh) xs (at3 + b) (open_at p k8) (open_at q fresh)
     c.in-Some-number_before-3.ensures.within s9
@@ -103,5 +104,9 @@ returns-clause-pushes g c =
     is_color p.introducer c.in-Some-Color.field-0 c.in-Some-Color.is
     (rw c.in-Some-Color.is at c.in-Some-Color.field-0-is) in
     let new : p.parameters ≡ fresh = c.if-not-is_new.ensures refl in
-    renamed p (open_at p fresh) q (open_at q fresh) (take (at3 + b + 1) xs) (opened p started new)
-    (opened q started new) last
+    record {
+      some = omega arith;
+      few = omega (arith, c.in-Some-number_before-3.ensures.within);
+      pushes = renamed p (open_at p fresh) q (open_at q fresh) (take (at3 + b + 1) xs)
+          (opened p started new) (opened q started new) last;
+    }

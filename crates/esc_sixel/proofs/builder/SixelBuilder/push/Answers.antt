@@ -9,7 +9,7 @@ returns-in-None-clause-ok g c = λ ps s h.
     rw (closed_push Closed s c.args.byte, open_push Closed s c.args.byte)
     (after_none ps (closed_of Closed s) (open_of Closed s) (class_of c.args.byte) c.args.byte _ _ _
     _ _ _
-    c.push_alone.result h.0 h.1 c.in-None.is (c.push_alone.ensures.ok c.args.byte))
+    c.push_alone.result h.0 h.1 c.in-None.is (c.push_alone.ensures.ok c.args.byte c.in-None.is))
 
 pub returns-in-Some-clause-ok : goal.returns-in-Some-clause-ok
 unfolding LeadsTo

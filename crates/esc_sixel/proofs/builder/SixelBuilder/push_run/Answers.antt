@@ -1,7 +1,7 @@
 use Rattle.std.proofs.Common.{subst, sym, arith, take}
 use Rattle.std.proofs.lemmas.List.{take_all}
 use Rattle.std.specs.List.{FoldsTo}
-use Rattle.esc_sixel.specs.Steps.{LeadsTo, Pushes}
+use Rattle.esc_sixel.specs.Steps.{Pushes}
 use Rattle.esc_sixel.proofs.Pushed.{folds_more, on_err, run_leads}
 use Rattle.esc_sixel.proofs.builder.SixelBuilder.push_run.Goals as goal
 
@@ -17,9 +17,9 @@ returns-in_err-at-clause-err g c =
 pub loop-at-preserved : goal.loop-at-preserved
 loop-at-preserved g c =
     let taken = c.in_ok-at.ensures.ok in (
-      omega (arith, taken.1),
+      omega (arith, taken.few),
       folds_more Pushes c.args.self.now c.args.bytes.now c.loop-at.at _ c.loop-at.self _
-          c.loop-at.invariant.1 taken.2,
+          c.loop-at.invariant.1 taken.pushes,
     )
 
 pub returns-clause-ok : goal.returns-clause-ok

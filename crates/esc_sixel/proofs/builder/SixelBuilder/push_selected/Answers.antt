@@ -5,11 +5,12 @@ use Rattle.esc_sixel.specs.Lines.{fresh}
 use Rattle.esc_sixel.specs.Meaning.{drawn}
 use Rattle.esc_sixel.specs.Runs.{more_digits}
 use Rattle.esc_sixel.specs.Steps.{Pushes}
+use Rattle.esc_sixel.specs.Taking.{with_data}
 use Rattle.esc_sixel.specs.declared.introducer.Introducer.TheVariants as introducer
 use Rattle.esc_sixel.specs.declared.sixel_data.SixelData.TheVariants.{Repeat, SelectColorMapEntry}
 use Rattle.esc_sixel.proofs.PixelRuns.{is_within}
 use Rattle.esc_sixel.proofs.Pushed.{begins, color_class, digits_pushed, folds_more, folds_one, fresh_keeps, pixels_pushed, repeat_class, repeat_ends, repeats}
-use Rattle.esc_sixel.proofs.Pushed.{selected_begins, selects, some_taken, with_data}
+use Rattle.esc_sixel.proofs.Pushed.{selected_begins, selects, some_taken}
 use Rattle.esc_sixel.proofs.builder.SixelBuilder.push_selected.Goals as goal
 
 pub returns-then-rest-last-le126-clause-ok : goal.returns-then-rest-last-le126-clause-ok
@@ -24,9 +25,9 @@ returns-then-rest-last-le126-clause-ok g c =
     let v = Repeat (get_or xs (1 + n + 1 + m) 0 - 0x3f) c.few_digits-repeat_count.result.0 in
     let p1 = record p { introducer = Some introducer.Color; parameters = fresh } in
     let s1 : FoldsTo Pushes p (take 1 xs) p1 =
-    folds_one Pushes p xs 0 p p1 c.requires.bytes refl
-    (begins p introducer.Color fresh (get_or xs 0 0) c.requires.closed
-    (color_class (get_or xs 0 0) c.requires.begins) fresh_keeps) in
+    folds_one Pushes p xs 0 p p1 c.requires.outside.some refl
+    (begins p introducer.Color fresh (get_or xs 0 0) c.requires.outside.closed
+    (color_class (get_or xs 0 0) c.requires.first) fresh_keeps) in
     let p2 = record p1 { parameters = more_digits fresh ds } in
     let s2 : FoldsTo Pushes p (take (1 + n) xs) p2 =
     folds_more Pushes p xs 1 n p1 p2 s1 (digits_pushed ds p1 p2 introducer.Color refl refl (λ t.
@@ -57,21 +58,23 @@ returns-then-rest-last-le126-clause-ok g c =
     (λ r k. repeats es r _ _ (some_taken m (take (length xs - (1 + n + 1)) (drop (1 + n + 1) xs))
     (omega arith) c.few_digits-repeat_count.ensures.few)
     c.few_digits-repeat_count.ensures.number c.few_digits-repeat_count.ensures.small k) refl
-    c.requires.closed) in
+    c.requires.outside.closed) in
     let run = c.pixels_run-run.result in
     let bs = take run (take (length xs - (1 + n + 1 + m + 1)) (drop (1 + n + 1 + m + 1) xs)) in
     let drawn_after =
     c.in_ok-push_line.ensures.ok ∙ sym (append_assoc p.sixel.content (d ∷ []) (v ∷ drawn bs))
     ∙ sym (append_assoc (p.sixel.content ++ d ∷ []) (v ∷ []) (drawn bs)) in
     let s6 = folds_more Pushes p xs (1 + n + 1 + m + 1) run p5 _ s5
-    (pixels_pushed bs p5 _ c.requires.closed c.pixels_run-run.ensures.run
-    (ap (λ t. record p { sixel = record p.sixel { content = t } }) drawn_after)) in (
-      omega arith,
-      within (1 + n + 1 + m + 1) run c.end_line.result xs (omega (arith, c.if-last-rest.true))
-          c.pixels_run-run.ensures.few c.end_line.ensures.few,
-      folds_more Pushes p xs (1 + n + 1 + m + 1 + run) c.end_line.result _ _ s6
-          c.end_line.ensures.takes,
-    )
+    (pixels_pushed bs p5 _ c.requires.outside.closed c.pixels_run-run.ensures.run
+    (ap (λ t. record p { sixel = record p.sixel { content = t } }) drawn_after)) in
+    record {
+      some = omega arith;
+      few = within (1 + n + 1 + m + 1) run c.end_line.result xs
+          (omega (arith, c.if-last-rest.true))
+          c.pixels_run-run.ensures.few c.end_line.ensures.few;
+      pushes = folds_more Pushes p xs (1 + n + 1 + m + 1 + run) c.end_line.result _ _ s6
+          c.end_line.ensures.takes;
+    }
   where
     within : (at run k : ℕ) (xs : List ℕ) → at ≤ length xs
         → run ≤ length (take (length xs - at) (drop at xs))

@@ -9,8 +9,8 @@ use Rattle.esc_sixel.proofs.PixelRuns.{is_within}
 use Rattle.esc_sixel.proofs.Pushed.{begins, digits_pushed, folds_more, folds_one, fresh_keeps, repeat_class, repeat_ends, repeats, some_taken}
 use Rattle.esc_sixel.proofs.builder.SixelBuilder.repeated.Goals as goal
 
-pub returns-clause-pushes : goal.returns-clause-pushes
-returns-clause-pushes g c =
+pub returns : goal.returns
+returns g c =
     let p = c.args.self.now in
     let xs = c.args.rest.now in
     let n = c.few_digits-repeat_count.result.1 in
@@ -19,7 +19,7 @@ returns-clause-pushes g c =
     let b = get_or xs (1 + n) 0 in
     let p1 = record p { introducer = Some introducer.Repeat; parameters = fresh } in
     let s1 : FoldsTo Pushes p (take 1 xs) p1 =
-    folds_one Pushes p xs 0 p p1 c.requires.bytes refl
+    folds_one Pushes p xs 0 p p1 c.requires.some refl
     (begins p introducer.Repeat fresh (get_or xs 0 0) c.requires.closed
     (repeat_class (get_or xs 0 0) c.if-rest-ne33.false) fresh_keeps) in
     let p2 = record p1 { parameters = more_digits fresh ds } in
@@ -29,7 +29,11 @@ returns-clause-pushes g c =
     omega arith) c.few_digits-repeat_count.ensures.digits refl) in
     let is = is_within b (omega arith) (omega arith) in
     let some = some_taken n tail (omega arith) c.few_digits-repeat_count.ensures.few in
-    folds_one Pushes p xs (1 + n) p2 _ (omega arith) s2
-    (repeat_ends p2 _ b (Repeat (b - 0x3f) c.few_digits-repeat_count.result.0) refl is
-    (λ r k. repeats ds r _ _ some c.few_digits-repeat_count.ensures.number
-    c.few_digits-repeat_count.ensures.small k) refl c.requires.closed)
+    record {
+      some = omega arith;
+      few = omega arith;
+      pushes = folds_one Pushes p xs (1 + n) p2 _ (omega arith) s2
+          (repeat_ends p2 _ b (Repeat (b - 0x3f) c.few_digits-repeat_count.result.0) refl is
+          (λ r k. repeats ds r _ _ some c.few_digits-repeat_count.ensures.number
+          c.few_digits-repeat_count.ensures.small k) refl c.requires.closed);
+    }

@@ -1,0 +1,31 @@
+-- What a builder takes of the bytes that come next. Only private contracts cite it.
+use Rattle.std.specs.Prelude.{ℕ, ◌≡◌, ◌<◌, ◌≤◌, List, [], ◌∷◌, ◌++◌, None, get_or, length, take}
+use Rattle.std.specs.List.{FoldsTo}
+use Rattle.esc_sixel.specs.Steps.{Pushes}
+use Rattle.esc_sixel.specs.declared.builder.SixelBuilder.{SixelBuilder}
+use Rattle.esc_sixel.specs.declared.sixel.Sixel.{Sixel}
+use Rattle.esc_sixel.specs.declared.sixel_data.SixelData.{SixelData}
+
+-- These bytes, one at least, come outside a command.
+pub record AreOutside {A : Type 0} (p : SixelBuilder A) (rest : List ℕ) : Type 0 where
+  pub some : 0 < length rest
+  pub closed : p.introducer ≡ None
+
+-- This byte comes first, outside a command.
+pub record ComesOutside {A : Type 0} (p : SixelBuilder A) (b : ℕ) (rest : List ℕ) : Type 0 where
+  pub outside : AreOutside p rest
+  pub first : get_or rest 0 0 ≡ b
+
+-- The first n of these bytes, one at least, make q of p.
+pub record TakesFirst {A : Type 0} (p : SixelBuilder A) (rest : List ℕ) (n : ℕ)
+    (q : SixelBuilder A) : Type 0 where
+  pub some : 0 < n
+  pub few : n ≤ length rest
+  pub pushes : FoldsTo Pushes p (take n rest) q
+
+-- an image, and the builder of one, with one more piece of data
+abbrev pub with_data : {A : Type 0} → Sixel A → SixelData → Sixel A
+with_data s d = record s { content = s.content ++ d ∷ [] }
+
+abbrev pub with_piece : {A : Type 0} → SixelBuilder A → SixelData → SixelBuilder A
+with_piece p d = record p { sixel = with_data p.sixel d }
