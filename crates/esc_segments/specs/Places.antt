@@ -1,5 +1,5 @@
 -- What is found of the segment that comes first in some bytes. Only private contracts cite it.
-use Rattle.std.specs.Prelude.{ℕ, ◌≡◌, ◌+◌, ◌<◌, ◌≤◌, Bool, true, false, List, [], ◌∷◌, ◌++◌, length, take, drop}
+use Rattle.std.specs.Prelude.{ℕ, ◌≡◌, ◌+◌, ◌<◌, ◌≤◌, Bool, true, false, List, [], ◌∷◌, ◌++◌, length, slice_index, take, drop}
 use Rattle.esc_segments.specs.declared.kind.SegmentKind.{SegmentKind}
 use Rattle.esc_segments.specs.declared.found.Found.{Found}
 use Rattle.esc_segments.specs.declared.sequence.Ahead.{Ahead}
@@ -38,6 +38,12 @@ IsOpened k body x = (o : Opener) → IsOpener o
 -- after this control, raw and after C2
 abbrev pub IsRaw : ℕ → List ℕ → Found → Type 0
 IsRaw b body x = (p : Bool) → IsFirst (after_c2 p b ++ body) (moved (length (after_c2 p b)) x)
+
+-- The first byte is from a to b, and n bytes at least follow it.
+pub record HasLead (n a b : ℕ) (bytes : List ℕ) : Type 0 where
+  pub some : n < length bytes
+  pub low : a ≤ slice_index bytes 0
+  pub high : slice_index bytes 0 ≤ b
 
 -- the sequence of UTF-8 that comes first
 abbrev pub IsSequence : List ℕ → Ahead → Type 0

@@ -1,13 +1,15 @@
 //! The events of escape sequences and control sequences.
 #![tactic(auto)]
 
-ghost use Rattle.std.specs.Prelude.{◌∷◌, Bool, List, OnOk, [], ℕ};
+ghost use Rattle.std.specs.Prelude.{◌≡◌, ◌∷◌, Bool, List, OnOk, [], ℕ};
 ghost use Rattle.esc_frame.specs.Classes.{strip};
 ghost use Rattle.esc_frame.specs.Events.{Takes};
 ghost use Rattle.esc_frame.specs.Machine.Keeps.{Keeps, KeepsBody};
-ghost use Rattle.esc_frame.specs.Segments.{Opener, csi_events, escape_event, executes};
-ghost use Rattle.esc_frame.specs.Segments.Segment.{Csi, CutCsi, CutDcs, CutEscape, Escape};
+ghost use Rattle.esc_frame.specs.Segments.{Opener, Segment, csi_events, escape_event, executes};
+ghost use Rattle.esc_frame.specs.Segments.Segment.{Csi, Escape};
+ghost use Rattle.esc_segments.specs.Items.{kind_of};
 ghost use Rattle.esc_segments.specs.Parts.{Emits};
+ghost use Rattle.esc_segments.specs.declared.kind.SegmentKind.TheVariants as kinds;
 
 use crate::bytes::{is_c0, is_noise};
 use crate::openers::{opens_dcs, split_opener};
@@ -136,12 +138,8 @@ fn body_of(x: &[u8]) -> CsiBody
 /// only those in its opener.
 pub fn cut_short<V: VTActor>(bytes: &[u8], actor: &mut V) -> Result<()>
     requires { V.is_ready actor.old }
-    ensures escape { (finished : Bool) (x : List ℕ)
-        → Emits ⊥ V.takes V.refuses result actor.old actor.new bytes.now finished (CutEscape x) }
-    ensures csi { (finished : Bool) (o : Opener) (x : List ℕ)
-        → Emits ⊥ V.takes V.refuses result actor.old actor.new bytes.now finished (CutCsi o x) }
-    ensures dcs { (finished : Bool) (o : Opener) (x : List ℕ)
-        → Emits ⊥ V.takes V.refuses result actor.old actor.new bytes.now finished (CutDcs o x) }
+    ensures emitted { (finished : Bool) (g : Segment) → kind_of g ≡ kinds.CutShort
+        → Emits ⊥ V.takes V.refuses result actor.old actor.new bytes.now finished g }
     ensures ready { OnOk result (V.is_ready actor.new) }
 {
     if opens_dcs(bytes) {

@@ -4,7 +4,7 @@
 ghost use Rattle.std.specs.Prelude.{◌≡◌, ◌<◌, ◌≤◌, ◌∷◌, false, length, slice_index};
 ghost use Rattle.std.specs.List.{prefix_len};
 ghost use Rattle.esc_frame.specs.Classes.{class_of, is_noise, opens};
-ghost use Rattle.esc_segments.specs.Places.{IsFirst, IsRaw, moved};
+ghost use Rattle.esc_segments.specs.Places.{HasLead, IsFirst, IsRaw, moved};
 
 use crate::bytes::{is_breaker, is_letter};
 use crate::found::Found;
@@ -34,9 +34,7 @@ pub fn first(bytes: &[u8]) -> Found
 
 // What a byte C2 to F4 begins.
 fn character(bytes: &[u8]) -> Found
-    requires some { 0 < length bytes.now }
-    requires low { 0xc2 ≤ slice_index bytes.now 0 }
-    requires high { slice_index bytes.now 0 ≤ 0xf4 }
+    requires { HasLead 0 0xc2 0xf4 bytes.now }
     ensures found { IsFirst bytes.now result }
     ensures some { 0 < result.len }
     ensures few { result.len ≤ length bytes.now }

@@ -1,9 +1,10 @@
 //! What an operating system command keeps of its text.
 #![tactic(auto)]
 
-ghost use Rattle.std.specs.Prelude.{◌≡◌, ◌<◌, ◌≤◌, ◌++◌, IfOk, List, OnErr, ℕ, drop, length, slice_index, true};
+ghost use Rattle.std.specs.Prelude.{◌≡◌, ◌<◌, ◌≤◌, ◌++◌, IfOk, List, OnErr, ℕ, drop, length, true};
 ghost use Rattle.esc_frame.specs.Segments.{ArePieces, Ending, Piece, ending_bytes, text_bytes, text_of};
 ghost use Rattle.esc_segments.specs.Parts.{IsLeft, is_over};
+ghost use Rattle.esc_segments.specs.Places.{HasLead};
 ghost use Rattle.memory.specs.Refusals.{Refused};
 
 use crate::sequence::{Ahead, sequence_ahead};
@@ -48,9 +49,7 @@ fn keep_unit<A: Allocator>(kept: &mut Vec<u8, A>, text: &[u8]) -> Result<usize, 
 
 // The same of a sequence of UTF-8.
 fn keep_sequence<A: Allocator>(kept: &mut Vec<u8, A>, text: &[u8]) -> Result<usize, AllocError>
-    requires some { 0 < length text.now }
-    requires low { 0xc2 ≤ slice_index text.now 0 }
-    requires high { slice_index text.now 0 ≤ 0xf4 }
+    requires { HasLead 0 0xc2 0xf4 text.now }
     ensures kept { (after t : List ℕ) → IsLeft kept.old.items text.now after t
         → IfOk result (λ n. IsLeft kept.new.items (drop n text.now) after t) }
     ensures count { IfOk result (λ n. (0 < n) × (n ≤ length text.now)) }

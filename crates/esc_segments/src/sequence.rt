@@ -1,9 +1,9 @@
 //! Sequences of UTF-8 where they lie in the bytes.
 #![tactic(auto)]
 
-ghost use Rattle.std.specs.Prelude.{◌≡◌, ◌<◌, ◌≤◌, ◌++◌, [], ◌∷◌, true, slice_index, length};
+ghost use Rattle.std.specs.Prelude.{◌≡◌, ◌<◌, ◌++◌, [], ◌∷◌, true, slice_index};
 ghost use Rattle.esc_frame.specs.Sequences.{is_from, is_second};
-ghost use Rattle.esc_segments.specs.Places.{IsSequence};
+ghost use Rattle.esc_segments.specs.Places.{HasLead, IsSequence};
 
 /// What a byte C2 to F4 begins.
 #[derive(Clone, Copy)]
@@ -44,9 +44,7 @@ fn is_second(a: u8, b: u8) -> bool
 
 /// The sequence that comes first.
 pub fn sequence_ahead(bytes: &[u8]) -> Ahead
-    requires some { 0 < length bytes.now }
-    requires low { 0xc2 ≤ slice_index bytes.now 0 }
-    requires high { slice_index bytes.now 0 ≤ 0xf4 }
+    requires { HasLead 0 0xc2 0xf4 bytes.now }
     ensures { IsSequence bytes.now result }
 {
     if bytes.len() == 1 {
@@ -62,9 +60,7 @@ pub fn sequence_ahead(bytes: &[u8]) -> Ahead
 
 // One of two bytes.
 fn of_two(bytes: &[u8]) -> Ahead
-    requires some { 1 < length bytes.now }
-    requires low { 0xc2 ≤ slice_index bytes.now 0 }
-    requires high { slice_index bytes.now 0 ≤ 0xdf }
+    requires { HasLead 1 0xc2 0xdf bytes.now }
     ensures { IsSequence bytes.now result }
 {
     if !lies_from(0x80, 0xbf, bytes[1]) {
@@ -80,9 +76,7 @@ fn of_two(bytes: &[u8]) -> Ahead
 
 // One of three or four bytes, after its second.
 fn of_three(bytes: &[u8]) -> Ahead
-    requires some { 1 < length bytes.now }
-    requires low { 0xe0 ≤ slice_index bytes.now 0 }
-    requires high { slice_index bytes.now 0 ≤ 0xf4 }
+    requires lead { HasLead 1 0xe0 0xf4 bytes.now }
     requires second { is_second (slice_index bytes.now 0) (slice_index bytes.now 1) ≡ true }
     ensures { IsSequence bytes.now result }
 {
@@ -99,9 +93,7 @@ fn of_three(bytes: &[u8]) -> Ahead
 
 // One of four bytes, after its third.
 fn of_four(bytes: &[u8]) -> Ahead
-    requires some { 2 < length bytes.now }
-    requires low { 0xf0 ≤ slice_index bytes.now 0 }
-    requires high { slice_index bytes.now 0 ≤ 0xf4 }
+    requires lead { HasLead 2 0xf0 0xf4 bytes.now }
     requires second { is_second (slice_index bytes.now 0) (slice_index bytes.now 1) ≡ true }
     requires third { is_from 0x80 0xbf (slice_index bytes.now 2) ≡ true }
     ensures { IsSequence bytes.now result }

@@ -1,7 +1,7 @@
 //! The events of strings.
 #![tactic(auto)]
 
-ghost use Rattle.std.specs.Prelude.{◌≡◌, ◌++◌, ◌∷◌, Bool, IfOk, List, OnErr, OnOk, [], if◌then◌else◌, map, pos, true, ℕ};
+ghost use Rattle.std.specs.Prelude.{◌≡◌, ◌++◌, ◌∷◌, Bool, IfOk, List, OnErr, OnOk, [], if◌then◌else◌, map, pos, ℕ};
 ghost use Rattle.esc_values.specs.Clear.{parts_of};
 ghost use Rattle.esc_frame.specs.Bodies.{held, is_dcs_header, value_after};
 ghost use Rattle.esc_frame.specs.Classes.{is_text, strip, those};
@@ -10,7 +10,7 @@ ghost use Rattle.esc_frame.specs.Events.Event.{ApcDispatch, DcsUnhook};
 ghost use Rattle.esc_frame.specs.Machine.Keeps.{KeepsDcs, parameters_of};
 ghost use Rattle.esc_frame.specs.Segments.{Ending, Opener, Piece, hook_event, puts};
 ghost use Rattle.esc_frame.specs.Segments.Segment.{Apc, Dcs, Osc};
-ghost use Rattle.esc_segments.specs.Parts.{Emits};
+ghost use Rattle.esc_segments.specs.Parts.{Emits, HoldsHeader};
 ghost use Rattle.memory.specs.Refusals.{Refused};
 
 use crate::bytes::{is_noise, is_put, is_text};
@@ -164,8 +164,7 @@ fn hook<A: Allocator + Copy, V: VTActor>(
     actor: &mut V,
 ) -> Result<()>
     requires ready { V.is_ready actor.old }
-    requires kept { KeepsDcs header.now (strip x.now) }
-    requires formed { is_dcs_header (strip x.now) ≡ true }
+    requires header { HoldsHeader header.now x.now }
     ensures emitted { Takes (Refused A) V.takes V.refuses result actor.old
         (hook_event (strip x.now) last ∷ []) actor.new }
     ensures ready { OnOk result (V.is_ready actor.new) }

@@ -1,9 +1,9 @@
 //! The text of operating system commands.
 #![tactic(auto)]
 
-ghost use Rattle.std.specs.Prelude.{◌≡◌, ◌<◌, ◌≤◌, length, slice_index};
+ghost use Rattle.std.specs.Prelude.{◌≡◌, ◌<◌, ◌≤◌, length};
 ghost use Rattle.esc_frame.specs.declared.classes.Kind.TheVariants as kind;
-ghost use Rattle.esc_segments.specs.Places.{IsUnit, IsOpened};
+ghost use Rattle.esc_segments.specs.Places.{HasLead, IsUnit, IsOpened};
 
 use crate::bytes::is_breaker;
 use crate::found::Found;
@@ -43,9 +43,7 @@ fn unit_ahead(text: &[u8]) -> Unit
 
 // The sequence that comes first.
 fn sequence_unit(text: &[u8]) -> Unit
-    requires some { 0 < length text.now }
-    requires low { 0xc2 ≤ slice_index text.now 0 }
-    requires high { slice_index text.now 0 ≤ 0xf4 }
+    requires { HasLead 0 0xc2 0xf4 text.now }
     ensures { IsUnit text.now result }
 {
     match sequence_ahead(text) {

@@ -117,8 +117,8 @@ returns-in-CutShort-clause-emitted g c = λ s after h i.
     seg after c.cut_short.result c.args.actor.now c.cut_short.new.actor in
     (cut_shorts P s (sym i.kind ∙ c.in-CutShort.is)
     (λ x. plainly (CutEscape x) (λ h i.
-    c.cut_short.ensures.escape seg.finished x after h i.bytes i.finished))
+    c.cut_short.ensures.emitted seg.finished (CutEscape x) refl after h i.bytes i.finished))
     (λ o x. plainly (CutCsi o x) (λ h i.
-    c.cut_short.ensures.csi seg.finished o x after h i.bytes i.finished))
+    c.cut_short.ensures.emitted seg.finished (CutCsi o x) refl after h i.bytes i.finished))
     (λ o x. plainly (CutDcs o x) (λ h i.
-    c.cut_short.ensures.dcs seg.finished o x after h i.bytes i.finished))).so h i
+    c.cut_short.ensures.emitted seg.finished (CutDcs o x) refl after h i.bytes i.finished))).so h i

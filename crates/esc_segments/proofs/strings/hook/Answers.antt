@@ -14,7 +14,7 @@ returns-clause-emitted g c =
     g.V.VTActor.takes g.V.VTActor.refuses c.dcs_hook.result c.args.actor.now (y ∷ [])
     c.dcs_hook.new.self)
     (hook_is c.args.header.now x (parameters_of x)
-    _ _ c.args.last c.requires.formed c.requires.kept
+    _ _ c.args.last c.requires.header.formed c.requires.header.kept
     refl (c.deref.ensures.value ∙ c.in_ok-params.ensures.ok)
     c.as_slice.ensures)
     (receives_takes (Refused g.row.A.Denot)
