@@ -1,5 +1,5 @@
 //! From a program's words to its options and its files.
-ghost use Rattle.std.specs.Prelude.{◌≡◌, ◌≤◌, ◌++◌, ◌∷◌, [], IfOk, IfSome, drop, false, if◌then◌else◌, length, map, string_bytes, true};
+ghost use Rattle.std.specs.Prelude.{◌≡◌, ◌≤◌, ◌++◌, ◌∷◌, [], IfOk, drop, false, if◌then◌else◌, length, map, string_bytes, true};
 ghost use Rattle.command_line.specs.Words.{files_of, first_of, given_of, is_file, name_in, option_named, options_of, said, takes_next, takes_value, value_of, word_given};
 
 use crate::nearness::{nearest_name, nearest_word};

@@ -1,9 +1,7 @@
 //! What a line of a recording is.
-ghost use Rattle.std.specs.Prelude.{◌≡◌, IfOk, IfSome, chars};
-ghost use Rattle.std.specs.List.{list_all};
+ghost use Rattle.std.specs.Prelude.{◌≡◌, IfOk, chars};
 ghost use Rattle.json.specs.Json.{document};
 ghost use Rattle.json.specs.Lex.{tokens};
-ghost use Rattle.json.specs.Print.{IsNumber};
 ghost use Rattle.esc_cast.specs.Recordings.{event_kind, header_kind, is_shown, is_shown_line, kind_of, kind_seen, shown_kind, HasNumber};
 
 use json::{Error, Reader, Scratch, Token, Value};

@@ -1,6 +1,5 @@
 //! Bytes, written as the characters of the same numbers.
 ghost use Rattle.std.specs.Prelude.{◌≡◌, Some};
-ghost use Rattle.std.specs.Fmt.{DisplaysOnOk};
 ghost use Rattle.esc_values.specs.Params.{is_private_prefix};
 ghost use Rattle.esc_device.specs.Texts.{as_text, private_prefixes_text, others_text};
 

@@ -1,5 +1,5 @@
 //! Parameters, written in decimal.
-ghost use Rattle.std.specs.Prelude.{◌≡◌, ◌∷◌, Some};
+ghost use Rattle.std.specs.Prelude.{◌∷◌, Some};
 ghost use Rattle.std.specs.Fmt.{DisplaysOnOk, signed_decimal};
 ghost use Rattle.std.specs.List.{flat_map};
 ghost use Rattle.esc_device.specs.Texts.{params_text};

@@ -1,5 +1,5 @@
 //! What rows say where it may be absent. An error is that memory was refused.
-ghost use Rattle.std.specs.Prelude.{◌≡◌, IfOk, IfSome, OnErr, OnOk};
+ghost use Rattle.std.specs.Prelude.{◌≡◌, IfOk, OnErr};
 ghost use Rattle.std.specs.Option.{option_map};
 ghost use Rattle.esc_fields.specs.Found.{held, named_value, past};
 ghost use Rattle.esc_fields.specs.FoundPrompts.{text_in};

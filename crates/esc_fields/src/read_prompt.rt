@@ -1,5 +1,5 @@
 //! Prompts that rows say. An error is that memory was refused.
-ghost use Rattle.std.specs.Prelude.{◌≡◌, IfOk, OnErr, ℤ};
+ghost use Rattle.std.specs.Prelude.{◌≡◌, IfOk, OnErr};
 ghost use Rattle.esc_fields.specs.Found.{held};
 ghost use Rattle.esc_fields.specs.FoundPrompts.{click_in, click_of, prompt_in, prompt_kind_of};
 ghost use Rattle.memory.specs.Refusals.{Refused};

@@ -1,5 +1,5 @@
 //! What rows say, each a name and a value.
-ghost use Rattle.std.specs.Prelude.{◌≡◌, ◌++◌, ◌^◌, IfOk, OnErr, drop, take};
+ghost use Rattle.std.specs.Prelude.{◌≡◌, ◌^◌, IfOk, OnErr, drop, take};
 ghost use Rattle.esc_fields.specs.Fields.{row_said, said, text_of};
 ghost use Rattle.esc_fields.specs.Found.{after, below, byte_of, channel_of, count_of, first, flag_of, held, is_named, length_of, magnitude, number_of, signed, size_of, string_of};
 ghost use Rattle.memory.specs.Refusals.{Refused};

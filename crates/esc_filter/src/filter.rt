@@ -1,7 +1,6 @@
 //! A filter that is fed a stream piece by piece.
-ghost use Rattle.std.specs.Prelude.{◌≡◌, ◌≤◌, ◌+◌, Bool, List, [], IfErr, IsTrue, OnErr, OnOk, Some, false, true, min};
+ghost use Rattle.std.specs.Prelude.{◌≡◌, ◌≤◌, ◌+◌, Bool, List, [], IfErr, IsTrue, OnErr, OnOk, Some, false, min};
 ghost use Rattle.esc_actions.specs.Limited.{data_kept};
-ghost use Rattle.esc_actions.specs.Values.{Value};
 ghost use Rattle.esc_frame.specs.Counts.{kept_of_cut};
 ghost use Rattle.esc_frame.specs.Limits.{most};
 ghost use Rattle.esc_frame.specs.Segments.{IsCut, Segment};

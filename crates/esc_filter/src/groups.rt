@@ -2,7 +2,6 @@
 ghost use Rattle.std.specs.Prelude.{◌≡◌, ◌<◌, Some, false, true};
 ghost use Rattle.std.specs.List.{list_all, list_any};
 ghost use Rattle.esc_sequences.specs.Csis.{csi_of};
-ghost use Rattle.esc_actions.specs.Values.{value_of};
 ghost use Rattle.esc_filter.specs.Groups.{IsWithSchemes, groups_of, has, has_sequence, place, with_group};
 
 use crate::admit::Admit;

@@ -1,5 +1,5 @@
 //! What a stream leaves changed at a terminal.
-ghost use Rattle.std.specs.Prelude.{ℕ, List, ◌≡◌, ◌<◌, ◌++◌, ◌∷◌, [], pos, true, IfSome, IsTrue, OnErr, OnOk, false, if◌then◌else◌};
+ghost use Rattle.std.specs.Prelude.{List, ◌≡◌, ◌<◌, ◌++◌, ◌∷◌, [], pos, true, IfSome, IsTrue, OnErr, OnOk, false, if◌then◌else◌};
 ghost use Rattle.esc_values.specs.Clear.{parts_of};
 ghost use Rattle.esc_sequences.specs.Csis.{CsiValue, csi_of, csi_value};
 ghost use Rattle.esc_values.specs.declared.csi_param.CsiParam.{CsiParam};

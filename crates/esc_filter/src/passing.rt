@@ -1,5 +1,5 @@
 //! What takes the actions that pass.
-ghost use Rattle.std.specs.Prelude.{◌≡◌, false, IfOk, IsTrue, MatchResult, OnErr, OnOk};
+ghost use Rattle.std.specs.Prelude.{◌≡◌, false, MatchResult, OnErr, OnOk};
 ghost use Rattle.esc_values.specs.Clear.{parts_of};
 ghost use Rattle.esc_actions.specs.Values.{control};
 ghost use Rattle.esc_actions.specs.declared.action.Action.TheVariants as action;

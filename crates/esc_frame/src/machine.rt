@@ -10,7 +10,7 @@ mod strings;
 
 ghost use Rattle.std.specs.Prelude.{◌≡◌, ◌⊎◌, ◌<◌, ℕ, Option, true, length, take, min, OnOk, IsTrue, ◌↔◌};
 ghost use Rattle.esc_frame.specs.Classes.{class_of};
-ghost use Rattle.esc_frame.specs.Events.{Awaits, Takes};
+ghost use Rattle.esc_frame.specs.Events.{Awaits};
 ghost use Rattle.esc_frame.specs.Leads.{Unfinished, Holds, kept_open};
 ghost use Rattle.esc_frame.specs.Leads.Unfinished.{Ground};
 ghost use Rattle.esc_frame.specs.Limits.{most};

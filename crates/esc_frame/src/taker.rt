@@ -1,7 +1,7 @@
 //! What a machine gives its events.
 #![tactic(auto)]
 
-ghost use Rattle.std.specs.Prelude.{◌≡◌, ◌<◌, [], ◌∷◌, ℕ, List, length, map, not, true};
+ghost use Rattle.std.specs.Prelude.{◌≡◌, ◌<◌, [], ◌∷◌, ℕ, List, map, not, true};
 ghost use Rattle.std.specs.Str.{chars};
 ghost use Rattle.esc_values.specs.Clear.{parts_of};
 ghost use Rattle.esc_frame.specs.Bodies.{hook_by};
@@ -10,7 +10,7 @@ ghost use Rattle.esc_frame.specs.Limits.{has_few_parts};
 ghost use Rattle.esc_frame.specs.Scans.{IsRun, IsClearRun, is_text_byte, is_data_byte};
 ghost use Rattle.esc_frame.specs.Takers.{MayGetOne, TakesAll, TakesOne};
 ghost use Rattle.memory.specs.Refusals.{Refused};
-ghost use Rattle.esc_frame.specs.Events.Event.{Print, Execute, EscDispatch, CsiDispatch, OscDispatch, DcsHook, DcsPut, DcsUnhook, ApcDispatch};
+ghost use Rattle.esc_frame.specs.Events.Event.{Print, Execute, EscDispatch, CsiDispatch, OscDispatch, DcsPut, DcsUnhook, ApcDispatch};
 
 use crate::actor::VTActor;
 use crate::utf8::texts::first_of;

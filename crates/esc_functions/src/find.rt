@@ -1,5 +1,5 @@
 //! A row by its key.
-ghost use Rattle.std.specs.Prelude.{◌≡◌, ◌<◌, ◌≤◌, ◌+◌, [], get_or, length, map};
+ghost use Rattle.std.specs.Prelude.{◌≡◌, ◌<◌, ◌+◌, [], get_or, length, map};
 ghost use Rattle.esc_functions.specs.Rows.{Rise, first_grouped, first_keyed, group};
 
 use crate::keyed::Keyed;

@@ -1,5 +1,5 @@
 //! A stream as a page.
-ghost use Rattle.std.specs.Prelude.{◌≡◌, ◌++◌, [], IfErr, OnOk, Some};
+ghost use Rattle.std.specs.Prelude.{◌≡◌, [], IfErr, OnOk, Some};
 ghost use Rattle.esc_html.specs.Pages.{closing_text};
 ghost use Rattle.memory.specs.Refusals.{Refused};
 

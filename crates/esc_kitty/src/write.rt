@@ -1,5 +1,5 @@
 //! The texts of images.
-ghost use Rattle.std.specs.Prelude.{◌++◌, ◌∷◌, Some};
+ghost use Rattle.std.specs.Prelude.{Some};
 ghost use Rattle.std.specs.Fmt.{DisplaysOnOk};
 ghost use Rattle.esc_kitty.specs.Texts.{image_keys, image_text, keys_text, payload_text};
 

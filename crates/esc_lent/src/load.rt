@@ -1,7 +1,7 @@
 //! The machine that a parser's numbers say.
 #![tactic(auto)]
 
-ghost use Rattle.std.specs.Prelude.{◌≡◌, ℕ, List, length, Some, Option};
+ghost use Rattle.std.specs.Prelude.{◌≡◌, ℕ, List, length, Some};
 ghost use Rattle.esc_frame.specs.Leads.{Unfinished, Holds};
 ghost use Rattle.esc_frame.specs.Machine.Keeps.{Keeps, KeepsDcs};
 ghost use Rattle.esc_lent.specs.States.{FirstIn, HeaderIn, KeptIn};

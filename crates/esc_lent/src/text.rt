@@ -1,8 +1,7 @@
 //! What is kept of a string, in memory that was lent.
 #![tactic(auto)]
 
-ghost use Rattle.std.specs.Prelude.{◌≡◌, ◌≢◌, ◌≤◌, ◌++◌, ℕ, List, [], Option, Some, OnOk, true, false, take, length};
-ghost use Rattle.esc_frame.specs.Limits.{is_within};
+ghost use Rattle.std.specs.Prelude.{◌≡◌, ◌≢◌, ◌≤◌, [], Option, Some, true, false, length};
 ghost use Rattle.esc_lent.specs.Texts.{KeepsBorrowed};
 
 use crate::named::Named;

@@ -1,5 +1,5 @@
 //! From a stream to the text of what it means, as it comes.
-ghost use Rattle.std.specs.Prelude.{◌≡◌, IfSome, IsErrOf, OnErr, OnOk};
+ghost use Rattle.std.specs.Prelude.{IfSome, IsErrOf, OnErr, OnOk};
 ghost use Rattle.esc_normal.specs.Io.{Writes, WritesPrefix, had};
 ghost use Rattle.esc_normal.specs.Normalising.{normal_form};
 ghost use Rattle.esc_normal.specs.Streams.{Filters, IsText};

@@ -1,15 +1,14 @@
 //! How parts are read.
-ghost use Rattle.std.specs.Prelude.{◌≡◌, IfOk, OnErr, Some, [], ◌∷◌, map, drop, codes};
+ghost use Rattle.std.specs.Prelude.{◌≡◌, IfOk, OnErr, Some, [], ◌∷◌, map, codes};
 ghost use Rattle.std.specs.Option.{option_map};
 ghost use Rattle.std.specs.Str.Lossy.{utf8_lossy};
 ghost use Rattle.esc_links.specs.Hyperlinks.{link_of};
-ghost use Rattle.esc_values.specs.Scalars.{utf8_of};
-ghost use Rattle.esc_osc_values.specs.Colors.{colors_of, pairs_of};
+ghost use Rattle.esc_osc_values.specs.Colors.{colors_of};
 ghost use Rattle.esc_osc_values.specs.Progresses.{progress_of};
 ghost use Rattle.esc_iterm.specs.ITerms.{iterm_of};
 ghost use Rattle.esc_prompts.specs.Prompts.{prompt_of};
 ghost use Rattle.esc_osc.specs.Reading.{dynamic, fitting, meaning, named, notified, reading, selected};
-ghost use Rattle.esc_osc_values.specs.Lists.{lone_text, numbers_of, title_of};
+ghost use Rattle.esc_osc_values.specs.Lists.{lone_text};
 ghost use Rattle.esc_osc.specs.declared.command.OperatingSystemCommand.TheVariants as command;
 ghost use Rattle.memory.specs.Refusals.{Refused};
 

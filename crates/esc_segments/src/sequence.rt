@@ -1,7 +1,7 @@
 //! Sequences of UTF-8 where they lie in the bytes.
 #![tactic(auto)]
 
-ghost use Rattle.std.specs.Prelude.{◌≡◌, ◌<◌, ◌++◌, [], ◌∷◌, true, slice_index};
+ghost use Rattle.std.specs.Prelude.{◌≡◌, ◌<◌, true, slice_index};
 ghost use Rattle.esc_frame.specs.Sequences.{is_from, is_second};
 ghost use Rattle.esc_segments.specs.Places.{HasLead, IsSequence};
 

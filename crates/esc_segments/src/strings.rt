@@ -1,7 +1,7 @@
 //! The events of strings.
 #![tactic(auto)]
 
-ghost use Rattle.std.specs.Prelude.{◌≡◌, ◌++◌, ◌∷◌, Bool, IfOk, List, OnErr, OnOk, [], if◌then◌else◌, map, pos, ℕ};
+ghost use Rattle.std.specs.Prelude.{◌≡◌, ◌++◌, ◌∷◌, IfOk, List, OnErr, OnOk, [], if◌then◌else◌, map, pos, ℕ};
 ghost use Rattle.esc_values.specs.Clear.{parts_of};
 ghost use Rattle.esc_frame.specs.Bodies.{held, is_dcs_header, value_after};
 ghost use Rattle.esc_frame.specs.Classes.{is_text, strip, those};

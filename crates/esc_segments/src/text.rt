@@ -1,7 +1,7 @@
 //! The text of operating system commands.
 #![tactic(auto)]
 
-ghost use Rattle.std.specs.Prelude.{◌≡◌, ◌<◌, ◌≤◌, length};
+ghost use Rattle.std.specs.Prelude.{◌<◌, ◌≤◌, length};
 ghost use Rattle.esc_frame.specs.declared.classes.Kind.TheVariants as kind;
 ghost use Rattle.esc_segments.specs.Places.{HasLead, IsUnit, IsOpened};
 

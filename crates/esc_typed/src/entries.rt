@@ -1,5 +1,5 @@
 //! The entries of a control sequence, and their text.
-ghost use Rattle.std.specs.Prelude.{◌≡◌, ◌∷◌, Some, None, IfSome, IfNone};
+ghost use Rattle.std.specs.Prelude.{◌≡◌, Some, None, IfSome, IfNone};
 ghost use Rattle.std.specs.Fmt.{DisplaysOnOk};
 ghost use Rattle.esc_values.specs.Params.{csi_params_text, param_text};
 ghost use Rattle.esc_typed.specs.Renditions.{byte_after, byte_of, is_byte};

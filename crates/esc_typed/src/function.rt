@@ -3,7 +3,7 @@ ghost use Rattle.std.specs.Prelude.{◌≡◌, Some};
 ghost use Rattle.esc_sequences.specs.Csis.{csi_value};
 ghost use Rattle.esc_typed.specs.Arguments.{arguments};
 ghost use Rattle.esc_typed.specs.Escapes.{of_bytes, of_c1, of_escape};
-ghost use Rattle.esc_typed.specs.Functions.{known_entries, made, made_of, of_csi, of_kind, of_named, of_params, several, value_of};
+ghost use Rattle.esc_typed.specs.Functions.{known_entries, made, of_csi, of_named, of_params, several, value_of};
 
 use crate::arguments::{Arguments, Kind};
 use crate::charset::Charset;

@@ -1,5 +1,5 @@
 //! Control sequences as short texts.
-ghost use Rattle.std.specs.Prelude.{◌≡◌, ◌+◌, ◌<◌, ◌≤◌, ◌++◌, ◌∷◌, [], Bool, IsTrue, length};
+ghost use Rattle.std.specs.Prelude.{◌≡◌, ◌+◌, ◌<◌, ◌≤◌, ◌++◌, [], Bool, IsTrue, length};
 ghost use Rattle.std.specs.Fmt.{decimal};
 ghost use Rattle.esc_sequences.specs.Csis.{csi_text, unspecified};
 ghost use Rattle.esc_values.specs.Params.{param_text};

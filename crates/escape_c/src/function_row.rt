@@ -1,5 +1,4 @@
 //! What is noted of a control function.
-ghost use Rattle.std.specs.Prelude.{◌≡◌};
 ghost use Rattle.escape_c.specs.FunctionRows.{IsRow};
 
 use crate::output::put;

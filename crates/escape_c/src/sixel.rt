@@ -1,5 +1,5 @@
 //! The sixel image that parameters and data are, as rows.
-ghost use Rattle.std.specs.Prelude.{◌≡◌, ◌≢◌, IfOk, OnErr, length, map};
+ghost use Rattle.std.specs.Prelude.{◌≡◌, ◌≢◌, IfOk, OnErr, map};
 ghost use Rattle.esc_fields.specs.Sixels.{sixel_row};
 ghost use Rattle.escape_c.specs.Output.{put_into};
 ghost use Rattle.escape_c.specs.SixelValues.{IsSixel, sixel_in, sixel_rows};

@@ -1,5 +1,4 @@
 //! A reader of which an account is kept.
-ghost use Rattle.std.specs.Prelude.{};
 ghost use Rattle.std.specs.Io.{ReadsAtMost};
 ghost use Rattle.std.specs.Io.KnownBytes.{ReadConsumes};
 

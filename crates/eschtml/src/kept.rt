@@ -1,5 +1,4 @@
 //! What of a stream stays where what a page leaves out is shown.
-ghost use Rattle.std.specs.Prelude.{};
 
 use esc_actions::Action;
 use esc_filter::{Admit, Policy};

@@ -1,5 +1,4 @@
 //! The lines of HTML that is written.
-ghost use Rattle.std.specs.Prelude.{};
 ghost use Rattle.std.specs.Io.{WritesAtMost};
 ghost use Rattle.std.specs.Io.KnownBytes.{WriteAppends};
 

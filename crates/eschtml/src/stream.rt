@@ -1,5 +1,5 @@
 //! One stream, from its reader to the output.
-ghost use Rattle.std.specs.Prelude.{◌≡◌, ◌++◌, [], ℕ, IsErrOf, Some, false, if◌then◌else◌, true};
+ghost use Rattle.std.specs.Prelude.{◌≡◌, [], ℕ, IsErrOf, Some, false, if◌then◌else◌, true};
 ghost use Rattle.esc_normal.specs.Streams.{Filters, IsEither};
 ghost use Rattle.esc_html.specs.Fed.{WasFed, added_by};
 ghost use Rattle.esc_html.specs.Pages.{page_text};

@@ -1,4 +1,3 @@
-ghost use Rattle.std.specs.Prelude.{◌≡◌};
 ghost use Rattle.reusing.specs.Ownership.{block_token};
 
 use crate::pool::{LARGEST, Pool};

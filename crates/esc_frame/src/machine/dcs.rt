@@ -3,7 +3,7 @@
 
 ghost use Rattle.std.specs.Prelude.{◌≡◌, ◌⊎◌, ◌<◌, ◌++◌, ℕ, List, Option, [], ◌∷◌, true, length, OnOk, OnErr};
 ghost use Rattle.esc_frame.specs.Classes.{class_of};
-ghost use Rattle.esc_frame.specs.Events.{Awaits, Takes};
+ghost use Rattle.esc_frame.specs.Events.{Awaits};
 ghost use Rattle.esc_frame.specs.Events.Event.{DcsUnhook};
 ghost use Rattle.esc_frame.specs.Limits.{is_read};
 ghost use Rattle.esc_frame.specs.Machine.Calls.{Stops};

@@ -1,7 +1,7 @@
 //! The machine in operating system commands.
 #![tactic(auto)]
 
-ghost use Rattle.std.specs.Prelude.{◌≡◌, ◌⊎◌, ◌++◌, ◌≤◌, ◌<◌, List, [], ◌+◌, true, false, not, length, take, slice_index, OnOk, IsTrue};
+ghost use Rattle.std.specs.Prelude.{◌≡◌, ◌⊎◌, ◌++◌, ◌<◌, List, ◌+◌, true, false, not, length, take, slice_index, OnOk, IsTrue};
 ghost use Rattle.esc_frame.specs.Classes.{class_of};
 ghost use Rattle.esc_frame.specs.Limits.{has_few_parts};
 ghost use Rattle.esc_frame.specs.Leads.Unfinished.{Ground};

@@ -2,7 +2,7 @@
 //! device control strings whose header has another form.
 #![tactic(auto)]
 
-ghost use Rattle.std.specs.Prelude.{◌≡◌, ◌⊎◌, ◌++◌, [], cond, ◌≤◌, ◌<◌, Bool, true, false, length, take, OnOk};
+ghost use Rattle.std.specs.Prelude.{◌≡◌, ◌⊎◌, ◌++◌, [], cond, ◌<◌, Bool, true, false, length, take, OnOk};
 ghost use Rattle.esc_frame.specs.Classes.{class_of, is_breaker};
 ghost use Rattle.esc_frame.specs.Machine.Keeping.{Holding, KeepingText, KeepingApc, KeepingApcAnd, FreshApc, AnyApc, InDcsIgnore, InIgnoredString};
 ghost use Rattle.esc_frame.specs.Machine.Allowed.{KeptApc, KeptApcAnd, KeptSegment, KeptText, NewApc};

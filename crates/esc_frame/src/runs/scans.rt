@@ -1,7 +1,7 @@
 //! How far a run goes.
 #![tactic(auto)]
 
-ghost use Rattle.std.specs.Prelude.{◌≡◌, ◌+◌, ◌<◌, ◌≤◌, true, false, length, take, drop, slice_index, IsTrue};
+ghost use Rattle.std.specs.Prelude.{◌≡◌, ◌+◌, ◌<◌, ◌≤◌, true, length, take, drop, slice_index, IsTrue};
 ghost use Rattle.std.specs.List.{prefix_len};
 ghost use Rattle.esc_frame.specs.Machine.TextRuns.{IsTextRun, NoUnitAhead};
 ghost use Rattle.esc_frame.specs.Scans.{IsPartOfRun, is_text_byte, is_data_byte, is_free_byte, is_unmarked, IsFreeTo, lowest};
