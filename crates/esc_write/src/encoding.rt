@@ -2,11 +2,11 @@
 ghost use Rattle.std.specs.Prelude.{◌≡◌, ◌<◌, ◌↔◌, ◌++◌, false, true, IfOk, IsErrOf, OnErr, OnOk, length, string_bytes, map};
 ghost use Rattle.std.specs.List.{list_all};
 ghost use Rattle.memory.specs.Refusals.{Refused};
-ghost use Rattle.esc_actions.specs.Texts.{has_text, is_string, list_text, text_after, texts_after, value_text};
+ghost use Rattle.esc_actions.specs.Texts.{has_text, is_string, list_text, text_after, value_text};
 ghost use Rattle.esc_actions.specs.Values.{value_of};
 ghost use Rattle.esc_actions.specs.Writable.{AreWritable};
 ghost use Rattle.esc_sixel.specs.Texts.{is_sixel, sixel_text};
-ghost use Rattle.esc_write.specs.Encoding.{ReadsBack};
+ghost use Rattle.esc_write.specs.Encoding.{AppendsFirst, HaveTexts, ReadsBack};
 
 use crate::direct::append_csi;
 use crate::encode_error::EncodeError;
@@ -24,8 +24,8 @@ use std::alloc::{AllocError, Allocator};
 ///
 /// The text of a writable list reads back as the list's normal list, and is the text of that list
 /// too. `EncodeError::Fmt` comes exactly where a sixel image of the list has a value over 63; that
-/// is seen before any memory is taken. `EncodeError::Memory` says that a growth of the text was
-/// refused. The empty list takes no memory.
+/// is seen before any memory is taken. `EncodeError::Memory` says that a request for memory for the
+/// text was refused. The empty list takes no memory.
 pub fn encode<A: Allocator>(alloc: A, actions: &[Action<A>]) -> Result<String<A>, EncodeError>
     ensures text { IfOk result (λ t. string_bytes t ≡ list_text (map value_of actions.now)) }
     ensures reads_back { AreWritable (map value_of actions.now)
@@ -49,8 +49,7 @@ pub fn encode<A: Allocator>(alloc: A, actions: &[Action<A>]) -> Result<String<A>
 fn spell<A: Allocator>(alloc: A, actions: &[Action<A>]) -> Result<Text<A>, AllocError>
     ensures text { IfOk result (λ t. t ≡ list_text (map value_of actions.now)) }
     ensures refused { OnErr result (0 < length actions.now) }
-    ensures memory_refused { list_all (λ a. has_text (value_of a)) actions.now ≡ true
-        → OnErr result (Refused A) }
+    ensures memory_refused { HaveTexts actions.now → OnErr result (Refused A) }
 {
     let mut text = Text::new(alloc);
     let mut run = ShortText::new();
@@ -74,13 +73,7 @@ fn write_some<'a, A: Allocator>(
     actions: &'a [Action<A>],
 ) -> Result<(&'a [Action<A>], bool), AllocError>
     requires { 0 < length actions.now }
-    ensures text { IfOk result (λ r. text.new ++ texts_after r.1 (map value_of r.0.now) ≡ text.old
-        ++ texts_after follows_string (map value_of actions.now)) }
-    ensures less { IfOk result (λ r. length r.0.now < length actions.now) }
-    ensures left { list_all (λ a. has_text (value_of a)) actions.now ≡ true
-        → IfOk result (λ r. list_all (λ a. has_text (value_of a)) r.0.now ≡ true) }
-    ensures refused { list_all (λ a. has_text (value_of a)) actions.now ≡ true
-        → OnErr result (Refused A) }
+    ensures { AppendsFirst text.old follows_string actions.now result text.new }
 {
     let rest = gather_eights(actions, run);
     if run.len() < 8 {
@@ -98,13 +91,7 @@ fn write_few<'a, A: Allocator>(
     actions: &'a [Action<A>],
 ) -> Result<(&'a [Action<A>], bool), AllocError>
     requires { 0 < length actions.now }
-    ensures text { IfOk result (λ r. text.new ++ texts_after r.1 (map value_of r.0.now) ≡ text.old
-        ++ texts_after follows_string (map value_of actions.now)) }
-    ensures less { IfOk result (λ r. length r.0.now < length actions.now) }
-    ensures left { list_all (λ a. has_text (value_of a)) actions.now ≡ true
-        → IfOk result (λ r. list_all (λ a. has_text (value_of a)) r.0.now ≡ true) }
-    ensures refused { list_all (λ a. has_text (value_of a)) actions.now ≡ true
-        → OnErr result (Refused A) }
+    ensures { AppendsFirst text.old follows_string actions.now result text.new }
 {
     let mut follows = follows_string;
     let mut rest = actions;

@@ -1,4 +1,5 @@
-use Rattle.std.proofs.Common.{length, map, ap, arith, ◌∙◌}
+use Rattle.std.proofs.Common.{length, map, ap, arith, rules, ◌∙◌}
+use Rattle.std.proofs.lemmas.Grind.{common_steps}
 use Rattle.std.proofs.lemmas.Result.{IfErr-at_err}
 use Rattle.esc_actions.specs.Texts.{has_text}
 use Rattle.esc_actions.specs.Values.{value_of}
@@ -20,14 +21,21 @@ few-preserved g c = record {
       (c.few.invariant.have h);
 }
 
-pub returns-in_err-follows-clause-refused : goal.returns-in_err-follows-clause-refused
-returns-in_err-follows-clause-refused g c = λ h. on_any_error _ (
-    IfErr-at_err _ c.in_err-follows.was (c.write_next.ensures.refused (
-    first_passes (λ a. has_text (value_of a)) c.few.rest.now _ _ c.in-Some.ensures.cases.0
-    (c.few.invariant.have h))))
+pub returns-in_err-follows : goal.returns-in_err-follows
+returns-in_err-follows g c = record {
+  text = search rules;
+  less = search rules;
+  left = search rules;
+  refused = λ h. on_any_error _ (
+      IfErr-at_err _ c.in_err-follows.was (c.write_next.ensures.refused (
+      first_passes (λ a. has_text (value_of a)) c.few.rest.now _ _ c.in-Some.ensures.cases.0
+      (c.few.invariant.have h))));
+}
 
-pub returns-clause-text : goal.returns-clause-text
-returns-clause-text g c = c.few.invariant.text
-
-pub returns-clause-left : goal.returns-clause-left
-returns-clause-left g c = c.few.invariant.have
+pub returns : goal.returns
+returns g c = record {
+  text = c.few.invariant.text;
+  less = grind (arith, common_steps);
+  left = c.few.invariant.have;
+  refused = search rules;
+}

@@ -1,25 +1,30 @@
-use Rattle.std.proofs.Common.{◌<◌, length, map, arith}
+use Rattle.std.proofs.Common.{◌<◌, length, map, arith, rules}
+use Rattle.std.proofs.lemmas.Grind.{common_steps}
 use Rattle.esc_actions.specs.Values.{value_of}
 use Rattle.esc_write.proofs.ActionRuns.{rest_have, rest_shorter, run_text}
+use Rattle.esc_write.proofs.Results.{on_any_error}
 use Rattle.esc_write.proofs.encoding.write_some.Goals as goal
 
-pub returns-clause-text : goal.returns-clause-text
-returns-clause-text g c =
+pub returns : goal.returns
+returns g c =
     let run = c.gather_eights-rest.new.run in
-    let some : 0 < length run = omega (arith, c.len.ensures.len, c.if-len-lt8.false) in
-    run_text c.args.follows_string c.args.text.now c.push_str.new.self _ run
-    (map value_of c.args.actions.now) (map value_of c.gather_eights-rest.result.now) some
-    c.as_str.ensures.ascii c.gather_eights-rest.ensures c.in_ok-push_str.ensures.ok
-    c.as_str.ensures.text
+    let rest = c.gather_eights-rest.result.now in
+    let some : 0 < length run = omega (arith, c.len.ensures.len, c.if-len-lt8.false) in record {
+      text =
+          run_text c.args.follows_string c.args.text.now c.push_str.new.self _ run
+          (map value_of c.args.actions.now) (map value_of rest) some
+          c.as_str.ensures.ascii c.gather_eights-rest.ensures c.in_ok-push_str.ensures.ok
+          c.as_str.ensures.text;
+      less =
+          rest_shorter value_of c.args.actions.now rest run c.gather_eights-rest.ensures some;
+      left = rest_have value_of c.args.actions.now rest run c.gather_eights-rest.ensures;
+      refused = search rules;
+    }
 
-pub returns-clause-less : goal.returns-clause-less
-returns-clause-less g c =
-    let run = c.gather_eights-rest.new.run in
-    let some : 0 < length run = omega (arith, c.len.ensures.len, c.if-len-lt8.false) in
-    rest_shorter value_of c.args.actions.now c.gather_eights-rest.result.now run
-    c.gather_eights-rest.ensures some
-
-pub returns-clause-left : goal.returns-clause-left
-returns-clause-left g c =
-    rest_have value_of c.args.actions.now c.gather_eights-rest.result.now
-    c.gather_eights-rest.new.run c.gather_eights-rest.ensures
+pub returns-in_err-push_str : goal.returns-in_err-push_str
+returns-in_err-push_str g c = record {
+  text = grind (arith, common_steps);
+  less = grind (arith, common_steps);
+  left = grind (arith, common_steps);
+  refused = λ _. on_any_error _ c.in_err-push_str.ensures.refused;
+}
