@@ -1,11 +1,10 @@
 -- What a filter was fed.
-use Rattle.std.specs.Prelude.{ℕ, ◌≡◌, Bool, true, false, List, [], ◌∷◌, ◌++◌, IfOk, IsTrue, OnErr, Result, Some}
-use Rattle.std.specs.List.{FoldsTo}
+use Rattle.std.specs.Prelude.{ℕ, ◌≡◌, Bool, true, false, List, [], ◌∷◌, ◌++◌, Result, Some}
 use Rattle.std.specs.declared.alloc.AllocError.{AllocError}
 use Rattle.esc_values.specs.declared.csi_param.CsiParam.{CsiParam}
 use Rattle.esc_sequences.specs.Csis.{csi_of}
 use Rattle.esc_osc.specs.Reading.{meaning as command_meant}
-use Rattle.esc_parse.specs.Given.{By, StopsAt}
+use Rattle.esc_parse.specs.Given.{TakesAtOnce}
 use Rattle.esc_actions.specs.Values.{Value, csi, osc, value_of}
 use Rattle.esc_actions.specs.declared.action.Action.{Action}
 use Rattle.esc_parse.specs.Fed.{IsBroken as IsBrokenParser, WasFedWithin}
@@ -35,29 +34,18 @@ abbrev pub TakesBy : {P A : Type 0} → (P → Value A → Bool) → Passing P A
 TakesBy allows p a q = Takes (allows p.policy.now) p.written a q.written
     × (q.policy.now ≡ p.policy.now)
 
--- What a call did that may take some actions at once, from the bytes that they are read from. They
--- have these values, and Is says which action has which:
-pub record MayTakeAll {P A V : Type 0} (allows : P → Value A → Bool) (Is : Action A → V → Type 0)
-    (p : Passing P A) (vs : List V) (result : Result Bool AllocError) (q : Passing P A)
-    : Type 0 where
-  -- on true they were taken, one after another
-  pub taken : IfOk result (λ b. IsTrue b → FoldsTo (By Is (TakesBy allows)) p vs q)
-  -- on false nothing was done
-  pub left : IfOk result (λ b. b ≡ false → q ≡ p)
-  -- after an error those before one that was refused were taken
-  pub refused : OnErr result (StopsAt ⊥ (By Is (TakesBy allows)) (By Is Refuses) p vs q)
-
--- those of a control sequence
+-- what a call promises that may take the values of a control sequence at once
 abbrev pub MayTakeSequence : {P A : Type 0} → (P → Value A → Bool) → Passing P A → List CsiParam
     → ℕ → Result Bool AllocError → Passing P A → Type 0
 MayTakeSequence allows p es f result q =
-    MayTakeAll allows (λ a c. value_of a ≡ csi c) p (csi_of es false f) result q
+    TakesAtOnce (λ a c. value_of a ≡ csi c) (TakesBy allows) Refuses result p (csi_of es false f) q
 
--- that of a command of these parts
+-- or that of a command of these parts
 abbrev pub MayTakeCommand : {P A : Type 0} → (P → Value A → Bool) → Passing P A → List (List ℕ)
     → Result Bool AllocError → Passing P A → Type 0
 MayTakeCommand allows p ps result q =
-    MayTakeAll allows (λ a c. value_of a ≡ osc (command_meant c)) p (ps ∷ []) result q
+    TakesAtOnce (λ a c. value_of a ≡ osc (command_meant c)) (TakesBy allows) Refuses result p
+    (ps ∷ []) q
 
 -- The filter, of this limit and of a policy that admits these values, was fed these bytes, where u
 -- says what is written of characters that deceive. Where `by_lines`, they are of one line, whose

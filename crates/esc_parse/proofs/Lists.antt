@@ -162,9 +162,9 @@ if_err_third Y Z (Err e) A B f w = (w.0, w.1, f w.2)
 
 pub if_err_parts : {T E : Type 0} (Y Z W V : Type 0) (r : Result T E) (A B : E → Type 0)
     → (Y → (Z × W) × V)
-    → IfErr r (λ e. A e × B e × Y) → IfErr r (λ e. A e × B e × Z × W × V)
+    → IfErr r (λ e. A e × B e × Y) → IfErr r (λ e. A e × B e × (Z × V) × W)
 if_err_parts Y Z W V (Ok x) A B f w = tt
-if_err_parts Y Z W V (Err e) A B f w = let p = f w.2 in (w.0, w.1, p.0.0, p.0.1, p.1)
+if_err_parts Y Z W V (Err e) A B f w = let p = f w.2 in (w.0, w.1, (p.0.0, p.1), p.0.1)
 
 -- no error, where its cause never is
 pub is_ok_unless : {T E : Type 0} (P : T → Type 0) (B : E → Type 0) (W : Type 0) (r : Result T E)

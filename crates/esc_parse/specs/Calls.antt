@@ -1,5 +1,6 @@
 -- What a call of a parser promises, in the words that its clauses share.
-use Rattle.std.specs.Prelude.{ℕ, ◌≡◌, ◌<◌, ◌≤◌, ◌+◌, ◌⊎◌, List, [], ◌++◌, length, map, take, Option, Result, Err, IfErr, IfNone, IfOk, IfSome}
+use Rattle.std.specs.Prelude.{ℕ, ◌≡◌, ◌<◌, ◌≤◌, ◌+◌, ◌⊎◌, List, [], ◌++◌, length, map, take, Option, Result, Err, IfErr, IfNone, IfOk, IfSome, OnOk}
+use Rattle.std.specs.Fn.{Called, Mut, always_mut}
 use Rattle.std.specs.List.{FoldsTo}
 use Rattle.esc_frame.specs.Events.{Awaits}
 use Rattle.esc_frame.specs.Memory.{MayTake}
@@ -12,7 +13,7 @@ use Rattle.esc_actions.specs.declared.action.Action.{Action}
 use Rattle.esc_parse.specs.Collected.{Adds, AddsSome}
 use Rattle.esc_parse.specs.Fed.{IsBroken, WasFedWithin}
 use Rattle.esc_parse.specs.Firsts.{IsFirst, IsFirstStop, IsSilentWithin, IsStop}
-use Rattle.esc_parse.specs.Given.{AnyAt, At, StopsAt}
+use Rattle.esc_parse.specs.Given.{AnyAt, At, GetsAll, GetsPrefix, StopsAt}
 use Rattle.esc_parse.specs.declared.parser.Parser.{Parser}
 use Rattle.esc_parse.specs.declared.sink.Sink.{Ghosts as Sinks}
 use Rattle.memory.specs.Refusals.{Refused}
@@ -38,6 +39,32 @@ MayFeed T old sink b = T.is_ready sink ⊎ MayParse T.may T.takes old sink b
 -- always is found there, and not on a side of a sum.
 abbrev pub OneOf : Type 0 → Type 0 → Type 0
 OneOf P Q = (P → P ⊎ Q) → (Q → P ⊎ Q) → P ⊎ Q
+
+-- the calls of a closure that takes an action and returns nothing
+abbrev pub Callback : Type 0 → Type 0 → Type 1
+Callback A F = Mut F (Action A × Unit {0}) (Unit {0})
+
+-- the closure may be called on this action
+abbrev pub MayCallOn : {A F : Type 0} → Callback A F → F → Action A → Type 0
+MayCallOn calls f a = calls.pre f (a, tt)
+
+-- it was called on this action, and became g
+abbrev pub CallsOn : {A F : Type 0} → Callback A F → F → Action A → F → Type 0
+CallsOn calls f a g = Called calls f (a, tt) tt g
+
+-- The closure may be called always; or, of a parser that was fed a stream, on the actions that b
+-- adds, in this order, and on no others; or, of a parser that has failed, never.
+abbrev pub MayCall : {A F : Type 0} → Callback A F → Parser A → F → List ℕ → Type 0
+MayCall calls p f b =
+    OneOf (always_mut calls f) (MayParse (MayCallOn calls) (CallsOn calls) p f b)
+
+-- it was called on actions of these values, one after another
+abbrev pub CallsOnAll : {A F : Type 0} → Callback A F → F → List (Value A) → Type 0
+CallsOnAll calls f vs = GetsAll (At value_of (CallsOn calls)) f vs
+
+-- or on those of a prefix of them
+abbrev pub CallsOnPrefix : {A F : Type 0} → Callback A F → F → List (Value A) → Type 0
+CallsOnPrefix calls f vs = GetsPrefix (At value_of (CallsOn calls)) f vs
 
 -- this holds of each stream with the bytes b after it, all of which the parser may have been fed,
 -- where these bytes yield as many values as there are more now than there were
@@ -99,6 +126,34 @@ IsSomeOf n b = (0 < n) × (n ≤ length b)
 -- the length of a prefix of the bytes, which is empty only where there are none
 abbrev pub IsTaken : ℕ → List ℕ → Type 0
 IsTaken n b = (n ≤ length b) × (0 < length b → 0 < n)
+
+-- What a call promises that gives a sink what the bytes b add, and hands it back.
+pub record GivesAll {A S : Type 0} (T : Sinks S (Action A)) (old : Parser A) (b : List ℕ)
+    (sink : S) (result : Result (Unit {0}) ParseError) (new : Parser A) (back : S) : Type 0 where
+  -- they were fed, and the sink was given the actions that they add, in order
+  pub given : After old (λ limit s. OnOk result (WasFedWithin limit (s ++ b) new
+      × FoldsTo (At value_of T.takes) sink (yield_within limit s b) back))
+  -- an error says that memory was refused, and the sink was given a prefix of these actions
+  pub refused : After old (λ limit s. IsStopped result new
+      (StopsIn T.takes T.refuses limit s b sink back))
+  -- a parser that has failed says so, and the sink is as it was
+  pub failed : IsBroken old → (result ≡ Err Failed) × IsBroken new × (back ≡ sink)
+  -- after any other call the sink is ready for any action, where it was before
+  pub ready : T.is_ready sink → OnOk result (T.is_ready back)
+
+-- What a call promises that calls a closure on what the bytes b add.
+pub record CallsBack {A F : Type 0} (calls : Callback A F) (old : Parser A) (b : List ℕ) (f : F)
+    (result : Result (Unit {0}) ParseError) (new : Parser A) : Type 0 where
+  -- they were fed, and the closure was called on the actions that they add, in order
+  pub given : After old (λ limit s. OnOk result
+      (WasFedWithin limit (s ++ b) new × CallsOnAll calls f (yield_within limit s b)))
+  -- these can be written, but for the exceptions
+  pub handed_out : After old (λ limit s. AreHandedOut {A = A} (yield_within limit s b))
+  -- an error says that memory was refused, and the closure was called on a prefix of these actions
+  pub refused : After old (λ limit s. IsRefused result new
+      (MayTake (s ++ b) × CallsOnPrefix calls f (yield_within limit s b)))
+  -- a parser that has failed says so
+  pub failed : StaysBroken old result new
 
 -- What a call promises that takes a prefix of the bytes b: `got` holds of the values that it
 -- yields, `nothing` where no byte was taken, and `stopped` where memory was refused.
@@ -174,7 +229,7 @@ pub record FindsFirsts {A : Type 0} (old : Parser A) (b : List ℕ) (had : List 
   pub some : After old (λ limit s. IfFound result (λ n. WasFedWithin limit (s ++ take n b) new
       × IsFirstStop limit s b (yield_within {A = A} limit s (take n b)) n
       × Adds had (yield_within limit s (take n b)) all))
-  -- what any prefix adds can be written, but for the exceptions
+  -- what any prefix adds, and so what was appended, can be written, but for the exceptions
   pub handed_out : After old
       (λ limit s. (n : ℕ) → AreHandedOut {A = A} (yield_within limit s (take n b)))
   -- where none were found all bytes were fed, no prefix is such, and what they add was appended

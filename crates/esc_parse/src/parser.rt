@@ -1,16 +1,13 @@
 //! The parser.
-ghost use Rattle.std.specs.Prelude.{◌⊎◌, ◌≡◌, ◌<◌, ◌≤◌, ◌+◌, min, List, [], ◌++◌, IfErr, IfOk, IfSome, None, OnOk, Some, map};
+ghost use Rattle.std.specs.Prelude.{◌≡◌, ◌≤◌, ◌+◌, min, List, [], IfOk, IfSome, Some, map};
 ghost use Rattle.esc_frame.specs.Counts.{kept_of_cut};
 ghost use Rattle.esc_frame.specs.Limits.{most};
 ghost use Rattle.esc_frame.specs.Segments.{IsCut, Segment};
 ghost use Rattle.esc_actions.specs.Limited.{data_kept};
-ghost use Rattle.esc_parse.specs.Calls.{After, IsRefused, IsStopped, MayParse, OneOf, StaysBroken, StopsIn, Yields};
-ghost use Rattle.esc_frame.specs.Memory.{MayTake};
-ghost use Rattle.esc_parse.specs.Given.{At, GetsAll, GetsPrefix};
-ghost use Rattle.esc_actions.specs.Meaning.{MayWant, yield_within};
+ghost use Rattle.esc_parse.specs.Calls.{After, CallsBack, GivesAll, IsRefused, MayCall, MayFeed, StaysBroken, Yields};
+ghost use Rattle.esc_actions.specs.Meaning.{MayWant};
 ghost use Rattle.esc_actions.specs.Values.{value_of};
 ghost use Rattle.esc_actions.specs.Writable.{AreHandedOut};
-ghost use Rattle.memory.specs.Refusals.{Refused};
 
 mod firsts;
 
@@ -31,8 +28,8 @@ use std::alloc::{Allocator, Global};
 /// hands out what its bytes add to the meaning of the bytes that earlier calls were fed, so the
 /// chunks make no difference.
 ///
-/// Where a call returns `ParseError::Memory`, a growth was refused: from then on every call returns
-/// `ParseError::Failed`, and nothing is handed out any more.
+/// Where a call returns `ParseError::Memory`, a request for memory was refused: from then on every
+/// call that is fed bytes returns `ParseError::Failed`, and nothing is handed out any more.
 #[derive(Drop)]
 pub struct Parser<A: Allocator = Global> {
     framer: VTParser<A>,
@@ -41,7 +38,6 @@ pub struct Parser<A: Allocator = Global> {
 }
 
 impl<A: Allocator + Copy> Parser<A> {
-    ghost use Rattle.std.specs.List.{FoldsTo};
     ghost use Rattle.esc_parse.specs.Fed.{IsBroken, WasFed, WasFedWithin};
 
     /// A parser at the beginning of a stream. Takes no memory.
@@ -61,8 +57,9 @@ impl<A: Allocator + Copy> Parser<A> {
     ///
     /// An operating system command, an application program command, and a sixel image, termcap
     /// query or short control with more data give no action, and a device control string of which
-    /// the header has more parameter bytes is passed over. The segments of the stream are the same
-    /// as without a limit.
+    /// the header has more parameter bytes is passed over. A short control is a device control
+    /// string with the intermediate `$` and the final byte `q`, as a query of a setting. The
+    /// segments of the stream are the same as without a limit.
     #[tactic(auto, unfolding(crate::specs::Fed::WasFedWithin))]
     pub fn with_limit(alloc: A, limit: usize) -> Parser<A>
         ensures { WasFedWithin (Some limit) [] result }
@@ -87,9 +84,10 @@ impl<A: Allocator + Copy> Parser<A> {
     /// How many bytes are kept of the segment that is unfinished: of an operating system command
     /// its text in UTF-8, of an application program command its bytes 20 to 7F, of a device control
     /// string its parameter bytes 30 to 39 and 3B until its final byte, and after it the data of a
-    /// sixel image, termcap query or short control. It is 0 once the limit was passed, in a mode,
-    /// where no such segment is unfinished, and after a failure. Without a limit a count past
-    /// [`usize::MAX`] is returned as `usize::MAX`.
+    /// sixel image, termcap query or short control. Any other device control string is a mode: its
+    /// data is handed out as it comes, and none is kept. The count is 0 also once the limit was
+    /// passed, where no such segment is unfinished, and after a failure. Without a limit a count
+    /// past [`usize::MAX`] is returned as `usize::MAX`.
     pub fn kept(&self) -> usize
         ensures given { After self.now (λ limit s. (gs : List Segment) → IsCut s gs
             → result ≡ min (kept_of_cut limit gs + data_kept limit s) most) }
@@ -104,30 +102,28 @@ impl<A: Allocator + Copy> Parser<A> {
     }
 
     /// Gives the sink, in order, exactly the actions that `bytes` add to what the bytes fed before
-    /// mean, and hands it back.
+    /// mean, and hands it back. They can be written, but for the four kinds of
+    /// [`is_exception`](esc_actions::exceptions::is_exception): so says the law
+    /// [`yield_handed_out`](esc_actions::laws::yield_handed_out).
     ///
-    /// `ParseError::Memory` says that a growth was refused, the parser's or the sink's: the sink
-    /// was given a prefix of these actions, and the parser has failed. Without the sink's doing it
-    /// does not come while the stream so far holds only characters, stray and broken bytes,
-    /// controls, lone terminators and escape sequences, whole or cut short; and of the stream so
-    /// far what is unfinished counts alone, by the law
+    /// The sink has to be ready for any action; or, of a parser that was fed a stream, for these,
+    /// in this order; or, of a parser that has failed, for none.
+    ///
+    /// `ParseError::Memory` says that a request for memory was refused, the parser's or the sink's:
+    /// the sink was given a prefix of these actions, and the parser has failed. Without the sink's
+    /// doing it does not come while the stream so far holds only characters, stray and broken
+    /// bytes, controls, lone terminators and escape sequences, whole or cut short. Of the bytes fed
+    /// before only those of the segment that is unfinished matter here, by the law
     /// [`unfinished_alone`](crate::laws::unfinished_alone). `ParseError::Failed` says that an
-    /// earlier call had been refused a growth: the sink comes back as it was.
+    /// earlier call had been refused one: the sink comes back as it was.
     #[tactic(auto, unfolding(crate::specs::Fed::WasFedWithin))]
     pub fn parse_into<S: Sink<Action<A>>>(
         &mut self,
         bytes: &[u8],
         sink: S,
     ) -> (Result<(), ParseError>, S)
-        requires { S.is_ready sink ⊎ MayParse S.may S.takes self.old sink bytes.now }
-        ensures ready { S.is_ready sink → OnOk result.0 (S.is_ready result.1) }
-        ensures given { After self.old (λ limit s. OnOk result.0
-            (WasFedWithin limit (s ++ bytes.now) self.new
-            × FoldsTo (At value_of S.takes) sink (yield_within limit s bytes.now) result.1)) }
-        ensures refused { After self.old (λ limit s. IsStopped result.0 self.new
-            (StopsIn S.takes S.refuses limit s bytes.now sink result.1)) }
-        ensures failed { IsBroken self.old
-            → (result.0 ≡ Err ParseError.Failed) × IsBroken self.new × (result.1 ≡ sink) }
+        requires { MayFeed S.Sink self.old sink bytes.now }
+        ensures { GivesAll S.Sink self.old bytes.now sink result.0 self.new result.1 }
     {
         let mut performer = Performer {
             sink,
@@ -149,11 +145,13 @@ impl<A: Allocator + Copy> Parser<A> {
         }
     }
 
-    /// The actions that `bytes` add to what the bytes fed before mean, in order.
+    /// The actions that `bytes` add to what the bytes fed before mean, in order. They can be
+    /// written, but for the four kinds of
+    /// [`is_exception`](esc_actions::exceptions::is_exception).
     ///
-    /// `ParseError::Memory` says that a growth was refused; what came is dropped, and the parser
-    /// has failed. `ParseError::Failed` says that an earlier call had been refused one; the parser
-    /// stays as it was.
+    /// `ParseError::Memory` says that a request for memory was refused; what came is dropped, and
+    /// the parser has failed. `ParseError::Failed` says that an earlier call had been refused one;
+    /// the parser has still failed.
     pub fn parse_as_vec(&mut self, bytes: &[u8]) -> Result<Vec<Action<A>, A>, ParseError>
         ensures given { After self.old (λ limit s. IfOk result
             (λ v. Yields limit s bytes.now self.new (map value_of v.items))) }
@@ -186,10 +184,9 @@ impl<A: Allocator + Copy> Parser<A> {
 }
 
 impl Parser {
-    ghost use Rattle.esc_parse.specs.Fed.{IsBroken, WasFed, WasFedWithin};
-
     /// Calls `callback` on each action that `bytes` add to what the bytes fed before mean, in
-    /// order.
+    /// order. They can be written, but for the four kinds of
+    /// [`is_exception`](esc_actions::exceptions::is_exception).
     ///
     /// This call is for the global allocator alone, since a bound `FnMut(Action<A>)` over an
     /// allocator `A` cannot be had yet: [`parse_into`](Parser::parse_into) is for any. The closure
@@ -197,27 +194,16 @@ impl Parser {
     /// order, and no others; or, of a parser that has failed, never. So it is called in no other
     /// way.
     ///
-    /// `ParseError::Memory` says that a growth was refused, after a prefix of these actions; the
-    /// parser has failed. It does not come while the stream so far holds only characters, stray and
-    /// broken bytes, controls, lone terminators and escape sequences, whole or cut short: for these
-    /// no memory is taken. `ParseError::Failed` says that an earlier call had been refused a
-    /// growth; the closure is not called then, and the parser stays as it was.
+    /// `ParseError::Memory` says that a request for memory was refused, after a prefix of these
+    /// actions; the parser has failed. It does not come while the stream so far holds only
+    /// characters, stray and broken bytes, controls, lone terminators and escape sequences, whole
+    /// or cut short: for these no memory is taken. `ParseError::Failed` says that an earlier call
+    /// had been refused one: the closure is not called, since on such a parser it need not be
+    /// callable, and the parser has still failed.
     #[tactic(auto, unfolding(crate::specs::Fed::WasFedWithin))]
     pub fn parse<F: FnMut(Action)>(&mut self, bytes: &[u8], callback: F) -> Result<(), ParseError>
-        requires { OneOf (F.IsAlwaysCallable callback)
-            (MayParse (λ p a. F.pre p a) (λ p a q. F.step p a tt q) self.old callback bytes.now) }
-        ensures given { After self.old (λ limit s. OnOk result
-            (WasFedWithin limit (s ++ bytes.now) self.new
-            × GetsAll (At value_of (λ p a q. F.step p a tt q)) callback
-            (yield_within limit s bytes.now))) }
-        ensures handed_out { After self.old (λ limit s.
-            AreHandedOut {A = Global} (yield_within limit s bytes.now)) }
-        ensures refused { After self.old (λ limit s. IfErr result (λ e.
-            (e ≡ ParseError.Memory) × IsBroken self.new
-            × MayTake (s ++ bytes.now) × Refused Global
-            × GetsPrefix (At value_of (λ p a q. F.step p a tt q)) callback
-            (yield_within limit s bytes.now))) }
-        ensures failed { StaysBroken self.old result self.new }
+        requires { MayCall F.FnMut self.old callback bytes.now }
+        ensures { CallsBack F.FnMut self.old bytes.now callback result self.new }
     {
         laws::yield_handed_out::<Global>();
         self.parse_into(bytes, Calls { callback }).0

@@ -1,5 +1,5 @@
 //! What takes actions, one after another.
-ghost use Rattle.std.specs.Prelude.{◌≡◌, ◌⊎◌, ◌<◌, ◌≤◌, ◌+◌, ℕ, List, [], ◌∷◌, ◌++◌, IfOk, IsTrue, MatchResult, OnErr, OnOk, false, length, map, true, vec_capacity, vec_len};
+ghost use Rattle.std.specs.Prelude.{◌≡◌, ◌⊎◌, ◌<◌, ◌≤◌, ◌+◌, ℕ, List, [], ◌∷◌, ◌++◌, IsTrue, MatchResult, OnOk, false, length, map, true, vec_capacity, vec_len};
 ghost use Rattle.std.specs.List.{FoldsTo, list_all};
 ghost use Rattle.std.specs.Str.{chars};
 ghost use Rattle.esc_values.specs.Clear.{is_clear, parts_of};
@@ -8,7 +8,7 @@ ghost use Rattle.esc_sequences.specs.Csis.{CsiValue, csi_of};
 ghost use Rattle.esc_frame.specs.Events.{MayGet};
 ghost use Rattle.esc_frame.specs.Scans.{is_text_byte};
 ghost use Rattle.esc_parse.specs.Collected.{Gathers};
-ghost use Rattle.esc_parse.specs.Given.{AnyBy, By, Receives, StopsAt, first_of};
+ghost use Rattle.esc_parse.specs.Given.{By, MayReceiveBy, Receives, TakesAtOnce, first_of};
 ghost use Rattle.esc_parse.specs.Images.{is_image};
 ghost use Rattle.esc_actions.specs.Values.{csi, osc, value_of};
 ghost use Rattle.esc_osc.specs.Reading.{meaning as command_meant};
@@ -133,15 +133,11 @@ pub trait Sink<T: FromChar> {
         _parameters_truncated: bool,
         _control: u8,
     ) -> Result<bool, AllocError>
-        requires { MayGet is_ready (AnyBy T.is_sequence may) (By T.is_sequence takes)
-            self.old (csi_of _params.now _parameters_truncated _control) }
+        requires { MayReceiveBy T.is_sequence is_ready may takes self.old
+            (csi_of _params.now _parameters_truncated _control) }
         ensures ready { is_ready self.old → OnOk result (is_ready self.new) }
-        ensures taken { IfOk result (λ b. IsTrue b → FoldsTo (By T.is_sequence takes)
-            self.old (csi_of _params.now _parameters_truncated _control) self.new) }
-        ensures left { IfOk result (λ b. b ≡ false → self.new ≡ self.old) }
-        ensures refused { OnErr result (StopsAt ⊥ (By T.is_sequence takes)
-            (By T.is_sequence refuses) self.old
-            (csi_of _params.now _parameters_truncated _control) self.new) }
+        ensures given { TakesAtOnce T.is_sequence takes refuses result self.old
+            (csi_of _params.now _parameters_truncated _control) self.new }
     {
         Ok(false)
     }
@@ -149,21 +145,19 @@ pub trait Sink<T: FromChar> {
     /// The same of an operating system command, from its text, whose parts are between `;`.
     #[inline]
     fn receive_command(&mut self, _text: &[u8]) -> Result<bool, AllocError>
-        requires { MayGet is_ready (AnyBy T.is_command may) (By T.is_command takes)
-            self.old (parts_of _text.now ∷ []) }
+        requires { MayReceiveBy T.is_command is_ready may takes self.old (parts_of _text.now ∷ []) }
         ensures ready { is_ready self.old → OnOk result (is_ready self.new) }
-        ensures taken { IfOk result (λ b. IsTrue b → FoldsTo (By T.is_command takes)
-            self.old (parts_of _text.now ∷ []) self.new) }
-        ensures left { IfOk result (λ b. b ≡ false → self.new ≡ self.old) }
-        ensures refused { OnErr result (StopsAt ⊥ (By T.is_command takes) (By T.is_command refuses)
-            self.old (parts_of _text.now ∷ []) self.new) }
+        ensures given { TakesAtOnce T.is_command takes refuses result self.old
+            (parts_of _text.now ∷ []) self.new }
     {
         Ok(false)
     }
 
     /// Whether every control sequence with this final byte, whatever its parameters, would leave it
-    /// as it is. Where it returns true, as it does not by default, none that kept all parameters is
-    /// made, or given to [`receive_sequence`](Sink::receive_sequence).
+    /// as it is. Where it returns true, as it does not by default, such a sequence is passed over:
+    /// no action is made of it, and it is not given to
+    /// [`receive_sequence`](Sink::receive_sequence). One with more parameters than are kept is
+    /// still given.
     #[inline]
     fn drops_sequences(&self, _control: u8) -> bool
         ensures { IsTrue result → (es : List CsiParam) → FoldsTo (By T.is_sequence takes)

@@ -1,15 +1,12 @@
 -- Borrowed actions: what they mean, and what a sink of them was given.
-use Rattle.std.specs.Prelude.{ℕ, ◌≡◌, ◌≢◌, ◌⊎◌, List, [], ◌∷◌, ◌++◌, Option, map, true}
+use Rattle.std.specs.Prelude.{◌≡◌, ◌≢◌, ◌⊎◌, List, [], ◌∷◌, ◌++◌, map, true}
 use Rattle.std.specs.List.{FoldsTo, flat_map, list_all}
 use Rattle.std.specs.Str.{chars}
 use Rattle.esc_values.specs.Clear.{is_clear, parts_of}
 use Rattle.esc_sequences.specs.Csis.{sgr, unspecified}
 use Rattle.esc_osc.specs.Reading.{meaning as command_meant}
-use Rattle.esc_actions.specs.Meaning.{yield_within}
 use Rattle.esc_actions.specs.Values.{Value, control, csi, osc, print, value_of}
 use Rattle.esc_actions.specs.declared.action.Action.{Action}
-use Rattle.esc_parse.specs.Fed.{IsBroken, WasFedWithin}
-use Rattle.esc_parse.specs.declared.parser.Parser.{Parser}
 use Rattle.escape_stream.specs.declared.borrowed.ActionRef.{ActionRef}
 use Rattle.escape_stream.specs.declared.borrowed.ActionRef.TheVariants.{Text, Print, Control, Sgr, Sequence, Command, Owned}
 
@@ -32,6 +29,13 @@ IsSome _ = Unit {0}
 abbrev pub IsClear : {T : Type 0} → ActionRef T → Type 0
 IsClear (Text t) = list_all is_clear (chars t.now) ≡ true
 IsClear _ = Unit {0}
+
+-- what a text holds that is handed on: of any other borrowed action this says nothing
+pub record HasClearText {T : Type 0} (r : ActionRef T) : Type 0 where
+  -- it has a character
+  pub some : IsSome r
+  -- and no control of C0 or C1
+  pub clear : IsClear r
 
 -- p was given borrowed actions, one after another, that together mean vs, and became q
 abbrev pub Gets : {S A : Type 0} → (S → ActionRef (Action A) → S → Type 0) → S → List (Value A) → S
@@ -68,15 +72,6 @@ Awaits {S} {A} may takes p vs =
     (rs : List (ActionRef (Action A))) (r : ActionRef (Action A)) (later : List (Value A)) (q : S)
     → IsSome r → vs ≡ flat_map values_of rs ++ (values_of r ++ later) → FoldsTo takes p rs q
     → may q r
-
--- A receiver need not be ready for every borrowed action: the parser has failed, and gives none; or
--- the receiver awaits what b adds to a stream that the parser may have been fed.
-abbrev pub MayParse : {A S : Type 0} → (S → ActionRef (Action A) → Type 0)
-    → (S → ActionRef (Action A) → S → Type 0) → Parser A → S → List ℕ
-    → Type 0
-MayParse may takes p old b =
-    IsBroken p ⊎ ((limit : Option ℕ) × (s : List ℕ) × WasFedWithin limit s p
-    × Awaits may takes old (yield_within limit s b))
 
 -- a list of actions that grew by these values
 abbrev pub HasGrown : {A : Type 0} → List (Action A) → List (Value A) → List (Action A) → Type 0

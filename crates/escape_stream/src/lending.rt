@@ -4,7 +4,7 @@ ghost use Rattle.std.specs.List.{list_all};
 ghost use Rattle.esc_frame.specs.Scans.{is_text_byte};
 ghost use Rattle.esc_sequences.specs.Csis.{csi_of, unspecified};
 ghost use Rattle.esc_actions.specs.Values.{value_of};
-ghost use Rattle.escape_stream.specs.Borrowed.{IsClear, IsSome, values_of};
+ghost use Rattle.escape_stream.specs.Borrowed.{HasClearText, values_of};
 ghost use Rattle.escape_stream.specs.Lent.{Lends, LendsNot, MayLend};
 
 use crate::borrowed::ActionRef;
@@ -118,8 +118,7 @@ impl<A: Allocator, S: BorrowingSink<Action<A>>> Sink<Action<A>> for Lending<S> {
 #[inline(always)]
 fn lent<'a, A: Allocator>(action: Action<A>) -> ActionRef<'a, Action<A>>
     ensures value { values_of result ≡ value_of action ∷ [] }
-    ensures some { IsSome result }
-    ensures clear { IsClear result }
+    ensures text { HasClearText result }
 {
     match action {
         Action::Print(c) => ActionRef::Print(c),

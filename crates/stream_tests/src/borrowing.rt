@@ -1,6 +1,6 @@
 //! Borrowed actions.
 ghost use Rattle.std.specs.Prelude.{◌⊎◌, MatchResult, OnOk, ⊤};
-ghost use Rattle.escape_stream.specs.Borrowed.{IsClear, IsSome};
+ghost use Rattle.escape_stream.specs.Borrowed.{HasClearText};
 
 use escape_stream::{
     Action, ActionRef, BorrowingSink, ParseError, Parser, parse_borrowed, parse_borrowed_into,
@@ -83,8 +83,7 @@ impl<A: Allocator + Copy> BorrowingSink<Action<A>> for Appending<A> {
 
     fn receive(&mut self, action: ActionRef<'_, Action<A>>) -> Result<(), AllocError>
         requires ready { ⊤ ⊎ ⊤ }
-        requires some { IsSome action }
-        requires clear { IsClear action }
+        requires text { HasClearText action }
         ensures ready { ⊤ → OnOk result ⊤ }
         ensures given { MatchResult result (λ _. ⊤) (λ _. ⊤) }
     {

@@ -134,10 +134,10 @@ impl<A: Allocator + Copy> Parser<A> {
     /// before mean, and the length of this prefix, which is all that was fed; further actions of
     /// its last byte are dropped. `None` where `bytes` add none: then all were fed.
     ///
-    /// `ParseError::Memory` says that a growth was refused; the parser has failed. As from
-    /// [`parse`](Parser::parse), it does not come while the stream holds only what takes no memory.
-    /// `ParseError::Failed` says that an earlier call had been refused a growth, also where `bytes`
-    /// are empty.
+    /// `ParseError::Memory` says that a request for memory was refused; the parser has failed. As
+    /// from [`parse`](Parser::parse), it does not come while the stream holds only what takes no
+    /// memory. `ParseError::Failed` says that an earlier call had been refused one, also where
+    /// `bytes` are empty.
     #[tactic(auto, unfolding(crate::specs::Fed::WasFedWithin))]
     #[inline]
     pub fn parse_first(&mut self, bytes: &[u8]) -> Result<Option<(Action<A>, usize)>, ParseError>
@@ -235,10 +235,10 @@ impl<A: Allocator + Copy> Parser<A> {
     /// A caller that clears the list and gives it again asks for no memory for it once it has room,
     /// and a character or a control in ground is then appended without setting up anything else.
     ///
-    /// `ParseError::Memory` says that a growth was refused, the parser's or the list's: a prefix of
-    /// the actions that `bytes` add was appended, and the parser has failed. `ParseError::Failed`
-    /// says that an earlier call had been refused one, also where `bytes` are empty; the list stays
-    /// as it was.
+    /// `ParseError::Memory` says that a request for memory was refused, the parser's or the list's:
+    /// a prefix of the actions that `bytes` add was appended, and the parser has failed.
+    /// `ParseError::Failed` says that an earlier call had been refused one, also where `bytes` are
+    /// empty; the list stays as it was.
     #[tactic(auto, unfolding(crate::specs::Fed::WasFedWithin))]
     #[inline]
     pub fn parse_first_into(
@@ -269,9 +269,9 @@ impl<A: Allocator + Copy> Parser<A> {
     /// terminator. `None` where there is no such prefix: then all `bytes` were fed, and what they
     /// added is dropped.
     ///
-    /// `ParseError::Memory` says that a growth was refused; what came is dropped, and the parser
-    /// has failed. `ParseError::Failed` says that an earlier call had been refused one, also where
-    /// `bytes` are empty.
+    /// `ParseError::Memory` says that a request for memory was refused; what came is dropped, and
+    /// the parser has failed. `ParseError::Failed` says that an earlier call had been refused one,
+    /// also where `bytes` are empty.
     pub fn parse_first_as_vec(
         &mut self,
         bytes: &[u8],

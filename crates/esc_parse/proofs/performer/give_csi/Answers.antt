@@ -8,7 +8,7 @@ use Rattle.memory.specs.Refusals.{Refused}
 pub returns-in-Ok-true-clause-given : goal.returns-in-Ok-true-clause-given
 returns-in-Ok-true-clause-given g c =
     folds_seen value_of csi g.S.Sink.takes g.S.Sink.refuses c.args.sink.now _ _
-    (c.in-Ok-true.ensures.taken c.in-Ok-true.field-0-test)
+    (c.in-Ok-true.ensures.given.taken c.in-Ok-true.field-0-test)
 
 pub returns-in-Err-clause-given : goal.returns-in-Err-clause-given
 returns-in-Err-clause-given g c =
@@ -16,7 +16,7 @@ returns-in-Err-clause-given g c =
     (Refused g.row.A.Denot) ⊥ c.args.sink.now _ _
     (λ no. absurd no)
     (stops_seen value_of csi g.S.Sink.takes g.S.Sink.refuses ⊥ c.args.sink.now _ _
-    c.in-Err.ensures.refused)
+    c.in-Err.ensures.given.refused)
 
 pub receive_sequence-requires : goal.receive_sequence-requires
 receive_sequence-requires g c =

@@ -17,7 +17,7 @@ returns-in-Ok-false-clause-given g c =
     (λ _. FoldsTo (At value_of g.S.Sink.takes) s meant new)
     (λ _. StopsAt (Refused g.row.A.Denot) (At value_of g.S.Sink.takes)
     (At value_of g.S.Sink.refuses) s meant new))
-    (c.in-Ok-false.ensures.left c.in-Ok-false.field-0-test)
+    (c.in-Ok-false.ensures.given.left c.in-Ok-false.field-0-test)
     (c.give_command.ensures.given _ c.command_in.ensures.ok c.command_in.ensures.refused)
 
 pub give_command-requires : goal.give_command-requires
@@ -25,4 +25,4 @@ give_command-requires g c =
     let meant = osc (command_meant (parts_of c.args.text.now)) ∷ [] in
     ⊎_map (λ r. r) (λ w. (command_meant (parts_of c.args.text.now), c.command_in.ensures.ok, w))
     (subst (λ s. MayReceive g.S.Sink.is_ready g.S.Sink.may g.S.Sink.takes s meant)
-    (sym (c.in-Ok-false.ensures.left c.in-Ok-false.field-0-test)) c.requires)
+    (sym (c.in-Ok-false.ensures.given.left c.in-Ok-false.field-0-test)) c.requires)

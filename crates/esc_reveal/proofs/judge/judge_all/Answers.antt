@@ -7,7 +7,7 @@ use Rattle.esc_reveal.proofs.judge.judge_all.Goals as goal
 
 pub returns-in-Ok-clause-given : goal.returns-in-Ok-clause-given
 returns-in-Ok-clause-given g c = λ limit s h.
-    let w = c.in-Ok.ensures.given (Some limit) s h.framed in
+    let w = (c.in-Ok.ensures.parsed (Some limit) s h.framed).given in
     let b = c.args.bytes.now in
     let k = performs_fed (At value_of (Asks g.P.Admit.admits)) (At value_of (λ _ _ _. ⊥))
     (Some limit) s b c.args.performer.now c.parse.new.actor w.1 h.hooked in
@@ -16,7 +16,7 @@ returns-in-Ok-clause-given g c = λ limit s h.
 
 pub returns-in-Err-clause-refused : goal.returns-in-Err-clause-refused
 returns-in-Err-clause-refused g c = λ limit s h.
-    let w = c.in-Err.ensures.refused (Some limit) s h.framed in
+    let w = (c.in-Err.ensures.parsed (Some limit) s h.framed).refused in
     stops_refused _ _ _ _ (λ p v q z. z.2) _ _ _
     (performs_some (At value_of (Asks g.P.Admit.admits)) (At value_of (λ _ _ _. ⊥)) (Some limit) s
     c.args.bytes.now c.args.performer.now c.parse.new.actor w.1 h.hooked)

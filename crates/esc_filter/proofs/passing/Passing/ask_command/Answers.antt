@@ -8,11 +8,11 @@ returns-in-Some-true g c =
     let ps = parts_of c.args.text.now in
     let written = c.receive_command in record {
       taken = command_passes g.P.Admit.admits written.result ps c.args.self.now written.new.self
-          (c.in-Some-true.ensures ∙ c.in-Some-true.field-0-test) written.ensures.taken;
+          (c.in-Some-true.ensures ∙ c.in-Some-true.field-0-test) written.ensures.given.taken;
       left = left_alone g.P.Admit.admits written.result c.args.self.now written.new.self
-          written.ensures.left;
+          written.ensures.given.left;
       refused = command_refused g.P.Admit.admits written.result ps c.args.self.now
-          written.new.self written.ensures.refused;
+          written.new.self written.ensures.given.refused;
     }
 
 pub returns-in-Some-false : goal.returns-in-Some-false

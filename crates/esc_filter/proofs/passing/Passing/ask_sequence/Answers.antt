@@ -11,11 +11,11 @@ returns-in-Some-true g c =
       taken = passes_taken g.P.Admit.admits written.result es false f c.args.self.now
           written.new.self refl
           (c.in-Some-true.ensures.passes (ap Some c.in-Some-true.field-0-test))
-          written.ensures.taken;
+          written.ensures.given.taken;
       left = left_alone g.P.Admit.admits written.result c.args.self.now written.new.self
-          written.ensures.left;
+          written.ensures.given.left;
       refused = refused_taken g.P.Admit.admits written.result (csi_of es false f)
-          c.args.self.now written.new.self written.ensures.refused;
+          c.args.self.now written.new.self written.ensures.given.refused;
     }
 
 pub returns-in-Some-false : goal.returns-in-Some-false

@@ -20,13 +20,13 @@ returns-in-Ok g c =
       count = search rules;
       empty = search rules;
       given = λ limit s h.
-          let w = IfOk-at_ok _ c.in-Ok.is (some.ensures.given limit s h.0) in
+          let w = IfOk-at_ok _ c.in-Ok.is (some.ensures.parsed limit s h.0).given in
           let r = performs_fed (At value_of g.S.Sink.takes) (At value_of g.S.Sink.refuses) limit s
           (take c.in-Ok.taken bs) _ some.new.actor w.0.1
           (subst (λ u. Hooks limit u (mode_from plain (events_within limit s)))
           (sym c.take.ensures.taken) h.1) in ((w.0.0, r.0), r.1);
       quiet = λ limit s h. quiet_silent g.row.A.Denot limit s bs c.in-Ok.taken
-          (IfOk-at_ok _ c.in-Ok.is (some.ensures.given limit s h.0)).1;
+          (IfOk-at_ok _ c.in-Ok.is (some.ensures.parsed limit s h.0).given).1;
       refused = search rules;
       failed = search rules;
     }
@@ -40,7 +40,7 @@ returns-in-Err g c =
       given = search rules;
       quiet = search rules;
       refused = λ limit s h.
-          let w = IfErr-at_err _ c.in-Err.is (some.ensures.refused limit s h.0) in (
+          let w = IfErr-at_err _ c.in-Err.is (some.ensures.parsed limit s h.0).refused in (
             w.0,
             (on_err_at _ c.in-Err.is some.ensures.after.ends, c.take.ensures.nothing),
             performs_some (At value_of g.S.Sink.takes) (At value_of g.S.Sink.refuses) limit s

@@ -1,4 +1,4 @@
-use Rattle.std.proofs.Common.{sym, subst}
+use Rattle.std.proofs.Common.{rules, sym, subst}
 use Rattle.std.proofs.lemmas.Result.{IfErr-at_err}
 use Rattle.esc_parse.proofs.Lists.{on_err_at, on_ok_at}
 use Rattle.esc_parse.proofs.Yields.{may_feed, performs_fed, performs_some}
@@ -11,26 +11,36 @@ use Rattle.esc_parse.specs.Given.{AnyAt, At}
 use Rattle.esc_actions.specs.Meaning.{mode_from}
 use Rattle.esc_actions.specs.Values.{plain, value_of}
 
-pub returns-in-Ok-clause-given : goal.returns-in-Ok-clause-given
+pub returns-in-Ok : goal.returns-in-Ok
 unfolding WasFedWithin
-returns-in-Ok-clause-given g c = λ limit s h.
-    let w = on_ok_at _ c.in-Ok.is (c.parse-result.ensures.given limit s h.0) in
-    let r = performs_fed (At value_of g.S.Sink.takes) (At value_of g.S.Sink.refuses) limit s
-    c.args.bytes.now _ c.parse-result.new.actor w.1
-    (subst (λ u. Hooks limit u (mode_from plain (events_within limit s)))
-    (sym c.take.ensures.taken) h.1) in ((w.0, r.0), r.1)
+returns-in-Ok g c = record {
+  given = λ limit s h.
+      let w = on_ok_at _ c.in-Ok.is (c.parse-result.ensures.parsed limit s h.0).given in
+      let r = performs_fed (At value_of g.S.Sink.takes) (At value_of g.S.Sink.refuses) limit s
+      c.args.bytes.now _ c.parse-result.new.actor w.1
+      (subst (λ u. Hooks limit u (mode_from plain (events_within limit s)))
+      (sym c.take.ensures.taken) h.1) in ((w.0, r.0), r.1);
+  refused = search rules;
+  failed = search rules;
+  ready = search rules;
+}
 
-pub returns-in-Err-clause-refused : goal.returns-in-Err-clause-refused
+pub returns-in-Err : goal.returns-in-Err
 unfolding WasFedWithin
-returns-in-Err-clause-refused g c = λ limit s h.
-    let w = IfErr-at_err _ c.in-Err.is (c.parse-result.ensures.refused limit s h.0) in (
-      w.0,
-      (on_err_at _ c.in-Err.is c.parse-result.ensures.after.ends, c.take.ensures.nothing),
-      performs_some (At value_of g.S.Sink.takes) (At value_of g.S.Sink.refuses) limit s
-          c.args.bytes.now _ c.parse-result.new.actor w.1
-          (subst (λ u. Hooks limit u (mode_from plain (events_within limit s)))
-          (sym c.take.ensures.taken) h.1),
-    )
+returns-in-Err g c = record {
+  given = search rules;
+  refused = λ limit s h.
+      let w = IfErr-at_err _ c.in-Err.is (c.parse-result.ensures.parsed limit s h.0).refused in (
+        w.0,
+        (on_err_at _ c.in-Err.is c.parse-result.ensures.after.ends, c.take.ensures.nothing),
+        performs_some (At value_of g.S.Sink.takes) (At value_of g.S.Sink.refuses) limit s
+            c.args.bytes.now _ c.parse-result.new.actor w.1
+            (subst (λ u. Hooks limit u (mode_from plain (events_within limit s)))
+            (sym c.take.ensures.taken) h.1),
+      );
+  failed = search rules;
+  ready = search rules;
+}
 
 pub parse-result-requires : goal.parse-result-requires
 unfolding WasFedWithin

@@ -1,4 +1,4 @@
-use Rattle.std.proofs.Common.{◌≡◌, refl}
+use Rattle.std.proofs.Common.{◌≡◌, refl, rules}
 use Rattle.esc_values.specs.Clear.{parts_of}
 use Rattle.esc_actions.specs.Values.{osc, value_of}
 use Rattle.esc_actions.specs.declared.action.Action.TheVariants as action
@@ -15,19 +15,28 @@ receive-requires-clause-ready g c =
     (Command c.args.text) refl refl refl
     g.S.BorrowingSink.is_ready g.S.BorrowingSink.may c.requires
 
-pub returns-in-Ok-clause-taken : goal.returns-in-Ok-clause-taken
-returns-in-Ok-clause-taken g c = λ _.
-    one_given g.S.BorrowingSink.takes (λ a ps. value_of a ≡ osc (command_meant ps)) c.args.self.now
-    c.nothing_begun.ensures _ (parts_of c.args.text.now)
-    (action.OperatingSystemCommand (command_meant (parts_of c.args.text.now)))
-    (Command c.args.text) refl refl refl _
-    c.nothing_begun.ensures c.in-Ok.ensures.given
+pub returns-in-Ok-clause-given : goal.returns-in-Ok-clause-given
+returns-in-Ok-clause-given g c = record {
+  taken = λ _.
+      one_given g.S.BorrowingSink.takes (λ a ps. value_of a ≡ osc (command_meant ps))
+      c.args.self.now
+      c.nothing_begun.ensures _ (parts_of c.args.text.now)
+      (action.OperatingSystemCommand (command_meant (parts_of c.args.text.now)))
+      (Command c.args.text) refl refl refl _
+      c.nothing_begun.ensures c.in-Ok.ensures.given;
+  left = search rules;
+  refused = search rules;
+}
 
-pub returns-in-Err-clause-refused : goal.returns-in-Err-clause-refused
-returns-in-Err-clause-refused g c =
-    one_refused g.S.BorrowingSink.takes (λ a ps. value_of a ≡ osc (command_meant ps))
-    c.args.self.now
-    c.nothing_begun.ensures _ (parts_of c.args.text.now)
-    (action.OperatingSystemCommand (command_meant (parts_of c.args.text.now)))
-    (Command c.args.text) refl refl refl
-    g.S.BorrowingSink.refuses _ c.in-Err.ensures.given
+pub returns-in-Err-clause-given : goal.returns-in-Err-clause-given
+returns-in-Err-clause-given g c = record {
+  taken = search rules;
+  left = search rules;
+  refused =
+      one_refused g.S.BorrowingSink.takes (λ a ps. value_of a ≡ osc (command_meant ps))
+      c.args.self.now
+      c.nothing_begun.ensures _ (parts_of c.args.text.now)
+      (action.OperatingSystemCommand (command_meant (parts_of c.args.text.now)))
+      (Command c.args.text) refl refl refl
+      g.S.BorrowingSink.refuses _ c.in-Err.ensures.given;
+}

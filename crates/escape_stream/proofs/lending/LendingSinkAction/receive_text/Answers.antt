@@ -1,4 +1,4 @@
-use Rattle.std.proofs.Common.{ap, chars, ◌∙◌}
+use Rattle.std.proofs.Common.{ap, chars, rules, ◌∙◌}
 use Rattle.escape_stream.proofs.Lent.{may_text, run_clear, text_chars, text_given}
 use Rattle.escape_stream.proofs.lending.LendingSinkAction.receive_text.Goals as goal
 
@@ -9,10 +9,13 @@ receive-requires-clause-ready g c =
     c.args.self.now c.nothing_begun.ensures g.S.BorrowingSink.is_ready g.S.BorrowingSink.may
     c.requires.ready
 
-pub receive-requires-clause-clear : goal.receive-requires-clause-clear
-receive-requires-clause-clear g c =
-    run_clear c.args.text.now c.as_str.result.now c.requires.text
-    (ap chars c.as_str.ensures ∙ text_chars c.args.text.now c.requires.text)
+pub receive-requires-clause-text : goal.receive-requires-clause-text
+receive-requires-clause-text g c = record {
+  some = search rules;
+  clear =
+      run_clear c.args.text.now c.as_str.result.now c.requires.text
+      (ap chars c.as_str.ensures ∙ text_chars c.args.text.now c.requires.text);
+}
 
 pub returns-clause-given : goal.returns-clause-given
 returns-clause-given g c =
