@@ -1,12 +1,12 @@
 //! What takes actions, one after another.
-ghost use Rattle.std.specs.Prelude.{◌≡◌, ◌⊎◌, ◌<◌, ◌≤◌, ◌+◌, ℕ, List, [], ◌∷◌, ◌++◌, IsTrue, MatchResult, OnOk, false, length, map, true, vec_capacity, vec_len};
-ghost use Rattle.std.specs.List.{FoldsTo, list_all};
+ghost use Rattle.std.specs.Prelude.{◌≡◌, ◌⊎◌, ◌≤◌, ◌+◌, ℕ, List, [], ◌∷◌, ◌++◌, IsTrue, MatchResult, OnOk, false, length, map, true, vec_capacity, vec_len};
+ghost use Rattle.std.specs.List.{FoldsTo};
 ghost use Rattle.std.specs.Str.{chars};
-ghost use Rattle.esc_values.specs.Clear.{is_clear, parts_of};
+ghost use Rattle.esc_values.specs.Clear.{parts_of};
 ghost use Rattle.esc_values.specs.declared.csi_param.CsiParam.{CsiParam};
 ghost use Rattle.esc_sequences.specs.Csis.{CsiValue, csi_of};
 ghost use Rattle.esc_frame.specs.Events.{MayGet};
-ghost use Rattle.esc_frame.specs.Scans.{is_text_byte};
+ghost use Rattle.esc_frame.specs.Scans.{IsClearRun, IsRun, is_text_byte};
 ghost use Rattle.esc_parse.specs.Collected.{Gathers};
 ghost use Rattle.esc_parse.specs.Given.{By, MayReceiveBy, Receives, TakesAtOnce, first_of};
 ghost use Rattle.esc_parse.specs.Images.{is_image};
@@ -86,8 +86,7 @@ pub trait Sink<T: FromChar> {
     #[inline]
     fn receive_text(&mut self, text: &[u8]) -> Result<(), AllocError>
         requires ready { MayGet is_ready may takes self.old (map T.print text.now) }
-        requires some { 0 < length text.now }
-        requires text { list_all is_text_byte text.now ≡ true }
+        requires run { IsRun is_text_byte text.now }
         ensures ready { is_ready self.old → OnOk result (is_ready self.new) }
         ensures given { Receives ⊥ takes refuses result self.old
             (map T.print text.now) self.new }
@@ -108,8 +107,7 @@ pub trait Sink<T: FromChar> {
     fn receive_str(&mut self, text: &str) -> Result<(), AllocError>
         requires ready { MayGet is_ready may takes self.old
             (map T.print (chars text.now)) }
-        requires some { 0 < length text.now }
-        requires clear { list_all is_clear (chars text.now) ≡ true }
+        requires run { IsClearRun text.now }
         ensures ready { is_ready self.old → OnOk result (is_ready self.new) }
         ensures given { Receives ⊥ takes refuses result self.old
             (map T.print (chars text.now)) self.new }

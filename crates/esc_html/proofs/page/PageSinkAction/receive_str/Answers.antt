@@ -7,7 +7,7 @@ pub returns-clause-given : goal.returns-clause-given
 returns-clause-given g c =
     received _ _ _ _ c.take_run.result
     (λ e. chars_taken c.args.text.now c.args.self.now c.take_run.new.self c.utf8.text
-    c.requires.clear e)
+    c.requires.run.all e)
     (λ r. refuses_run _ _ (chars c.args.text.now) _ _
-    (some_chars c.args.text.now c.utf8.text c.requires.some) (λ x. r))
+    (some_chars c.args.text.now c.utf8.text c.requires.run.some) (λ x. r))
     c.take_run.ensures.ok c.take_run.ensures.refused

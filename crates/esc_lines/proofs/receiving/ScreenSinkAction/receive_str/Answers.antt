@@ -7,5 +7,5 @@ pub returns-clause-given : goal.returns-clause-given
 returns-clause-given g c =
     received _ _ _ _ c.print_str.result (λ e. e)
     (λ r. refuses_run _ _ (chars c.args.text.now) _ _
-    (some_chars c.args.text.now c.utf8.text c.requires.some) (λ x. r))
+    (some_chars c.args.text.now c.utf8.text c.requires.run.some) (λ x. r))
     c.print_str.ensures.ok c.print_str.ensures.refused

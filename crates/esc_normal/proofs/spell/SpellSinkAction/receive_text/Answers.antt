@@ -7,7 +7,7 @@ use Rattle.esc_normal.proofs.spell.SpellSinkAction.receive_text.Goals as goal
 
 pub returns-clause-given : goal.returns-clause-given
 returns-clause-given g c =
-    spells_run c.args.text.now c.args.self.now _ c.requires.some c.requires.text
+    spells_run c.args.text.now c.args.self.now _ c.requires.run.some c.requires.run.all
     (ap (λ t. record { text = t; follows_string = false })
     (c.in_ok-push_str.ensures.ok ∙ ap (λ x. c.args.self.now.text ++ x) c.as_str.ensures))
 
@@ -15,5 +15,5 @@ pub returns-in_err-push_str-clause-given : goal.returns-in_err-push_str-clause-g
 returns-in_err-push_str-clause-given g c =
     let p = err_from_is_err_and c.from_residual.result c.from_residual.ensures.1 in
     match_err _ _ c.from_residual.result p.0 p.1
-    (refuses_run _ _ c.args.text.now _ _ c.requires.some
+    (refuses_run _ _ c.args.text.now _ _ c.requires.run.some
     (λ x has. c.in_err-push_str.ensures.refused))

@@ -5,7 +5,7 @@ use Rattle.escape_stream.proofs.lending.LendingSinkAction.receive_text.Goals as 
 pub receive-requires-clause-ready : goal.receive-requires-clause-ready
 receive-requires-clause-ready g c =
     may_text g.S.BorrowingSink.takes c.args.text.now c.as_str.result
-    (ap chars c.as_str.ensures ∙ text_chars c.args.text.now c.requires.text) c.requires.some
+    (ap chars c.as_str.ensures ∙ text_chars c.args.text.now c.requires.run.all) c.requires.run.some
     c.args.self.now c.nothing_begun.ensures g.S.BorrowingSink.is_ready g.S.BorrowingSink.may
     c.requires.ready
 
@@ -13,13 +13,13 @@ pub receive-requires-clause-text : goal.receive-requires-clause-text
 receive-requires-clause-text g c = record {
   some = search rules;
   clear =
-      run_clear c.args.text.now c.as_str.result.now c.requires.text
-      (ap chars c.as_str.ensures ∙ text_chars c.args.text.now c.requires.text);
+      run_clear c.args.text.now c.as_str.result.now c.requires.run.all
+      (ap chars c.as_str.ensures ∙ text_chars c.args.text.now c.requires.run.all);
 }
 
 pub returns-clause-given : goal.returns-clause-given
 returns-clause-given g c =
     text_given g.S.BorrowingSink.takes c.args.text.now c.as_str.result
-    (ap chars c.as_str.ensures ∙ text_chars c.args.text.now c.requires.text) c.requires.some
+    (ap chars c.as_str.ensures ∙ text_chars c.args.text.now c.requires.run.all) c.requires.run.some
     c.args.self.now c.nothing_begun.ensures g.S.BorrowingSink.refuses _ _ c.nothing_begun.ensures
     c.receive.ensures.given
