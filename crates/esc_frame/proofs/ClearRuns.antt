@@ -15,7 +15,7 @@ use Rattle.esc_frame.specs.Scans.{is_text_byte, is_free_byte, IsFreeTo}
 use Rattle.esc_frame.specs.Events.{Event, StopsAt, MayGet}
 use Rattle.esc_frame.specs.Events.Event.{Print}
 use Rattle.esc_frame.specs.Leads.Unfinished.{Ground}
-use Rattle.esc_frame.specs.Machine.Calls.{EmitsOne}
+use Rattle.esc_frame.specs.Machine.Calls.{IsOneEvent}
 use Rattle.esc_frame.specs.Machine.Texts.{HasTaken}
 use Rattle.esc_frame.specs.Machine.Moves.{after_all, events_all}
 use Rattle.esc_frame.proofs.Characters.{clear_cases, clear_from, spells_clear}
@@ -29,9 +29,9 @@ text_byte : (c : ℕ) → 0x20 ≤ c → c < 128 → list_all is_text_byte (c �
 text_byte c l h = let k : is_text_byte c ≡ true = grind (arith, nat_tests) in rw k refl
 
 -- a clear character
-clear_does : (c : ℕ) → is_clear c ≡ true → EmitsOne (encode_utf8 c) (Print c)
+clear_does : (c : ℕ) → is_clear c ≡ true → IsOneEvent (encode_utf8 c) (Print c)
 clear_does c h = let q = clear_cases c h in elim q.1 [
-  | inl l ↦ subst (λ x. EmitsOne x (Print c)) (sym (encode_ascii c l.1))
+  | inl l ↦ subst (λ x. IsOneEvent x (Print c)) (sym (encode_ascii c l.1))
       (let p = text_byte c l.0 l.1 in
       ((text_run None (c ∷ []) p).0, λ limit. (text_run limit (c ∷ []) p).1))
   | inr l ↦ let s = spells_clear c q.0 l in character_does (encode_utf8 c) c (s.0, s.1, sym s.2)

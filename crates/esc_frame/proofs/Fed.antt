@@ -12,7 +12,7 @@ use Rattle.esc_frame.specs.Events.Event.{Execute, Print}
 use Rattle.esc_frame.specs.Leads.{Holds, Unfinished}
 use Rattle.esc_frame.specs.Leads.Unfinished.{Ground}
 use Rattle.esc_frame.specs.Memory.{MayGrow}
-use Rattle.esc_frame.specs.Machine.Calls.{EmitsOne, Fails}
+use Rattle.esc_frame.specs.Machine.Calls.{IsOneEvent, Fails}
 use Rattle.esc_frame.specs.Machine.Keeps.{KeepsText}
 use Rattle.esc_frame.specs.Machine.Moves.{IsStill, after_by, events_by, after_all, events_all, may_grow_in, move}
 use Rattle.esc_frame.specs.Machine.Moves.{reaches_growing, borrows, is_borrowable, may_grow_within}
@@ -156,7 +156,7 @@ pub character_fed : {A : Type 0} (limit : Option ℕ) (p : VTParser A) (s bs : L
     (o : Option (ℕ × ℕ))
     → LeadsToWithin limit s p
     → after_all Ground s ≡ Ground
-    → IfSome o (λ x. EmitsOne (take x.1 bs) (Print x.0))
+    → IfSome o (λ x. IsOneEvent (take x.1 bs) (Print x.0))
     → IfSome o (λ x. IsStill limit Ground bs x.1)
     → IfSome o (λ x. (LeadsToWithin limit (s ++ take x.1 bs) p
     × (added_within limit s (take x.1 bs) ≡ Print x.0 ∷ []))
@@ -169,7 +169,7 @@ character_fed limit p s bs (Some x) l e k q = (
 
 pub control_fed : {A : Type 0} (limit : Option ℕ) (p : VTParser A) (s bs : List ℕ) (o : Option ℕ)
     → LeadsToWithin limit s p → after_all Ground s ≡ Ground
-    → IfSome o (λ b. EmitsOne (take 1 bs) (Execute b))
+    → IfSome o (λ b. IsOneEvent (take 1 bs) (Execute b))
     → IfSome o (λ b. LeadsToWithin limit (s ++ take 1 bs) p
     × (added_within limit s (take 1 bs) ≡ Execute b ∷ []))
 control_fed limit p s bs None l e h = tt

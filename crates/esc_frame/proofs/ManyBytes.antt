@@ -20,7 +20,7 @@ use Rattle.esc_frame.specs.Segments.{Opener, Piece}
 use Rattle.esc_frame.specs.Segments.Piece.{Sequence}
 use Rattle.esc_frame.specs.Machine.Moves.{move, ground_move, pending_move, osc_pending_move, inside, goes_on, after_by, events_by, after_all, events_all}
 use Rattle.esc_frame.specs.Machine.Moves.{may_grow_within}
-use Rattle.esc_frame.specs.Machine.Calls.{Ran, StaysFresh, EmitsOne}
+use Rattle.esc_frame.specs.Machine.Calls.{Ran, StaysFresh, IsOneEvent}
 use Rattle.esc_frame.specs.Machine.Characters.{IsCharacter}
 use Rattle.esc_frame.proofs.Given.{folds_then, stops_then, stops_more, stops_for, refused_stops}
 use Rattle.esc_frame.proofs.Borrows.{after_more, fresh_more, grows_after}
@@ -292,7 +292,7 @@ four_parts a b c d h =
     )
 
 prints_two : (a b : ℕ) → is_sequence (a ∷ b ∷ []) ≡ true → is_pair (a ∷ b ∷ []) ≡ false
-    → EmitsOne (a ∷ b ∷ []) (Print (number_of (a ∷ b ∷ [])))
+    → IsOneEvent (a ∷ b ∷ []) (Print (number_of (a ∷ b ∷ [])))
 prints_two a b s p = rw (
   lead_class a (two_parts a b s),
   s,
@@ -305,14 +305,14 @@ prints_two a b s p = rw (
 ) (refl, λ limit. refl)
 
 prints_three : (a b c : ℕ) → is_sequence (a ∷ b ∷ c ∷ []) ≡ true → is_pair (a ∷ b ∷ c ∷ []) ≡ false
-    → EmitsOne (a ∷ b ∷ c ∷ []) (Print (number_of (a ∷ b ∷ c ∷ [])))
+    → IsOneEvent (a ∷ b ∷ c ∷ []) (Print (number_of (a ∷ b ∷ c ∷ [])))
 prints_three a b c s p = let t = three_parts a b c s in
     rw (lead_class a t.0, t.1, t.2, s, p, after_by, events_by, move, pending_move, outcome)
     (refl, λ limit. refl)
 
 prints_four : (a b c d : ℕ) → is_sequence (a ∷ b ∷ c ∷ d ∷ []) ≡ true
     → is_pair (a ∷ b ∷ c ∷ d ∷ []) ≡ false
-    → EmitsOne (a ∷ b ∷ c ∷ d ∷ []) (Print (number_of (a ∷ b ∷ c ∷ d ∷ [])))
+    → IsOneEvent (a ∷ b ∷ c ∷ d ∷ []) (Print (number_of (a ∷ b ∷ c ∷ d ∷ [])))
 prints_four a b c d s p = let t = four_parts a b c d s
     in rw (
       lead_class a t.0,
@@ -330,7 +330,7 @@ prints_four a b c d s p = let t = four_parts a b c d s
     ) (refl, λ limit. refl)
 
 sequence_prints : (x : List ℕ) → is_sequence x ≡ true → is_pair x ≡ false
-    → EmitsOne x (Print (number_of x))
+    → IsOneEvent x (Print (number_of x))
 unfolding is_sequence
 sequence_prints [] s p = none s
 sequence_prints (a ∷ []) s p = none s
@@ -339,7 +339,7 @@ sequence_prints (a ∷ b ∷ d ∷ []) s p = prints_three a b d s p
 sequence_prints (a ∷ b ∷ d ∷ e ∷ []) s p = prints_four a b d e s p
 sequence_prints (a ∷ b ∷ d ∷ e ∷ f ∷ x) s p = none s
 
-pub character_does : (x : List ℕ) (c : ℕ) → IsCharacter x c → EmitsOne x (Print c)
+pub character_does : (x : List ℕ) (c : ℕ) → IsCharacter x c → IsOneEvent x (Print c)
 character_does x c (s, p, k) = let q = sequence_prints x s p in
     (q.0, λ limit. q.1 limit ∙ ap (λ n. Print n ∷ []) (sym k))
 
@@ -460,7 +460,7 @@ some_run (x ∷ rest) l low high =
 
 -- one byte of text
 pub one_text : (rest : List ℕ) → 0 < length rest → is_text_byte (get_or rest 0 0) ≡ true
-    → EmitsOne (take 1 rest) (Print (get_or rest 0 0))
+    → IsOneEvent (take 1 rest) (Print (get_or rest 0 0))
 one_text [] l h = absurd (omega arith)
 one_text (x ∷ rest) l h = let p : list_all is_text_byte (x ∷ []) ≡ true = rw h refl in
     ((text_run None (x ∷ []) p).0, λ limit. (text_run limit (x ∷ []) p).1)
@@ -473,14 +473,14 @@ control_class b low other = (grind (arith, nat_tests), grind (arith, nat_tests))
 
 pub one_control : (rest : List ℕ) → 0 < length rest → get_or rest 0 0 < 0x20
     → get_or rest 0 0 ≢ 0x1b
-    → EmitsOne (take 1 rest) (Execute (get_or rest 0 0))
+    → IsOneEvent (take 1 rest) (Execute (get_or rest 0 0))
 one_control [] l low other = absurd (omega arith)
 one_control (b ∷ rest) l low other = let k = control_class b low other in
     rw (k.0, k.1, after_by, events_by, ground_move) (refl, λ limit. refl)
 
 -- bytes that tell one event
 module _ {S : Type 0} (takes refuses : S → Event → S
-    → Type 0) (rest : List ℕ) (n : ℕ) (e : Event) (old new : S) (one : EmitsOne (take n rest) e)
+    → Type 0) (rest : List ℕ) (n : ℕ) (e : Event) (old new : S) (one : IsOneEvent (take n rest) e)
   where
     pub event_given : takes old e new → (limit : Option ℕ)
         → FoldsTo takes old (events_all limit Ground (take n rest)) new

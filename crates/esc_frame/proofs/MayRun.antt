@@ -5,7 +5,7 @@ use Rattle.esc_frame.specs.Events.{Event, Awaits, MayGet}
 use Rattle.esc_frame.specs.Events.Event.{Print}
 use Rattle.esc_frame.specs.Leads.{Unfinished}
 use Rattle.esc_frame.specs.Leads.Unfinished.{Ground}
-use Rattle.esc_frame.specs.Machine.Calls.{MayRun, Ran, EmitsOne}
+use Rattle.esc_frame.specs.Machine.Calls.{MayRun, Ran, IsOneEvent}
 use Rattle.esc_frame.specs.Machine.Moves.{after_all, events_all}
 use Rattle.esc_frame.specs.Scans.{is_text_byte}
 use Rattle.esc_frame.proofs.ManyBytes.{tail_is, run_passes, text_run}
@@ -50,7 +50,7 @@ module _ {S : Type 0} (is_ready : S → Type 0) (may : S → Event → Type 0)
       ⊎_map (λ r. r) (λ w. cut_first may takes rest n w.0 u es old (e w.0) w.1)
 
   -- their one event
-  pub may_one : (e : Event) (old : S) → EmitsOne (take n rest) e
+  pub may_one : (e : Event) (old : S) → IsOneEvent (take n rest) e
       → MayRun is_ready may takes Ground rest old → is_ready old ⊎ may old e
   may_one e old one m =
       get_first is_ready may takes old old e [] (may_first Ground (e ∷ []) old one.1 m)

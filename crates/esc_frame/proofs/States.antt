@@ -9,7 +9,7 @@ use Rattle.esc_frame.specs.Classes.{strip}
 use Rattle.esc_frame.specs.Leads.{Unfinished, Holds}
 use Rattle.esc_frame.specs.Leads.Unfinished.{Ground, Pending, InEscape, InCsi, InDcs, InData, InApc, InIgnored, InOsc, InOscPending}
 use Rattle.esc_frame.specs.Machine.Prefixes.{prefix_of}
-use Rattle.esc_frame.specs.Machine.Calls.{StaysFresh, is_between}
+use Rattle.esc_frame.specs.Machine.Calls.{StaysFresh, is_outside_text}
 use Rattle.esc_frame.specs.Machine.Moves.{is_fresh, borrows}
 use Rattle.esc_frame.specs.Segments.{Opener, Piece, is_empty}
 use Rattle.esc_frame.proofs.Borrows.{is_string, unborrowed_fresh}
@@ -162,13 +162,13 @@ module _ {K A : Type 0} (keeps : Option ℕ → K → List ℕ
 
   -- what is unfinished where a byte is taken by itself
   pub no_string : (u : Unfinished) → Holds keeps limit m u
-      → is_between m.state (prefix_of m.pending) ≡ true → is_string u ≡ false
+      → is_outside_text m.state (prefix_of m.pending) ≡ true → is_string u ≡ false
   no_string (InOsc o ps) h k =
-      let e : is_between m.state (prefix_of m.pending) ≡ false =
-      ap (λ s. is_between s (prefix_of m.pending)) h.0 ∙ ap (λ f. not (is_empty f)) h.2 in
+      let e : is_outside_text m.state (prefix_of m.pending) ≡ false =
+      ap (λ s. is_outside_text s (prefix_of m.pending)) h.0 ∙ ap (λ f. not (is_empty f)) h.2 in
       let n : true ≡ false = sym k ∙ e in cc
   no_string (InApc o d) h k = let n : true ≡ false =
-      sym k ∙ ap (λ s. is_between s (prefix_of m.pending)) h.0 in cc
+      sym k ∙ ap (λ s. is_outside_text s (prefix_of m.pending)) h.0 in cc
   no_string _ h k = refl
 
   -- nothing is fresh in what is passed over, nor in the data of a device control string

@@ -1,5 +1,5 @@
--- What is unfinished of a stream, and what the machine keeps of it. Private contracts cite it; the
--- public relation is `LeadsTo` of Stream.
+-- What is unfinished of a stream, and what the machine keeps of it. No contract of `VTParser` cites
+-- it; the public relation is `LeadsTo` of Stream.
 use Rattle.std.specs.Prelude.{ℕ, ◌≡◌, true, false, if◌then◌else◌, List, [], ◌∷◌, ◌++◌, Option, None, length}
 use Rattle.std.specs.List.{flat_map}
 use Rattle.esc_frame.specs.declared.classes.Kind.{Kind}

@@ -101,7 +101,7 @@ pub record Leaves {A S T : Type 0} (V : Actor S) (result : Result T ParseError)
   -- after it a call returns `Failed`, and leaves the actor as it was
   pub failed : HasFailed self.entry.now
       → (result ≡ Err Failed) × (actor.exit.now ≡ actor.entry.now)
-  -- after any other call the actor is ready for the next, where it was for this one
+  -- after a call without an error the actor is ready for any event, where it was before
   pub ready : V.is_ready actor.entry.now → OnOk result (V.is_ready actor.exit.now)
 
 -- the count of what is kept of the last segment, up to the greatest that a `usize` holds

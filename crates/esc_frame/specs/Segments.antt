@@ -74,7 +74,7 @@ pub data Segment : Type 0 where
   Broken : List ℕ → Segment
   -- a stray byte: A0-C1, F5-FF
   Stray : ℕ → Segment
-  -- a C0 by itself
+  -- a C0 by itself, also CAN and SUB
   Control : ℕ → Segment
   -- a C1 by itself, raw (false) or after C2 (true)
   HighControl : Bool → ℕ → Segment

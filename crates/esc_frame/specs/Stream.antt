@@ -8,10 +8,10 @@ use Rattle.esc_frame.specs.Leads.Unfinished.{Ground}
 use Rattle.esc_frame.specs.Machine.Keeps.{KeepsText}
 use Rattle.esc_frame.specs.Machine.Moves.{after_all, events_all}
 
--- The events of a stream, where of each string no more is kept than the limit: of a longer one
--- nothing is emitted. The laws `events_of_the_cut_within` and `events_once_within` fix it: they are
--- those that the stream's one cut emits, and no others. Nothing above this crate uses more of its
--- body, which takes byte after byte as the code does.
+-- The events of a stream, where of each string no more is kept than the limit: of a longer one only
+-- the controls in its opener are emitted. The laws `events_of_the_cut_within` and
+-- `events_once_within` fix it: they are those that the stream's one cut emits, and no others. Above
+-- this crate `esc_lent` alone opens its body, which takes byte after byte as the code does.
 unfoldable pub events_within : Option ℕ → List ℕ → List Event
 events_within limit s = events_all limit Ground s
 
@@ -25,7 +25,7 @@ unfoldable pub LeadsToWithin : {A : Type 0} → Option ℕ → List ℕ → VTPa
 LeadsToWithin limit s p = (p.has_failed ≡ false) × (p.machine.limit ≡ limit)
     × Holds KeepsText p.machine.limit p.machine (after_all Ground s)
 
--- an earlier call of the parser was refused memory
+-- an earlier call of the parser returned `Memory`
 unfoldable pub HasFailed : {A : Type 0} → VTParser A → Type 0
 HasFailed p = p.has_failed ≡ true
 

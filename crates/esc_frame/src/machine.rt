@@ -14,14 +14,14 @@ ghost use Rattle.esc_frame.specs.Events.{Awaits};
 ghost use Rattle.esc_frame.specs.Leads.{Unfinished, Holds, kept_open};
 ghost use Rattle.esc_frame.specs.Leads.Unfinished.{Ground};
 ghost use Rattle.esc_frame.specs.Limits.{most};
-ghost use Rattle.esc_frame.specs.Machine.Calls.{Fails, is_between};
+ghost use Rattle.esc_frame.specs.Machine.Calls.{Fails, is_outside_text};
 ghost use Rattle.esc_frame.specs.Machine.Prefixes.{prefix_of};
 ghost use Rattle.esc_frame.specs.Machine.Keeping.{Holding};
 ghost use Rattle.esc_frame.specs.Machine.Allowed.{KeptSegment};
 ghost use Rattle.esc_frame.specs.Machine.Makes.{Emits, Makes, StaysReady};
 ghost use Rattle.esc_frame.specs.Machine.Moves.{move, opened, may_grow_in, may_grow_within, after_all, events_all};
 ghost use Rattle.esc_frame.specs.Segments.{Opener};
-ghost use Rattle.esc_frame.specs.Machine.Taking.{InAny, MayTake, TakesIn, TakesSome};
+ghost use Rattle.esc_frame.specs.Machine.Taking.{InAny, MayBeGiven, TakesIn, TakesPart};
 
 use crate::classes::{Class, Kind, classify};
 use crate::taker::Taker;
@@ -36,10 +36,10 @@ use std::alloc::{AllocError, Allocator};
 /// The error is that the actor refused a call, or that a request for memory was refused.
 pub type Result<T> = std::result::Result<T, AllocError>;
 
-/// In what the machine is.
+/// Which segment is unfinished.
 #[derive(Clone, Copy)]
 pub enum State {
-    /// Between segments, or in a character's sequence.
+    /// No sequence or string; a character in UTF-8 may be.
     Ground,
     /// After ESC.
     Escape,
@@ -64,11 +64,11 @@ pub struct Machine<K: Store, A: Allocator> {
     pub state: State,
     // the bytes of a UTF-8 sequence that has begun
     pub pending: Pending,
-    // those of an escape sequence
+    // the intermediates of an escape sequence
     pub intermediates: Intermediates,
-    // that of a control sequence
+    // the body of a control sequence
     pub body: CsiBody,
-    // that of one that is whole in a call's bytes
+    // the body of a control sequence that is whole in a call's bytes
     pub short: Short,
     // the header of a DCS, but for its parameter bytes
     pub header: DcsHeader,
@@ -121,7 +121,7 @@ impl<K: Store, A: Allocator> Machine<K, A> {
         }
     }
 
-    /// How many bytes are kept of the unfinished segment.
+    /// How many bytes are kept of an unfinished text or header, as far as they count.
     pub fn kept(&self) -> usize
         ensures { (limit : Option ℕ) (u : Unfinished) → Holds K.keeps limit self.now u
             → result ≡ min (kept_open limit u) most }
@@ -132,7 +132,7 @@ impl<K: Store, A: Allocator> Machine<K, A> {
         }
     }
 
-    /// What opens here.
+    /// Begins a sequence or a string of this kind.
     pub fn open(&mut self, kind: Kind)
         ensures holds { (limit : Option ℕ) (o : Opener)
             → Holds K.keeps limit self.new (opened kind o) }
@@ -217,7 +217,7 @@ impl<K: Store, A: Allocator> Machine<K, A> {
     #[inline(always)]
     pub fn take_some<V: Taker>(&mut self, rest: &[u8], actor: &mut V) -> Result<usize>
         requires some { 0 < length rest.now }
-        requires ready { MayTake V.Taker (KeptSegment K.Store self.old)
+        requires ready { MayBeGiven V.Taker (KeptSegment K.Store self.old)
             self.old.limit rest.now actor.old }
         ensures { TakesIn (Holding K.Store self) (Holding K.Store self)
             K.Store V.Taker result rest.now self actor }
@@ -247,9 +247,9 @@ impl<K: Store, A: Allocator> Machine<K, A> {
     #[inline(always)]
     fn take<V: Taker>(&mut self, rest: &[u8], actor: &mut V) -> Result<usize>
         requires some { 0 < length rest.now }
-        requires ready { MayTake V.Taker (KeptSegment K.Store self.old)
+        requires ready { MayBeGiven V.Taker (KeptSegment K.Store self.old)
             self.old.limit rest.now actor.old }
-        ensures { TakesSome (Holding K.Store self) K.Store V.Taker result rest.now self actor }
+        ensures { TakesPart (Holding K.Store self) K.Store V.Taker result rest.now self actor }
     {
         match self.state {
             State::Ground => match self.pending {
@@ -264,12 +264,12 @@ impl<K: Store, A: Allocator> Machine<K, A> {
         }
     }
 
-    /// One byte.
+    /// One byte: not in an APC, nor between two units of an OSC.
     pub fn take_one<V: Taker>(&mut self, rest: &[u8], actor: &mut V) -> Result<usize>
         requires some { 0 < length rest.now }
-        requires ready { MayTake V.Taker (KeptSegment K.Store self.old)
+        requires ready { MayBeGiven V.Taker (KeptSegment K.Store self.old)
             self.old.limit rest.now actor.old }
-        requires between { is_between self.old.state (prefix_of self.old.pending) ≡ true }
+        requires between { is_outside_text self.old.state (prefix_of self.old.pending) ≡ true }
         ensures { TakesIn (Holding K.Store self) InAny
             K.Store V.Taker result rest.now self actor }
     {

@@ -21,11 +21,11 @@ use std::alloc::{Allocator, Global};
 /// in operating system commands, and with application program commands handed out.
 ///
 /// Neither the stream nor its events are kept, but what is unfinished: of an escape sequence two
-/// intermediates, of a control sequence 256 parameters and separators, of an operating system
-/// command or an application program command its text, of a device control string its header. Of
-/// its data, and of a start of string (SOS) or a privacy message (PM), nothing is kept.
-/// [`with_limit`](VTParser::with_limit) bounds what is kept of a string. Intermediates and
-/// parameters lie in the parser, in some 4 KB: only a string takes memory.
+/// intermediates, of a control sequence 256 parameters, of an operating system command or an
+/// application program command its text, of a device control string its header. Of its data, and of
+/// a start of string (SOS) or a privacy message (PM), nothing is kept.
+/// [`with_limit`](VTParser::with_limit) bounds what is kept of a string. Intermediates, and the
+/// parameters of control sequences, lie in the parser, in some 5 KB: only a string takes memory.
 ///
 /// A call that returns `ParseError::Memory` is the last that parses: from then on each call that is
 /// given bytes for an actor returns `ParseError::Failed`, and gives the actor nothing.
@@ -79,9 +79,9 @@ impl<A: Allocator> VTParser<A> {
     }
 
     /// How many bytes of the unfinished string are kept, counted as for
-    /// [`with_limit`](VTParser::with_limit). It is 0 where the string passed the limit, where none
-    /// of the three is unfinished, and after a failure. Without a limit a count past [`usize::MAX`]
-    /// is returned as `usize::MAX`.
+    /// [`with_limit`](VTParser::with_limit). It is 0 where the string passed the limit, where no
+    /// such text or header is unfinished, and after a failure. Without a limit a count past
+    /// [`usize::MAX`] is returned as `usize::MAX`.
     #[tactic(auto, unfolding(crate::specs::Stream::LeadsToWithin, crate::specs::Stream::HasFailed))]
     pub fn kept(&self) -> usize
         ensures given { After self.now (IsKeptOf result) }
@@ -105,7 +105,7 @@ impl<A: Allocator> VTParser<A> {
     }
 
     /// Whether an earlier call returned an error. Then each call that is given bytes for an actor
-    /// returns `ParseError::Failed`, nothing is kept, and no first character or control is found.
+    /// returns `ParseError::Failed`, `kept` returns 0, and no first character or control is found.
     #[tactic(auto, unfolding(crate::specs::Stream::LeadsToWithin, crate::specs::Stream::HasFailed))]
     pub fn has_failed(&self) -> bool
         ensures failed { IsTrue result ↔ HasFailed self.now }
@@ -138,9 +138,10 @@ impl<A: Allocator> VTParser<A> {
         }
     }
 
-    /// The control, 00 to 1F but not ESC, that comes first in `bytes`, where that is seen without a
-    /// change of the parser. As with [`first_char`](VTParser::first_char), this byte then counts as
-    /// fed, and adds this control and nothing else.
+    /// A control that comes first in `bytes`, where that is seen without a change of the parser:
+    /// the first byte, where it is 00 to 1F but not ESC. As with
+    /// [`first_char`](VTParser::first_char), this byte then counts as fed, and adds this control
+    /// and nothing else.
     ///
     /// It is always `None` after a failure, and never where no segment is unfinished and the first
     /// byte is such a control.
@@ -160,11 +161,12 @@ impl<A: Allocator> VTParser<A> {
     }
 
     /// Takes the next byte of the stream, and gives the actor, in order, what it adds to the events
-    /// of the bytes before.
+    /// of the bytes before. The actor has to be ready for any event, or to await these.
     ///
-    /// The error is `Memory` where the actor refused a call, or where memory for a string was
-    /// refused: no control sequence takes any. A prefix of these events was given then, and the
-    /// parser has failed. The error is `Failed` where it had, and the actor is as it was.
+    /// The error is `Memory` where the actor refused a call, or where memory was refused for a
+    /// string that is unfinished or begins here: nothing else asks for any. A prefix of these
+    /// events was given then, and the parser has failed. The error is `Failed` where it had, and
+    /// the actor is as it was.
     #[tactic(auto, unfolding(crate::specs::Stream::LeadsToWithin, crate::specs::Stream::HasFailed))]
     pub fn parse_byte<V: VTActor>(&mut self, byte: u8, actor: &mut V) -> Result<(), ParseError>
         requires { MayGive V.VTActor self.old (byte ∷ []) actor.old }
@@ -184,19 +186,19 @@ impl<A: Allocator> VTParser<A> {
     }
 
     /// Takes the next bytes of the stream, as many as there are, and gives the actor, in order,
-    /// what they add to the events of the bytes before. However a stream is cut into calls, its
-    /// events are the same.
+    /// what they add to the events of the bytes before. The actor has to be ready for any event, or
+    /// to await these. However a stream is cut into calls, its events are the same.
     ///
-    /// The error is `Memory` where the actor refused a call, or where memory for a string was
-    /// refused: no control sequence takes any. A prefix of these events was given then, and the
-    /// parser has failed. The error is `Failed` where it had, and the actor is as it was.
+    /// The error is `Memory` where the actor refused a call, or where memory was refused for a
+    /// string that is unfinished or in these bytes: nothing else asks for any. A prefix of these
+    /// events was given then, and the parser has failed. The error is `Failed` where it had, and
+    /// the actor is as it was.
     ///
-    /// Two kinds of string are given to the actor as slices of `bytes` where they are whole there,
-    /// and take no memory: an operating system command of at most 16 parts with a text of bytes 20
-    /// to 7F and well-formed UTF-8 alone, and an application program command with a text of bytes
-    /// 20 to 7F alone. So where no segment is unfinished before and after these bytes, and they
-    /// hold such commands, text, controls, escape sequences and control sequences alone, the error
-    /// comes only of a call that the actor refused.
+    /// Where no segment is unfinished before and after these bytes, and they hold text, controls,
+    /// escape sequences, control sequences and two kinds of string alone, the error comes only of a
+    /// call that the actor refused: an operating system command of at most 16 parts with a text of
+    /// bytes 20 to 7F and well-formed UTF-8 alone, and an application program command with a text
+    /// of bytes 20 to 7F alone. Their texts are given as slices of `bytes`, and take no memory.
     #[tactic(auto, unfolding(crate::specs::Stream::LeadsToWithin, crate::specs::Stream::HasFailed))]
     pub fn parse<V: VTActor>(&mut self, bytes: &[u8], actor: &mut V) -> Result<(), ParseError>
         requires { MayGive V.VTActor self.old bytes.now actor.old }
@@ -217,14 +219,17 @@ impl<A: Allocator> VTParser<A> {
         }
     }
 
-    /// Takes a prefix of the bytes, at least one byte where there is one, and returns its length.
-    /// All but the last of them add no event and leave a segment unfinished. So a caller can stop
-    /// at the first event, or at the first place where no segment is unfinished, and give the bytes
-    /// after it to a later call.
+    /// Takes a prefix of the bytes, at least one byte where there is one, gives the actor, in
+    /// order, what it adds to the events of the bytes before, and returns its length. All but the
+    /// last of its bytes add no event and leave a segment unfinished. So a caller can stop at the
+    /// first event, or at the first place where no segment is unfinished, and give the bytes after
+    /// it to a later call. The actor has to be ready for any event, or to await those that `bytes`
+    /// add.
     ///
-    /// The error is `Memory` where the actor refused a call, or where memory for a string was
-    /// refused: a prefix of the events that the bytes add was given then, and the parser has
-    /// failed. The error is `Failed` where it had, and the actor is as it was.
+    /// The error is `Memory` where the actor refused a call, or where memory was refused for a
+    /// string that is unfinished or in these bytes: a prefix of the events that they add was given
+    /// then, and the parser has failed. The error is `Failed` where it had, and the actor is as it
+    /// was.
     #[tactic(auto, unfolding(crate::specs::Stream::LeadsToWithin, crate::specs::Stream::HasFailed))]
     pub fn parse_some<V: VTActor>(
         &mut self,

@@ -1,4 +1,4 @@
-//! What a machine gives its events.
+//! Receivers of the events of a machine.
 #![tactic(auto)]
 
 ghost use Rattle.std.specs.Prelude.{◌≡◌, ◌<◌, [], ◌∷◌, ℕ, List, map, not, true};
@@ -17,10 +17,10 @@ use crate::utf8::texts::first_of;
 use esc_values::csi_param::CsiParam;
 use std::alloc::{AllocError, Allocator};
 
-/// What a machine gives its events, by the calls of a [`VTActor`]. Every `VTActor` is one. A type
+/// Receives the events of a machine, by the calls of a [`VTActor`]. Every `VTActor` is one. A type
 /// that takes the texts of strings as they are, and asks for no memory, can say so here, by
 /// `stops`, which a `VTActor` cannot: its default methods make lists. But for that each method asks
-/// and promises what the one of `VTActor` does, as one fact.
+/// and promises what the one of `VTActor` does.
 pub trait Taker {
     // what an event may make of a value
     ghost takes: { Self → Event → Self → Type 0 };
@@ -34,8 +34,8 @@ pub trait Taker {
     // the next call may be that of this event
     ghost may: { Self → Event → Type 0 };
 
-    // why a call that was given this text and an allocator may stop by itself; the first says that
-    // the allocator refused a request
+    // why a call that was given this text and an allocator may stop by itself; the first argument
+    // says that the allocator refused a request
     ghost stops: { Type 0 → List ℕ → Type 0 };
 
     /// A character.

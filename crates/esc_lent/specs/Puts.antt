@@ -29,7 +29,7 @@ pub record PutsEscape (intermediates : List ℕ) (has_more : Bool) (byte : ℕ)
       ≡ EscDispatch intermediates has_more byte ∷ []
   pub kind : event.exit.now.kind ≡ ESCAPE
   pub kept : event.exit.now.kept ≡ length intermediates
-  -- it has the parameters and the text that it had
+  -- it counts as many parameters, and as long a text, as before
   pub same : (event.exit.now.count ≡ event.entry.now.count)
       × (event.exit.now.length ≡ event.entry.now.length)
 
@@ -39,7 +39,7 @@ pub record PutsCsi (params : List CsiParam) (has_more : Bool) (byte : ℕ) (even
   pub said : (out : List ℕ) → sent event.exit.now out ≡ CsiDispatch params has_more byte ∷ []
   pub kind : event.exit.now.kind ≡ CSI
   pub count : event.exit.now.count ≡ length params
-  -- it has the intermediates and the text that it had
+  -- it counts as many intermediates, and as long a text, as before
   pub same : (event.exit.now.kept ≡ event.entry.now.kept)
       × (event.exit.now.length ≡ event.entry.now.length)
 

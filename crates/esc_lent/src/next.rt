@@ -130,7 +130,8 @@ pub fn next(parser: &mut EscParser, buffer: &mut [u8], bytes: &[u8], event: &mut
     next_of_any(parser, buffer, bytes, event)
 }
 
-// The same of fewer bytes: mostly there are none any more, or the next ones are characters.
+// The next event of fewer than AHEAD bytes: mostly there are none any more, or the next ones are
+// characters.
 #[inline(never)]
 fn next_of_few(
     parser: &mut EscParser,
@@ -167,7 +168,7 @@ fn is_settled(parser: &EscParser) -> bool
     !parser.has_failed & (parser.queued_kind == NONE)
 }
 
-// The same of some bytes that are not many: what comes whole in them is not looked for.
+// The next event of some bytes that are not many: what comes whole in them is not looked for.
 #[inline(never)]
 fn next_inside(
     parser: &mut EscParser,
@@ -185,7 +186,7 @@ fn next_inside(
     next_on(parser, memory, out, bytes, event)
 }
 
-// The same, where the halves of the buffer are these.
+// The next event, where the halves of the buffer are these.
 #[inline(always)]
 fn next_on(
     parser: &mut EscParser,
@@ -205,7 +206,7 @@ fn next_on(
     take_on(parser, memory, out, bytes, event)
 }
 
-// Whether the parser stands between sequences, and nothing is still to be handed out.
+// Whether no segment is unfinished, and nothing is still to be handed out.
 #[inline(always)]
 fn is_idle(parser: &EscParser) -> bool
     ensures { IsTrue result → IsPlain parser.now }
@@ -213,10 +214,10 @@ fn is_idle(parser: &EscParser) -> bool
     !parser.has_failed & (parser.queued_kind == NONE) & (parser.state == 0) & (parser.pending == 0)
 }
 
-// So many bytes are looked at with no thought of their end.
+// From this many bytes on a first look needs no check for their end.
 const AHEAD: usize = 16;
 
-// The same after an ESC between sequences.
+// The next event, where ESC comes first and no segment is unfinished.
 #[inline(never)]
 fn next_of_sequence(
     parser: &mut EscParser,
@@ -238,7 +239,7 @@ fn next_of_sequence(
     }
 }
 
-// It has no text and no intermediates.
+// Clears the places and the text of the event.
 #[inline(always)]
 fn settle(event: &mut EscEvent)
     ensures { (event.new.start ≡ 0) × (event.new.length ≡ 0) × (event.new.kept ≡ 0) }
@@ -248,7 +249,7 @@ fn settle(event: &mut EscEvent)
     event.kept = 0;
 }
 
-// The same of anything, out of the way of what most calls give.
+// The next event of any bytes, out of the way of what most calls give.
 #[inline(never)]
 fn next_of_any(
     parser: &mut EscParser,

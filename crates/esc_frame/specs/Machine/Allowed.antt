@@ -1,5 +1,5 @@
 -- What an actor may be given: a promise P of one of the things that the machine may keep before a
--- call. Only private contracts cite it.
+-- call. No contract of `VTParser` cites it.
 use Rattle.std.specs.Prelude.{ℕ, ◌≡◌, true, List, [], ◌++◌, Option}
 use Rattle.esc_frame.specs.declared.machine.Machine.{Machine}
 use Rattle.esc_frame.specs.declared.unfinished.body.CsiBody.{CsiBody}

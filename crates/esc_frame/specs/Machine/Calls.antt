@@ -1,4 +1,4 @@
--- What a call says of the machine and the actor. Only private contracts cite it.
+-- What a call says of the machine and the actor. No contract of `VTParser` cites it.
 use Rattle.std.specs.Prelude.{ℕ, ◌≡◌, ◌≤◌, ◌<◌, Bool, true, false, not, List, [], ◌∷◌, length, take, Option, Result, MatchResult, IfOk, ◌⊎◌}
 use Rattle.std.specs.List.{FoldsTo}
 use denote.Bor.{Bor}
@@ -70,8 +70,8 @@ abbrev pub Quietly : {E : Type 0} → Option ℕ → Result ℕ E → Unfinished
 Quietly limit result u rest = IfOk result (λ n. IsStill limit u rest n)
 
 -- in ground these bytes emit one event, whatever the limit, and leave nothing unfinished
-abbrev pub EmitsOne : List ℕ → Event → Type 0
-EmitsOne x e = (after_all Ground x ≡ Ground)
+abbrev pub IsOneEvent : List ℕ → Event → Type 0
+IsOneEvent x e = (after_all Ground x ≡ Ground)
     × ((limit : Option ℕ) → events_all limit Ground x ≡ e ∷ [])
 
 -- The actor may be given the events of these bytes, where u was unfinished before, under some
@@ -110,8 +110,8 @@ TookSome keeps denied limit takes refuses is_ready result rest before machine ol
     × Quietly limit result Ground rest
     × Advances is_ready result rest before machine old new
 
--- The machine is in no OSC or APC, but where these bytes of a sequence pend in an OSC.
-abbrev pub is_between : State → List ℕ → Bool
-is_between state.Apc f = false
-is_between state.Osc f = not (is_empty f)
-is_between _ f = true
+-- The machine is in no text of an OSC or APC, but where these bytes of a sequence pend in an OSC.
+abbrev pub is_outside_text : State → List ℕ → Bool
+is_outside_text state.Apc f = false
+is_outside_text state.Osc f = not (is_empty f)
+is_outside_text _ f = true

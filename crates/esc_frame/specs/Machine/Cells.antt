@@ -1,4 +1,4 @@
--- The array of a list of parameters. Only private contracts cite it.
+-- The array of a list of parameters. No contract of `VTParser` cites it.
 use Rattle.std.specs.Prelude.{ℕ, ◌≡◌, ◌≤◌, List, [], length, take, Option, Some, None}
 use Rattle.esc_values.specs.declared.csi_param.CsiParam.{CsiParam}
 

@@ -1,4 +1,4 @@
--- Characters at the start of some bytes. Only private contracts cite it.
+-- Characters at the start of some bytes. No contract of `VTParser` cites it.
 use Rattle.std.specs.Prelude.{ℕ, ◌≡◌, ◌≤◌, ◌<◌, ◌++◌, true, false, List, length, take}
 use Rattle.esc_frame.specs.Sequences.{is_sequence, is_pair, number_of}
 

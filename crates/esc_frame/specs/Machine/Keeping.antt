@@ -25,7 +25,7 @@ abbrev pub Holding : {K A : Type 0} → Keeper K → Changed (Machine K A)
     → Type 0
 Holding K self P = (u : Unfinished) → Holds K.keeps self.entry.now.limit self.entry.now u → P u
 
--- where not all strings in the rest can be lent
+-- where not all strings in the rest can be borrowed
 abbrev pub Unborrowed : List ℕ → (Unfinished → Type 0) → Unfinished → Type 0
 Unborrowed rest P u = is_borrowable u rest ≡ false → P u
 

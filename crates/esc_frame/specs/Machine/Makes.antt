@@ -1,5 +1,5 @@
 -- What a call does, said of a store and an actor (`K.Store`, `V.Taker`), and of the machine and
--- the actor before the call and after it (`self`, `actor`). Only private contracts cite it.
+-- the actor before the call and after it (`self`, `actor`). No contract of `VTParser` cites it.
 use Rattle.std.specs.Prelude.{ℕ, ◌≡◌, Bool, List, Option, None, Result, IfOk, OnOk}
 use Rattle.esc_frame.specs.declared.taker.Taker.{Ghosts as Actor}
 use Rattle.esc_frame.specs.declared.machine.Machine.{Machine}

@@ -45,7 +45,7 @@ pub record PushesField (had have : ℕ) (before after : List CsiParam) (rest : L
   pub ends : goes_on ≡ false
       → (x : List ℕ) → IsPrefix before x → IsAfter after (x ++ take run rest)
 
--- these are the parameters that are kept of a body
+-- a body of which all parameters are kept: these
 pub record IsShort (items : List CsiParam) (x : List ℕ) : Type 0 where
   pub kept : items ≡ kept_csi_params x
   pub more : false ≡ has_more_csi_params x

@@ -87,19 +87,19 @@ abbrev pub IsBetweenUnits : {K A : Type 0} → Machine K A → Type 0
 IsBetweenUnits machine = (machine.state ≡ state.Osc) × (prefix_of machine.pending ≡ [])
 
 -- the actor is ready, or awaits the events of the rest, where one of these is unfinished
-abbrev pub MayTakeUnder : {S : Type 0} → Actor S → InStateUnder → List ℕ → S → Type 0
-MayTakeUnder V Kept rest old =
+abbrev pub MayBeGivenUnder : {S : Type 0} → Actor S → InStateUnder → List ℕ → S → Type 0
+MayBeGivenUnder V Kept rest old =
     V.is_ready old ⊎ Kept (λ limit u. Awaits V.may V.takes old (events_all limit u rest))
 
-abbrev pub MayTake : {S : Type 0} → Actor S → InState → Option ℕ → List ℕ → S → Type 0
-MayTake V Kept limit rest old = MayTakeUnder V (UnderOne limit Kept) rest old
+abbrev pub MayBeGiven : {S : Type 0} → Actor S → InState → Option ℕ → List ℕ → S → Type 0
+MayBeGiven V Kept limit rest old = MayBeGivenUnder V (UnderOne limit Kept) rest old
 
--- where not all strings in the rest can be lent
-abbrev pub Unlent : List ℕ → InState → InState
-Unlent rest Keeping P = Keeping (Unborrowed rest P)
+-- where not all strings in the rest can be borrowed
+abbrev pub AtUnborrowed : List ℕ → InState → InState
+AtUnborrowed rest Keeping P = Keeping (Unborrowed rest P)
 
 -- Some of the rest was taken.
-pub record TakesSome {T A S E : Type 0} (Keeping : InState) (K : Keeper T) (V : Actor S)
+pub record TakesPart {T A S E : Type 0} (Keeping : InState) (K : Keeper T) (V : Actor S)
     (result : Result ℕ E) (rest : List ℕ) (self : Changed (Machine T A)) (actor : Changed S)
     : Type 0 where
   -- what was unfinished and is kept, goes on with what was taken
@@ -107,12 +107,12 @@ pub record TakesSome {T A S E : Type 0} (Keeping : InState) (K : Keeper T) (V : 
   -- one byte at least was
   pub count : Advances V result rest self actor
 
--- The same, under any limit, and all of it but the last byte emits nothing.
+-- The same, of each limit and each unfinished segment that the first two say, and all bytes that
+-- were taken but the last emit nothing and leave a segment unfinished.
 pub record TakesUnder {T A S E : Type 0} (Keeping Any : InStateUnder) (K : Keeper T) (V : Actor S)
     (result : Result ℕ E) (rest : List ℕ) (self : Changed (Machine T A)) (actor : Changed S)
     : Type 0 where
   pub took : Keeping (λ limit u. Consumes K V limit result u rest self actor)
-  -- whatever was unfinished
   pub quiet : Any (λ limit u. Quietly limit result u rest)
   pub count : Advances V result rest self actor
 
@@ -130,7 +130,7 @@ pub record TakesInGround {T A S E : Type 0} (K : Keeper T) (V : Actor S) (result
   pub ground : StaysAtGround K result self
   pub stays : StaysInGround V result rest actor
 
--- They are a whole sequence.
+-- One byte at least was, and the first event is that of the last.
 pub record TakesSequence {T A S E : Type 0} (K : Keeper T) (V : Actor S) (result : Result ℕ E)
     (rest : List ℕ) (self : Changed (Machine T A)) (actor : Changed S) : Type 0 where
   pub taken : TakesInGround K V result rest self actor

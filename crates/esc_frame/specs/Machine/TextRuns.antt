@@ -1,4 +1,4 @@
--- Runs in the text of an operating system command. Only private contracts cite it.
+-- Runs in the text of an operating system command. No contract of `VTParser` cites it.
 use Rattle.std.specs.Prelude.{ℕ, ◌≡◌, false, List, [], ◌++◌, slice_index, Option}
 use Rattle.esc_frame.specs.Scans.{is_text_byte}
 use Rattle.esc_frame.specs.Segments.{Opener, Piece, text_of}

@@ -13,7 +13,7 @@ ghost use Rattle.esc_frame.specs.Machine.Makes.{MayEmit, Emits, Makes, StaysRead
 ghost use Rattle.esc_frame.specs.Machine.Keeps.{KeepsDcs, parameters_of};
 ghost use Rattle.esc_frame.specs.Machine.Moves.{emitting, ground_move, move};
 ghost use Rattle.esc_frame.specs.Segments.{hook_event};
-ghost use Rattle.esc_frame.specs.Machine.Taking.{MayTake, TakesSome};
+ghost use Rattle.esc_frame.specs.Machine.Taking.{MayBeGiven, TakesPart};
 
 use crate::classes::Class;
 use crate::machine::{Machine, Result, State};
@@ -96,10 +96,10 @@ impl<K: Store, A: Allocator> Machine<K, A> {
     #[inline(always)]
     pub fn take_in_data<V: Taker>(&mut self, rest: &[u8], actor: &mut V) -> Result<usize>
         requires some { 0 < length rest.now }
-        requires ready { MayTake V.Taker (KeptSegment K.Store self.old)
+        requires ready { MayBeGiven V.Taker (KeptSegment K.Store self.old)
             self.old.limit rest.now actor.old }
         requires state { self.old.state ≡ State.Data }
-        ensures { TakesSome (Holding K.Store self) K.Store V.Taker result rest.now self actor }
+        ensures { TakesPart (Holding K.Store self) K.Store V.Taker result rest.now self actor }
     {
         let run = data_run(rest);
         if run == 0 {

@@ -15,7 +15,7 @@ ghost use Rattle.esc_frame.specs.Machine.Keeps.{KeepsBody};
 ghost use Rattle.esc_frame.specs.Scans.{StartsFrom, is_body_byte};
 ghost use Rattle.esc_frame.specs.Machine.Moves.{events_all, move};
 ghost use Rattle.esc_frame.specs.Segments.{csi_events, csi_event};
-ghost use Rattle.esc_frame.specs.Machine.Taking.{TakesInGround, InAny, HasRun, AreAll, OpensCsi, StartsWithShortCsi, MayTake, MayTakeUnder, TakesIn, TakesUnder, TakesSequence};
+ghost use Rattle.esc_frame.specs.Machine.Taking.{TakesInGround, InAny, HasRun, AreAll, OpensCsi, StartsWithShortCsi, MayBeGiven, MayBeGivenUnder, TakesIn, TakesUnder, TakesSequence};
 
 use crate::classes::{Class, Kind, classify};
 use crate::machine::{Machine, Result, State};
@@ -82,7 +82,7 @@ impl<K: Store, A: Allocator> Machine<K, A> {
     #[inline(always)]
     pub fn take_in_escape<V: Taker>(&mut self, rest: &[u8], actor: &mut V) -> Result<usize>
         requires some { 0 < length rest.now }
-        requires ready { MayTake V.Taker (KeptSegment K.Store self.old)
+        requires ready { MayBeGiven V.Taker (KeptSegment K.Store self.old)
             self.old.limit rest.now actor.old }
         requires state { self.old.state ≡ State.Escape }
         ensures { TakesIn (Holding K.Store self) InAny
@@ -245,7 +245,7 @@ impl<K: Store, A: Allocator> Machine<K, A> {
     #[inline(always)]
     pub fn take_in_csi<V: Taker>(&mut self, rest: &[u8], actor: &mut V) -> Result<usize>
         requires some { 0 < length rest.now }
-        requires ready { MayTakeUnder V.Taker (KeptCsi self.old) rest.now actor.old }
+        requires ready { MayBeGivenUnder V.Taker (KeptCsi self.old) rest.now actor.old }
         requires state { self.old.state ≡ State.Csi }
         ensures { TakesUnder (KeepingCsi self) AnyCsi
             K.Store V.Taker result rest.now self actor }
@@ -258,7 +258,7 @@ impl<K: Store, A: Allocator> Machine<K, A> {
     #[inline(always)]
     fn take_after_body<V: Taker>(&mut self, rest: &[u8], run: usize, actor: &mut V) -> Result<usize>
         requires run { HasRun (AreAll is_body_byte) rest.now run }
-        requires ready { MayTakeUnder V.Taker (KeptCsiAnd (take run rest.now) self.old)
+        requires ready { MayBeGivenUnder V.Taker (KeptCsiAnd (take run rest.now) self.old)
             rest.now actor.old }
         requires state { self.old.state ≡ State.Csi }
         ensures { TakesUnder (KeepingCsiAnd (take run rest.now) self) AnyCsi

@@ -10,7 +10,7 @@ ghost use Rattle.esc_frame.specs.Machine.Makes.{MayEmit, MayEmitAll, Makes, Alwa
 ghost use Rattle.esc_frame.specs.Machine.Moves.{events_all, emitting, ground_move, pair_move, pending_move};
 ghost use Rattle.esc_frame.specs.Events.Event.{Print};
 ghost use Rattle.esc_frame.specs.Sequences.{outcome, is_sequence};
-ghost use Rattle.esc_frame.specs.Machine.Taking.{InGround, TakesInGround, TakesSome};
+ghost use Rattle.esc_frame.specs.Machine.Taking.{InGround, TakesInGround, TakesPart};
 
 use crate::classes::{Breaker, Class, classify};
 use crate::machine::{Machine, Result, State};
@@ -186,7 +186,7 @@ impl<K: Store, A: Allocator> Machine<K, A> {
         requires some { 0 < length rest.now }
         requires ready { MayEmit V.Taker (events_all self.old.limit Ground rest.now) actor.old }
         requires ground { Holds K.keeps self.old.limit self.old Ground }
-        ensures { TakesSome InGround K.Store V.Taker result rest.now self actor }
+        ensures { TakesPart InGround K.Store V.Taker result rest.now self actor }
     {
         let printed = self.take_quick(rest, actor)?;
         if printed == rest.len() {
@@ -252,7 +252,7 @@ impl<K: Store, A: Allocator> Machine<K, A> {
     fn take_string<V: Taker>(&mut self, rest: &[u8], actor: &mut V) -> Result<usize>
         requires some { 0 < length rest.now }
         requires ready { MayEmit V.Taker (events_all self.old.limit Ground rest.now) actor.old }
-        ensures { TakesSome InGround K.Store V.Taker result rest.now self actor }
+        ensures { TakesPart InGround K.Store V.Taker result rest.now self actor }
     {
         let n = self.take_control(rest, actor)?;
         let more = self.take_terminator(&rest[n..], actor)?;

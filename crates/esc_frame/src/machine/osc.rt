@@ -15,7 +15,7 @@ ghost use Rattle.esc_frame.specs.Machine.Moves.{events_all, emitting, ground_mov
 ghost use Rattle.esc_frame.specs.Machine.TextRuns.{IsTextRun};
 ghost use Rattle.esc_frame.specs.Segments.{Opener, Piece, text_of, osc_events};
 ghost use Rattle.esc_frame.specs.Sequences.{is_from, outcome};
-ghost use Rattle.esc_frame.specs.Machine.Taking.{HasRun, HasEndedRun, HasRunToPair, OpensOsc, IsBetweenUnits, MayTake, Unlent, TakesIn};
+ghost use Rattle.esc_frame.specs.Machine.Taking.{HasRun, HasEndedRun, HasRunToPair, OpensOsc, IsBetweenUnits, MayBeGiven, AtUnborrowed, TakesIn};
 
 use crate::classes::{Class, Kind, classify};
 use crate::machine::{Machine, Result, State};
@@ -145,7 +145,7 @@ impl<K: Store, A: Allocator> Machine<K, A> {
     #[inline(always)]
     fn take_body<V: Taker>(&mut self, rest: &[u8], actor: &mut V) -> Result<usize>
         requires some { 0 < length rest.now }
-        requires ready { MayTake V.Taker NewOsc self.old.limit rest.now actor.old }
+        requires ready { MayBeGiven V.Taker NewOsc self.old.limit rest.now actor.old }
         ensures { TakesIn FreshOsc AnyOsc K.Store V.Taker result rest.now self actor }
     {
         let run = units_run(rest);
@@ -165,9 +165,9 @@ impl<K: Store, A: Allocator> Machine<K, A> {
     // A text that is kept from its first byte on.
     fn keep_body<V: Taker>(&mut self, rest: &[u8], run: usize, actor: &mut V) -> Result<usize>
         requires run { HasRun IsTextRun rest.now run }
-        requires ready { MayTake V.Taker NewOsc self.old.limit rest.now actor.old }
-        ensures { TakesIn (Unlent rest.now FreshOsc) AnyOsc K.Store V.Taker result rest.now self
-            actor }
+        requires ready { MayBeGiven V.Taker NewOsc self.old.limit rest.now actor.old }
+        ensures { TakesIn (AtUnborrowed rest.now FreshOsc) AnyOsc
+            K.Store V.Taker result rest.now self actor }
     {
         self.open(Kind::Osc);
         self.take_units(rest, run, actor)
@@ -177,7 +177,7 @@ impl<K: Store, A: Allocator> Machine<K, A> {
     #[inline(always)]
     fn take_borrowed<V: Taker>(&mut self, rest: &[u8], run: usize, actor: &mut V) -> Result<usize>
         requires run { HasEndedRun IsTextRun (λ b. ends_osc (class_of b)) rest.now run }
-        requires ready { MayTake V.Taker NewOsc self.old.limit rest.now actor.old }
+        requires ready { MayBeGiven V.Taker NewOsc self.old.limit rest.now actor.old }
         ensures { TakesIn FreshOsc AnyOsc K.Store V.Taker result rest.now self actor }
     {
         self.end_borrowed(&rest[..run], rest[run], actor)?;
@@ -193,7 +193,7 @@ impl<K: Store, A: Allocator> Machine<K, A> {
         actor: &mut V,
     ) -> Result<usize>
         requires run { HasRunToPair IsTextRun rest.now run }
-        requires ready { MayTake V.Taker NewOsc self.old.limit rest.now actor.old }
+        requires ready { MayBeGiven V.Taker NewOsc self.old.limit rest.now actor.old }
         ensures { TakesIn FreshOsc AnyOsc K.Store V.Taker result rest.now self actor }
     {
         self.end_borrowed_by_pair(&rest[..run], rest[run + 1], actor)?;
@@ -245,7 +245,7 @@ impl<K: Store, A: Allocator> Machine<K, A> {
     #[inline(never)]
     pub fn take_in_osc<V: Taker>(&mut self, rest: &[u8], actor: &mut V) -> Result<usize>
         requires some { 0 < length rest.now }
-        requires ready { MayTake V.Taker (KeptOsc K.Store self.old) self.old.limit rest.now
+        requires ready { MayBeGiven V.Taker (KeptOsc K.Store self.old) self.old.limit rest.now
             actor.old }
         requires state { IsBetweenUnits self.old }
         ensures { TakesIn (KeepingOsc K.Store self) AnyOsc
@@ -262,10 +262,10 @@ impl<K: Store, A: Allocator> Machine<K, A> {
     #[inline(always)]
     fn take_units<V: Taker>(&mut self, rest: &[u8], run: usize, actor: &mut V) -> Result<usize>
         requires run { HasRun IsTextRun rest.now run }
-        requires ready { MayTake V.Taker (KeptOsc K.Store self.old) self.old.limit rest.now
+        requires ready { MayBeGiven V.Taker (KeptOsc K.Store self.old) self.old.limit rest.now
             actor.old }
         requires state { IsBetweenUnits self.old }
-        ensures { TakesIn (Unlent rest.now (KeepingOsc K.Store self)) AnyOsc
+        ensures { TakesIn (AtUnborrowed rest.now (KeepingOsc K.Store self)) AnyOsc
             K.Store V.Taker result rest.now self actor }
     {
         self.text.push(self.limit, &rest[..run])?;
@@ -276,11 +276,11 @@ impl<K: Store, A: Allocator> Machine<K, A> {
     #[inline(always)]
     fn take_after_text<V: Taker>(&mut self, rest: &[u8], run: usize, actor: &mut V) -> Result<usize>
         requires run { HasRun IsTextRun rest.now run }
-        requires ready { MayTake V.Taker (KeptOscAnd K.Store (take run rest.now) self.old)
+        requires ready { MayBeGiven V.Taker (KeptOscAnd K.Store (take run rest.now) self.old)
             self.old.limit rest.now actor.old }
         requires state { IsBetweenUnits self.old }
-        ensures { TakesIn (Unlent rest.now (KeepingOscAnd K.Store (take run rest.now) self)) AnyOsc
-            K.Store V.Taker result rest.now self actor }
+        ensures { TakesIn (AtUnborrowed rest.now (KeepingOscAnd K.Store (take run rest.now) self))
+            AnyOsc K.Store V.Taker result rest.now self actor }
     {
         if run == rest.len() {
             return Ok(run);

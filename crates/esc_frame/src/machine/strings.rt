@@ -11,7 +11,7 @@ ghost use Rattle.esc_frame.specs.Machine.Makes.{MayEmit, Emits, Makes, StaysRead
 ghost use Rattle.esc_frame.specs.Machine.Moves.{emitting, ground_move, move};
 ghost use Rattle.esc_frame.specs.Scans.{is_text_byte};
 ghost use Rattle.esc_frame.specs.Segments.{apc_events};
-ghost use Rattle.esc_frame.specs.Machine.Taking.{HasRun, AreAll, HasEndedRun, MayTake, Unlent, TakesIn};
+ghost use Rattle.esc_frame.specs.Machine.Taking.{HasRun, AreAll, HasEndedRun, MayBeGiven, AtUnborrowed, TakesIn};
 
 use crate::classes::{Class, classify};
 use crate::machine::{Machine, Result, State};
@@ -85,7 +85,7 @@ impl<K: Store, A: Allocator> Machine<K, A> {
     #[inline(always)]
     pub fn take_in_apc<V: Taker>(&mut self, rest: &[u8], actor: &mut V) -> Result<usize>
         requires some { 0 < length rest.now }
-        requires ready { MayTake V.Taker (KeptApc K.Store self.old) self.old.limit rest.now
+        requires ready { MayBeGiven V.Taker (KeptApc K.Store self.old) self.old.limit rest.now
             actor.old }
         requires state { self.old.state ≡ State.Apc }
         ensures { TakesIn (KeepingApc K.Store self) AnyApc
@@ -108,10 +108,10 @@ impl<K: Store, A: Allocator> Machine<K, A> {
     // A run in an application program command, which is kept, and the byte after it.
     fn keep_apc<V: Taker>(&mut self, rest: &[u8], run: usize, actor: &mut V) -> Result<usize>
         requires run { HasRun (AreAll is_text_byte) rest.now run }
-        requires ready { MayTake V.Taker (KeptApc K.Store self.old) self.old.limit rest.now
+        requires ready { MayBeGiven V.Taker (KeptApc K.Store self.old) self.old.limit rest.now
             actor.old }
         requires state { self.old.state ≡ State.Apc }
-        ensures { TakesIn (Unlent rest.now (KeepingApc K.Store self)) AnyApc
+        ensures { TakesIn (AtUnborrowed rest.now (KeepingApc K.Store self)) AnyApc
             K.Store V.Taker result rest.now self actor }
     {
         self.text.push(self.limit, &rest[..run])?;
@@ -122,11 +122,11 @@ impl<K: Store, A: Allocator> Machine<K, A> {
     #[inline(always)]
     fn take_after_apc<V: Taker>(&mut self, rest: &[u8], run: usize, actor: &mut V) -> Result<usize>
         requires run { HasRun (AreAll is_text_byte) rest.now run }
-        requires ready { MayTake V.Taker (KeptApcAnd K.Store (take run rest.now) self.old)
+        requires ready { MayBeGiven V.Taker (KeptApcAnd K.Store (take run rest.now) self.old)
             self.old.limit rest.now actor.old }
         requires state { self.old.state ≡ State.Apc }
-        ensures { TakesIn (Unlent rest.now (KeepingApcAnd K.Store (take run rest.now) self)) AnyApc
-            K.Store V.Taker result rest.now self actor }
+        ensures { TakesIn (AtUnborrowed rest.now (KeepingApcAnd K.Store (take run rest.now) self))
+            AnyApc K.Store V.Taker result rest.now self actor }
     {
         if run == rest.len() {
             return Ok(run);
@@ -145,7 +145,7 @@ impl<K: Store, A: Allocator> Machine<K, A> {
     ) -> Result<usize>
         requires run { HasEndedRun (AreAll is_text_byte) (λ b. is_breaker (class_of b)) rest.now
             run }
-        requires ready { MayTake V.Taker NewApc self.old.limit rest.now actor.old }
+        requires ready { MayBeGiven V.Taker NewApc self.old.limit rest.now actor.old }
         ensures { TakesIn FreshApc AnyApc K.Store V.Taker result rest.now self actor }
     {
         self.end_borrowed_apc(&rest[..run], rest[run], actor)?;
@@ -170,7 +170,7 @@ impl<K: Store, A: Allocator> Machine<K, A> {
     #[inline(always)]
     pub fn take_in_ignored<V: Taker>(&mut self, rest: &[u8], actor: &mut V) -> Result<usize>
         requires some { 0 < length rest.now }
-        requires ready { MayTake V.Taker (KeptSegment K.Store self.old)
+        requires ready { MayBeGiven V.Taker (KeptSegment K.Store self.old)
             self.old.limit rest.now actor.old }
         requires state { self.old.state ≡ State.Ignored }
         ensures { TakesIn (Holding K.Store self) (Holding K.Store self)

@@ -3,7 +3,7 @@
 
 ghost use Rattle.std.specs.Prelude.{◌≢◌, ◌<◌, ◌≤◌, ℕ, Option, length, take, slice_index, IfSome, IsSome};
 ghost use Rattle.esc_frame.specs.Events.Event.{Execute, Print};
-ghost use Rattle.esc_frame.specs.Machine.Calls.{Quietly, EmitsOne};
+ghost use Rattle.esc_frame.specs.Machine.Calls.{Quietly, IsOneEvent};
 ghost use Rattle.esc_frame.specs.Machine.Characters.{IsAhead};
 ghost use Rattle.esc_frame.specs.Leads.Unfinished.{Ground};
 ghost use Rattle.esc_frame.specs.Machine.Makes.{MayEmitAll, StaysInGround};
@@ -20,7 +20,7 @@ use crate::utf8::sequence::{ahead, of_four, of_three, of_two};
 #[inline(always)]
 pub fn first_char(rest: &[u8]) -> Option<(char, usize)>
     ensures count { IfSome result (λ x. (0 < x.1) × (x.1 ≤ length rest.now)) }
-    ensures prints { IfSome result (λ x. EmitsOne (take x.1 rest.now) (Print x.0)) }
+    ensures prints { IfSome result (λ x. IsOneEvent (take x.1 rest.now) (Print x.0)) }
     ensures quiet { (limit : Option ℕ) → IfSome result (λ x. IsStill limit Ground rest.now x.1) }
     ensures text { 0 < length rest.now → 0x20 ≤ slice_index rest.now 0
         → slice_index rest.now 0 < 0x80 → IsSome result }
@@ -41,7 +41,7 @@ pub fn first_char(rest: &[u8]) -> Option<(char, usize)>
 #[inline(always)]
 pub fn first_control(rest: &[u8]) -> Option<u8>
     ensures count { IfSome result (λ b. 0 < length rest.now) }
-    ensures executes { IfSome result (λ b. EmitsOne (take 1 rest.now) (Execute b)) }
+    ensures executes { IfSome result (λ b. IsOneEvent (take 1 rest.now) (Execute b)) }
     ensures control { 0 < length rest.now → slice_index rest.now 0 < 0x20
         → slice_index rest.now 0 ≢ 0x1b → IsSome result }
 {
@@ -71,7 +71,7 @@ pub fn execute_one<V: Taker>(rest: &[u8], actor: &mut V) -> Result<usize>
 #[inline(always)]
 fn first_wide(rest: &[u8]) -> Option<(char, usize)>
     ensures count { IfSome result (λ x. (0 < x.1) × (x.1 ≤ length rest.now)) }
-    ensures prints { IfSome result (λ x. EmitsOne (take x.1 rest.now) (Print x.0)) }
+    ensures prints { IfSome result (λ x. IsOneEvent (take x.1 rest.now) (Print x.0)) }
     ensures quiet { (limit : Option ℕ) → IfSome result (λ x. IsStill limit Ground rest.now x.1) }
 {
     let (n, c) = ahead(rest);
