@@ -1,5 +1,5 @@
 -- What rows were given.
-use Rattle.std.specs.Prelude.{ℕ, ◌≡◌, List, [], ◌++◌, IsSomeAnd, None, Option, Some, string_bytes}
+use Rattle.std.specs.Prelude.{ℕ, ◌≡◌, ◌<◌, ◌≤◌, ◌+◌, ◌^◌, List, [], ◌++◌, length, IsSomeAnd, None, Option, Some, string_bytes}
 use Rattle.esc_actions.specs.Values.{value_of}
 use Rattle.esc_actions.specs.declared.action.Action.{Action}
 use Rattle.esc_parse.specs.Fed.{WasFedWithin}
@@ -35,6 +35,14 @@ pub record Becomes {A : Type 0} (p : Screen A) (t : List ℕ) (w : Window)
   pub text : text_of q ≡ text_of p ++ t
   pub window : window_of q ≡ w
   pub size : size_of q ≡ size_of p
+
+-- The first n of these characters, one at least, are put at once from this column on: several only
+-- where the row has columns for them.
+pub record Fits (column columns : ℕ) (text : List ℕ) (n : ℕ) : Type 0 where
+  pub some : 0 < n
+  pub within : n ≤ length text
+  pub fits : 1 < n → column + n ≤ columns
+  pub bound : column + n < 2 ^ 64
 
 -- a step does to it what it does to its window, and adds the text of the rows that are final by it
 abbrev pub Adds : {A : Type 0} → Screen A → Step → Screen A → Type 0

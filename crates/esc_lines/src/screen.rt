@@ -4,7 +4,7 @@ ghost use Rattle.std.specs.List.{FoldsTo, list_all};
 ghost use Rattle.std.specs.Str.{chars};
 ghost use Rattle.esc_actions.specs.declared.action.Action.TheVariants as action;
 ghost use Rattle.esc_frame.specs.Scans.{is_text_byte};
-ghost use Rattle.esc_lines.specs.Fed.{Adds, Becomes, Takes, size_of, text_of, window_of};
+ghost use Rattle.esc_lines.specs.Fed.{Adds, Becomes, Fits, Takes, size_of, text_of, window_of};
 ghost use Rattle.esc_lines.specs.Rows.{blanked, deleted, empty_line, inserted, lines_text, put_all};
 ghost use Rattle.esc_lines.specs.Steps.{is_visible, print_step};
 ghost use Rattle.esc_lines.specs.Windows.{above_erased, advanced, all_erased, at_column, below_erased, down, first_window, left_erased, line_of, printed, ran, scrolled, scrolled_text, sized, tab_stop, up, with_blank_rows, with_row, wrapped, wrapped_text};
@@ -190,10 +190,7 @@ impl<A: Allocator + Copy> Screen<A> {
     fn room_for(&self, text: &[u8]) -> usize
         requires some { 0 < length text.now }
         requires room { self.now.column + 1 < 2 ^ 64 }
-        ensures some { 0 < result }
-        ensures within { result ≤ length text.now }
-        ensures fits { 1 < result → self.now.column + result ≤ self.now.max_columns }
-        ensures bound { self.now.column + result < 2 ^ 64 }
+        ensures { Fits self.now.column self.now.max_columns text.now result }
     {
         let room = self.max_columns.saturating_sub(self.column);
         if room == 0 { 1 } else { text.len().min(room) }
