@@ -1,5 +1,5 @@
 -- A run of characters in a row is what each of them, one after another, makes of the rows.
-use Rattle.std.proofs.Common.{ℕ, zero, suc, ◌≡◌, ◌+◌, ◌<◌, ◌≤◌, true, false, not, Result, Ok, Err, OnErr, inl, inr, Bool, List, [], ◌∷◌, ◌++◌, length, map, set, get_or, nat_lt, Option, None, Vec, refl, ap, sym, subst, ◌∙◌, append-nil, arith}
+use Rattle.std.proofs.Common.{ℕ, suc, ◌≡◌, ◌+◌, ◌<◌, ◌≤◌, true, false, Result, Ok, Err, OnErr, inl, inr, Bool, List, [], ◌∷◌, ◌++◌, length, map, set, get_or, nat_lt, refl, ap, sym, subst, ◌∙◌, append-nil, arith}
 use Rattle.std.specs.List.{FoldsTo, list_all}
 use Rattle.std.specs.Vec.{with_items}
 use Rattle.std.proofs.Math.Seq.{set_out}
@@ -8,10 +8,9 @@ use Rattle.std.proofs.lemmas.Bool.Decides.{nat_tests}
 use Rattle.std.proofs.lemmas.List.Folds.{list_all-append}
 use Rattle.esc_frame.specs.Scans.{is_text_byte}
 use Rattle.std.proofs.lemmas.List.{get_or-set_same, length-set, map-append, set-get_or, set-set, with_items_is}
-use Rattle.memchr.specs.Find.{is_byte, IsFirstByte}
+use Rattle.memchr.specs.Find.{is_byte}
 use Rattle.esc_actions.specs.declared.action.Action.TheVariants as action
 use Rattle.esc_parse.proofs.Lists.{FoldsTo-append}
-use Rattle.esc_looks.specs.declared.look.Look.{Look}
 use Rattle.esc_parse.specs.Given.{By, StopsAt}
 use Rattle.esc_actions.specs.Values.{csi, value_of}
 use Rattle.esc_actions.specs.declared.action.Action.{Action}

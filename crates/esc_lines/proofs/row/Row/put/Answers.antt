@@ -1,5 +1,5 @@
 use Rattle.esc_lines.specs.declared.glyph.Glyph.{Glyph}
-use Rattle.std.proofs.Common.{List, Option, ◌+◌, ◌++◌, length, map, ap, sym, ◌∙◌}
+use Rattle.std.proofs.Common.{List, Option, ◌+◌, ◌++◌, map, ap, sym, ◌∙◌}
 use Rattle.std.proofs.lemmas.List.{length-map}
 use Rattle.esc_lines.specs.Rows.{Line, empty_line, plain_cell, put_at, with_cells}
 use Rattle.esc_lines.proofs.Texts.{ok_map, put_past}

@@ -1,5 +1,5 @@
 use Rattle.esc_lines.specs.declared.glyph.Glyph.{Glyph}
-use Rattle.std.proofs.Common.{List, Option, ◌≡◌, ◌≤◌, ◌+◌, ◌++◌, length, map, true, ap, sym, subst, ◌∙◌, arith, rules}
+use Rattle.std.proofs.Common.{List, Option, ◌≡◌, ◌≤◌, ◌+◌, ◌++◌, length, map, true, ap, sym, subst, ◌∙◌, rules}
 use Rattle.std.specs.List.{list_all}
 use Rattle.esc_frame.specs.Scans.{is_text_byte}
 use Rattle.esc_looks.specs.Looks.{plain_look}

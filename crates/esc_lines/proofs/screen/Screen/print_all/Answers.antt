@@ -1,5 +1,3 @@
-use Rattle.std.proofs.Common.{subst, None}
-use Rattle.memchr.specs.Find.{is_byte, IsFirstByte}
 use Rattle.esc_lines.proofs.Runs.{all_visible}
 use Rattle.esc_lines.proofs.screen.Screen.print_all.Goals as goal
 
