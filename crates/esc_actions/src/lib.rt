@@ -1,9 +1,15 @@
 //! Actions of a terminal: what pieces of a stream ask it to do, their texts, and the laws of what
-//! streams mean.
+//! streams mean (ECMA-48; xterm's list of control sequences).
 //!
 //! An [`Action`] is a value with a text. The specifications of this crate say what a stream of
 //! bytes means, as a list of such values, and what the text of a list is; its [`laws`] say how the
 //! two fit. `esc_parse` reads, and `esc_write` writes.
+//!
+//! ```text
+//! let mut list = Vec::new(alloc);
+//! Action::Print('a').append_to(&mut list)?;
+//! Action::Print('a').append_to(&mut list)?;     // list is [PrintString("aa")]
+//! ```
 #![tactic(auto)]
 
 mod action;

@@ -1,10 +1,13 @@
 //! What the framing and the codecs of terminal escape sequences build on, under one name: the
 //! values of `esc_values`, the control and escape sequences of `esc_sequences`, and the hyperlinks
-//! of `esc_links`.
+//! of `esc_links`. Each of these names the standards that it follows.
 //!
-//! A bold character is asked for by `ESC [ 1 m`: `CSI::parse(alloc, &[CsiParam::Integer(1)], false,
-//! b'm')?` has the one value `CSI::Sgr(Sgr::Intensity(Intensity::Bold))`, which prints as the same
-//! sequence.
+//! A program asks for bold characters by `ESC [ 1 m`:
+//!
+//! ```text
+//! CSI::parse(alloc, &[CsiParam::Integer(1)], false, b'm')?
+//! // one value, CSI::Sgr(Sgr::Intensity(Intensity::Bold)), which is written as "\x1b[1m"
+//! ```
 #![tactic(auto)]
 
 pub mod laws;

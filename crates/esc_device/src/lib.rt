@@ -1,15 +1,16 @@
-//! Device control strings that are neither sixel images nor termcap queries: modes that a string
-//! enters, short controls that are given whole, and which of these a header opens.
+//! Device control strings that are neither sixel images nor termcap queries, as a part of
+//! `escape_stream`: modes that a string enters, short controls that are given whole, and which of
+//! these a header opens. The standards: ECMA-48, 5.6
+//! (<https://ecma-international.org/publications-and-standards/standards/ecma-48/>); for a header
+//! <https://vt100.net/emu/dec_ansi_parser>; for the short control xterm's DECRQSS
+//! (<https://invisible-island.net/xterm/ctlseqs/ctlseqs.html>, "Device-Control functions"), by
+//! which a program asks for a setting, such as that of its graphic rendition:
 //!
-//! The standards: ECMA-48, 5.6
-//! (<https://ecma-international.org/publications-and-standards/standards/ecma-48/>); for the form
-//! of a header the parser of <https://vt100.net/emu/dec_ansi_parser>; for the short control with
-//! `$` and `q` xterm's DECRQSS (<https://invisible-island.net/xterm/ctlseqs/ctlseqs.html>,
-//! "Device-Control functions").
-//!
-//! A program asks for the setting of its graphic rendition by `ESC P $ q m ESC \`: that is a
-//! [`ShortDeviceControl`] with the intermediate `$`, the final byte `q` and the data `m`, and it
-//! prints as the same string.
+//! ```text
+//! let mut builder = ShortBuilder::new(alloc, &[], b"$", b'q')?;
+//! builder.push(b'm')?;
+//! builder.finish()        // a ShortDeviceControl, which is written as "\x1bP$qm\x1b\\"
+//! ```
 #![tactic(auto)]
 
 pub mod builder;

@@ -3,7 +3,11 @@
 //! and `esc_normal`.
 //!
 //! Most of these types derive `==`, and a derive has no clause of its own; here each is the body of
-//! a function that has one.
+//! a function that has one. `escape_stream` compares actions by it.
+//!
+//! ```text
+//! actions::same_control_code(&ControlCode::Bell, &ControlCode::LineFeed)     // false
+//! ```
 #![tactic(auto)]
 
 pub mod actions;

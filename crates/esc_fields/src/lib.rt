@@ -1,19 +1,16 @@
 //! The value of an operating system command, an image of kitty's or a termcap query as a flat list
-//! of fields, for callers that have no enums with values: a kind, rows of numbers and places, and
-//! one text; and sixel data as rows.
+//! of fields, and sixel data as rows: for callers of `escape_c`, who have no enums with values.
 //!
-//! Each command has a [`CommandKind`], also each command of iTerm2 and each prompt, and each image
-//! an [`ImageKind`]. [`Fields`] holds its parts, each under a [`FieldName`], in order: what is
-//! optional is a field that is absent, and the items of a list come one after another. A piece of
-//! sixel data is a [`SixelRow`].
+//! A command has a [`CommandKind`], and an image an [`ImageKind`]. [`Fields`] holds the parts in
+//! order, each under a [`FieldName`]: what is optional is a field that is absent. A piece of sixel
+//! data is a [`SixelRow`]. The way back: [`command_of`], [`image_of`], [`names_of`] and
+//! [`sixel_items_of`].
 //!
-//! Of `OperatingSystemCommand::SetSelection(Selection::CLIPBOARD, text)`, where the text is `hi`,
-//! the fields `Fields::of(alloc, &command)?` are `FieldName::Selection` with the number 2 and
-//! `FieldName::Text`, whose row says that its text is the 2 bytes at 0 of `fields.text()`, `hi`.
-//!
-//! The way back: `command_of(alloc, CommandKind::of(&command).number(), fields.rows(),
-//! fields.text())?` is that command again; of rows that are the fields of no command it is none. So
-//! are [`image_of`], [`names_of`] and [`sixel_items_of`].
+//! ```text
+//! let command = OperatingSystemCommand::parse(alloc, &[b"52", b"c", b"aGVsbG8="])?;
+//! let fields = Fields::of(alloc, &command)?;     // Selection: the number 2; Text: 5 bytes at 0
+//! fields.text()                                  // b"hello"
+//! ```
 #![tactic(auto)]
 
 mod append;

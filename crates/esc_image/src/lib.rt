@@ -1,5 +1,12 @@
-//! Images and queries: kitty images, sixel images and termcap queries, each of a crate of its own,
-//! under one name.
+//! Images and queries under one name: kitty images, sixel images and termcap queries, each of a
+//! crate of its own, which names the standard that it follows.
+//!
+//! A program deletes all placements that are visible, as kitty's graphics protocol has it:
+//!
+//! ```text
+//! let image = kitty::KittyImage::parse_apc(alloc, b"Ga=d,d=a")?;
+//! // Some(KittyImage::Delete { what: KittyImageDelete::All { delete: false }, .. })
+//! ```
 #![tactic(auto)]
 
 /// Kitty images: application program commands of kitty's graphics protocol.

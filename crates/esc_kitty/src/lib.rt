@@ -1,6 +1,14 @@
-//! Images of kitty's graphics protocol (<https://sw.kovidgoyal.net/kitty/graphics-protocol/>):
-//! their values, how the data of an application program command is read as one, and how a value is
-//! written.
+//! Images of kitty's graphics protocol (<https://sw.kovidgoyal.net/kitty/graphics-protocol/>), as a
+//! part of `esc_image`: their values, how the data of an application program command is read as a
+//! [`KittyImage`], and how a value is written.
+//!
+//! A program sends a picture of 10 by 20 pixels, three bytes a pixel, in base64:
+//!
+//! ```text
+//! let image = KittyImage::parse_apc(alloc, b"Gf=24,s=10,v=20;aGVsbG8=")?;
+//! // Some(KittyImage::TransmitData { .. }), whose format is Some(KittyImageFormat::Rgb);
+//! // it is written as "\x1b_Gf=24,s=10,v=20;aGVsbG8=", and the caller writes the terminator
+//! ```
 #![tactic(auto)]
 
 pub mod compose;

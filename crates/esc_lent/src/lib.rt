@@ -1,4 +1,16 @@
-//! A parser in the memory of its caller.
+//! A parser of terminal escape sequences in the memory of its caller, for `stream_c`. It follows
+//! the parser of DEC's terminals (<https://vt100.net/emu/dec_ansi_parser>) as `esc_frame` does.
+//!
+//! [`next`](next::next) takes bytes of a stream up to the next [`EscEvent`](event::EscEvent). What
+//! is unfinished stays in an [`EscParser`](parser::EscParser) and in the lower half of a buffer;
+//! the texts of strings come in its upper half. No call takes memory, and a stream can be cut
+//! anywhere.
+//!
+//! ```text
+//! let (mut parser, mut event) = (EscParser::new(), EscEvent::new());
+//! let mut buffer = [0; 64];
+//! next(&mut parser, &mut buffer, b"\x1b[1mbold", &mut event)     // 4: event.kind is CSI
+//! ```
 #![tactic(auto)]
 
 pub mod advance;

@@ -4,7 +4,13 @@
 //!
 //! What `esc_parse` reads is written as `esc_write` writes it, with no list of actions in between.
 //! [`Feeding`] is what takes a stream in pieces and has the text of each, as a normaliser or a
-//! filter, and [`filter_from`] runs it from a reader to a writer.
+//! filter, and [`filter_from`] runs it from a reader to a writer. A part of `escape_stream`.
+//!
+//! ```text
+//! let mut normaliser = Normaliser::new(alloc, None);
+//! normaliser.feed(b"\x1b]0;title\x07x")?;
+//! normaliser.text()       // "\x1b]0;title\x1b\\x"
+//! ```
 #![tactic(auto)]
 
 mod feeding;

@@ -1,16 +1,16 @@
-//! Operating system commands, as xterm's list of control sequences names them: their values, how
-//! the parts between `ESC ]` and the string terminator are read, and how a value is written.
+//! Operating system commands: their values, how the parts between `ESC ]` and the string terminator
+//! are read as an [`OperatingSystemCommand`], and how a value is written.
 //!
 //! The standards: xterm's list of control sequences, "Operating System Commands"
-//! (<https://invisible-island.net/xterm/ctlseqs/ctlseqs.html>); for code 8 "Hyperlinks in terminal
-//! emulators" (<https://gist.github.com/egmontkob/eb114294efbcd5adb1944c9f3cb5feda>); for code 9
-//! with `4` ConEmu's documentation
-//! (<https://conemu.github.io/en/AnsiEscapeCodes.html#ConEmu_specific_OSC>); for codes 133 and 1337
-//! those of `esc_prompts` and `esc_iterm`.
+//! (<https://invisible-island.net/xterm/ctlseqs/ctlseqs.html>); for the codes 8, 133 and 1337 those
+//! of `esc_links`, `esc_prompts` and `esc_iterm`; for code 9 with `4` ConEmu's documentation
+//! (<https://conemu.github.io/en/AnsiEscapeCodes.html#ConEmu_specific_OSC>).
 //!
-//! A program names its window with `ESC ] 2 ; hello ESC \`: `OperatingSystemCommand::parse(alloc,
-//! &[b"2", b"hello"])?` is `OperatingSystemCommand::SetWindowTitle(title)`, where `title.as_str()`
-//! is `hello`; it prints as the same command.
+//! ```text
+//! let parts = [b"0".as_slice(), b"hello".as_slice()];
+//! let command = OperatingSystemCommand::parse(alloc, &parts)?;
+//! // SetIconNameAndWindowTitle of "hello", which is written as "\x1b]0;hello\x1b\\"
+//! ```
 #![tactic(auto)]
 
 pub mod command;

@@ -2,7 +2,13 @@
 //!
 //! Events go to a [`Performer`](performer::Performer), which makes actions of them and keeps what
 //! is unfinished of a device control string. No text is made of actions here: `esc_write` does
-//! that, and `esc_normal` joins the two.
+//! that, and `esc_normal` joins the two. A part of `escape_stream`.
+//!
+//! ```text
+//! let mut parser = Parser::new(alloc);
+//! parser.parse_as_vec(b"a\x1b[")?     // [Action::Print('a')]
+//! parser.parse_as_vec(b"m")?          // [Action::CSI(CSI::Sgr(Sgr::Reset))]
+//! ```
 #![tactic(auto)]
 
 pub mod commands;

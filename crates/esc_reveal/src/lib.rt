@@ -3,6 +3,12 @@
 //! A filter that drops what it does not admit loses what a log is read for. [`Reveal`] rewrites a
 //! stream before it is filtered: each piece of it that a policy does not admit becomes visible
 //! text, in the notation of `less` and `cat -v`, and the rest stays as it came.
+//!
+//! ```text
+//! let mut reveal = Reveal::new(alloc, 65_536, Policy::Color, true);
+//! reveal.feed(b"ok\x1b[6n\n")?;
+//! reveal.added()       // b"ok^[[6n\n"
+//! ```
 #![tactic(auto)]
 
 mod judge;

@@ -1,9 +1,14 @@
-//! Sixel images: their values, how the string that a terminal is sent is read byte by byte, how a
-//! value is written, and how large an image is.
+//! Sixel images, as a part of `esc_image`: a [`SixelBuilder`] reads byte by byte the string that a
+//! terminal is sent, and a [`Sixel`] has a size and is written. They follow VT330/VT340 Programmer
+//! Reference Manual, volume 2, chapter 14 (<https://vt100.net/docs/vt3xx-gp/chapter14.html>):
+//! `ESC P`, up to three parameters, `q`, and the data. Here two columns are drawn over three:
 //!
-//! Sixel follows VT330/VT340 Programmer Reference Manual, volume 2, chapter 14
-//! (<https://vt100.net/docs/vt3xx-gp/chapter14.html>): `ESC P`, up to three parameters, `q`, and
-//! the data.
+//! ```text
+//! let mut builder = SixelBuilder::new(alloc, &[]);
+//! builder.push_run(b"~~~$~~")?;
+//! builder.finish()?;
+//! builder.sixel.dimensions()      // (3, 6)
+//! ```
 #![tactic(auto)]
 
 mod appending;

@@ -1,18 +1,15 @@
-//! Typed values of control sequences, escape sequences and C1 controls: what one asks for, with its
-//! parameters as numbers, as a value that a caller can match; and the renditions of SGR, one after
-//! another.
-//!
-//! The standards: ECMA-48
+//! Typed values of control sequences, escape sequences and C1 controls, for callers that match
+//! them: a [`Function`] is what one asks for, with its parameters as numbers, and [`Renditions`]
+//! gives those of SGR one after another. The standards: ECMA-48
 //! (<https://ecma-international.org/publications-and-standards/standards/ecma-48/>), ISO 8613-6 for
 //! the parts of colours, DEC's manual of the VT510
 //! (<https://vt100.net/docs/vt510-rm/chapter4.html>) and xterm's list of control sequences
 //! (<https://invisible-island.net/xterm/ctlseqs/ctlseqs.html>).
 //!
-//! `Function::of` of `ESC [ ; 4 H` is `Function::Cursor(Cursor::Position { line, col })`, with the
-//! line 1, which is the default, and the column 4. Of `ESC [ 1 ; 38 ; 5 ; 208 m` it is
-//! `Function::Sgr(renditions)`, which gives two items, whose renditions are
-//! `Some(Rendition::Intensity(Intensity::Bold))` and
-//! `Some(Rendition::Foreground(ColorSpec::PaletteIndex(208)))`.
+//! ```text
+//! let params = [CsiParam::P(b';'), CsiParam::Integer(4)];     // ESC [ ; 4 H
+//! Function::of_params(&params, b'H')     // Cursor(Position { line: 1, col: 4 })
+//! ```
 #![tactic(auto)]
 
 pub mod ansi_color;

@@ -1,8 +1,14 @@
 //! Characters that a reader of a text sees as they are, and those that hide, deceive or steer a
-//! terminal, with what is written in their place.
+//! terminal, with what is written in their place: a part of `esc_filter`, `esc_reveal` and
+//! `command_line`.
 //!
 //! [`is_shown`] says which characters show as themselves, [`is_deceiving`] which hide or reorder
-//! text, and [`number_text`] is the text of any other, as `<U+202E>`. Nothing here asks for memory.
+//! text (Unicode 18.0), and [`number_text`] is the text of any other. Nothing here asks for memory.
+//!
+//! ```text
+//! is_deceiving('\u{202e}')     // true: U+202E changes the direction of the text after it
+//! number_text('\u{202e}')      // "<U+202E>"
+//! ```
 #![tactic(auto)]
 
 mod deceiving;

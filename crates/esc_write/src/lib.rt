@@ -3,7 +3,11 @@
 //!
 //! The text of a list of actions is that of its values, with a string terminator after each that
 //! needs one. There is no parser here: `esc_normal` joins what this crate writes with what
-//! `esc_parse` reads.
+//! `esc_parse` reads. A part of `escape_stream`.
+//!
+//! ```text
+//! encode(alloc, &actions)?     // of a title "t" and Print('x'): "\x1b]0;t\x1b\\x"
+//! ```
 #![tactic(auto)]
 
 pub mod commands;

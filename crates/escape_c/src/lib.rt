@@ -1,17 +1,16 @@
-//! The normal form, its check, the filter and the HTML of streams of terminal escape sequences, for
-//! C and for programs that link C's libraries.
+//! The normal form, the filter, the HTML and the parts of streams of terminal escape sequences, for
+//! C and for programs that link C's libraries. `include/escape_stream.h` declares the calls for C.
 //!
-//! Each call takes a stream whole, and returns a status: [`DONE`], or why it was not done. A text
-//! goes into the caller's buffer, as much of it as fits, and its whole length into `needed`; so a
-//! caller makes room and calls again. After any status but `DONE` nothing was written. These calls
-//! keep nothing. The filter, the HTML and the normal form of a stream in pieces are each an
-//! [`InPieces`] of the caller's, with a block after it.
-//! Three further calls write a [`FunctionRow`]: what a sequence or a control asks for, by name; and
-//! three an [`OscValue`], an [`ImageValue`] or a [`QueryValue`] and rows of fields: what an
-//! operating system command, an image of kitty's or a termcap query says; and one a [`SixelValue`]
-//! and rows of sixel data. Four others take what these calls write, and write the text of which
-//! they read it.
-//! `include/escape_stream.h` declares the calls for C.
+//! A call that takes a stream whole returns a status: [`DONE`], or why nothing was written. A text
+//! goes into the caller's buffer, as much of it as fits, and its whole length into `needed`.
+//! The filter, the HTML and the normal form of a stream in pieces are each an [`InPieces`] of the
+//! caller's. Other calls name a function, or read and write commands, images and queries.
+//!
+//! ```text
+//! const uint8_t stream[] = "a\x1b]0;a title\x07 \x1b[1;31mred";
+//! escape_stream_filter(ESCAPE_STREAM_POLICY_TEXT, 4096, stream, sizeof stream - 1,
+//!                      out, sizeof out, &needed);     // out: "a red"; needed: 5
+//! ```
 #![tactic(auto)]
 
 mod change_kept;

@@ -1,7 +1,14 @@
 //! A parser of terminal escape sequences for C, and for programs that link C's libraries: it takes
-//! a stream in pieces, keeps all in its caller's memory, and takes none itself.
+//! a stream in pieces, keeps all in its caller's memory, and takes none itself. `esc_lent` is that
+//! parser.
 //!
 //! `include/escape_stream_parser.h` declares the calls for C. The archive needs no other.
+//!
+//! ```text
+//! escape_stream_begin(&parser);
+//! taken = escape_stream_next(&parser, buffer, sizeof buffer, bytes, length, &event);
+//! // of "\x1b[1mbold": taken is 4, event.kind is ESCAPE_STREAM_CSI, and event.byte is 'm'
+//! ```
 #![tactic(auto)]
 
 ghost use Rattle.std.specs.Prelude.{◌≡◌, ◌↔◌, ℕ, List, [], IsTrue, false, true};
