@@ -1,5 +1,5 @@
 -- What was fed to a reveal.
-use Rattle.std.specs.Prelude.{ℕ, ◌≡◌, Bool, true, false, if◌then◌else◌, is_ok, List, [], ◌++◌, OnErr, Result, Some}
+use Rattle.std.specs.Prelude.{ℕ, ◌≡◌, ◌<◌, ◌≤◌, Bool, true, false, if◌then◌else◌, is_ok, List, [], ◌++◌, length, take, IfOk, OnErr, Result, Some}
 use Rattle.esc_filter.specs.declared.admit.Admit.{Ghosts as Admitter}
 use Rattle.esc_frame.specs.Stream.{LeadsToWithin}
 use Rattle.esc_reveal.specs.Grown.{Grows, Keeps}
@@ -8,6 +8,7 @@ use Rattle.esc_reveal.specs.Revealed.{is_kept, revealed, revealed_after, reveale
 use Rattle.esc_reveal.specs.Visible.{rest_text, visible}
 use Rattle.esc_reveal.specs.declared.reveal.Reveal.{Reveal}
 use Rattle.esc_reveal.specs.declared.reveal.Rule.{Rule}
+use Rattle.memory.specs.Refusals.{Refused}
 
 -- its rule, and the parts of it
 abbrev pub policy_of : {P A : Type 0} → Reveal P A → P
@@ -79,6 +80,23 @@ GrowsBy {A = A} V rule r b told tnew new =
     × Grows told tnew (rest_text rule.limit r)
     (revealed_after {A = A} rule.by_lines rule.limit (V.admits rule.policy) r b)
 
+-- r is what is unfinished of a piece, which is nothing
+abbrev pub AtPieceEnd : {P A : Type 0} → List ℕ → Reveal P A → Type 0
+AtPieceEnd r f = (r ≡ []) × AtRest r f
+
 abbrev pub GrowsTo : {P A : Type 0} → Admitter P A → List ℕ → List ℕ → Reveal P A → Reveal P A
     → Type 0
 GrowsTo V r b old new = GrowsBy V old.rule r b (added_by old) (added_by new) new
+
+-- What a call promises that takes some of the bytes b, where `rests` says of r that it may be what
+-- is unfinished before.
+pub record TakesSome {P A E : Type 0} (V : Admitter P A) (rests : List ℕ → Reveal P A → Type 0)
+    (old : Reveal P A) (b : List ℕ) (result : Result ℕ E) (new : Reveal P A) : Type 0 where
+  -- one at least
+  pub count : IfOk result (λ n. (0 < n) × (n ≤ length b))
+  -- the text grew by what they add
+  pub given : (r : List ℕ) → rests r old → IfOk result (λ n. GrowsTo V r (take n b) old new)
+  -- the rule is the same
+  pub rule : new.rule ≡ old.rule
+  -- an error says that memory was refused
+  pub refused : (r : List ℕ) → rests r old → OnErr result (Refused A)

@@ -9,7 +9,7 @@ use Rattle.esc_frame.specs.declared.parser.VTParser.{VTParser}
 use Rattle.esc_parse.specs.Fed.{Hooks}
 use Rattle.esc_parse.specs.declared.performer.Performer.{Performer}
 use Rattle.esc_reveal.specs.Pieces.{is_at_ground}
-use Rattle.esc_reveal.specs.Revealed.{goes_through}
+use Rattle.esc_reveal.specs.Revealed.{are_kept, goes_through}
 use Rattle.esc_reveal.specs.declared.judge.Judge.{Judge}
 use Rattle.esc_reveal.specs.declared.judge.Verdict.{Verdict}
 
@@ -47,3 +47,15 @@ pub record HasJudged {P A : Type 0} (V : Admitter P A) (limit : ℕ) (s : List �
 -- a segment is unfinished after each shorter prefix
 abbrev pub IsQuietTo : ℕ → List ℕ → Type 0
 IsQuietTo n s = (k : ℕ) → 0 < k → k < n → is_at_ground (take k s) ≡ false
+
+-- Of the bytes b, which come first in a piece, some were judged: how many, and whether they mean
+-- something, all of which passes.
+pub record HasJudgedSome {P A : Type 0} (V : Admitter P A) (policy : P) (limit : ℕ) (b : List ℕ)
+    (framer : VTParser A) (verdict : ℕ × Bool) : Type 0 where
+  -- they were framed
+  pub framed : LeadsToWithin (Some limit) (take verdict.0 b) framer
+  -- no fewer of them end the piece
+  pub quiet : IsQuietTo verdict.0 b
+  -- and this is what they mean
+  pub judged : verdict.1
+      ≡ are_kept (V.admits policy) (meaning_within (Some limit) (take verdict.0 b))

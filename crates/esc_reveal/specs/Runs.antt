@@ -16,6 +16,11 @@ IsAdmittedText admits x = (cs : List ℕ) × (list_all is_clear cs ≡ true)
 abbrev pub has_line_end : Bool → List ℕ → Bool
 has_line_end by_lines x = by_lines && has_line_feed x
 
+-- some bytes, none of which is a line feed that ends a piece
+pub record IsOpenRun (by_lines : Bool) (x : List ℕ) : Type 0 where
+  pub some : 0 < length x
+  pub lineless : has_line_end by_lines x ≡ false
+
 -- Where r is what is unfinished of a piece, x is more of the same piece, at most up to its end.
 pub record IsPart (by_lines : Bool) (r x : List ℕ) : Type 0 where
   pub some : 0 < length x

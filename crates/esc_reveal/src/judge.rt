@@ -3,7 +3,7 @@ ghost use Rattle.std.specs.Prelude.{◌≡◌, ◌&&◌, ◌++◌, ◌<◌, ◌�
 ghost use Rattle.esc_actions.specs.Values.{Value, plain, value_of};
 ghost use Rattle.esc_frame.specs.Stream.{IsQuietWithin, LeadsToWithin};
 ghost use Rattle.esc_parse.specs.Fed.{Hooks};
-ghost use Rattle.esc_reveal.specs.Judged.{HasJudged, IsQuietTo, begun, folded, judged, noted};
+ghost use Rattle.esc_reveal.specs.Judged.{HasJudged, HasJudgedSome, begun, folded, judged, noted};
 ghost use Rattle.esc_reveal.specs.Revealed.{are_kept};
 ghost use Rattle.esc_reveal.specs.Whole.{is_whole};
 ghost use Rattle.esc_actions.specs.Meaning.{meaning_within};
@@ -146,11 +146,8 @@ pub(crate) fn judge_piece<P: Admit<A>, A: Allocator + Copy>(
 ) -> Result<(usize, bool), AllocError>
     requires { 0 < length bytes.now }
     ensures count { IfOk result (λ x. (0 < x.0) × (x.0 ≤ length bytes.now)) }
-    ensures framed { LeadsToWithin (Some limit) [] framer.old → IfOk result
-        (λ x. LeadsToWithin (Some limit) (take x.0 bytes.now) framer.new
-        × IsQuietTo x.0 bytes.now) }
-    ensures judged { LeadsToWithin (Some limit) [] framer.old → IfOk result (λ x. x.1
-        ≡ are_kept (P.admits policy.now) (meaning_within (Some limit) (take x.0 bytes.now))) }
+    ensures given { LeadsToWithin (Some limit) [] framer.old → IfOk result
+        (HasJudgedSome P.Admit policy.now limit bytes.now framer.new) }
     ensures refused { LeadsToWithin (Some limit) [] framer.old → OnErr result (Refused A) }
 {
     if let Some(passes) = judge_control(framer, policy, bytes) {

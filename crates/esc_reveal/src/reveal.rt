@@ -3,7 +3,7 @@ ghost use Rattle.std.specs.Prelude.{◌≡◌, is_ok, ◌++◌, ◌∷◌, ◌<�
 ghost use Rattle.esc_actions.specs.Meaning.{meaning_within};
 ghost use Rattle.esc_filter.specs.Lines.{is_line_feed};
 ghost use Rattle.esc_reveal.specs.Revealed.{are_kept, is_kept};
-ghost use Rattle.esc_reveal.specs.Runs.{IsAdmittedText, IsPart, has_line_end};
+ghost use Rattle.esc_reveal.specs.Runs.{IsAdmittedText, IsOpenRun, IsPart, has_line_end};
 ghost use Rattle.esc_reveal.specs.Visible.{rest_text, visible};
 ghost use Rattle.esc_reveal.specs.declared.reveal.TheConstants.{MOST_BYTES};
 ghost use Rattle.memory.specs.Refusals.{Refused};
@@ -59,7 +59,7 @@ pub struct Reveal<P, A: Allocator = Global> {
 }
 
 impl<P: Admit<A>, A: Allocator + Copy> Reveal<P, A> {
-    ghost use Rattle.esc_reveal.specs.Fed.{AddsTo, AtRest, EndsAs, FailsForGood, GrowsTo, Holds, IsFramed, WasFed, added_by, by_lines_of, closed_text, limit_of, policy_of};
+    ghost use Rattle.esc_reveal.specs.Fed.{AddsTo, AtPieceEnd, AtRest, EndsAs, FailsForGood, GrowsTo, Holds, IsFramed, TakesSome, WasFed, added_by, by_lines_of, closed_text, limit_of, policy_of};
 
     /// One at the beginning of a stream, of which a piece of at most `limit` bytes is kept. Takes
     /// no memory.
@@ -165,11 +165,7 @@ impl<P: Admit<A>, A: Allocator + Copy> Reveal<P, A> {
     // comes first, and returns how many they are.
     fn take_line(&mut self, bytes: &[u8]) -> Result<usize, AllocError>
         requires { 0 < length bytes.now }
-        ensures count { IfOk result (λ n. (0 < n) × (n ≤ length bytes.now)) }
-        ensures given { (r : List ℕ) → AtRest r self.old → IfOk result
-            (λ n. GrowsTo P.Admit r (take n bytes.now) self.old self.new) }
-        ensures rule { self.new.rule ≡ self.old.rule }
-        ensures refused { (r : List ℕ) → AtRest r self.old → OnErr result (Refused A) }
+        ensures { TakesSome P.Admit AtRest self.old bytes.now result self.new }
     {
         let run = self.open_run(bytes);
         if run == 0 {
@@ -216,13 +212,8 @@ impl<P: Admit<A>, A: Allocator + Copy> Reveal<P, A> {
     // Takes some of these bytes, and returns how many: a run of text that stays, or those up to the
     // end of a piece or of an event.
     fn take_some(&mut self, bytes: &[u8]) -> Result<usize, AllocError>
-        requires some { 0 < length bytes.now }
-        requires lineless { has_line_end (by_lines_of self.old) bytes.now ≡ false }
-        ensures count { IfOk result (λ n. (0 < n) × (n ≤ length bytes.now)) }
-        ensures given { (r : List ℕ) → AtRest r self.old → IfOk result
-            (λ n. GrowsTo P.Admit r (take n bytes.now) self.old self.new) }
-        ensures rule { self.new.rule ≡ self.old.rule }
-        ensures refused { (r : List ℕ) → AtRest r self.old → OnErr result (Refused A) }
+        requires { IsOpenRun (by_lines_of self.old) bytes.now }
+        ensures { TakesSome P.Admit AtRest self.old bytes.now result self.new }
     {
         if !self.kept.is_empty() {
             return self.take_more(bytes);
@@ -252,13 +243,8 @@ impl<P: Admit<A>, A: Allocator + Copy> Reveal<P, A> {
     // Takes bytes up to the end of a piece, or all, where no segment is unfinished, and returns how
     // many.
     fn take_first(&mut self, bytes: &[u8]) -> Result<usize, AllocError>
-        requires some { 0 < length bytes.now }
-        requires lineless { has_line_end (by_lines_of self.old) bytes.now ≡ false }
-        ensures count { IfOk result (λ n. (0 < n) × (n ≤ length bytes.now)) }
-        ensures given { AtRest [] self.old → IfOk result
-            (λ n. GrowsTo P.Admit [] (take n bytes.now) self.old self.new) }
-        ensures rule { self.new.rule ≡ self.old.rule }
-        ensures refused { AtRest [] self.old → OnErr result (Refused A) }
+        requires { IsOpenRun (by_lines_of self.old) bytes.now }
+        ensures { TakesSome P.Admit AtPieceEnd self.old bytes.now result self.new }
     {
         let (n, passes) = judge_piece(
             self.alloc,
@@ -293,13 +279,8 @@ impl<P: Admit<A>, A: Allocator + Copy> Reveal<P, A> {
 
     // Takes bytes up to the end of a piece or of an event, and returns how many.
     fn take_more(&mut self, bytes: &[u8]) -> Result<usize, AllocError>
-        requires some { 0 < length bytes.now }
-        requires lineless { has_line_end (by_lines_of self.old) bytes.now ≡ false }
-        ensures count { IfOk result (λ n. (0 < n) × (n ≤ length bytes.now)) }
-        ensures given { (r : List ℕ) → AtRest r self.old → IfOk result
-            (λ n. GrowsTo P.Admit r (take n bytes.now) self.old self.new) }
-        ensures rule { self.new.rule ≡ self.old.rule }
-        ensures refused { (r : List ℕ) → AtRest r self.old → OnErr result (Refused A) }
+        requires { IsOpenRun (by_lines_of self.old) bytes.now }
+        ensures { TakesSome P.Admit AtRest self.old bytes.now result self.new }
     {
         let n = frame_some(&mut self.framer, bytes)?;
         self.take_piece(&bytes[..n])?;

@@ -5,7 +5,6 @@ use Rattle.esc_reveal.proofs.Ground.{ground_test}
 use Rattle.esc_reveal.proofs.Judging.{finds, judged_first, on_any}
 use Rattle.esc_reveal.proofs.Quiet.{quiet_more}
 use Rattle.esc_actions.specs.Meaning.{meaning_within}
-use Rattle.esc_frame.specs.Stream.{LeadsToWithin}
 use Rattle.esc_reveal.specs.Judged.{HasJudged, begun, folded}
 use Rattle.esc_reveal.specs.Pieces.{is_at_ground}
 use Rattle.esc_reveal.proofs.judge.judge_piece.Goals as goal
@@ -56,48 +55,40 @@ loop-at-preserved g c =
           );
     }
 
-pub returns-then-is_ground-clause-framed : goal.returns-then-is_ground-clause-framed
-returns-then-is_ground-clause-framed g c = λ h.
+pub returns-then-is_ground-clause-given : goal.returns-then-is_ground-clause-given
+returns-then-is_ground-clause-given g c = λ h.
     let bs = c.args.bytes.now in
     let at = c.loop-at.at in
     let n = c.in_ok-n.n in
     let k = c.loop-at.invariant.judged h in
     let q = c.loop-at.invariant.quiet h in
-    let more = c.in_ok-n.ensures.given c.args.limit (take at bs) k.0 in (
-      subst (λ s. LeadsToWithin (Some c.args.limit) s c.judge_some.new.framer)
-          (run_joins bs at n) more.0.framed,
-      quiet_more (Some c.args.limit) bs at n q.0 q.1 more.2,
-    )
-
-pub returns-then-is_ground-clause-judged : goal.returns-then-is_ground-clause-judged
-returns-then-is_ground-clause-judged g c = λ h.
-    let bs = c.args.bytes.now in
-    let at = c.loop-at.at in
-    let n = c.in_ok-n.n in
-    let k = c.loop-at.invariant.judged h in
     let more = c.in_ok-n.ensures.given c.args.limit (take at bs) k.0 in
     let s = take (at + n) bs in
     let all = subst (λ s. HasJudged g.P.Admit c.args.limit s c.judge_some.new.framer
-    c.judge_some.new.performer) (run_joins bs at n) more.0 in
-    c.keeps.ensures
-    ∙ finds (g.P.Admit.admits c.args.policy.now) _ (meaning_within (Some c.args.limit) s)
-    (all.judged
-    ∙ ap (λ p. folded (g.P.Admit.admits p) begun (meaning_within (Some c.args.limit) s))
-    (more.1 ∙ k.1))
+    c.judge_some.new.performer) (run_joins bs at n) more.0 in record {
+      framed = all.framed;
+      quiet = quiet_more (Some c.args.limit) bs at n q.0 q.1 more.2;
+      judged =
+          c.keeps.ensures
+          ∙ finds (g.P.Admit.admits c.args.policy.now) _ (meaning_within (Some c.args.limit) s)
+          (all.judged
+          ∙ ap (λ p. folded (g.P.Admit.admits p) begun (meaning_within (Some c.args.limit) s))
+          (more.1 ∙ k.1));
+    }
 
-pub returns-clause-framed : goal.returns-clause-framed
-returns-clause-framed g c = λ h.
-    let bs = c.args.bytes.now in
-    ((c.loop-at.invariant.judged h).0.framed, (c.loop-at.invariant.quiet h).0)
-
-pub returns-clause-judged : goal.returns-clause-judged
-returns-clause-judged g c = λ h.
+pub returns-clause-given : goal.returns-clause-given
+returns-clause-given g c = λ h.
     let k = c.loop-at.invariant.judged h in
-    let s = take c.loop-at.at c.args.bytes.now in
-    c.keeps-2.ensures
-    ∙ finds (g.P.Admit.admits c.args.policy.now) _ (meaning_within (Some c.args.limit) s)
-    (k.0.judged
-    ∙ ap (λ p. folded (g.P.Admit.admits p) begun (meaning_within (Some c.args.limit) s)) k.1)
+    let s = take c.loop-at.at c.args.bytes.now in record {
+      framed = k.0.framed;
+      quiet = (c.loop-at.invariant.quiet h).0;
+      judged =
+          c.keeps-2.ensures
+          ∙ finds (g.P.Admit.admits c.args.policy.now) _ (meaning_within (Some c.args.limit) s)
+          (k.0.judged
+          ∙ ap (λ p. folded (g.P.Admit.admits p) begun (meaning_within (Some c.args.limit) s))
+          k.1);
+    }
 
 pub returns-in_err-n-clause-refused : goal.returns-in_err-n-clause-refused
 returns-in_err-n-clause-refused g c = λ h.
@@ -105,9 +96,10 @@ returns-in_err-n-clause-refused g c = λ h.
     (c.in_err-n.ensures.refused c.args.limit (take c.loop-at.at c.args.bytes.now)
     (c.loop-at.invariant.judged h).0)
 
-pub returns-in-Some-clause-framed : goal.returns-in-Some-clause-framed
-returns-in-Some-clause-framed g c = λ h.
-    ((c.in-Some.ensures c.args.limit h).0, λ k a b. absurd (omega (arith, a, b)))
-
-pub returns-in-Some-clause-judged : goal.returns-in-Some-clause-judged
-returns-in-Some-clause-judged g c = λ h. (c.in-Some.ensures c.args.limit h).1
+pub returns-in-Some-clause-given : goal.returns-in-Some-clause-given
+returns-in-Some-clause-given g c = λ h.
+    let one = c.in-Some.ensures c.args.limit h in record {
+      framed = one.0;
+      quiet = λ k a b. absurd (omega (arith, a, b));
+      judged = one.1;
+    }

@@ -1,4 +1,4 @@
-use Rattle.std.proofs.Common.{arith, ◌≡◌, ◌-◌, List, ℕ, false, length, take, drop, sym, ◌∙◌, subst}
+use Rattle.std.proofs.Common.{arith, ◌≡◌, ◌-◌, List, ℕ, false, length, take, drop, sym, ◌∙◌, rules, subst}
 use Rattle.esc_frame.proofs.CsiRuns.{run_joins}
 use Rattle.esc_frame.proofs.ManyBytes.{tail_length}
 use Rattle.esc_reveal.proofs.Feeding.{grown_more}
@@ -38,9 +38,12 @@ loop-at-preserved g c =
           (c.in_ok-n.ensures.given m before.0)));
     }
 
-pub take_some-requires-clause-lineless : goal.take_some-requires-clause-lineless
-take_some-requires-clause-lineless g c =
+pub take_some-requires : goal.take_some-requires
+take_some-requires g c =
     let bs = c.args.bytes.now in
-    let at = c.loop-at.at in
-    subst (λ u. has_line_end u.by_lines (tail bs at) ≡ false) (sym c.loop-at.invariant.rule)
-    (open_later c.args.self.now.rule.by_lines at (length bs - at) bs c.requires)
+    let at = c.loop-at.at in record {
+      some = search rules;
+      lineless =
+          subst (λ u. has_line_end u.by_lines (tail bs at) ≡ false) (sym c.loop-at.invariant.rule)
+          (open_later c.args.self.now.rule.by_lines at (length bs - at) bs c.requires);
+    }
