@@ -1,5 +1,5 @@
 //! From events to actions.
-ghost use Rattle.std.specs.Prelude.{◌≡◌, ◌⊎◌, ℕ, [], ◌∷◌, true, IfOk, OnErr, OnOk, Option, map};
+ghost use Rattle.std.specs.Prelude.{◌≡◌, ◌⊎◌, ℕ, [], ◌∷◌, true, IfOk, OnErr, Option, map};
 ghost use Rattle.std.specs.List.{FoldsTo};
 ghost use Rattle.esc_values.specs.Clear.{parts_of};
 ghost use Rattle.esc_sequences.specs.Csis.{csi_of, csi_value};

@@ -1,9 +1,9 @@
 //! Whether a piece of a stream is kept.
 ghost use Rattle.std.specs.Prelude.{◌≡◌, ◌&&◌, ◌++◌, ◌<◌, ◌≤◌, ℕ, List, [], IfOk, IfSome, OnErr, OnOk, Some, false, length, take};
-ghost use Rattle.esc_actions.specs.Values.{Value, plain, value_of};
+ghost use Rattle.esc_actions.specs.Values.{plain, value_of};
 ghost use Rattle.esc_frame.specs.Stream.{IsQuietWithin, LeadsToWithin};
 ghost use Rattle.esc_parse.specs.Fed.{Hooks};
-ghost use Rattle.esc_reveal.specs.Judged.{HasJudged, HasJudgedSome, begun, folded, judged, noted};
+ghost use Rattle.esc_reveal.specs.Judged.{HasJudged, HasJudgedSome, begun, judged, noted};
 ghost use Rattle.esc_reveal.specs.Revealed.{are_kept};
 ghost use Rattle.esc_reveal.specs.Whole.{is_whole};
 ghost use Rattle.esc_actions.specs.Meaning.{meaning_within};

@@ -1,5 +1,5 @@
 //! What is kept of a piece that has not ended.
-ghost use Rattle.std.specs.Prelude.{◌<◌, ◌+◌, ◌≡◌, ◌++◌, ◌∷◌, ◌≤◌, ◌↔◌, ℕ, List, [], length, nat_le, true, false, IsTrue, MatchOption, OnErr, OnOk};
+ghost use Rattle.std.specs.Prelude.{◌<◌, ◌+◌, ◌≡◌, ◌++◌, ◌↔◌, ℕ, List, [], length, nat_le, true, false, IsTrue, MatchOption, OnErr, OnOk};
 ghost use Rattle.esc_reveal.specs.Grown.{Grows, Keeps};
 ghost use Rattle.esc_reveal.specs.Visible.{rest_text, visible};
 ghost use Rattle.memory.specs.Refusals.{Refused};

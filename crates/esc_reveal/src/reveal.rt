@@ -1,5 +1,5 @@
 //! A stream in which what is not admitted is shown.
-ghost use Rattle.std.specs.Prelude.{◌≡◌, is_ok, ◌++◌, ◌∷◌, ◌<◌, ◌≤◌, ◌&&◌, ℕ, List, [], OnErr, OnOk, length, take, slice_index, IfOk, Some, nat_le, true, false};
+ghost use Rattle.std.specs.Prelude.{◌≡◌, ◌++◌, ◌∷◌, ◌<◌, ◌≤◌, ◌&&◌, ℕ, List, [], OnErr, OnOk, length, take, slice_index, IfOk, Some, nat_le, true, false};
 ghost use Rattle.esc_actions.specs.Meaning.{meaning_within};
 ghost use Rattle.esc_filter.specs.Lines.{is_line_feed};
 ghost use Rattle.esc_reveal.specs.Revealed.{are_kept, is_kept};

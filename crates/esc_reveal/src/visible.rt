@@ -1,7 +1,7 @@
 //! The visible text of a byte, and of what has begun before it.
 ghost use Rattle.std.specs.Prelude.{◌≡◌, ◌<◌, ◌++◌, ◌∷◌, [], IfOk, OnErr, OnOk, true};
 ghost use Rattle.esc_frame.specs.Machine.Prefixes.{prefix_of};
-ghost use Rattle.esc_frame.specs.Sequences.{is_prefix, is_sequence, number_of, outcome};
+ghost use Rattle.esc_frame.specs.Sequences.{is_prefix, is_sequence, outcome};
 ghost use Rattle.esc_reveal.specs.Visible.{ascii_text, character_text, first_begun, first_text, hex_byte, is_mark, next_begun, next_text, printed_text, single_text, stray_text};
 ghost use Rattle.memory.specs.Refusals.{Refused};
 

@@ -1,5 +1,5 @@
 //! Whether all of a piece is of the segments that mean something.
-ghost use Rattle.std.specs.Prelude.{◌≡◌, ◌&&◌, not, drop, false, true, length, nat_le, IsTrue};
+ghost use Rattle.std.specs.Prelude.{◌≡◌, ◌&&◌, not, false, true, length, nat_le, IsTrue};
 ghost use Rattle.std.specs.List.{list_all, list_any};
 ghost use Rattle.esc_frame.specs.Scans.{is_text_byte};
 ghost use Rattle.std.specs.Str.{IsUtf8, chars, is_utf8};

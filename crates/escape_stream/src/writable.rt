@@ -1,6 +1,6 @@
 //! Which actions and lists of actions read back from their text.
 ghost use Rattle.std.specs.Prelude.{◌≡◌, ◌↔◌, IfOk, IsTrue, OnErr, map, true};
-ghost use Rattle.esc_actions.specs.Values.{device_value, value_of};
+ghost use Rattle.esc_actions.specs.Values.{value_of};
 ghost use Rattle.esc_actions.specs.Writable.{AreWritable, IsWritable, is_within, stays_within};
 ghost use Rattle.escape_stream.specs.Asked.{wants_text};
 ghost use Rattle.memory.specs.Refusals.{Refused};

@@ -1,6 +1,6 @@
 //! Calls that take a prefix of the bytes: up to the first action, or to the first ones after which
 //! no segment is unfinished.
-ghost use Rattle.std.specs.Prelude.{◌≡◌, ◌<◌, ◌≤◌, ◌+◌, ℕ, [], ◌∷◌, ◌++◌, IfOk, IfSome, IsTrue, None, Option, Some, length, map, take};
+ghost use Rattle.std.specs.Prelude.{◌≡◌, ◌<◌, ◌+◌, [], ◌∷◌, ◌++◌, IfSome, IsTrue, None, Option, Some, length, take};
 ghost use Rattle.std.specs.Option.{option_map};
 ghost use Rattle.esc_parse.specs.Calls.{After, AfterMore, FindsFirst, FindsFirstList, FindsFirsts, GivesPrefix, MayFeed, TakesPrefix, Yields};
 ghost use Rattle.esc_parse.specs.Collected.{Adds, AddsSome};
