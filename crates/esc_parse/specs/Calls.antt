@@ -66,8 +66,8 @@ CallsOnAll calls f vs = GetsAll (At value_of (CallsOn calls)) f vs
 abbrev pub CallsOnPrefix : {A F : Type 0} → Callback A F → F → List (Value A) → Type 0
 CallsOnPrefix calls f vs = GetsPrefix (At value_of (CallsOn calls)) f vs
 
--- this holds of each stream with the bytes b after it, all of which the parser may have been fed,
--- where these bytes yield as many values as there are more now than there were
+-- P holds of each limit, stream s and bytes b where the parser may have been fed both, and b yields
+-- as many values as there are more now than there were
 abbrev pub AfterMore : {A : Type 0} → Parser A → ℕ → ℕ → (Option ℕ → List ℕ → List ℕ → Type 0)
     → Type 0
 AfterMore {A} p had have P =
@@ -88,9 +88,9 @@ IsRefused {A} result p wants =
 abbrev pub StaysBroken : {A T : Type 0} → Parser A → Result T ParseError → Parser A → Type 0
 StaysBroken old result new = IsBroken old → (result ≡ Err Failed) × IsBroken new
 
--- A sink of which `old` was made was given a prefix of what b adds to s, and then it was refused
--- memory, or the parser was. By itself the parser stops only where the cut of both holds a string
--- or a control sequence.
+-- The sink `old` was given a prefix of what b adds to s; then it refused the next action, or the
+-- parser was refused memory. By itself the parser stops only where the cut of s and b holds a
+-- string or a control sequence, whole or cut short.
 abbrev pub StopsIn : {A P : Type 0} → (P → Action A → P → Type 0) → (P → Action A → P → Type 0)
     → Option ℕ → List ℕ → List ℕ → P → P → Type 0
 StopsIn {A} takes refuses limit s b old new =
@@ -162,7 +162,7 @@ pub record TakesPrefix {A : Type 0} (old : Parser A) (b : List ℕ) (result : Re
     (stopped : Option ℕ → List ℕ → Type 0) : Type 0 where
   -- the length of the prefix
   pub count : IfOk result (λ n. IsTaken n b)
-  -- without bytes none is taken
+  -- where there are no bytes, `nothing` holds, also after an error
   pub empty : length b ≡ 0 → nothing
   -- it was fed, and what it yields was got
   pub given : After old (λ limit s. IfOk result (λ n. WasFedWithin limit (s ++ take n b) new

@@ -79,6 +79,6 @@ WasFedWithin limit s p =
 abbrev pub WasFed : {A : Type 0} → List ℕ → Parser A → Type 0
 WasFed s p = WasFedWithin None s p
 
--- an earlier call of the parser was refused memory, and nothing is kept
+-- an earlier call of the parser returned `Memory`, and no data is kept
 abbrev pub IsBroken : {A : Type 0} → Parser A → Type 0
 IsBroken p = HasFailed p.framer × (p.unfinished.hooked ≡ hooked.Nothing)

@@ -24,12 +24,14 @@ use std::alloc::{Allocator, Global};
 /// Reads a stream of bytes, in whatever chunks it comes, as actions.
 ///
 /// The stream is cut into segments as vt100.net's parser for DEC terminals cuts it, with UTF-8 read
-/// by Unicode's Table 3-7 and with application program commands read like other strings. Each call
-/// hands out what its bytes add to the meaning of the bytes that earlier calls were fed, so the
-/// chunks make no difference.
+/// by Unicode's Table 3-7, application program commands read like other strings, 3A a parameter
+/// byte of a control sequence, 07 an end of an operating system command, and A0-FF no control or
+/// letter. `parse`, `parse_into` and `parse_as_vec` hand out all that their bytes add to the
+/// meaning of the bytes fed since the beginning or the last `restart`, so the chunks make no
+/// difference. The calls for first actions may drop some, as they say.
 ///
-/// Where a call returns `ParseError::Memory`, a request for memory was refused: from then on every
-/// call that is fed bytes returns `ParseError::Failed`, and nothing is handed out any more.
+/// After a call that returned `ParseError::Memory` every call that is fed bytes returns
+/// `ParseError::Failed`, and nothing is handed out any more.
 #[derive(Drop)]
 pub struct Parser<A: Allocator = Global> {
     framer: VTParser<A>,
@@ -56,10 +58,10 @@ impl<A: Allocator + Copy> Parser<A> {
     /// no memory.
     ///
     /// An operating system command, an application program command, and a sixel image, termcap
-    /// query or short control with more data give no action, and a device control string of which
-    /// the header has more parameter bytes is passed over. A short control is a device control
-    /// string with the intermediate `$` and the final byte `q`, as a query of a setting. The
-    /// segments of the stream are the same as without a limit.
+    /// query or short control with more data give no action but the controls in their openers, and
+    /// a device control string of which the header has more parameter bytes is passed over. A short
+    /// control is a device control string with the intermediate `$` and the final byte `q`, as a
+    /// query of a setting. The segments of the stream are the same as without a limit.
     #[tactic(auto, unfolding(crate::specs::Fed::WasFedWithin))]
     pub fn with_limit(alloc: A, limit: usize) -> Parser<A>
         ensures { WasFedWithin (Some limit) [] result }
@@ -84,10 +86,11 @@ impl<A: Allocator + Copy> Parser<A> {
     /// How many bytes are kept of the segment that is unfinished: of an operating system command
     /// its text in UTF-8, of an application program command its bytes 20 to 7F, of a device control
     /// string its parameter bytes 30 to 39 and 3B until its final byte, and after it the data of a
-    /// sixel image, termcap query or short control. Any other device control string is a mode: its
-    /// data is handed out as it comes, and none is kept. The count is 0 also once the limit was
-    /// passed, where no such segment is unfinished, and after a failure. Without a limit a count
-    /// past [`usize::MAX`] is returned as `usize::MAX`.
+    /// sixel image, termcap query or short control. Of any other device control string no data is
+    /// kept: a mode hands it out as it comes, and one whose header does not have its form is passed
+    /// over. The count is 0 also once the limit was passed, where no such segment is unfinished,
+    /// and after a failure. Without a limit a count past [`usize::MAX`] is returned as
+    /// `usize::MAX`.
     pub fn kept(&self) -> usize
         ensures given { After self.now (λ limit s. (gs : List Segment) → IsCut s gs
             → result ≡ min (kept_of_cut limit gs + data_kept limit s) most) }
@@ -109,13 +112,13 @@ impl<A: Allocator + Copy> Parser<A> {
     /// The sink has to be ready for any action; or, of a parser that was fed a stream, for these,
     /// in this order; or, of a parser that has failed, for none.
     ///
-    /// `ParseError::Memory` says that a request for memory was refused, the parser's or the sink's:
-    /// the sink was given a prefix of these actions, and the parser has failed. Without the sink's
-    /// doing it does not come while the stream so far holds only characters, stray and broken
-    /// bytes, controls, lone terminators and escape sequences, whole or cut short. Of the bytes fed
-    /// before only those of the segment that is unfinished matter here, by the law
+    /// `ParseError::Memory` says that a request of the parser for memory was refused, or that the
+    /// sink returned an error: it was given a prefix of these actions, and the parser has failed.
+    /// Without the sink's doing it does not come while the stream so far holds only characters,
+    /// stray and broken bytes, controls, lone terminators and escape sequences, whole or cut short.
+    /// Of the bytes fed before only those of the segment that is unfinished matter here, by the law
     /// [`unfinished_alone`](crate::laws::unfinished_alone). `ParseError::Failed` says that an
-    /// earlier call had been refused one: the sink comes back as it was.
+    /// earlier call returned `Memory`: the sink comes back as it was.
     #[tactic(auto, unfolding(crate::specs::Fed::WasFedWithin))]
     pub fn parse_into<S: Sink<Action<A>>>(
         &mut self,
@@ -150,8 +153,9 @@ impl<A: Allocator + Copy> Parser<A> {
     /// [`is_exception`](esc_actions::exceptions::is_exception).
     ///
     /// `ParseError::Memory` says that a request for memory was refused; what came is dropped, and
-    /// the parser has failed. `ParseError::Failed` says that an earlier call had been refused one;
-    /// the parser has still failed.
+    /// the parser has failed. It does not come where the bytes fed before and these hold no control
+    /// sequence and no string, whole or cut short, and add no action. `ParseError::Failed` says
+    /// that an earlier call returned `Memory`; the parser has still failed.
     pub fn parse_as_vec(&mut self, bytes: &[u8]) -> Result<Vec<Action<A>, A>, ParseError>
         ensures given { After self.old (λ limit s. IfOk result
             (λ v. Yields limit s bytes.now self.new (map value_of v.items))) }
@@ -188,18 +192,17 @@ impl Parser {
     /// order. They can be written, but for the four kinds of
     /// [`is_exception`](esc_actions::exceptions::is_exception).
     ///
-    /// This call is for the global allocator alone, since a bound `FnMut(Action<A>)` over an
-    /// allocator `A` cannot be had yet: [`parse_into`](Parser::parse_into) is for any. The closure
-    /// has to be callable always; or, of a parser that was fed a stream, on these actions, in this
-    /// order, and no others; or, of a parser that has failed, never. So it is called in no other
-    /// way.
+    /// This call is for the global allocator alone, since the language does not accept a bound
+    /// `FnMut(Action<A>)` with a type parameter `A` yet: [`parse_into`](Parser::parse_into) is for
+    /// any. The closure has to be callable always; or, of a parser that was fed a stream, on these
+    /// actions, in this order, and no others; or, of a parser that has failed, never.
     ///
     /// `ParseError::Memory` says that a request for memory was refused, after a prefix of these
     /// actions; the parser has failed. It does not come while the stream so far holds only
     /// characters, stray and broken bytes, controls, lone terminators and escape sequences, whole
     /// or cut short: for these no memory is taken. `ParseError::Failed` says that an earlier call
-    /// had been refused one: the closure is not called, since on such a parser it need not be
-    /// callable, and the parser has still failed.
+    /// returned `Memory`: the closure, which need not be callable then, is not called, and the
+    /// parser has still failed.
     #[tactic(auto, unfolding(crate::specs::Fed::WasFedWithin))]
     pub fn parse<F: FnMut(Action)>(&mut self, bytes: &[u8], callback: F) -> Result<(), ParseError>
         requires { MayCall F.FnMut self.old callback bytes.now }

@@ -175,7 +175,7 @@ pub trait Sink<T: FromChar> {
 }
 
 /// Calls a closure on each action. [`Parser::parse_into`](crate::parser::Parser::parse_into) hands
-/// it back after exactly one call for each action, in order.
+/// it back, where it returns no error, after exactly one call for each action, in order.
 #[derive(Drop)]
 pub struct Calls<F> {
     /// The closure.

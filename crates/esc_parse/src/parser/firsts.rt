@@ -134,10 +134,10 @@ impl<A: Allocator + Copy> Parser<A> {
     /// before mean, and the length of this prefix, which is all that was fed; further actions of
     /// its last byte are dropped. `None` where `bytes` add none: then all were fed.
     ///
-    /// `ParseError::Memory` says that a request for memory was refused; the parser has failed. As
-    /// from [`parse`](Parser::parse), it does not come while the stream holds only what takes no
-    /// memory. `ParseError::Failed` says that an earlier call had been refused one, also where
-    /// `bytes` are empty.
+    /// `ParseError::Memory` says that a request for memory was refused; the parser has failed. It
+    /// does not come where the bytes fed before and `bytes` hold no control sequence and no string,
+    /// whole or cut short. `ParseError::Failed` says that an earlier call had been refused one,
+    /// also where `bytes` are empty.
     #[tactic(auto, unfolding(crate::specs::Fed::WasFedWithin))]
     #[inline]
     pub fn parse_first(&mut self, bytes: &[u8]) -> Result<Option<(Action<A>, usize)>, ParseError>
@@ -171,7 +171,7 @@ impl<A: Allocator + Copy> Parser<A> {
         (taken, actions)
     }
 
-    // Whether to stop here, with these actions, after the `had` of them that there were.
+    // Whether actions came after the first `had`, and no segment is unfinished.
     #[tactic(auto, unfolding(crate::specs::Fed::WasFedWithin))]
     fn stops(&self, had: usize, actions: &[Action<A>]) -> bool
         ensures some { IsTrue result → had < length actions.now }
@@ -232,8 +232,8 @@ impl<A: Allocator + Copy> Parser<A> {
     /// finds what [`parse_first_as_vec`](Parser::parse_first_as_vec) finds. `None` where there is
     /// no such prefix: then all `bytes` were fed, and what they added was appended.
     ///
-    /// A caller that clears the list and gives it again asks for no memory for it once it has room,
-    /// and a character or a control in ground is then appended without setting up anything else.
+    /// Clear the list and pass it again, and its memory is used again. In ground a character of 20
+    /// to 7F or a control then takes a short path; this is speed, and no clause promises it.
     ///
     /// `ParseError::Memory` says that a request for memory was refused, the parser's or the list's:
     /// a prefix of the actions that `bytes` add was appended, and the parser has failed.
