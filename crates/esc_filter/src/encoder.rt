@@ -34,8 +34,8 @@ impl Encoder {
     /// a string terminator directly after it adds nothing.
     ///
     /// `EncodeError::Fmt` comes exactly where the action is a sixel image with a value over 63, and
-    /// `EncodeError::Memory` says that a request for memory was refused. After an error the text and
-    /// the encoder are as they were, so the text ends where an action ends.
+    /// `EncodeError::Memory` says that a request for memory was refused. After an error the text
+    /// and the encoder are as they were, so the text ends where an action ends.
     pub fn append<A: Allocator>(
         &mut self,
         alloc: A,

@@ -57,9 +57,9 @@ impl<A: Allocator> FromChar for Action<A> {
 /// What takes the actions of a stream, one after another: the receiver of
 /// [`Parser::parse_into`](crate::parser::Parser::parse_into).
 ///
-/// An implementation says what an action makes of its value (`takes`), what a refused call leaves
-/// (`refuses`), when it may be given any action (`is_ready`), and else which (`may`). After a call
-/// that returns `AllocError` no more calls are made.
+/// An implementation says what it becomes with an action (`takes`), what a refused call leaves of
+/// it (`refuses`), when it may be given any action (`is_ready`), and else which (`may`). After a
+/// call that returns `AllocError` no more calls are made.
 pub trait Sink<T: FromChar> {
     // any action may be given, and after each one any other
     ghost is_ready: { Self → Type 0 };
@@ -67,10 +67,10 @@ pub trait Sink<T: FromChar> {
     // the next action may be this one
     ghost may: { Self → T → Type 0 };
 
-    // what an action makes of a value
+    // what the sink becomes with an action
     ghost takes: { Self → T → Self → Type 0 };
 
-    // what a refused one may leave
+    // what a refused one may leave of it
     ghost refuses: { Self → T → Self → Type 0 };
 
     /// Takes an action.

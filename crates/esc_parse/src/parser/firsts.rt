@@ -132,12 +132,13 @@ impl<A: Allocator + Copy> Parser<A> {
 
     /// The first action of the shortest prefix of `bytes` that adds one to what the bytes fed
     /// before mean, and the length of this prefix, which is all that was fed; further actions of
-    /// its last byte are dropped. `None` where `bytes` add none: then all were fed.
+    /// its last byte are dropped. `None` where `bytes` add none: then all were fed. It can be
+    /// written, but for the four kinds of [`is_exception`](esc_actions::exceptions::is_exception).
     ///
     /// `ParseError::Memory` says that a request for memory was refused; the parser has failed. It
     /// does not come where the bytes fed before and `bytes` hold no control sequence and no string,
-    /// whole or cut short. `ParseError::Failed` says that an earlier call had been refused one,
-    /// also where `bytes` are empty.
+    /// whole or cut short. `ParseError::Failed` says that an earlier call returned `Memory`, also
+    /// where `bytes` are empty.
     #[tactic(auto, unfolding(crate::specs::Fed::WasFedWithin))]
     #[inline]
     pub fn parse_first(&mut self, bytes: &[u8]) -> Result<Option<(Action<A>, usize)>, ParseError>
@@ -237,7 +238,7 @@ impl<A: Allocator + Copy> Parser<A> {
     ///
     /// `ParseError::Memory` says that a request for memory was refused, the parser's or the list's:
     /// a prefix of the actions that `bytes` add was appended, and the parser has failed.
-    /// `ParseError::Failed` says that an earlier call had been refused one, also where `bytes` are
+    /// `ParseError::Failed` says that an earlier call returned `Memory`, also where `bytes` are
     /// empty; the list stays as it was.
     #[tactic(auto, unfolding(crate::specs::Fed::WasFedWithin))]
     #[inline]
@@ -270,8 +271,8 @@ impl<A: Allocator + Copy> Parser<A> {
     /// added is dropped.
     ///
     /// `ParseError::Memory` says that a request for memory was refused; what came is dropped, and
-    /// the parser has failed. `ParseError::Failed` says that an earlier call had been refused one,
-    /// also where `bytes` are empty.
+    /// the parser has failed. `ParseError::Failed` says that an earlier call returned `Memory`, also
+    /// where `bytes` are empty.
     pub fn parse_first_as_vec(
         &mut self,
         bytes: &[u8],

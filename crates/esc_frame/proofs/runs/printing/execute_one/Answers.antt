@@ -4,8 +4,9 @@ use Rattle.esc_frame.proofs.runs.printing.execute_one.Goals as goal
 
 pub returns-in-Ok : goal.returns-in-Ok
 returns-in-Ok g c =
-    let one = one_control c.args.rest.now c.requires.control.some c.requires.control.low c.requires.control.other in (
-      c.requires.control.some,
+    let k = c.requires.control in
+    let one = one_control c.args.rest.now k.some k.low k.other in (
+      k.some,
       one.0,
       event_given g.V.Taker.takes g.V.Taker.refuses c.args.rest.now 1 _ c.args.actor.now _ one
           c.in-Ok.ensures.receives,
@@ -14,12 +15,12 @@ returns-in-Ok g c =
 
 pub returns-in-Err : goal.returns-in-Err
 returns-in-Err g c =
+    let k = c.requires.control in
     event_stops g.V.Taker.takes g.V.Taker.refuses c.args.rest.now 1 _ c.args.actor.now _
-    (one_control c.args.rest.now c.requires.control.some c.requires.control.low
-    c.requires.control.other) _ c.in-Err.ensures.receives
+    (one_control c.args.rest.now k.some k.low k.other) _ c.in-Err.ensures.receives
 
 pub execute_c0_or_c1-requires : goal.execute_c0_or_c1-requires
 execute_c0_or_c1-requires g c =
+    let k = c.requires.control in
     may_one g.V.Taker.is_ready g.V.Taker.may g.V.Taker.takes c.args.rest.now 1 _
-    c.args.actor.now
-    (one_control c.args.rest.now c.requires.control.some c.requires.control.low c.requires.control.other) c.requires.ready
+    c.args.actor.now (one_control c.args.rest.now k.some k.low k.other) c.requires.ready

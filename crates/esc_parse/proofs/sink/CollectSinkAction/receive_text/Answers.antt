@@ -13,5 +13,6 @@ pub returns-in_err-reserve_for-clause-given : goal.returns-in_err-reserve_for-cl
 returns-in_err-reserve_for-clause-given g c =
     let p = err_from_is_err_and c.from_residual.result c.from_residual.ensures.1 in
     match_err _ _ c.from_residual.result p.0 p.1
-    (gathers_none action.Print c.args.text.now _ _ c.requires.run.some c.reserve_for.ensures.unchanged.items
+    (gathers_none action.Print c.args.text.now _ _ c.requires.run.some
+    c.reserve_for.ensures.unchanged.items
     c.in_err-reserve_for.ensures.refused)
