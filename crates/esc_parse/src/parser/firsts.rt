@@ -271,8 +271,8 @@ impl<A: Allocator + Copy> Parser<A> {
     /// added is dropped.
     ///
     /// `ParseError::Memory` says that a request for memory was refused; what came is dropped, and
-    /// the parser has failed. `ParseError::Failed` says that an earlier call returned `Memory`, also
-    /// where `bytes` are empty.
+    /// the parser has failed. `ParseError::Failed` says that an earlier call returned `Memory`,
+    /// also where `bytes` are empty.
     pub fn parse_first_as_vec(
         &mut self,
         bytes: &[u8],
