@@ -4,3 +4,4 @@ pub mod Media
 pub mod Images
 pub mod Texts
 pub mod Writable
+pub mod Actions

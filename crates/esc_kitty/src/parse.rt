@@ -3,6 +3,7 @@ ghost use Rattle.std.specs.Prelude.{◌≡◌, IfOk, OnErr};
 ghost use Rattle.std.specs.Option.{option_map};
 ghost use Rattle.memory.specs.Refusals.{Refused};
 ghost use Rattle.esc_kitty.specs.Keys.{values};
+ghost use Rattle.esc_kitty.specs.Actions.{action_of, image_as};
 ghost use Rattle.esc_kitty.specs.Images.{compose_of, delete_of, image_by, image_display, image_frame, image_in, image_of, image_shown, image_with, transmit_of};
 ghost use Rattle.esc_kitty.specs.declared.image.KittyImage.TheVariants as image;
 
@@ -74,6 +75,34 @@ fn read_image_in<A: Allocator + Copy>(
     read_image_by(alloc, action, verbosity, pairs, payload)
 }
 
+// What is asked for.
+#[derive(Clone, Copy)]
+enum Action {
+    Keep,
+    Ask,
+    Show,
+    Place,
+    Remove,
+    Frame,
+    Compose,
+}
+
+// What a value of `a` asks for.
+fn read_action(word: &str) -> Option<Action>
+    ensures { result ≡ action_of word.now }
+{
+    match word {
+        "t" => Some(Action::Keep),
+        "q" => Some(Action::Ask),
+        "T" => Some(Action::Show),
+        "p" => Some(Action::Place),
+        "d" => Some(Action::Remove),
+        "f" => Some(Action::Frame),
+        "c" => Some(Action::Compose),
+        _ => None,
+    }
+}
+
 // The image of keys and a payload, by the value of `a`.
 fn read_image_by<A: Allocator + Copy>(
     alloc: A,
@@ -86,15 +115,31 @@ fn read_image_by<A: Allocator + Copy>(
         o ≡ image_by action.now verbosity (values pairs.now) payload.now) }
     ensures refused { OnErr result (Refused A) }
 {
+    let Some(action) = read_action(action) else {
+        return Ok(None);
+    };
+    read_image_as(alloc, action, verbosity, pairs, payload)
+}
+
+// The image of keys and a payload, by what is asked for.
+fn read_image_as<A: Allocator + Copy>(
+    alloc: A,
+    action: Action,
+    verbosity: KittyImageVerbosity,
+    pairs: &[Pair<'_>],
+    payload: &[u8],
+) -> Result<Option<KittyImage<A>>, AllocError>
+    ensures ok { IfOk result (λ o. o ≡ image_as action verbosity (values pairs.now) payload.now) }
+    ensures refused { OnErr result (Refused A) }
+{
     match action {
-        "t" => read_image_kept(alloc, verbosity, pairs, payload),
-        "q" => read_image_query(alloc, pairs, payload),
-        "T" => read_image_shown(alloc, verbosity, pairs, payload),
-        "p" => Ok(read_image_display(verbosity, pairs)),
-        "d" => Ok(read_image_delete(verbosity, pairs)),
-        "f" => read_image_frame(alloc, verbosity, pairs, payload),
-        "c" => Ok(read_image_compose(verbosity, pairs)),
-        _ => Ok(None),
+        Action::Keep => read_image_kept(alloc, verbosity, pairs, payload),
+        Action::Ask => read_image_query(alloc, pairs, payload),
+        Action::Show => read_image_shown(alloc, verbosity, pairs, payload),
+        Action::Place => Ok(read_image_display(verbosity, pairs)),
+        Action::Remove => Ok(read_image_delete(verbosity, pairs)),
+        Action::Frame => read_image_frame(alloc, verbosity, pairs, payload),
+        Action::Compose => Ok(read_image_compose(verbosity, pairs)),
     }
 }
 
@@ -109,11 +154,13 @@ fn read_image_kept<A: Allocator>(
         (transmit_of (values pairs.now) payload.now)) }
     ensures refused { OnErr result (Refused A) }
 {
-    let transmit = read_transmit(alloc, pairs, payload)?;
-    Ok(transmit.map(|transmit| KittyImage::TransmitData {
-        transmit,
-        verbosity,
-    }))
+    match read_transmit(alloc, pairs, payload)? {
+        Some(transmit) => Ok(Some(KittyImage::TransmitData {
+            transmit,
+            verbosity,
+        })),
+        None => Ok(None),
+    }
 }
 
 // The image that is asked about.
@@ -126,8 +173,10 @@ fn read_image_query<A: Allocator>(
         (transmit_of (values pairs.now) payload.now)) }
     ensures refused { OnErr result (Refused A) }
 {
-    let transmit = read_transmit(alloc, pairs, payload)?;
-    Ok(transmit.map(|transmit| KittyImage::Query { transmit }))
+    match read_transmit(alloc, pairs, payload)? {
+        Some(transmit) => Ok(Some(KittyImage::Query { transmit })),
+        None => Ok(None),
+    }
 }
 
 // The kept image that is shown.
@@ -188,12 +237,14 @@ fn read_image_shown<A: Allocator + Copy>(
     let Some(placement) = read_placement(pairs) else {
         return Ok(None);
     };
-    let transmit = read_transmit(alloc, pairs, payload)?;
-    Ok(transmit.map(|transmit| KittyImage::TransmitDataAndDisplay {
-        transmit,
-        placement,
-        verbosity,
-    }))
+    match read_transmit(alloc, pairs, payload)? {
+        Some(transmit) => Ok(Some(KittyImage::TransmitDataAndDisplay {
+            transmit,
+            placement,
+            verbosity,
+        })),
+        None => Ok(None),
+    }
 }
 
 // The frame that is kept.
@@ -209,10 +260,12 @@ fn read_image_frame<A: Allocator + Copy>(
     let Some(frame) = read_frame(pairs) else {
         return Ok(None);
     };
-    let transmit = read_transmit(alloc, pairs, payload)?;
-    Ok(transmit.map(|transmit| KittyImage::TransmitFrame {
-        transmit,
-        frame,
-        verbosity,
-    }))
+    match read_transmit(alloc, pairs, payload)? {
+        Some(transmit) => Ok(Some(KittyImage::TransmitFrame {
+            transmit,
+            frame,
+            verbosity,
+        })),
+        None => Ok(None),
+    }
 }

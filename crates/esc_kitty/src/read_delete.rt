@@ -10,8 +10,10 @@ use crate::keys::{Pair, number, signed, value};
 pub(crate) fn read_delete(pairs: &[Pair<'_>]) -> Option<KittyImageDelete>
     ensures { result ≡ delete_of (values pairs.now) }
 {
-    let word = value(pairs, b'd').unwrap_or("a");
-    read_delete_in(word.as_bytes(), pairs)
+    match value(pairs, b'd') {
+        Some(word) => read_delete_in(word.as_bytes(), pairs),
+        None => read_delete_in(b"a", pairs),
+    }
 }
 
 // What a value of `d` deletes: one letter, of which a capital one deletes the data too.
@@ -37,82 +39,56 @@ fn read_delete_by(letter: u8, delete: bool, pairs: &[Pair<'_>]) -> Option<KittyI
 {
     match letter {
         b'a' => Some(KittyImageDelete::All { delete }),
-        b'i' => {
-            let Some(image_id) = number(pairs, b'i') else {
-                return None;
-            };
-            let placement_id = number(pairs, b'p');
-            Some(KittyImageDelete::ByImageId {
+        b'i' => match number(pairs, b'i') {
+            Some(image_id) => Some(KittyImageDelete::ByImageId {
                 image_id,
-                placement_id,
+                placement_id: number(pairs, b'p'),
                 delete,
-            })
-        }
-        b'n' => {
-            let Some(image_number) = number(pairs, b'I') else {
-                return None;
-            };
-            let placement_id = number(pairs, b'p');
-            Some(KittyImageDelete::ByImageNumber {
+            }),
+            None => None,
+        },
+        b'n' => match number(pairs, b'I') {
+            Some(image_number) => Some(KittyImageDelete::ByImageNumber {
                 image_number,
-                placement_id,
+                placement_id: number(pairs, b'p'),
                 delete,
-            })
-        }
+            }),
+            None => None,
+        },
         b'c' => Some(KittyImageDelete::AtCursorPosition { delete }),
         b'f' => Some(KittyImageDelete::AnimationFrames { delete }),
-        b'p' => {
-            let Some(x) = number(pairs, b'x') else {
-                return None;
-            };
-            let Some(y) = number(pairs, b'y') else {
-                return None;
-            };
-            Some(KittyImageDelete::DeleteAt { x, y, delete })
-        }
-        b'q' => {
-            let Some(x) = number(pairs, b'x') else {
-                return None;
-            };
-            let Some(y) = number(pairs, b'y') else {
-                return None;
-            };
-            let Some(z) = signed(pairs, b'z') else {
-                return None;
-            };
-            Some(KittyImageDelete::DeleteAtZ { x, y, z, delete })
-        }
-        b'x' => {
-            let Some(x) = number(pairs, b'x') else {
-                return None;
-            };
-            Some(KittyImageDelete::DeleteColumn { x, delete })
-        }
-        b'y' => {
-            let Some(y) = number(pairs, b'y') else {
-                return None;
-            };
-            Some(KittyImageDelete::DeleteRow { y, delete })
-        }
-        b'z' => {
-            let Some(z) = signed(pairs, b'z') else {
-                return None;
-            };
-            Some(KittyImageDelete::DeleteZ { z, delete })
-        }
-        b'r' => {
-            let Some(first) = number(pairs, b'x') else {
-                return None;
-            };
-            let Some(last) = number(pairs, b'y') else {
-                return None;
-            };
-            Some(KittyImageDelete::ByImageIdRange {
+        b'p' => match (number(pairs, b'x'), number(pairs, b'y')) {
+            (Some(x), Some(y)) => Some(KittyImageDelete::DeleteAt { x, y, delete }),
+            _ => None,
+        },
+        b'q' => match (
+            number(pairs, b'x'),
+            number(pairs, b'y'),
+            signed(pairs, b'z'),
+        ) {
+            (Some(x), Some(y), Some(z)) => Some(KittyImageDelete::DeleteAtZ { x, y, z, delete }),
+            _ => None,
+        },
+        b'x' => match number(pairs, b'x') {
+            Some(x) => Some(KittyImageDelete::DeleteColumn { x, delete }),
+            None => None,
+        },
+        b'y' => match number(pairs, b'y') {
+            Some(y) => Some(KittyImageDelete::DeleteRow { y, delete }),
+            None => None,
+        },
+        b'z' => match signed(pairs, b'z') {
+            Some(z) => Some(KittyImageDelete::DeleteZ { z, delete }),
+            None => None,
+        },
+        b'r' => match (number(pairs, b'x'), number(pairs, b'y')) {
+            (Some(first), Some(last)) => Some(KittyImageDelete::ByImageIdRange {
                 first,
                 last,
                 delete,
-            })
-        }
+            }),
+            _ => None,
+        },
         _ => None,
     }
 }

@@ -119,8 +119,10 @@ fn read_named<A: Allocator>(
         (base64_text_of payload.now)) }
     ensures refused { OnErr result (Refused A) }
 {
-    let name = read_base64_text(alloc, payload)?;
-    Ok(name.map(|name| medium.named(name, data_size, data_offset)))
+    match read_base64_text(alloc, payload)? {
+        Some(name) => Ok(Some(medium.named(name, data_size, data_offset))),
+        None => Ok(None),
+    }
 }
 
 // What a payload may name.
