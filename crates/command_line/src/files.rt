@@ -2,7 +2,7 @@
 
 use crate::arguments::{NO_TEXT, is_text};
 use crate::ending::{DONE, Ended, status_after, unread};
-use crate::output::{IS_OUTPUT, is_output};
+use output_file::{IS_OUTPUT, is_output};
 use std::fs::{File, Files, OpenFile, metadata};
 use std::io::{Input, Read, Write};
 

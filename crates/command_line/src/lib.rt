@@ -1,5 +1,5 @@
 //! What the programs have in common: how their words are read, how a word is shown, which streams
-//! they read, how one ends and why, and whether it is their output.
+//! they read, and how one ends and why.
 #![tactic(auto)]
 
 mod arguments;
@@ -7,7 +7,6 @@ mod ending;
 mod files;
 mod nearness;
 mod noting;
-mod output;
 mod reading;
 mod reason;
 mod showing;
@@ -23,7 +22,6 @@ pub use ending::{
 pub use esc_visible::is_shown;
 pub use files::{INPUT, OUTPUT, Work, work_through};
 pub use noting::Noting;
-pub use output::{IS_OUTPUT, is_output};
 pub use reading::{Found, Given, read};
 pub use reason::Reason;
 pub use showing::Shown;

@@ -8,8 +8,8 @@ pub mod task;
 #[cfg(test)]
 mod tests;
 
-use command_line::is_output;
 use esc_normal::Watched;
+use output_file::is_output;
 use run::Order;
 pub use run::run;
 use std::fs::metadata;

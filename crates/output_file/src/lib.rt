@@ -1,4 +1,5 @@
-//! A program's output.
+//! Which file a program's output is.
+#![tactic(auto)]
 
 use std::fs::{Files, Metadata, metadata};
 use std::io;
