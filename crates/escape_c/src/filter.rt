@@ -1,15 +1,16 @@
-//! What a policy admits of a stream.
-ghost use Rattle.std.specs.Prelude.{◌≡◌, ◌↔◌, IfOk, None, OnErr};
-ghost use Rattle.esc_filter.specs.Fed.{added_by};
-ghost use Rattle.escape_c.specs.Filtered.{IsAdmitted, IsFilterRefusal, passed};
-ghost use Rattle.escape_c.specs.Output.{LacksMemory, Writes};
-ghost use Rattle.escape_c.specs.Policies.{policy_numbered};
+//! The filter: of a stream that is there whole, and of one in pieces.
+ghost use Rattle.std.specs.Prelude.{◌↔◌, ◌≡◌, ◌≢◌, IfSome, List, None, ℕ};
+ghost use Rattle.esc_calls.specs.Filtered.{IsAdmitted, IsFilterRefusal, passed};
+ghost use Rattle.esc_calls.specs.Output.{Copies, Writes};
+ghost use Rattle.esc_calls.specs.Policies.{policy_numbered};
 ghost use Rattle.memory.specs.Refusals.{Refused};
+ghost use Rattle.esc_filter.specs.declared.policy.Policy.{Policy};
+ghost use Rattle.esc_calls.specs.FilterPieces.{FinishesFilter, TakesFilter, WasFedFilter};
+ghost use Rattle.esc_calls.specs.InPieces.{Begins, Breaks, IsEnded, KeepsNone, Stays, text_of};
+ghost use Rattle.esc_calls.specs.Kept.{filter_in};
 
-use crate::output::put;
-use crate::{DONE, NO_MEMORY, UNKNOWN_POLICY};
-use esc_filter::{Filter, Policy, passed_reads_back};
-use esc_frame::ParseError;
+use esc_calls::in_pieces::InPieces;
+use esc_calls::{DONE, NO_MEMORY, NOT_BEGUN, UNKNOWN_POLICY, filter, filter_pieces};
 use std::alloc::Global;
 
 /// Writes to `out` the text of those actions of the stream `bytes` that the policy admits, as much
@@ -34,60 +35,89 @@ pub extern "C" fn escape_stream_filter(
         result (out.old, needed.old) (out.new, needed.new) }
     ensures unknown { result ≡ UNKNOWN_POLICY ↔ (policy_numbered policy ≡ None) }
 {
-    passed_reads_back::<Global>();
-    match policy_of(policy) {
-        Some(known) => filter_by(alloc, known, limit, bytes, out, needed),
-        None => UNKNOWN_POLICY,
-    }
+    filter::filter(alloc, policy, limit, bytes, out, needed)
 }
 
-/// The policy of this number.
-pub(crate) fn policy_of(number: u32) -> Option<Policy>
-    ensures { result ≡ policy_numbered number }
-{
-    match number {
-        0 => Some(Policy::Text),
-        1 => Some(Policy::Color),
-        2 => Some(Policy::Screen),
-        3 => Some(Policy::All),
-        _ => None,
-    }
-}
-
-// The same, of a policy that there is.
-fn filter_by(
+/// Begins a stream, of which at most `limit` bytes are kept of a string, by the policy of this
+/// number, as in [`escape_stream_filter`](crate::escape_stream_filter). A filter that was begun
+/// before is ended first. After another status than `DONE` it is not begun.
+#[unsafe(no_mangle)]
+pub extern "C" fn escape_stream_filter_begin(
     alloc: Global,
-    policy: Policy,
+    filter: &mut InPieces,
+    policy: u32,
     limit: usize,
-    bytes: &[u8],
-    out: &mut [u8],
-    needed: &mut usize,
 ) -> u32
-    ensures { Writes (λ t. t ≡ passed limit policy bytes.now) LacksMemory result
-        (out.old, needed.old) (out.new, needed.new) }
+    ensures begun { result ≡ DONE → IfSome (policy_numbered policy) (λ p.
+        Begins (WasFedFilter limit p) filter.new) }
+    ensures unknown { result ≡ UNKNOWN_POLICY ↔ (policy_numbered policy ≡ None) }
+    ensures refused { result ≢ DONE → (result ≢ NO_MEMORY → result ≡ UNKNOWN_POLICY)
+        × IsEnded filter.new }
+    ensures memory { result ≡ NO_MEMORY → Refused Global }
 {
-    match filtered(alloc, policy, limit, bytes) {
-        Ok(filter) => {
-            *needed = put(filter.text().as_bytes(), out);
-            DONE
-        }
-        Err(_) => NO_MEMORY,
-    }
+    filter_pieces::filter_begin(alloc, filter, policy, limit)
 }
 
-// A filter that was fed the bytes, and holds the text of what passes of them.
-fn filtered(
+/// Takes the next piece of the stream. What it adds to the text of the stream is then the text that
+/// [`escape_stream_filter_text`] gives.
+///
+/// `NO_MEMORY` says that a request for memory was refused: the filter has ended, and what it kept
+/// was given back. `NOT_BEGUN` says that it had not begun, or had ended.
+#[unsafe(no_mangle)]
+pub extern "C" fn escape_stream_filter_feed(
     alloc: Global,
-    policy: Policy,
-    limit: usize,
+    filter: &mut InPieces,
     bytes: &[u8],
-) -> Result<Filter<Policy>, ParseError>
-    ensures ok { IfOk result (λ f. added_by f ≡ passed limit policy bytes.now) }
-    ensures refused { OnErr result (Refused Global) }
+) -> u32
+    ensures taken { (limit : ℕ) (p : Policy) (s : List ℕ) → WasFedFilter limit p s filter.old
+        → result ≡ DONE → TakesFilter limit p s bytes.now filter.new }
+    ensures memory { (limit : ℕ) (p : Policy) (s : List ℕ) → WasFedFilter limit p s filter.old
+        → result ≢ DONE → (result ≡ NO_MEMORY) × Breaks (passed limit p) s bytes.now filter.new
+        × Refused Global }
+    ensures refused { result ≢ DONE → (result ≢ NO_MEMORY → result ≡ NOT_BEGUN)
+        × IsEnded filter.new }
+    ensures ended { result ≡ NOT_BEGUN ↔ KeepsNone filter_in filter.old }
 {
-    let mut filter = Filter::new(alloc, limit, policy);
-    match filter.feed(bytes) {
-        Ok(()) => Ok(filter),
-        Err(error) => Err(error),
-    }
+    filter_pieces::filter_feed(alloc, filter, bytes)
+}
+
+/// Ends the stream, and begins the next, within the same limit and by the same policy. What takes
+/// back what the stream left changed at a terminal, as [`Filter::finish`] says, is then the text
+/// that [`escape_stream_filter_text`] gives. What is unfinished is dropped.
+///
+/// `NO_MEMORY` says that a request for memory was refused: the filter has ended, and what it kept
+/// was given back. `NOT_BEGUN` says that it had not begun, or had ended.
+#[unsafe(no_mangle)]
+pub extern "C" fn escape_stream_filter_finish(alloc: Global, filter: &mut InPieces) -> u32
+    ensures finished { (limit : ℕ) (p : Policy) (s : List ℕ) → WasFedFilter limit p s filter.old
+        → result ≡ DONE → FinishesFilter limit p s filter.new }
+    ensures memory { result ≡ NO_MEMORY → Refused Global }
+    ensures refused { result ≢ DONE → (result ≢ NO_MEMORY → result ≡ NOT_BEGUN)
+        × IsEnded filter.new }
+    ensures ended { result ≡ NOT_BEGUN ↔ KeepsNone filter_in filter.old }
+{
+    filter_pieces::filter_finish(alloc, filter)
+}
+
+/// Copies the text that the last call added, from its byte `from` on, to the beginning of `out`,
+/// as much as fits, and leaves the rest of `out` as it is. Returns how many bytes these are.
+#[unsafe(no_mangle)]
+pub extern "C" fn escape_stream_filter_text(
+    alloc: Global,
+    filter: &mut InPieces,
+    from: usize,
+    out: &mut [u8],
+) -> usize
+    ensures copied { Copies (text_of filter.old) from out.old out.new result }
+    ensures kept { Stays filter.old filter.new }
+{
+    filter_pieces::filter_text(alloc, filter, from, out)
+}
+
+/// Ends a filter, and gives back what it kept. One that is not begun stays so.
+#[unsafe(no_mangle)]
+pub extern "C" fn escape_stream_filter_end(alloc: Global, filter: &mut InPieces)
+    ensures { IsEnded filter.new }
+{
+    filter_pieces::filter_end(alloc, filter);
 }

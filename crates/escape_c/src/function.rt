@@ -1,10 +1,9 @@
 //! Control functions by name.
-ghost use Rattle.std.specs.Prelude.{◌≡◌};
 ghost use Rattle.esc_functions.specs.Controls.{control_of};
-ghost use Rattle.escape_c.specs.FunctionRows.{Says, SaysControl, SaysEscape, byte_of, escape_function_with, function_with};
+ghost use Rattle.esc_calls.specs.FunctionRows.{Says, SaysControl, SaysEscape, escape_function_with, function_with};
 
-use crate::function_row::{FunctionRow, note};
-use esc_functions::{C0, ControlFunction, EscapeFunction};
+use esc_calls::function;
+use esc_calls::function_row::FunctionRow;
 
 /// Writes to `out` what the function of a control sequence is, and returns whether it has a name.
 /// Where it has none, `out` is zeros.
@@ -22,18 +21,7 @@ pub extern "C" fn escape_stream_function(
 ) -> bool
     ensures { Says (function_with private_prefix intermediate count last) out.new result }
 {
-    let private_prefix = byte_of(private_prefix);
-    match ControlFunction::of_parts(private_prefix, byte_of(intermediate), count, last) {
-        Some(function) => {
-            let (screen, answered) = (function.changes_screen(), function.is_answered());
-            note(function.name(), function.words(), screen, answered, out);
-            true
-        }
-        None => {
-            note("", "", false, false, out);
-            false
-        }
-    }
+    function::function(private_prefix, intermediate, last, count, out)
 }
 
 /// The same of an escape sequence with this intermediate, 0 where there is none, and this final
@@ -46,17 +34,7 @@ pub extern "C" fn escape_stream_escape_function(
 ) -> bool
     ensures { SaysEscape (escape_function_with intermediate last) out.new result }
 {
-    match EscapeFunction::of_bytes(byte_of(intermediate), last) {
-        Some(function) => {
-            let (screen, answered) = (function.changes_screen(), function.is_answered());
-            note(function.name(), function.words(), screen, answered, out);
-            true
-        }
-        None => {
-            note("", "", false, false, out);
-            false
-        }
-    }
+    function::escape_function(intermediate, last, out)
 }
 
 /// The same of a C0 control, 00 to 1F (hexadecimal), or DEL, 7F.
@@ -64,22 +42,5 @@ pub extern "C" fn escape_stream_escape_function(
 pub extern "C" fn escape_stream_control_function(code: u8, out: &mut FunctionRow) -> bool
     ensures { SaysControl (control_of code) out.new result }
 {
-    match C0::of(code) {
-        Some(control) => {
-            let (screen, answered) = (control.changes_screen(), control.is_answered());
-            note(control.name(), control.words(), screen, answered, out);
-            true
-        }
-        None => {
-            note("", "", false, false, out);
-            false
-        }
-    }
-}
-
-// The byte, where it is not 0.
-fn byte_of(byte: u8) -> Option<u8>
-    ensures { result ≡ byte_of byte }
-{
-    if byte == 0 { None } else { Some(byte) }
+    function::control_function(code, out)
 }

@@ -1,12 +1,16 @@
-//! The normal form of a stream.
-ghost use Rattle.std.specs.Prelude.{◌≡◌};
+//! The normal form: of a stream that is there whole, and of one in pieces.
+ghost use Rattle.std.specs.Prelude.{◌↔◌, ◌≡◌, ◌≢◌, IsTrue, List, true, ℕ};
 ghost use Rattle.esc_actions.specs.Meaning.{meaning};
 ghost use Rattle.esc_actions.specs.Texts.{list_text};
-ghost use Rattle.escape_c.specs.Output.{LacksMemory, Writes};
+ghost use Rattle.esc_calls.specs.Output.{Copies, LacksMemory, Writes};
+ghost use Rattle.esc_actions.specs.Writable.{AreWritable};
+ghost use Rattle.memory.specs.Refusals.{Refused};
+ghost use Rattle.esc_calls.specs.InPieces.{Begins, Breaks, IsEnded, KeepsNone, Stays, Takes, text_of};
+ghost use Rattle.esc_calls.specs.Kept.{normaliser_in};
+ghost use Rattle.esc_calls.specs.NormalPieces.{FinishesNormal, WasFedNormaliser, formed};
 
-use crate::output::put;
-use crate::{DONE, NO_MEMORY};
-use esc_normal::normal_text;
+use esc_calls::in_pieces::InPieces;
+use esc_calls::{DONE, NO_MEMORY, NOT_BEGUN, is_normal, normal, normal_pieces};
 use std::alloc::Global;
 
 /// Writes the normal form of the stream `bytes` to `out`, as much of it as fits, and its length in
@@ -24,11 +28,97 @@ pub extern "C" fn escape_stream_normal(
     ensures { Writes (λ t. t ≡ list_text (meaning {A = Global} bytes.now)) LacksMemory result
         (out.old, needed.old) (out.new, needed.new) }
 {
-    match normal_text(alloc, bytes, None) {
-        Ok(text) => {
-            *needed = put(text.as_bytes(), out);
-            DONE
-        }
-        Err(_) => NO_MEMORY,
-    }
+    normal::normal(alloc, bytes, out, needed)
+}
+
+/// Writes to `answer` whether the stream `bytes` is its own normal form: the text that
+/// [`escape_stream_normal`](crate::escape_stream_normal) writes for it.
+///
+/// Of the normal form of a stream that means a writable list it is true. `NO_MEMORY` is the only
+/// other status.
+#[unsafe(no_mangle)]
+pub extern "C" fn escape_stream_is_normal(alloc: Global, bytes: &[u8], answer: &mut bool) -> u32
+    ensures equal { result ≡ DONE
+        → (IsTrue answer.new ↔ (list_text (meaning {A = Global} bytes.now) ≡ bytes.now)) }
+    ensures normalised { (t : List ℕ) → AreWritable {A = Global} (meaning t)
+        → bytes.now ≡ list_text (meaning {A = Global} t) → result ≡ DONE → answer.new ≡ true }
+    ensures refused { result ≢ DONE → (result ≡ NO_MEMORY) × (answer.new ≡ answer.old) }
+    ensures memory { result ≡ NO_MEMORY → Refused Global }
+{
+    is_normal::is_normal(alloc, bytes, answer)
+}
+
+/// Begins a stream, of which at most `limit` bytes are kept of a string. A normaliser that was
+/// begun before is ended first. After `NO_MEMORY` it is not begun.
+#[unsafe(no_mangle)]
+pub extern "C" fn escape_stream_normal_begin(
+    alloc: Global,
+    normaliser: &mut InPieces,
+    limit: usize,
+) -> u32
+    ensures begun { result ≡ DONE → Begins (WasFedNormaliser limit) normaliser.new }
+    ensures refused { result ≢ DONE → (result ≡ NO_MEMORY) × IsEnded normaliser.new }
+    ensures memory { result ≡ NO_MEMORY → Refused Global }
+{
+    normal_pieces::normal_begin(alloc, normaliser, limit)
+}
+
+/// Takes the next piece of the stream. What it adds to the normal form of the stream is then the
+/// text that [`escape_stream_normal_text`] gives.
+///
+/// `NO_MEMORY` says that a request for memory was refused: the normaliser has ended, and what it
+/// kept was given back. `NOT_BEGUN` says that it had not begun, or had ended.
+#[unsafe(no_mangle)]
+pub extern "C" fn escape_stream_normal_feed(
+    alloc: Global,
+    normaliser: &mut InPieces,
+    bytes: &[u8],
+) -> u32
+    ensures taken { (limit : ℕ) (s : List ℕ) → WasFedNormaliser limit s normaliser.old
+        → result ≡ DONE
+        → Takes (WasFedNormaliser limit) (formed limit) s bytes.now normaliser.new }
+    ensures memory { (limit : ℕ) (s : List ℕ) → WasFedNormaliser limit s normaliser.old
+        → result ≢ DONE → (result ≡ NO_MEMORY) × Breaks (formed limit) s bytes.now normaliser.new
+        × Refused Global }
+    ensures refused { result ≢ DONE → (result ≢ NO_MEMORY → result ≡ NOT_BEGUN)
+        × IsEnded normaliser.new }
+    ensures ended { result ≡ NOT_BEGUN ↔ KeepsNone normaliser_in normaliser.old }
+{
+    normal_pieces::normal_feed(alloc, normaliser, bytes)
+}
+
+/// Ends the stream, and begins the next, within the same limit. The end adds nothing: the text that
+/// [`escape_stream_normal_text`] gives is then empty. What is unfinished is dropped. It takes no
+/// memory. `NOT_BEGUN` says that the normaliser had not begun, or had ended.
+#[unsafe(no_mangle)]
+pub extern "C" fn escape_stream_normal_finish(alloc: Global, normaliser: &mut InPieces) -> u32
+    ensures finished { (limit : ℕ) (s : List ℕ) → WasFedNormaliser limit s normaliser.old
+        → result ≡ DONE → FinishesNormal limit s normaliser.new }
+    ensures refused { result ≢ DONE → (result ≡ NOT_BEGUN) × IsEnded normaliser.new }
+    ensures ended { result ≡ NOT_BEGUN ↔ KeepsNone normaliser_in normaliser.old }
+{
+    normal_pieces::normal_finish(alloc, normaliser)
+}
+
+/// Copies the text that the last call added, from its byte `from` on, to the beginning of `out`,
+/// as much as fits, and leaves the rest of `out` as it is. Returns how many bytes these are.
+#[unsafe(no_mangle)]
+pub extern "C" fn escape_stream_normal_text(
+    alloc: Global,
+    normaliser: &mut InPieces,
+    from: usize,
+    out: &mut [u8],
+) -> usize
+    ensures copied { Copies (text_of normaliser.old) from out.old out.new result }
+    ensures kept { Stays normaliser.old normaliser.new }
+{
+    normal_pieces::normal_text(alloc, normaliser, from, out)
+}
+
+/// Ends a normaliser, and gives back what it kept. One that is not begun stays so.
+#[unsafe(no_mangle)]
+pub extern "C" fn escape_stream_normal_end(alloc: Global, normaliser: &mut InPieces)
+    ensures { IsEnded normaliser.new }
+{
+    normal_pieces::normal_end(alloc, normaliser);
 }

@@ -1,0 +1,24 @@
+-- What is written of the image of kitty's that the text of an APC is.
+use Rattle.std.specs.Prelude.{ℕ, ◌≡◌, List, Option, length}
+use Rattle.std.specs.Global.{Global}
+use Rattle.esc_kitty.specs.Images.{image_of}
+use Rattle.esc_kitty.specs.declared.image.KittyImage.{KittyImage}
+use Rattle.esc_fields.specs.Fields.{Table, table_of}
+use Rattle.esc_fields.specs.ImageKinds.{image_kind, image_number}
+use Rattle.esc_fields.specs.Images.{fields_of_image}
+use Rattle.esc_calls.specs.declared.image_value.ImageValue.{ImageValue}
+
+-- the image that a text is, where it is one
+abbrev pub image_read : List ℕ → Option (KittyImage Global)
+image_read t = image_of {A = Global} t
+
+-- the rows of its fields, and the texts of these one after another
+abbrev pub image_table : List ℕ → Table
+image_table t = table_of (fields_of_image (image_read t))
+
+-- the value is that of the image that the text is: its kind, how many fields it has, and how many
+-- bytes their texts
+pub record IsImage (t : List ℕ) (v : ImageValue) : Type 0 where
+  pub kind : v.kind ≡ image_number (image_kind (image_read t))
+  pub count : v.field_count ≡ length (image_table t).0
+  pub length : v.text_length ≡ length (image_table t).1

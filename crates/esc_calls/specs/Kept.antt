@@ -1,0 +1,41 @@
+-- What a stream in pieces keeps.
+use Rattle.std.specs.Prelude.{ℕ, if◌then◌else◌, List, Option, None, Some}
+use Rattle.std.specs.Global.{Global}
+use Rattle.esc_filter.specs.Fed.{added_by as added_by_filter}
+use Rattle.esc_filter.specs.declared.filter.Filter.{Filter}
+use Rattle.esc_filter.specs.declared.policy.Policy.{Policy}
+use Rattle.esc_html.specs.Fed.{added_by as added_by_page, closing_of}
+use Rattle.esc_normal.specs.Normalising.{added_by as added_by_form}
+use Rattle.esc_normal.specs.declared.normaliser.Normaliser.{Normaliser}
+use Rattle.esc_calls.specs.declared.kept.Kept.{Kept}
+use Rattle.esc_calls.specs.declared.kept.Kept.TheVariants as kept
+use Rattle.esc_calls.specs.declared.page_state.PageState.{PageState}
+
+-- the text of a page: what the last piece added, or what closes it
+abbrev pub state_text : PageState → List ℕ
+state_text p = if p.has_ended then closing_of p.writer else added_by_page p.writer
+
+-- the text that the last call added
+abbrev pub kept_text : Kept → List ℕ
+kept_text (kept.Filter f) = added_by_filter f
+kept_text (kept.Page p) = state_text p
+kept_text (kept.Normal n) = added_by_form n
+
+-- the filter, the page and the normaliser that is kept, where it is one
+abbrev pub filter_in : Option Kept → Option (Filter Policy Global)
+filter_in None = None
+filter_in (Some (kept.Filter f)) = Some f
+filter_in (Some (kept.Page p)) = None
+filter_in (Some (kept.Normal n)) = None
+
+abbrev pub page_in : Option Kept → Option PageState
+page_in None = None
+page_in (Some (kept.Filter f)) = None
+page_in (Some (kept.Page p)) = Some p
+page_in (Some (kept.Normal n)) = None
+
+abbrev pub normaliser_in : Option Kept → Option (Normaliser Global)
+normaliser_in None = None
+normaliser_in (Some (kept.Filter f)) = None
+normaliser_in (Some (kept.Page p)) = None
+normaliser_in (Some (kept.Normal n)) = Some n

@@ -1,0 +1,24 @@
+-- What is written of the termcap query that fields say.
+use Rattle.std.specs.Prelude.{ℕ, ◌≡◌, true, List, ◌++◌}
+use Rattle.std.specs.List.{list_all}
+use Rattle.esc_fields.specs.Fields.{Table}
+use Rattle.esc_fields.specs.FoundNames.{HasNames}
+use Rattle.esc_fields.specs.Held.{AreTexts, types}
+use Rattle.esc_tcap.specs.Names.{AreWritable, is_query_byte, names_of, names_text, query_text}
+use Rattle.esc_calls.specs.Written.{RefusedFor, string_end}
+
+-- the fields are those of names that a query can ask for; what is between `ESC P + q` and `ESC \`
+-- in its text is of digits and `;`, and asks for the same names
+pub record IsWrittenAs (t : Table) (ns : List (List ℕ)) : Type 0 where
+  pub has : HasNames t ns
+  pub writable : AreWritable ns
+  pub clear : list_all is_query_byte (names_text ns) ≡ true
+  pub back : names_of (names_text ns) ≡ ns
+
+-- the whole text of such a query
+abbrev pub IsText : Table → List ℕ → Type 0
+IsText t s = (ns : List (List ℕ)) × IsWrittenAs t ns × (s ≡ query_text ns ++ string_end)
+
+-- why none was written
+abbrev pub IsRefusal : Table → ℕ → Type 0
+IsRefusal t = RefusedFor (HasNames t) (AreTexts types) AreWritable

@@ -1,0 +1,41 @@
+//! What the calls that take a stream in pieces have in common.
+ghost use Rattle.std.specs.Prelude.{◌≡◌, ◌≢◌, Some};
+ghost use Rattle.esc_calls.specs.InPieces.{IsEnded, Stays, text_of};
+ghost use Rattle.esc_calls.specs.Output.{Copies};
+ghost use Rattle.memory.specs.Refusals.{Refused};
+
+use crate::in_pieces::InPieces;
+use crate::kept::Kept;
+use crate::output::put_from;
+use crate::{DONE, NO_MEMORY};
+use std::alloc::Global;
+
+/// Ends a stream, and begins the next with this, in a block of its own. The status is `DONE` or
+/// `NO_MEMORY`.
+pub(crate) fn begin(alloc: Global, stream: &mut InPieces, kept: Kept) -> u32
+    ensures begun { result ≡ DONE → stream.new.held.kept ≡ Some kept }
+    ensures refused { result ≢ DONE → (result ≡ NO_MEMORY) × IsEnded stream.new × Refused Global }
+{
+    drop(stream.take(alloc));
+    match memory::boxed(alloc, kept) {
+        Ok(kept) => {
+            *stream = InPieces::of(kept);
+            DONE
+        }
+        Err(_) => NO_MEMORY,
+    }
+}
+
+/// Copies the text that the last call added, from its byte `from` on, to the beginning of `out`,
+/// as much as fits, and leaves the rest of `out` as it is. Returns how many bytes these are.
+pub(crate) fn copy_text(alloc: Global, stream: &mut InPieces, from: usize, out: &mut [u8]) -> usize
+    ensures copied { Copies (text_of stream.old) from out.old out.new result }
+    ensures kept { Stays stream.old stream.new }
+{
+    let Some(kept) = stream.take(alloc) else {
+        return 0;
+    };
+    let count = put_from(kept.text().as_bytes(), from, out);
+    *stream = InPieces::of(kept);
+    count
+}

@@ -1,0 +1,31 @@
+//! What a stream in pieces keeps.
+ghost use Rattle.std.specs.Prelude.{◌≡◌};
+ghost use Rattle.esc_calls.specs.Kept.{kept_text};
+
+use crate::page_state::PageState;
+use esc_filter::{Filter, Policy};
+use esc_normal::Normaliser;
+
+/// What a stream in pieces keeps, in a block of its own.
+#[derive(Drop)]
+pub enum Kept {
+    /// A filter.
+    Filter(Filter<Policy>),
+    /// A page.
+    Page(PageState),
+    /// A normaliser.
+    Normal(Normaliser),
+}
+
+impl Kept {
+    /// The text that the last call added.
+    pub(crate) fn text(&self) -> &str
+        ensures { result.now ≡ kept_text self.now }
+    {
+        match self {
+            Kept::Filter(filter) => filter.text(),
+            Kept::Page(page) => page.text(),
+            Kept::Normal(normaliser) => normaliser.text(),
+        }
+    }
+}

@@ -1,0 +1,54 @@
+//! What the calls of the archive `escape_c` do. The archive adds their names for C, and its proof,
+//! which runs again wherever it is built, only hands on what is promised here.
+#![tactic(auto)]
+
+mod change_kept;
+mod clear;
+mod common;
+pub mod filter;
+pub mod filter_pieces;
+pub mod function;
+pub mod function_row;
+mod held;
+pub mod image_value;
+pub mod in_pieces;
+pub mod is_normal;
+mod kept;
+pub mod kitty;
+pub mod normal;
+pub mod normal_pieces;
+pub mod osc;
+pub mod osc_value;
+mod output;
+pub mod page_pieces;
+mod page_state;
+mod parts;
+pub mod query_value;
+mod refusal;
+mod shown;
+pub mod sixel;
+pub mod sixel_value;
+mod sixel_writable;
+pub mod tcap;
+pub mod write_kitty;
+pub mod write_osc;
+pub mod write_sixel;
+pub mod write_tcap;
+
+/// The call was done.
+pub const DONE: u32 = 0;
+
+/// A request for memory was refused. Nothing was written.
+pub const NO_MEMORY: u32 = 1;
+
+/// No policy has this number. Nothing was written.
+pub const UNKNOWN_POLICY: u32 = 2;
+
+/// The filter, the page or the normaliser in pieces was not begun, or has ended. Nothing was taken.
+pub const NOT_BEGUN: u32 = 3;
+
+/// No command, image or query has this kind, these fields or this value. Nothing was written.
+pub const NO_COMMAND: u32 = 4;
+
+/// The text of the command, image or query would not read back as it. Nothing was written.
+pub const NOT_WRITABLE: u32 = 5;

@@ -1,0 +1,30 @@
+//! The text of a value.
+ghost use Rattle.std.specs.Prelude.{◌≡◌, ◌++◌, IfOk, IfSome, OnErr};
+ghost use Rattle.std.specs.Global.{Global};
+ghost use Rattle.esc_calls.specs.Written.{string_end};
+ghost use Rattle.memory.specs.Refusals.{Refused};
+
+use esc_values::Text;
+use std::alloc::{AllocError, Global};
+use std::fmt::Display;
+
+/// The text that a value is displayed as.
+#[inline]
+pub(crate) fn display<T: Display>(alloc: Global, value: &T) -> Result<Text, AllocError>
+    ensures text { IfSome (T.output value.now) (λ t. IfOk result (λ x. x ≡ t)) }
+    ensures refused { OnErr result (Refused Global) }
+{
+    let mut text = Text::new(alloc);
+    text.push_display(value)?;
+    Ok(text)
+}
+
+/// A text with `ESC \` after it.
+pub(crate) fn ended(text: Text) -> Result<Text, AllocError>
+    ensures text { IfOk result (λ t. t ≡ text ++ string_end) }
+    ensures refused { OnErr result (Refused Global) }
+{
+    let mut text = text;
+    text.push_str("\x1b\\")?;
+    Ok(text)
+}

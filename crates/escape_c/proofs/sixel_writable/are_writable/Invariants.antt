@@ -1,6 +1,0 @@
-use Rattle.std.proofs.Common.{◌↔◌, drop}
-use Rattle.esc_sixel.specs.Writable.{AreWritableData}
-use Rattle.escape_c.proofs.sixel_writable.are_writable.Given as goal
-
-abbrev pub invariant-loop-item : goal.invariant-loop-item
-invariant-loop-item l = AreWritableData l.items ↔ AreWritableData (drop l.item-index l.items)
