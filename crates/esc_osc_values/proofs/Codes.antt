@@ -112,9 +112,19 @@ pub code_plain : (c : OperatingSystemCommandCode) → list_all is_part_plain (co
 code_plain code.SetIconNameAndWindowTitle = refl
 code_plain c = refl
 
+abbrev is_some_text : List ℕ → Bool
+is_some_text [] = false
+is_some_text (c ∷ t) = true
+
+some_text : (c : OperatingSystemCommandCode) → is_some_text (code_text c) ≡ true
+some_text code.SetIconNameAndWindowTitle = refl
+some_text c = refl
+
 pub code_some : (c : OperatingSystemCommandCode) → code_text c ≢ []
-code_some code.SetIconNameAndWindowTitle = λ e. cc
-code_some c = λ e. cc
+code_some c =
+    λ e.
+    let no : is_some_text (code_text c) ≡ false = ap is_some_text e in
+    let yes : is_some_text (code_text c) ≡ true = some_text c in cc
 
 -- the text of a code names it, alone or not
 code_alone : (c : OperatingSystemCommandCode) → code_name (code_text c) [] ≡ code_text c
