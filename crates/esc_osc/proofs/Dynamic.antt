@@ -1,5 +1,5 @@
 -- Dynamic colours, and the codes that change and reset them.
-use Rattle.std.proofs.Common.{◌≡◌, ◌⊎◌, inl, inr, ℕ, Bool, true, false, not, List, [], ◌∷◌, Some, refl}
+use Rattle.std.proofs.Common.{◌≡◌, ◌⊎◌, inl, inr, ℕ, Bool, true, false, true≢false, sym, not, List, [], ◌∷◌, Some, refl}
 use Rattle.std.specs.List.{filter, list_all}
 use Rattle.std.proofs.lemmas.Bool.{and_parts}
 use Rattle.std.specs.Option.{option_map}
@@ -51,20 +51,20 @@ has_none c (k ∷ l ∷ ls) h (inr i) = has_none c (l ∷ ls) ((and_parts _ _ h)
 other_reads : (A : Type 0) (c : OperatingSystemCommandCode) (t : List ℕ) (args : List (List ℕ))
     → not (has_line c) ≡ true
     → reading {A = A} c t args ≡ dynamic (changed_by c) (reset_by c) args
-other_reads A code.SetIconNameAndWindowTitle t args h = cc
-other_reads A code.SetIconName t args h = cc
-other_reads A code.SetWindowTitle t args h = cc
-other_reads A code.ChangeColorNumber t args h = cc
-other_reads A code.SetCurrentWorkingDirectory t args h = cc
-other_reads A code.SetHyperlink t args h = cc
-other_reads A code.SystemNotification t args h = cc
-other_reads A code.ManipulateSelectionData t args h = cc
-other_reads A code.ResetColors t args h = cc
-other_reads A code.FinalTermSemanticPrompt t args h = cc
-other_reads A code.RxvtProprietary t args h = cc
-other_reads A code.ITermProprietary t args h = cc
-other_reads A code.SetWindowTitleSun t args h = cc
-other_reads A code.SetIconNameSun t args h = cc
+other_reads A code.SetIconNameAndWindowTitle t args h = absurd (true≢false (sym h))
+other_reads A code.SetIconName t args h = absurd (true≢false (sym h))
+other_reads A code.SetWindowTitle t args h = absurd (true≢false (sym h))
+other_reads A code.ChangeColorNumber t args h = absurd (true≢false (sym h))
+other_reads A code.SetCurrentWorkingDirectory t args h = absurd (true≢false (sym h))
+other_reads A code.SetHyperlink t args h = absurd (true≢false (sym h))
+other_reads A code.SystemNotification t args h = absurd (true≢false (sym h))
+other_reads A code.ManipulateSelectionData t args h = absurd (true≢false (sym h))
+other_reads A code.ResetColors t args h = absurd (true≢false (sym h))
+other_reads A code.FinalTermSemanticPrompt t args h = absurd (true≢false (sym h))
+other_reads A code.RxvtProprietary t args h = absurd (true≢false (sym h))
+other_reads A code.ITermProprietary t args h = absurd (true≢false (sym h))
+other_reads A code.SetWindowTitleSun t args h = absurd (true≢false (sym h))
+other_reads A code.SetIconNameSun t args h = absurd (true≢false (sym h))
 other_reads A c t args h = refl
 
 pub others_read : (A : Type 0) (c : OperatingSystemCommandCode) (t : List ℕ) (args : List (List ℕ))

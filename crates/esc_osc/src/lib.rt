@@ -16,6 +16,7 @@
 pub mod command;
 pub mod laws;
 mod parse;
+mod text_form;
 mod write;
 
 pub use command::OperatingSystemCommand;

@@ -13,6 +13,7 @@ ghost use Rattle.esc_osc.specs.declared.command.OperatingSystemCommand.TheVarian
 ghost use Rattle.memory.specs.Refusals.{Refused};
 
 use crate::command::OperatingSystemCommand as Command;
+use crate::text_form::TextForm;
 use esc_iterm::ITermProprietary;
 use esc_links::Hyperlink;
 use esc_osc_values::code::OperatingSystemCommandCode as Code;
@@ -105,30 +106,30 @@ fn read_by_code<A: Allocator + Copy>(
     ensures refused { OnErr result (Refused A) }
 {
     match code {
-        Code::SetIconNameAndWindowTitle => Ok(read_title(alloc, args)?.map(
-            |t| Command::SetIconNameAndWindowTitle(t),
-        )),
-        Code::SetIconName => Ok(read_title(alloc, args)?.map(|t| Command::SetIconName(t))),
-        Code::SetWindowTitle => Ok(read_title(alloc, args)?.map(|t| Command::SetWindowTitle(t))),
-        Code::ChangeColorNumber => Ok(read_pairs(alloc, args)?.map(|p| Command::ChangeColorNumber(
-            p,
-        ))),
-        Code::SetCurrentWorkingDirectory => Ok(read_lone_text(alloc, args)?.map(
-            |t| Command::CurrentWorkingDirectory(t),
+        Code::SetIconNameAndWindowTitle => Ok(TextForm::IconNameAndWindowTitle.with(read_title(
+            alloc, args,
+        )?)),
+        Code::SetIconName => Ok(TextForm::IconName.with(read_title(alloc, args)?)),
+        Code::SetWindowTitle => Ok(TextForm::WindowTitle.with(read_title(alloc, args)?)),
+        Code::ChangeColorNumber => match read_pairs(alloc, args)? {
+            Some(p) => Ok(Some(Command::ChangeColorNumber(p))),
+            None => Ok(None),
+        },
+        Code::SetCurrentWorkingDirectory => Ok(TextForm::CurrentWorkingDirectory.with(
+            read_lone_text(alloc, args)?,
         )),
         Code::SetHyperlink => read_link(alloc, args),
         Code::SystemNotification => read_notified(alloc, args),
         Code::ManipulateSelectionData => read_selected(alloc, args),
-        Code::ResetColors => Ok(read_numbers(alloc, args)?.map(|n| Command::ResetColors(n))),
+        Code::ResetColors => match read_numbers(alloc, args)? {
+            Some(n) => Ok(Some(Command::ResetColors(n))),
+            None => Ok(None),
+        },
         Code::FinalTermSemanticPrompt => read_prompt(alloc, args),
         Code::RxvtProprietary => Ok(Some(Command::RxvtExtension(read_texts(alloc, args)?))),
         Code::ITermProprietary => read_proprietary(alloc, args),
-        Code::SetWindowTitleSun => Ok(without_first(alloc, first)?.map(
-            |t| Command::SetWindowTitleSun(t),
-        )),
-        Code::SetIconNameSun => Ok(without_first(alloc, first)?.map(|t| Command::SetIconNameSun(
-            t,
-        ))),
+        Code::SetWindowTitleSun => Ok(TextForm::WindowTitleSun.with(without_first(alloc, first)?)),
+        Code::SetIconNameSun => Ok(TextForm::IconNameSun.with(without_first(alloc, first)?)),
         Code::SetTextForegroundColor
         | Code::SetTextBackgroundColor
         | Code::SetTextCursorColor
@@ -175,7 +176,10 @@ fn read_prompt<A: Allocator + Copy>(
     ensures refused { OnErr result (Refused A) }
 {
     let read = FinalTermSemanticPrompt::parse(alloc, args)?;
-    Ok(read.map(|mark| Command::FinalTermSemanticPrompt(mark)))
+    match read {
+        Some(mark) => Ok(Some(Command::FinalTermSemanticPrompt(mark))),
+        None => Ok(None),
+    }
 }
 
 // A command of iTerm2.
@@ -188,7 +192,10 @@ fn read_proprietary<A: Allocator + Copy>(
     ensures refused { OnErr result (Refused A) }
 {
     let read = ITermProprietary::parse(alloc, args)?;
-    Ok(read.map(|command| Command::ITermProprietary(command)))
+    match read {
+        Some(command) => Ok(Some(Command::ITermProprietary(command))),
+        None => Ok(None),
+    }
 }
 
 // A notification.
@@ -200,7 +207,7 @@ fn read_notification<A: Allocator + Copy>(
         (λ c. c ≡ option_map command.SystemNotification (lone_text (map (λ p. p.now) args.now))) }
     ensures refused { OnErr result (Refused A) }
 {
-    Ok(read_lone_text(alloc, args)?.map(|read| Command::SystemNotification(read)))
+    Ok(TextForm::SystemNotification.with(read_lone_text(alloc, args)?))
 }
 
 // The link after the code, where there is one.
@@ -250,7 +257,10 @@ fn read_changed<A: Allocator + Copy>(
         (colors_of (map (λ p. p.now) args.now))) }
     ensures refused { OnErr result (Refused A) }
 {
-    Ok(read_colors(alloc, args)?.map(|colors| Command::ChangeDynamicColors(number, colors)))
+    match read_colors(alloc, args)? {
+        Some(colors) => Ok(Some(Command::ChangeDynamicColors(number, colors))),
+        None => Ok(None),
+    }
 }
 
 // A dynamic colour that is changed, else one that is reset.
@@ -313,5 +323,8 @@ fn read_content<A: Allocator + Copy>(
     if text == b"?".as_slice() {
         return Ok(Some(Command::QuerySelection(selection)));
     }
-    Ok(read_base64_text(alloc, text)?.map(|content| Command::SetSelection(selection, content)))
+    match read_base64_text(alloc, text)? {
+        Some(content) => Ok(Some(Command::SetSelection(selection, content))),
+        None => Ok(None),
+    }
 }
