@@ -5,8 +5,6 @@
 
 pub mod run;
 pub mod task;
-#[cfg(test)]
-mod tests;
 
 use esc_normal::Watched;
 use output_file::is_output;

@@ -20,6 +20,8 @@ mod recorder;
 #[cfg(test)]
 mod sinks;
 #[cfg(test)]
+mod streaming;
+#[cfg(test)]
 mod texts;
 #[cfg(test)]
 mod watching;

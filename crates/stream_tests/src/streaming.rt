@@ -1,0 +1,90 @@
+//! Normal forms that are written as the stream is read: by readers and writers that are slow, full,
+//! or fail, and with each request for memory refused in turn.
+use crate::normalising::{STREAM, TEXT, reader, writer};
+use escape_stream::{FilterError, Watched, normalise_stream};
+use refusing::Refusing;
+use refusing::fixed_writer::FixedWriter;
+use std::alloc::{Allocator, Global};
+use std::io;
+use std::io::{ErrorKind, Write};
+
+// Whether the stream, of which each call of the reader gives one byte, and which fails at this
+// call, ends so: with this fault, after so many bytes of the text were written.
+fn ends<A: Allocator + Copy>(
+    alloc: A,
+    fails_at: usize,
+    mut to: Watched<FixedWriter>,
+    fault: Option<FilterError>,
+    written: usize,
+) -> bool {
+    let mut from = reader(STREAM, fails_at);
+    let result = normalise_stream(alloc, &mut from, &mut to, None);
+    let is_held = to.into_inner().holds(TEXT.get(..written).unwrap_or(STREAM));
+    result.err() == fault && is_held
+}
+
+// The string ends at the sixth byte, and is written before the seventh is read.
+#[test]
+fn slow_and_failing(rt: HostRuntime) {
+    let alloc = rt.alloc();
+    let read = Some(FilterError::Read);
+    let write = Some(FilterError::Write);
+    for at in 1..9usize {
+        let before = if at < 7 { 0 } else { at };
+        let is_read_fault = ends(alloc, at, writer(64, 64, 0), read, before);
+        let is_write_fault = ends(alloc, 0, writer(64, 1, at), write, at - 1);
+        assert!(rt; is_read_fault && is_write_fault, "at {at}");
+    }
+    let is_full = ends(alloc, 0, writer(3, 3, 0), write, 3);
+    assert!(rt; is_full && ends(alloc, 0, writer(64, 1, 0), None, TEXT.len()));
+}
+
+// Takes all that is written, and cannot be flushed.
+#[derive(Drop)]
+struct Unflushed;
+
+impl Write for Unflushed {
+    fn write(&mut self, buf: &[u8]) -> io::Result<usize> {
+        Ok(buf.len())
+    }
+
+    fn flush(&mut self) -> io::Result<()> {
+        Err(io::Error::from(ErrorKind::Other))
+    }
+}
+
+#[test]
+fn a_flush_that_fails_is_a_write_fault(rt: HostRuntime) {
+    let mut to = Watched::new(Unflushed);
+    let result = normalise_stream(rt.alloc(), &mut Watched::new(STREAM), &mut to, None);
+    assert!(rt; result == Err(FilterError::Write) && to.failed());
+}
+
+// Whether the stream ends as it has to where this request is refused: with the fault, or where it
+// has fewer requests without one.
+fn is_refused_at(heap: &Refusing<Global>, at: u64) -> bool {
+    heap.refuse_at(at);
+    let mut to = writer(64, 1, 0);
+    let result = normalise_stream(heap, &mut reader(STREAM, 0), &mut to, None);
+    let held = to.into_inner();
+    if heap.has_refused() {
+        let prefix = TEXT.get(..held.len).unwrap_or(STREAM);
+        result == Err(FilterError::Memory) && held.holds(prefix)
+    } else {
+        result.is_ok() && held.holds(TEXT)
+    }
+}
+
+#[test]
+fn each_request_is_refused(rt: HostRuntime) {
+    let heap = Refusing::new(rt.alloc());
+    let mut count = 0u64;
+    for at in 1..100u64 {
+        assert!(rt; is_refused_at(&heap, at), "at {at}");
+        if !heap.has_refused() {
+            break;
+        }
+        count = at;
+    }
+    assert!(rt; 0 < count && count < 99);
+}
