@@ -37,11 +37,8 @@ impl Task {
 fn limit_in(words: &[String]) -> Option<usize>
     ensures { result ≡ limit_of (map string_bytes words.now) }
 {
-    let (first, rest) = words.split_first()?;
-    let (second, others) = rest.split_first()?;
-    if others.is_empty() && first.as_str() == "--limit" {
-        read_usize(second.as_bytes())
-    } else {
-        None
+    match words {
+        [option, number] if option.as_str() == "--limit" => read_usize(number.as_bytes()),
+        _ => None,
     }
 }
