@@ -6,6 +6,7 @@ use crate::pages::page;
 use crate::queries::query_of;
 use crate::segments::{counted, listed};
 use crate::sixels::{count_of, drawn, written_with};
+use crate::typed::function;
 use crate::words::word;
 use esc_html::is_safe_address;
 use esc_kitty::KittyImage;
@@ -36,7 +37,8 @@ use std::alloc::{AllocError, Global};
 /// - `left`: what is left of the lines of a stream; `left-of-2-by-4`: where 2 rows of 4 columns may
 ///   be written again.
 /// - `refusing`: whether the allocator that refuses a request refuses this alone.
-/// - the words and numbers of `words.rt`, which take no memory.
+/// - the sequences and controls of `typed.rt`, and the words and numbers of `words.rt`, which take
+///   no memory.
 pub fn answer(
     call: &str,
     alloc: Global,
@@ -63,6 +65,7 @@ pub fn answer(
         "left" => left(alloc, heap, input, 32, 200),
         "left-of-2-by-4" => left(alloc, heap, input, 2, 4),
         "safe-address" => format!(in alloc; "{}", is_safe_address(text(input))),
+        "csi" | "esc" | "c0" | "c1" => function(call, alloc, input),
         "refusing" => format!(in alloc; "{}", is_exact(alloc)),
         _ => word(call, alloc, input),
     }

@@ -21,6 +21,7 @@ mod refusals;
 mod row;
 mod segments;
 mod sixels;
+mod typed;
 mod words;
 
 use crate::row::Row;

@@ -38,8 +38,8 @@ pub fn word(call: &str, alloc: Global, input: &[u8]) -> Result<String, AllocErro
     }
 }
 
-// The Debug text and the text of a value.
-fn both<T: Debug + Display + Drop>(alloc: Global, value: T) -> Result<String, AllocError> {
+/// The Debug text and the text of a value.
+pub fn both<T: Debug + Display + Drop>(alloc: Global, value: T) -> Result<String, AllocError> {
     format!(in alloc; "{value:?} {value}")
 }
 
