@@ -1,6 +1,7 @@
 //! Checks of a table.
 use crate::fault::Fault;
 use crate::filtered::check_filtered;
+use crate::holding::check_holding;
 use crate::lengths::check_lengths;
 use crate::limited::check_limited;
 use crate::made::check_made;
@@ -41,8 +42,9 @@ fn check_row(alloc: Global, row: &Row, report: &mut Report) {
     }
 }
 
-// A row is a stream, or one that is read under a limit or filtered, the parts of a command, calls
-// of one parser, streams of several lengths, or streams that are made from numbers.
+// A row is a stream, or one that is read under a limit or filtered, the parts of a command, what
+// holds by name, calls of one parser, streams of several lengths, or streams that are made from
+// numbers.
 fn check_kind(alloc: Global, row: &Row, report: &mut Report) -> Result<(), Fault> {
     if row.has("limit") {
         check_limited(alloc, row, report)
@@ -52,6 +54,8 @@ fn check_kind(alloc: Global, row: &Row, report: &mut Report) -> Result<(), Fault
         check_stream(alloc, row, report)
     } else if row.has("parts") {
         check_parts(alloc, row, report)
+    } else if row.has("holds") {
+        check_holding(alloc, row, report)
     } else if row.has("gives") {
         check_steps(alloc, row, report)
     } else if row.has("times") {
@@ -59,7 +63,7 @@ fn check_kind(alloc: Global, row: &Row, report: &mut Report) -> Result<(), Fault
     } else if row.has("seed") {
         check_made(alloc, row, report)
     } else {
-        Err(Fault("no stream, no parts, no calls, no lengths and no seed"))
+        Err(Fault("no stream, no parts, nothing that holds, no calls, no lengths and no seed"))
     }
 }
 

@@ -6,28 +6,41 @@
 //! `check_rows -` shows the actions of standard input, a line of a row for each.
 #![tactic(auto)]
 
+mod appending;
 mod asked;
+mod asking;
+mod borrowing;
 mod call;
+mod characters;
 mod check;
+mod errors;
+mod events;
 mod fault;
 mod filtered;
 mod firsts;
 mod gathered;
+mod holding;
 mod lengths;
 mod limited;
 mod line;
+mod long;
 mod made;
 mod noise;
+mod normalising;
 mod questions;
 mod random;
 mod reading;
+mod recorder;
 mod report;
 mod row;
+mod sinks;
 mod spelling;
 mod steps;
 mod stream;
+mod streaming;
 mod texts;
 mod unescaped;
+mod watching;
 
 use crate::check::check_table;
 use crate::texts::action_lines;

@@ -2,67 +2,32 @@
 ghost use Rattle.std.specs.Prelude.{◌⊎◌, MatchResult, OnOk, ⊤};
 ghost use Rattle.escape_stream.specs.Borrowed.{HasClearText};
 
+use crate::texts::shown;
 use escape_stream::{
     Action, ActionRef, BorrowingSink, ParseError, Parser, parse_borrowed, parse_borrowed_into,
 };
 use refusing::Refusing;
 use std::alloc::{AllocError, Allocator, Global};
-use std::fmt::{Debug, Write};
-use std::test::Fail;
+use std::fmt::Write;
 
-// Streams, and the Debug text of their borrowed actions.
-static ROWS: [(&[u8], &str); 12] = [
-    (b"", ""),
-    (b"ab", "Text(\"ab\")"),
-    (b"\xc3\xa9\n", "Print('é') Control(LineFeed)"),
-    (
-        b"a\x1b[31mb",
-        "Text(\"a\") Sequence { params: [Integer(31)], parameters_truncated: false, control: 109 } Text(\"b\")",
-    ),
-    (
-        b"\x1b[2J",
-        "Sequence { params: [Integer(2)], parameters_truncated: false, control: 74 }",
-    ),
-    (
-        b"\x1b[H\x1b[m",
-        "Sequence { params: [], parameters_truncated: false, control: 72 } Sgr(Reset)",
-    ),
-    (b"\x1b[1m", "Sgr(Intensity(Bold))"),
-    (b"\x1b[1;3m", "Sgr(Intensity(Bold)) Sgr(Italic(true))"),
-    (
-        b"\x1b[1;31m",
-        "Sequence { params: [Integer(1), P(59), Integer(31)], parameters_truncated: false, control: 109 }",
-    ),
-    (b"\x1b]0;t\x07", "Command([48, 59, 116])"),
-    (
-        b"\x1b]\x1b\\",
-        "Command([]) Owned(Esc(Code(StringTerminator)))",
-    ),
-    (b"\x1bH\x1b[3", "Owned(Esc(Code(HorizontalTabSet)))"),
-];
-
-// How many requests are refused, one in each run. None of the rows asks for more.
+// How many requests are refused, one in each run. No row of a table asks for more.
 const REQUESTS: u64 = 24;
 
-#[test]
-fn actions_are_borrowed(rt: HostRuntime) -> Result<(), Fail> {
-    let alloc = rt.alloc();
-    for (bytes, wanted) in &ROWS {
-        let mut shown = String::new(alloc);
-        let mut is_written = true;
-        parse_borrowed(
-            &mut Parser::new(alloc),
-            bytes,
-            |action|
-                ensures { ⊤ }
-            {
-                let space = if shown.is_empty() { "" } else { " " };
-                is_written &= write!(shown, "{space}{action:?}").is_ok();
-            },
-        )?;
-        assert!(rt; is_written && shown.as_str() == *wanted, "{shown}");
-    }
-    Ok(())
+// Whether these are the Debug texts of the borrowed actions of a stream.
+fn is_shown(alloc: Global, bytes: &[u8], wanted: &str) -> bool {
+    let mut shown = String::new(alloc);
+    let mut is_written = true;
+    let ending = parse_borrowed(
+        &mut Parser::new(alloc),
+        bytes,
+        |action|
+            ensures { ⊤ }
+        {
+            let space = if shown.is_empty() { "" } else { " " };
+            is_written &= write!(shown, "{space}{action:?}").is_ok();
+        },
+    );
+    ending.is_ok() && is_written && shown.as_str() == wanted
 }
 
 // Appends what it is given to a list.
@@ -89,11 +54,6 @@ impl<A: Allocator + Copy> BorrowingSink<Action<A>> for Appending<A> {
     {
         action.append_to(self.alloc, &mut self.actions)
     }
-}
-
-// The Debug text of a value.
-fn shown<T: Debug + Drop>(alloc: Global, value: T) -> Result<String, AllocError> {
-    format!(in alloc; "{value:?}")
 }
 
 // The Debug text of the list of a stream's actions, as a call returns it.
@@ -146,12 +106,13 @@ fn are_always_appended(alloc: Global, bytes: &[u8], meant: &str) -> bool {
     is_right && !heap.has_refused()
 }
 
-#[test]
-fn borrowed_actions_are_the_same(rt: HostRuntime) -> Result<(), Fail> {
-    for (bytes, shown) in &ROWS {
-        let meant = meant(rt.alloc(), bytes)?;
-        let is_right = are_always_appended(rt.alloc(), bytes, meant.as_str());
-        assert!(rt; is_right, "{shown}");
+/// Whether a stream has borrowed actions of these texts, which are its actions where they are
+/// appended.
+pub fn are_borrowed(alloc: Global, bytes: &[u8], wanted: &str) -> bool {
+    match &meant(alloc, bytes) {
+        Ok(meant) => {
+            is_shown(alloc, bytes, wanted) && are_always_appended(alloc, bytes, meant.as_str())
+        }
+        Err(_) => false,
     }
-    Ok(())
 }

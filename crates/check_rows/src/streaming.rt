@@ -4,14 +4,14 @@ use crate::normalising::{STREAM, TEXT, reader, writer};
 use escape_stream::{FilterError, Watched, normalise_stream};
 use refusing::Refusing;
 use refusing::fixed_writer::FixedWriter;
-use std::alloc::{Allocator, Global};
+use std::alloc::Global;
 use std::io;
 use std::io::{ErrorKind, Write};
 
 // Whether the stream, of which each call of the reader gives one byte, and which fails at this
 // call, ends so: with this fault, after so many bytes of the text were written.
-fn ends<A: Allocator + Copy>(
-    alloc: A,
+fn ends(
+    alloc: Global,
     fails_at: usize,
     mut to: Watched<FixedWriter>,
     fault: Option<FilterError>,
@@ -23,20 +23,19 @@ fn ends<A: Allocator + Copy>(
     result.err() == fault && is_held
 }
 
-// The string ends at the sixth byte, and is written before the seventh is read.
-#[test]
-fn slow_and_failing(rt: HostRuntime) {
-    let alloc = rt.alloc();
+/// Whether it ends rightly where a read or a write fails, and where the writer is full. The string
+/// ends at the sixth byte, and is written before the seventh is read.
+pub fn are_stream_faults_told(alloc: Global) -> bool {
     let read = Some(FilterError::Read);
     let write = Some(FilterError::Write);
+    let mut is_right = true;
     for at in 1..9usize {
         let before = if at < 7 { 0 } else { at };
-        let is_read_fault = ends(alloc, at, writer(64, 64, 0), read, before);
-        let is_write_fault = ends(alloc, 0, writer(64, 1, at), write, at - 1);
-        assert!(rt; is_read_fault && is_write_fault, "at {at}");
+        is_right &= ends(alloc, at, writer(64, 64, 0), read, before);
+        is_right &= ends(alloc, 0, writer(64, 1, at), write, at - 1);
     }
-    let is_full = ends(alloc, 0, writer(3, 3, 0), write, 3);
-    assert!(rt; is_full && ends(alloc, 0, writer(64, 1, 0), None, TEXT.len()));
+    is_right &= ends(alloc, 0, writer(3, 3, 0), write, 3);
+    is_right && ends(alloc, 0, writer(64, 1, 0), None, TEXT.len())
 }
 
 // Takes all that is written, and cannot be flushed.
@@ -53,11 +52,11 @@ impl Write for Unflushed {
     }
 }
 
-#[test]
-fn a_flush_that_fails_is_a_write_fault(rt: HostRuntime) {
+/// Whether a flush that fails is a write fault.
+pub fn is_flush_told(alloc: Global) -> bool {
     let mut to = Watched::new(Unflushed);
-    let result = normalise_stream(rt.alloc(), &mut Watched::new(STREAM), &mut to, None);
-    assert!(rt; result == Err(FilterError::Write) && to.failed());
+    let result = normalise_stream(alloc, &mut Watched::new(STREAM), &mut to, None);
+    result == Err(FilterError::Write) && to.failed()
 }
 
 // Whether the stream ends as it has to where this request is refused: with the fault, or where it
@@ -75,16 +74,16 @@ fn is_refused_at(heap: &Refusing<Global>, at: u64) -> bool {
     }
 }
 
-#[test]
-fn each_request_is_refused(rt: HostRuntime) {
-    let heap = Refusing::new(rt.alloc());
-    let mut count = 0u64;
+/// Whether it ends rightly where each of its requests for memory is refused in turn. There are some,
+/// and fewer than a hundred.
+pub fn are_refusals_told(alloc: Global) -> bool {
+    let heap = Refusing::new(alloc);
+    let mut is_right = true;
     for at in 1..100u64 {
-        assert!(rt; is_refused_at(&heap, at), "at {at}");
+        is_right &= is_refused_at(&heap, at);
         if !heap.has_refused() {
-            break;
+            return is_right && at > 1;
         }
-        count = at;
     }
-    assert!(rt; 0 < count && count < 99);
+    false
 }

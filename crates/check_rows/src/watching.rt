@@ -42,11 +42,11 @@ fn failing_reader() -> Watched<ByteReader<'static>> {
     })
 }
 
-#[test]
-fn calls_of_a_reader(rt: HostRuntime) {
+/// Whether the calls of a reader are passed on, and its error is remembered.
+pub fn is_reader_passed_on() -> bool {
     let mut from = failing_reader();
     let is_first = after_call(&mut from) == (None, false);
-    assert!(rt; is_read_on() && is_first && is_remembered(&mut from, ErrorKind::Other));
+    is_first && is_read_on() && is_remembered(&mut from, ErrorKind::Other)
 }
 
 // Reads of a stream, of which the first is interrupted.
@@ -81,10 +81,9 @@ fn is_read_fault(alloc: Global) -> bool {
     result == Err(NormaliseError::Read) && from.failed() && to.into_inner().calls == 0
 }
 
-#[test]
-fn an_interrupted_read_is_a_read_fault(rt: HostRuntime) {
-    let is_interrupted = is_remembered(&mut interrupted_reader(), ErrorKind::Interrupted);
-    assert!(rt; is_interrupted && is_read_fault(rt.alloc()));
+/// Whether an interrupted read is remembered, and is a read fault.
+pub fn is_interruption_told(alloc: Global) -> bool {
+    is_remembered(&mut interrupted_reader(), ErrorKind::Interrupted) && is_read_fault(alloc)
 }
 
 // Whether a writer is given what is written, and flushed.
@@ -111,9 +110,9 @@ fn is_taken(to: &mut Watched<FixedWriter>, bytes: &[u8], count: usize) -> bool {
     }
 }
 
-#[test]
-fn calls_of_a_writer(rt: HostRuntime) {
-    assert!(rt; is_passed_on() && is_full_remembered());
+/// Whether the calls of a writer are passed on, and a full one is remembered.
+pub fn is_writer_passed_on() -> bool {
+    is_passed_on() && is_full_remembered()
 }
 
 // Takes one byte, and fails with this kind of error from then on.
@@ -155,9 +154,9 @@ fn comes_back(kind: ErrorKind) -> bool {
     is_flush && is_first && is_second && is_whole
 }
 
-#[test]
-fn errors_of_a_writer_come_back(rt: HostRuntime) {
-    assert!(rt; comes_back(ErrorKind::BrokenPipe) && comes_back(ErrorKind::TimedOut));
+/// Whether the errors of a writer come back.
+pub fn are_errors_passed_on() -> bool {
+    comes_back(ErrorKind::BrokenPipe) && comes_back(ErrorKind::TimedOut)
 }
 
 const WORD: &[u8] = b"abcd";
@@ -169,14 +168,13 @@ fn is_prefix_held(to: Watched<FixedWriter>, at: usize) -> bool {
     has_failed && held.calls == at && held.holds(WORD.get(..at.saturating_sub(1)).unwrap_or(STREAM))
 }
 
-#[test]
-fn a_writer_that_fails_holds_a_prefix(rt: HostRuntime) {
+/// Whether a writer that fails holds a prefix of what it was to be given.
+pub fn is_prefix_kept() -> bool {
+    let mut is_right = true;
     for at in 1..5usize {
         let (mut whole, mut all) = (writer(64, 1, at), writer(64, 1, at));
-        let is_err = !whole.write_whole(WORD) && all.write_all(WORD).is_err();
-        assert!(rt;
-            is_err && is_prefix_held(whole, at) && is_prefix_held(all, at),
-            "at {at}"
-        );
+        is_right &= !whole.write_whole(WORD) && all.write_all(WORD).is_err();
+        is_right &= is_prefix_held(whole, at) && is_prefix_held(all, at);
     }
+    is_right
 }

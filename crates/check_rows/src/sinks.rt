@@ -39,8 +39,7 @@ fn is_first_taken(alloc: Global) -> bool {
     is_given(alloc, result, sink.action, "Some(Print('a'))")
 }
 
-#[test]
-fn sinks_take_actions(rt: HostRuntime) {
-    let alloc = rt.alloc();
-    assert!(rt; is_collected(alloc) && is_spelled(alloc) && is_first_taken(alloc));
+/// Whether each sink takes them.
+pub fn are_taken(alloc: Global) -> bool {
+    is_collected(alloc) && is_spelled(alloc) && is_first_taken(alloc)
 }

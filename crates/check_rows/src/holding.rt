@@ -1,0 +1,74 @@
+//! Calls that take no stream, and what else is no list of actions: each row names what holds.
+use crate::appending::are_appended;
+use crate::asking::{are_lists_told, are_told};
+use crate::borrowing::are_borrowed;
+use crate::characters::is_first;
+use crate::errors::{are_numbers, are_texts};
+use crate::events::{has_events, is_failed};
+use crate::fault::Fault;
+use crate::long::are_sorted;
+use crate::normalising::{are_faults_told, is_form_told, is_room_used};
+use crate::report::Report;
+use crate::row::Row;
+use crate::sinks::are_taken;
+use crate::streaming::{are_refusals_told, are_stream_faults_told, is_flush_told};
+use crate::watching::{
+    are_errors_passed_on, is_interruption_told, is_prefix_kept, is_reader_passed_on,
+    is_writer_passed_on,
+};
+use std::alloc::Global;
+
+/// Notes a row where it does not hold.
+pub fn check_holding(alloc: Global, row: &Row, report: &mut Report) -> Result<(), Fault> {
+    let holds = row.text(alloc, "holds")?;
+    let input = row.bytes(alloc, "input")?;
+    let gives = row.text(alloc, "gives")?;
+    if !does_hold(alloc, holds.as_str(), &input, gives.as_str()) {
+        report.note(row.name, "it does not hold");
+    }
+    Ok(())
+}
+
+// Whether what has this name holds, of an input and what it gives, where there is one.
+fn does_hold(alloc: Global, name: &str, input: &[u8], gives: &str) -> bool {
+    match name {
+        "events" => has_events(alloc, input, gives, true),
+        "events-in-place" => has_events(alloc, input, gives, false),
+        "borrowed" => are_borrowed(alloc, input, gives),
+        "first-character" => is_first(alloc, input, gives),
+        _ => does_hold_alone(alloc, name),
+    }
+}
+
+// The same of what takes no input.
+fn does_hold_alone(alloc: Global, name: &str) -> bool {
+    match name {
+        "failed" => is_failed(alloc),
+        "appended" => are_appended(alloc),
+        "writable" => are_told(alloc),
+        "writable-lists" => are_lists_told(alloc),
+        "sorted" => are_sorted(alloc),
+        "sinks" => are_taken(alloc),
+        "errors" => are_texts(alloc),
+        "codes" => are_numbers(),
+        "normal-faults" => are_faults_told(alloc),
+        "normal-room" => is_room_used(alloc),
+        "normal-form" => is_form_told(alloc),
+        "streamed-faults" => are_stream_faults_told(alloc),
+        "streamed-flush" => is_flush_told(alloc),
+        "streamed-refusals" => are_refusals_told(alloc),
+        _ => is_passed_on(alloc, name),
+    }
+}
+
+// The same of calls through `Watched`.
+fn is_passed_on(alloc: Global, name: &str) -> bool {
+    match name {
+        "watched-reader" => is_reader_passed_on(),
+        "watched-interruption" => is_interruption_told(alloc),
+        "watched-writer" => is_writer_passed_on(),
+        "watched-errors" => are_errors_passed_on(),
+        "watched-prefix" => is_prefix_kept(),
+        _ => false,
+    }
+}
