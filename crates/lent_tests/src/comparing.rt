@@ -8,9 +8,7 @@ use esc_frame::VTParser;
 use esc_lent::event::{APC, DATA, DCS, EscEvent, LIMIT_PASSED, NONE, OSC, TEXT};
 use esc_lent::next::next;
 use esc_lent::parser::EscParser;
-use std::alloc::{AllocError, Global};
-use std::process::Abort;
-use std::test::Fail;
+use std::alloc::Global;
 
 // The text of an event in the upper half of the buffer.
 fn text_of<'a>(event: &EscEvent, buffer: &'a [u8]) -> &'a [u8] {
@@ -35,81 +33,77 @@ fn run_of<'a>(event: &EscEvent, bytes: &'a [u8]) -> &'a [u8] {
 }
 
 // Feeds a piece.
-fn feed(
-    parser: &mut EscParser,
-    buffer: &mut [u8],
-    piece: &[u8],
-    log: &mut Log,
-) -> Result<(), AllocError> {
+fn feed(parser: &mut EscParser, buffer: &mut [u8], piece: &[u8], log: &mut Log) {
     let mut event = EscEvent::new();
     let mut rest = piece;
     for _ in 0..100_000 {
         let taken = next(parser, buffer, rest, &mut event);
         if event.kind == NONE {
-            return Ok(());
+            return;
         }
-        if event.kind == LIMIT_PASSED {
-            rest = &rest[taken..];
-            continue;
+        if event.kind != LIMIT_PASSED {
+            log.note(&event, text_of(&event, buffer), run_of(&event, rest));
         }
-        log.note(&event, text_of(&event, buffer), run_of(&event, rest))?;
         rest = &rest[taken..];
     }
-    Ok(())
 }
 
-// The events of the stream, in pieces of this size, over this buffer.
-fn by_pieces(
-    alloc: Global,
-    stream: &[u8],
-    size: usize,
-    buffer: &mut [u8],
-) -> Result<Log, AllocError>
+// The events of the stream, in pieces of this size.
+fn by_pieces(alloc: Global, stream: &[u8], size: usize) -> Log
     requires { 0 < size }
 {
     let mut log = Log::new(alloc);
     let mut parser = EscParser::new();
+    let mut buffer = [0; 64];
     for piece in stream.chunks(size) {
-        feed(&mut parser, buffer, piece, &mut log)?;
+        feed(&mut parser, &mut buffer, piece, &mut log);
     }
-    Ok(log)
+    log
 }
 
 // The events of the stream, whole.
-fn by_parser(alloc: Global, stream: &[u8], limit: usize) -> Result<Log, Fail> {
+fn by_parser(alloc: Global, stream: &[u8]) -> Log {
     let mut log = Log::new(alloc);
-    let mut parser = VTParser::with_limit(alloc, limit);
-    parser.parse(stream, &mut log)?;
-    Ok(log)
+    let mut parser = VTParser::with_limit(alloc, 32);
+    if parser.parse(stream, &mut log).is_err() {
+        log.is_refused = true;
+    }
+    log
 }
 
-// Both are the same, in pieces of each size.
-fn compare(rt: &impl Abort, alloc: Global, stream: &[u8]) -> Result<(), Fail> {
-    let wanted = by_parser(alloc, stream, 32)?;
-    for size in 1..=40 {
-        let mut buffer = [0; 64];
-        let found = by_pieces(alloc, stream, size, &mut buffer)?;
-        assert!(rt;
-            found.items.as_slice() == wanted.items.as_slice(),
-            "pieces of {size} of {stream:?}"
-        );
+// Whether two logs have the same, and all of it.
+fn is_same(one: &Log, other: &Log) -> bool {
+    !one.is_refused && !other.is_refused && one.items.as_slice() == other.items.as_slice()
+}
+
+// Whether both are the same, in pieces of each size.
+fn is_same_in_pieces(alloc: Global, stream: &[u8]) -> bool {
+    let wanted = by_parser(alloc, stream);
+    let mut is_right = true;
+    for size in 1..=40usize {
+        is_right = is_right && is_same(&by_pieces(alloc, stream, size), &wanted);
     }
-    Ok(())
+    is_right
 }
 
 #[test]
-fn in_pieces(rt: HostRuntime) -> Result<(), Fail> {
+fn in_pieces(rt: HostRuntime) {
     for stream in &STREAMS {
-        compare(&rt, rt.alloc(), stream)?;
+        assert!(rt; is_same_in_pieces(rt.alloc(), stream), "{stream:?}");
     }
-    Ok(())
+}
+
+// The same of the noise of this number.
+fn is_noise_same(alloc: Global, seed: u64) -> bool {
+    match &noise(alloc, seed, 60) {
+        Ok(stream) => is_same_in_pieces(alloc, stream),
+        Err(_) => false,
+    }
 }
 
 #[test]
-fn of_noise(rt: HostRuntime) -> Result<(), Fail> {
-    for seed in 0..400 {
-        let stream = noise(rt.alloc(), seed, 60)?;
-        compare(&rt, rt.alloc(), &stream)?;
+fn of_noise(rt: HostRuntime) {
+    for seed in 0..400u64 {
+        assert!(rt; is_noise_same(rt.alloc(), seed), "seed {seed}");
     }
-    Ok(())
 }

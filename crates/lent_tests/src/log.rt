@@ -8,117 +8,128 @@ use esc_lent::event::{
 use esc_values::csi_param::CsiParam;
 use std::alloc::{AllocError, Allocator, Global};
 
+/// What was noted of each event, and whether memory was refused for some of it.
 #[derive(Drop)]
 pub struct Log {
     pub items: Vec<i64>,
+    pub is_refused: bool,
 }
 
 impl Log {
+    /// Nothing yet.
     pub fn new(alloc: Global) -> Log {
         Log {
             items: Vec::new(alloc),
+            is_refused: false,
         }
     }
 
-    fn add(&mut self, item: i64) -> Result<(), AllocError> {
-        self.items.push(item)?;
-        Ok(())
+    fn add(&mut self, item: i64) {
+        if self.items.push(item).is_err() {
+            self.is_refused = true;
+        }
     }
 
-    fn put(&mut self, item: u32) -> Result<(), AllocError> {
-        self.add(item as i64)
+    fn put(&mut self, kind: u32, value: u32) {
+        self.add(i64::from(kind));
+        self.add(i64::from(value));
     }
 
-    fn put_bytes(&mut self, bytes: &[u8]) -> Result<(), AllocError> {
+    fn put_bytes(&mut self, bytes: &[u8]) {
         for b in bytes {
-            self.add(*b as i64)?;
+            self.add(i64::from(*b));
         }
-        self.add(-1)
+        self.add(-1);
     }
 
-    fn put_more(&mut self, has_more: bool) -> Result<(), AllocError> {
-        if has_more { self.add(-2) } else { Ok(()) }
+    // What an escape sequence, and a device control string, has beside its final byte.
+    fn put_intermediates(&mut self, bytes: &[u8], has_more: bool) {
+        self.put_bytes(bytes);
+        self.add(i64::from(has_more));
     }
 
-    fn put_character(&mut self, c: u32) -> Result<(), AllocError> {
-        self.put(CHARACTER)?;
-        self.put(c)
+    /// Notes an event of a call, where its text and its run are these.
+    pub fn note(&mut self, event: &EscEvent, text: &[u8], run: &[u8]) {
+        match event.kind {
+            TEXT => self.note_text(run),
+            DATA => self.note_data(run),
+            DCS_END => self.put(DCS_END, 0),
+            OSC | APC => self.note_string(event.kind, text),
+            DCS => self.note_header(event.byte, text, kept(event), event.has_more),
+            ESCAPE => self.note_escape(event.byte, kept(event), event.has_more),
+            CSI => self.note_sequence(event),
+            kind => self.put(kind, event.byte),
+        }
     }
 
-    fn put_data(&mut self, b: u32) -> Result<(), AllocError> {
-        self.put(DATA_BYTE)?;
-        self.put(b)
-    }
-
-    // An event of a call, where its text and its run are these.
-    pub fn note(&mut self, event: &EscEvent, text: &[u8], run: &[u8]) -> Result<(), AllocError> {
-        if event.kind == TEXT {
-            return self.note_text(run);
-        }
-        if event.kind == DATA {
-            for b in run {
-                self.put_data(*b as u32)?;
-            }
-            return Ok(());
-        }
-        self.put(event.kind)?;
-        if event.kind != DCS_END && event.kind != OSC && event.kind != APC {
-            self.put(event.byte)?;
-        }
-        if event.kind == CSI {
-            self.note_csi_params(event)?;
-        }
-        if event.kind == OSC || event.kind == APC || event.kind == DCS {
-            self.put_bytes(text)?;
-        }
-        if event.kind == ESCAPE || event.kind == DCS {
-            let kept = event.kept.min(2);
-            self.put_bytes(&event.intermediates[..kept])?;
-        }
-        if event.kind == ESCAPE || event.kind == DCS || event.kind == CSI {
-            self.put_more(event.has_more)?;
-        }
-        Ok(())
-    }
-
-    fn note_text(&mut self, run: &[u8]) -> Result<(), AllocError> {
+    fn note_text(&mut self, run: &[u8]) {
         match std::str::from_utf8(run) {
             Ok(text) => {
                 for c in text.chars() {
-                    self.put_character(c as u32)?;
+                    self.put(CHARACTER, c as u32);
                 }
-                Ok(())
             }
             Err(_) => self.add(-3),
         }
     }
 
-    fn note_csi_params(&mut self, event: &EscEvent) -> Result<(), AllocError> {
-        let count = event.count.min(256);
-        for entry in &event.csi_params[..count] {
+    fn note_data(&mut self, run: &[u8]) {
+        for b in run {
+            self.put(DATA_BYTE, u32::from(*b));
+        }
+    }
+
+    fn note_escape(&mut self, byte: u32, intermediates: &[u8], has_more: bool) {
+        self.put(ESCAPE, byte);
+        self.put_intermediates(intermediates, has_more);
+    }
+
+    fn note_sequence(&mut self, event: &EscEvent) {
+        self.put(CSI, event.byte);
+        for entry in &event.csi_params[..event.count.min(256)] {
             if entry.is_byte {
-                self.put(1)?;
-                self.put(entry.byte as u32)?;
+                self.put(1, entry.byte as u32);
             } else {
-                self.put(0)?;
-                self.add(entry.number)?;
+                self.note_number(entry.number);
             }
         }
-        self.add(-1)
+        self.add(i64::from(event.has_more));
+    }
+
+    fn note_number(&mut self, number: i64) {
+        self.add(-2);
+        self.add(number);
+    }
+
+    fn note_string(&mut self, kind: u32, text: &[u8]) {
+        self.put(kind, 0);
+        self.put_bytes(text);
+    }
+
+    fn note_header(&mut self, byte: u32, parameters: &[u8], others: &[u8], has_more: bool) {
+        self.put(DCS, byte);
+        self.put_bytes(parameters);
+        self.put_intermediates(others, has_more);
     }
 }
 
+// The intermediates of an event.
+fn kept(event: &EscEvent) -> &[u8] {
+    &event.intermediates[..event.kept.min(2)]
+}
+
+// What an event of a parser is noted as. Memory that is refused ends no call: the log says at its
+// end whether it has all.
 impl Log {
-    fn note_osc(&mut self, text: &[u8]) -> Result<(), AllocError>
+    fn take_command(&mut self, text: &[u8]) -> Result<(), AllocError>
         ensures { (e : Event)
             → Receives (λ _ _ _. Unit {0}) (λ _ _ _. Unit {0}) result self.old e self.new }
     {
-        self.put(OSC)?;
-        self.put_bytes(text)?;
+        self.note_string(OSC, text);
         Ok(())
     }
 
-    fn note_header(
+    fn take_header(
         &mut self,
         byte: u8,
         parameters: &[u8],
@@ -128,11 +139,7 @@ impl Log {
         ensures { (e : Event)
             → Receives (λ _ _ _. Unit {0}) (λ _ _ _. Unit {0}) result self.old e self.new }
     {
-        self.put(DCS)?;
-        self.put(byte as u32)?;
-        self.put_bytes(parameters)?;
-        self.put_bytes(intermediates)?;
-        self.put_more(has_more)?;
+        self.note_header(u32::from(byte), parameters, intermediates, has_more);
         Ok(())
     }
 }
@@ -147,12 +154,13 @@ impl VTActor for Log {
     ghost may = { λ _ _. Unit {0} };
 
     fn print(&mut self, c: char) -> Result<(), AllocError> {
-        self.put_character(c as u32)
+        self.put(CHARACTER, c as u32);
+        Ok(())
     }
 
     fn execute_c0_or_c1(&mut self, control: u8) -> Result<(), AllocError> {
-        self.put(CONTROL)?;
-        self.put(control as u32)
+        self.put(CONTROL, u32::from(control));
+        Ok(())
     }
 
     fn dcs_hook(
@@ -174,15 +182,17 @@ impl VTActor for Log {
         intermediates: &[u8],
         ignored_extra_intermediates: bool,
     ) -> Result<(), AllocError> {
-        self.note_header(byte, parameters, intermediates, ignored_extra_intermediates)
+        self.take_header(byte, parameters, intermediates, ignored_extra_intermediates)
     }
 
     fn dcs_put(&mut self, byte: u8) -> Result<(), AllocError> {
-        self.put_data(byte as u32)
+        self.put(DATA_BYTE, u32::from(byte));
+        Ok(())
     }
 
     fn dcs_unhook(&mut self) -> Result<(), AllocError> {
-        self.put(DCS_END)
+        self.put(DCS_END, 0);
+        Ok(())
     }
 
     fn esc_dispatch(
@@ -192,10 +202,8 @@ impl VTActor for Log {
         ignored_extra_intermediates: bool,
         byte: u8,
     ) -> Result<(), AllocError> {
-        self.put(ESCAPE)?;
-        self.put(byte as u32)?;
-        self.put_bytes(intermediates)?;
-        self.put_more(ignored_extra_intermediates)
+        self.note_escape(u32::from(byte), intermediates, ignored_extra_intermediates);
+        Ok(())
     }
 
     fn csi_dispatch(
@@ -204,27 +212,20 @@ impl VTActor for Log {
         parameters_truncated: bool,
         byte: u8,
     ) -> Result<(), AllocError> {
-        self.put(CSI)?;
-        self.put(byte as u32)?;
+        self.put(CSI, u32::from(byte));
         for param in params {
             match *param {
-                CsiParam::Integer(number) => {
-                    self.put(0)?;
-                    self.add(number)?;
-                }
-                CsiParam::P(b) => {
-                    self.put(1)?;
-                    self.put(b as u32)?;
-                }
+                CsiParam::Integer(number) => self.note_number(number),
+                CsiParam::P(b) => self.put(1, u32::from(b)),
             }
         }
-        self.add(-1)?;
-        self.put_more(parameters_truncated)
+        self.add(i64::from(parameters_truncated));
+        Ok(())
     }
 
     #[tactic(auto, using(esc_lent::proofs::Folds::receives_both))]
     fn osc_text<A: Allocator>(&mut self, _alloc: A, text: &[u8]) -> Result<(), AllocError> {
-        self.note_osc(text)
+        self.take_command(text)
     }
 
     fn osc_dispatch(&mut self, _params: &[&[u8]]) -> Result<(), AllocError> {
@@ -232,7 +233,7 @@ impl VTActor for Log {
     }
 
     fn apc_dispatch(&mut self, text: &[u8]) -> Result<(), AllocError> {
-        self.put(APC)?;
-        self.put_bytes(text)
+        self.note_string(APC, text);
+        Ok(())
     }
 }
