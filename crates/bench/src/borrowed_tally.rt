@@ -7,7 +7,7 @@ use escape_stream::ActionRef;
 
 /// Counts the borrowed actions that it is given, and adds up the bytes of their texts and how many
 /// parameters they have.
-#[derive(Drop)]
+#[derive(Clone, Copy)]
 pub struct BorrowedTally {
     number: u64,
     total: u64,

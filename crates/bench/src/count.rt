@@ -7,7 +7,7 @@ use std::fmt;
 
 /// Counts the events that it is given, and adds up what is in them, so that no part of the work can
 /// be left out.
-#[derive(Drop)]
+#[derive(Clone, Copy)]
 pub struct Count {
     characters: u64,
     controls: u64,
@@ -60,25 +60,23 @@ impl Count {
 
 impl fmt::Display for Count {
     fn fmt<W: fmt::Write>(&self, f: &mut fmt::Formatter<W>) -> fmt::Result {
-        write!(
-            f,
-            "{} characters, {} controls, {} escapes, ",
-            self.characters, self.controls, self.escapes
-        )?;
-        write!(
-            f,
-            "{} CSI of {} entries, {} OSC of {} parts, ",
-            self.control_sequences, self.csi_params, self.commands, self.parts
-        )?;
-        write!(
-            f,
-            "{} DCS of {} bytes, {} APC of {} bytes, total {}",
-            self.device_strings,
-            self.device_bytes,
-            self.program_commands,
-            self.program_bytes,
-            self.total
-        )
+        let numbers = [
+            (self.characters, " characters, "),
+            (self.controls, " controls, "),
+            (self.escapes, " escapes, "),
+            (self.control_sequences, " CSI of "),
+            (self.csi_params, " entries, "),
+            (self.commands, " OSC of "),
+            (self.parts, " parts, "),
+            (self.device_strings, " DCS of "),
+            (self.device_bytes, " bytes, "),
+            (self.program_commands, " APC of "),
+            (self.program_bytes, " bytes, total "),
+        ];
+        for (number, words) in numbers {
+            write!(f, "{number}{words}")?;
+        }
+        self.total.fmt(f)
     }
 }
 

@@ -4,7 +4,7 @@ use crate::count::Count;
 use std::fmt;
 
 /// What a pass counted.
-#[derive(Drop)]
+#[derive(Clone, Copy)]
 pub enum Counted {
     /// Events.
     Events(Count),

@@ -21,62 +21,102 @@ use crate::input::Input;
 use crate::measure::Measure;
 use crate::speed::Speed;
 use crate::wanted::Wanted;
-use anyhow::Result;
-use std::env;
+use escape_stream::{Action, ParseError, Parser};
+use std::alloc::Global;
 use std::io::Read;
 use std::process::ExitCode;
 use std::time::Instant;
+use std::{env, io};
 
 /// How often each measure is taken.
 const PASSES: u32 = 5;
 
-fn main(rt: HostRuntime) -> Result<ExitCode> {
-    let Some(wanted) = arguments(&rt)? else {
+fn main(rt: HostRuntime) -> io::Result<ExitCode> {
+    let mut wanted = Wanted::new();
+    for word in env::args(&rt)?.skip(1) {
+        wanted.take(word.as_str());
+    }
+    if !wanted.is_known {
         eprintln!(rt;
             "usage: bench [--counts] [MEASURE..] < STREAM; docs/PERFORMANCE.md names the measures"
         )?;
         return Ok(ExitCode::from(2));
-    };
+    }
+    let is_taken = take_all(&rt, wanted)?;
+    Ok(ExitCode::from(u8::from(!is_taken)))
+}
+
+/// Takes the measures of standard input. False where a call fails.
+fn take_all(rt: &HostRuntime, wanted: Wanted) -> io::Result<bool> {
     let mut bytes = Vec::new(rt.alloc());
     rt.stdin().read_to_end(&mut bytes)?;
-    let input = Input::new(
-        rt.alloc(),
-        bytes,
-        wanted.measures.contains(&Measure::Encode),
-    )?;
-    for measure in &wanted.measures {
-        report(&rt, *measure, &input, wanted.with_speed)?;
-    }
-    Ok(ExitCode::from(0))
-}
-
-/// What the words after the program's name ask for.
-fn arguments(rt: &HostRuntime) -> Result<Option<Wanted>> {
-    let mut wanted = Wanted::new(rt.alloc());
-    for word in env::args(rt)?.skip(1) {
-        if !wanted.take(&word)? {
-            return Ok(None);
+    let listed = if wanted.with_actions || !wanted.is_named {
+        bytes.as_slice()
+    } else {
+        b""
+    };
+    match &actions_of(rt.alloc(), listed) {
+        Ok(actions) => report_all(
+            rt,
+            wanted,
+            Input {
+                bytes: &bytes,
+                actions,
+            },
+        ),
+        Err(error) => {
+            eprintln!(rt; "{error}")?;
+            Ok(false)
         }
     }
-    wanted.fill()?;
-    Ok(Some(wanted))
 }
 
-/// Takes a measure several times, and prints its best speed and what it counted.
-fn report(rt: &HostRuntime, measure: Measure, input: &Input, with_speed: bool) -> Result<()> {
+fn actions_of(alloc: Global, stream: &[u8]) -> Result<Vec<Action>, ParseError> {
+    Parser::new(alloc).parse_as_vec(stream)
+}
+
+/// Reports the measures that are named, all where none is. False where a call fails.
+fn report_all(rt: &HostRuntime, wanted: Wanted, input: Input<'_>) -> io::Result<bool> {
+    let mut is_taken = true;
+    if !wanted.is_named {
+        for measure in Measure::ALL {
+            is_taken &= report(rt, measure, input, wanted.with_speed)?;
+        }
+        return Ok(is_taken);
+    }
+    for word in env::args(rt)?.skip(1) {
+        if let Some(measure) = Measure::named(word.as_str()) {
+            is_taken &= report(rt, measure, input, wanted.with_speed)?;
+        }
+    }
+    Ok(is_taken)
+}
+
+/// Takes a measure several times, and prints its best speed and what it counted. False where a call
+/// fails.
+fn report(
+    rt: &HostRuntime,
+    measure: Measure,
+    input: Input<'_>,
+    with_speed: bool,
+) -> io::Result<bool> {
     let mut best = u64::MAX;
-    let mut counted = measure.pass(rt.alloc(), input)?;
+    let mut counted = measure.pass(rt.alloc(), input);
     for _ in 0..PASSES {
         let start = Instant::now(rt)?;
-        counted = measure.pass(rt.alloc(), input)?;
+        counted = measure.pass(rt.alloc(), input);
         let nanoseconds = start.elapsed(rt)?.as_nanos();
         best = best.min(u64::try_from(nanoseconds).unwrap_or(u64::MAX));
     }
+    let Some(counted) = counted else {
+        eprintln!(rt; "{measure} fails")?;
+        return Ok(false);
+    };
     if with_speed {
         let speed = Speed::of(measure.bytes(input), best);
         println!(rt; "{measure} {speed} MB/s, {counted}")?;
     } else {
         println!(rt; "{measure} {counted}")?;
     }
-    Ok(())
+    Ok(true)
 }

@@ -7,7 +7,6 @@ use crate::counted::Counted;
 use crate::images::Images;
 use crate::input::Input;
 use crate::tally::Tally;
-use anyhow::Result;
 use esc_frame::parser::VTParser;
 use escape_stream::{Action, Parser, Watched, encode, normalise, parse_borrowed};
 use reusing::Reusing;
@@ -63,6 +62,16 @@ impl Measure {
         Measure::Endless,
     ];
 
+    /// The measure that a word asks for.
+    pub fn named(word: &str) -> Option<Measure> {
+        for measure in Measure::ALL {
+            if word == measure.name() {
+                return Some(measure);
+            }
+        }
+        None
+    }
+
     /// The word that asks for it.
     pub fn name(self) -> &'static str {
         match self {
@@ -80,25 +89,25 @@ impl Measure {
         }
     }
 
-    /// Does the work once, and says what it counted.
-    pub fn pass(self, alloc: Global, input: &Input) -> Result<Counted> {
+    /// Does the work once, and says what it counted. None where a call fails.
+    pub fn pass(self, alloc: Global, input: Input<'_>) -> Option<Counted> {
         match self {
-            Measure::Framing => framing(alloc, &input.bytes),
-            Measure::Parse => parse(alloc, &input.bytes),
-            Measure::ParseBorrowed => borrowed(alloc, &input.bytes),
-            Measure::ParseReusing => reusing(alloc, &input.bytes),
-            Measure::ParseFirst => first_actions(alloc, &input.bytes),
-            Measure::ParseFirstAsVec => prefixes(alloc, &input.bytes),
-            Measure::ParseFirstInto => appended(alloc, &input.bytes),
-            Measure::Encode => Ok(Counted::Bytes(encode(alloc, &input.actions)?.len())),
-            Measure::Normalise => normal(alloc, &input.bytes),
-            Measure::Images => images(alloc, &input.bytes),
-            Measure::Endless => endless(alloc, &input.bytes),
+            Measure::Framing => framing(alloc, input.bytes),
+            Measure::Parse => parse(alloc, input.bytes),
+            Measure::ParseBorrowed => borrowed(alloc, input.bytes),
+            Measure::ParseReusing => reusing(alloc, input.bytes),
+            Measure::ParseFirst => first_actions(alloc, input.bytes),
+            Measure::ParseFirstAsVec => prefixes(alloc, input.bytes),
+            Measure::ParseFirstInto => appended(alloc, input.bytes),
+            Measure::Encode => encoded(alloc, input.actions),
+            Measure::Normalise => normal(alloc, input.bytes),
+            Measure::Images => images(alloc, input.bytes),
+            Measure::Endless => endless(alloc, input.bytes),
         }
     }
 
     /// How many bytes a pass reads.
-    pub fn bytes(self, input: &Input) -> usize {
+    pub fn bytes(self, input: Input<'_>) -> usize {
         let bytes = input.bytes.len();
         if self == Measure::Endless {
             bytes.saturating_mul(TIMES)
@@ -114,86 +123,98 @@ impl fmt::Display for Measure {
     }
 }
 
-fn framing(alloc: Global, bytes: &[u8]) -> Result<Counted> {
-    let mut parser = VTParser::new(alloc);
+// What was counted, where no call failed.
+fn ended<E: Drop>(ending: Result<(), E>, counted: Counted) -> Option<Counted> {
+    match ending {
+        Ok(()) => Some(counted),
+        Err(_) => None,
+    }
+}
+
+fn framing(alloc: Global, bytes: &[u8]) -> Option<Counted> {
     let mut count = Count::new();
-    parser.parse(bytes, &mut count)?;
-    Ok(Counted::Events(count))
+    let ending = VTParser::new(alloc).parse(bytes, &mut count);
+    ended(ending, Counted::Events(count))
 }
 
-fn parse(alloc: Global, bytes: &[u8]) -> Result<Counted> {
+fn parse(alloc: Global, bytes: &[u8]) -> Option<Counted> {
     let mut tally = Tally::new();
-    let mut parser = Parser::new(alloc);
-    parser.parse(bytes, |action| tally.add(action))?;
-    Ok(tally.counted())
+    let ending = Parser::new(alloc).parse(bytes, |action| tally.add(action));
+    ended(ending, tally.counted())
 }
 
-fn borrowed(alloc: Global, bytes: &[u8]) -> Result<Counted> {
+fn borrowed(alloc: Global, bytes: &[u8]) -> Option<Counted> {
     let mut tally = BorrowedTally::new();
-    let mut parser = Parser::new(alloc);
-    parse_borrowed(
-        &mut parser,
+    let ending = parse_borrowed(
+        &mut Parser::new(alloc),
         bytes,
         |action|
             ensures { ⊤ }
         {
             tally.add(action);
         },
-    )?;
-    Ok(tally.counted())
+    );
+    ended(ending, tally.counted())
 }
 
-fn reusing(alloc: Global, bytes: &[u8]) -> Result<Counted> {
+fn reusing(alloc: Global, bytes: &[u8]) -> Option<Counted> {
     let memory = Reusing::new(alloc);
-    let mut parser = Parser::new(&memory);
-    let (result, tally) = parser.parse_into(bytes, Tally::new());
-    result?;
-    Ok(tally.counted())
+    let (ending, tally) = Parser::new(&memory).parse_into(bytes, Tally::new());
+    ended(ending, tally.counted())
 }
 
-fn first_actions(alloc: Global, bytes: &[u8]) -> Result<Counted> {
+fn first_actions(alloc: Global, bytes: &[u8]) -> Option<Counted> {
     let mut tally = Tally::new();
     let mut parser = Parser::new(alloc);
     let mut rest = bytes;
     while !rest.is_empty() {
-        let Some((action, len)) = parser.parse_first(rest)? else {
-            break;
-        };
-        tally.add(action);
-        rest = &rest[len..];
-    }
-    Ok(tally.counted())
-}
-
-fn prefixes(alloc: Global, bytes: &[u8]) -> Result<Counted> {
-    let mut tally = Tally::new();
-    let mut parser = Parser::new(alloc);
-    let mut rest = bytes;
-    while !rest.is_empty() {
-        let Some((actions, len)) = parser.parse_first_as_vec(rest)? else {
-            break;
-        };
-        for action in actions {
-            tally.add(action);
+        match parser.parse_first(rest) {
+            Ok(Some((action, len))) => {
+                tally.add(action);
+                rest = &rest[len..];
+            }
+            Ok(None) => break,
+            Err(_) => return None,
         }
-        rest = &rest[len..];
     }
-    Ok(tally.counted())
+    Some(tally.counted())
 }
 
-fn appended(alloc: Global, bytes: &[u8]) -> Result<Counted> {
+fn prefixes(alloc: Global, bytes: &[u8]) -> Option<Counted> {
+    let mut tally = Tally::new();
+    let mut parser = Parser::new(alloc);
+    let mut rest = bytes;
+    while !rest.is_empty() {
+        match parser.parse_first_as_vec(rest) {
+            Ok(Some((actions, len))) => {
+                for action in actions {
+                    tally.add(action);
+                }
+                rest = &rest[len..];
+            }
+            Ok(None) => break,
+            Err(_) => return None,
+        }
+    }
+    Some(tally.counted())
+}
+
+fn appended(alloc: Global, bytes: &[u8]) -> Option<Counted> {
     let mut tally = Tally::new();
     let mut parser = Parser::new(alloc);
     let mut actions = Vec::new(alloc);
     let mut rest = bytes;
     while !rest.is_empty() {
-        let Some(len) = parser.parse_first_into(rest, &mut actions)? else {
-            break;
-        };
-        count(&mut actions, &mut tally);
-        rest = &rest[len..];
+        match parser.parse_first_into(rest, &mut actions) {
+            Ok(Some(len)) => {
+                count(&mut actions, &mut tally);
+                rest = &rest[len..];
+            }
+            Ok(None) => break,
+            Err(_) => return None,
+        }
     }
-    Ok(tally.counted())
+    Some(tally.counted())
 }
 
 // Counts the actions, and leaves the list empty.
@@ -204,26 +225,31 @@ fn count(actions: &mut Vec<Action>, tally: &mut Tally) {
     }
 }
 
-fn normal(alloc: Global, bytes: &[u8]) -> Result<Counted> {
-    let mut reader = Watched::new(bytes);
+fn encoded(alloc: Global, actions: &[Action]) -> Option<Counted> {
+    match encode(alloc, actions) {
+        Ok(text) => Some(Counted::Bytes(text.len())),
+        Err(_) => None,
+    }
+}
+
+fn normal(alloc: Global, bytes: &[u8]) -> Option<Counted> {
     let mut writer = Watched::new(Vec::new(alloc));
-    normalise(alloc, &mut reader, &mut writer)?;
-    Ok(Counted::Bytes(writer.into_inner().len()))
+    let ending = normalise(alloc, &mut Watched::new(bytes), &mut writer);
+    ended(ending, Counted::Bytes(writer.into_inner().len()))
 }
 
-fn images(alloc: Global, bytes: &[u8]) -> Result<Counted> {
-    let mut parser = VTParser::new(alloc);
+fn images(alloc: Global, bytes: &[u8]) -> Option<Counted> {
     let mut images = Images::new(alloc);
-    parser.parse(bytes, &mut images)?;
-    Ok(images.counted())
+    let ending = VTParser::new(alloc).parse(bytes, &mut images);
+    ended(ending, images.counted())
 }
 
-fn endless(alloc: Global, bytes: &[u8]) -> Result<Counted> {
+fn endless(alloc: Global, bytes: &[u8]) -> Option<Counted> {
     let mut tally = Tally::new();
     let mut parser = Parser::with_limit(alloc, LIMIT);
-    parser.parse(b"\x1b]0;", |action| tally.add(action))?;
+    let mut ending = parser.parse(b"\x1b]0;", |action| tally.add(action));
     for _ in 0..TIMES {
-        parser.parse(bytes, |action| tally.add(action))?;
+        ending = parser.parse(bytes, |action| tally.add(action));
     }
-    Ok(tally.counted())
+    ended(ending, tally.counted())
 }

@@ -8,7 +8,7 @@ use std::alloc::{AllocError, Allocator};
 
 /// Counts the actions that it is given, and adds up their characters, so that no part of the work
 /// can be left out.
-#[derive(Drop)]
+#[derive(Clone, Copy)]
 pub struct Tally {
     number: u64,
     total: u64,

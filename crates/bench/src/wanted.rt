@@ -1,46 +1,40 @@
 //! What a run is asked for.
 
 use crate::measure::Measure;
-use std::alloc::{AllocError, Global};
 
-/// What a run is to measure.
-#[derive(Drop)]
+/// What the words of the command line ask for.
+#[derive(Clone, Copy)]
 pub struct Wanted {
-    /// The measures, in the order in which they were named.
-    pub measures: Vec<Measure>,
     /// Are the speeds printed?
     pub with_speed: bool,
+    /// Is a measure named?
+    pub is_named: bool,
+    /// Are the actions of the stream wanted?
+    pub with_actions: bool,
+    /// Is each word known?
+    pub is_known: bool,
 }
 
 impl Wanted {
-    /// Nothing yet, with its speed.
-    pub fn new(alloc: Global) -> Wanted {
+    /// What no word asks for.
+    pub fn new() -> Wanted {
         Wanted {
-            measures: Vec::new(alloc),
             with_speed: true,
+            is_named: false,
+            with_actions: false,
+            is_known: true,
         }
     }
 
-    /// Takes a word of the command line. False where it is none that is known.
-    pub fn take(&mut self, word: &str) -> Result<bool, AllocError> {
-        if word == "--counts" {
-            self.with_speed = false;
-            return Ok(true);
-        }
-        for measure in Measure::ALL {
-            if word == measure.name() {
-                self.measures.push(measure)?;
-                return Ok(true);
+    /// Takes a word.
+    pub fn take(&mut self, word: &str) {
+        match Measure::named(word) {
+            Some(measure) => {
+                self.is_named = true;
+                self.with_actions |= measure == Measure::Encode;
             }
+            None if word == "--counts" => self.with_speed = false,
+            None => self.is_known = false,
         }
-        Ok(false)
-    }
-
-    /// Where no measure was named, all of them are wanted.
-    pub fn fill(&mut self) -> Result<(), AllocError> {
-        if self.measures.is_empty() {
-            self.measures.extend_from_slice(&Measure::ALL)?;
-        }
-        Ok(())
     }
 }
