@@ -15,8 +15,7 @@ impl Display for Characters<'_> {
 
     fn fmt<W: fmt::Write>(&self, f: &mut fmt::Formatter<W>) -> fmt::Result {
         for byte in self.0 {
-            let byte = char::from(*byte);
-            write!(f, "{byte}")?;
+            f.write_char(char::from(*byte))?;
         }
         Ok(())
     }
@@ -38,8 +37,7 @@ impl Display for Markers<'_> {
     fn fmt<W: fmt::Write>(&self, f: &mut fmt::Formatter<W>) -> fmt::Result {
         for byte in self.0 {
             if is_private_prefix(*byte) {
-                let byte = char::from(*byte);
-                write!(f, "{byte}")?;
+                f.write_char(char::from(*byte))?;
             }
         }
         Ok(())
@@ -56,8 +54,7 @@ impl Display for Others<'_> {
     fn fmt<W: fmt::Write>(&self, f: &mut fmt::Formatter<W>) -> fmt::Result {
         for byte in self.0 {
             if !is_private_prefix(*byte) {
-                let byte = char::from(*byte);
-                write!(f, "{byte}")?;
+                f.write_char(char::from(*byte))?;
             }
         }
         Ok(())
