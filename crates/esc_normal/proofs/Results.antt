@@ -1,8 +1,11 @@
 -- Results, and bytes that were read and written.
-use Rattle.std.proofs.Common.{◌≡◌, ◌↔◌, Bool, true, false, IsTrue, ◌≤◌, ◌<◌, ◌+◌, ℕ, List, [], ◌++◌, Option, refl, sym, subst, ap, ◌∙◌, append-nil, append_assoc, arith, length, length-append, take, Ok, Err, IsErrOf, OnOk, Result}
+use Rattle.std.proofs.Common.{◌≡◌, ◌↔◌, Bool, true, false, IsTrue, ◌≤◌, ◌<◌, ◌+◌, ℕ, List, [], ◌++◌, Option, refl, sym, subst, ap, ◌∙◌, append-nil, append_assoc, arith, length, length-append, take, Ok, Err, IsErrOf, OnOk, Result, ◌||◌, is_err}
+use Rattle.std.proofs.lemmas.Bool.{true≢false}
 use Rattle.std.proofs.KnownBytes.{Appends-nil, Appends-trans, Consumes-trans}
 use Rattle.std.specs.Io.KnownBytes.{Appends, Consumes}
 use Rattle.esc_normal.specs.Io.{AppendsPrefix}
+use Rattle.esc_normal.specs.declared.filter_error.FilterError.{FilterError}
+use Rattle.esc_normal.specs.declared.filter_error.FilterError.TheVariants as fault
 
 -- the error of a result
 pub err_is : {T E : Type 0} (r : Result T E) (e x : E) → r ≡ Err e → IsErrOf r x → e ≡ x
@@ -58,6 +61,10 @@ pub one_more : (n k : ℕ) (s buf : List ℕ) → n ≤ length s → 0 < k → k
     → n + 1 ≤ length (s ++ take k buf)
 one_more n k s buf h some is = omega (arith, length-append s (take k buf))
 
+-- no bytes are few enough
+pub none_within : (n : ℕ) → length {A = ℕ} [] ≤ n
+none_within n = omega arith
+
 -- what holds, holds on Ok
 pub ok_any : {T E X : Type 0} (r : Result T E) → X → OnOk r X
 ok_any (Ok t) x = x
@@ -68,3 +75,34 @@ pub unfailed : {T E : Type 0} (t : T) (e : E) (failed : Bool)
     → (IsErrOf (Ok t) e ↔ IsTrue failed) → failed ≡ false
 unfailed t e true h = let k = h.1 refl in absurd cc
 unfailed t e false h = refl
+
+-- whether a result is this fault
+abbrev pub is_fault : {T : Type 0} → FilterError → Result T FilterError → Bool
+is_fault fault.Read (Err fault.Read) = true
+is_fault fault.Write (Err fault.Write) = true
+is_fault fault.Memory (Err fault.Memory) = true
+is_fault fault.Endless (Err fault.Endless) = true
+is_fault e r = false
+
+is_itself : (T : Type 0) (e : FilterError) → is_fault {T = T} e (Err e) ≡ true
+is_itself T fault.Read = refl
+is_itself T fault.Write = refl
+is_itself T fault.Memory = refl
+is_itself T fault.Endless = refl
+
+-- a result that is not a fault
+pub other : {T : Type 0} (r : Result T FilterError) (e : FilterError) → IsErrOf r e
+    → is_fault e r ≡ false → ⊥
+other {T} r e h not = true≢false (sym (ap (is_fault e) h ∙ is_itself T e) ∙ not)
+
+-- what had not failed, has not after a call that did not
+pub stays_sound : {T E : Type 0} (r : Result T E) (t : T) (old new : Bool) → new ≡ old || is_err r
+    → r ≡ Ok t → old ≡ false → new ≡ false
+stays_sound r t false new e is h = e ∙ ap is_err is
+stays_sound r t true new e is h = absurd (true≢false h)
+
+-- what a failed call returned an error of, has failed
+pub now_failed : {T E : Type 0} (r : Result T E) (f : E) (old new : Bool) → new ≡ old || is_err r
+    → r ≡ Err f → IsTrue new
+now_failed r f false new e is = e ∙ ap is_err is
+now_failed r f true new e is = e

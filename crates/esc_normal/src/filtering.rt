@@ -57,7 +57,10 @@ fn filter_all<R: Read, W: Write, F: Feeding<A>, A: Allocator + Copy>(
     for _ in 0..MOST_READS {
         match reader.read(chunk) {
             Ok(0) => return Ok(()),
-            Ok(n) => pass_on(filter, &chunk[..n], writer)?,
+            Ok(n) => match pass_on(filter, &chunk[..n], writer) {
+                Ok(()) => {}
+                Err(error) => return Err(error),
+            },
             Err(_) => return Err(FilterError::Read),
         }
     }

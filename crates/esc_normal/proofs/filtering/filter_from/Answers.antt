@@ -1,9 +1,10 @@
-use Rattle.std.proofs.Common.{[], arith, refl, subst, sym, append-nil}
+use Rattle.std.proofs.Common.{[], refl, rules, subst, sym, append-nil}
 use Rattle.std.proofs.KnownBytes.{Appends-nil, Consumes-nil}
 use Rattle.std.proofs.lemmas.Result.{on_err_weaker}
 use Rattle.std.specs.Io.KnownBytes.{Appends, Consumes}
 use Rattle.esc_parse.proofs.Lists.{on_ok_more}
-use Rattle.esc_normal.proofs.Results.{not_failed, ok_any, prefix_after, prefix_none, unfailed, written_more}
+use Rattle.esc_normal.proofs.Results.{none_within, not_failed, ok_any, other, prefix_after, prefix_none, unfailed, written_more}
+use Rattle.esc_normal.specs.declared.filter_error.FilterError.TheVariants as fault
 use Rattle.esc_normal.proofs.filtering.filter_from.Goals as goal
 
 pub returns-in-Ok-filter_all-clause-holds : goal.returns-in-Ok-filter_all-clause-holds
@@ -22,7 +23,7 @@ returns-in-Ok-filter_all-clause-holds g c = λ m e fresh none more.
         r.0,
         [],
         m r.0,
-        omega arith,
+        none_within _,
         subst (λ s. Consumes (g.R.Read.remaining c.args.reader.now.inner)
             (g.R.Read.remaining c.filter_all.new.reader.inner) s) (sym (append-nil r.0)) r.2,
         subst (λ w. Appends (g.W.Write.contents c.args.writer.now.inner)
@@ -41,23 +42,39 @@ returns-in_default-clause-holds g c = λ m e fresh none more.
     record {
       read_all = tt;
       written = tt;
-      decided = λ k. absurd cc;
-      endless = λ k. absurd cc;
+      decided = λ k. absurd (other _ fault.Read k refl);
+      endless = λ k. absurd (other _ fault.Endless k refl);
       until_refused = λ k. (
         [],
         [],
         m [],
-        omega arith,
+        none_within _,
         Consumes-nil _,
         subst (λ t. Appends held held t) (sym none) (Appends-nil _),
         refl,
       );
       beginning = ([], Consumes-nil _, prefix_none _ (e []));
-      read_fault = not_failed _ _ _ (λ k. absurd cc);
-      write_fault = not_failed _ _ _ (λ k. absurd cc);
+      read_fault = not_failed _ fault.Read _ (λ k. other _ _ k refl);
+      write_fault = not_failed _ fault.Write _ (λ k. other _ _ k refl);
     }
 
 pub returns-in-Ok-filter_all-clause-refused : goal.returns-in-Ok-filter_all-clause-refused
 returns-in-Ok-filter_all-clause-refused g c = λ m e fresh none more.
     let r = c.in-Ok-filter_all.ensures.fed m e fresh none more in
     c.end.ensures.refused m e r.0 r.1
+
+pub returns-clause-holds : goal.returns-clause-holds
+returns-clause-holds g c = λ m e fresh none more.
+    let f = c.in-Err.ensures in record {
+      read_all = tt;
+      written = tt;
+      decided = f.decided m e fresh none more;
+      endless = f.endless m e fresh none more;
+      until_refused = search rules;
+      beginning = search rules;
+      read_fault = f.read_fault;
+      write_fault = f.write_fault;
+    }
+
+pub returns-clause-refused : goal.returns-clause-refused
+returns-clause-refused g c = λ m e fresh none more. c.in-Err.ensures.refused m e fresh none more
