@@ -332,6 +332,18 @@ impl<A: Allocator> Sink<Action<A>> for Written<A> {
         }
         self.append_link(text)
     }
+
+    // What follows is as by default, and written out: at the type of an action, a method that is
+    // taken over from the trait costs a proof some seconds more.
+    #[inline]
+    fn drops_sequences(&self, _control: u8) -> bool {
+        false
+    }
+
+    #[inline]
+    fn drops_images(&self) -> bool {
+        false
+    }
 }
 
 // Whether it is a line feed.

@@ -249,6 +249,33 @@ impl<A: Allocator> Sink<Action<A>> for Collect<A> {
         self.push_text(text);
         Ok(())
     }
+
+    // What follows is as by default, and written out: at the type of an action, a method that is
+    // taken over from the trait costs a proof some seconds more.
+    #[inline]
+    fn receive_sequence(
+        &mut self,
+        _params: &[CsiParam],
+        _parameters_truncated: bool,
+        _control: u8,
+    ) -> Result<bool, AllocError> {
+        Ok(false)
+    }
+
+    #[inline]
+    fn receive_command(&mut self, _text: &[u8]) -> Result<bool, AllocError> {
+        Ok(false)
+    }
+
+    #[inline]
+    fn drops_sequences(&self, _control: u8) -> bool {
+        false
+    }
+
+    #[inline]
+    fn drops_images(&self) -> bool {
+        false
+    }
 }
 
 /// Keeps the first action, and drops the others. It takes no memory.
@@ -272,5 +299,32 @@ impl<A: Allocator> Sink<Action<A>> for First<A> {
             self.action = Some(action);
         }
         Ok(())
+    }
+
+    // What follows is as by default, and written out: at the type of an action, a method that is
+    // taken over from the trait costs a proof some seconds more.
+    #[inline]
+    fn receive_sequence(
+        &mut self,
+        _params: &[CsiParam],
+        _parameters_truncated: bool,
+        _control: u8,
+    ) -> Result<bool, AllocError> {
+        Ok(false)
+    }
+
+    #[inline]
+    fn receive_command(&mut self, _text: &[u8]) -> Result<bool, AllocError> {
+        Ok(false)
+    }
+
+    #[inline]
+    fn drops_sequences(&self, _control: u8) -> bool {
+        false
+    }
+
+    #[inline]
+    fn drops_images(&self) -> bool {
+        false
     }
 }

@@ -112,6 +112,18 @@ impl<A: Allocator, S: BorrowingSink<Action<A>>> Sink<Action<A>> for Lending<S> {
             Err(error) => Err(error),
         }
     }
+
+    // What follows is as by default, and written out: at the type of an action, a method that is
+    // taken over from the trait costs a proof some seconds more.
+    #[inline]
+    fn drops_sequences(&self, _control: u8) -> bool {
+        false
+    }
+
+    #[inline]
+    fn drops_images(&self) -> bool {
+        false
+    }
 }
 
 // An action as it is handed on: by value where it is small.
