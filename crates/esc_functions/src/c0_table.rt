@@ -131,7 +131,6 @@ impl C0 {
     }
 
     /// Whether this is the code of a control that changes the screen alone: one from BEL to SI.
-    #[tactic(auto, using(crate::proofs::Controls::by_code))]
     #[inline]
     pub fn is_screen_code(code: u32) -> bool
         ensures { result ≡ is_screen (control_of code) }
