@@ -99,22 +99,37 @@ impl Kind {
         }
     }
 
-    /// Its name, and what it is, where the name does not say it.
-    pub fn words(self) -> (&'static str, &'static str) {
+    /// Its name.
+    pub fn name(self) -> &'static str {
         match self {
-            Kind::Text => ("text", ""),
-            Kind::Control => ("control", ""),
-            Kind::Escape => ("ESC", "escape sequence"),
-            Kind::Csi => ("CSI", "control sequence"),
-            Kind::Dcs => ("DCS", "device control string"),
-            Kind::Osc => ("OSC", "operating system command"),
-            Kind::Apc => ("APC", "application program command"),
-            Kind::Sos => ("SOS", "start of string"),
-            Kind::Pm => ("PM", "privacy message"),
-            Kind::St => ("ST", "string terminator"),
-            Kind::Cut => ("sequence cut short", ""),
-            Kind::Broken => ("broken UTF-8", ""),
-            Kind::Stray => ("stray byte", ""),
+            Kind::Text => "text",
+            Kind::Control => "control",
+            Kind::Escape => "ESC",
+            Kind::Csi => "CSI",
+            Kind::Dcs => "DCS",
+            Kind::Osc => "OSC",
+            Kind::Apc => "APC",
+            Kind::Sos => "SOS",
+            Kind::Pm => "PM",
+            Kind::St => "ST",
+            Kind::Cut => "sequence cut short",
+            Kind::Broken => "broken UTF-8",
+            Kind::Stray => "stray byte",
+        }
+    }
+
+    /// What it is, where its name does not say it.
+    pub fn words(self) -> &'static str {
+        match self {
+            Kind::Escape => "escape sequence",
+            Kind::Csi => "control sequence",
+            Kind::Dcs => "device control string",
+            Kind::Osc => "operating system command",
+            Kind::Apc => "application program command",
+            Kind::Sos => "start of string",
+            Kind::Pm => "privacy message",
+            Kind::St => "string terminator",
+            Kind::Text | Kind::Control | Kind::Cut | Kind::Broken | Kind::Stray => "",
         }
     }
 

@@ -52,8 +52,7 @@ fn add_segment(item: &Item, is_finished: bool, page: &mut Page) {
     phrase.add_number(item.length, 6);
     page.push(&phrase);
     page.pad(KIND);
-    let (name, words) = item.kind().words();
-    page.push_words(if words.is_empty() { name } else { words });
+    page.push_words(full_name(item.kind()));
     page.pad(STATE);
     page.push_words(if is_finished {
         "finished"
@@ -62,6 +61,12 @@ fn add_segment(item: &Item, is_finished: bool, page: &mut Page) {
     });
     page.pad(SEGMENT);
     push_bytes(item, page);
+}
+
+// What a kind is, in words.
+fn full_name(kind: Kind) -> &'static str {
+    let words = kind.words();
+    if words.is_empty() { kind.name() } else { words }
 }
 
 // The bytes that are kept, and `..` where not all are.
@@ -103,8 +108,7 @@ pub fn add_said(item: &Item, words: &mut Words) {
     }
     let is_said = !phrase.as_str().is_empty();
     if !is_said || kind == Kind::Cut {
-        let (name, more) = kind.words();
-        phrase.begin(name, more, "");
+        phrase.begin(kind.name(), kind.words(), "");
     }
     if !is_said && kind.is_string() {
         phrase.add_quoted(" ", item.body());
@@ -129,7 +133,7 @@ pub fn name_of(item: &Item, words: &Words) -> Name {
     let name = words.phrase.name();
     let kind = item.kind();
     if name.0.is_empty() || kind == Kind::Cut {
-        return Name(kind.words().0, "");
+        return Name(kind.name(), "");
     }
     name
 }
