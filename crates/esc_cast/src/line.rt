@@ -1,6 +1,7 @@
 //! What a line of a recording is.
-ghost use Rattle.std.specs.Prelude.{◌≡◌, IfOk, chars};
+ghost use Rattle.std.specs.Prelude.{◌≡◌, IfOk, Some, chars};
 ghost use Rattle.json.specs.Json.{document};
+ghost use Rattle.json.specs.Value.{value_view};
 ghost use Rattle.json.specs.Lex.{tokens};
 ghost use Rattle.esc_cast.specs.Recordings.{event_kind, header_kind, is_shown, is_shown_line, kind_of, kind_seen, shown_kind, HasNumber};
 
@@ -47,28 +48,36 @@ fn event<'a, A: Allocator>(
     ensures number { IfOk result HasNumber }
 {
     let mut reader = Reader::new(line, scratch)?;
+    Ok(event_of(line, &mut reader))
+}
+
+// What an event of these tokens is.
+fn event_of<'a>(line: &str, reader: &mut Reader<'a>) -> Line<'a>
+    ensures kind { kind_seen result ≡ event_kind line.now reader.old }
+    ensures number { HasNumber result }
+{
     let Some(Token::BeginArray) = reader.next() else {
-        return Ok(Line::Wrong);
+        return Line::Wrong;
     };
     let Some(Token::Number(time)) = reader.next() else {
-        return Ok(Line::Wrong);
+        return Line::Wrong;
     };
     let Some(Token::String(kind)) = reader.next() else {
-        return Ok(Line::Wrong);
+        return Line::Wrong;
     };
     let Some(Token::String(text)) = reader.next() else {
-        return Ok(Line::Wrong);
+        return Line::Wrong;
     };
     let Some(Token::EndArray) = reader.next() else {
-        return Ok(Line::Wrong);
+        return Line::Wrong;
     };
     let None = reader.next() else {
-        return Ok(Line::Wrong);
+        return Line::Wrong;
     };
     if kind == "o" {
-        Ok(Line::Output(time, text))
+        Line::Output(time, text)
     } else {
-        Ok(shown(line, Line::Other))
+        shown(line, Line::Other)
     }
 }
 
@@ -81,23 +90,25 @@ fn header<'a, A: Allocator + Copy>(
     ensures kind { IfOk result (λ l. kind_seen l ≡ header_kind line.now (document line.now)) }
     ensures number { IfOk result HasNumber }
 {
-    let value = match Value::parse(alloc, line, scratch) {
-        Ok(value) => value,
-        Err(Error::OutOfMemory) => return Err(AllocError),
-        Err(_) => return Ok(Line::Wrong),
-    };
+    match Value::parse(alloc, line, scratch) {
+        Ok(value) => Ok(header_of(line, &value)),
+        Err(Error::OutOfMemory) => Err(AllocError),
+        Err(_) => Ok(Line::Wrong),
+    }
+}
+
+// What a header of this value is.
+fn header_of<'a, A: Allocator>(line: &str, value: &Value<'_, A>) -> Line<'a>
+    ensures kind { kind_seen result ≡ header_kind line.now (Some (value_view value.now)) }
+    ensures number { HasNumber result }
+{
     let Some(version) = value.get("version") else {
-        return Ok(Line::Wrong);
+        return Line::Wrong;
     };
-    let Some(version) = version.as_number() else {
-        return Ok(Line::Wrong);
-    };
-    if version == "2" {
-        Ok(shown(line, Line::Header(false)))
-    } else if version == "3" {
-        Ok(shown(line, Line::Header(true)))
-    } else {
-        Ok(Line::Wrong)
+    match version.as_number() {
+        Some("2") => shown(line, Line::Header(false)),
+        Some("3") => shown(line, Line::Header(true)),
+        _ => Line::Wrong,
     }
 }
 
