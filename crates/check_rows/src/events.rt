@@ -63,8 +63,8 @@ fn is_read(heap: &Refusing<Global>, stream: &[u8], recorder: &mut Recorder) -> b
     is_read
 }
 
-/// Whether these are the events of the stream, in whatever way it comes; it may take no memory where
-/// it comes whole, if `takes_memory` is false.
+/// Whether these are the events of the stream, in whatever way it comes; it may take no memory
+/// where it comes whole, if `takes_memory` is false.
 pub fn has_events(alloc: Global, stream: &[u8], events: &str, takes_memory: bool) -> bool {
     is_read_by_bytes(alloc, stream, events)
         && is_read_by_segments(alloc, stream, events)

@@ -74,8 +74,8 @@ fn is_refused_at(heap: &Refusing<Global>, at: u64) -> bool {
     }
 }
 
-/// Whether it ends rightly where each of its requests for memory is refused in turn. There are some,
-/// and fewer than a hundred.
+/// Whether it ends rightly where each of its requests for memory is refused in turn. There are
+/// some, and fewer than a hundred.
 pub fn are_refusals_told(alloc: Global) -> bool {
     let heap = Refusing::new(alloc);
     let mut is_right = true;
