@@ -15,7 +15,7 @@ use std::io::{Read, Write};
 use std::{fmt, str};
 
 /// Why a recording was not filtered to its end.
-#[derive(Clone, Copy, Debug)]
+#[derive(Clone, Copy)]
 pub enum CastFault {
     /// As of a stream.
     Stream(FilterError),
@@ -188,16 +188,44 @@ fn filter_lines<R: Read, W: Write, F: Feeding<A>, A: Allocator + Copy>(
     let Ok(mut chunk) = memory::read_buffer(alloc) else {
         return Err(CastFault::Stream(FilterError::Memory));
     };
+    match take_all(lines, reader, writer, chunk.as_mut_slice()) {
+        Ok(()) => end(lines, writer),
+        Err(fault) => Err(fault),
+    }
+}
+
+// The same by way of this chunk, but for the end of the recording.
+fn take_all<R: Read, W: Write, F: Feeding<A>, A: Allocator + Copy>(
+    lines: &mut Lines<F, A>,
+    reader: &mut Watched<R>,
+    writer: &mut Watched<W>,
+    chunk: &mut [u8],
+) -> Result<(), CastFault> {
     for _ in 0..u64::MAX {
-        match reader.read(chunk.as_mut_slice()) {
-            Ok(0) => break,
-            Ok(n) => {
-                lines.take(&chunk[..n], writer)?;
-                flush(writer)?;
-            }
+        match reader.read(chunk) {
+            Ok(0) => return Ok(()),
+            Ok(n) => pass_on(lines, &chunk[..n], writer)?,
             Err(_) => return Err(CastFault::Stream(FilterError::Read)),
         }
     }
+    Ok(())
+}
+
+// Takes bytes more, and flushes what is written of the lines that they end.
+fn pass_on<W: Write, F: Feeding<A>, A: Allocator + Copy>(
+    lines: &mut Lines<F, A>,
+    bytes: &[u8],
+    writer: &mut Watched<W>,
+) -> Result<(), CastFault> {
+    lines.take(bytes, writer)?;
+    flush(writer)
+}
+
+// Ends the recording, and flushes what is written then.
+fn end<W: Write, F: Feeding<A>, A: Allocator + Copy>(
+    lines: &mut Lines<F, A>,
+    writer: &mut Watched<W>,
+) -> Result<(), CastFault> {
     lines.end(writer)?;
     flush(writer)
 }

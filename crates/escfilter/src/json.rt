@@ -3,6 +3,7 @@
 use crate::account::Account;
 use crate::opened::{EACH, Opened};
 use crate::place::Place;
+use crate::saying::{put, put_number};
 use crate::swallowed::{Count, Lost, Swallowed};
 use crate::tally::Row;
 use std::io::Write;
@@ -27,26 +28,6 @@ pub fn tell_json<E: Write>(account: &Account, name: &str, faults: &mut E) {
     put(",\"complete\":", faults);
     put(complete, faults);
     put("}\n", faults);
-}
-
-// Writes a text as it is.
-fn put<E: Write>(text: &str, faults: &mut E) {
-    let _ = faults.write_all(text.as_bytes());
-}
-
-// Writes whether it is so.
-fn put_bool<E: Write>(is_so: bool, faults: &mut E) {
-    if is_so {
-        put("true", faults);
-    } else {
-        put("false", faults);
-    }
-}
-
-// Writes a number after what comes before it.
-fn put_number<E: Write>(before: &str, number: u64, faults: &mut E) {
-    put(before, faults);
-    let _ = write!(faults, "{number}");
 }
 
 // Writes a string: what a terminal does not show as itself, a quote and a backslash are escaped.

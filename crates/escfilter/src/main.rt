@@ -15,6 +15,7 @@ mod opened;
 mod options;
 mod place;
 mod report;
+mod saying;
 mod span;
 mod stream;
 mod swallowed;

@@ -73,6 +73,23 @@ pub struct Task<'a, A: Allocator = Global> {
     pub files: Vec<&'a str, A>,
 }
 
+impl<'a> Options<'a> {
+    // Takes an option more, where it is one of these.
+    fn take(&mut self, given: &Given<'a>) {
+        match given.name {
+            "--allow" => self.choice = self.choice.and(given.some),
+            "--deny" => self.choice = self.choice.without(given.some),
+            "--limit" => self.limit = given.size,
+            "--show" => self.shows = true,
+            "--collapse" => self.rows = rows_of(given.word),
+            "--cast" => self.is_cast = true,
+            "--report" => self.report = Some(form_of(given.word)),
+            "--fail" => self.fails = true,
+            _ => {}
+        }
+    }
+}
+
 const DEFAULT_LIMIT: usize = 1_048_576;
 
 const DEFAULT_ROWS: usize = 32;
@@ -154,17 +171,13 @@ impl<'a, A: Allocator + Copy> Task<'a, A> {
     /// The task that these words, the program's arguments, name; of an option that is given twice
     /// the last counts.
     pub fn of(alloc: A, words: &'a [String]) -> Result<Task<'a, A>, Wrong<'a>> {
-        let found = match read(alloc, KNOWN, words) {
-            Ok(found) => found,
-            Err(wrong) => return Err(wrong),
-        };
-        if let Some(scheme) = wrong_scheme(&found.options) {
-            return Err(Wrong::Value("--links", "scheme", scheme, None));
+        match read(alloc, KNOWN, words) {
+            Ok(found) => match wrong_value(&found.options) {
+                Some(wrong) => Err(wrong),
+                None => Ok(Task::from_found(found)),
+            },
+            Err(wrong) => Err(wrong),
         }
-        if let Some(rows) = wrong_rows(&found.options) {
-            return Err(Wrong::Value("--collapse", "number of rows", rows, None));
-        }
-        Ok(Task::from_found(found))
     }
 
     // The task that these options and files name.
@@ -221,25 +234,16 @@ impl<'a> Asked<'a> {
 
     // Takes an option more.
     fn take(&mut self, given: &Given<'a>) {
-        let options = &mut self.options;
         match given.name {
-            "--allow" => options.choice = options.choice.and(given.some),
-            "--deny" => options.choice = options.choice.without(given.some),
             "--links" => self.schemes = Some(given.word),
-            "--limit" => options.limit = given.size,
             "--lines" => self.by_lines = Some(true),
             "--whole" => self.by_lines = Some(false),
             "--unicode" => self.unicode = Some(unicode_of(given.word)),
-            "--show" => options.shows = true,
-            "--collapse" => options.rows = rows_of(given.word),
-            "--cast" => options.is_cast = true,
-            "--report" => options.report = Some(form_of(given.word)),
-            "--fail" => options.fails = true,
             "--output" => self.target = Target::File(given.word),
             "--in-place" => self.target = Target::InPlace(given.word),
             "--help" => self.kind = Kind::Help,
             "--version" => self.kind = Kind::Version,
-            _ => {}
+            _ => self.options.take(given),
         }
     }
 
@@ -290,6 +294,15 @@ fn unicode_of(name: &str) -> Unicode {
         "show" => Unicode::Show,
         "drop" => Unicode::Drop,
         _ => Unicode::Keep,
+    }
+}
+
+// What is wrong with the values of which the table does not say what they may be.
+fn wrong_value<'a>(options: &[Given<'a>]) -> Option<Wrong<'a>> {
+    match (wrong_scheme(options), wrong_rows(options)) {
+        (Some(scheme), _) => Some(Wrong::Value("--links", "scheme", scheme, None)),
+        (None, Some(rows)) => Some(Wrong::Value("--collapse", "number of rows", rows, None)),
+        (None, None) => None,
     }
 }
 

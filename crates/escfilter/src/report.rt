@@ -2,6 +2,7 @@
 
 use crate::account::Account;
 use crate::place::Place;
+use crate::saying::{put, put_number};
 use crate::stream::PROGRAM;
 use crate::swallowed::Lost;
 use crate::tally::{Row, Tally};
@@ -34,39 +35,45 @@ fn begin<E: Write>(name: &str, faults: &mut E) {
 // How much was left out, of how much.
 fn tell_sums<E: Write>(account: &Account, tally: &Tally, name: &str, faults: &mut E) {
     begin(name, faults);
-    let bytes = account.bytes();
-    let _ = writeln!(
-        faults,
-        "left out {} of {} actions, {} of {bytes} bytes",
-        tally.left_actions, tally.actions, tally.left_bytes
-    );
+    put_number("left out ", tally.left_actions, faults);
+    put_number(" of ", tally.actions, faults);
+    put_number(" actions, ", tally.left_bytes, faults);
+    put_number(" of ", account.bytes(), faults);
+    put(" bytes\n", faults);
 }
 
 // So many bytes.
 fn tell_bytes<E: Write>(bytes: u64, faults: &mut E) {
-    let unit = if bytes == 1 { "byte" } else { "bytes" };
-    let _ = write!(faults, " {bytes} {unit}");
+    put_number(" ", bytes, faults);
+    put(if bytes == 1 { " byte" } else { " bytes" }, faults);
 }
 
 // What was left out under a name.
 fn tell_row<E: Write>(row: &Row, name: &str, faults: &mut E) {
     begin(name, faults);
-    let _ = faults.write_all(row.name.kind.as_bytes());
-    for word in [row.name.name, row.name.words] {
-        if !word.is_empty() {
-            let _ = write!(faults, " {word}");
-        }
-    }
-    let _ = write!(faults, ": {},", row.actions);
+    put(row.name.kind, faults);
+    tell_word(row.name.name, faults);
+    tell_word(row.name.words, faults);
+    put_number(": ", row.actions, faults);
+    put(",", faults);
     tell_bytes(row.bytes, faults);
-    let _ = faults.write_all(b", the first");
+    put(", the first", faults);
     tell_place(row.first, faults);
-    let _ = writeln!(faults);
+    put("\n", faults);
+}
+
+// A word of a name, where there is one.
+fn tell_word<E: Write>(word: &str, faults: &mut E) {
+    if !word.is_empty() {
+        put(" ", faults);
+        put(word, faults);
+    }
 }
 
 // A place in the input.
 fn tell_place<E: Write>(place: Place, faults: &mut E) {
-    let _ = write!(faults, " on line {} at byte {}", place.line, place.byte);
+    put_number(" on line ", place.line, faults);
+    put_number(" at byte ", place.byte, faults);
 }
 
 // What was swallowed: how much, by kind, and where the first of it began.
@@ -76,49 +83,51 @@ fn tell_swallowed<E: Write>(tally: &Tally, name: &str, faults: &mut E) {
         return;
     }
     begin(name, faults);
-    let _ = faults.write_all(b"swallowed");
+    put("swallowed", faults);
     tell_bytes(swallowed.all.bytes, faults);
     let mut is_first = true;
     for lost in swallowed.first() {
         tell_lost(*lost, is_first, faults);
         is_first = false;
     }
-    let more = swallowed.more();
-    if more > 0 {
-        let _ = write!(faults, ", and {more} more");
-    }
-    let _ = writeln!(faults);
+    tell_more(swallowed.more(), faults);
+    put("\n", faults);
 }
 
 // What was swallowed at a place.
 fn tell_lost<E: Write>(lost: Lost, is_first: bool, faults: &mut E) {
-    if is_first {
-        let _ = faults.write_all(b":");
-    } else {
-        let _ = faults.write_all(b",");
-    }
+    put(if is_first { ":" } else { "," }, faults);
     tell_bytes(lost.bytes, faults);
-    let _ = write!(faults, " of {}", lost.kind.name());
+    put(" of ", faults);
+    put(lost.kind.name(), faults);
     tell_place(lost.place, faults);
+}
+
+// How often more was swallowed.
+fn tell_more<E: Write>(more: u64, faults: &mut E) {
+    if more > 0 {
+        put_number(", and ", more, faults);
+        put(" more", faults);
+    }
 }
 
 // What the end of the stream leaves open.
 fn tell_open<E: Write>(open: Lost, name: &str, faults: &mut E) {
     begin(name, faults);
-    let _ = write!(
-        faults,
-        "warning: {} is open at the end, since it began",
-        open.kind.name()
-    );
+    put("warning: ", faults);
+    put(open.kind.name(), faults);
+    put(" is open at the end, since it began", faults);
     tell_place(open.place, faults);
-    let _ = writeln!(faults);
+    put("\n", faults);
 }
 
 // That the account is of a beginning of the stream.
 fn tell_failure<E: Write>(bytes: u64, name: &str, faults: &mut E) {
     begin(name, faults);
-    let _ = writeln!(
+    put_number(
+        "out of memory for the report, which is of the first ",
+        bytes,
         faults,
-        "out of memory for the report, which is of the first {bytes} bytes"
     );
+    put(" bytes\n", faults);
 }
