@@ -1,3 +1,4 @@
 pub mod LossyTexts
 pub mod ReadsBack
 pub mod Runs
+pub mod Turns
