@@ -85,8 +85,10 @@ fn read_start<A: Allocator>(
     ensures ok { IfOk result (λ p. p ≡ lettered 0x41 (map (λ p. p.now) args.now)) }
     ensures refused { OnErr result (Refused A) }
 {
-    let keys = read_aid_and_click(alloc, args)?;
-    Ok(keys.map(|(aid, cl)| FinalTermSemanticPrompt::FreshLineAndStartPrompt { aid, cl }))
+    match read_aid_and_click(alloc, args)? {
+        Some((aid, cl)) => Ok(Some(FinalTermSemanticPrompt::FreshLineAndStartPrompt { aid, cl })),
+        None => Ok(None),
+    }
 }
 
 // The end of a command, and a prompt that begins on a new line.
@@ -97,8 +99,10 @@ fn read_end<A: Allocator>(
     ensures ok { IfOk result (λ p. p ≡ lettered 0x4e (map (λ p. p.now) args.now)) }
     ensures refused { OnErr result (Refused A) }
 {
-    let keys = read_aid_and_click(alloc, args)?;
-    Ok(keys.map(|(aid, cl)| FinalTermSemanticPrompt::MarkEndOfCommandWithFreshLine { aid, cl }))
+    let Some((aid, cl)) = read_aid_and_click(alloc, args)? else {
+        return Ok(None);
+    };
+    Ok(Some(FinalTermSemanticPrompt::MarkEndOfCommandWithFreshLine { aid, cl }))
 }
 
 // A prompt of some kind.
@@ -119,8 +123,10 @@ fn read_output<A: Allocator>(
     ensures ok { IfOk result (λ p. p ≡ lettered 0x43 (map (λ p. p.now) args.now)) }
     ensures refused { OnErr result (Refused A) }
 {
-    let aid = read_aid(alloc, args)?;
-    Ok(aid.map(|aid| FinalTermSemanticPrompt::MarkEndOfInputAndStartOfOutput { aid }))
+    match read_aid(alloc, args)? {
+        Some(aid) => Ok(Some(FinalTermSemanticPrompt::MarkEndOfInputAndStartOfOutput { aid })),
+        None => Ok(None),
+    }
 }
 
 // The values of `aid` and `cl`.
@@ -166,8 +172,10 @@ fn read_status<A: Allocator>(
         }));
     };
     let status = read_i32(status).unwrap_or(0);
-    let aid = read_aid(alloc, rest)?;
-    Ok(aid.map(|aid| FinalTermSemanticPrompt::CommandStatus { status, aid }))
+    match read_aid(alloc, rest)? {
+        Some(aid) => Ok(Some(FinalTermSemanticPrompt::CommandStatus { status, aid })),
+        None => Ok(None),
+    }
 }
 
 // The value of `k`.
