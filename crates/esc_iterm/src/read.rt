@@ -176,7 +176,10 @@ fn read_encoded<A: Allocator>(
     ensures ok { IfOk result (λ c. c ≡ option_map (with_text form) (base64_text_of content.now)) }
     ensures refused { OnErr result (Refused A) }
 {
-    Ok(read_base64_text(alloc, content)?.map(|text| form.with_text(text)))
+    match read_base64_text(alloc, content)? {
+        Some(text) => Ok(Some(form.with_text(text))),
+        None => Ok(None),
+    }
 }
 
 // A version of Unicode.
@@ -187,7 +190,10 @@ fn read_unicode_version<A: Allocator + Copy>(
     ensures ok { IfOk result (λ c. c ≡ option_map iterm.UnicodeVersion (version_of text.now)) }
     ensures refused { OnErr result (Refused A) }
 {
-    Ok(read_version(alloc, text)?.map(|version| ITermProprietary::UnicodeVersion(version)))
+    match read_version(alloc, text)? {
+        Some(version) => Ok(Some(ITermProprietary::UnicodeVersion(version))),
+        None => Ok(None),
+    }
 }
 
 // `yes` or `no`.
