@@ -18,9 +18,8 @@ use Rattle.esc_lent.specs.Numbers.{state_numbered}
 use Rattle.esc_lent.specs.Runs.{Notes, Passes}
 use Rattle.esc_lent.specs.States.{KeptIn}
 use Rattle.esc_lent.specs.Emitted.{sent}
-use Rattle.esc_lent.proofs.Kept.{data_only}
 use Rattle.esc_lent.proofs.OneByte.{by_move, moves_on}
-use Rattle.esc_lent.proofs.Only.{ignored_only}
+use Rattle.esc_lent.proofs.Only.{data_only, ignored_only}
 use Rattle.esc_lent.proofs.Whole.{in_escape}
 
 -- ---- data
@@ -35,8 +34,8 @@ pub put_notes : (p : EscParser) (e : EscEvent) (b : ℕ) (c : Class) (t : Bool) 
     → (out : List ℕ) (limit : ℕ) → Notes p p e out limit (b ∷ [])
 put_notes p e b c t five is off put says out limit = λ u memory room h.
     let l = Some (length memory) in
-    data_only p memory five (λ u. KeptIn p memory (after_all u (b ∷ []))
-    × (sent e out ≡ events_all (Some limit) u (b ∷ [])))
+    data_only p memory (λ u. KeptIn p memory (after_all u (b ∷ []))
+    × (sent e out ≡ events_all (Some limit) u (b ∷ []))) five
     (λ o x f d read.
     let k = by_move l (InData o x f d) (InData o x f (d ++ b ∷ [])) b (put_of b t)
     (sym (ap (inside l (InData o x f d) b) is)
@@ -54,8 +53,8 @@ pub end_notes : (p q : EscParser) (e : EscEvent) (b : ℕ) → p.state ≡ 5 →
     → (out : List ℕ) (limit : ℕ) → Notes p q e out limit (b ∷ [])
 end_notes p q e b five one kept more is kind out limit = λ u memory room h.
     let l = Some (length memory) in
-    data_only p memory five (λ u. KeptIn q memory (after_all u (b ∷ []))
-    × (sent e out ≡ events_all (Some limit) u (b ∷ [])))
+    data_only p memory (λ u. KeptIn q memory (after_all u (b ∷ []))
+    × (sent e out ≡ events_all (Some limit) u (b ∷ []))) five
     (λ o x f d read.
     let k = by_move l (InData o x f d) (InEscape []) b (DcsUnhook ∷ [])
     (ap (inside l (InData o x f d) b) is

@@ -1,5 +1,5 @@
 -- What is unfinished, by the number of the state.
-use Rattle.std.proofs.Common.{ℕ, ◌≡◌, Bool, true, false, List, [], map, take, length, refl, ap, sym, ◌∙◌, subst, Some, if◌then◌else◌}
+use Rattle.std.proofs.Common.{ℕ, ◌≡◌, true, true≢false, false, List, [], map, take, length, refl, ap, sym, ◌∙◌, subst, Some, if◌then◌else◌}
 use Rattle.std.specs.List.{list_all, prefix_len}
 use Rattle.std.specs.Str.{chars}
 use Rattle.esc_frame.specs.Classes.{strip}
@@ -20,61 +20,17 @@ use Rattle.esc_lent.specs.declared.parser.EscParser.{EscParser}
 use Rattle.esc_lent.specs.Numbers.{state_numbered, begun}
 use Rattle.esc_lent.specs.Runs.{Gives, IsTextRun}
 use Rattle.esc_lent.specs.States.{KeptIn, begun_in}
+use Rattle.esc_lent.proofs.Only.{in_ground_only, data_only}
 
 -- nothing
 module _ (p : EscParser) (memory : List ℕ) (zero : p.state ≡ 0) (none : p.pending ≡ 0) where
-  at_ground : state_numbered p.state ≡ state.Ground
-  at_ground = ap state_numbered zero
-
   no_bytes : begun_in p ≡ []
   no_bytes = ap (λ n. begun n p.first p.second p.third) none
 
-  skips : (b : Bool) → state_numbered p.state ≡ (if b then state.Data else state.Ignored) → Unit {0}
-  skips b e = tt
-
   pub ground_only : (u : Unfinished) → KeptIn p memory u → u ≡ Ground
-  ground_only Ground h = refl
-  ground_only (Pending f) h = let e : f ≡ [] = sym h.1 ∙ no_bytes in let k : is_empty f ≡ true =
-      ap is_empty e in cc
-  ground_only (InEscape x) h = cc
-  ground_only (InCsi o x) h = cc
-  ground_only (InDcs o x) h = cc
-  ground_only (InData o x f d) h =
-      elim (is_read (Some (length memory)) (strip x)) as (λ b.
-      state_numbered p.state ≡ (if b then state.Data else state.Ignored)
-      → InData o x f d ≡ Ground) [
-        | true ↦ λ e. cc
-        | false ↦ λ e. cc
-      ] h
-  ground_only (InApc o d) h = cc
-  ground_only (InIgnored k o d) h = cc
-  ground_only (InOsc o ps) h = cc
-  ground_only (InOscPending o ps f) h = cc
-
--- data whose header was read
-module _ (p : EscParser) (memory : List ℕ) (five : p.state ≡ 5) (P : Unfinished → Type 0)
-    (read : (o : Opener) (x : List ℕ) (f : ℕ) (d : List ℕ)
-    → is_read (Some (length memory)) (strip x) ≡ true → P (InData o x f d)) where
-  at_data : state_numbered p.state ≡ state.Data
-  at_data = ap state_numbered five
-
-  pub data_only : (u : Unfinished) → KeptIn p memory u → P u
-  data_only Ground h = absurd cc
-  data_only (Pending f) h = absurd cc
-  data_only (InEscape x) h = absurd cc
-  data_only (InCsi o x) h = absurd cc
-  data_only (InDcs o x) h = absurd cc
-  data_only (InData o x f d) h =
-      elim (is_read (Some (length memory)) (strip x)) as
-      (λ b. is_read (Some (length memory)) (strip x) ≡ b
-      → state_numbered p.state ≡ (if b then state.Data else state.Ignored) → P (InData o x f d)) [
-        | true ↦ λ r e. read o x f d r
-        | false ↦ λ r e. absurd cc
-      ] refl h
-  data_only (InApc o d) h = absurd cc
-  data_only (InIgnored k o d) h = absurd cc
-  data_only (InOsc o ps) h = absurd cc
-  data_only (InOscPending o ps f) h = absurd cc
+  ground_only u h =
+      in_ground_only p memory (λ v. v ≡ Ground) zero (λ e. refl)
+      (λ f e some. absurd (true≢false (ap is_empty (sym no_bytes ∙ e) ∙ some))) u h
 
 -- ---- runs
 
@@ -111,7 +67,7 @@ module _ (p : EscParser) (memory : List ℕ) (five : p.state ≡ 5) (bytes : Lis
   pub data_keeps : (u : Unfinished) → KeptIn p memory u
       → KeptIn p memory (after_all u (take n bytes))
   data_keeps u h =
-      data_only p memory five (λ v. KeptIn p memory (after_all v (take n bytes)))
+      data_only p memory (λ v. KeptIn p memory (after_all v (take n bytes))) five
       (λ o x f d r. rw (
         (data_text (Some (length memory)) o x f d (take n bytes) r passes).0,
         r,
@@ -121,8 +77,8 @@ module _ (p : EscParser) (memory : List ℕ) (five : p.state ≡ 5) (bytes : Lis
       → e.length ≡ run
       → emitted_by e out (take e.length bytes) ≡ events_all (Some (length memory)) u (take n bytes)
   data_emits u h e out kind long =
-      data_only p memory five (λ v. emitted_by e out (take e.length bytes)
-      ≡ events_all (Some (length memory)) v (take n bytes))
+      data_only p memory (λ v. emitted_by e out (take e.length bytes)
+      ≡ events_all (Some (length memory)) v (take n bytes)) five
       (λ o x f d r.
       rw (
         kind,

@@ -15,9 +15,8 @@ use Rattle.esc_lent.specs.declared.parser.EscParser.{EscParser}
 use Rattle.esc_lent.specs.Runs.{Gives}
 use Rattle.esc_lent.specs.States.{KeptIn}
 use Rattle.esc_lent.specs.Emitted.{sent, said, queued_of, text_of}
-use Rattle.esc_lent.proofs.Kept.{data_only}
 use Rattle.esc_lent.proofs.OneByte.{by_move}
-use Rattle.esc_lent.proofs.Only.{in_osc_only, in_apc_only}
+use Rattle.esc_lent.proofs.Only.{data_only, in_osc_only, in_apc_only}
 use Rattle.esc_lent.proofs.OscBytes.{none_begun, not_false}
 use Rattle.esc_lent.proofs.Whole.{osc_said}
 
@@ -48,8 +47,9 @@ module _ (p q : EscParser) (e : EscEvent) (memory out : List ℕ) (b : ℕ)
 
   pub data_left : p.state ≡ 5 → e.kind ≡ 10 → Gives p q e out memory memory (b ∷ [])
   data_left five kind = λ u h.
-      data_only p memory five (λ u. KeptIn q memory (after_all u (b ∷ []))
+      data_only p memory (λ u. KeptIn q memory (after_all u (b ∷ []))
       × (said e out q.queued_kind q.queued_value ≡ events_all (Some (length memory)) u (b ∷ [])))
+      five
       (λ o x f d read. after (InData o x f d) (DcsUnhook ∷ [])
       (breaks (InData o x f d)
       ∙ ap (λ r. emitting (if r then DcsUnhook ∷ [] else []) (ground_move b (class_of b))) read)

@@ -1,5 +1,5 @@
 -- What the numbers of a parser say of a string that is longer than the limit.
-use Rattle.std.proofs.Common.{ℕ, suc, ◌≡◌, ◌≢◌, ◌≤◌, ◌<◌, ◌-◌, ◌⊎◌, inl, inr, Bool, true, false, not, ◌&&◌, List, [], ◌∷◌, ◌++◌, if◌then◌else◌, length, get_or, Option, Some, None, refl, ap, sym, ◌∙◌, subst, arith}
+use Rattle.std.proofs.Common.{ℕ, suc, ◌≡◌, ◌≢◌, ◌≤◌, ◌<◌, ◌-◌, ◌⊎◌, inl, inr, Bool, true, false, true≢false, not, ◌&&◌, List, [], ◌∷◌, ◌++◌, if◌then◌else◌, length, get_or, Option, Some, None, refl, ap, sym, ◌∙◌, subst, arith}
 use Rattle.std.proofs.lemmas.Bool.Decides.{nat_tests}
 use Rattle.esc_frame.specs.declared.classes.Class.{Class}
 use Rattle.esc_frame.specs.Bodies.{is_dcs_header}
@@ -27,10 +27,11 @@ use Rattle.esc_lent.specs.declared.parser.EscParser.{EscParser}
 use Rattle.esc_lent.specs.Emitted.{said}
 use Rattle.esc_lent.specs.Limited.{IsLimited}
 use Rattle.esc_lent.specs.Numbers.{state_numbered, form_numbered, begun}
-use Rattle.esc_lent.specs.States.{KeptIn, TextIn, begun_in}
+use Rattle.esc_lent.specs.States.{KeptIn, TextIn, HeaderIn, begun_in}
 use Rattle.esc_lent.specs.Strings.{HasLeft, EndsString, IsQuiet, NotesLimit}
 use Rattle.esc_lent.proofs.Fewer.{none_of, is_osc, is_blank_osc, hands_osc, osc_fewer, is_apc, any, hands_apc, apc_fewer, fewer_then}
 use Rattle.esc_lent.proofs.Kept.{ground_only}
+use Rattle.esc_lent.proofs.Only.{in_osc_only, in_apc_only, in_header_only}
 
 -- ---- the number of a state, and of a form
 
@@ -45,40 +46,13 @@ formed_number n h = grind (arith, nat_tests)
 
 -- ---- what is unfinished, by the number of the state
 
--- one of the states that this one is not
-other_data : (b : Bool) (s : State) → s ≡ (if b then state.Data else state.Ignored)
-    → (s ≡ state.Osc → ⊥) × (s ≡ state.Apc → ⊥) × (s ≡ state.Dcs → ⊥)
-other_data true s h = ((λ k. cc), (λ k. cc), (λ k. cc))
-other_data false s h = ((λ k. cc), (λ k. cc), (λ k. cc))
-
 module _ (p : EscParser) (memory : List ℕ) where
   osc_only : p.state ≡ 3 → (u : Unfinished) → KeptIn p memory u → is_osc u ≡ true
-  osc_only s Ground h = absurd cc
-  osc_only s (Pending f) h = absurd cc
-  osc_only s (InEscape x) h = absurd cc
-  osc_only s (InCsi o x) h = absurd cc
-  osc_only s (InDcs o x) h = absurd cc
-  osc_only s (InData o x f d) h =
-      absurd ((other_data (is_read (Some (length memory)) (strip x)) (state_numbered p.state) h).0
-      (ap state_numbered s))
-  osc_only s (InApc o d) h = absurd cc
-  osc_only s (InIgnored k o d) h = absurd cc
-  osc_only s (InOsc o ps) h = refl
-  osc_only s (InOscPending o ps f) h = refl
+  osc_only s u h =
+      in_osc_only p memory (λ v. is_osc v ≡ true) s (λ o ps t n. refl) (λ o ps f t n k. refl) u h
 
   apc_only : p.state ≡ 7 → (u : Unfinished) → KeptIn p memory u → is_apc u ≡ true
-  apc_only s Ground h = absurd cc
-  apc_only s (Pending f) h = absurd cc
-  apc_only s (InEscape x) h = absurd cc
-  apc_only s (InCsi o x) h = absurd cc
-  apc_only s (InDcs o x) h = absurd cc
-  apc_only s (InData o x f d) h =
-      absurd ((other_data (is_read (Some (length memory)) (strip x)) (state_numbered p.state) h).1
-      (ap state_numbered s))
-  apc_only s (InApc o d) h = refl
-  apc_only s (InIgnored k o d) h = absurd cc
-  apc_only s (InOsc o ps) h = absurd cc
-  apc_only s (InOscPending o ps f) h = absurd cc
+  apc_only s u h = in_apc_only p memory (λ v. is_apc v ≡ true) s (λ o d t. refl) u h
 
   -- a string whose text is kept in no byte is empty
   no_text : (t : List ℕ) → TextIn p memory t → p.text ≡ 0 → p.is_over ≡ false → is_empty t ≡ true
@@ -140,32 +114,26 @@ module _ (p : EscParser) (memory : List ℕ) (four : p.state ≡ 4) (over : p.is
       by_within (is_within (Some (length memory)) (header_count (strip x))) k
     where
       by_within : (t : Bool) → not t ≡ true → (t && is_dcs_header (strip x)) ≡ false
-      by_within true k = absurd cc
+      by_within true k = absurd (true≢false (sym k))
       by_within false k = refl
 
-  header_fewer : (u : Unfinished) → KeptIn p memory u → IsLimited (length memory) u (b ∷ [])
-  header_fewer (InDcs o x) h =
+  header_in : (o : Opener) (x : List ℕ) → TextIn p memory (parameters_of (strip x))
+      → HeaderIn p (strip x) → IsLimited (length memory) (InDcs o x) (b ∷ [])
+  header_in o x text header =
       let f = final_byte b low high in
       let form : is_read None (strip x) ≡ true =
-      sym (header_formed (strip x)) ∙ ap is_formed (sym h.2.1) ∙ formed_number p.form formed in
+      sym (header_formed (strip x)) ∙ ap is_formed (sym header.1) ∙ formed_number p.form formed in
       let past : events_all (Some (length memory)) (InDcs o x) (b ∷ []) ≡ [] =
       ap (λ es. es ++ []) (header_at (Some (length memory)) o x b (class_of b) f.0 f.1)
-      ∙ ap (λ t. (if t then hook_event (strip x) b ∷ [] else []) ++ []) (is_past x h.1) in
+      ∙ ap (λ t. (if t then hook_event (strip x) b ∷ [] else []) ++ []) (is_past x text) in
       let all : events_all None (InDcs o x) (b ∷ []) ≡ hook_event (strip x) b ∷ [] =
       ap (λ es. es ++ []) (header_at None o x b (class_of b) f.0 f.1)
       ∙ ap (λ t. (if t then hook_event (strip x) b ∷ [] else []) ++ []) form in
       omega (arith, ap length past, ap length all)
-  header_fewer Ground h = absurd cc
-  header_fewer (Pending f) h = absurd cc
-  header_fewer (InEscape x) h = absurd cc
-  header_fewer (InCsi o x) h = absurd cc
-  header_fewer (InData o x f d) h =
-      absurd ((other_data (is_read (Some (length memory)) (strip x)) (state_numbered p.state) h).2
-      (ap state_numbered four))
-  header_fewer (InApc o d) h = absurd cc
-  header_fewer (InIgnored k o d) h = absurd cc
-  header_fewer (InOsc o ps) h = absurd cc
-  header_fewer (InOscPending o ps f) h = absurd cc
+
+  header_fewer : (u : Unfinished) → KeptIn p memory u → IsLimited (length memory) u (b ∷ [])
+  header_fewer =
+      in_header_only p memory (λ v. IsLimited (length memory) v (b ∷ [])) four header_in
 
 -- ---- what is noted
 

@@ -1,5 +1,5 @@
 -- Escape sequences, what ESC opens, and what a control of C1 does.
-use Rattle.std.proofs.Common.{ℕ, ◌≡◌, ◌+◌, ◌-◌, ◌<◌, ◌≤◌, Bool, true, false, ◌&&◌, if◌then◌else◌, List, [], ◌∷◌, ◌++◌, length, take, drop, get_or}
+use Rattle.std.proofs.Common.{ℕ, ◌≡◌, ◌+◌, ◌-◌, ◌<◌, ◌≤◌, Bool, true, false, eqb, eqb-true, true≢false, ◌&&◌, if◌then◌else◌, List, [], ◌∷◌, ◌++◌, length, take, drop, get_or}
 use Rattle.std.proofs.Common.{refl, ap, sym, ◌∙◌, subst, append_assoc, take-append-drop, length-append, length-drop, arith}
 use Rattle.std.specs.List.{prefix_len}
 use Rattle.std.proofs.lemmas.List.{append-nil, take_rest, length-take-le}
@@ -154,23 +154,22 @@ raw_high b h = grind (arith, nat_tests)
 pub raw_range : (b : ℕ) → is_raw (class_of b) ≡ true → (0x80 ≤ b) × (b ≤ 0x9f)
 raw_range b h = (raw_low b h, raw_high b h)
 
-raw_letter : (b : ℕ) (k : Kind) → class_of b ≡ Breaks (C1Introducer k) → b ≡ raw_of k
+-- what the class says of the number
+abbrev fits : ℕ → Class → Bool
+fits b (Introducer k) = eqb b (letter_of k)
+fits b (Breaks (C1Introducer k)) = eqb b (raw_of k)
+fits b (Breaks C1Terminator) = eqb b 0x9c
+fits b _ = true
+
+class_fits : (b : ℕ) → fits b (class_of b) ≡ true
 unfolding class_of
-raw_letter b kind.Csi e = grind (arith, nat_tests)
-raw_letter b kind.Osc e = grind (arith, nat_tests)
-raw_letter b kind.Dcs e = grind (arith, nat_tests)
-raw_letter b kind.Sos e = grind (arith, nat_tests)
-raw_letter b kind.Pm e = grind (arith, nat_tests)
-raw_letter b kind.Apc e = grind (arith, nat_tests)
+class_fits b = grind (arith, nat_tests)
+
+raw_letter : (b : ℕ) (k : Kind) → class_of b ≡ Breaks (C1Introducer k) → b ≡ raw_of k
+raw_letter b k e = eqb-true b (raw_of k) (sym (ap (fits b) e) ∙ class_fits b)
 
 letter : (b : ℕ) (k : Kind) → class_of b ≡ Introducer k → b ≡ letter_of k
-unfolding class_of
-letter b kind.Csi e = grind (arith, nat_tests)
-letter b kind.Osc e = grind (arith, nat_tests)
-letter b kind.Dcs e = grind (arith, nat_tests)
-letter b kind.Sos e = grind (arith, nat_tests)
-letter b kind.Pm e = grind (arith, nat_tests)
-letter b kind.Apc e = grind (arith, nat_tests)
+letter b k e = eqb-true b (letter_of k) (sym (ap (fits b) e) ∙ class_fits b)
 
 raw_opens : (k : Kind) → opens (class_of (raw_of k - 0x40)) ≡ true
 unfolding class_of
@@ -182,8 +181,7 @@ raw_opens kind.Pm = refl
 raw_opens kind.Apc = refl
 
 is_st : (b : ℕ) → class_of b ≡ (Breaks C1Terminator) → b ≡ 0x9c
-unfolding class_of
-is_st b e = grind (arith, nat_tests)
+is_st b e = eqb-true b 0x9c (sym (ap (fits b) e) ∙ class_fits b)
 
 st_class : is_terminator (class_of 0x9c) ≡ true
 unfolding class_of
@@ -195,9 +193,9 @@ raw_by b (Breaks C1) e h n m = refl
 raw_by b (Breaks (C1Introducer k)) e h n m =
     let i : opens (class_of (b - 0x40)) ≡ true =
     ap (λ y. opens (class_of (y - 0x40))) (raw_letter b k e) ∙ raw_opens k in
-    let z : true ≡ false = sym i ∙ n in absurd cc
+    absurd (true≢false (sym i ∙ n))
 raw_by b (Breaks C1Terminator) e h n m = absurd (m (is_st b e))
-raw_by b _ e h n m = absurd cc
+raw_by b _ e h n m = absurd (true≢false (sym h))
 
 control_by : (b : ℕ) (body : List ℕ) → is_c1 (class_of b) ≡ true → (p : Bool)
     → IsFirst (after_c2 p b ++ body) (moved (length (after_c2 p b)) (found kinds.Control 0 true))
@@ -223,7 +221,7 @@ raw_terminator b body e =
 -- the letter of a byte that opens
 letter_by : (b : ℕ) (c : Class) → class_of b ≡ c → opens c ≡ true → (k : Kind) × (b ≡ letter_of k)
 letter_by b (Introducer k) e h = (k, letter b k e)
-letter_by b _ e h = absurd cc
+letter_by b _ e h = absurd (true≢false (sym h))
 
 pub letter_is : (b : ℕ) → opens (class_of b) ≡ true → (k : Kind) × (b ≡ letter_of k)
 letter_is b h = letter_by b (class_of b) refl h
@@ -280,7 +278,7 @@ noise_in Bell h = refl
 noise_in Delete h = refl
 noise_in High h = refl
 noise_in Lead h = refl
-noise_in _ h = absurd cc
+noise_in _ h = absurd (true≢false (sym h))
 
 final_by : (c : Class) → in_escape c ≡ false → is_breaker c ≡ false → ends_escape c ≡ true
 final_by Parameter h i = refl
@@ -301,8 +299,8 @@ closed_by : (b : ℕ) (s u : List ℕ) (f : ℕ) (t w : Bool) → is_noise (clas
     → OpensNothing (if t then rest is_noise s else b ∷ s)
     → (is_empty (strip (if w then b ∷ prefix in_escape s else [])) && opens (class_of f)) ≡ false
 closed_by b s u f true true n i so e h = rw n (so e h)
-closed_by b s u f true false n i so e h = let z : true ≡ false =
-    sym (noise_in (class_of b) n) ∙ i in absurd cc
+closed_by b s u f true false n i so e h =
+    absurd (true≢false (sym (noise_in (class_of b) n) ∙ i))
 closed_by b s u f false true n i so e h = rw n refl
 closed_by b s u f false false n i so e h = let j : b ≡ f = cc in
     subst (λ y. opens (class_of y) ≡ false) j h
