@@ -12,8 +12,8 @@ abbrev pub no_piece : Bor (List ℕ)
 no_piece = record { ref_ptr = (0, 0); now = [] }
 
 -- what a piece means
-pub meant_more : {X : Type 0} (name : List ℕ → List ℕ) (f : X → List ℕ) (xs : List X) (i : ℕ) (d : X)
-    (made after : List (List ℕ)) (y : List ℕ) → i < length xs → y ≡ name (f (get_or xs i d))
+pub meant_more : {X : Type 0} (name : List ℕ → List ℕ) (f : X → List ℕ) (xs : List X) (i : ℕ)
+    (d : X) (made after : List (List ℕ)) (y : List ℕ) → i < length xs → y ≡ name (f (get_or xs i d))
     → after ≡ made ++ y ∷ [] → made ≡ map name (map f (take i xs))
     → after ≡ map name (map f (take (i + 1) xs))
 meant_more name f xs i d made after y lt is pushed so_far =
