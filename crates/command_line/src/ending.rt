@@ -21,7 +21,7 @@ pub const USAGE_FAULT: u8 = 2;
 const CLOSED: u8 = 141;
 
 /// How a stream ended.
-#[derive(Clone, Copy, Debug, PartialEq, Eq)]
+#[derive(Clone, Copy, PartialEq, Eq)]
 pub enum Ended {
     /// It was read to its end, and what comes of it was written.
     Whole,

@@ -264,5 +264,5 @@ fn taken<'a>(option: Known, word: &'a str, size: usize) -> Given<'a>
 
 // Whether it is one of these words, or there are none.
 fn is_one_of(words: &[&'static str], value: &str) -> bool {
-    words.is_empty() || words.iter().any(|word| *word == value)
+    words.is_empty() || bit_of(words, value).is_some()
 }
