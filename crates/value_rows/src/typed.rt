@@ -2,7 +2,7 @@
 use crate::codecs::emitted;
 use crate::words::both;
 use esc_functions::{C0, ControlFunction, EscapeFunction};
-use esc_typed::{CsiParam, Function, Modes, Renditions, Selection, Unfit};
+use esc_typed::{CsiParam, Function, Modes, Rendition, Renditions, Unfit};
 use std::alloc::{AllocError, Global};
 
 /// What a sequence or a control asks for: the Debug text and the text of its typed value; after
@@ -133,17 +133,17 @@ fn listed(alloc: Global, renditions: Renditions<'_>) -> Result<String, AllocErro
 
 fn add_renditions(text: &mut String, renditions: Renditions<'_>) -> Result<(), AllocError> {
     for item in renditions {
-        add_rendition(text, item)?;
+        match item.rendition {
+            Some(rendition) => add_rendition(text, rendition)?,
+            None => add_entries(text, item.entries)?,
+        }
         text.push(';')?;
     }
     Ok(())
 }
 
-fn add_rendition(text: &mut String, item: Selection<'_>) -> Result<(), AllocError> {
-    match item.rendition {
-        Some(rendition) => write!(text, " {rendition:?} {rendition}"),
-        None => add_entries(text, item.entries),
-    }
+fn add_rendition(text: &mut String, rendition: Rendition) -> Result<(), AllocError> {
+    write!(text, " {rendition:?} {rendition}")
 }
 
 // Appends entries as they came.
