@@ -343,28 +343,18 @@ impl<A: Allocator> SixelBuilder<A> {
         let pad = signed(&self.parameters, 1, 1);
         if !self.parameters.has_separators(3) {
             self.sixel.content.push_optional(next)?;
-            self.sixel.pan = pan;
-            self.sixel.pad = pad;
-            return Ok(());
+        } else if let Some((width, height)) = sizes(&self.parameters) {
+            self.sixel.content.push_optional(next)?;
+            self.sixel.pixel_width = Some(width);
+            self.sixel.pixel_height = Some(height);
+        } else {
+            self.sixel.content.restart(next)?;
+            self.sixel.pixel_width = None;
+            self.sixel.pixel_height = None;
         }
-        match sizes(&self.parameters) {
-            Some((width, height)) => {
-                self.sixel.content.push_optional(next)?;
-                self.sixel.pan = pan;
-                self.sixel.pad = pad;
-                self.sixel.pixel_width = Some(width);
-                self.sixel.pixel_height = Some(height);
-                Ok(())
-            }
-            None => {
-                self.sixel.content.restart(next)?;
-                self.sixel.pan = pan;
-                self.sixel.pad = pad;
-                self.sixel.pixel_width = None;
-                self.sixel.pixel_height = None;
-                Ok(())
-            }
-        }
+        self.sixel.pan = pan;
+        self.sixel.pad = pad;
+        Ok(())
     }
 
     // A command ends; `next` is what the byte after it gives.
