@@ -15,7 +15,7 @@ ghost use Rattle.esc_sixel.specs.declared.introducer.Introducer.TheVariants.{Col
 
 use crate::class::{Class, classify};
 use crate::commands::{channel_of, color, repeat, signed, sizes};
-use crate::few_digits::{few_digits, number_before};
+use crate::few_digits::{count_of_pixels, number_before};
 use crate::introducer::Introducer;
 use crate::parameters::Parameters;
 use crate::pixels::{Line, line_end, make_room, pixels_run, push_line, push_pixels};
@@ -217,12 +217,10 @@ impl<A: Allocator> SixelBuilder<A> {
         ensures err { OnErr result (self.new ≡ self.old) }
         ensures refused { OnErr result (Refused A) }
     {
-        let (color, digits) = few_digits(&rest[1..]);
-        let end = 1 + digits;
-        if 0 < digits && end < rest.len() && rest[end] == b'!' {
-            let (repeat_count, digits) = few_digits(&rest[end + 1..]);
-            let last = end + 1 + digits;
-            if 0 < digits && last < rest.len() && 0x3f <= rest[last] && rest[last] <= 0x7e {
+        if let Some((color, digits)) = number_before(rest, 1, b'!') {
+            let at = digits + 2;
+            if let Some((repeat_count, digits)) = count_of_pixels(rest, at) {
+                let last = at + digits;
                 let after = &rest[last + 1..];
                 let run = pixels_run(after);
                 let line = Line {
@@ -253,11 +251,10 @@ impl<A: Allocator> SixelBuilder<A> {
         if rest[0] != b'!' {
             return None;
         }
-        let (repeat_count, digits) = few_digits(&rest[1..]);
-        let last = 1 + digits;
-        if digits == 0 || last >= rest.len() || rest[last] < 0x3f || 0x7e < rest[last] {
+        let Some((repeat_count, digits)) = count_of_pixels(rest, 1) else {
             return None;
-        }
+        };
+        let last = 1 + digits;
         let content = rest[last] - 0x3f;
         let pixels = SixelData::Repeat {
             repeat_count,
