@@ -1,5 +1,5 @@
 -- Exact prefixes: what a turn of a loop that looks for one knows.
-use Rattle.std.proofs.Common.{◌≡◌, ℕ, zero, suc, ◌+◌, ◌-◌, ◌<◌, ◌≤◌, List, [], ◌∷◌, ◌++◌, length, take, drop, Option, Some, None, IfSome, refl, ap, sym, ◌∙◌}
+use Rattle.std.proofs.Common.{◌≡◌, ◌≢◌, ℕ, zero, suc, ◌+◌, ◌-◌, ◌<◌, ◌≤◌, List, [], ◌∷◌, ◌++◌, length, take, drop, Option, Some, None, IfSome, refl, ap, sym, ◌∙◌}
 use Rattle.std.proofs.Common.{subst, append_assoc, take-append-drop, take_all, length-drop, arith, ◌⊎◌, inl, inr}
 use Rattle.std.proofs.Math.Seq.{take-add}
 use Rattle.std.proofs.Math.Nat.{eq-or-lt_of_le}
@@ -88,6 +88,25 @@ prefix_empty : {A : Type 0} (limit : Option ℕ) (s b c : List ℕ)
 prefix_empty limit s b c e =
     left_empty (yield_within limit s b) (yield_within limit (s ++ b) c)
     (sym (yield_append limit s b c) ∙ e)
+
+-- how many bytes there are, of which at were taken, and then n of the rest, one at least where there
+-- are any
+pub least : (n : ℕ) → 0 ≤ n
+least n = omega arith
+
+pub none_left : (at len : ℕ) → len ≡ 0 → len - at ≡ 0
+none_left at len none = omega arith
+
+pub more_within : (at n rest len : ℕ) → rest ≡ len - at → n ≤ rest → at ≤ len → at + n ≤ len
+more_within at n rest len is few within = omega arith
+
+pub some_more : (at n rest len : ℕ) → rest ≡ len - at → (n ≤ rest) × (0 < rest → 0 < n)
+    → at + n ≢ len → at + n ≡ 0 → ⊥
+some_more at n rest len is (few, some) other none = omega arith
+
+pub fewer_left : (at n rest len : ℕ) → rest ≡ len - at → (n ≤ rest) × (0 < rest → 0 < n)
+    → at + n ≢ len → at ≤ len → len - (at + n) < len - at
+fewer_left at n rest len is (few, some) other within = omega arith
 
 -- at bytes were taken, and k of the rest are
 more_is : (bs : List ℕ) (at k : ℕ)

@@ -27,7 +27,7 @@ returns-in-Ok g c =
           (sym c.take.ensures.taken) h.1) in ((w.0.0, r.0), r.1);
       quiet = λ limit s h. quiet_silent g.row.A.Denot limit s bs c.in-Ok.taken
           (IfOk-at_ok _ c.in-Ok.is (some.ensures.parsed limit s h.0).given).1;
-      refused = search rules;
+      refused = λ limit s h. tt;
       failed = search rules;
     }
 
@@ -35,10 +35,10 @@ pub returns-in-Err : goal.returns-in-Err
 unfolding WasFedWithin
 returns-in-Err g c =
     let some = c.parse_some-result in record {
-      count = search rules;
+      count = tt;
       empty = search rules;
-      given = search rules;
-      quiet = search rules;
+      given = λ limit s h. tt;
+      quiet = λ limit s h. tt;
       refused = λ limit s h.
           let w = IfErr-at_err _ c.in-Err.is (some.ensures.parsed limit s h.0).refused in (
             w.0,

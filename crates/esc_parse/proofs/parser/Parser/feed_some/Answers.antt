@@ -35,17 +35,17 @@ returns-in-Ok g c =
           data_is_silent g.row.A.Denot limit s (take k bs)
           (c.data_ahead-n.ensures.kept some limit _ h.1)
           (prefix_all is_data_byte bs n k (omega (arith, few)) c.data_ahead-n.ensures.run);
-      refused = search rules;
+      refused = λ limit s h. tt;
       failed = search rules;
     }
 
 pub returns-in-Err : goal.returns-in-Err
 returns-in-Err g c =
     let bs = c.args.bytes.now in record {
-      count = search rules;
+      count = tt;
       empty = λ e. refl;
-      given = search rules;
-      quiet = search rules;
+      given = λ limit s h. tt;
+      quiet = λ limit s h. tt;
       refused = λ limit s h.
           let f = IfErr-at_err _ c.in-Err.is (c.parse_into-result.ensures.refused limit s h) in
           let own = stops_itself _ _ _ _ _ _ f.2 in (

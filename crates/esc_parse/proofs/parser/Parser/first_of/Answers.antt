@@ -1,4 +1,4 @@
-use Rattle.std.proofs.Common.{◌≡◌, ◌+◌, ◌≤◌, ◌++◌, length, take, refl, sym, ap, ◌∙◌, subst, arith, rules}
+use Rattle.std.proofs.Common.{◌≡◌, ◌+◌, ◌≤◌, ◌++◌, length, take, refl, sym, ap, ◌∙◌, subst, arith}
 use Rattle.std.proofs.lemmas.List.{append-nil, take_all}
 use Rattle.std.proofs.lemmas.Result.{IfErr-at_err, IfOk-at_ok}
 use Rattle.std.specs.Option.{option_map}
@@ -72,8 +72,8 @@ returns-in-Some g c =
       handed_out = λ limit s h.
           first_handed g.row.A.Denot c.yield_handed_out.ensures limit s bs (value_of action) _
           (is limit s h).1;
-      none = search rules;
-      refused = search rules;
+      none = λ limit s h. tt;
+      refused = λ limit s h. tt;
       failed = λ b. absurd (ok_is_no_error _ _ _ c.in-Ok.is
           (next.ensures.failed (c.prefixes.invariant.broken b)).0);
     }
@@ -85,9 +85,9 @@ returns-then-at-bytes g c =
     let n = c.in-Ok.taken in
     let next = c.first_in-taken in
     let all : take (at + n) bs ≡ bs = take_all (at + n) bs (omega arith) in record {
-      count = search rules;
-      some = search rules;
-      handed_out = search rules;
+      count = tt;
+      some = λ limit s h. tt;
+      handed_out = λ limit s h. tt;
       none = λ limit s h.
           let p = c.prefixes.invariant.fed limit s h in
           let w = IfOk-at_ok _ c.in-Ok.is (next.ensures.given limit (s ++ take at bs) p.0) in
@@ -97,17 +97,17 @@ returns-then-at-bytes g c =
                 (fed_more s bs at n ∙ ap (λ x. s ++ x) all) w.0,
             ap (yield_within limit s) (sym all) ∙ e,
           );
-      refused = search rules;
+      refused = λ limit s h. tt;
       failed = λ b. absurd (ok_is_no_error _ _ _ c.in-Ok.is
           (next.ensures.failed (c.prefixes.invariant.broken b)).0);
     }
 
 pub returns-in-Err : goal.returns-in-Err
 returns-in-Err g c = record {
-  count = search rules;
-  some = search rules;
-  handed_out = search rules;
-  none = search rules;
+  count = tt;
+  some = λ limit s h. tt;
+  handed_out = λ limit s h. tt;
+  none = λ limit s h. tt;
   refused = λ limit s h.
       let bs = c.args.bytes.now in
       let fed = c.prefixes.invariant.fed limit s h in

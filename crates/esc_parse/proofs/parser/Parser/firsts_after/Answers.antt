@@ -1,9 +1,10 @@
-use Rattle.std.proofs.Common.{ℕ, List, ◌≡◌, ◌+◌, ◌-◌, ◌<◌, ◌≤◌, ◌++◌, length, take, refl, sym, ap, ◌∙◌, subst, arith, rules}
+use Rattle.std.proofs.Common.{ℕ, List, ◌≡◌, ◌+◌, ◌-◌, ◌<◌, ◌≤◌, ◌++◌, length, take, refl, sym, ap, ◌∙◌, subst, arith}
+use Rattle.std.proofs.lemmas.Bool.{true≢false}
 use Rattle.std.proofs.lemmas.List.{append-nil, take_all}
 use Rattle.std.proofs.lemmas.Result.{IfErr-at_err, IfOk-at_ok}
 use Rattle.esc_parse.proofs.Collecting.{counts_more}
 use Rattle.esc_parse.proofs.Errors.{ok_is_no_error, same_error}
-use Rattle.esc_parse.proofs.FirstsGiven.{adds_nothing, fed_more, prefix_some, no_stop_up_to, no_stop_within, no_stop_yet, rest_length, some_of_rest, values_more, wants_rest}
+use Rattle.esc_parse.proofs.FirstsGiven.{adds_nothing, fed_more, fewer_left, least, more_within, no_stop_up_to, no_stop_within, no_stop_yet, none_left, prefix_some, rest_length, some_more, some_of_rest, values_more, wants_rest}
 use Rattle.esc_parse.proofs.parser.Parser.firsts_after.Goals as goal
 use Rattle.esc_parse.specs.Collected.{Adds}
 use Rattle.esc_parse.specs.Fed.{WasFedWithin}
@@ -12,7 +13,7 @@ use Rattle.esc_actions.specs.Meaning.{yield_within}
 
 pub prefixes-init : goal.prefixes-init
 prefixes-init g c = record {
-  within = omega arith;
+  within = least _;
   fresh = λ e. refl;
   broken = λ b. (b, refl);
   fed =
@@ -35,11 +36,10 @@ returns-then-stops g c =
     let all = c.as_slice.ensures.value in
     let none : length bs ≡ 0 → at ≡ 0
     → length c.as_slice.result.now ≡ length c.as_slice-had.result.now = λ e z.
-    ap length (all ∙ more.ensures.empty (l ∙ omega (arith, e, z))
+    ap length (all ∙ more.ensures.empty (l ∙ none_left at _ e)
     ∙ c.prefixes.invariant.fresh z ∙ sym had) in
-    let count : 0 < length bs - at → 0 < n = λ h. taken.1 (omega (arith, h, l)) in
-    let m : at + n ≤ length bs =
-    omega (arith, l, taken.0, c.prefixes.invariant.within) in record {
+    let count : 0 < length bs - at → 0 < n = λ h. taken.1 (subst (λ k. 0 < k) (sym l) h) in
+    let m = more_within at n _ _ l taken.0 c.prefixes.invariant.within in record {
       count = (
         prefix_some (length bs) at n _ _ count (c.stops.ensures.some c.if-stops.true) none,
         m,
@@ -64,8 +64,8 @@ returns-then-stops g c =
             v,
           );
       handed_out = λ limit s h k. c.yield_handed_out.ensures limit s (take k bs);
-      none = search rules;
-      refused = search rules;
+      none = λ limit s h. tt;
+      refused = λ limit s h. tt;
       failed = λ b.
           let failed = more.ensures.failed (c.prefixes.invariant.broken b).0 in
           absurd (ok_is_no_error _ _ _ c.in-Ok.is failed.0);
@@ -78,8 +78,8 @@ returns-then-at-bytes g c =
     let at = c.prefixes.at in
     let n = c.in-Ok.taken in
     let all : take (at + n) bs ≡ bs = take_all (at + n) bs (omega arith) in record {
-      count = search rules;
-      some = search rules;
+      count = tt;
+      some = λ limit s h. tt;
       handed_out = λ limit s h k. c.yield_handed_out.ensures limit s (take k bs);
       none = λ limit s h.
           let p = c.prefixes.invariant.fed limit s h in
@@ -90,9 +90,9 @@ returns-then-at-bytes g c =
           let P : List ℕ → Type 0 =
           λ b. Adds c.args.actions.items (yield_within limit s b) more.result.1.items in
           let here : IsStop g.row.A.Denot limit s (take (at + n) bs) → ⊥ = λ stop.
-          (let t = c.stops.ensures.no limit s (take (at + n) bs) f
-          (counts_more _ _ _ _ _ c.as_slice-had.ensures.value c.as_slice.ensures.value v) stop in
-          let e = c.if-stops.false in cc) in (
+          true≢false (sym (c.stops.ensures.no limit s (take (at + n) bs) f
+          (counts_more _ _ _ _ _ c.as_slice-had.ensures.value c.as_slice.ensures.value v) stop)
+          ∙ c.if-stops.false) in (
             subst (λ x. WasFedWithin limit x more.new.self) (ap (λ x. s ++ x) all) f,
             subst P all v,
             λ k below.
@@ -102,7 +102,7 @@ returns-then-at-bytes g c =
                 (IfOk-at_ok _ c.in-Ok.is
                 (more.ensures.quiet limit (s ++ take at bs) p.0))) here k within,
           );
-      refused = search rules;
+      refused = λ limit s h. tt;
       failed = λ b.
           let failed = more.ensures.failed (c.prefixes.invariant.broken b).0 in
           absurd (ok_is_no_error _ _ _ c.in-Ok.is failed.0);
@@ -112,10 +112,10 @@ pub returns-in-Err : goal.returns-in-Err
 returns-in-Err g c =
     let more = c.more_in-taken in
     let bs = c.args.bytes.now in record {
-      count = search rules;
-      some = search rules;
+      count = tt;
+      some = λ limit s h. tt;
       handed_out = λ limit s h k. c.yield_handed_out.ensures limit s (take k bs);
-      none = search rules;
+      none = λ limit s h. tt;
       refused = λ limit s h.
           let p = c.prefixes.invariant.fed limit s h in
           let f = IfErr-at_err _ c.in-Err.is
@@ -142,9 +142,8 @@ prefixes-preserved g c =
     let at = c.prefixes.at in
     let n = c.in-Ok.taken in
     let l = rest_length bs at in record {
-      within = omega (arith, l, taken.0, c.prefixes.invariant.within);
-      fresh = λ e. absurd
-          (omega (arith, l, e, taken.1, c.prefixes.invariant.within));
+      within = more_within at n _ _ l taken.0 c.prefixes.invariant.within;
+      fresh = λ e. absurd (some_more at n _ _ l taken c.if-at-bytes.false e);
       broken = λ b.
           let failed = more.ensures.failed (c.prefixes.invariant.broken b).0 in
           absurd (ok_is_no_error _ _ _ c.in-Ok.is failed.0);
@@ -155,9 +154,9 @@ prefixes-preserved g c =
           let v = values_more limit s bs at n _ _ _ p.1 w.1 in
           let f = subst (λ x. WasFedWithin limit x more.new.self) (fed_more s bs at n) w.0 in
           let here : IsStop g.row.A.Denot limit s (take (at + n) bs) → ⊥ = λ stop.
-          (let t = c.stops.ensures.no limit s (take (at + n) bs) f
-          (counts_more _ _ _ _ _ c.as_slice-had.ensures.value c.as_slice.ensures.value v) stop in
-          let e = c.if-stops.false in cc) in (
+          true≢false (sym (c.stops.ensures.no limit s (take (at + n) bs) f
+          (counts_more _ _ _ _ _ c.as_slice-had.ensures.value c.as_slice.ensures.value v) stop)
+          ∙ c.if-stops.false) in (
             f,
             v,
             no_stop_up_to g.row.A.Denot limit s bs (at + n)
@@ -172,4 +171,5 @@ prefixes-smaller g c =
     let more = c.more_in-taken in
     let taken = IfOk-at_ok _ c.in-Ok.is more.ensures.count in
     let l = rest_length c.args.bytes.now c.prefixes.at in
-    omega (arith, taken.0, taken.1, c.prefixes.invariant.within)
+    fewer_left c.prefixes.at c.in-Ok.taken _ _ l taken c.if-at-bytes.false
+    c.prefixes.invariant.within

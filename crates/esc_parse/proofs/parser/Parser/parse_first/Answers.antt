@@ -20,8 +20,8 @@ returns-in-Some g c =
       some = is;
       handed_out = λ limit s h.
           first_handed g.row.A.Denot c.yield_handed_out.ensures limit s bs _ n (is limit s h).1;
-      none = search rules;
-      refused = search rules;
+      none = λ limit s h. tt;
+      refused = λ limit s h. tt;
       failed = search rules;
     }
 
@@ -40,7 +40,7 @@ returns-in-Some-first_control g c =
       some = is;
       handed_out = λ limit s h.
           first_handed g.row.A.Denot c.yield_handed_out.ensures limit s bs _ 1 (is limit s h).1;
-      none = search rules;
-      refused = search rules;
+      none = λ limit s h. tt;
+      refused = λ limit s h. tt;
       failed = search rules;
     }

@@ -31,8 +31,8 @@ returns-in-Some g c =
             subst P yields.1 (adds_one had all _ _ c.push_reserved.ensures.items refl),
           );
       handed_out = λ limit s h k. c.yield_handed_out.ensures limit s (take k bs);
-      none = search rules;
-      refused = search rules;
+      none = λ limit s h. tt;
+      refused = λ limit s h. tt;
       failed = search rules;
     }
 
@@ -54,7 +54,7 @@ returns-in-Some-first_control g c =
             subst P yields.1 (adds_one had push.new.self.items _ _ push.ensures.items refl),
           );
       handed_out = λ limit s h k. c.yield_handed_out.ensures limit s (take k bs);
-      none = search rules;
-      refused = search rules;
+      none = λ limit s h. tt;
+      refused = λ limit s h. tt;
       failed = search rules;
     }

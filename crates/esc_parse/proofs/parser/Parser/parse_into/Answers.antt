@@ -20,7 +20,7 @@ returns-in-Ok g c = record {
       c.args.bytes.now _ c.parse-result.new.actor w.1
       (subst (λ u. Hooks limit u (mode_from plain (events_within limit s)))
       (sym c.take.ensures.taken) h.1) in ((w.0, r.0), r.1);
-  refused = search rules;
+  refused = λ limit s h. tt;
   failed = search rules;
   ready = search rules;
 }
@@ -28,7 +28,7 @@ returns-in-Ok g c = record {
 pub returns-in-Err : goal.returns-in-Err
 unfolding WasFedWithin
 returns-in-Err g c = record {
-  given = search rules;
+  given = λ limit s h. tt;
   refused = λ limit s h.
       let w = IfErr-at_err _ c.in-Err.is (c.parse-result.ensures.parsed limit s h.0).refused in (
         w.0,
