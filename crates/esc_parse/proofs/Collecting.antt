@@ -1,5 +1,5 @@
 -- What a list of actions is given, one after another or as a run.
-use Rattle.std.proofs.Common.{ℕ, ◌≡◌, ◌<◌, ◌+◌, List, [], ◌∷◌, ◌++◌, length, map, refl, ap, sym, ◌∙◌, append_assoc, inl, inr, arith}
+use Rattle.std.proofs.Common.{ℕ, ◌≡◌, ◌<◌, ◌+◌, List, [], ◌∷◌, ◌++◌, get_or, length, map, refl, ap, sym, ◌∙◌, append_assoc, inl, inr, arith}
 use Rattle.std.proofs.lemmas.List.{append-nil, length-append, length-map, map-append}
 use Rattle.std.proofs.Common.{Option, Some, None, Result, Ok, Err, subst}
 use Rattle.std.proofs.lemmas.Result.{IfErr-at_err, IfOk-at_ok}
@@ -12,10 +12,12 @@ use Rattle.esc_parse.specs.Calls.{FindsFirstList, FindsFirsts}
 use Rattle.esc_parse.specs.Firsts.{IsFirstStop}
 use Rattle.esc_parse.specs.declared.parser.Parser.{Parser}
 use Rattle.esc_actions.specs.declared.action.Action.{Action}
+use Rattle.esc_actions.specs.declared.action.Action.TheVariants as action
 use Rattle.esc_actions.specs.Values.{Value, value_of}
 use Rattle.esc_parse.specs.Collected.{Adds, AddsSome, Gathers}
-use Rattle.esc_parse.specs.Given.{At, StopsAt}
+use Rattle.esc_parse.specs.Given.{At, StopsAt, first_of}
 use Rattle.esc_parse.specs.declared.sink.Collect.{Collect}
+use Rattle.esc_parse.specs.declared.sink.First.{First}
 use Rattle.memory.specs.Refusals.{Refused}
 
 module _ {A : Type 0} (f : ℕ → Action A) where
@@ -35,7 +37,7 @@ module _ {A : Type 0} (f : ℕ → Action A) where
   gathers_none (x ∷ xs) p q some e r = inr (inl (e, r))
 
 -- a list is refused a place for an action
-abbrev Full : {A : Type 0} → Collect A → Action A → Collect A → Type 0
+abbrev pub Full : {A : Type 0} → Collect A → Action A → Collect A → Type 0
 Full {A} p a q = (q.actions.items ≡ p.actions.items) × Refused A
 
 pub adds_none : {A : Type 0} (had all : List (Action A)) → all ≡ had → Adds had [] all
@@ -94,6 +96,30 @@ gathers_some own p (v ∷ vs) q (inr (inl r)) = ([], v ∷ vs, refl, adds_none _
 gathers_some own p (v ∷ vs) q (inr (inr (j, (a, is, t), rest))) =
     adds_some p.actions.items j.actions.items q.actions.items (v ∷ []) vs
     (adds_one _ _ a v t is) (gathers_some own j vs q rest)
+
+-- what keeps the first action takes a run by its first character
+abbrev pub Keeps : {A : Type 0} → First A → Action A → First A → Type 0
+Keeps p a q = q.action ≡ first_of p.action a
+
+some_first : {T : Type 0} (o : Option T) (t : T) → (f : T) × (first_of o t ≡ Some f)
+some_first None t = (t, refl)
+some_first (Some f) t = (f, refl)
+
+passes_over : {A : Type 0} (xs : List ℕ) (q : First A) (a : Action A) → q.action ≡ Some a
+    → FoldsTo Keeps q (map action.Print xs) q
+passes_over [] q a e = refl
+passes_over (x ∷ xs) q a e =
+    (q, e ∙ sym (ap (λ o. first_of o (action.Print x)) e), passes_over xs q a e)
+
+pub first_taken : {A : Type 0} (x : ℕ) (xs : List ℕ) (p q : First A)
+    → Keeps p (action.Print x) q → FoldsTo Keeps p (map action.Print (x ∷ xs)) q
+first_taken x xs p q k =
+    let (a, is) = some_first p.action (action.Print x) in (q, k, passes_over xs q a (k ∙ is))
+
+pub first_byte : {A : Type 0} (xs : List ℕ) (d : ℕ) (p q : First A) → 0 < length xs
+    → Keeps p (action.Print (get_or xs 0 d)) q → FoldsTo Keeps p (map action.Print xs) q
+first_byte [] d p q some k = absurd (omega (arith, some))
+first_byte (x ∷ xs) d p q some k = first_taken x xs p q k
 
 -- what was appended to no actions is a list of its own
 pub lists_found : {A L : Type 0} (items : L → List (Action A)) (old : Parser A) (b : List ℕ)

@@ -250,6 +250,17 @@ impl<A: Allocator> Sink<Action<A>> for Collect<A> {
         Ok(())
     }
 
+    #[inline]
+    fn receive_str(&mut self, text: &str) -> Result<(), AllocError> {
+        for c in text.chars() {
+            match self.receive(Action::Print(c)) {
+                Ok(()) => {}
+                Err(error) => return Err(error),
+            }
+        }
+        Ok(())
+    }
+
     // What follows is as by default, and written out: at the type of an action, a method that is
     // taken over from the trait costs a proof some seconds more.
     #[inline]
@@ -278,6 +289,16 @@ impl<A: Allocator> Sink<Action<A>> for Collect<A> {
     }
 }
 
+// Keeps the value where none is kept yet, and drops it otherwise.
+#[inline]
+fn keep_first<T: Drop>(first: &mut Option<T>, next: T)
+    ensures { first.new ≡ first_of first.old next }
+{
+    if first.is_none() {
+        *first = Some(next);
+    }
+}
+
 /// Keeps the first action, and drops the others. It takes no memory.
 #[derive(Drop)]
 pub struct First<A: Allocator = Global> {
@@ -295,9 +316,25 @@ impl<A: Allocator> Sink<Action<A>> for First<A> {
     ghost refuses = { λ p a q. ⊥ };
 
     fn receive(&mut self, action: Action<A>) -> Result<(), AllocError> {
-        if self.action.is_none() {
-            self.action = Some(action);
-        }
+        keep_first(&mut self.action, action);
+        Ok(())
+    }
+
+    #[inline]
+    fn receive_text(&mut self, text: &[u8]) -> Result<(), AllocError> {
+        let [first, ..] = text else {
+            return Ok(());
+        };
+        keep_first(&mut self.action, Action::Print(*first as char));
+        Ok(())
+    }
+
+    #[inline]
+    fn receive_str(&mut self, text: &str) -> Result<(), AllocError> {
+        let Some(first) = text.chars().next() else {
+            return Ok(());
+        };
+        keep_first(&mut self.action, Action::Print(first));
         Ok(())
     }
 

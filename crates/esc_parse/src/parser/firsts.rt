@@ -78,7 +78,7 @@ impl<A: Allocator + Copy> Parser<A> {
         if n == 0 {
             return self.feed_next(bytes, sink);
         }
-        let result = self.parse_into(&bytes[..n], First { action: None }).0;
+        let (result, sink) = self.parse_into(&bytes[..n], sink);
         match result {
             Ok(()) => (Ok(n), sink),
             Err(error) => (Err(error), sink),

@@ -1,0 +1,30 @@
+use Rattle.std.proofs.Common.{inl}
+use Rattle.std.proofs.lemmas.Str.{IsUtf8-past_char}
+use Rattle.esc_actions.specs.declared.action.Action.TheVariants as action
+use Rattle.esc_parse.specs.Collected.{Gathers}
+use Rattle.esc_parse.proofs.Collecting.{Full}
+use Rattle.esc_parse.proofs.TextRuns.{char_stopped, char_taken, chars_taken}
+use Rattle.esc_parse.proofs.sink.CollectSinkAction.receive_str.Goals as goal
+
+pub loop-c-preserved : goal.loop-c-preserved
+loop-c-preserved g c =
+    let at = c.loop-c in
+    let step = c.in-Some.ensures.steps.0 in (
+      IsUtf8-past_char _ _ c.in-Some.c at.invariant.0 step,
+      char_taken action.Print Gathers Full c.args.text.now _ _ c.in-Some.c c.args.self.now _ _
+          at.invariant.0 step at.invariant.1 c.in-Ok.ensures.given,
+    )
+
+pub returns-in-Err-clause-given : goal.returns-in-Err-clause-given
+returns-in-Err-clause-given g c =
+    let at = c.loop-c in
+    char_stopped action.Print Gathers Full c.args.text.now _ _ c.in-Some.c c.args.self.now _ _
+    at.invariant.0 c.in-Some.ensures.steps.0 at.invariant.1 c.in-Err.ensures.given
+
+pub returns-clause-given : goal.returns-clause-given
+returns-clause-given g c =
+    chars_taken action.Print Gathers c.args.text.now _ c.args.self.now _
+    c.in-None.ensures.steps.0.0 c.loop-c.invariant.1
+
+pub receive-requires : goal.receive-requires
+receive-requires g c = inl tt
