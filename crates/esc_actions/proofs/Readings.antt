@@ -1,10 +1,10 @@
 -- Nothing is unfinished between two segments, so a stream means the readings of its cut.
-use Rattle.std.proofs.Common.{ℕ, ◌≡◌, Bool, true, false, if◌then◌else◌, List, [], ◌∷◌, ◌++◌, map, length, Option, None, ◌⊎◌, inl, inr, refl, ap, sym, ◌∙◌}
+use Rattle.std.proofs.Common.{ℕ, ◌≡◌, Bool, true, false, if◌then◌else◌, List, [], ◌∷◌, ◌++◌, map, length, Option, None, ◌⊎◌, inl, inr, refl, ap, sym, ◌∙◌, append-nil}
 use Rattle.esc_frame.specs.Bodies.{is_csi_body}
 use Rattle.esc_frame.specs.Classes.{is_c0, is_text, those, strip}
 use Rattle.esc_frame.specs.Events.{Event}
 use Rattle.esc_frame.specs.Events.Event.{Execute, OscDispatch, DcsUnhook, ApcDispatch}
-use Rattle.esc_frame.specs.Segments.{Segment, IsCut, HasEventsWithin, Opener, Piece, Ending, events_of_within, events_of_cut_within, ends_itself, opener_events}
+use Rattle.esc_frame.specs.Segments.{Segment, AreSegments, IsCut, HasEventsWithin, Opener, Piece, Ending, events_of_within, events_of_cut_within, ends_itself, is_finished, joined, opener_events}
 use Rattle.esc_frame.specs.Segments.{executes, csi_events, hook_event, puts, text_of}
 use Rattle.esc_frame.specs.Segments.Ending.{Open, Rung, Waits}
 use Rattle.esc_frame.specs.Counts.{kept_of, kept_of_cut}
@@ -19,7 +19,7 @@ use Rattle.esc_frame.specs.Stream.{events_within, IsAtGround}
 use Rattle.esc_frame.proofs.Cuts.{itself}
 use Rattle.esc_actions.proofs.Meanings.{mode_append, values_append}
 use Rattle.esc_actions.specs.Meaning.{meaning_within, mode_from, values_from}
-use Rattle.esc_actions.specs.Readings.{reading_within, readings_within, MeansItsCut}
+use Rattle.esc_actions.specs.Readings.{reading_within, readings_of_each, readings_within, MeansItsCut, MeansItsSegments}
 use Rattle.esc_actions.specs.Values.{Mode, plain, after}
 
 pub executes_keep : (m : Mode) (bs : List ℕ) → mode_from m (map Execute bs) ≡ m
@@ -185,3 +185,26 @@ module _ (once : (limit : Option ℕ) (stream : List ℕ) (xs ys : List Event)
         | inl e ↦ inl (ap (mode_from plain) (events_are limit s gs cut) ∙ e)
         | inr e ↦ inr e
       ]
+
+-- ---- each segment by itself
+
+-- what ends by itself is what is finished with nothing after it
+same_end : (g : Segment) → ends_itself g ≡ is_finished g []
+same_end (Osc o ps Open) = refl
+same_end (Osc o ps Rung) = refl
+same_end (Osc o ps (Waits x)) = refl
+same_end _ = refl
+
+same_readings : {A : Type 0} (limit : Option ℕ) (gs : List Segment) → AreSegments gs
+    → readings_within {A = A} limit gs ≡ readings_of_each limit gs
+same_readings limit [] each = refl
+same_readings limit (g ∷ []) each =
+    ap (reading_within limit g) (same_end g) ∙ sym (append-nil (reading_within limit g _))
+same_readings limit (g ∷ h ∷ gs) (shape, finished, each) =
+    ap (λ b. reading_within limit g b ++ readings_within limit (h ∷ gs)) (sym finished)
+    ∙ ap (λ vs. reading_within limit g (is_finished g (joined (h ∷ gs))) ++ vs)
+    (same_readings limit (h ∷ gs) each)
+
+pub meaning_by_segments : (A : Type 0) → MeansItsCut A → MeansItsSegments A
+meaning_by_segments A means limit gs cut =
+    means limit (joined gs) gs cut ∙ same_readings limit gs cut.each

@@ -12,7 +12,7 @@ ghost use Rattle.esc_actions.specs.Headline.{Headline};
 ghost use Rattle.esc_actions.specs.Groups.{JoinsGroups, MeansGroups, MeansWritable, ends_in_mode};
 ghost use Rattle.esc_actions.specs.LowerLaws.{LowerLaws};
 ghost use Rattle.esc_actions.specs.Meaning.{meaning, meaning_within, mode_from, yield_within, Reads};
-ghost use Rattle.esc_actions.specs.Readings.{MeansItsCut};
+ghost use Rattle.esc_actions.specs.Readings.{MeansItsCut, MeansItsSegments};
 ghost use Rattle.esc_actions.specs.Texts.{list_text, normal};
 ghost use Rattle.esc_actions.specs.Values.{Value, plain};
 ghost use Rattle.esc_actions.specs.Writable.{AreHandedOut, AreWritable, is_exception};
@@ -41,6 +41,14 @@ pub fn meaning_of_the_cut<A: Allocator>()
 {
     esc_frame::laws::events_once_within();
     esc_frame::laws::events_of_the_cut_within();
+}
+
+/// So what a stream means is told segment by segment: reading starts anew at each, and its values
+/// are those of the segment by itself, finished or not by what comes after it.
+pub fn meaning_by_segments<A: Allocator>()
+    ensures { MeansItsSegments A }
+{
+    meaning_of_the_cut::<A>();
 }
 
 // What the laws of the crates below say.

@@ -1,0 +1,5 @@
+use Rattle.esc_actions.proofs.Readings.{meaning_by_segments}
+use Rattle.esc_actions.proofs.laws.meaning_by_segments.Goals as goal
+
+pub returns : goal.returns
+returns g c = meaning_by_segments _ c.meaning_of_the_cut.ensures
