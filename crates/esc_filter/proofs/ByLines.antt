@@ -153,7 +153,7 @@ module _ {A : Type 0} (u : Unicode) (limit : ℕ) (admits : Value A → Bool) wh
 
   -- what gives back what a line leaves changed
   abbrev C : List ℕ → List ℕ
-  C s = list_text (closing (V s))
+  C s = list_text (closing admits (V s))
 
   abbrev By : List ℕ → List ℕ
   By s = text_by_lines_as {A = A} u limit admits s
@@ -170,7 +170,7 @@ module _ {A : Type 0} (u : Unicode) (limit : ℕ) (admits : Value A → Bool) wh
 
   -- a line that has ended, or not
   abbrev either : Bool → List ℕ → List ℕ
-  either t l = if t then list_text (closed (V l)) ++ 0x0a ∷ [] else T l
+  either t l = if t then list_text (closed admits (V l)) ++ 0x0a ∷ [] else T l
 
   open_text : (r : List ℕ) → has_line_feed r ≡ false → By r ≡ T r
   open_text [] h = sym nothing
@@ -185,7 +185,7 @@ module _ {A : Type 0} (u : Unicode) (limit : ℕ) (admits : Value A → Bool) wh
       (ap lines e ∙ one_line x 0x0a none refl ∙ ap (λ k. k ∷ []) (sym e))
       ∙ append-nil (line_text u limit admits l)
       ∙ ap (λ t. either t l) (line_ends false l (x, none, e))
-      ∙ ap (λ t. t ++ 0x0a ∷ []) (closed_more (V l))
+      ∙ ap (λ t. t ++ 0x0a ∷ []) (closed_more admits (V l))
       ∙ append_assoc (T l) (C l) (0x0a ∷ [])
 
   -- ---- the filter

@@ -13,7 +13,8 @@ use Rattle.esc_values.specs.Clear.{is_clear}
 use Rattle.esc_actions.specs.Texts.{texts_after}
 use Rattle.esc_actions.specs.Values.{Value, print, string, control, esc, csi, osc, kitty, sixel, termcap, short, enter, datum, exit}
 use Rattle.esc_filter.specs.Characters.{in_characters, in_unicode}
-use Rattle.esc_filter.specs.Closing.{Left, after_values}
+use Rattle.esc_filter.specs.Closing.{after_values}
+use Rattle.esc_filter.specs.declared.terminal.Terminal.{Terminal}
 use Rattle.esc_filter.specs.Noted.{AreKept, Writes}
 use Rattle.esc_filter.specs.declared.written.Written.{Written}
 use Rattle.esc_filter.specs.Passing.{passes}
@@ -192,7 +193,7 @@ number_end A f c =
     prints_end A (0x55 ∷ 0x2b ∷ (leading c ++ (digit_at 0x1000 c ∷ digit_at 0x100 c
     ∷ digit_at 0x10 c ∷ digit_glyph true (c % 16) ∷ 0x3e ∷ [])))
 
-prints_leave : (A : Type 0) (xs : List ℕ) (o : Left)
+prints_leave : (A : Type 0) (xs : List ℕ) (o : Terminal)
     → after_values {A = A} (map print xs) o ≡ o
 prints_leave A [] o = refl
 prints_leave A (x ∷ xs) o = prints_leave A xs o

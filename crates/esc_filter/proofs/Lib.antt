@@ -6,6 +6,9 @@ pub mod Sequences
 pub mod Knowing
 pub mod Noting
 pub mod Lights
+pub mod Parts
+pub mod Unmoved
+pub mod Backs
 pub mod Closers
 pub mod Sinks
 pub mod Characters

@@ -1,5 +1,5 @@
 -- Whether renditions are on after a control sequence, and a link is left after a command.
-use Rattle.std.proofs.Common.{◌≡◌, ◌≢◌, ℕ, ℤ, pos, ◌<◌, length, ◌==◌, Bool, true, false, not, if◌then◌else◌, List, [], ◌∷◌, codes, Option, Some, None, refl, sym, ap, ◌∙◌, subst, drop, arith}
+use Rattle.std.proofs.Common.{◌≡◌, ◌≢◌, true≢false, ℕ, ℤ, pos, ◌<◌, ◌+◌, ◌*◌, ◌%◌, length, ◌==◌, Bool, true, false, not, if◌then◌else◌, List, [], ◌∷◌, codes, Option, Some, None, refl, sym, ap, ◌∙◌, subst, drop, arith}
 use Rattle.std.specs.Prelude.{is_some, unwrap_or}
 use Rattle.std.specs.List.{list_all, onto_first, slice_split}
 use Rattle.std.proofs.lemmas.List.{append_cancel_right}
@@ -22,10 +22,17 @@ use Rattle.esc_osc.specs.declared.command.OperatingSystemCommand.TheVariants as 
 use Rattle.esc_write.specs.Plain.{AreParams, IsPlainLink}
 use Rattle.esc_write.specs.declared.short_numbers.ShortNumbers.{ShortNumbers}
 use Rattle.esc_write.specs.declared.short_numbers.ShortNumbers.TheVariants as short
-use Rattle.esc_filter.specs.Closing.{IsAfter, Left, BeginsWith, Turns, after_body, after_command, is_reset, lights, turned}
+use Rattle.esc_functions.specs.Functions.{function_of, key_of, key_with, lead, marks, place, rows_of, sequence_key}
+use Rattle.esc_functions.specs.Rows.{packed}
+use Rattle.esc_functions.specs.declared.control_function.ControlFunction.{ControlFunction}
+use Rattle.esc_functions.specs.declared.control_function.ControlFunction.TheVariants as function
+use Rattle.esc_functions.proofs.Functions.{has_its_key}
+use Rattle.esc_filter.specs.Closing.{IsAfter, BeginsWith, Turns, after_body, after_command, is_reset, lights, turned}
+use Rattle.esc_filter.specs.Terminal.{after_function, after_named, lit}
+use Rattle.esc_filter.specs.declared.terminal.Terminal.{Terminal}
+use Rattle.esc_filter.proofs.Screens.{no_marks}
 use Rattle.esc_filter.specs.Rules.{BeginsOther, is_link, is_plain_param}
 use Rattle.esc_filter.proofs.Commands.{other_begins}
-use Rattle.esc_filter.specs.declared.left.TheConstants.{LINK, RENDITION}
 
 -- ---- one number
 
@@ -56,24 +63,36 @@ named_resets n h =
     (either (n == 21) _ _ refl
     (either (n == 24) _ _ refl refl))))))))
 
+-- a sequence of plain parameters alone is a rendition
+lit_at : (es : List CsiParam) (t : Terminal)
+    → after_named (function_of (key_with 1 (length es) 0x6d)) es t ≡ lit t
+unfolding function_of rows_of after_function
+lit_at es t = refl
+
+pub plain_lit : (es : List CsiParam) → list_all is_plain_param es ≡ true → (t : Terminal)
+    → after_body es 0x6d t ≡ turned true t
+plain_lit es h t =
+    ap (λ ms. after_named (function_of (key_with (packed 1 ms) (length es) 0x6d)) es t)
+    (no_marks es h) ∙ lit_at es t
+
 by_name : (n : ℤ) (o : Option Sgr) → numbered n ≡ o → resets o ≡ false
     → Turns (Integer n ∷ []) true
 by_name n None e h = (
   unspecified (Integer n ∷ []) false 0x6d,
   ap (λ x. unwrap_or (put_first x (Some [])) (unspecified (Integer n ∷ []) false 0x6d ∷ [])) e,
-  λ o. refl,
+  plain_lit (Integer n ∷ []) refl,
 )
 by_name n (Some s) e h = (
   sgr s,
   ap (λ x. unwrap_or (put_first x (Some [])) (unspecified (Integer n ∷ []) false 0x6d ∷ [])) e,
-  λ o. ap (λ b. turned o RENDITION (not b)) h,
+  λ t. ap (λ b. turned (not b) t) h,
 )
 
 -- a number that is 0, or another
 lone_by : (n : ℕ) (b : Bool) → (n == 0) ≡ b → Turns (Integer (pos n) ∷ []) (not b)
 lone_by n true h =
     subst (λ k. Turns (Integer (pos k) ∷ []) false) (sym (nat_is n h))
-    (sgr sgr_variant.Reset, refl, λ o. refl)
+    (sgr sgr_variant.Reset, refl, λ t. refl)
   where
     nat_is : (n : ℕ) → (n == 0) ≡ true → n ≡ 0
     nat_is n h = grind (arith, nat_tests)
@@ -84,14 +103,15 @@ pub lone_turns : (es : List CsiParam) (n : ℕ) → es ≡ Integer (pos n) ∷ [
 lone_turns es n e = subst (λ x. Turns x (not (n == 0))) (sym e) (lone_by n (n == 0) refl)
 
 pub nothing_turns : (es : List CsiParam) → length es ≡ 0 → Turns es false
-nothing_turns [] e = (sgr sgr_variant.Reset, refl, λ o. refl)
+nothing_turns [] e = (sgr sgr_variant.Reset, refl, λ t. refl)
 nothing_turns (x ∷ es) e = absurd (omega (arith, e))
 
 -- ---- one sequence of no name
 
 pub unnamed_turns : (es : List CsiParam)
-    → csi_of es false 0x6d ≡ unspecified es false 0x6d ∷ [] → Turns es true
-unnamed_turns es e = (unspecified es false 0x6d, e, λ o. refl)
+    → csi_of es false 0x6d ≡ unspecified es false 0x6d ∷ [] → list_all is_plain_param es ≡ true
+    → Turns es true
+unnamed_turns es e plain = (unspecified es false 0x6d, e, plain_lit es plain)
 
 pub nameless_any : (es : List CsiParam) (more : Bool) (f : ℕ) → (f == 0x6d) ≡ false
     → csi_of es more f ≡ unspecified es more f ∷ []
@@ -130,35 +150,85 @@ large_unnamed k rest h =
     ap (λ x. unwrap_or x (unspecified (Integer (pos k) ∷ rest) false 0x6d ∷ []))
     (first_large k rest h)
 
-large_turns : (k : ℕ) (rest : List CsiParam) → 24 < k → Turns (Integer (pos k) ∷ rest) true
-large_turns k rest h = unnamed_turns (Integer (pos k) ∷ rest) (large_unnamed k rest h)
+pub first_turns : (es : List CsiParam) (n : ℕ) → BeginsWith n es → 24 < n
+    → list_all is_plain_param es ≡ true → Turns es true
+first_turns es n (rest, e) h plain =
+    unnamed_turns es (subst (λ x. csi_of x false 0x6d ≡ unspecified x false 0x6d ∷ []) (sym e)
+    (large_unnamed n rest h)) plain
 
-pub first_turns : (es : List CsiParam) (n : ℕ) → BeginsWith n es → 24 < n → Turns es true
-first_turns es n (rest, e) h = subst (λ x. Turns x true) (sym e) (large_turns n rest h)
+-- ---- no other final byte changes anything
 
--- no other final byte changes anything
-pub others_stay : (f : ℕ) (es : List CsiParam) (o : Left) → (f == 0x68) ≡ false
-    → (f == 0x6c) ≡ false → (f == 0x6d) ≡ false → (f == 0x71) ≡ false → (f == 0x72) ≡ false
-    → (f == 0x75) ≡ false → (f == 0x7d) ≡ false → after_body es f o ≡ o
-others_stay f es o h l m q r u b = rw (h, l, m, q, r, u, b) refl
+differs : (c f : ℕ) → (c == c) ≡ true → (f == c) ≡ false → c ≡ f → ⊥
+differs c f same h e = true≢false (sym same ∙ ap (λ x. x == c) e ∙ h)
+
+last_byte : (k l f : ℕ) → f < 256 → k ≡ 256 * l + f → k % 256 ≡ f
+last_byte k l f lt e = omega (arith, lt, e)
+
+-- a function whose key ends in another byte than these leaves all as it was
+unmoved : (g : ControlFunction) (es : List CsiParam) (t : Terminal) (f : ℕ)
+    → key_of g % 256 ≡ f → (f == 0x68) ≡ false → (f == 0x6c) ≡ false → (f == 0x6d) ≡ false
+    → (f == 0x70) ≡ false → (f == 0x71) ≡ false → (f == 0x72) ≡ false → (f == 0x73) ≡ false
+    → (f == 0x75) ≡ false → (f == 0x7d) ≡ false → after_function g es t ≡ t
+unfolding after_function key_of place
+unmoved function.SGR es t f e h l m p q r s u b = absurd (differs 0x6d f refl m e)
+unmoved function.SM es t f e h l m p q r s u b = absurd (differs 0x68 f refl h e)
+unmoved function.RM es t f e h l m p q r s u b = absurd (differs 0x6c f refl l e)
+unmoved function.DECSET es t f e h l m p q r s u b = absurd (differs 0x68 f refl h e)
+unmoved function.DECRST es t f e h l m p q r s u b = absurd (differs 0x6c f refl l e)
+unmoved function.XTSAVE es t f e h l m p q r s u b = absurd (differs 0x73 f refl s e)
+unmoved function.XTRESTORE es t f e h l m p q r s u b = absurd (differs 0x72 f refl r e)
+unmoved function.DECSTBM es t f e h l m p q r s u b = absurd (differs 0x72 f refl r e)
+unmoved function.SCOSC es t f e h l m p q r s u b = absurd (differs 0x73 f refl s e)
+unmoved function.SCORC es t f e h l m p q r s u b = absurd (differs 0x75 f refl u e)
+unmoved function.XTPOPSGR es t f e h l m p q r s u b = absurd (differs 0x71 f refl q e)
+unmoved function.XTPOPSGR_2 es t f e h l m p q r s u b = absurd (differs 0x7d f refl b e)
+unmoved function.DECSTR es t f e h l m p q r s u b = absurd (differs 0x70 f refl p e)
+unmoved g es t f e h l m p q r s u b = refl
+
+found_unmoved : (o : Option ControlFunction) (es : List CsiParam) (t : Terminal) (f : ℕ)
+    → ((g : ControlFunction) → o ≡ Some g → key_of g % 256 ≡ f) → (f == 0x68) ≡ false
+    → (f == 0x6c) ≡ false → (f == 0x6d) ≡ false → (f == 0x70) ≡ false → (f == 0x71) ≡ false
+    → (f == 0x72) ≡ false → (f == 0x73) ≡ false → (f == 0x75) ≡ false → (f == 0x7d) ≡ false
+    → after_named o es t ≡ t
+found_unmoved None es t f key h l m p q r s u b = refl
+found_unmoved (Some g) es t f key h l m p q r s u b =
+    unmoved g es t f (key g refl) h l m p q r s u b
+
+pub others_stay : (f : ℕ) (es : List CsiParam) (t : Terminal) → f < 256 → (f == 0x68) ≡ false
+    → (f == 0x6c) ≡ false → (f == 0x6d) ≡ false → (f == 0x70) ≡ false → (f == 0x71) ≡ false
+    → (f == 0x72) ≡ false → (f == 0x73) ≡ false → (f == 0x75) ≡ false → (f == 0x7d) ≡ false
+    → after_body es f t ≡ t
+others_stay f es t lt h l m p q r s u b =
+    found_unmoved (function_of (sequence_key es f)) es t f
+    (λ g found. last_byte (key_of g) (lead (packed 1 (marks es)) (length es) f) f lt
+    (has_its_key (sequence_key es f) g found)) h l m p q r s u b
 
 -- ---- the numbers of a short one
+
+-- those that end in `m` are renditions
+pub plain_sgr : (n : ShortNumbers) (es : List CsiParam) → AreParams n es 0x6d
+    → list_all is_plain_param es ≡ true
+plain_sgr short.Nothing es other = absurd (other refl)
+plain_sgr (short.Lone n) es e = rw e refl
+plain_sgr (short.Pair a b) es other = absurd (other refl)
+plain_sgr (short.Palette i) es (m, e) = rw e refl
 
 short_turns : (s : ShortNumbers) (es : List CsiParam) → AreParams s es 0x6d → Turns es (lights s)
 short_turns short.Nothing es h = absurd (h refl)
 short_turns (short.Lone n) es h = lone_turns es n h
 short_turns (short.Pair a b) es h = absurd (h refl)
-short_turns (short.Palette i) es h = first_turns es i.first (_, h.1) (omega (arith, i.fits.0))
+short_turns (short.Palette i) es h =
+    first_turns es i.first (_, h.1) (omega (arith, i.fits.0)) (plain_sgr (short.Palette i) es h)
 
-pub short_renditions : (s : ShortNumbers) (es : List CsiParam) (f : ℕ) (o : Left) → f ≡ 0x6d
-    → AreParams s es f → IsAfter es f o (turned o RENDITION (lights s))
-short_renditions s es f o is h =
+pub short_renditions : (s : ShortNumbers) (es : List CsiParam) (f : ℕ) (t : Terminal) → f ≡ 0x6d
+    → AreParams s es f → IsAfter es f t (turned (lights s) t)
+short_renditions s es f t is h =
     let (v, one, after) = short_turns s es (subst (λ g. AreParams s es g) is h) in
-    (v, ap (csi_of es false) is ∙ one, sym (after o))
+    (v, ap (csi_of es false) is ∙ one, sym (after t))
 
-pub other_sequence : (es : List CsiParam) (f : ℕ) (o p : Left) → f ≢ 0x6d → p ≡ after_body es f o
-    → IsAfter es f o p
-other_sequence es f o p other after =
+pub other_sequence : (es : List CsiParam) (f : ℕ) (t u : Terminal) → f ≢ 0x6d
+    → u ≡ after_body es f t → IsAfter es f t u
+other_sequence es f t u other after =
     (unspecified es false f, rw (ne_eqb f 0x6d other) refl, after)
 
 -- ---- a command
@@ -169,44 +239,35 @@ unfolding encode
 end_writable = ((codes "8;;", refl, refl), refl)
 
 module _ (A : Type 0) where
-  pub stays : (c : OperatingSystemCommand A) (o : Left) → is_link c ≡ false → o ≡ after_command c o
-  stays (command.SetHyperlink l) o h = absurd cc
-  stays _ o h = refl
+  pub stays : (c : OperatingSystemCommand A) (t : Terminal) → is_link c ≡ false
+      → t ≡ after_command c t
+  stays (command.SetHyperlink l) t h = absurd cc
+  stays _ t h = refl
 
   -- a command that is no link leaves all as it was
-  pub leaves : (t : List ℕ) (o : Left) → BeginsOther t
-      → after_command (meaning {A = A} (parts_of t)) o ≡ o
-  leaves t o h = sym (stays (meaning (parts_of t)) o (other_begins A t h))
+  pub leaves : (x : List ℕ) (t : Terminal) → BeginsOther x
+      → after_command (meaning {A = A} (parts_of x)) t ≡ t
+  leaves x t h = sym (stays (meaning (parts_of x)) t (other_begins A x h))
 
-  some_link : (t : List ℕ) (l : Option (Hyperlink A)) → t ≢ codes "8;;"
-      → command_text (command.SetHyperlink l) ≡ framed t → is_some l ≡ true
-  some_link t None n e = absurd (n (sym (append_cancel_right (codes "8;;") t (0x1b ∷ 0x5c ∷ [])
+  some_link : (x : List ℕ) (l : Option (Hyperlink A)) → x ≢ codes "8;;"
+      → command_text (command.SetHyperlink l) ≡ framed x → is_some l ≡ true
+  some_link x None n e = absurd (n (sym (append_cancel_right (codes "8;;") x (0x1b ∷ 0x5c ∷ [])
       (ap (drop 2) e))))
-  some_link t (Some h) n e = refl
+  some_link x (Some h) n e = refl
 
-  pub opens : (t : List ℕ) (o : Left) → IsPlainLink A t → t ≢ codes "8;;"
-      → turned o LINK true ≡ after_command (meaning {A = A} (parts_of t)) o
-  opens t o (l, means, written) n =
-      ap (turned o LINK) (sym (some_link t l n (ap command_text (sym means) ∙ written)))
-      ∙ ap (λ c. after_command c o) (sym means)
+  pub opens : (x : List ℕ) (t : Terminal) → IsPlainLink A x → x ≢ codes "8;;"
+      → record t { link = true } ≡ after_command (meaning {A = A} (parts_of x)) t
+  opens x t (l, means, written) n =
+      ap (λ b. record t { link = b }) (sym (some_link x l n (ap command_text (sym means) ∙ written)))
+      ∙ ap (λ c. after_command c t) (sym means)
 
-  pub ends : (t : List ℕ) (o : Left) → t ≡ codes "8;;"
+  pub ends : (x : List ℕ) (t : Terminal) → x ≡ codes "8;;"
       → ((c : OperatingSystemCommand A) → IsWritableCommand c
       → meaning (parts_of (inner_text c)) ≡ c)
-      → turned o LINK false ≡ after_command (meaning {A = A} (parts_of t)) o
-  ends t o e back =
-      ap (λ c. after_command {A = A} c o) (sym (back (command.SetHyperlink None) end_writable))
-      ∙ ap (λ x. after_command (meaning {A = A} (parts_of x)) o) (sym e)
+      → record t { link = false } ≡ after_command (meaning {A = A} (parts_of x)) t
+  ends x t e back =
+      ap (λ c. after_command {A = A} c t) (sym (back (command.SetHyperlink None) end_writable))
+      ∙ ap (λ y. after_command (meaning {A = A} (parts_of y)) t) (sym e)
 
 -- what a sequence of no parameter, of one and of some turns, for `grind`
 pub ruleset turning = (nothing_turns, lone_turns, first_turns)
-
--- ---- sequences of short numbers
-
--- those that end in `m` are renditions
-pub plain_sgr : (n : ShortNumbers) (es : List CsiParam) → AreParams n es 0x6d
-    → list_all is_plain_param es ≡ true
-plain_sgr short.Nothing es other = absurd (other refl)
-plain_sgr (short.Lone n) es e = rw e refl
-plain_sgr (short.Pair a b) es other = absurd (other refl)
-plain_sgr (short.Palette i) es (m, e) = rw e refl

@@ -25,7 +25,8 @@ use Rattle.esc_normal.specs.declared.spell.Spell.{Spell}
 use Rattle.esc_osc.specs.Commands.{command_text}
 use Rattle.esc_normal.proofs.Spelling.{IsCommand, IsSequence, plain_refused}
 use Rattle.esc_filter.proofs.Results.{stops_for}
-use Rattle.esc_filter.specs.Closing.{Left, after_command, after_sequence, after_value}
+use Rattle.esc_filter.specs.Closing.{after_command, after_control, after_sequence, after_value}
+use Rattle.esc_filter.specs.declared.terminal.Terminal.{Terminal}
 use Rattle.esc_filter.specs.Noted.{Notes, WriteDenies, Writes, written_of}
 use Rattle.esc_filter.specs.Passing.{is_line_feed}
 use Rattle.esc_filter.specs.declared.written.Written.{Written}
@@ -34,7 +35,7 @@ module _ {A : Type 0} where
   abbrev with_spell : Written A → Spell A → Written A
   with_spell p s = record p { spell = s }
 
-  abbrev with_both : Written A → Left → Spell A → Written A
+  abbrev with_both : Written A → Terminal → Spell A → Written A
   with_both p o s = record p { spell = s; left = o }
 
   -- ---- one value
@@ -65,9 +66,9 @@ module _ {A : Type 0} where
   -- a control that is no line feed, or is none that is dropped
   pub notes_control : (p : Written A) (s : Spell A) (c : ControlCode)
       → (p.by_lines && is_line_feed {A = A} (control c)) ≡ false → Adds p.spell (action.Control c) s
-      → Notes p (action.Control c) (record p { spell = s })
+      → Notes p (action.Control c) (with_both p (after_control c p.left) s)
   notes_control p s c h t =
-      notes_one p (record p { spell = s }) (action.Control c) ctl refl
+      notes_one p (with_both p (after_control c p.left) s) (action.Control c) ctl refl
       (either p.by_lines (is_line_feed ctl) h) t refl refl refl
     where
       ctl : Value A
@@ -141,7 +142,7 @@ module _ {A : Type 0} where
 
   -- ---- a sequence
 
-  one_noted : (vs : List CsiValue) (v : CsiValue) (p : Written A) (o : Left) (s : Spell A)
+  one_noted : (vs : List CsiValue) (v : CsiValue) (p : Written A) (o : Terminal) (s : Spell A)
       → vs ≡ v ∷ [] → o ≡ after_sequence v p.left
       → FoldsTo (By IsSequence Adds) p.spell vs s
       → FoldsTo (By IsSequence Notes) p vs (with_both p o s)
@@ -157,7 +158,7 @@ module _ {A : Type 0} where
       )
 
   pub sequence_noted : {E : Type 0} (r : Result Bool E) (vs : List CsiValue) (p : Written A)
-      (o : Left) (s : Spell A)
+      (o : Terminal) (s : Spell A)
       → (v : CsiValue) × (vs ≡ v ∷ []) × (o ≡ after_sequence v p.left)
       → IfOk r (λ b. IsTrue b → FoldsTo (By IsSequence Adds) p.spell vs s)
       → IfOk r (λ b. IsTrue b → FoldsTo (By IsSequence Notes) p vs (with_both p o s))
@@ -165,7 +166,7 @@ module _ {A : Type 0} where
       if_ok_more _ _ r (λ b k i. one_noted vs v p o s e h (k i)) t
 
   -- one value, which was written
-  pub one_written : (vs : List CsiValue) (v : CsiValue) (p : Written A) (o : Left) (s : Spell A)
+  pub one_written : (vs : List CsiValue) (v : CsiValue) (p : Written A) (o : Terminal) (s : Spell A)
       → vs ≡ v ∷ [] → o ≡ after_sequence v p.left → FoldsTo (By IsSequence Adds) p.spell vs s
       → Writes p (csi v ∷ []) (with_both p o s)
   one_written vs v p o s e h t = by (subst (λ ws. FoldsTo (By IsSequence Adds) p.spell ws s) e t)
@@ -176,7 +177,7 @@ module _ {A : Type 0} where
           (writes_one p (with_both p o j) a (csi v) is w h refl refl)
 
   -- a link that was
-  pub link_written : (ps : List (List ℕ)) (p : Written A) (o : Left) (s : Spell A)
+  pub link_written : (ps : List (List ℕ)) (p : Written A) (o : Terminal) (s : Spell A)
       → o ≡ after_command (command_meant {A = A} ps) p.left
       → (s.text ≡ p.spell.text ++ command_text (command_meant {A = A} ps))
       × (s.follows_string ≡ true)
@@ -219,7 +220,7 @@ module _ {A : Type 0} where
   -- ---- a command
 
   pub command_noted : {E : Type 0} (r : Result Bool E) (ps : List (List ℕ)) (p : Written A)
-      (o : Left) (s : Spell A)
+      (o : Terminal) (s : Spell A)
       → o ≡ after_command (command_meant {A = A} ps) p.left
       → IfOk r (λ b. IsTrue b → FoldsTo (By IsCommand Adds) p.spell (ps ∷ []) s)
       → IfOk r (λ b. IsTrue b → FoldsTo (By IsCommand Notes) p (ps ∷ []) (with_both p o s))

@@ -33,13 +33,14 @@ use Rattle.esc_normal.specs.Texts.{ends_in_string}
 use Rattle.esc_values.specs.declared.csi_param.CsiParam.{CsiParam}
 use Rattle.esc_sequences.specs.Csis.{CsiValue, csi_of, sgr, unspecified}
 use Rattle.esc_filter.specs.Characters.{in_characters, in_unicode}
-use Rattle.esc_filter.specs.Closing.{Left, after_values, closing, given_back, turned, unchanged}
+use Rattle.esc_filter.specs.Closing.{after_values, closing, given_back, keeps_cursor, turned}
+use Rattle.esc_filter.specs.Terminal.{unchanged}
+use Rattle.esc_filter.specs.declared.terminal.Terminal.{Terminal}
 use Rattle.esc_filter.specs.Fed.{WasFedIn}
 use Rattle.esc_filter.specs.Known.{ArePassedRenditions, IsPassedText}
 use Rattle.esc_filter.specs.Lines.{ArePlainLines, GrowsBy, IsShortRendition, WasFedLines, added_by, ends_line, has_line_feed, is_line_feed, passed_of_line, text_by_lines_as}
 use Rattle.esc_filter.specs.Passing.{in_lines, passes}
 use Rattle.esc_filter.specs.Rules.{is_rendition, is_shown}
-use Rattle.esc_filter.specs.declared.left.TheConstants.{RENDITION}
 use Rattle.esc_filter.specs.declared.line_filter.LineFilter.{LineFilter}
 use Rattle.esc_filter.specs.declared.unicode.Unicode.{Unicode}
 use Rattle.esc_filter.proofs.ByLines.{by_append, closed_text, ends_append, no_end}
@@ -195,7 +196,7 @@ module _ (A : Type 0) (u : Unicode) (limit : ℕ) (admits : Value A → Bool)
       let q = and_parts (is_data_byte b) (list_all is_data_byte s) h in
       joined (character b q.0) (run s q.1)
 
-  run_leaves : (s : List ℕ) (o : Left) → after_values {A = A} (map print s) o ≡ o
+  run_leaves : (s : List ℕ) (o : Terminal) → after_values {A = A} (map print s) o ≡ o
   run_leaves [] o = refl
   run_leaves (b ∷ s) o = run_leaves s o
 
@@ -220,10 +221,10 @@ module _ (A : Type 0) (u : Unicode) (limit : ℕ) (admits : Value A → Bool)
 
   abbrev pub Line : List ℕ → Bool → Type 0
   Line x on = (vs : List (Value A)) × Passed x vs
-      × (after_values vs unchanged ≡ turned unchanged RENDITION on)
+      × (after_values vs unchanged ≡ turned on unchanged)
 
   longer : {x y : List ℕ} {ws : List (Value A)} {on lit : Bool} → Line x on → Passed y ws
-      → after_values ws (turned unchanged RENDITION on) ≡ turned unchanged RENDITION lit
+      → after_values ws (turned on unchanged) ≡ turned lit unchanged
       → Line (x ++ y) lit
   longer {ws = ws} (vs, p, left) q leaves = (
     vs ++ ws,
@@ -259,11 +260,11 @@ module _ (A : Type 0) (u : Unicode) (limit : ℕ) (admits : Value A → Bool)
       ∙ ap (in_characters u)
       (filter-append pass vs (control LineFeed ∷ []) ∙ append-nil (filter pass vs) ∙ p.pass)
       ∙ p.kept in
-      let same : list_text (closing vs) ≡ [] =
-      ap (λ o. list_text {A = A} (given_back o)) left in
+      let same : list_text (closing admits vs) ≡ [] =
+      ap (λ o. list_text {A = A} (given_back (keeps_cursor admits) o)) left in
       closed_text u limit admits (x ++ 0x0a ∷ []) (x, p.one_line, refl)
-      ∙ ap (λ ws. list_text ws ++ (list_text (closing ws) ++ 0x0a ∷ [])) here
-      ∙ ap (λ t. t ++ (list_text (closing vs) ++ 0x0a ∷ [])) (p.text false)
+      ∙ ap (λ ws. list_text ws ++ (list_text (closing admits ws) ++ 0x0a ∷ [])) here
+      ∙ ap (λ t. t ++ (list_text (closing admits vs) ++ 0x0a ∷ [])) (p.text false)
       ∙ ap (λ t. x ++ (t ++ 0x0a ∷ [])) same
 
   -- ---- lines that have ended and are written as they are, and the beginning of one
@@ -287,7 +288,7 @@ module _ (A : Type 0) (u : Unicode) (limit : ℕ) (admits : Value A → Bool)
   }
 
   begun_more : {on lit : Bool} (s y : List ℕ) {ws : List (Value A)} → Begun on s → Passed y ws
-      → after_values ws (turned unchanged RENDITION on) ≡ turned unchanged RENDITION lit
+      → after_values ws (turned on unchanged) ≡ turned lit unchanged
       → Begun lit (s ++ y)
   begun_more s y b q leaves = record {
     ended = b.ended;
@@ -340,7 +341,7 @@ module _ (A : Type 0) (r : Bool) where
         λ u limit admits texts all.
             begun_more A u limit admits texts (take i s) y (begun u limit admits texts all)
             (run A u limit admits texts y bytes)
-            (run_leaves A u limit admits texts y (turned unchanged RENDITION on)),
+            (run_leaves A u limit admits texts y (turned on unchanged)),
       )
 
   next : (s : List ℕ) (i b : ℕ) → i < length s → get_or s i 0 ≡ b
@@ -403,7 +404,7 @@ module _ (A : Type 0) (r : Bool) where
         λ u limit admits texts all.
             begun_more A u limit admits texts (take i s) y (begun u limit admits texts all)
             (rendition A u limit admits texts (all known) shade)
-            (shade.turns (turned unchanged RENDITION on)),
+            (shade.turns (turned on unchanged)),
       )
 
 -- ---- between lines they are appended

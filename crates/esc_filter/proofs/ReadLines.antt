@@ -25,9 +25,9 @@ module _ {A : Type 0} where
       → Reads (list_text (passed_of_line u limit admits l))
       (normal (passed_of_line u limit admits l)))
       (ended : (l : List ℕ)
-      → Reads (list_text (closed (passed_of_line u limit admits l)))
-      (normal (closed (passed_of_line u limit admits l))))
-      (back : (vs : List (Value A)) → Reads (list_text (closing vs)) (normal (closing vs)))
+      → Reads (list_text (closed admits (passed_of_line u limit admits l)))
+      (normal (closed admits (passed_of_line u limit admits l))))
+      (back : (vs : List (Value A)) → Reads (list_text (closing admits vs)) (normal (closing admits vs)))
       (feed : Reads {A = A} (0x0a ∷ []) (control LineFeed ∷ [])) where
     line_reads : (l : List ℕ) → Reads (line_text u limit admits l) (line_values u limit admits l)
     line_reads l = by (ends_line false l)
@@ -36,9 +36,9 @@ module _ {A : Type 0} where
         vs = passed_of_line u limit admits l
 
         by : (t : Bool)
-            → Reads (if t then list_text (closed vs) ++ 0x0a ∷ [] else list_text vs)
-            (if t then normal (closed vs) ++ control LineFeed ∷ [] else normal vs)
-        by true = reads_both (list_text (closed vs)) (0x0a ∷ []) (normal (closed vs))
+            → Reads (if t then list_text (closed admits vs) ++ 0x0a ∷ [] else list_text vs)
+            (if t then normal (closed admits vs) ++ control LineFeed ∷ [] else normal vs)
+        by true = reads_both (list_text (closed admits vs)) (0x0a ∷ []) (normal (closed admits vs))
             (control LineFeed ∷ []) (ended l) feed
         by false = goes_on l
 

@@ -22,7 +22,7 @@ use Rattle.esc_functions.proofs.Functions.{not_both}
 use Rattle.esc_filter.specs.Rules.{changes_with, escape_changes_with, is_escape_function, is_plain_param, is_screen_body, is_screen_escape, is_screen_function, is_screen_sequence}
 
 -- plain parameters have no mark
-no_marks : (es : List CsiParam) → list_all is_plain_param es ≡ true → marks es ≡ []
+pub no_marks : (es : List CsiParam) → list_all is_plain_param es ≡ true → marks es ≡ []
 no_marks [] h = refl
 no_marks (Integer n ∷ es) h = no_marks es h
 no_marks (P b ∷ es) h =

@@ -6,7 +6,9 @@ use Rattle.esc_actions.proofs.Meanings.{meaning_more}
 use Rattle.esc_actions.specs.Meaning.{meaning_within, yield_within}
 use Rattle.esc_actions.specs.Texts.{list_text, texts_after}
 use Rattle.esc_actions.specs.Values.{Value}
-use Rattle.esc_filter.specs.Closing.{Left, after_value, after_values, unchanged}
+use Rattle.esc_filter.specs.Closing.{after_value, after_values}
+use Rattle.esc_filter.specs.Terminal.{unchanged}
+use Rattle.esc_filter.specs.declared.terminal.Terminal.{Terminal}
 use Rattle.esc_filter.specs.Passing.{passed, passed_as, passed_text, passed_text_as, passes}
 use Rattle.esc_filter.specs.Characters.{in_characters}
 use Rattle.esc_filter.specs.declared.unicode.Unicode.{Unicode}
@@ -58,7 +60,7 @@ end_longer u limit admits s b =
     ∙ ends_more false (passed_as u limit admits s) (added_as u limit admits s b)
 
 -- what is left changed after one list and another
-pub after_more : {A : Type 0} (vs ws : List (Value A)) (o : Left)
+pub after_more : {A : Type 0} (vs ws : List (Value A)) (o : Terminal)
     → after_values (vs ++ ws) o ≡ after_values ws (after_values vs o)
 after_more [] ws o = refl
 after_more (v ∷ vs) ws o = after_more vs ws (after_value v o)

@@ -98,20 +98,20 @@ in_writable Keep vs h = h
 in_writable Show vs h = all_writable Show false vs h
 in_writable Drop vs h = all_writable Drop false vs h
 
-writable_when : {A : Type 0} (b : Bool) (vs : List (Value A)) → AreWritable vs
-    → AreWritable (when_ended b vs)
-writable_when true vs h = closed_writable vs h
-writable_when false vs h = h
+writable_when : {A : Type 0} (b : Bool) (admits : Value A → Bool) (vs : List (Value A))
+    → AreWritable vs → AreWritable (when_ended b admits vs)
+writable_when true admits vs h = closed_writable admits vs h
+writable_when false admits vs h = h
 
 pub is_filtered : {A : Type 0} → ((limit : Option ℕ) (s : List ℕ)
     → AreHandedOut {A = A} (meaning_within limit s))
     → ((vs : List (Value A)) → AreWritable vs → meaning (list_text vs) ≡ normal vs)
     → ((vs : List (Value A)) → AreWritable vs → Reads (list_text vs) (normal vs))
     → (b : Bool) (u : Unicode) (limit : Option ℕ) (admits : Value A → Bool) (s : List ℕ)
-    → IsFilteredAs u b limit admits s (list_text (when_ended b (passed_as u limit admits s)))
+    → IsFilteredAs u b limit admits s (list_text (when_ended b admits (passed_as u limit admits s)))
 is_filtered out back itself b u limit admits s =
-    let vs = when_ended b (passed_as u limit admits s) in
-    let w : AreWritable vs = writable_when b (passed_as u limit admits s)
+    let vs = when_ended b admits (passed_as u limit admits s) in
+    let w : AreWritable vs = writable_when b admits (passed_as u limit admits s)
     (in_writable u (passed limit admits s)
     (filtered_writable admits (meaning_within limit s) (out limit s))) in
     record {

@@ -1,6 +1,5 @@
 -- What values leave changed at a terminal, and what gives it back.
-use Rattle.std.specs.Prelude.{ℕ, ◌≡◌, pos, negsuc, Bool, true, false, not, ◌==◌, ◌&&◌, ◌||◌, if◌then◌else◌, List, [], ◌∷◌, ◌++◌, get_or, set, Option, None, is_some, Some}
-use Rattle.std.specs.List.{list_any}
+use Rattle.std.specs.Prelude.{ℕ, ◌≡◌, pos, Bool, true, false, not, ◌==◌, ◌&&◌, if◌then◌else◌, List, [], ◌∷◌, ◌++◌, Option, None, is_some, Some}
 use Rattle.esc_sequences.specs.Csis.{CsiValue, csi_of, sgr, unspecified}
 use Rattle.esc_sequences.specs.declared.esc.Esc.{Esc}
 use Rattle.esc_sequences.specs.declared.esc.Esc.TheVariants as esc_variant
@@ -8,118 +7,46 @@ use Rattle.esc_sequences.specs.declared.sgr.Sgr.{Sgr}
 use Rattle.esc_sequences.specs.declared.sgr.Sgr.TheVariants as sgr_variant
 use Rattle.esc_values.specs.declared.csi_param.CsiParam.{CsiParam}
 use Rattle.esc_values.specs.declared.csi_param.CsiParam.TheVariants.{Integer, P}
+use Rattle.esc_functions.specs.Escapes.{named as named_escape}
+use Rattle.esc_functions.specs.Functions.{function_of, sequence_key}
 use Rattle.esc_osc.specs.declared.command.OperatingSystemCommand.{OperatingSystemCommand}
 use Rattle.esc_osc.specs.declared.command.OperatingSystemCommand.TheVariants as command
-use Rattle.esc_actions.specs.Values.{Value, esc, csi, osc}
+use Rattle.esc_actions.specs.Values.{Value, control, esc, csi, osc}
+use Rattle.esc_actions.specs.declared.control_code.ControlCode.{ControlCode}
+use Rattle.esc_actions.specs.declared.control_code.ControlCode.TheVariants.{ShiftIn, ShiftOut}
 use Rattle.esc_write.specs.declared.short_numbers.ShortNumbers.{ShortNumbers}
 use Rattle.esc_write.specs.declared.short_numbers.ShortNumbers.TheVariants as short
-use Rattle.esc_filter.specs.declared.left.TheConstants.{ALTERNATE, CLEARED, HELD, HIDDEN, INSERT, LINK, MARGINS, NO_WRAP, ORIGIN, RENDITION, REVERSE, SAVED, SIDES}
+use Rattle.esc_filter.specs.Terminal.{after_named, after_named_escape, is_changed_saved, is_main, nothing_saved, unchanged}
+use Rattle.esc_filter.specs.declared.terminal.Screen.{Screen}
+use Rattle.esc_filter.specs.declared.terminal.Screen.TheVariants as screen
+use Rattle.esc_filter.specs.declared.terminal.Terminal.{Terminal}
 
 -- ---- what is left changed
 
--- whether each of the places is left changed
-abbrev pub Left : Type 0
-Left = List Bool
-
--- nothing
-abbrev pub unchanged : Left
-unchanged =
-    false ∷ false ∷ false ∷ false ∷ false ∷ false ∷ false ∷ false ∷ false ∷ false ∷ false ∷ false
-    ∷ false ∷ []
-
--- whether what has this place is
-abbrev pub is_left : Left → ℕ → Bool
-is_left o p = get_or o p false
-
-abbrev pub is_set : Bool → Bool
-is_set b = b
-
--- whether anything is
-abbrev pub is_any : Left → Bool
-is_any o = list_any is_set o
-
--- it is now, or it is not any more
-abbrev pub turned : Left → ℕ → Bool → Left
-turned o p b = set o p b
-
--- renditions, where they are saved now or restored, may be on
-abbrev pub lit : Left → Left
-lit o = turned o RENDITION true
-
--- after a private mode of this number was set, or reset
-abbrev pub after_private : ℕ → Bool → Left → Left
-after_private n b o =
-    if n == 5 then turned o REVERSE b
-    else if n == 6 then turned o ORIGIN b
-    else if n == 7 then turned o NO_WRAP (not b)
-    else if n == 25 then turned o HIDDEN (not b)
-    else if n == 47 then turned o ALTERNATE b
-    else if n == 69 then turned o SIDES b
-    else if n == 1047 then turned o CLEARED b
-    else if n == 1048 then lit o
-    else if n == 1049 then turned (lit o) SAVED b
-    else if n == 2026 then turned o HELD b
-    else o
-
--- the same of a mode of ECMA-48
-abbrev pub after_mode : ℕ → Bool → Left → Left
-after_mode n b o = if n == 4 then turned o INSERT b else o
-
-abbrev pub after_param : Bool → Bool → CsiParam → Left → Left
-after_param private b (Integer (pos n)) o =
-    if private then after_private n b o else after_mode n b o
-after_param private b (Integer (negsuc n)) o = o
-after_param private b (P c) o = o
-
-abbrev pub after_params : Bool → Bool → List CsiParam → Left → Left
-after_params private b [] o = o
-after_params private b (e ∷ es) o = after_params private b es (after_param private b e o)
-
--- this mark comes first
-abbrev pub is_marked : ℕ → List CsiParam → Bool
-is_marked m (P b ∷ es) = b == m
-is_marked m _ = false
-
--- `?` does
-abbrev pub is_private : List CsiParam → Bool
-is_private es = is_marked 0x3f es
-
--- SCORC and XTPOPSGR restore renditions
-abbrev pub restores : List CsiParam → ℕ → Bool
-restores es f = (f == 0x75) || (((f == 0x71) || (f == 0x7d)) && is_marked 0x23 es)
-
-abbrev pub has_params : List CsiParam → Bool
-has_params [] = false
-has_params (e ∷ es) = true
-
--- After a control sequence that has no name of its own: renditions, modes that are set or reset,
--- margins, and what restores renditions.
-abbrev pub after_body : List CsiParam → ℕ → Left → Left
-after_body es f o =
-    if f == 0x6d then lit o
-    else if f == 0x68 then after_params (is_private es) true es o
-    else if f == 0x6c then after_params (is_private es) false es o
-    else if f == 0x72 then turned (lit o) MARGINS (has_params es)
-    else if restores es f then lit o
-    else o
+-- after a control sequence that has no name of its own
+abbrev pub after_body : List CsiParam → ℕ → Terminal → Terminal
+after_body es f t = after_named (function_of (sequence_key es f)) es t
 
 -- a reset of all renditions
 abbrev pub is_reset : Sgr → Bool
 is_reset sgr_variant.Reset = true
 is_reset _ = false
 
-abbrev pub after_sequence : CsiValue → Left → Left
-after_sequence (sgr s) o = turned o RENDITION (not (is_reset s))
-after_sequence (unspecified es more f) o = after_body es f o
+abbrev pub turned : Bool → Terminal → Terminal
+turned b t = record t { rendition = b }
+
+abbrev pub after_sequence : CsiValue → Terminal → Terminal
+after_sequence (sgr s) t = turned (not (is_reset s)) t
+after_sequence (unspecified es more f) t = after_body es f t
 
 -- a sequence of these parameters and `m` is one action, after which renditions are on, or not
 abbrev pub Turns : List CsiParam → Bool → Type 0
 Turns es b = (v : CsiValue) × (csi_of es false 0x6d ≡ v ∷ [])
-    × ((o : Left) → after_sequence v o ≡ turned o RENDITION b)
+    × ((t : Terminal) → after_sequence v t ≡ turned b t)
 
--- the sequence is one value, after which o is p
-abbrev pub IsAfter : List CsiParam → ℕ → Left → Left → Type 0
-IsAfter es f o p = (v : CsiValue) × (csi_of es false f ≡ v ∷ []) × (p ≡ after_sequence v o)
+-- the sequence is one value, after which t is u
+abbrev pub IsAfter : List CsiParam → ℕ → Terminal → Terminal → Type 0
+IsAfter es f t u = (v : CsiValue) × (csi_of es false f ≡ v ∷ []) × (u ≡ after_sequence v t)
 
 -- whether renditions of these numbers leave any on
 abbrev pub lights : ShortNumbers → Bool
@@ -129,42 +56,56 @@ lights (short.Pair a b) = true
 lights (short.Palette i) = true
 
 -- after a sequence of these parameters, where it is known whether renditions are on then, or its
--- body says what it leaves changed
-abbrev pub noted : Option Bool → List CsiParam → ℕ → Left → Left
-noted None es f o = after_body es f o
-noted (Some b) es f o = turned o RENDITION b
+-- function says what it leaves changed
+abbrev pub noted : Option Bool → List CsiParam → ℕ → Terminal → Terminal
+noted None es f t = after_body es f t
+noted (Some b) es f t = turned b t
 
 -- this number comes first
 abbrev pub BeginsWith : ℕ → List CsiParam → Type 0
 BeginsWith n es = (rest : List CsiParam) × (es ≡ Integer (pos n) ∷ rest)
 
--- DECRC restores renditions
-abbrev pub after_escape : Esc → Left → Left
-after_escape (esc_variant.Unspecified None f) o = if f == 0x38 then lit o else o
-after_escape (esc_variant.Unspecified (Some i) f) o = o
-after_escape (esc_variant.Code c) o = o
+abbrev pub after_escape : Esc → Terminal → Terminal
+after_escape (esc_variant.Unspecified i f) t =
+    after_named_escape (named_escape (esc_variant.Unspecified i f)) f t
+after_escape (esc_variant.Code c) t = t
 
-abbrev pub after_command : {A : Type 0} → OperatingSystemCommand A → Left → Left
-after_command (command.SetHyperlink link) o = turned o LINK (is_some link)
-after_command _ o = o
+-- SO uses G1, and SI uses G0
+abbrev pub after_control : ControlCode → Terminal → Terminal
+after_control ShiftOut t = record t { sets = record t.sets { shifted = true } }
+after_control ShiftIn t = record t { sets = record t.sets { shifted = false } }
+after_control c t = t
+
+abbrev pub after_command : {A : Type 0} → OperatingSystemCommand A → Terminal → Terminal
+after_command (command.SetHyperlink link) t = record t { link = is_some link }
+after_command _ t = t
 
 -- after a value
-abbrev pub after_value : {A : Type 0} → Value A → Left → Left
-after_value (esc e) o = after_escape e o
-after_value (csi c) o = after_sequence c o
-after_value (osc c) o = after_command c o
-after_value _ o = o
+abbrev pub after_value : {A : Type 0} → Value A → Terminal → Terminal
+after_value (control c) t = after_control c t
+after_value (esc e) t = after_escape e t
+after_value (csi c) t = after_sequence c t
+after_value (osc c) t = after_command c t
+after_value _ t = t
 
 -- after values, one after another
-abbrev pub after_values : {A : Type 0} → List (Value A) → Left → Left
-after_values [] o = o
-after_values (v ∷ vs) o = after_values vs (after_value v o)
+abbrev pub after_values : {A : Type 0} → List (Value A) → Terminal → Terminal
+after_values [] t = t
+after_values (v ∷ vs) t = after_values vs (after_value v t)
 
 -- ---- what gives it back
 
 -- a private mode of this number is reset, or set
 abbrev pub private_mode : {A : Type 0} → ℕ → ℕ → Value A
 private_mode n f = csi (unspecified (P 0x3f ∷ Integer (pos n) ∷ []) false f)
+
+-- an escape sequence
+abbrev pub escape : {A : Type 0} → Option ℕ → ℕ → Value A
+escape i f = esc (esc_variant.Unspecified i f)
+
+-- G0 to G3, by the intermediates `(` to `+`, are US-ASCII
+abbrev pub ascii_in : {A : Type 0} → ℕ → Value A
+ascii_in i = escape (Some i) 0x42
 
 abbrev pub give : {A : Type 0} → Bool → Value A → List (Value A)
 give true v = v ∷ []
@@ -175,33 +116,91 @@ abbrev pub joined : {X : Type 0} → List (List X) → List X
 joined [] = []
 joined (x ∷ xs) = x ++ joined xs
 
--- What gives back what is left: the main screen; the left and right margins; the origin; the
--- margins, with the cursor where it is; that characters are not inserted; the cursor; colours that
--- are not reversed; lines that wrap; a screen that is drawn; no rendition; and no link.
-abbrev pub given_back : {A : Type 0} → Left → List (Value A)
-given_back o = joined (
-    give (is_left o ALTERNATE) (private_mode 47 0x6c)
-    ∷ give (is_left o CLEARED) (private_mode 1047 0x6c)
-    ∷ give (is_left o SAVED) (private_mode 1049 0x6c)
-    ∷ give (is_left o SIDES) (private_mode 69 0x6c)
-    ∷ give (is_left o ORIGIN) (private_mode 6 0x6c)
-    ∷ give (is_left o MARGINS) (esc (esc_variant.Unspecified None 0x37))
-    ∷ give (is_left o MARGINS) (csi (unspecified [] false 0x72))
-    ∷ give (is_left o MARGINS) (esc (esc_variant.Unspecified None 0x38))
-    ∷ give (is_left o INSERT) (csi (unspecified (Integer (pos 4) ∷ []) false 0x6c))
-    ∷ give (is_left o HIDDEN) (private_mode 25 0x68)
-    ∷ give (is_left o REVERSE) (private_mode 5 0x6c)
-    ∷ give (is_left o NO_WRAP) (private_mode 7 0x68)
-    ∷ give (is_left o HELD) (private_mode 2026 0x6c)
-    ∷ give (is_left o RENDITION) (csi (sgr sgr_variant.Reset))
-    ∷ give (is_left o LINK) (osc (command.SetHyperlink None))
+-- the main screen, by the mode that shows the other
+abbrev pub main_by : {A : Type 0} → Screen → List (Value A)
+main_by screen.Main = []
+main_by screen.Alternate = private_mode 47 0x6c ∷ []
+main_by screen.Cleared = private_mode 1047 0x6c ∷ []
+main_by screen.WithCursor = private_mode 1049 0x6c ∷ []
+
+abbrev pub screen_back : {A : Type 0} → Terminal → List (Value A)
+screen_back t = main_by t.screen
+
+-- Left and right margins; the origin; that characters are not inserted; the cursor; colours that are
+-- not reversed; lines that wrap; a screen that is drawn; no rendition; no link; and the character
+-- sets.
+abbrev pub states_back : {A : Type 0} → Terminal → List (Value A)
+states_back t = joined (
+    give t.sides (private_mode 69 0x6c)
+    ∷ give t.origin (private_mode 6 0x6c)
+    ∷ give t.insert (csi (unspecified (Integer (pos 4) ∷ []) false 0x6c))
+    ∷ give t.hidden (private_mode 25 0x68)
+    ∷ give t.reverse (private_mode 5 0x6c)
+    ∷ give t.no_wrap (private_mode 7 0x68)
+    ∷ give t.held (private_mode 2026 0x6c)
+    ∷ give t.rendition (csi (sgr sgr_variant.Reset))
+    ∷ give t.link (osc (command.SetHyperlink None))
+    ∷ give t.sets.shifted (control ShiftIn)
+    ∷ give t.sets.g0 (ascii_in 0x28)
+    ∷ give t.sets.g1 (ascii_in 0x29)
+    ∷ give t.sets.g2 (ascii_in 0x2a)
+    ∷ give t.sets.g3 (ascii_in 0x2b)
     ∷ []
     )
 
--- what gives back what these values leave changed
-abbrev pub closing : {A : Type 0} → List (Value A) → List (Value A)
-closing vs = given_back (after_values vs unchanged)
+-- the margins, with the cursor where it is where it may be saved and restored, and else at home
+abbrev pub without_margins : {A : Type 0} → Bool → List (Value A)
+without_margins true = escape None 0x37 ∷ csi (unspecified [] false 0x72) ∷ escape None 0x38 ∷ []
+without_margins false = csi (unspecified [] false 0x72) ∷ []
+
+abbrev pub margins_back : {A : Type 0} → Bool → Terminal → List (Value A)
+margins_back keeps t = if t.margins then without_margins keeps else []
+
+-- what is saved with the cursor of the main screen: it is saved anew, by DECSC or by mode 1048
+abbrev pub saved_by : {A : Type 0} → Bool → Value A
+saved_by true = escape None 0x37
+saved_by false = private_mode 1048 0x68
+
+abbrev pub saved_back : {A : Type 0} → Bool → Terminal → List (Value A)
+saved_back keeps t = give (is_changed_saved t.saved) (saved_by keeps)
+
+-- one part, and then others, of what it leaves
+abbrev pub next : {A : Type 0} → (Terminal → List (Value A)) → (Terminal → List (Value A))
+    → Terminal → List (Value A)
+next first others t = first t ++ others (after_values (first t) t)
+
+-- What gives back what is left changed, a part after another, each of what those before it leave. The
+-- last two go by whether DECSC and DECRC may be written.
+abbrev pub given_back : {A : Type 0} → Bool → Terminal → List (Value A)
+given_back keeps =
+    next screen_back (next states_back (next (margins_back keeps) (saved_back keeps)))
+
+-- whether a policy that admits these values admits DECSC and DECRC
+abbrev pub keeps_cursor : {A : Type 0} → (Value A → Bool) → Bool
+keeps_cursor admits = admits (escape None 0x37) && admits (escape None 0x38)
+
+-- what gives back what these values leave changed, for a policy that admits what `admits` says
+abbrev pub closing : {A : Type 0} → (Value A → Bool) → List (Value A) → List (Value A)
+closing admits vs = given_back (keeps_cursor admits) (after_values vs unchanged)
 
 -- values, and what gives back what they leave changed
-abbrev pub closed : {A : Type 0} → List (Value A) → List (Value A)
-closed vs = vs ++ closing vs
+abbrev pub closed : {A : Type 0} → (Value A → Bool) → List (Value A) → List (Value A)
+closed admits vs = vs ++ closing admits vs
+
+-- ---- as at the start
+
+-- what a terminal is again, once what is left changed was given back
+pub record IsAtStart (t : Terminal) : Type 0 where
+  pub rendition : t.rendition ≡ false
+  pub link : t.link ≡ false
+  pub insert : t.insert ≡ false
+  pub origin : t.origin ≡ false
+  pub margins : t.margins ≡ false
+  pub sides : t.sides ≡ false
+  pub hidden : t.hidden ≡ false
+  pub reverse : t.reverse ≡ false
+  pub no_wrap : t.no_wrap ≡ false
+  pub held : t.held ≡ false
+  pub sets : t.sets ≡ unchanged.sets
+  pub screen : t.screen ≡ screen.Main
+  pub saved : t.saved ≡ nothing_saved

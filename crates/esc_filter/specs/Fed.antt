@@ -9,9 +9,10 @@ use Rattle.esc_actions.specs.Values.{Value, csi, osc, value_of}
 use Rattle.esc_actions.specs.declared.action.Action.{Action}
 use Rattle.esc_parse.specs.Fed.{IsBroken as IsBrokenParser, WasFedWithin}
 use Rattle.esc_actions.specs.Texts.{list_text}
-use Rattle.esc_filter.specs.Closing.{closing, is_any}
+use Rattle.esc_filter.specs.Closing.{closing}
 use Rattle.esc_filter.specs.Noted.{HasNoted, Notes, WriteDenies}
 use Rattle.esc_filter.specs.Passing.{in_lines, passed_as, passed_text_as, passes}
+use Rattle.esc_filter.specs.Terminal.{is_changed}
 use Rattle.esc_filter.specs.declared.admit.Admit.{Ghosts as Admitter}
 use Rattle.esc_filter.specs.declared.filter.Filter.{Filter}
 use Rattle.esc_filter.specs.declared.passing.Passing.{Passing}
@@ -102,11 +103,12 @@ TakesIn by_lines admits limit s b f = TakesAs Keep by_lines admits limit s b f
 abbrev pub EndsAs : {P A : Type 0} → Unicode → Bool → (Value A → Bool) → ℕ → List ℕ → Filter P A
     → Type 0
 EndsAs u by_lines admits limit s f = WasFedIn u by_lines limit admits [] f
-    × (added_by f ≡ list_text (closing (passed_as u (Some limit) (in_lines by_lines admits) s)))
+    × (added_by f
+    ≡ list_text (closing admits (passed_as u (Some limit) (in_lines by_lines admits) s)))
 
 abbrev pub Ends : {P A : Type 0} → Bool → (Value A → Bool) → ℕ → List ℕ → Filter P A → Type 0
 Ends by_lines admits limit s f = EndsAs Keep by_lines admits limit s f
 
 -- nothing is left changed
 abbrev pub IsUnchanged : {P A : Type 0} → Filter P A → Type 0
-IsUnchanged f = is_any f.written.left ≡ false
+IsUnchanged f = is_changed f.written.left ≡ false

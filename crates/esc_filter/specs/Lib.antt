@@ -1,5 +1,6 @@
 pub mod Rules
 pub mod Known
+pub mod Terminal
 pub mod Closing
 pub mod GivenBack
 pub mod Characters

@@ -54,7 +54,7 @@ passed_of_line u limit admits l = passed_as u (Some limit) (in_lines true admits
 -- feed has come, what gives back what that leaves changed, and the line feed.
 abbrev pub line_text : {A : Type 0} → Unicode → ℕ → (Value A → Bool) → List ℕ → List ℕ
 line_text u limit admits l =
-    if ends_line false l then list_text (closed (passed_of_line u limit admits l)) ++ 0x0a ∷ []
+    if ends_line false l then list_text (closed admits (passed_of_line u limit admits l)) ++ 0x0a ∷ []
     else list_text (passed_of_line u limit admits l)
 
 -- the text of a stream: that of its lines, one after another
@@ -81,7 +81,7 @@ IsShortRendition x b = (y : List ℕ) × (((x ≡ 0x1b ∷ 0x5b ∷ y) × IsNumb
 
 -- what the last line, without a line feed, leaves changed is given back once the stream has ended
 abbrev pub line_closing : {A : Type 0} → Unicode → ℕ → (Value A → Bool) → List ℕ → List (Value A)
-line_closing u limit admits s = closing (passed_of_line u limit admits (last_line s))
+line_closing u limit admits s = closing admits (passed_of_line u limit admits (last_line s))
 
 abbrev pub closed_by_lines_as : {A : Type 0} → Unicode → ℕ → (Value A → Bool) → List ℕ → List ℕ
 closed_by_lines_as u limit admits s =
@@ -90,7 +90,7 @@ closed_by_lines_as u limit admits s =
 -- what the text of a line means
 abbrev pub line_values : {A : Type 0} → Unicode → ℕ → (Value A → Bool) → List ℕ → List (Value A)
 line_values u limit admits l =
-    if ends_line false l then normal (closed (passed_of_line u limit admits l))
+    if ends_line false l then normal (closed admits (passed_of_line u limit admits l))
     ++ control LineFeed ∷ []
     else normal (passed_of_line u limit admits l)
 
@@ -205,7 +205,7 @@ abbrev pub ClosesLine : {P A : Type 0} → Unicode → (Value A → Bool) → �
     → LineFilter P A → Type 0
 ClosesLine {P} {A} u admits limit l old new =
     WasFedIn u true limit admits [] new.filter
-    × (added_by new ≡ added_by old ++ list_text (closing (passed_of_line {A = A} u limit admits l)))
+    × (added_by new ≡ added_by old ++ list_text (closing admits (passed_of_line {A = A} u limit admits l)))
 
 -- the same, and the line feed after it
 abbrev pub EndsLine : {P A : Type 0} → Unicode → (Value A → Bool) → ℕ → List ℕ → LineFilter P A
@@ -213,4 +213,4 @@ abbrev pub EndsLine : {P A : Type 0} → Unicode → (Value A → Bool) → ℕ 
 EndsLine {P} {A} u admits limit l old new =
     WasFedIn u true limit admits [] new.filter
     × (added_by new ≡ added_by old
-    ++ (list_text (closing (passed_of_line {A = A} u limit admits l)) ++ 0x0a ∷ []))
+    ++ (list_text (closing admits (passed_of_line {A = A} u limit admits l)) ++ 0x0a ∷ []))

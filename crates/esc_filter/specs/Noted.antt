@@ -10,7 +10,8 @@ use Rattle.esc_actions.specs.declared.action.Action.{Action}
 use Rattle.esc_normal.specs.Spelled.{Denies}
 use Rattle.esc_visible.specs.Characters.{is_deceiving}
 use Rattle.esc_filter.specs.Characters.{in_unicode}
-use Rattle.esc_filter.specs.Closing.{after_values, unchanged}
+use Rattle.esc_filter.specs.Closing.{after_values}
+use Rattle.esc_filter.specs.Terminal.{unchanged}
 use Rattle.esc_filter.specs.Passing.{is_line_feed}
 use Rattle.esc_filter.specs.Rules.{is_link, is_plain_param}
 use Rattle.esc_normal.specs.Texts.{ends_in_string}

@@ -56,17 +56,17 @@ passed_text limit admits s = list_text (passed limit admits s)
 
 -- the values that are written: these, and once the stream has ended what gives back what they leave
 -- changed
-abbrev pub when_ended : {A : Type 0} → Bool → List (Value A) → List (Value A)
-when_ended true vs = closed vs
-when_ended false vs = vs
+abbrev pub when_ended : {A : Type 0} → Bool → (Value A → Bool) → List (Value A) → List (Value A)
+when_ended true admits vs = closed admits vs
+when_ended false admits vs = vs
 
 -- the text of a stream that has ended
 abbrev pub closed_text_as : {A : Type 0} → Unicode → Option ℕ → (Value A → Bool) → List ℕ
     → List ℕ
-closed_text_as u limit admits s = list_text (closed (passed_as u limit admits s))
+closed_text_as u limit admits s = list_text (closed admits (passed_as u limit admits s))
 
 abbrev pub closed_text : {A : Type 0} → Option ℕ → (Value A → Bool) → List ℕ → List ℕ
-closed_text limit admits s = list_text (closed (passed limit admits s))
+closed_text limit admits s = list_text (closed admits (passed limit admits s))
 
 -- What holds of the text t that a filter wrote for the stream s, which has ended, or goes on, where
 -- u says what is written of characters that deceive:
@@ -74,13 +74,13 @@ pub record IsFilteredAs {A : Type 0} (u : Unicode) (has_ended : Bool) (limit : O
     (admits : Value A → Bool) (s t : List ℕ) : Type 0 where
   -- it is the text of what is written of the values of the stream that pass, and of what gives back
   -- what they leave changed
-  pub text : t ≡ list_text (when_ended has_ended (passed_as u limit admits s))
+  pub text : t ≡ list_text (when_ended has_ended admits (passed_as u limit admits s))
   -- all of these can be written
-  pub writable : AreWritable (when_ended has_ended (passed_as u limit admits s))
+  pub writable : AreWritable (when_ended has_ended admits (passed_as u limit admits s))
   -- it reads back as them, with the terminators of their strings, and as nothing else
-  pub reads_back : meaning t ≡ normal (when_ended has_ended (passed_as u limit admits s))
+  pub reads_back : meaning t ≡ normal (when_ended has_ended admits (passed_as u limit admits s))
   -- whatever bytes follow it, it reads so, and they read as they do by themselves
-  pub whatever_follows : Reads t (normal (when_ended has_ended (passed_as u limit admits s)))
+  pub whatever_follows : Reads t (normal (when_ended has_ended admits (passed_as u limit admits s)))
 
 -- the same where they are kept
 abbrev pub IsFiltered : {A : Type 0} → Bool → Option ℕ → (Value A → Bool) → List ℕ → List ℕ

@@ -8,6 +8,7 @@ ghost use Rattle.esc_filter.specs.Known.{ArePassedRenditions, IsPassedText};
 ghost use Rattle.memory.specs.Refusals.{Refused};
 
 use crate::admit::Admit;
+use crate::giving_back::keeps_cursor_of;
 use crate::passing::Passing;
 use crate::text::emptied;
 use crate::unicode::Unicode;
@@ -125,7 +126,8 @@ impl<P: Admit<A>, A: Allocator + Copy> Filter<P, A> {
     {
         let mut text = mem::replace(&mut self.written.spell.text, Text::new(self.alloc));
         text = emptied(text);
-        match self.written.left.give_back(&mut text) {
+        let keeps_cursor = keeps_cursor_of(&self.written.left, &self.policy);
+        match self.written.left.give_back(keeps_cursor, &mut text) {
             Ok(()) => {
                 self.restart();
                 self.written.spell.text = text;
@@ -151,7 +153,7 @@ impl<P: Admit<A>, A: Allocator + Copy> Filter<P, A> {
     pub(crate) fn is_changed(&self) -> bool
         ensures { result ≡ false → IsUnchanged self.now }
     {
-        self.written.left.is_any()
+        self.written.left.is_changed()
     }
 
     /// Whether all text passes.

@@ -1,11 +1,12 @@
 //! Laws of what passes a filter. Each holds for every allocator `A`, which the type of the actions
 //! names.
-ghost use Rattle.std.specs.Prelude.{◌≡◌, ◌++◌, ℕ, Bool, List, Option, Some, false, true};
+ghost use Rattle.std.specs.Prelude.{◌≡◌, ◌++◌, [], ℕ, Bool, List, Option, Some, false, true};
 ghost use Rattle.std.specs.List.{filter};
 ghost use Rattle.esc_actions.specs.Meaning.{yield_within};
 ghost use Rattle.esc_actions.specs.Texts.{list_text};
 ghost use Rattle.esc_actions.specs.Values.{Value};
-ghost use Rattle.esc_filter.specs.Closing.{closing};
+ghost use Rattle.esc_filter.specs.Closing.{IsAtStart, after_values, closed, closing};
+ghost use Rattle.esc_filter.specs.Terminal.{unchanged};
 ghost use Rattle.esc_filter.specs.Lines.{IsFilteredByLines, IsFilteredByLinesAs, lines_text, lines_text_as};
 ghost use Rattle.esc_sequences.specs.Csis.{CsiValue};
 ghost use Rattle.esc_sequences.specs.declared.esc.Esc.{Esc};
@@ -61,7 +62,20 @@ pub fn passed_more<A: Allocator>()
 pub fn closing_comes_last<A: Allocator>()
     ensures { (limit : Option ℕ) (admits : Value A → Bool) (s : List ℕ)
         → closed_text limit admits s
-        ≡ passed_text limit admits s ++ list_text (closing (passed limit admits s)) }
+        ≡ passed_text limit admits s ++ list_text (closing admits (passed limit admits s)) }
+{}
+
+/// Once what gives back what values leave changed is written, the terminal is as at the start,
+/// whatever the values and the policy are.
+pub fn terminal_as_at_the_start<A: Allocator>()
+    ensures { (admits : Value A → Bool) (vs : List (Value A))
+        → IsAtStart (after_values (closed admits vs) unchanged) }
+{}
+
+/// What gives it back leaves nothing to give back.
+pub fn nothing_given_back_twice<A: Allocator>()
+    ensures { (admits : Value A → Bool) (vs : List (Value A))
+        → closing admits (closed admits vs) ≡ [] }
 {}
 
 /// The text of what passes of a stream whose lines are streams of their own reads back as what

@@ -21,17 +21,21 @@ mod feeding;
 mod filter;
 mod filtering;
 mod function_groups;
+mod giving_back;
 mod group;
 mod groups;
+mod kept_modes;
 mod known;
 mod laws;
-mod left;
+mod leaving;
 mod line_filter;
 mod passing;
 mod plain_lines;
 mod policy;
+mod saved;
 mod schemes;
 mod screen;
+mod terminal;
 mod text;
 mod unicode;
 mod written;
@@ -46,8 +50,9 @@ pub use group::Group;
 pub use groups::Groups;
 pub use known::Known;
 pub use laws::{
-    closing_comes_last, lines_read_back, passed_more, passed_reads_back, policies_are_groups,
-    screen_is_not_answered, written_lines_read_back, written_reads_back,
+    closing_comes_last, lines_read_back, nothing_given_back_twice, passed_more, passed_reads_back,
+    policies_are_groups, screen_is_not_answered, terminal_as_at_the_start, written_lines_read_back,
+    written_reads_back,
 };
 pub use line_filter::LineFilter;
 pub use policy::Policy;

@@ -13,7 +13,8 @@ ghost use Rattle.esc_filter.specs.Characters.{in_unicode, instead};
 ghost use Rattle.esc_filter.specs.Noted.{AreKept, HasNoted, Notes, WriteDenies, Writes, WritesLink, WritesRendition, without_text, written_of};
 ghost use Rattle.esc_filter.specs.Passing.{is_line_feed};
 
-use crate::left::{Left, leaves_all, renditions_after};
+use crate::leaving::{leaves_all, renditions_after};
+use crate::terminal::Terminal;
 use crate::text::emptied;
 use crate::unicode::Unicode;
 use esc_actions::{Action, ControlCode};
@@ -31,7 +32,7 @@ pub(crate) struct Written<A: Allocator = Global> {
     /// The text of the actions.
     pub spell: Spell<A>,
     /// What they left changed.
-    pub left: Left,
+    pub left: Terminal,
     /// What is written of characters that deceive.
     pub unicode: Unicode,
     /// Whether line feeds are dropped.
@@ -48,7 +49,7 @@ impl<A: Allocator> Written<A> {
     {
         Written {
             spell: Spell::new(alloc),
-            left: Left::unchanged(),
+            left: Terminal::unchanged(),
             unicode,
             by_lines,
             has_ended: false,
@@ -89,7 +90,7 @@ impl<A: Allocator> Written<A> {
         ensures noted { HasNoted self.old.by_lines self.old.unicode [] self.new }
     {
         self.spell.follows_string = false;
-        self.left = Left::unchanged();
+        self.left = Terminal::unchanged();
         self.has_ended = false;
     }
 }
@@ -222,7 +223,7 @@ impl<A: Allocator> Written<A> {
         };
         match self.spell.write_verbatim(link) {
             Ok(()) => {
-                self.left.link::<A>(link);
+                self.left.note_link::<A>(link);
                 Ok(true)
             }
             Err(error) => Err(error),
@@ -242,6 +243,7 @@ impl<A: Allocator> Written<A> {
         match self.spell.text.push(code.as_char()) {
             Ok(()) => {
                 self.spell.follows_string = false;
+                self.left.note_control(code);
                 Ok(())
             }
             Err(error) => Err(error),

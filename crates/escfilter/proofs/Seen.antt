@@ -57,7 +57,7 @@ whole_adds u limit p = record {
     text_longer_as u (Some limit) p s b,
   );
   end = λ s.
-      let vs = passed_as u (Some limit) p s in (list_text (closing vs), closed_more vs);
+      let vs = passed_as u (Some limit) p s in (list_text (closing p vs), closed_more p vs);
 }
 
 pub lines_add : {A : Type 0} (u : Unicode) (limit : ℕ) (p : Value A → Bool)

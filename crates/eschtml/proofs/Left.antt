@@ -49,7 +49,7 @@ screen_longer : (A : Type 0) (limit : ℕ) (s : List ℕ)
     → (t : List ℕ) × (whole_screen A limit s ≡ screen_text A limit s ++ t)
 screen_longer A limit s =
     let vs = passed {A = A} (Some limit) (admits Screen) s in
-    (list_text (closing vs), closed_more vs)
+    (list_text (closing (admits Screen) vs), closed_more (admits Screen) vs)
 
 -- the same of the HTML of what is left of it
 module _ (A : Type 0) (limit : ℕ) (y : Layout) (z : Size) where

@@ -3,4 +3,4 @@ use Rattle.esc_filter.proofs.Closers.{closed_more}
 use Rattle.esc_filter.proofs.laws.closing_comes_last.Goals as goal
 
 pub returns : goal.returns
-returns g c = λ limit admits s. closed_more (passed limit admits s)
+returns g c = λ limit admits s. closed_more admits (passed limit admits s)

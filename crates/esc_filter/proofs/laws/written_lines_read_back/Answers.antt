@@ -2,7 +2,8 @@ use Rattle.std.proofs.Common.{true, [], ◌∷◌, Some, refl}
 use Rattle.esc_actions.specs.Values.{control}
 use Rattle.esc_actions.specs.declared.control_code.ControlCode.TheVariants.{LineFeed}
 use lib.Utf8.{encode}
-use Rattle.esc_filter.specs.Closing.{after_values, closing, unchanged}
+use Rattle.esc_filter.specs.Closing.{after_values, closing, keeps_cursor}
+use Rattle.esc_filter.specs.Terminal.{unchanged}
 use Rattle.esc_filter.specs.Passing.{in_lines}
 use Rattle.esc_filter.proofs.Closers.{back_writable}
 use Rattle.esc_filter.proofs.ReadLines.{filtered}
@@ -16,5 +17,6 @@ returns g c = λ has_ended u limit admits s.
     l).whatever_follows)
     (λ l. (c.written_reads_back.ensures.ended u (Some limit) (in_lines true admits)
     l).whatever_follows)
-    (λ vs. c.reads_by_itself.ensures (closing vs) (back_writable _ (after_values vs unchanged)))
+    (λ vs. c.reads_by_itself.ensures (closing admits vs)
+    (back_writable _ (keeps_cursor admits) (after_values vs unchanged)))
     (c.reads_by_itself.ensures (control LineFeed ∷ []) (refl, refl, refl)) has_ended s

@@ -2,7 +2,8 @@ use Rattle.std.proofs.Common.{Some, false, sym, ap, ◌∙◌}
 use Rattle.esc_filter.proofs.Characters.{of_nothing}
 use Rattle.esc_actions.proofs.Meanings.{meaning_nil}
 use Rattle.esc_filter.proofs.filter.Filter.restart.Goals as goal
-use Rattle.esc_filter.specs.Closing.{after_values, unchanged}
+use Rattle.esc_filter.specs.Closing.{after_values}
+use Rattle.esc_filter.specs.Terminal.{unchanged}
 use Rattle.esc_filter.specs.Fed.{policy_of}
 use Rattle.esc_filter.specs.Passing.{in_lines}
 use Rattle.esc_normal.specs.Texts.{ends_in_string}

@@ -10,7 +10,7 @@ pub returns-in-Ok-clause-given : goal.returns-in-Ok-clause-given
 returns-in-Ok-clause-given g c = λ u limit l h.
     let admits = g.P.Admit.admits (policy_of_lines c.args.self.now) in
     let old = added_by c.args.self.now in
-    let back = list_text (closing (passed_of_line u limit admits l)) in
+    let back = list_text (closing admits (passed_of_line u limit admits l)) in
     let d = c.in-Ok.ensures.given u limit l h in
     pushed c.push_char.result (added_by c.close.new.self) _ _ c.push_char.ensures.bytes (λ e. (
       d.0,

@@ -1,0 +1,9 @@
+use Rattle.std.proofs.Common.{rules}
+use Rattle.esc_filter.proofs.Lights.{ends, opens}
+use Rattle.esc_filter.proofs.terminal.Terminal.note_link.Goals as goal
+
+pub returns-then-eq : goal.returns-then-eq
+returns-then-eq g c = ends _ c.args.link.now c.args.self.now (search rules) c.reads_back.ensures
+
+pub returns-else-eq : goal.returns-else-eq
+returns-else-eq g c = opens _ c.args.link.now c.args.self.now c.requires (search rules)

@@ -1,0 +1,160 @@
+//! What gives back what is left changed at a terminal.
+ghost use Rattle.std.specs.Prelude.{◌≡◌, ◌++◌, ◌&&◌, None, map, OnErr, OnOk};
+ghost use Rattle.esc_actions.specs.Values.{value_of};
+ghost use Rattle.esc_filter.specs.Closing.{escape, joined, keeps_cursor};
+ghost use Rattle.esc_filter.specs.GivenBack.{is_cursor_due, is_saved_due, main_part, margins_part, on_main, part, parts_back, saved_part, text_given_back};
+ghost use Rattle.memory.specs.Refusals.{Refused};
+
+use crate::admit::Admit;
+use crate::terminal::{Screen, Terminal};
+use esc_actions::Action;
+use esc_sequences::Esc;
+use esc_values::Text;
+use std::alloc::{AllocError, Allocator};
+
+impl Terminal {
+    /// Appends what gives it back, where DECSC and DECRC may be written, or not.
+    pub fn give_back<A: Allocator>(
+        &self,
+        keeps_cursor: bool,
+        text: &mut Text<A>,
+    ) -> Result<(), AllocError>
+        ensures ok { OnOk result (text.new ≡ text.old ++ text_given_back keeps_cursor self.now) }
+        ensures refused { OnErr result (Refused A) }
+    {
+        push_all(text, &self.parts_back(keeps_cursor))
+    }
+
+    // Whether what gives it back goes by whether DECSC and DECRC may be written: where there are
+    // margins, or what is saved with the cursor is changed.
+    fn is_cursor_due(&self) -> bool
+        ensures { result ≡ is_cursor_due self.now }
+    {
+        self.margins || self.saved.is_changed()
+    }
+
+    // The texts that give it back, one after another: that of the main screen, and those of what is
+    // changed once that is shown.
+    fn parts_back(&self, keeps_cursor: bool) -> [&'static str; 17]
+        ensures { map (λ s. s.now) result ≡ parts_back keeps_cursor self.now }
+    {
+        let after = self.on_main();
+        [
+            self.screen.main_part(),
+            part(after.sides, "\x1b[?69l"),
+            part(after.origin, "\x1b[?6l"),
+            part(after.insert, "\x1b[4l"),
+            part(after.hidden, "\x1b[?25h"),
+            part(after.reverse, "\x1b[?5l"),
+            part(after.no_wrap, "\x1b[?7h"),
+            part(after.held, "\x1b[?2026l"),
+            part(after.rendition, "\x1b[0m"),
+            part(after.link, "\x1b]8;;\x1b\\"),
+            part(after.sets.shifted, "\x0f"),
+            part(after.sets.g0, "\x1b(B"),
+            part(after.sets.g1, "\x1b)B"),
+            part(after.sets.g2, "\x1b*B"),
+            part(after.sets.g3, "\x1b+B"),
+            part(after.margins, margins_part(keeps_cursor)),
+            part(after.is_saved_due(keeps_cursor), saved_part(keeps_cursor)),
+        ]
+    }
+
+    // The same with the main screen, as its sequence leaves it.
+    fn on_main(&self) -> Terminal
+        ensures { result ≡ on_main self.now }
+    {
+        let mut terminal = *self;
+        match self.screen {
+            Screen::Main => {}
+            Screen::Alternate | Screen::Cleared => terminal.screen = Screen::Main,
+            Screen::WithCursor => terminal.show_with_cursor(false),
+        }
+        terminal
+    }
+
+    // Whether what is saved with the cursor is to be given back, once the margins were.
+    fn is_saved_due(&self, keeps_cursor: bool) -> bool
+        ensures { result ≡ is_saved_due keeps_cursor self.now }
+    {
+        self.saved.is_changed() && !(self.margins && keeps_cursor)
+    }
+}
+
+impl Screen {
+    // What shows the main one.
+    fn main_part(self) -> &'static str
+        ensures { result.now ≡ main_part self }
+    {
+        match self {
+            Screen::Main => "",
+            Screen::Alternate => "\x1b[?47l",
+            Screen::Cleared => "\x1b[?1047l",
+            Screen::WithCursor => "\x1b[?1049l",
+        }
+    }
+}
+
+// A text, where what it gives back is changed.
+fn part(is_changed: bool, back: &'static str) -> &'static str
+    ensures { result.now ≡ part is_changed back.now }
+{
+    if is_changed { back } else { "" }
+}
+
+// What gives back margins, with the cursor where it is, or at home.
+fn margins_part(keeps_cursor: bool) -> &'static str
+    ensures { result.now ≡ margins_part keeps_cursor }
+{
+    if keeps_cursor {
+        "\x1b7\x1b[r\x1b8"
+    } else {
+        "\x1b[r"
+    }
+}
+
+// What saves the cursor.
+fn saved_part(keeps_cursor: bool) -> &'static str
+    ensures { result.now ≡ saved_part keeps_cursor }
+{
+    if keeps_cursor { "\x1b7" } else { "\x1b[?1048h" }
+}
+
+// Appends these texts.
+fn push_all<A: Allocator>(text: &mut Text<A>, parts: &[&'static str]) -> Result<(), AllocError>
+    ensures ok { OnOk result (text.new ≡ text.old ++ joined (map (λ s. s.now) parts.now)) }
+    ensures refused { OnErr result (Refused A) }
+{
+    for part in parts {
+        match text.push_str(*part) {
+            Ok(()) => {}
+            Err(error) => return Err(error),
+        }
+    }
+    Ok(())
+}
+
+/// Whether the cursor is to be saved and restored as this terminal is given back: where that goes by
+/// it, and the policy admits DECSC and DECRC.
+pub(crate) fn keeps_cursor_of<A: Allocator, P: Admit<A>>(terminal: &Terminal, policy: &P) -> bool
+    ensures { result ≡ (is_cursor_due terminal.now && keeps_cursor {A = A} (P.admits policy.now)) }
+{
+    terminal.is_cursor_due() && keeps_cursor(policy)
+}
+
+// Whether a policy admits them.
+fn keeps_cursor<A: Allocator, P: Admit<A>>(policy: &P) -> bool
+    ensures { result ≡ keeps_cursor {A = A} (P.admits policy.now) }
+{
+    policy.admits(&saving(b'7')) && policy.admits(&saving(b'8'))
+}
+
+// An escape sequence of this final byte.
+fn saving<A: Allocator>(control: u8) -> Action<A>
+    ensures { value_of result ≡ escape None control }
+{
+    Action::Esc(Esc::Unspecified {
+        intermediate: None,
+        control,
+    })
+}
