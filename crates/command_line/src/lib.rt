@@ -22,6 +22,7 @@ pub use ending::{
 pub use esc_visible::is_shown;
 pub use files::{INPUT, OUTPUT, Work, work_through};
 pub use noting::Noting;
+pub use output_file::open_closed;
 pub use reading::{Found, Given, read};
 pub use reason::Reason;
 pub use showing::Shown;

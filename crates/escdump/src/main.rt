@@ -25,7 +25,9 @@ mod run;
 mod stats;
 mod words;
 
-use command_line::{FAULT, OUTPUT, last_status, program_words, refused, work_through};
+use command_line::{
+    FAULT, OUTPUT, last_status, open_closed, program_words, refused, work_through,
+};
 use options::{Kind, Options, Task, When};
 use run::{Dumping, PROGRAM, ended, say};
 use std::env;
@@ -62,6 +64,7 @@ Status: 0 all was printed, 1 a fault, 2 usage, 141 the output was closed.";
 const VERSION: &str = "escdump 0.1.0";
 
 fn main(rt: HostRuntime) -> ExitCode {
+    open_closed(&rt);
     let Ok(words) = program_words(&rt, rt.alloc()) else {
         let _ = eprintln!(rt; "escdump: the arguments cannot be read");
         return ExitCode::from(FAULT);

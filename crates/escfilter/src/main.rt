@@ -22,8 +22,8 @@ mod swallowed;
 mod tally;
 
 use command_line::{
-    DONE, Ended, FAULT, OUTPUT, USAGE_FAULT, Work, is_text, program_words, refused, status_after,
-    status_of_text, unread, unwritable, work_through,
+    DONE, Ended, FAULT, OUTPUT, USAGE_FAULT, Work, is_text, open_closed, program_words, refused,
+    status_after, status_of_text, unread, unwritable, work_through,
 };
 use filtering::Filtering;
 use named_groups::Listed;
@@ -89,6 +89,7 @@ const VERSION: &str = "escfilter 0.1.0";
 const NEW: &str = ".escfilter";
 
 fn main(rt: HostRuntime) -> ExitCode {
+    open_closed(&rt);
     let Ok(words) = program_words(&rt, rt.alloc()) else {
         let _ = eprintln!(rt; "escfilter: the arguments cannot be read");
         return ExitCode::from(FAULT);

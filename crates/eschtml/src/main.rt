@@ -13,8 +13,8 @@ mod stream;
 mod style;
 
 use command_line::{
-    DONE, FAULT, INPUT, OUTPUT, is_text, program_words, refused, status_of_text, tell, unwritable,
-    work_through,
+    DONE, FAULT, INPUT, OUTPUT, is_text, open_closed, program_words, refused, status_of_text, tell,
+    unwritable, work_through,
 };
 use converting::Converting;
 use esc_filter::FilterError;
@@ -61,6 +61,7 @@ const VERSION: &str = "eschtml 0.1.0";
 const NEW: &str = ".eschtml";
 
 fn main(rt: HostRuntime) -> ExitCode {
+    open_closed(&rt);
     let Ok(words) = program_words(&rt, rt.alloc()) else {
         let _ = eprintln!(rt; "eschtml: the arguments cannot be read");
         return ExitCode::from(FAULT);

@@ -7,7 +7,7 @@ pub mod run;
 pub mod task;
 
 use esc_normal::Watched;
-use output_file::is_output;
+use output_file::{is_output, open_closed};
 use run::Order;
 pub use run::run;
 use std::fs::metadata;
@@ -15,6 +15,7 @@ use std::process::ExitCode;
 use std::{env, io};
 
 fn main(rt: HostRuntime) -> ExitCode {
+    open_closed(&rt);
     let Ok(words) = arguments(&rt) else {
         let _ = eprintln!(rt; "escnorm: read fault");
         return ExitCode::from(1);

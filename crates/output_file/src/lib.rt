@@ -1,6 +1,10 @@
-//! Which file a program's output is.
+//! The standard streams of a program: which file its output is, and those without which it was
+//! started.
 #![tactic(auto)]
 
+mod closed;
+
+pub use closed::open_closed;
 use std::fs::{Files, Metadata, metadata};
 use std::io;
 use std::os::unix::fs::MetadataExt;
