@@ -6,7 +6,7 @@ use crate::showing::Shown;
 use crate::wrong::Wrong;
 use std::fmt::Display;
 use std::io;
-use std::io::{ErrorKind, Write};
+use std::io::Write;
 
 /// The status of a program that did what it was asked for.
 pub const DONE: u8 = 0;
@@ -78,10 +78,15 @@ pub fn status_of_text<E: Write>(
     }
 }
 
-/// The status of a program that cannot write the file of this name, for this reason, which a line
-/// on `faults` says.
-pub fn unwritable<E: Write>(program: &str, name: &str, error: io::Error, faults: &mut E) -> u8 {
-    tell(program, name, error, faults);
+/// The status of a program that cannot write the file of this name. A line on `faults` says what
+/// hindered it.
+pub fn unwritable<D: Display + Drop, E: Write>(
+    program: &str,
+    name: &str,
+    hindrance: D,
+    faults: &mut E,
+) -> u8 {
+    tell(program, name, hindrance, faults);
     FAULT
 }
 
@@ -103,13 +108,11 @@ pub fn unread<D: Display + Drop, E: Write>(
 pub fn unwritten<E: Write>(program: &str, output: &str, reason: Reason, faults: &mut E) -> Ended
     ensures { result ≡ Ended.Whole → ⊥ }
 {
-    match reason {
-        Reason::Kind(ErrorKind::BrokenPipe) => Ended::Closed,
-        _ => {
-            tell(program, output, reason, faults);
-            Ended::Unwritten
-        }
+    if reason.is_closed() {
+        return Ended::Closed;
     }
+    tell(program, output, reason, faults);
+    Ended::Unwritten
 }
 
 /// Where a stream ended early.

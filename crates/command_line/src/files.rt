@@ -2,6 +2,7 @@
 
 use crate::arguments::{NO_TEXT, is_text};
 use crate::ending::{DONE, Ended, status_after, unread};
+use crate::reason::Reason;
 use output_file::{IS_OUTPUT, is_output};
 use std::fs::{File, Files, OpenFile, metadata};
 use std::io::{Input, Read, Write};
@@ -63,6 +64,6 @@ fn work_on<R: Files + Input, W: Work, E: Write>(
     match File::open(rt, name) {
         Ok(input) if is_output(rt, input.metadata()) => unread(program, name, IS_OUTPUT, faults),
         Ok(input) => work.take(name, input),
-        Err(error) => unread(program, name, error, faults),
+        Err(error) => unread(program, name, Reason::of(&error), faults),
     }
 }

@@ -7,6 +7,7 @@ use crate::options::Options;
 use command_line::{Ended, OUTPUT, Reason, Work, tell, unwritten};
 use dump_page::Page;
 use std::alloc::Global;
+use std::io;
 use std::io::{ErrorKind, Read, Write};
 
 /// The program's name.
@@ -152,7 +153,7 @@ fn read_some<R: Read>(input: &mut R, chunk: &mut [u8]) -> Result<usize, Fault>
             }
         }
     }
-    Err(Fault::Read(Reason::Kind(ErrorKind::TimedOut)))
+    Err(Fault::Read(Reason::of(&io::Error::from(ErrorKind::TimedOut))))
 }
 
 // Prints the lines, flushes and drops them, also where memory was refused after them.

@@ -22,8 +22,8 @@ mod swallowed;
 mod tally;
 
 use command_line::{
-    DONE, Ended, FAULT, OUTPUT, USAGE_FAULT, Work, is_text, open_closed, program_words, refused,
-    status_after, status_of_text, unread, unwritable, work_through,
+    DONE, Ended, FAULT, OUTPUT, Reason, USAGE_FAULT, Work, is_text, open_closed, program_words,
+    refused, status_after, status_of_text, unread, unwritable, work_through,
 };
 use filtering::Filtering;
 use named_groups::Listed;
@@ -167,12 +167,12 @@ fn failed_or(options: Options<'_>, is_less: bool, status: u8) -> u8 {
 fn filter_to_file(rt: &HostRuntime, options: Options<'_>, files: &[&str], name: &str) -> u8 {
     let mut new = match NewFile::beside(rt, name, NEW) {
         Ok(new) => new,
-        Err(error) => return unwritable(PROGRAM, name, error, &mut rt.stderr()),
+        Err(error) => return unwritable(PROGRAM, name, Reason::of(&error), &mut rt.stderr()),
     };
     let status = filter_all(rt, options, files, name, &mut new.file);
     match new.end(rt, "", status == DONE || status == LEFT_OUT) {
         Ok(()) => status,
-        Err(error) => unwritable(PROGRAM, name, error, &mut rt.stderr()),
+        Err(error) => unwritable(PROGRAM, name, Reason::of(&error), &mut rt.stderr()),
     }
 }
 
@@ -205,7 +205,7 @@ fn replace_file(rt: &HostRuntime, options: Options<'_>, name: &str, suffix: &str
     }
     match NewFile::beside(rt, name, NEW) {
         Ok(new) => replace_by(rt, options, name, suffix, new),
-        Err(error) => (unread(PROGRAM, name, error, faults), false),
+        Err(error) => (unread(PROGRAM, name, Reason::of(&error), faults), false),
     }
 }
 
@@ -222,10 +222,10 @@ fn replace_by(
             let mut filtering = filter_of(rt, options, name, &mut new.file);
             (filtering.take(name, input), filtering.is_less)
         }
-        Err(error) => (unread(PROGRAM, name, error, &mut rt.stderr()), false),
+        Err(error) => (unread(PROGRAM, name, Reason::of(&error), &mut rt.stderr()), false),
     };
     match new.end(rt, suffix, ended == Ended::Whole) {
         Ok(()) => (ended, is_less),
-        Err(error) => (unread(PROGRAM, name, error, &mut rt.stderr()), false),
+        Err(error) => (unread(PROGRAM, name, Reason::of(&error), &mut rt.stderr()), false),
     }
 }

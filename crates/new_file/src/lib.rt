@@ -17,6 +17,9 @@ const MODE: u32 = 0o666;
 
 const OWN_MODE: u32 = 0o600;
 
+// Linux's number of EISDIR.
+const IS_A_DIRECTORY: i32 = 21;
+
 /// A new file in the folder of the one whose place it is to take.
 #[derive(Drop)]
 pub struct NewFile<R: Files + AllocGlobal> {
@@ -36,7 +39,7 @@ impl<R: Files + AllocGlobal> NewFile<R> {
     /// this name is no regular file either.
     pub fn beside(rt: &R, name: &str, suffix: &str) -> io::Result<NewFile<R>> {
         match metadata(rt, name) {
-            Ok(known) if known.is_dir() => Err(io::Error::from(ErrorKind::IsADirectory)),
+            Ok(known) if known.is_dir() => Err(io::Error::from_raw_os_error(IS_A_DIRECTORY)),
             Ok(known) if !known.is_file() => Err(io::Error::from(ErrorKind::InvalidInput)),
             Ok(known) => {
                 let place = canonicalize(rt, name)?;
