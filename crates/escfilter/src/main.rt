@@ -167,12 +167,12 @@ fn failed_or(options: Options<'_>, is_less: bool, status: u8) -> u8 {
 fn filter_to_file(rt: &HostRuntime, options: Options<'_>, files: &[&str], name: &str) -> u8 {
     let mut new = match NewFile::beside(rt, name, NEW) {
         Ok(new) => new,
-        Err(error) => return unwritable(PROGRAM, name, Reason::of(&error), &mut rt.stderr()),
+        Err(fault) => return unwritable(PROGRAM, name, fault, &mut rt.stderr()),
     };
     let status = filter_all(rt, options, files, name, &mut new.file);
     match new.end(rt, "", status == DONE || status == LEFT_OUT) {
         Ok(()) => status,
-        Err(error) => unwritable(PROGRAM, name, Reason::of(&error), &mut rt.stderr()),
+        Err(fault) => unwritable(PROGRAM, name, fault, &mut rt.stderr()),
     }
 }
 
@@ -203,9 +203,9 @@ fn replace_file(rt: &HostRuntime, options: Options<'_>, name: &str, suffix: &str
         let hindrance = "it is changed in place under a name alone";
         return (unread(PROGRAM, name, hindrance, faults), false);
     }
-    match NewFile::beside(rt, name, NEW) {
+    match NewFile::in_place_of(rt, name, NEW) {
         Ok(new) => replace_by(rt, options, name, suffix, new),
-        Err(error) => (unread(PROGRAM, name, Reason::of(&error), faults), false),
+        Err(fault) => (unread(PROGRAM, name, fault, faults), false),
     }
 }
 
@@ -226,6 +226,6 @@ fn replace_by(
     };
     match new.end(rt, suffix, ended == Ended::Whole) {
         Ok(()) => (ended, is_less),
-        Err(error) => (unread(PROGRAM, name, Reason::of(&error), &mut rt.stderr()), false),
+        Err(fault) => (unread(PROGRAM, name, fault, &mut rt.stderr()), false),
     }
 }

@@ -13,8 +13,8 @@ mod stream;
 mod style;
 
 use command_line::{
-    DONE, FAULT, INPUT, OUTPUT, Reason, is_text, open_closed, program_words, refused,
-    status_of_text, tell, unwritable, work_through,
+    DONE, FAULT, INPUT, OUTPUT, is_text, open_closed, program_words, refused, status_of_text, tell,
+    unwritable, work_through,
 };
 use converting::Converting;
 use esc_filter::FilterError;
@@ -100,12 +100,12 @@ fn convert_to(rt: &HostRuntime, output: Option<&str>, options: Options<'_>, file
 fn convert_to_file(rt: &HostRuntime, options: Options<'_>, files: &[&str], name: &str) -> u8 {
     let mut new = match NewFile::beside(rt, name, NEW) {
         Ok(new) => new,
-        Err(error) => return unwritable(PROGRAM, name, Reason::of(&error), &mut rt.stderr()),
+        Err(fault) => return unwritable(PROGRAM, name, fault, &mut rt.stderr()),
     };
     let status = convert(rt, options, files, name, &mut new.file);
     match new.end(rt, "", status == DONE) {
         Ok(()) => status,
-        Err(error) => unwritable(PROGRAM, name, Reason::of(&error), &mut rt.stderr()),
+        Err(fault) => unwritable(PROGRAM, name, fault, &mut rt.stderr()),
     }
 }
 

@@ -1,24 +1,22 @@
-//! A file that takes the place of another once it is whole.
+//! Files that take the place of others once they are whole.
 #![tactic(auto)]
 
-use std::fs::{
-    Files, Metadata, OpenFile, OpenOptions, canonicalize, metadata, remove_file, rename,
-};
+mod fault;
+mod links;
+
+use command_line::Reason;
+pub use fault::FileFault;
+use links::{is_descriptor, led_to};
+use std::fs::{Files, Metadata, OpenFile, OpenOptions, hard_link, metadata, remove_file, rename};
 use std::io;
 use std::io::ErrorKind;
 use std::os::unix::fs::{MetadataExt, OpenOptionsExt, chown};
-
-// How many names a new file is tried under.
-const NAMES: u32 = 100;
 
 // The permissions of a file that takes the place of none, less those that the process masks; and of
 // one that does, until it has those of the other.
 const MODE: u32 = 0o666;
 
 const OWN_MODE: u32 = 0o600;
-
-// Linux's number of EISDIR.
-const IS_A_DIRECTORY: i32 = 21;
 
 /// A new file in the folder of the one whose place it is to take.
 #[derive(Drop)]
@@ -30,25 +28,50 @@ pub struct NewFile<R: Files + AllocGlobal> {
 }
 
 impl<R: Files + AllocGlobal> NewFile<R> {
-    /// A new file that is to take the place of the one of this name, or of none. It gets the
-    /// permissions of that one, and its owner where the system lets it. Where the name is that of a
-    /// link, the file that the link leads to is meant. Until then its name is the other's with a
-    /// number and `suffix`, as `.0.escfilter`.
+    /// A new file that is to take the place of the one of this name, with its permissions, and with
+    /// its owner where the system lets it. Where the name is that of a link, the file that the link
+    /// leads to is meant. Until then its name is the other's with a number and `suffix`, as
+    /// `.0.escfilter`.
     ///
-    /// The error says why there can be none: `IsADirectory`, or `InvalidInput` where the one of
-    /// this name is no regular file either.
-    pub fn beside(rt: &R, name: &str, suffix: &str) -> io::Result<NewFile<R>> {
-        match metadata(rt, name) {
-            Ok(known) if known.is_dir() => Err(io::Error::from_raw_os_error(IS_A_DIRECTORY)),
-            Ok(known) if !known.is_file() => Err(io::Error::from(ErrorKind::InvalidInput)),
-            Ok(known) => {
-                let place = canonicalize(rt, name)?;
-                let new = created(rt, place.as_str(), suffix, OWN_MODE)?;
-                new.become_as(rt, &known)?;
-                Ok(new)
+    /// The error says why there can be none: there is no file of this name, it is a folder or no
+    /// regular file, or the system refuses it.
+    pub fn in_place_of(
+        rt: &R,
+        name: &str,
+        suffix: &str,
+    ) -> Result<NewFile<R>, FileFault<'static>> {
+        let place = led_to(rt, name)?;
+        let known = metadata(rt, place.as_str())?;
+        if known.is_dir() {
+            return Err(FileFault::folder());
+        }
+        if !known.is_file() || is_descriptor(place.as_str()) {
+            return Err(FileFault::NotRegular);
+        }
+        Ok(NewFile::over(rt, place.as_str(), &known, suffix)?)
+    }
+
+    /// The same; or where there is no file of this name, or its link leads to none, a new one that is
+    /// to take its place.
+    pub fn beside(rt: &R, name: &str, suffix: &str) -> Result<NewFile<R>, FileFault<'static>> {
+        let place = led_to(rt, name)?;
+        match metadata(rt, place.as_str()) {
+            Err(error) if error.kind() == ErrorKind::NotFound => {
+                Ok(created(rt, place.as_str(), suffix, MODE)?)
             }
-            Err(error) if error.kind() == ErrorKind::NotFound => created(rt, name, suffix, MODE),
-            Err(error) => Err(error),
+            _ => NewFile::in_place_of(rt, place.as_str(), suffix),
+        }
+    }
+
+    // A new file that is to take the place of a regular one, of which this is known.
+    fn over(rt: &R, place: &str, known: &Metadata, suffix: &str) -> io::Result<NewFile<R>> {
+        let new = created(rt, place, suffix, OWN_MODE)?;
+        match new.become_as(rt, known) {
+            Ok(()) => Ok(new),
+            Err(error) => {
+                new.give_up(rt);
+                Err(error)
+            }
         }
     }
 
@@ -58,34 +81,48 @@ impl<R: Files + AllocGlobal> NewFile<R> {
         self.file.set_permissions(known.permissions())
     }
 
-    /// Puts it in its place where it is whole, once what it holds is on the disk, and keeps the
-    /// file that was there under its name with this suffix, where there is one. Where it is not, or
-    /// after an error, it is removed, and the file of its place stays as it is.
-    pub fn end(self, rt: &R, suffix: &str, is_whole: bool) -> io::Result<()> {
-        if is_whole {
-            return self.take_place(rt, suffix);
+    /// Puts it in its place where it is whole, once what it holds is on the disk, and keeps what was
+    /// there under its name with this suffix, where there is one. At each moment there is a file of
+    /// its name, the old one or this.
+    ///
+    /// Where it is not whole, or after an error, it is removed, and the file of its place stays as
+    /// it is. The error says why: there is a file with the suffix already, or the system refuses it.
+    pub fn end<'a>(self, rt: &R, suffix: &'a str, is_whole: bool) -> Result<(), FileFault<'a>> {
+        if !is_whole {
+            self.give_up(rt);
+            return Ok(());
         }
-        self.give_up(rt);
-        Ok(())
-    }
-
-    // Puts it in its place; after an error it is removed.
-    fn take_place(self, rt: &R, suffix: &str) -> io::Result<()> {
-        let moved = self.change_names(rt, suffix);
-        if moved.is_err() {
+        let placed = self.take_place(rt, suffix);
+        if placed.is_err() {
             self.give_up(rt);
         }
-        moved
+        placed
     }
 
-    // Changes the names, once what it holds is on the disk.
-    fn change_names(&self, rt: &R, suffix: &str) -> io::Result<()> {
+    // Puts it in its place, once what it holds is on the disk. After an error nothing has changed.
+    fn take_place<'a>(&self, rt: &R, suffix: &'a str) -> Result<(), FileFault<'a>> {
         self.file.sync_all()?;
-        if !suffix.is_empty() {
-            let old = format!(in rt.alloc(); "{}{suffix}", self.place)?;
-            rename(rt, self.place.as_str(), old.as_str())?;
+        if suffix.is_empty() {
+            return Ok(rename(rt, self.name.as_str(), self.place.as_str())?);
         }
-        rename(rt, self.name.as_str(), self.place.as_str())
+        let kept = self.keep_old(rt, suffix)?;
+        let placed = rename(rt, self.name.as_str(), self.place.as_str());
+        if placed.is_err() {
+            let _ = remove_file(rt, kept.as_str());
+        }
+        Ok(placed?)
+    }
+
+    // Gives the file of its place a second name, that one with this suffix, and returns it.
+    fn keep_old<'a>(&self, rt: &R, suffix: &'a str) -> Result<String, FileFault<'a>> {
+        let kept = format!(in rt.alloc(); "{}{suffix}", self.place)?;
+        match hard_link(rt, self.place.as_str(), kept.as_str()) {
+            Ok(()) => Ok(kept),
+            Err(error) if error.kind() == ErrorKind::AlreadyExists => {
+                Err(FileFault::IsThere(suffix))
+            }
+            Err(error) => Err(FileFault::NotKept(Reason::of(&error))),
+        }
     }
 
     // Removes it.
@@ -94,20 +131,19 @@ impl<R: Files + AllocGlobal> NewFile<R> {
     }
 }
 
-// A new file beside this place, with these permissions.
+// A new file beside this place, with these permissions. Its number is the first that is free: a
+// program that a signal ended has left its file.
 fn created<R: Files + AllocGlobal>(
     rt: &R,
     place: &str,
     suffix: &str,
     mode: u32,
 ) -> io::Result<NewFile<R>> {
-    for number in 0..NAMES {
+    let place = String::from_str(rt.alloc(), place)?;
+    for number in 0..u32::MAX {
         let name = format!(in rt.alloc(); "{place}.{number}{suffix}")?;
         match open_new(rt, name.as_str(), mode) {
-            Ok(file) => {
-                let place = String::from_str(rt.alloc(), place)?;
-                return Ok(NewFile { file, name, place });
-            }
+            Ok(file) => return Ok(NewFile { file, name, place }),
             Err(error) if error.kind() == ErrorKind::AlreadyExists => {}
             Err(error) => return Err(error),
         }

@@ -1,0 +1,57 @@
+//! Where symbolic links lead.
+
+use std::fs::{Files, read_link, symlink_metadata};
+use std::io;
+use std::io::ErrorKind;
+
+// How many links are followed, one after another: as many as Linux follows.
+const LINKS: u32 = 40;
+
+// Linux's number of ELOOP.
+const TOO_MANY_LINKS: i32 = 40;
+
+/// The name that this one leads to: itself, or where it is that of a symbolic link what that leads
+/// to, and so on. There may be no file of it. A name in `/dev/fd` or `/proc/self/fd` is a stream's,
+/// and leads to no other.
+pub fn led_to<R: Files + AllocGlobal>(rt: &R, name: &str) -> io::Result<String> {
+    let mut place = String::from_str(rt.alloc(), name)?;
+    for _ in 0..=LINKS {
+        if is_descriptor(place.as_str()) {
+            return Ok(place);
+        }
+        match step(rt, place.as_str())? {
+            Some(further) => place = further,
+            None => return Ok(place),
+        }
+    }
+    Err(io::Error::from_raw_os_error(TOO_MANY_LINKS))
+}
+
+/// Whether this is the name of an open descriptor.
+pub fn is_descriptor(name: &str) -> bool {
+    name.starts_with("/dev/fd/") || name.starts_with("/proc/self/fd/")
+}
+
+// What the link of this name leads to. None, where it is no link, or there is no file.
+fn step<R: Files + AllocGlobal>(rt: &R, name: &str) -> io::Result<Option<String>> {
+    match symlink_metadata(rt, name) {
+        Ok(known) if known.is_symlink() => {
+            let target = read_link(rt, name)?;
+            Ok(Some(joined(rt, name, target.as_str())?))
+        }
+        Ok(_) => Ok(None),
+        Err(error) if error.kind() == ErrorKind::NotFound => Ok(None),
+        Err(error) => Err(error),
+    }
+}
+
+// The name of what the link of this name has as its target, which is beside the link.
+fn joined<R: AllocGlobal>(rt: &R, name: &str, target: &str) -> io::Result<String> {
+    if target.starts_with('/') {
+        return Ok(String::from_str(rt.alloc(), target)?);
+    }
+    match name.rsplit_once('/') {
+        Some((folder, _)) => Ok(format!(in rt.alloc(); "{folder}/{target}")?),
+        None => Ok(String::from_str(rt.alloc(), target)?),
+    }
+}
