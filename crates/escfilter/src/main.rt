@@ -27,7 +27,7 @@ use command_line::{
 };
 use filtering::Filtering;
 use named_groups::Listed;
-use new_file::NewFile;
+use new_file::{NewFile, Output};
 use options::{Kind, Options, Target, Task};
 use std::fs::File;
 use std::io;
@@ -163,12 +163,23 @@ fn failed_or(options: Options<'_>, is_less: bool, status: u8) -> u8 {
     }
 }
 
-// Filters the files to that of this name, which is written whole or not at all.
+// Filters the files to that of this name, or to the stream of this name.
 fn filter_to_file(rt: &HostRuntime, options: Options<'_>, files: &[&str], name: &str) -> u8 {
-    let mut new = match NewFile::beside(rt, name, NEW) {
-        Ok(new) => new,
-        Err(fault) => return unwritable(PROGRAM, name, fault, &mut rt.stderr()),
-    };
+    match Output::of(rt, name, NEW) {
+        Ok(Output::New(new)) => filter_to_new(rt, options, files, name, new),
+        Ok(Output::Stream(mut stream)) => filter_all(rt, options, files, name, &mut stream),
+        Err(fault) => unwritable(PROGRAM, name, fault, &mut rt.stderr()),
+    }
+}
+
+// Filters the files to this one, which takes the place of that name whole or not at all.
+fn filter_to_new(
+    rt: &HostRuntime,
+    options: Options<'_>,
+    files: &[&str],
+    name: &str,
+    mut new: NewFile<HostRuntime>,
+) -> u8 {
     let status = filter_all(rt, options, files, name, &mut new.file);
     match new.end(rt, "", status == DONE || status == LEFT_OUT) {
         Ok(()) => status,

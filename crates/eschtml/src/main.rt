@@ -18,7 +18,7 @@ use command_line::{
 };
 use converting::Converting;
 use esc_filter::FilterError;
-use new_file::NewFile;
+use new_file::{NewFile, Output};
 use options::{Kind, Options, Task};
 use page::{END, head};
 use std::io;
@@ -96,12 +96,23 @@ fn convert_to(rt: &HostRuntime, output: Option<&str>, options: Options<'_>, file
     }
 }
 
-// Writes the files to that of this name, which is written whole or not at all.
+// Writes the files to that of this name, or to the stream of this name.
 fn convert_to_file(rt: &HostRuntime, options: Options<'_>, files: &[&str], name: &str) -> u8 {
-    let mut new = match NewFile::beside(rt, name, NEW) {
-        Ok(new) => new,
-        Err(fault) => return unwritable(PROGRAM, name, fault, &mut rt.stderr()),
-    };
+    match Output::of(rt, name, NEW) {
+        Ok(Output::New(new)) => convert_to_new(rt, options, files, name, new),
+        Ok(Output::Stream(mut stream)) => convert(rt, options, files, name, &mut stream),
+        Err(fault) => unwritable(PROGRAM, name, fault, &mut rt.stderr()),
+    }
+}
+
+// Writes the files to this one, which takes the place of that name whole or not at all.
+fn convert_to_new(
+    rt: &HostRuntime,
+    options: Options<'_>,
+    files: &[&str],
+    name: &str,
+    mut new: NewFile<HostRuntime>,
+) -> u8 {
     let status = convert(rt, options, files, name, &mut new.file);
     match new.end(rt, "", status == DONE) {
         Ok(()) => status,

@@ -1,16 +1,21 @@
-//! Files that take the place of others once they are whole.
+//! Files that take the place of others once they are whole, and where the output of a program goes
+//! that is given the name of a file.
 #![tactic(auto)]
 
 mod fault;
 mod links;
+mod output;
+mod stream;
 
 use command_line::Reason;
 pub use fault::FileFault;
 use links::{is_descriptor, led_to};
+pub use output::Output;
 use std::fs::{Files, Metadata, OpenFile, OpenOptions, hard_link, metadata, remove_file, rename};
 use std::io;
 use std::io::ErrorKind;
 use std::os::unix::fs::{MetadataExt, OpenOptionsExt, chown};
+pub use stream::Stream;
 
 // The permissions of a file that takes the place of none, less those that the process masks; and of
 // one that does, until it has those of the other.
@@ -51,20 +56,8 @@ impl<R: Files + AllocGlobal> NewFile<R> {
         Ok(NewFile::over(rt, place.as_str(), &known, suffix)?)
     }
 
-    /// The same; or where there is no file of this name, or its link leads to none, a new one that is
-    /// to take its place.
-    pub fn beside(rt: &R, name: &str, suffix: &str) -> Result<NewFile<R>, FileFault<'static>> {
-        let place = led_to(rt, name)?;
-        match metadata(rt, place.as_str()) {
-            Err(error) if error.kind() == ErrorKind::NotFound => {
-                Ok(created(rt, place.as_str(), suffix, MODE)?)
-            }
-            _ => NewFile::in_place_of(rt, place.as_str(), suffix),
-        }
-    }
-
-    // A new file that is to take the place of a regular one, of which this is known.
-    fn over(rt: &R, place: &str, known: &Metadata, suffix: &str) -> io::Result<NewFile<R>> {
+    /// The same of a regular file of which this is known, and whose name is that of no link.
+    pub fn over(rt: &R, place: &str, known: &Metadata, suffix: &str) -> io::Result<NewFile<R>> {
         let new = created(rt, place, suffix, OWN_MODE)?;
         match new.become_as(rt, known) {
             Ok(()) => Ok(new),
@@ -73,6 +66,11 @@ impl<R: Files + AllocGlobal> NewFile<R> {
                 Err(error)
             }
         }
+    }
+
+    /// A new file that is to take this place, where there is none.
+    pub fn at(rt: &R, place: &str, suffix: &str) -> io::Result<NewFile<R>> {
+        created(rt, place, suffix, MODE)
     }
 
     // Gives it the owner, where the system lets it, and the permissions of a file.

@@ -1,0 +1,71 @@
+//! Where a program's output goes that is given the name of a file.
+
+use crate::NewFile;
+use crate::fault::FileFault;
+use crate::links::{is_descriptor, led_to};
+use crate::stream::Stream;
+use command_line::is_text;
+use std::fs::{OpenOptions, metadata};
+use std::io::ErrorKind;
+
+/// Where a program's output goes that is given the name of a file.
+#[derive(Drop)]
+pub enum Output {
+    /// To a new file, which is to take the place of the one of this name, or of none.
+    New(NewFile<HostRuntime>),
+    /// To what is there already and is no regular file, or is open already, as it comes.
+    Stream(Stream),
+}
+
+impl Output {
+    /// Where the output goes that is given this name. Where it is that of a link, that of what the
+    /// link leads to is meant, whether there is such a file or not.
+    ///
+    /// It goes to a new file, as to [`NewFile::over`], where there is a regular file or none; to
+    /// standard output or error where the name is theirs, as `/dev/stdout`; and to what it is the
+    /// name of where that is no regular file, as a pipe or a terminal, or is open already, as
+    /// `/dev/fd/3`.
+    ///
+    /// The error says why it cannot go there: it is a folder, its name is not UTF-8, or the system
+    /// refuses it.
+    pub fn of(rt: &HostRuntime, name: &str, suffix: &str) -> Result<Output, FileFault<'static>> {
+        if !is_text(name) {
+            return Err(FileFault::NoText);
+        }
+        let place = led_to(rt, name)?;
+        let place = place.as_str();
+        match standard(rt, place) {
+            Some(stream) => Ok(Output::Stream(stream)),
+            None => at(rt, place, suffix),
+        }
+    }
+}
+
+// The standard stream of this name.
+fn standard(rt: &HostRuntime, name: &str) -> Option<Stream> {
+    match name {
+        "/dev/fd/1" | "/proc/self/fd/1" => Some(Stream::Output(rt.stdout())),
+        "/dev/fd/2" | "/proc/self/fd/2" => Some(Stream::Error(rt.stderr())),
+        _ => None,
+    }
+}
+
+// Where the output goes that is given this name, which is that of no link.
+fn at(rt: &HostRuntime, place: &str, suffix: &str) -> Result<Output, FileFault<'static>> {
+    match metadata(rt, place) {
+        Ok(known) if known.is_dir() => Err(FileFault::folder()),
+        Ok(known) if known.is_file() && !is_descriptor(place) => {
+            Ok(Output::New(NewFile::over(rt, place, &known, suffix)?))
+        }
+        Ok(known) => {
+            // (a file that is open already keeps what it has)
+            let mut options = OpenOptions::new();
+            options.write(true).append(known.is_file());
+            Ok(Output::Stream(Stream::Opened(options.open(rt, place)?)))
+        }
+        Err(error) if error.kind() == ErrorKind::NotFound => {
+            Ok(Output::New(NewFile::at(rt, place, suffix)?))
+        }
+        Err(error) => Err(FileFault::from(error)),
+    }
+}
