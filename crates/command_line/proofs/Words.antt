@@ -1,9 +1,14 @@
 -- What one word adds to the options and to the files.
-use Rattle.std.proofs.Common.{◌≡◌, ℕ, Bool, true, false, if◌then◌else◌, List, [], ◌∷◌, ◌++◌, drop, map, refl, sym, ap, ◌∙◌, inl, inr}
+use Rattle.std.proofs.Common.{◌≡◌, ℕ, Bool, true, false, if◌then◌else◌, List, [], ◌∷◌, ◌++◌, Option, None, Some, Bor, drop, length, map, nat_eq, refl, sym, subst, ap, ◌∙◌, inl, inr}
+use Rattle.std.specs.List.{starts_with}
+use Rattle.std.specs.Option.{MatchOption, option_map}
+use Rattle.std.specs.Str.{IsCharBoundary}
+use Rattle.std.specs.Str.Pattern.{FindsTextPrefix, StripsPrefix}
 use Rattle.std.proofs.lemmas.List.{append_assoc, drop-map}
 use Rattle.std.proofs.lemmas.Bool.{cases_Bool}
+use Rattle.std.proofs.lemmas.Str.Pattern.{starts_text}
 use Rattle.command_line.specs.declared.table.Known.{Known}
-use Rattle.command_line.specs.Words.{ends_options, files_of, given_of, is_file, name_in, option_named, options_of, takes_next, value_of}
+use Rattle.command_line.specs.Words.{ends_options, files_of, given_by, is_file, options_of, takes_next}
 
 -- how many words an option takes
 abbrev pub taken : List Known → List ℕ → ℕ
@@ -27,11 +32,11 @@ options_next : (known : List Known) (os ns : List (List ℕ × List ℕ)) (w : L
     (ws rest : List (List ℕ)) → ends_options w ≡ false
     → (is_file w ≡ true → (rest ≡ ws) × (ns ≡ os))
     → (is_file w ≡ false → (rest ≡ drop (taken known w) ws)
-    × (ns ≡ os ++ given_of (option_named known (name_in w)) (value_of known w ws)))
+    × (ns ≡ os ++ given_by known w ws))
     → ns ++ options_of known false rest ≡ os ++ options_of known false (w ∷ ws)
 options_next known os ns w ws rest e f o = elim (cases_Bool (is_file w)) [
   | inl is ↦ rw e (rw is (rw (f is).0 (rw (f is).1 refl)))
-  | inr is ↦ let given = given_of (option_named known (name_in w)) (value_of known w ws) in
+  | inr is ↦ let given = given_by known w ws in
       rw e (rw is (rw (o is).0 (rw (o is).1
       (append_assoc os given (options_of known false (drop (taken known w) ws))
       ∙ ap (λ us. os ++ (given ++ us)) (sym (options_left known (takes_next known w) ws))))))
@@ -55,7 +60,7 @@ pub options_step : {S : Type 0} (text : S → List ℕ) (known : List Known)
     → w ≡ text x → all ≡ x ∷ after → ends_options w ≡ false
     → (is_file w ≡ true → (rest ≡ after) × (ns ≡ os))
     → (is_file w ≡ false → (rest ≡ drop (taken known w) after)
-    × (ns ≡ os ++ given_of (option_named known (name_in w)) (value_of known w (map text after))))
+    × (ns ≡ os ++ given_by known w (map text after)))
     → ns ++ options_of known false (map text rest) ≡ os ++ options_of known false (map text all)
 options_step text known os ns w x all after rest t a e f o =
     options_next known os ns w (map text after) (map text rest) e
@@ -82,3 +87,15 @@ files_step text known os ns w x all after rest t a e f o =
     ))
     ∙ ap (λ v. os ++ files_of known false (v ∷ map text after)) t
     ∙ ap (λ us. os ++ files_of known false (map text us)) (sym a)
+
+-- what is left of a text after another, where it begins with it
+pub strip_is : (n s : List ℕ) (r : Option (Bor (List ℕ)))
+    → MatchOption r (FindsTextPrefix n s None) (λ x. StripsPrefix (FindsTextPrefix n) s x.now)
+    → option_map (λ x. x.now) r
+    ≡ (if starts_with nat_eq s n then Some (drop (length n) s) else None)
+strip_is n s None h = rw (sym (starts_text false n s h)) refl
+strip_is n s (Some x) h =
+    let m = h.1 in
+    let starts : true ≡ starts_with nat_eq s n =
+        starts_text true n s (h.0, m, subst (λ z. IsCharBoundary s z) (sym m.0) m.2) in
+    rw (sym starts, h.2, m.0) refl

@@ -1,7 +1,7 @@
 -- Which of a program's words are options, and which are files.
-use Rattle.std.specs.Prelude.{ℕ, nat_lt, nat_eq, ◌==◌, ◌&&◌, ◌||◌, Bool, true, false, not, if◌then◌else◌, List, [], ◌∷◌, ◌++◌, length, codes, slice_index, Option, Some, None}
+use Rattle.std.specs.Prelude.{ℕ, nat_lt, nat_eq, ◌==◌, ◌&&◌, ◌||◌, Bool, true, false, not, if◌then◌else◌, List, [], ◌∷◌, ◌++◌, drop, length, codes, slice_index, Option, Some, None}
 use Rattle.std.specs.Cmp.Lexicographic.{pointwise}
-use Rattle.std.specs.List.{before_first, after_first}
+use Rattle.std.specs.List.{before_first, after_first, starts_with}
 use Rattle.command_line.specs.declared.reading.Given.{Given}
 use Rattle.command_line.specs.declared.table.Known.{Known}
 use Rattle.command_line.specs.declared.table.Takes.{Takes}
@@ -30,6 +30,14 @@ takes_value takes.Size = true
 takes_value (takes.OneOf c ws) = true
 takes_value (takes.SomeOf c ws) = true
 takes_value (takes.Maybe c ws) = false
+
+-- whether an option takes something, or may take it
+abbrev pub may_take : Takes → Bool
+may_take takes.Nothing = false
+may_take takes.Size = true
+may_take (takes.OneOf c ws) = true
+may_take (takes.SomeOf c ws) = true
+may_take (takes.Maybe c ws) = true
 
 abbrev pub some_takes : Option Known → Bool
 some_takes None = false
@@ -66,10 +74,47 @@ word_given (takes.OneOf c ws) v = v
 word_given (takes.SomeOf c ws) v = v
 word_given (takes.Maybe c ws) v = v
 
+-- whether it is this option's name without its first `-`, as -output
+abbrev pub lacks_dash : Known → List ℕ → Bool
+lacks_dash o n = pointwise nat_eq o.name.now (0x2d ∷ n)
+
+-- whether something is joined to this option's letter in a word of this name
+abbrev pub is_joined : Known → List ℕ → List ℕ → Bool
+is_joined o n w = may_take o.takes && not (length o.letter.now == 0) && not (lacks_dash o n)
+    && starts_with nat_eq w o.letter.now
+
+-- what is: what follows the letter
+abbrev pub joined : Known → List ℕ → List ℕ → Option (List ℕ)
+joined o n w = if is_joined o n w then Some (drop (length o.letter.now) w) else None
+
+-- an option with its value, or else what is there
+abbrev pub with_value : Known → Option (List ℕ) → Option (Known × List ℕ)
+    → Option (Known × List ℕ)
+with_value o None next = next
+with_value o (Some v) next = Some (o, v)
+
+-- the first option to whose letter something is joined, and what is
+abbrev pub option_joined : List Known → List ℕ → List ℕ → Option (Known × List ℕ)
+option_joined [] n w = None
+option_joined (o ∷ os) n w = with_value o (joined o n w) (option_joined os n w)
+
 -- an option's name and its word, with this value
 abbrev pub given_of : Option Known → List ℕ → List (List ℕ × List ℕ)
 given_of None v = []
 given_of (Some o) v = (o.name.now, word_given o.takes v) ∷ []
+
+-- of the option that a word has the name or the letter of, with this value; or else of the one to
+-- whose letter its value is joined
+abbrev pub given_or : Option Known → List ℕ → Option (Known × List ℕ) → List (List ℕ × List ℕ)
+given_or (Some o) v j = given_of (Some o) v
+given_or None v None = []
+given_or None v (Some j) = given_of (Some j.0) j.1
+
+-- of the option that a word names, before these words
+abbrev pub given_by : List Known → List ℕ → List (List ℕ) → List (List ℕ × List ℕ)
+given_by known w ws =
+    given_or (option_named known (name_in w)) (value_of known w ws)
+    (option_joined known (name_in w) w)
 
 -- the names and the words of the options that these words name, of which an option takes the first
 -- where that is said
@@ -79,8 +124,7 @@ options_of known true (w ∷ ws) = options_of known false ws
 options_of known false (w ∷ ws) =
     if ends_options w then []
     else if is_file w then options_of known false ws
-    else given_of (option_named known (name_in w)) (value_of known w ws)
-    ++ options_of known (takes_next known w) ws
+    else given_by known w ws ++ options_of known (takes_next known w) ws
 
 -- the name and the word of an option that was read
 abbrev pub said : Given → List ℕ × List ℕ

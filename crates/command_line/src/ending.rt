@@ -52,14 +52,14 @@ pub fn last_status(ended: Ended) -> u8 {
     }
 }
 
-/// The status of a program whose words are wrong. Lines on `faults` say what is, and where it is
-/// not memory that was refused, the usage.
-pub fn refused<E: Write>(program: &str, usage: &str, wrong: Wrong<'_>, faults: &mut E) -> u8 {
+/// The status of a program whose words are wrong. A line on `faults` says what is, and where it is
+/// not memory that was refused, another which option says the right ones.
+pub fn refused<E: Write>(program: &str, wrong: Wrong<'_>, faults: &mut E) -> u8 {
     let _ = writeln!(faults, "{program}: {wrong}");
     if wrong.is_fault() {
         return FAULT;
     }
-    let _ = writeln!(faults, "{usage}");
+    let _ = writeln!(faults, "Try '{program} --help' for more.");
     USAGE_FAULT
 }
 

@@ -2,6 +2,7 @@
 //! they read, and how one ends and why.
 #![tactic(auto)]
 
+mod apart;
 mod arguments;
 mod ending;
 mod files;
@@ -14,6 +15,7 @@ mod sizes;
 mod table;
 mod wrong;
 
+pub use apart::{Apart, wrong_apart};
 pub use arguments::{NO_TEXT, is_text, program_words};
 pub use ending::{
     DONE, Ended, FAULT, Place, USAGE_FAULT, ended_by, last_status, refused, status_after,

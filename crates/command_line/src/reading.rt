@@ -1,10 +1,10 @@
 //! From a program's words to its options and its files.
 ghost use Rattle.std.specs.Prelude.{◌≡◌, ◌≤◌, ◌++◌, ◌∷◌, [], IfOk, drop, false, if◌then◌else◌, length, map, string_bytes, true};
-ghost use Rattle.command_line.specs.Words.{files_of, first_of, given_of, is_file, name_in, option_named, options_of, said, takes_next, takes_value, value_of, word_given};
+ghost use Rattle.command_line.specs.Words.{files_of, first_of, given_by, is_file, options_of, said, takes_next, takes_value, word_given};
 
 use crate::nearness::{nearest_name, nearest_word};
 use crate::sizes::size_of;
-use crate::table::{Known, Takes, option_named};
+use crate::table::{Known, Takes, option_joined, option_named};
 use crate::wrong::{A_SIZE, Wrong};
 use std::alloc::{Allocator, Global};
 
@@ -30,6 +30,9 @@ pub struct Given<'a> {
     /// Which words it takes, where it takes some: a bit each, that of the first word 1, of the next
     /// 2, of the next 4.
     pub some: u64,
+    /// The word after it, where it may take one and has none; empty where there is none. It takes
+    /// what follows `=` alone, so this is another option or a file.
+    pub next: &'a str,
 }
 
 /// The options and files that these words, a program's arguments, name, by the table of its
@@ -37,7 +40,8 @@ pub struct Given<'a> {
 ///
 /// A word that begins with `-` is an option, but for `-` itself, which is a file, and `--`, after
 /// which all words are files. What an option takes is the next word, whatever it is, or follows the
-/// name after `=`; what it may take follows `=`.
+/// name after `=`; what it may take follows `=`. Either may be joined to the option's letter, as in
+/// `-ofile`, but in a word that is the option's name without the first `-`.
 pub fn read<'a, A: Allocator + Copy>(
     alloc: A,
     known: &[Known],
@@ -98,8 +102,7 @@ fn add_word<'a, A: Allocator + Copy>(
         (rest.now ≡ drop (if takes_next known.now word.now then 1 else 0) after.now)
         × (found.new.files.items ≡ found.old.files.items)
         × (map said found.new.options.items ≡ map said found.old.options.items
-        ++ given_of (option_named known.now (name_in word.now))
-        (value_of known.now word.now (map string_bytes after.now)))) }
+        ++ given_by known.now word.now (map string_bytes after.now))) }
 {
     if word == "-" || !word.starts_with('-') {
         return match found.files.push(word) {
@@ -142,24 +145,24 @@ fn option_of<'a>(
     ensures rest { IfOk result (λ x.
         x.1.now ≡ drop (if takes_next known.now word.now then 1 else 0) after.now) }
     ensures given { IfOk result (λ x. said x.0 ∷ []
-        ≡ given_of (option_named known.now (name_in word.now))
-        (value_of known.now word.now (map string_bytes after.now))) }
+        ≡ given_by known.now word.now (map string_bytes after.now)) }
 {
-    let (name, joined) = match word.split_once('=') {
+    let (name, value) = match word.split_once('=') {
         Some((name, value)) => (name, Some(value)),
         None => (word, None),
     };
-    let Some(option) = option_named(known, name) else {
-        return Err(Wrong::Name(name, nearest_name(known, name)));
-    };
-    match joined {
-        Some(value) => Ok((given_joined(option, value)?, after)),
-        None => given_before(option, after),
+    match (option_named(known, name), value) {
+        (Some(option), Some(value)) => Ok((given_equal(option, value)?, after)),
+        (Some(option), None) => given_before(option, after),
+        (None, _) => match option_joined(known, name, word) {
+            Some((option, value)) => Ok((given_with(option, value)?, after)),
+            None => Err(Wrong::Name(name, nearest_name(known, name))),
+        },
     }
 }
 
 // An option with a value after `=`.
-fn given_joined<'a>(option: Known, value: &'a str) -> Result<Given<'a>, Wrong<'a>>
+fn given_equal<'a>(option: Known, value: &'a str) -> Result<Given<'a>, Wrong<'a>>
     ensures { IfOk result (λ g. said g ≡ (option.name.now, word_given option.takes value.now)) }
 {
     match option.takes {
@@ -183,7 +186,8 @@ fn given_before<'a>(
     )) }
 {
     let called = match option.takes {
-        Takes::Nothing | Takes::Maybe(_, _) => return Ok((taken(option, "", 0), after)),
+        Takes::Nothing => return Ok((taken(option, "", 0), after)),
+        Takes::Maybe(_, _) => return Ok((followed(option, after), after)),
         Takes::Size => A_SIZE,
         Takes::OneOf(called, _) | Takes::SomeOf(called, _) => called,
     };
@@ -216,6 +220,7 @@ fn given_with<'a>(option: Known, value: &'a str) -> Result<Given<'a>, Wrong<'a>>
                 word: value,
                 size: 0,
                 some,
+                next: "",
             }),
             Err(part) => {
                 let near = nearest_word(words, part);
@@ -259,7 +264,19 @@ fn taken<'a>(option: Known, word: &'a str, size: usize) -> Given<'a>
         word,
         size,
         some: 0,
+        next: "",
     }
+}
+
+// The option without what it may take, before these words.
+fn followed<'a>(option: Known, after: &'a [String]) -> Given<'a>
+    ensures { said result ≡ (option.name.now, []) }
+{
+    let mut given = taken(option, "", 0);
+    if let Some(next) = after.first() {
+        given.next = next.as_str();
+    }
+    given
 }
 
 // Whether it is one of these words, or there are none.

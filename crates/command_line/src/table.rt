@@ -1,6 +1,7 @@
 //! The options that a program has.
 ghost use Rattle.std.specs.Prelude.{◌≡◌};
-ghost use Rattle.command_line.specs.Words.{option_named};
+ghost use Rattle.std.specs.Option.{option_map};
+ghost use Rattle.command_line.specs.Words.{joined, lacks_dash, may_take, option_joined, option_named};
 
 /// An option that a program has.
 #[derive(Clone, Copy)]
@@ -61,4 +62,47 @@ pub fn option_named(known: &[Known], name: &str) -> Option<Known>
         }
     }
     None
+}
+
+// The first option to whose letter something is joined in this word, which has this name before
+// `=`, and what is.
+pub fn option_joined<'a>(known: &[Known], name: &str, word: &'a str) -> Option<(Known, &'a str)>
+    ensures { option_map (λ x. (x.0, x.1.now)) result ≡ option_joined known.now name.now word.now }
+{
+    for option in known {
+        if let Some(value) = joined(option, name, word) {
+            return Some((*option, value));
+        }
+    }
+    None
+}
+
+// What is joined to the option's letter in this word, which has this name before `=`.
+fn joined<'a>(option: &Known, name: &str, word: &'a str) -> Option<&'a str>
+    ensures { option_map (λ v. v.now) result ≡ joined option.now name.now word.now }
+{
+    if !may_take(option.takes) || option.letter.is_empty() || lacks_dash(option, name) {
+        return None;
+    }
+    word.strip_prefix(option.letter)
+}
+
+// Whether an option takes something, or may take it.
+fn may_take(takes: Takes) -> bool
+    ensures { result ≡ may_take takes }
+{
+    match takes {
+        Takes::Nothing => false,
+        Takes::Size | Takes::OneOf(_, _) | Takes::SomeOf(_, _) | Takes::Maybe(_, _) => true,
+    }
+}
+
+// Whether it is the option's name without its first `-`.
+fn lacks_dash(option: &Known, name: &str) -> bool
+    ensures { result ≡ lacks_dash option.now name.now }
+{
+    match option.name.as_bytes().split_first() {
+        Some((first, rest)) => *first == b'-' && rest == name.as_bytes(),
+        None => false,
+    }
 }

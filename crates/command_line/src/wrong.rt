@@ -18,6 +18,8 @@ pub enum Wrong<'a> {
     Nothing(&'static str, &'static str),
     /// This option takes nothing, and a value follows `=`.
     Something(&'static str),
+    /// This option may take this word after `=` alone, and there is no file of its name.
+    Apart(&'static str, &'a str),
     /// No word is wrong: memory was refused.
     Memory,
 }
@@ -49,6 +51,10 @@ impl<'a> Display for Wrong<'a> {
             }
             Wrong::Nothing(name, called) => write_texts(&[name, " wants a ", called], f),
             Wrong::Something(name) => write_texts(&[name, " takes no value"], f),
+            Wrong::Apart(name, word) => {
+                let word = Shown(word);
+                write!(f, "{word} is no file, did you mean {name}={word}?")
+            }
             Wrong::Memory => f.write_str("out of memory"),
         }
     }
@@ -63,7 +69,7 @@ fn write_name<W: fmt::Write>(
     f.write_str("unknown option ")?;
     Shown(name).fmt(f)?;
     match near {
-        Some(near) => write_texts(&[" (did you mean ", near, "?)"], f),
+        Some(near) => write_texts(&[", did you mean ", near, "?"], f),
         None => Ok(()),
     }
 }
@@ -76,7 +82,7 @@ fn write_value<W: fmt::Write>(
 ) -> fmt::Result {
     Shown(value).fmt(f)?;
     match near {
-        Some(near) => write_texts(&["\" (did you mean \"", near, "\"?)"], f),
+        Some(near) => write_texts(&["\", did you mean \"", near, "\"?"], f),
         None => f.write_str("\""),
     }
 }

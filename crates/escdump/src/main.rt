@@ -75,7 +75,7 @@ fn main(rt: HostRuntime) -> ExitCode {
             options.is_colored = is_colored(&rt, task.colors);
             done(&rt, task.kind, options, &task.files)
         }
-        Err(wrong) => refused(PROGRAM, USAGE, wrong, &mut rt.stderr()),
+        Err(wrong) => refused(PROGRAM, wrong, &mut rt.stderr()),
     };
     ExitCode::from(status)
 }

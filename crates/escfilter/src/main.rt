@@ -22,8 +22,8 @@ mod swallowed;
 mod tally;
 
 use command_line::{
-    DONE, Ended, FAULT, OUTPUT, Reason, USAGE_FAULT, Work, is_text, open_closed, program_words,
-    refused, status_after, status_of_text, unread, unwritable, work_through,
+    DONE, Ended, FAULT, OUTPUT, Reason, Work, Wrong, is_text, open_closed, program_words, refused,
+    status_after, status_of_text, unread, unwritable, work_through, wrong_apart,
 };
 use filtering::Filtering;
 use named_groups::Listed;
@@ -72,8 +72,8 @@ leaves on, as colours or a link, is taken back at its end, and at each line's wi
                   --report=json as a line of JSON
   --fail          ends with status 3 where anything was left out
   -o, --output f  writes the file f, whole or not at all
-  -i, --in-place  writes each FILE in its place, whole or not at all; --in-place=.bak
-                  keeps what was there as FILE.bak
+  -i, --in-place  writes each FILE in its place, whole or not at all; -i.bak, as
+                  --in-place=.bak, keeps what was there as FILE.bak
   -h, --help      prints this
   -V, --version   prints the version
   --              the words after it are files
@@ -96,7 +96,7 @@ fn main(rt: HostRuntime) -> ExitCode {
     };
     let status = match Task::of(rt.alloc(), &words) {
         Ok(task) => done(&rt, &task),
-        Err(wrong) => refused(PROGRAM, USAGE, wrong, &mut rt.stderr()),
+        Err(wrong) => refused(PROGRAM, wrong, &mut rt.stderr()),
     };
     ExitCode::from(status)
 }
@@ -104,7 +104,10 @@ fn main(rt: HostRuntime) -> ExitCode {
 // Does what the words ask for.
 fn done(rt: &HostRuntime, task: &Task<'_>) -> u8 {
     match task.kind {
-        Kind::Filter => filter_to(rt, task.target, task.options, &task.files),
+        Kind::Filter => match wrong_apart(rt, task.apart) {
+            Some(wrong) => refused(PROGRAM, wrong, &mut rt.stderr()),
+            None => filter_to(rt, task.target, task.options, &task.files),
+        },
         Kind::Help => said(rt, println!(rt; "{USAGE}\n\n{HELP}\n{Listed}")),
         Kind::Version => said(rt, println!(rt; "{VERSION}")),
     }
@@ -190,8 +193,7 @@ fn filter_to_new(
 // Filters each file in its place.
 fn filter_in_place(rt: &HostRuntime, options: Options<'_>, files: &[&str], suffix: &str) -> u8 {
     if files.is_empty() {
-        let _ = eprintln!(rt; "escfilter: --in-place wants a file\n{USAGE}");
-        return USAGE_FAULT;
+        return refused(PROGRAM, Wrong::Nothing("--in-place", "file"), &mut rt.stderr());
     }
     let mut status = DONE;
     let mut is_less = false;

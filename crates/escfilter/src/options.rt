@@ -1,7 +1,7 @@
 //! What the program's words ask for.
 
 use crate::named_groups::{ALLOWED, Choice, DENIED};
-use command_line::{Found, Given, Known, Takes, Wrong, read};
+use command_line::{Apart, Found, Given, Known, Takes, Wrong, read};
 use esc_filter::{Policy, Unicode, is_scheme};
 use std::alloc::{Allocator, Global};
 
@@ -71,6 +71,8 @@ pub struct Task<'a, A: Allocator = Global> {
     pub options: Options<'a>,
     /// The files.
     pub files: Vec<&'a str, A>,
+    /// The first of these that an option before it could take.
+    pub apart: Option<Apart<'a>>,
 }
 
 impl<'a> Options<'a> {
@@ -191,6 +193,7 @@ impl<'a, A: Allocator + Copy> Task<'a, A> {
             target: asked.target,
             options: asked.settled(),
             files: found.files,
+            apart: apart_of(&found.options),
         }
     }
 }
@@ -329,6 +332,29 @@ fn wrong_rows<'a>(options: &[Given<'a>]) -> Option<&'a str> {
         }
     }
     None
+}
+
+// The first word after an option that could take it, and takes what follows `=` alone.
+fn apart_of<'a>(options: &[Given<'a>]) -> Option<Apart<'a>> {
+    for given in options {
+        if could_take(given.name, given.next) {
+            return Some(Apart {
+                option: given.name,
+                word: given.next,
+            });
+        }
+    }
+    None
+}
+
+// Whether an option of this name could take this word. A suffix is one that looks so.
+fn could_take(name: &str, word: &str) -> bool {
+    match name {
+        "--report" => word == "text" || word == "json",
+        "--collapse" => !word.is_empty() && rows_of(word).is_some(),
+        "--in-place" => word.starts_with('.'),
+        _ => false,
+    }
 }
 
 // How many rows a word names; where it is empty, the default.

@@ -14,7 +14,7 @@ mod style;
 
 use command_line::{
     DONE, FAULT, INPUT, OUTPUT, is_text, open_closed, program_words, refused, status_of_text, tell,
-    unwritable, work_through,
+    unwritable, work_through, wrong_apart,
 };
 use converting::Converting;
 use esc_filter::FilterError;
@@ -68,7 +68,7 @@ fn main(rt: HostRuntime) -> ExitCode {
     };
     let status = match Task::of(rt.alloc(), &words) {
         Ok(task) => done(&rt, &task),
-        Err(wrong) => refused(PROGRAM, USAGE, wrong, &mut rt.stderr()),
+        Err(wrong) => refused(PROGRAM, wrong, &mut rt.stderr()),
     };
     ExitCode::from(status)
 }
@@ -76,7 +76,10 @@ fn main(rt: HostRuntime) -> ExitCode {
 // Does what the words ask for.
 fn done(rt: &HostRuntime, task: &Task<'_>) -> u8 {
     match task.kind {
-        Kind::Convert => convert_to(rt, task.output, task.options, &task.files),
+        Kind::Convert => match wrong_apart(rt, task.apart) {
+            Some(wrong) => refused(PROGRAM, wrong, &mut rt.stderr()),
+            None => convert_to(rt, task.output, task.options, &task.files),
+        },
         Kind::Style => said(rt, OUTPUT, print!(rt; "{STYLE}")),
         Kind::Help => said(rt, OUTPUT, println!(rt; "{USAGE}\n\n{HELP}")),
         Kind::Version => said(rt, OUTPUT, println!(rt; "{VERSION}")),

@@ -1,6 +1,6 @@
 //! What the program's words ask for.
 
-use command_line::{Found, Known, Takes, Wrong, read};
+use command_line::{Apart, Found, Given, Known, Takes, Wrong, read};
 use esc_html::Layout;
 use std::alloc::{Allocator, Global};
 
@@ -45,6 +45,8 @@ pub struct Task<'a, A: Allocator = Global> {
     pub output: Option<&'a str>,
     /// The files.
     pub files: Vec<&'a str, A>,
+    /// The last of these that an option before it could take.
+    pub apart: Option<Apart<'a>>,
 }
 
 const DEFAULT_LIMIT: usize = 1_048_576;
@@ -119,6 +121,7 @@ impl<'a, A: Allocator + Copy> Task<'a, A> {
     fn from_found(found: Found<'a, A>) -> Task<'a, A> {
         let mut kind = Kind::Convert;
         let mut output = None;
+        let mut apart = None;
         let mut options = Options {
             is_page: false,
             title: None,
@@ -137,7 +140,10 @@ impl<'a, A: Allocator + Copy> Task<'a, A> {
                 "--lines" => options.layout.per_line = true,
                 "--inline" => options.layout.inline = true,
                 "--show" => options.shows = true,
-                "--final-lines" => options.rows = rows_of(given.word),
+                "--final-lines" => {
+                    options.rows = rows_of(given.word);
+                    apart = apart_of(given);
+                }
                 "--limit" => options.limit = given.size,
                 "--output" => output = Some(given.word),
                 "--style" => kind = Kind::Style,
@@ -151,8 +157,20 @@ impl<'a, A: Allocator + Copy> Task<'a, A> {
             options,
             output,
             files: found.files,
+            apart,
         }
     }
+}
+
+// The word after this option, where it could take it, and takes what follows `=` alone.
+fn apart_of<'a>(given: &Given<'a>) -> Option<Apart<'a>> {
+    if given.next.is_empty() || rows_of(given.next).is_none() {
+        return None;
+    }
+    Some(Apart {
+        option: given.name,
+        word: given.next,
+    })
 }
 
 // How many rows a word names; where it is empty, the default.

@@ -1,0 +1,9 @@
+use Rattle.std.proofs.Common.{◌≡◌, drop}
+use Rattle.command_line.specs.Words.{option_joined}
+use Rattle.command_line.proofs.table.option_joined.Given as goal
+
+-- what is left decides
+abbrev pub invariant-loop-option : goal.invariant-loop-option
+invariant-loop-option l =
+    option_joined l.known l.name l.word
+    ≡ option_joined (drop l.option-index l.known) l.name l.word
