@@ -1,5 +1,6 @@
 //! How a stream ends, and what a program says and returns of it.
 ghost use Rattle.std.specs.Prelude.{◌≡◌};
+ghost use Rattle.command_line.specs.Endings.{last_status, status_after};
 
 use crate::reason::Reason;
 use crate::showing::Shown;
@@ -35,7 +36,9 @@ pub enum Ended {
 
 /// The status after a stream that ended so, where it was this one before. An error where no further
 /// stream can be written.
-pub fn status_after(ended: Ended, status: u8) -> Result<u8, u8> {
+pub fn status_after(ended: Ended, status: u8) -> Result<u8, u8>
+    ensures { result ≡ status_after ended status }
+{
     match ended {
         Ended::Whole => Ok(status),
         Ended::Unread => Ok(FAULT),
@@ -45,7 +48,9 @@ pub fn status_after(ended: Ended, status: u8) -> Result<u8, u8> {
 }
 
 /// The status after a stream that ended so, where none follows.
-pub fn last_status(ended: Ended) -> u8 {
+pub fn last_status(ended: Ended) -> u8
+    ensures { result ≡ last_status ended }
+{
     match status_after(ended, DONE) {
         Ok(status) => status,
         Err(status) => status,
