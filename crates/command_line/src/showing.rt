@@ -1,4 +1,7 @@
 //! Words that are safe to print.
+ghost use Rattle.std.specs.Prelude.{◌≡◌, ◌<◌, List, Some, false, ℕ};
+ghost use Rattle.std.specs.Fmt.{DisplaysOnOk, digit_glyph};
+ghost use Rattle.command_line.specs.ShownWords.{IsShown, byte_shown, escaped, shown, word_shown};
 
 use esc_visible::is_shown;
 use std::fmt;
@@ -12,27 +15,72 @@ use std::fmt::Display;
 pub struct Shown<'a>(pub &'a str);
 
 impl<'a> Display for Shown<'a> {
+    ghost output = { λ s. Some (word_shown s.0.now) };
+
     fn fmt<W: fmt::Write>(&self, f: &mut fmt::Formatter<W>) -> fmt::Result {
         let mut is_byte = false;
         for c in self.0.chars() {
-            if is_byte {
-                write!(f, "\\x{:02x}", c as u32)?;
-            } else if c != '\0' {
-                write_char(c, f)?;
-            }
+            write_shown(is_byte, c, f)?;
             is_byte = c == '\0' && !is_byte;
         }
         Ok(())
     }
 }
 
-// Writes a character, escaped where it is not shown.
-fn write_char<W: fmt::Write>(c: char, f: &mut fmt::Formatter<W>) -> fmt::Result {
-    if c != '\\' && is_shown(c) {
+/// Each character of what is written of a word shows as itself: so none of it is a control, or
+/// hides or reorders text, whatever the word is.
+pub fn words_are_shown()
+    ensures { (w : List ℕ) → IsShown (word_shown w) }
+{}
+
+// Writes a character of a word, which stands for a byte where it is said so.
+fn write_shown<W: fmt::Write>(is_byte: bool, c: char, f: &mut fmt::Formatter<W>) -> fmt::Result
+    ensures { DisplaysOnOk W.write_str_gives f.old result (Some (shown is_byte c)) f.new }
+{
+    if is_byte {
+        return write_byte(c as u32, f);
+    }
+    if c == '\0' {
+        return Ok(());
+    }
+    if is_shown(c) && c != '\\' {
         return f.write_char(c);
     }
-    for escaped in c.escape_default() {
-        f.write_char(escaped)?;
+    write_escaped(c, f)
+}
+
+// Writes a character that is escaped.
+fn write_escaped<W: fmt::Write>(c: char, f: &mut fmt::Formatter<W>) -> fmt::Result
+    ensures { DisplaysOnOk W.write_str_gives f.old result (Some (escaped c)) f.new }
+{
+    match c {
+        '\t' => f.write_str("\\t"),
+        '\n' => f.write_str("\\n"),
+        '\r' => f.write_str("\\r"),
+        '\\' => f.write_str("\\\\"),
+        _ => {
+            let number = c as u32;
+            write!(f, "\\u{{{number:x}}}")
+        }
     }
-    Ok(())
+}
+
+// Writes a byte by its number.
+fn write_byte<W: fmt::Write>(byte: u32, f: &mut fmt::Formatter<W>) -> fmt::Result
+    ensures { DisplaysOnOk W.write_str_gives f.old result (Some (byte_shown byte)) f.new }
+{
+    let (high, low) = (digit(byte / 16 % 16), digit(byte % 16));
+    write!(f, "\\x{high}{low}")
+}
+
+// The digit of a number below 16.
+fn digit(number: u32) -> char
+    requires { number < 16 }
+    ensures { result ≡ digit_glyph false number }
+{
+    if number < 10 {
+        char::from(48 + number as u8)
+    } else {
+        char::from(87 + number as u8)
+    }
 }
