@@ -1,0 +1,7 @@
+//! Tests of `Noting` of `command_line`: which call it makes again, and which error comes back.
+#![tactic(auto)]
+
+#[cfg(test)]
+mod calls;
+#[cfg(test)]
+mod scripted;
