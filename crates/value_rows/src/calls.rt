@@ -1,9 +1,11 @@
 //! The calls that rows name.
 use crate::codecs::{base64, bytes_image, displayed, of_parts, written};
 use crate::heap::is_exact;
+use crate::lent::{compared, noise_compared};
 use crate::lines::left;
 use crate::pages::page;
 use crate::queries::query_of;
+use crate::reused::{at_once, in_turn, is_right, lengthened};
 use crate::segments::{counted, listed};
 use crate::sixels::{count_of, drawn, written_with};
 use crate::typed::function;
@@ -36,7 +38,13 @@ use std::alloc::{AllocError, Global};
 ///   a link of a page may lead to it.
 /// - `left`: what is left of the lines of a stream; `left-of-2-by-4`: where 2 rows of 4 columns may
 ///   be written again.
-/// - `refusing`: whether the allocator that refuses a request refuses this alone.
+/// - `lent`: whether the events of a stream that comes in pieces to `esc_lent` are those of a
+///   parser; `lent-noise`: of which of the streams made of the pieces between `|` they are not.
+/// - `refusing`: whether the allocator that refuses a request refuses this alone; `reusing`:
+///   whether the one that keeps blocks passes a refusal on, and gives back what it keeps.
+/// - `held-in-turn` and `held-at-once`: how many requests reach the allocator below `reusing` where
+///   blocks of these sizes, or so many of one size, are held; `lengthened`: whether a list over it
+///   grows, and shrinks.
 /// - the sequences and controls of `typed.rt`, and the words and numbers of `words.rt`, which take
 ///   no memory.
 pub fn answer(
@@ -66,7 +74,13 @@ pub fn answer(
         "left-of-2-by-4" => left(alloc, heap, input, 2, 4),
         "safe-address" => format!(in alloc; "{}", is_safe_address(text(input))),
         "csi" | "esc" | "c0" | "c1" => function(call, alloc, input),
+        "lent" => compared(alloc, input),
+        "lent-noise" => noise_compared(alloc, input),
         "refusing" => format!(in alloc; "{}", is_exact(alloc)),
+        "reusing" => format!(in alloc; "{}", is_right(alloc)),
+        "held-in-turn" => in_turn(alloc, heap, text(input)),
+        "held-at-once" => at_once(alloc, heap, text(input)),
+        "lengthened" => lengthened(alloc, heap, text(input)),
         _ => word(call, alloc, input),
     }
 }

@@ -54,14 +54,14 @@ fn compared(
     }
 }
 
-/// What a call of the parts between `;` returns; no text has no parts.
+/// What a call of the parts between `;` returns.
 pub fn of_parts(
     call: &str,
     alloc: Global,
     heap: &Refusing<Global>,
     text: &[u8],
 ) -> Result<String, AllocError> {
-    match parts_of(alloc, text) {
+    match parts_of(alloc, text, b';') {
         Ok(parts) => of_slices(call, alloc, heap, &parts),
         Err(error) => Err(error),
     }
@@ -80,10 +80,11 @@ fn of_slices(
     }
 }
 
-fn parts_of(alloc: Global, text: &[u8]) -> Result<Vec<&[u8]>, AllocError> {
+/// The parts of a text between this byte; no text has no parts.
+pub fn parts_of(alloc: Global, text: &[u8], mark: u8) -> Result<Vec<&[u8]>, AllocError> {
     let mut parts = Vec::new(alloc);
     if !text.is_empty() {
-        for part in text.split(|b| *b == b';') {
+        for part in text.split(|b| *b == mark) {
             parts.push(part)?;
         }
     }

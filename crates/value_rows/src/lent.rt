@@ -1,14 +1,73 @@
-//! The events of streams in pieces of each size are those of a parser that keeps no string longer
-//! than half the buffer.
+//! The events of `esc_lent`, in pieces of each size, beside those of a parser that keeps no string
+//! longer than half the buffer.
 ghost use Rattle.std.specs.Prelude.{◌<◌};
 
+use crate::codecs::{emitted, parts_of};
 use crate::log::Log;
-use crate::streams::{STREAMS, noise};
 use esc_frame::VTParser;
 use esc_lent::event::{APC, DATA, DCS, EscEvent, LIMIT_PASSED, NONE, OSC, TEXT};
 use esc_lent::next::next;
 use esc_lent::parser::EscParser;
-use std::alloc::Global;
+use std::alloc::{AllocError, Global};
+
+/// Whether both are the same.
+pub fn compared(alloc: Global, stream: &[u8]) -> Result<String, AllocError> {
+    emitted(alloc, is_same_in_pieces(alloc, stream))
+}
+
+/// The number of the first of these streams of noise, made of the pieces between `|`, of which they
+/// are not.
+pub fn noise_compared(alloc: Global, text: &[u8]) -> Result<String, AllocError> {
+    match &parts_of(alloc, text, b'|') {
+        Ok(pieces) => emitted(alloc, first_other(alloc, pieces)),
+        Err(_) => Err(AllocError),
+    }
+}
+
+fn first_other(alloc: Global, pieces: &[&[u8]]) -> Option<u64> {
+    for seed in 0..NOISES {
+        if !is_noise_same(alloc, pieces, seed) {
+            return Some(seed);
+        }
+    }
+    None
+}
+
+// The same of the noise of this number.
+fn is_noise_same(alloc: Global, pieces: &[&[u8]], seed: u64) -> bool {
+    match &noise(alloc, pieces, seed) {
+        Ok(stream) => is_same_in_pieces(alloc, stream),
+        Err(_) => false,
+    }
+}
+
+// How many streams of noise there are, and of how many pieces.
+const NOISES: u64 = 400;
+
+const LENGTH: usize = 60;
+
+// A stream of these pieces, by this number.
+fn noise(alloc: Global, pieces: &[&[u8]], seed: u64) -> Result<Vec<u8>, AllocError> {
+    let mut stream = Vec::new(alloc);
+    match add_noise(pieces, seed, &mut stream) {
+        Ok(()) => Ok(stream),
+        Err(error) => Err(error),
+    }
+}
+
+fn add_noise(pieces: &[&[u8]], seed: u64, stream: &mut Vec<u8>) -> Result<(), AllocError> {
+    let kinds = (pieces.len() as u64).max(1);
+    let mut state = seed;
+    for _ in 0..LENGTH {
+        state = state.wrapping_add(0x9e37_79b9_7f4a_7c15);
+        let mixed = (state ^ (state >> 30)).wrapping_mul(0xbf58_476d_1ce4_e5b9);
+        let picked = ((mixed ^ (mixed >> 31)) % kinds) as usize;
+        if let Some(piece) = pieces.get(picked) {
+            stream.extend_from_slice(*piece)?;
+        }
+    }
+    Ok(())
+}
 
 // The text of an event in the upper half of the buffer.
 fn text_of<'a>(event: &EscEvent, buffer: &'a [u8]) -> &'a [u8] {
@@ -84,26 +143,4 @@ fn is_same_in_pieces(alloc: Global, stream: &[u8]) -> bool {
         is_right = is_right && is_same(&by_pieces(alloc, stream, size), &wanted);
     }
     is_right
-}
-
-#[test]
-fn in_pieces(rt: HostRuntime) {
-    for stream in &STREAMS {
-        assert!(rt; is_same_in_pieces(rt.alloc(), stream), "{stream:?}");
-    }
-}
-
-// The same of the noise of this number.
-fn is_noise_same(alloc: Global, seed: u64) -> bool {
-    match &noise(alloc, seed, 60) {
-        Ok(stream) => is_same_in_pieces(alloc, stream),
-        Err(_) => false,
-    }
-}
-
-#[test]
-fn of_noise(rt: HostRuntime) {
-    for seed in 0..400u64 {
-        assert!(rt; is_noise_same(rt.alloc(), seed), "seed {seed}");
-    }
 }

@@ -3,16 +3,68 @@ use linked_list_allocator::LocalHeap;
 use refusing::Refusing;
 use reusing::Reusing;
 use std::alloc::{AllocError, Allocator, Global};
-use std::test::Fail;
 
-/// Holds a block of this many bytes for a moment, and returns whether there was memory for it.
+/// How many requests reach the allocator below, where blocks of these sizes are held in turn.
+pub fn in_turn(alloc: Global, below: &Refusing<Global>, sizes: &str) -> Result<String, AllocError> {
+    let memory = Reusing::new(below);
+    let mut is_held = true;
+    for bytes in sizes.split(' ') {
+        is_held &= hold(&memory, bytes.parse::<usize>().unwrap_or(0));
+    }
+    requests(alloc, below, is_held)
+}
+
+/// How many reach it where this many blocks of one size, and the block of their list, are held at
+/// once ten times.
+pub fn at_once(alloc: Global, below: &Refusing<Global>, count: &str) -> Result<String, AllocError> {
+    let memory = Reusing::new(below);
+    let count = count.parse::<u64>().unwrap_or(0);
+    let mut is_held = true;
+    for _round in 0..10u8 {
+        is_held &= hold_at_once(&memory, count);
+    }
+    requests(alloc, below, is_held)
+}
+
+// The requests, where there was memory for all that was to be held.
+fn requests(alloc: Global, below: &Refusing<Global>, is_held: bool) -> Result<String, AllocError> {
+    if is_held {
+        format!(in alloc; "{}", below.requests())
+    } else {
+        Err(AllocError)
+    }
+}
+
+/// Whether a list has the bytes that are appended to it, as often as this, and the first of them
+/// once it is shortened.
+pub fn lengthened(
+    alloc: Global,
+    below: &Refusing<Global>,
+    times: &str,
+) -> Result<String, AllocError> {
+    let memory = Reusing::new(below);
+    let mut bytes = Vec::new(&memory);
+    if !repeat(&mut bytes, times.parse::<u8>().unwrap_or(0)) {
+        return Err(AllocError);
+    }
+    let is_grown = is_repeated(&bytes);
+    let is_shrunk = is_kept(&mut bytes, 3000) && is_kept(&mut bytes, 700);
+    format!(in alloc; "{}", is_grown && is_shrunk)
+}
+
+/// Whether it passes a refusal on, and gives back at its end what it keeps.
+pub fn is_right(alloc: Global) -> bool {
+    is_passed_on(&Refusing::new(alloc)) && is_given_back(alloc)
+}
+
+// Holds a block of this many bytes for a moment, and returns whether there was memory for it.
 fn hold<A: Allocator>(alloc: A, bytes: usize) -> bool {
     let mut held: Vec<u8, A> = Vec::new(alloc);
     held.reserve_exact(bytes).is_ok()
 }
 
-/// Holds this many blocks of one size at once, eight at most, and returns whether there was memory
-/// for them, and each has what was put into it.
+// Holds this many blocks of one size at once, eight at most, and returns whether there was memory
+// for them, and each has what was put into it.
 fn hold_at_once<A: Allocator + Copy>(alloc: A, count: u64) -> bool {
     let mut held = Vec::new(alloc);
     let mut is_held = held.reserve_exact(8).is_ok();
@@ -41,8 +93,8 @@ fn are_numbers<A: Allocator>(held: &[Box<u64, A>]) -> bool {
     is_right
 }
 
-/// Appends the bytes below 250 again and again, this many times, and returns whether there was
-/// memory for them.
+// Appends the bytes below 250 again and again, this many times, and returns whether there was
+// memory for them.
 fn repeat<A: Allocator>(bytes: &mut Vec<u8, A>, times: u8) -> bool {
     let mut is_there = true;
     for _time in 0..times {
@@ -67,64 +119,11 @@ fn is_repeated(bytes: &[u8]) -> bool {
     is_right
 }
 
-// Sizes of blocks that are held in turn, and how many requests reach the allocator below: one for
-// each size, and of large blocks one for each.
-static IN_TURN: [(&[usize], u64); 3] = [
-    (&[64; 100], 1),
-    (&[1, 32, 33, 64, 65, 1, 1024, 513, 128], 4),
-    (&[1025, 1025, 1025], 3),
-];
-
-// Whether as many requests reach it.
-fn are_asked_for(alloc: Global, sizes: &[usize], requests: u64) -> bool {
-    let below = Refusing::new(alloc);
-    let memory = Reusing::new(&below);
-    let mut is_held = true;
-    for bytes in sizes {
-        is_held &= hold(&memory, *bytes);
-    }
-    is_held && below.requests() == requests
-}
-
-#[test]
-fn a_block_of_each_size_is_asked_for_once(rt: HostRuntime) {
-    for (sizes, requests) in &IN_TURN {
-        assert!(rt; are_asked_for(rt.alloc(), sizes, *requests), "{sizes:?}");
-    }
-}
-
-// Whether as many requests reach it where this many blocks of one size, and the block of their
-// list, are held at once ten times.
-fn are_asked_for_at_once(alloc: Global, count: u64, requests: u64) -> bool {
-    let below = Refusing::new(alloc);
-    let memory = Reusing::new(&below);
-    let mut is_held = true;
-    for _round in 0..10u8 {
-        is_held &= hold_at_once(&memory, count);
-    }
-    is_held && below.requests() == requests
-}
-
-#[test]
-fn four_blocks_of_a_size_are_kept(rt: HostRuntime) {
-    let alloc = rt.alloc();
-    assert!(rt; are_asked_for_at_once(alloc, 4, 5) && are_asked_for_at_once(alloc, 5, 15));
-}
-
 // Whether a list has these bytes where it is shortened to this length.
 fn is_kept<A: Allocator>(bytes: &mut Vec<u8, A>, len: usize) -> bool {
     bytes.truncate(len);
     bytes.shrink_to_fit();
     is_repeated(bytes) && bytes.len() == len
-}
-
-#[test]
-fn a_list_grows_and_shrinks_past_the_largest_block(rt: HostRuntime) {
-    let memory = Reusing::new(rt.alloc());
-    let mut bytes = Vec::new(&memory);
-    let is_grown = repeat(&mut bytes, 20) && is_repeated(&bytes);
-    let is_shrunk = is_kept(&mut bytes, 3000) && is_kept(&mut bytes, 700);
-    assert!(rt; is_grown && is_shrunk);
 }
 
 // Whether a refusal of a new block is passed on, and what is kept asks for none.
@@ -137,11 +136,6 @@ fn is_passed_on(below: &Refusing<Global>) -> bool {
     is_held && is_refused && hold(&memory, 8) && below.requests() == 0
 }
 
-#[test]
-fn a_refusal_is_passed_on_and_leaves_what_is_kept(rt: HostRuntime) {
-    assert!(rt; is_passed_on(&Refusing::new(rt.alloc())));
-}
-
 // Whether what was asked for is kept as long as the memory is there.
 fn is_kept_below(below: &LocalHeap) -> bool {
     let memory = Reusing::new(below);
@@ -150,10 +144,10 @@ fn is_kept_below(below: &LocalHeap) -> bool {
     is_there && below.used() > 0
 }
 
-#[test]
-fn what_is_kept_goes_back_at_the_end(rt: HostRuntime) -> Result<(), Fail> {
-    let below = LocalHeap::new(rt.alloc(), 1 << 14)?;
-    let is_kept = is_kept_below(&below);
-    assert!(rt; is_kept && below.used() == 0);
-    Ok(())
+// Whether it goes back at the end.
+fn is_given_back(alloc: Global) -> bool {
+    match &LocalHeap::new(alloc, 1 << 14) {
+        Ok(below) => is_kept_below(below) && below.used() == 0,
+        Err(_) => false,
+    }
 }

@@ -42,9 +42,12 @@ impl Log {
         self.add(-1);
     }
 
-    // What an escape sequence, and a device control string, has beside its final byte.
-    fn put_intermediates(&mut self, bytes: &[u8], has_more: bool) {
-        self.put_bytes(bytes);
+    // An escape sequence or a string: its final byte, its text or its parameters, its
+    // intermediates, and whether there were more of these.
+    fn put_string(&mut self, kind: u32, byte: u32, text: &[u8], others: &[u8], has_more: bool) {
+        self.put(kind, byte);
+        self.put_bytes(text);
+        self.put_bytes(others);
         self.add(i64::from(has_more));
     }
 
@@ -54,9 +57,10 @@ impl Log {
             TEXT => self.note_text(run),
             DATA => self.note_data(run),
             DCS_END => self.put(DCS_END, 0),
-            OSC | APC => self.note_string(event.kind, text),
-            DCS => self.note_header(event.byte, text, kept(event), event.has_more),
-            ESCAPE => self.note_escape(event.byte, kept(event), event.has_more),
+            OSC | APC => self.put_string(event.kind, 0, text, &[], false),
+            DCS | ESCAPE => {
+                self.put_string(event.kind, event.byte, text, kept(event), event.has_more)
+            }
             CSI => self.note_sequence(event),
             kind => self.put(kind, event.byte),
         }
@@ -79,11 +83,6 @@ impl Log {
         }
     }
 
-    fn note_escape(&mut self, byte: u32, intermediates: &[u8], has_more: bool) {
-        self.put(ESCAPE, byte);
-        self.put_intermediates(intermediates, has_more);
-    }
-
     fn note_sequence(&mut self, event: &EscEvent) {
         self.put(CSI, event.byte);
         for entry in &event.csi_params[..event.count.min(256)] {
@@ -100,17 +99,6 @@ impl Log {
         self.add(-2);
         self.add(number);
     }
-
-    fn note_string(&mut self, kind: u32, text: &[u8]) {
-        self.put(kind, 0);
-        self.put_bytes(text);
-    }
-
-    fn note_header(&mut self, byte: u32, parameters: &[u8], others: &[u8], has_more: bool) {
-        self.put(DCS, byte);
-        self.put_bytes(parameters);
-        self.put_intermediates(others, has_more);
-    }
 }
 
 // The intermediates of an event.
@@ -125,7 +113,7 @@ impl Log {
         ensures { (e : Event)
             → Receives (λ _ _ _. Unit {0}) (λ _ _ _. Unit {0}) result self.old e self.new }
     {
-        self.note_string(OSC, text);
+        self.put_string(OSC, 0, text, &[], false);
         Ok(())
     }
 
@@ -139,7 +127,7 @@ impl Log {
         ensures { (e : Event)
             → Receives (λ _ _ _. Unit {0}) (λ _ _ _. Unit {0}) result self.old e self.new }
     {
-        self.note_header(u32::from(byte), parameters, intermediates, has_more);
+        self.put_string(DCS, u32::from(byte), parameters, intermediates, has_more);
         Ok(())
     }
 }
@@ -202,7 +190,8 @@ impl VTActor for Log {
         ignored_extra_intermediates: bool,
         byte: u8,
     ) -> Result<(), AllocError> {
-        self.note_escape(u32::from(byte), intermediates, ignored_extra_intermediates);
+        let has_more = ignored_extra_intermediates;
+        self.put_string(ESCAPE, u32::from(byte), &[], intermediates, has_more);
         Ok(())
     }
 
@@ -233,7 +222,7 @@ impl VTActor for Log {
     }
 
     fn apc_dispatch(&mut self, text: &[u8]) -> Result<(), AllocError> {
-        self.note_string(APC, text);
+        self.put_string(APC, 0, text, &[], false);
         Ok(())
     }
 }
