@@ -1,8 +1,8 @@
 //! Actions that are appended to a list.
+use crate::texts::is_shown;
 use escape_stream::{Action, ControlCode};
 use refusing::Refusing;
 use std::alloc::{Allocator, Global};
-use std::fmt::Debug;
 
 // Letters, or BEL as a control, which are appended one after another; the Debug text of their list,
 // and that of the list of one of them fewer.
@@ -40,14 +40,6 @@ fn append<A: Allocator + Copy>(list: &mut Vec<Action<A>, A>, c: char) -> bool {
     action.append_to(list).is_ok()
 }
 
-// Whether the Debug text of a list is this one.
-fn is_shown<T: Debug + Drop, A: Allocator>(alloc: Global, list: &Vec<T, A>, wanted: &str) -> bool {
-    match format!(in alloc; "{list:?}") {
-        Ok(text) => text.as_str() == wanted,
-        Err(_) => false,
-    }
-}
-
 // Whether the letters give this list, or, where a request is refused, one of them comes back and
 // the others give the shorter one.
 fn is_list(alloc: Global, heap: &Refusing<Global>, row: &(&str, &str, &str)) -> bool {
@@ -56,7 +48,7 @@ fn is_list(alloc: Global, heap: &Refusing<Global>, row: &(&str, &str, &str)) -> 
     let refused = append_all(&mut list, letters);
     let is_refused = heap.has_refused();
     let wanted = if is_refused { shorter } else { whole };
-    refused == usize::from(is_refused) && is_shown(alloc, &list, wanted)
+    refused == usize::from(is_refused) && is_shown(alloc, list, wanted)
 }
 
 // Appends one after another, and returns how many came back.

@@ -105,7 +105,7 @@ impl Asked {
         0
     }
 
-    // The Debug text of the result where the request of this number is refused.
+    // The result, as a text, where the request of this number is refused.
     fn result(
         self,
         alloc: Global,
@@ -211,7 +211,7 @@ fn given_of<T: Debug + Drop>(
     }
 }
 
-// The Debug text of what `encode` returns of the stream's actions.
+// What `encode` writes of the stream's actions.
 fn text<A: Allocator + Copy>(
     alloc: Global,
     heap: &Refusing<A>,
@@ -224,7 +224,7 @@ fn text<A: Allocator + Copy>(
     encoded(alloc, heap, actions)
 }
 
-/// The text of what `normalise` returns and writes.
+/// What `normalise` writes, or the Debug text of the error.
 pub fn normalised<A: Allocator + Copy>(
     alloc: Global,
     heap: A,

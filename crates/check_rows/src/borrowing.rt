@@ -56,11 +56,6 @@ impl<A: Allocator + Copy> BorrowingSink<Action<A>> for Appending<A> {
     }
 }
 
-// The Debug text of the list of a stream's actions, as a call returns it.
-fn meant(alloc: Global, bytes: &[u8]) -> Result<String, AllocError> {
-    shown(alloc, Parser::new(alloc).parse_as_vec(bytes))
-}
-
 // That of the actions of a stream, appended where they were borrowed; and whether that ended
 // rightly: with an error only where a request was refused.
 fn appended(
@@ -109,7 +104,7 @@ fn are_always_appended(alloc: Global, bytes: &[u8], meant: &str) -> bool {
 /// Whether a stream has borrowed actions of these texts, which are its actions where they are
 /// appended.
 pub fn are_borrowed(alloc: Global, bytes: &[u8], wanted: &str) -> bool {
-    match &meant(alloc, bytes) {
+    match &shown(alloc, Parser::new(alloc).parse_as_vec(bytes)) {
         Ok(meant) => {
             is_shown(alloc, bytes, wanted) && are_always_appended(alloc, bytes, meant.as_str())
         }

@@ -71,22 +71,14 @@ pub fn has_events(alloc: Global, stream: &[u8], events: &str, takes_memory: bool
         && is_read_whole(alloc, stream, events, takes_memory)
 }
 
-// Whether a call ended with this error.
-fn is_error(ending: Result<(), ParseError>, wanted: ParseError) -> bool {
-    match ending {
-        Ok(()) => false,
-        Err(error) => error == wanted,
-    }
-}
-
 // Whether each call of a parser that is refused memory fails, nothing is recorded, and the parser
 // is not at ground then.
 fn has_failed(alloc: Global, heap: &Refusing<Global>) -> bool {
     let mut parser = VTParser::new(heap);
     let mut recorder = Recorder::new(alloc);
-    let mut is_right = is_error(parser.parse(b"\x1b]2;t", &mut recorder), ParseError::Memory);
-    is_right &= is_error(parser.parse_byte(b'a', &mut recorder), ParseError::Failed);
-    is_right &= is_error(parser.parse(b"", &mut recorder), ParseError::Failed);
+    let mut is_right = parser.parse(b"\x1b]2;t", &mut recorder) == Err(ParseError::Memory);
+    is_right &= parser.parse_byte(b'a', &mut recorder) == Err(ParseError::Failed);
+    is_right &= parser.parse(b"", &mut recorder) == Err(ParseError::Failed);
     is_right && !parser.is_ground() && recorder.has("")
 }
 

@@ -1,8 +1,8 @@
 //! What a filter writes of a stream.
-use crate::fault::Fault;
 use crate::questions::is_asked_once;
 use crate::report::Report;
 use crate::row::Row;
+use crate::texts::written;
 use esc_filter::{Filter, FilterError, Policy, Unicode, filter_from, filter_stream};
 use escape_stream::Watched;
 use refusing::Refusing;
@@ -23,23 +23,42 @@ const CHARACTERS: [(Unicode, &str); 2] = [(Unicode::Show, "shown"), (Unicode::Dr
 /// What each policy lets through of a stream, read whole and byte by byte, that it is flushed, and
 /// that a policy is asked once of each action; and what is written of it where a read, a write or a
 /// request for memory fails, at each of them in turn.
-pub fn check_filtered(alloc: Global, row: &Row, report: &mut Report) -> Result<(), Fault> {
-    let bytes = row.bytes(alloc, "stream")?;
-    check_stream(alloc, row, &bytes, report)
-}
-
-fn check_stream(alloc: Global, row: &Row, stream: &[u8], report: &mut Report) -> Result<(), Fault> {
+pub fn check_filtered(alloc: Global, row: &Row, report: &mut Report) {
+    let bytes = row.bytes(alloc, "stream", report);
+    let stream = bytes.as_slice();
     for policy in POLICIES {
-        check_policy(alloc, row, stream, policy, report)?;
+        let word = word_of(row, policy);
+        expect(alloc, row, word, filtered(alloc, stream, policy), report);
+        let by_bytes = byte_by_byte(stream, 0);
+        expect(alloc, row, word, filtered(alloc, by_bytes, policy), report);
     }
     for (unicode, word) in CHARACTERS {
         if row.has(word) {
-            check_characters(alloc, row, stream, (unicode, word), report)?;
+            expect(alloc, row, word, written_as(alloc, stream, unicode), report);
+            let by_bytes = byte_by_byte(stream, 0);
+            expect(
+                alloc,
+                row,
+                word,
+                written_as(alloc, by_bytes, unicode),
+                report,
+            );
         }
     }
-    let wanted = row.text(alloc, word_of(row, Policy::All))?;
+    let wanted = row.text(alloc, word_of(row, Policy::All), report);
     check_faults(alloc, row.name, stream, wanted.as_str(), report);
-    Ok(())
+}
+
+// Notes where what was written is not the text after this word.
+fn expect(
+    alloc: Global,
+    row: &Row,
+    word: &str,
+    got: Result<String, AllocError>,
+    report: &mut Report,
+) {
+    let wanted = row.text(alloc, word, report);
+    report.expect(row.name, word, wanted.as_str(), &got);
 }
 
 // The word before what a policy lets through: that of the one before it, where it has no line.
@@ -50,23 +69,6 @@ fn word_of(row: &Row, policy: Policy) -> &'static str {
         Policy::All | Policy::Screen | Policy::Color if row.has("as-color") => "as-color",
         _ => "as-text",
     }
-}
-
-// What a policy lets through, read whole and byte by byte.
-fn check_policy(
-    alloc: Global,
-    row: &Row,
-    stream: &[u8],
-    policy: Policy,
-    report: &mut Report,
-) -> Result<(), Fault> {
-    let word = word_of(row, policy);
-    let wanted = row.text(alloc, word)?;
-    let whole = filtered(alloc, stream, policy);
-    report.expect(row.name, word, wanted.as_str(), &whole);
-    let by_bytes = filtered(alloc, byte_by_byte(stream, 0), policy);
-    report.expect(row.name, word, wanted.as_str(), &by_bytes);
-    Ok(())
 }
 
 // What is written where something fails, and what a policy is asked.
@@ -96,23 +98,7 @@ fn byte_by_byte(stream: &[u8], fails_at: usize) -> ByteReader<'_> {
     }
 }
 
-// What is written of all actions where characters that deceive are not kept, read whole and byte by
-// byte.
-fn check_characters(
-    alloc: Global,
-    row: &Row,
-    stream: &[u8],
-    (unicode, word): (Unicode, &'static str),
-    report: &mut Report,
-) -> Result<(), Fault> {
-    let wanted = row.text(alloc, word)?;
-    let whole = written_as(alloc, stream, unicode);
-    report.expect(row.name, word, wanted.as_str(), &whole);
-    let by_bytes = written_as(alloc, byte_by_byte(stream, 0), unicode);
-    report.expect(row.name, word, wanted.as_str(), &by_bytes);
-    Ok(())
-}
-
+// What is written of all actions where characters that deceive are not kept.
 fn written_as<R: Read + Drop>(
     alloc: Global,
     reader: R,
@@ -122,7 +108,7 @@ fn written_as<R: Read + Drop>(
     let mut reader = Watched::new(reader);
     let mut writer = Watched::new(Vec::new(alloc));
     let ending = filter_from(alloc, &mut filter, &mut reader, &mut writer);
-    text_of(alloc, ending, writer.into_inner())
+    written(alloc, ending, writer.into_inner())
 }
 
 // How a filter ends, and its writer then.
@@ -145,27 +131,7 @@ fn filtered<R: Read + Drop>(
     policy: Policy,
 ) -> Result<String, AllocError> {
     let (ending, text) = run(alloc, reader, Vec::new(alloc), policy);
-    text_of(alloc, ending, text)
-}
-
-// The text that was written, where all was.
-fn text_of(
-    alloc: Global,
-    ending: Result<(), FilterError>,
-    text: Vec<u8>,
-) -> Result<String, AllocError> {
-    match String::from_utf8(text) {
-        Ok(text) if ending.is_ok() => Ok(text),
-        _ => String::from_str(alloc, "a stream that cannot be filtered"),
-    }
-}
-
-// Whether a filter ended with this error.
-fn is_fault(ending: Result<(), FilterError>, wanted: FilterError) -> bool {
-    match ending {
-        Ok(()) => false,
-        Err(error) => error == wanted,
-    }
+    written(alloc, ending, text)
 }
 
 // Whether a read that fails is an error, and what was written is a prefix.
@@ -181,7 +147,7 @@ fn are_read_faults(alloc: Global, stream: &[u8], wanted: &str) -> bool {
 fn is_read_fault(alloc: Global, stream: &[u8], at: usize, wanted: &str) -> bool {
     let reader = byte_by_byte(stream, at);
     let (ending, text) = run(alloc, reader, Vec::new(alloc), Policy::All);
-    is_fault(ending, FilterError::Read) && wanted.as_bytes().starts_with(&text)
+    ending == Err(FilterError::Read) && wanted.as_bytes().starts_with(&text)
 }
 
 // Whether a writer that fails, of one byte a call, is an error, and holds what it took before.
@@ -197,7 +163,7 @@ fn are_write_faults(alloc: Global, stream: &[u8], wanted: &str) -> bool {
 fn is_write_fault(alloc: Global, stream: &[u8], wanted: &[u8]) -> bool {
     let writer = FixedWriter::new(64, 1, wanted.len().saturating_add(1));
     let (ending, held) = run(alloc, stream, writer, Policy::All);
-    is_fault(ending, FilterError::Write) && held.holds(wanted)
+    ending == Err(FilterError::Write) && held.holds(wanted)
 }
 
 // Whether what a read adds is flushed before the next read, and what the end adds. A longer text is
@@ -228,5 +194,5 @@ fn is_unchanged<A: Allocator + Copy>(alloc: Global, heap: A, stream: &[u8], want
     if ending.is_ok() {
         return text.as_slice() == wanted.as_bytes();
     }
-    is_fault(ending, FilterError::Memory) && wanted.as_bytes().starts_with(&text)
+    ending == Err(FilterError::Memory) && wanted.as_bytes().starts_with(&text)
 }

@@ -2,31 +2,30 @@
 use crate::appending::are_appended;
 use crate::asking::{are_lists_told, are_told};
 use crate::borrowing::are_borrowed;
-use crate::characters::is_first;
 use crate::errors::{are_numbers, are_texts};
 use crate::events::{has_events, is_failed};
-use crate::fault::Fault;
 use crate::long::are_sorted;
 use crate::normalising::{are_faults_told, is_form_told, is_room_used};
 use crate::report::Report;
 use crate::row::Row;
 use crate::sinks::are_taken;
 use crate::streaming::{are_refusals_told, are_stream_faults_told, is_flush_told};
+use crate::texts::is_shown;
 use crate::watching::{
     are_errors_passed_on, is_interruption_told, is_prefix_kept, is_reader_passed_on,
     is_writer_passed_on,
 };
+use escape_stream::VTParser;
 use std::alloc::Global;
 
 /// Notes a row where it does not hold.
-pub fn check_holding(alloc: Global, row: &Row, report: &mut Report) -> Result<(), Fault> {
-    let holds = row.text(alloc, "holds")?;
-    let input = row.bytes(alloc, "input")?;
-    let gives = row.text(alloc, "gives")?;
+pub fn check_holding(alloc: Global, row: &Row, report: &mut Report) {
+    let holds = row.text(alloc, "holds", report);
+    let input = row.bytes(alloc, "input", report);
+    let gives = row.text(alloc, "gives", report);
     if !does_hold(alloc, holds.as_str(), &input, gives.as_str()) {
         report.note(row.name, "it does not hold");
     }
-    Ok(())
 }
 
 // Whether what has this name holds, of an input and what it gives, where there is one.
@@ -35,7 +34,7 @@ fn does_hold(alloc: Global, name: &str, input: &[u8], gives: &str) -> bool {
         "events" => has_events(alloc, input, gives, true),
         "events-in-place" => has_events(alloc, input, gives, false),
         "borrowed" => are_borrowed(alloc, input, gives),
-        "first-character" => is_first(alloc, input, gives),
+        "first-character" => is_shown(alloc, VTParser::new(alloc).first_char(input), gives),
         _ => does_hold_alone(alloc, name),
     }
 }

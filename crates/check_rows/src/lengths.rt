@@ -1,65 +1,56 @@
 //! Streams of each length, under ample memory.
 use crate::asked::normalised;
 use crate::call::Call;
-use crate::fault::Fault;
-use crate::line::number;
 use crate::reading::{Reading, by_calls};
 use crate::report::Report;
 use crate::row::Row;
 use crate::texts::encoded;
 use escape_stream::Parser;
-use std::alloc::Global;
+use std::alloc::{AllocError, Global};
 
 /// Every stream of the family is read by every call, and written as it came.
-pub fn check_lengths(alloc: Global, row: &Row, report: &mut Report) -> Result<(), Fault> {
-    let numbers = row.text(alloc, "times")?;
+pub fn check_lengths(alloc: Global, row: &Row, report: &mut Report) {
+    let numbers = row.text(alloc, "times", report);
     for word in numbers.split(' ') {
-        let (from, to) = range(word)?;
+        let (from, to) = range(row.name, word, report);
         for number in from..to {
-            check_one(alloc, row, number, report)?;
+            let stream = stream_of(alloc, row, number, report);
+            check_text(alloc, row.name, stream.as_str(), report);
         }
     }
-    Ok(())
-}
-
-// The stream of a row with this number.
-fn check_one(alloc: Global, row: &Row, number: usize, report: &mut Report) -> Result<(), Fault> {
-    let stream = stream_of(alloc, row, number)?;
-    let text = stream.as_str();
-    let wanted = format!(in alloc; "Ok({text:?})")?;
-    check_text(alloc, row.name, text.as_bytes(), wanted.as_str(), report);
-    Ok(())
 }
 
 // The stream of a row that has its piece so many times, or this number in its place.
-fn stream_of(alloc: Global, row: &Row, number: usize) -> Result<String, Fault> {
-    let mut stream = row.text(alloc, "begins")?;
-    add_text(&mut stream, middle_of(alloc, row, number))?;
-    add_text(&mut stream, row.text(alloc, "ends"))?;
-    Ok(stream)
-}
-
-// Adds a text that could be read.
-fn add_text(stream: &mut String, text: Result<String, Fault>) -> Result<(), Fault> {
-    Ok(stream.push_str(text?.as_str())?)
-}
-
-// The piece so many times, or the number.
-fn middle_of(alloc: Global, row: &Row, number: usize) -> Result<String, Fault> {
-    if row.has("piece") {
-        let piece = row.text(alloc, "piece")?;
-        return Ok(piece.as_str().repeat(alloc, number)?);
+fn stream_of(alloc: Global, row: &Row, number: usize, report: &mut Report) -> String {
+    let mut stream = row.text(alloc, "begins", report);
+    let piece = row.text(alloc, "piece", report);
+    let added = if row.has("piece") {
+        add_times(&mut stream, piece.as_str(), number)
+    } else {
+        write!(stream, "{number}")
+    };
+    let ends = row.text(alloc, "ends", report);
+    if added.is_err() || stream.push_str(ends.as_str()).is_err() {
+        report.note(row.name, "out of memory");
     }
-    Ok(format!(in alloc; "{number}")?)
+    stream
+}
+
+// Adds a piece so many times.
+fn add_times(stream: &mut String, piece: &str, times: usize) -> Result<(), AllocError> {
+    for _ in 0..times {
+        stream.push_str(piece)?;
+    }
+    Ok(())
 }
 
 // The numbers that a word names: `a..b`, of which the last is left out, or one.
-fn range(word: &str) -> Result<(usize, usize), Fault> {
+fn range(row: &str, word: &str, report: &mut Report) -> (usize, usize) {
     match word.split_once("..") {
-        Some((from, to)) => Ok((number(from)?, number(to)?)),
+        Some((from, to)) => (report.number_of(row, from), report.number_of(row, to)),
         None => {
-            let only = number(word)?;
-            Ok((only, only.saturating_add(1)))
+            let only = report.number_of(row, word);
+            (only, only.saturating_add(1))
         }
     }
 }
@@ -71,15 +62,15 @@ const READINGS: [(Reading, &str); 3] = [
     (Reading::Segments, "read by segments"),
 ];
 
-fn check_text(alloc: Global, name: &str, bytes: &[u8], wanted: &str, report: &mut Report) {
+fn check_text(alloc: Global, name: &str, stream: &str, report: &mut Report) {
+    let bytes = stream.as_bytes();
     for (reading, how) in READINGS {
         let got = encoded(alloc, alloc, reading.read(alloc, bytes));
-        report.expect(name, how, wanted, &got);
+        report.expect(name, how, stream, &got);
     }
     let got = encoded(alloc, alloc, by_calls(alloc, bytes));
-    report.expect(name, "given to a closure", wanted, &got);
-    let got = normalised(alloc, alloc, bytes);
-    report.expect(name, "normalised", wanted, &got);
+    report.expect(name, "given to a closure", stream, &got);
+    report.expect(name, "normalised", stream, &normalised(alloc, alloc, bytes));
     for call in [Call::First, Call::Prefix] {
         if !begins_rightly(alloc, call, bytes) {
             report.note(name, "no first action");

@@ -1,6 +1,5 @@
 //! Streams that are made from numbers, and two ways to read each: a parser, and the segments of the
 //! stream, each by itself.
-use crate::fault::Fault;
 use crate::gathered::{Gathered, is_same};
 use crate::noise::make_stream;
 use crate::random::Random;
@@ -8,35 +7,36 @@ use crate::reading::{Reading, is_alike};
 use crate::report::Report;
 use crate::row::Row;
 use escape_stream::{Action, ParseError, Parser};
-use std::alloc::{AllocError, Global};
+use std::alloc::Global;
 
 // How many bytes more than one a piece has at most.
 const LONGEST: u8 = 11;
 
 /// Notes the first of the streams of a row whose readings differ, with the number that it is made
 /// from.
-pub fn check_made(alloc: Global, row: &Row, report: &mut Report) -> Result<(), Fault> {
-    let first = row.number(alloc, "seed")? as u64;
-    let count = row.number(alloc, "count")? as u64;
+pub fn check_made(alloc: Global, row: &Row, report: &mut Report) {
+    let first = row.number("seed", report) as u64;
+    let count = row.number("count", report) as u64;
     let differences = report.differences;
     for i in 0..count {
-        check_seed(alloc, row, first.wrapping_add(i), report)?;
+        check_seed(alloc, row.name, first.wrapping_add(i), report);
         if report.differences > differences {
             break;
         }
     }
-    Ok(())
 }
 
 // Notes where the readings of the stream of this number differ.
-fn check_seed(alloc: Global, row: &Row, seed: u64, report: &mut Report) -> Result<(), Fault> {
+fn check_seed(alloc: Global, name: &str, seed: u64, report: &mut Report) {
     let mut random = Random::new(seed);
-    let stream = make_stream(alloc, &mut random)?;
+    let mut stream = Vec::new(alloc);
+    report.note_fault(name, make_stream(alloc, &mut random, &mut stream));
     if let Some(fault) = difference(alloc, &stream, &mut random) {
-        let line = format!(in alloc; "seed {seed}: {fault}: {stream:?}")?;
-        report.note(row.name, line.as_str());
+        match format!(in alloc; "seed {seed}: {fault}: {stream:?}") {
+            Ok(line) => report.note(name, line.as_str()),
+            Err(_) => report.note(name, fault),
+        }
     }
-    Ok(())
 }
 
 // Which reading of a parser differs from that of the segments, if one does.

@@ -11,7 +11,6 @@ mod asked;
 mod asking;
 mod borrowing;
 mod call;
-mod characters;
 mod check;
 mod errors;
 mod events;
@@ -43,7 +42,9 @@ mod unescaped;
 mod watching;
 
 use crate::check::check_table;
-use crate::texts::action_lines;
+use crate::report::Report;
+use escape_stream::Parser;
+use std::fmt::Debug;
 use std::io::Read;
 use std::process::ExitCode;
 use std::{env, fs, io};
@@ -64,9 +65,9 @@ fn main(rt: HostRuntime) -> io::Result<ExitCode> {
 // Checks the table of this name, and returns how many differences it prints.
 fn check_named(rt: &HostRuntime, table: &str) -> io::Result<usize> {
     let text = fs::read_to_string(rt, table)?;
-    let report = check_table(rt.alloc(), text.as_str())?;
-    println!(rt; "{table}: {} rows", report.rows)?;
-    print!(rt; "{}", report.lines)?;
+    let mut report = Report::new(rt.alloc());
+    check_table(rt.alloc(), text.as_str(), &mut report);
+    print!(rt; "{table}: {} rows\n{}", report.rows, report.lines)?;
     Ok(report.differences)
 }
 
@@ -74,14 +75,19 @@ fn check_named(rt: &HostRuntime, table: &str) -> io::Result<usize> {
 fn show_actions(rt: &HostRuntime) -> io::Result<usize> {
     let mut bytes = Vec::new(rt.alloc());
     rt.stdin().read_to_end(&mut bytes)?;
-    match action_lines(rt.alloc(), &bytes)? {
-        Some(lines) => {
-            print!(rt; "{lines}")?;
-            Ok(0)
-        }
-        None => {
+    match &Parser::new(rt.alloc()).parse_as_vec(&bytes) {
+        Ok(actions) => show_all(rt, actions),
+        Err(_) => {
             println!(rt; "the parser failed")?;
             Ok(1)
         }
     }
+}
+
+// Prints a line of a row for each action.
+fn show_all<T: Debug>(rt: &HostRuntime, actions: &[T]) -> io::Result<usize> {
+    for action in actions {
+        println!(rt; "action  {action:?}")?;
+    }
+    Ok(0)
 }

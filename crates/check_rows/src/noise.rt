@@ -22,18 +22,17 @@ const LAST_PIECE: u8 = 95;
 // How many parts a stream has at most.
 const MOST_PARTS: u8 = 48;
 
-/// A stream of random bytes, of pieces, or of both.
-pub fn make_stream(alloc: Global, random: &mut Random) -> Result<Vec<u8>, Fault> {
-    let mut stream = Vec::new(alloc);
+/// Makes a stream of random bytes, of pieces, or of both.
+pub fn make_stream(alloc: Global, random: &mut Random, stream: &mut Vec<u8>) -> Result<(), Fault> {
     let raw = random.up_to(4);
     for _ in 0..random.up_to(MOST_PARTS) {
         if random.up_to(4) < raw {
             stream.push(random.byte())?;
         } else {
-            add_piece(alloc, random.up_to(LAST_PIECE), &mut stream)?;
+            add_piece(alloc, random.up_to(LAST_PIECE), stream)?;
         }
     }
-    Ok(stream)
+    Ok(())
 }
 
 // Adds the piece of this number.

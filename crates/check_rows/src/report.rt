@@ -1,17 +1,18 @@
 //! What differs.
+use crate::fault::Fault;
+use crate::line::number;
 use std::alloc::{AllocError, Global};
 
 // How many characters of a text are shown.
 const SHOWN: usize = 2000;
 
-/// How many rows were checked, how many differences were seen, and a line for each; and whether
-/// memory was refused for one.
+/// How many rows were checked, how many differences were seen, and a line for each, but where there
+/// is no memory for it.
 #[derive(Drop)]
 pub struct Report {
     pub rows: usize,
     pub differences: usize,
     pub lines: String,
-    pub is_refused: bool,
 }
 
 impl Report {
@@ -21,15 +22,31 @@ impl Report {
             rows: 0,
             differences: 0,
             lines: String::new(alloc),
-            is_refused: false,
         }
     }
 
     /// Notes a fault of a row.
     pub fn note(&mut self, row: &str, fault: &str) {
         self.differences = self.differences.saturating_add(1);
-        if writeln!(self.lines, "  {row}: {fault}").is_err() {
-            self.is_refused = true;
+        let _ = writeln!(self.lines, "  {row}: {fault}");
+    }
+
+    /// Notes why a row cannot be read, where it cannot.
+    pub fn note_fault(&mut self, row: &str, reading: Result<(), Fault>) {
+        match reading {
+            Ok(()) => {}
+            Err(fault) => self.note(row, fault.0),
+        }
+    }
+
+    /// The number that a text of a row is. Where it is none, that is noted.
+    pub fn number_of(&mut self, row: &str, text: &str) -> usize {
+        match number(text) {
+            Ok(number) => number,
+            Err(fault) => {
+                self.note(row, fault.0);
+                0
+            }
         }
     }
 
@@ -52,9 +69,8 @@ impl Report {
     fn compare(&mut self, row: &str, what: &str, wanted: &str, got: &str) {
         if wanted != got {
             self.note(row, what);
-            if self.show("wanted", wanted).is_err() || self.show("got   ", got).is_err() {
-                self.is_refused = true;
-            }
+            let _ = self.show("wanted", wanted);
+            let _ = self.show("got   ", got);
         }
     }
 

@@ -1,6 +1,7 @@
 //! Rows.
 use crate::fault::Fault;
-use crate::line::{Line, number};
+use crate::line::Line;
+use crate::report::Report;
 use crate::unescaped::unescaped;
 use std::alloc::{AllocError, Global};
 
@@ -12,16 +13,18 @@ pub struct Row<'a> {
 }
 
 impl<'a> Row<'a> {
-    /// Reads the lines of a block. None where it has comments alone.
-    pub fn read(alloc: Global, block: &'a str) -> Result<Option<Row<'a>>, Fault> {
-        let lines = lines_of(alloc, block)?;
-        match lines.first() {
-            None => Ok(None),
-            Some(line) if line.word == "row" => Ok(Some(Row {
-                name: line.text,
-                lines,
-            })),
-            Some(_) => Err(Fault("a block does not begin with a row")),
+    /// Reads the lines of a block, of which there are none where it has comments alone. A fault in
+    /// one is noted.
+    pub fn read(alloc: Global, block: &'a str, report: &mut Report) -> Row<'a> {
+        let mut lines = Vec::new(alloc);
+        report.note_fault(block, add_lines(block, &mut lines));
+        let name = name_of(&lines);
+        if name.is_none() && !lines.is_empty() {
+            report.note(block, "a block does not begin with a row");
+        }
+        Row {
+            name: name.unwrap_or(""),
+            lines,
         }
     }
 
@@ -35,67 +38,71 @@ impl<'a> Row<'a> {
         false
     }
 
-    /// The bytes of all its lines of this word.
-    pub fn bytes(&self, alloc: Global, word: &str) -> Result<Vec<u8>, Fault> {
+    /// The bytes of all its lines of this word. A fault in one is noted.
+    pub fn bytes(&self, alloc: Global, word: &str, report: &mut Report) -> Vec<u8> {
         let mut bytes = Vec::new(alloc);
         for line in &self.lines {
             if line.word == word {
-                add_bytes(alloc, line, &mut bytes)?;
+                report.note_fault(self.name, add_bytes(alloc, line, &mut bytes));
             }
         }
-        Ok(bytes)
+        bytes
     }
 
-    /// The text of all its lines of this word.
-    pub fn text(&self, alloc: Global, word: &str) -> Result<String, Fault> {
-        match String::from_utf8(self.bytes(alloc, word)?) {
-            Ok(text) => Ok(text),
-            Err(_) => Err(Fault("a text is no UTF-8")),
+    /// The text of all its lines of this word. A fault in one is noted.
+    pub fn text(&self, alloc: Global, word: &str, report: &mut Report) -> String {
+        match String::from_utf8(self.bytes(alloc, word, report)) {
+            Ok(text) => text,
+            Err(_) => {
+                report.note(self.name, "a text is no UTF-8");
+                String::new(alloc)
+            }
         }
     }
 
-    /// What is written of its actions, its stream where it has no text; and this text as `encode`
-    /// returns it.
-    pub fn written(&self, alloc: Global) -> Result<(String, String), Fault> {
+    /// What is written of its actions: its stream, where it has no text.
+    pub fn written(&self, alloc: Global, report: &mut Report) -> String {
         let word = if self.has("text") { "text" } else { "stream" };
-        let text = self.text(alloc, word)?;
-        let written = format!(in alloc; "Ok({text:?})")?;
-        Ok((text, written))
+        self.text(alloc, word, report)
     }
 
     /// The number after a word, and 0 where it has none.
-    pub fn number(&self, alloc: Global, word: &str) -> Result<usize, Fault> {
-        if !self.has(word) {
-            return Ok(0);
+    pub fn number(&self, word: &str, report: &mut Report) -> usize {
+        for line in &self.lines {
+            if line.word == word {
+                return report.number_of(self.name, line.text);
+            }
         }
-        let text = self.text(alloc, word)?;
-        number(text.as_str())
+        0
     }
 
     /// The Debug text of the list of its actions, as a call returns it.
-    pub fn actions(&self, alloc: Global) -> Result<String, Fault> {
+    pub fn actions(&self, alloc: Global, report: &mut Report) -> String {
         let mut list = String::new(alloc);
-        list.push_str(BEGINS)?;
-        for line in &self.lines {
-            add_action(alloc, line, &mut list)?;
-        }
-        list.push_str("])")?;
-        Ok(list)
+        report.note_fault(self.name, add_actions(alloc, &self.lines, &mut list));
+        list
     }
 }
 
 // How a list of actions begins.
 const BEGINS: &str = "Ok([";
 
-// The lines of a block.
-fn lines_of(alloc: Global, block: &str) -> Result<Vec<Line<'_>>, Fault> {
-    let mut lines = Vec::new(alloc);
+// Adds the lines of a block.
+fn add_lines<'a>(block: &'a str, lines: &mut Vec<Line<'a>>) -> Result<(), Fault> {
     for line in block.lines() {
         if let Some(line) = Line::read(line)? {
             lines.push(line)?;
         }
     }
-    Ok(lines)
+    Ok(())
+}
+
+// The name of the row of these lines, where it is one.
+fn name_of<'a>(lines: &[Line<'a>]) -> Option<&'a str> {
+    match lines {
+        [line, ..] if line.word == "row" => Some(line.text),
+        _ => None,
+    }
 }
 
 // Adds the bytes of a line, as often as it says.
@@ -105,6 +112,15 @@ fn add_bytes(alloc: Global, line: &Line, bytes: &mut Vec<u8>) -> Result<(), Faul
         bytes.extend_from_slice(&text)?;
     }
     Ok(())
+}
+
+// Adds the list of the actions that lines say.
+fn add_actions(alloc: Global, lines: &[Line], list: &mut String) -> Result<(), Fault> {
+    list.push_str(BEGINS)?;
+    for line in lines {
+        add_action(alloc, line, list)?;
+    }
+    Ok(list.push_str("])")?)
 }
 
 // Adds what a line says of the actions to their list.

@@ -6,7 +6,7 @@ use escape_stream::{Action, ParseError, Sink, Spell};
 use refusing::Refusing;
 use std::alloc::{AllocError, Allocator, Global};
 
-/// The Debug text of what the sink spells of the stream's actions, or of the error. After a refused
+/// What the sink spells of the stream's actions, or the Debug text of the error. After a refused
 /// action it has the text that it had, and a prefix of what the action adds.
 pub fn spelled<B: Allocator + Copy>(
     alloc: Global,
@@ -59,11 +59,11 @@ impl<A: Allocator> Spelling<A> {
         self.is_refused = self.spell.receive(action).is_err();
     }
 
-    // The Debug text of its text, or of the error.
+    // Its text, or the Debug text of the error.
     fn text(&self, alloc: Global, stream: &Stream) -> Result<String, AllocError> {
         let text = self.spell.text.as_str();
         if !self.is_refused {
-            return format!(in alloc; "Ok({text:?})");
+            return String::from_str(alloc, text);
         }
         if self.before <= text.len() && stream.text.starts_with(text) {
             return String::from_str(alloc, "Err(Memory)");

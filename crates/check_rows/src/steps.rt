@@ -1,87 +1,52 @@
 //! Calls of one parser, one after another.
 use crate::call::Call;
-use crate::fault::Fault;
+use crate::line::Line;
 use crate::reading::is_read_alike;
 use crate::report::Report;
 use crate::row::Row;
 use crate::unescaped::unescaped;
 use escape_stream::Parser;
-use std::alloc::{AllocError, Global};
+use std::alloc::Global;
 
-/// Makes the calls of a row, and compares what each returns.
-pub fn check_steps(alloc: Global, row: &Row, report: &mut Report) -> Result<(), Fault> {
-    let wanted = wanted(alloc, row)?;
-    let given = given(alloc, row)?;
-    report.expect(row.name, "the calls", wanted.as_str(), &Ok(given));
-    check_segments(alloc, row, report)
-}
-
-// A line for what each call returns.
-fn given(alloc: Global, row: &Row) -> Result<String, Fault> {
+/// Makes the calls of a row, and compares what each returns with the line after it.
+pub fn check_steps(alloc: Global, row: &Row, report: &mut Report) {
     let mut parser = Parser::new(alloc);
-    let mut given = String::new(alloc);
-    match make(alloc, row, &mut parser, &mut given) {
-        Ok(()) => Ok(given),
-        Err(fault) => Err(fault),
-    }
-}
-
-// A line for what each call has to return.
-fn wanted(alloc: Global, row: &Row) -> Result<String, Fault> {
-    let mut wanted = String::new(alloc);
-    for line in &row.lines {
-        if line.word == "gives" {
-            add_line(&mut wanted, line.text)?;
+    for step in row.lines.get(1..).unwrap_or(&[]).chunks(2) {
+        match step {
+            [call, gives] if gives.word == "gives" => {
+                check_step(alloc, row.name, (*call, gives.text), &mut parser, report)
+            }
+            _ => report.note(row.name, "a call without what it gives"),
         }
     }
-    Ok(wanted)
 }
 
-// Makes the calls, and adds a line for what each returns.
-fn make(alloc: Global, row: &Row, parser: &mut Parser, given: &mut String) -> Result<(), Fault> {
-    for line in &row.lines {
-        if let Some(call) = called(line.word) {
-            make_one(alloc, line.text, call, parser, given)?;
-        }
-    }
-    Ok(())
-}
-
-fn make_one(
+// Makes a call, and compares what it returns with this text. Its bytes are read as a stream of
+// their own, too, by a parser and by their segments.
+fn check_step(
     alloc: Global,
-    text: &str,
-    call: Call,
+    name: &str,
+    (line, wanted): (Line, &str),
     parser: &mut Parser,
-    given: &mut String,
-) -> Result<(), Fault> {
-    let bytes = unescaped(alloc, text)?;
-    let shown = call.shown(alloc, parser, &bytes)?;
-    Ok(add_line(given, shown.as_str())?)
-}
-
-fn add_line(lines: &mut String, line: &str) -> Result<(), AllocError> {
-    lines.push_str(line)?;
-    lines.push('\n')
-}
-
-// The bytes of each call, as a stream of their own, by a parser and by its segments.
-fn check_segments(alloc: Global, row: &Row, report: &mut Report) -> Result<(), Fault> {
-    for line in &row.lines {
-        if called(line.word).is_some() {
-            let bytes = unescaped(alloc, line.text)?;
+    report: &mut Report,
+) {
+    let call = match line.word {
+        "first" => Call::First,
+        "prefix" => Call::Prefix,
+        _ => return report.note(name, "a call of no kind"),
+    };
+    match unescaped(alloc, line.text) {
+        Ok(bytes) => {
+            report.expect(
+                name,
+                "the calls",
+                wanted,
+                &call.shown(alloc, parser, &bytes),
+            );
             if !is_read_alike(alloc, &bytes) {
-                report.note(row.name, "read otherwise by segments");
+                report.note(name, "read otherwise by segments");
             }
         }
-    }
-    Ok(())
-}
-
-// The call that a word names.
-fn called(word: &str) -> Option<Call> {
-    match word {
-        "first" => Some(Call::First),
-        "prefix" => Some(Call::Prefix),
-        _ => None,
+        Err(fault) => report.note(name, fault.0),
     }
 }

@@ -1,22 +1,47 @@
 //! A stream, what it means, and the text of that.
 use crate::asked::{Asked, normalised};
 use crate::firsts::finds_firsts;
+use crate::limited::Limited;
 use crate::reading::{Reading, by_calls, is_read_alike};
 use crate::report::Report;
+use crate::row::Row;
 use crate::texts::{encoded, is_displayed, shown};
 use std::alloc::{AllocError, Global};
 
 /// A stream, the Debug text of the list of its actions, as a call returns it, the text that
-/// `encode` writes for these, this text as `encode` returns it, and whether the stream's last
-/// segment is finished.
+/// `encode` writes for these, and whether the stream's last segment is finished.
 #[derive(Clone, Copy)]
 pub struct Stream<'a> {
     pub name: &'a str,
     pub bytes: &'a [u8],
     pub actions: &'a str,
     pub text: &'a str,
-    pub written: &'a str,
     pub is_finished: bool,
+}
+
+/// The bytes of a stream, its actions, and what is written of them, as it came where the row has no
+/// text; under a limit, where the row has one.
+pub fn check_stream(alloc: Global, row: &Row, report: &mut Report) {
+    let bytes = row.bytes(alloc, "stream", report);
+    let actions = row.actions(alloc, report);
+    let text = row.written(alloc, report);
+    let stream = Stream {
+        name: row.name,
+        bytes: bytes.as_slice(),
+        actions: actions.as_str(),
+        text: text.as_str(),
+        is_finished: !row.has("unfinished"),
+    };
+    if row.has("limit") {
+        let limited = Limited {
+            stream,
+            limit: row.number("limit", report),
+            keeps: row.number("keeps", report),
+        };
+        limited.check(alloc, report);
+    } else {
+        stream.check(alloc, report);
+    }
 }
 
 // Longer streams are not cut at each place, and are refused no memory.
@@ -92,7 +117,7 @@ impl Stream<'_> {
         self.is_written("written again", &encoded(alloc, alloc, again), report);
         self.is_written("normalised", &normalised(alloc, alloc, self.bytes), report);
         let actions = Reading::Halves.read(alloc, self.bytes);
-        if is_displayed(alloc, actions, self.text) != Ok(true) {
+        if !is_displayed(alloc, actions, self.text) {
             report.note(self.name, "displayed otherwise");
         }
     }
@@ -118,6 +143,6 @@ impl Stream<'_> {
 
     // Whether what is written of the stream in this way is its text.
     fn is_written(&self, how: &str, got: &Result<String, AllocError>, report: &mut Report) {
-        report.expect(self.name, how, self.written, got);
+        report.expect(self.name, how, self.text, got);
     }
 }

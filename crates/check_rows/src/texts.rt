@@ -1,5 +1,5 @@
 //! Texts of what calls return.
-use escape_stream::{Action, ParseError, Parser, encode};
+use escape_stream::{Action, ParseError, encode};
 use std::alloc::{AllocError, Allocator, Global};
 use std::fmt::{Debug, Display};
 
@@ -8,39 +8,47 @@ pub fn shown<T: Debug + Drop>(alloc: Global, value: T) -> Result<String, AllocEr
     format!(in alloc; "{value:?}")
 }
 
-/// The Debug text of what `encode` returns of these actions.
+/// Whether this is the Debug text of a value.
+pub fn is_shown<T: Debug + Drop>(alloc: Global, value: T, wanted: &str) -> bool {
+    match format!(in alloc; "{value:?}") {
+        Ok(text) => text.as_str() == wanted,
+        Err(_) => false,
+    }
+}
+
+/// What `encode` writes of these actions, or the Debug text of the error.
 pub fn encoded<A: Allocator + Copy>(
     alloc: Global,
     heap: A,
     actions: Result<Vec<Action<A>, A>, ParseError>,
 ) -> Result<String, AllocError> {
     match &actions {
-        Ok(actions) => shown(alloc, encode(heap, actions)),
+        Ok(actions) => text_of(alloc, encode(heap, actions)),
         Err(error) => shown(alloc, error),
     }
 }
 
-/// The text of a call that wrote these bytes and ended so, in the form of that of `encode`. After
-/// an error nothing is to be written.
+// A text, or the Debug text of the error.
+fn text_of<A: Allocator, E: Debug + Drop>(
+    alloc: Global,
+    text: Result<String<A>, E>,
+) -> Result<String, AllocError> {
+    match text {
+        Ok(text) => String::from_str(alloc, text.as_str()),
+        Err(error) => format!(in alloc; "Err({error:?})"),
+    }
+}
+
+/// What a call wrote that ended so, in this form: after an error nothing is to be written.
 pub fn written<E: Debug + Drop>(
     alloc: Global,
     ending: Result<(), E>,
     bytes: Vec<u8>,
 ) -> Result<String, AllocError> {
-    match String::from_utf8(bytes) {
-        Ok(text) => ended(alloc, ending, text.as_str()),
-        Err(_) => String::from_str(alloc, "no UTF-8"),
-    }
-}
-
-fn ended<E: Debug + Drop>(
-    alloc: Global,
-    ending: Result<(), E>,
-    text: &str,
-) -> Result<String, AllocError> {
-    match ending {
-        Ok(()) => format!(in alloc; "Ok({text:?})"),
-        Err(error) => format!(in alloc; "Err({error:?}){text}"),
+    match (ending, String::from_utf8(bytes)) {
+        (Ok(()), Ok(text)) => Ok(text),
+        (Err(error), Ok(text)) => format!(in alloc; "Err({error:?}){text}"),
+        (_, Err(_)) => String::from_str(alloc, "no UTF-8"),
     }
 }
 
@@ -52,16 +60,24 @@ pub fn is_displayed<T: Display + Drop>(
     alloc: Global,
     items: Result<Vec<T>, ParseError>,
     text: &str,
-) -> Result<bool, AllocError> {
+) -> bool {
+    match &items {
+        Ok(items) => are_displayed(alloc, items, text),
+        Err(_) => false,
+    }
+}
+
+fn are_displayed<T: Display>(alloc: Global, items: &[T], text: &str) -> bool {
     let mut rest = Some(text.as_bytes());
-    if let Ok(items) = &items {
-        for item in items {
-            rest = skip(rest, format!(in alloc; "{item}")?.as_bytes());
-        }
+    for item in items {
+        rest = match format!(in alloc; "{item}") {
+            Ok(shown) => skip(rest, shown.as_bytes()),
+            Err(_) => None,
+        };
     }
     match rest {
-        Some(rest) => Ok(items.is_ok() && (rest.is_empty() || rest == TERMINATOR)),
-        None => Ok(false),
+        Some(rest) => rest.is_empty() || rest == TERMINATOR,
+        None => false,
     }
 }
 
@@ -83,25 +99,8 @@ pub fn both<T: Debug + Display + Drop>(
     alloc: Global,
     command: Result<T, AllocError>,
 ) -> Result<String, AllocError> {
-    let command = command?;
-    format!(in alloc; "Ok([OperatingSystemCommand({command:?})]) {command}")
-}
-
-/// A line of a row for each action of a stream. None where the parser fails.
-pub fn action_lines(alloc: Global, stream: &[u8]) -> Result<Option<String>, AllocError> {
-    lines_of(alloc, Parser::new(alloc).parse_as_vec(stream))
-}
-
-fn lines_of<T: Debug + Drop>(
-    alloc: Global,
-    items: Result<Vec<T>, ParseError>,
-) -> Result<Option<String>, AllocError> {
-    let Ok(items) = items else {
-        return Ok(None);
-    };
-    let mut lines = String::new(alloc);
-    for item in &items {
-        writeln!(lines, "action  {item:?}")?;
+    match command {
+        Ok(command) => { format!(in alloc; "Ok([OperatingSystemCommand({command:?})]) {command}") }
+        Err(error) => Err(error),
     }
-    Ok(Some(lines))
 }

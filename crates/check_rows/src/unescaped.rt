@@ -6,6 +6,14 @@ use std::alloc::Global;
 /// any other character is itself, in UTF-8.
 pub fn unescaped(alloc: Global, text: &str) -> Result<Vec<u8>, Fault> {
     let mut bytes = Vec::new(alloc);
+    match add(text, &mut bytes) {
+        Ok(()) => Ok(bytes),
+        Err(fault) => Err(fault),
+    }
+}
+
+// Adds the bytes that a text stands for.
+fn add(text: &str, bytes: &mut Vec<u8>) -> Result<(), Fault> {
     let mut reading = Escape::None;
     for byte in text.bytes() {
         let (read, next) = reading.take(byte)?;
@@ -15,7 +23,7 @@ pub fn unescaped(alloc: Global, text: &str) -> Result<Vec<u8>, Fault> {
         reading = next;
     }
     match reading {
-        Escape::None => Ok(bytes),
+        Escape::None => Ok(()),
         _ => Err(Fault("an escape that is cut short")),
     }
 }
