@@ -9,15 +9,15 @@ use crate::tally::Tally;
 use esc_frame::{ParseError, VTParser};
 use esc_parse::performer::Performer;
 use esc_parse::unfinished::Unfinished;
-use std::alloc::{Allocator, Global};
+use std::alloc::Global;
 
 /// Says of a stream, of which it is shown the bytes as they are read, what of it a policy leaves
 /// out, by name, and what means nothing, with the places in the input. It reads the stream once
 /// more, a byte at a time, and keeps no more than a filter does, and a row for each name.
 #[derive(Drop)]
-pub struct Account<'a, A: Allocator = Global> {
-    parser: VTParser<A>,
-    performer: Performer<Tally<'a, A>, A>,
+pub struct Account<'a> {
+    parser: VTParser,
+    performer: Performer<Tally<'a>>,
     by_lines: bool,
     // where the next byte is
     place: Place,
@@ -30,9 +30,9 @@ pub struct Account<'a, A: Allocator = Global> {
     has_failed: bool,
 }
 
-impl<'a, A: Allocator + Copy> Account<'a, A> {
+impl<'a> Account<'a> {
     /// Of no byte yet. Takes no memory.
-    pub fn new(alloc: A, options: Options<'a>) -> Account<'a, A> {
+    pub fn new(alloc: Global, options: Options<'a>) -> Account<'a> {
         Account {
             parser: VTParser::with_limit(alloc, options.limit),
             performer: Performer {
@@ -71,7 +71,7 @@ impl<'a, A: Allocator + Copy> Account<'a, A> {
     }
 
     /// What became of the actions and of what means nothing.
-    pub fn tally(&self) -> &Tally<'a, A> {
+    pub fn tally(&self) -> &Tally<'a> {
         &self.performer.sink
     }
 
@@ -151,7 +151,7 @@ impl<'a, A: Allocator + Copy> Account<'a, A> {
 }
 
 // Where there is one, it is shown the bytes.
-impl<'a, A: Allocator + Copy> Audience for Option<Account<'a, A>> {
+impl<'a> Audience for Option<Account<'a>> {
     fn show(&mut self, bytes: &[u8]) {
         if let Some(account) = self {
             account.show(bytes);

@@ -9,7 +9,7 @@ use esc_lines::Collapsing;
 use esc_normal::Watched;
 use esc_reveal::{Reveal, Revealing};
 use memchr::memchr;
-use std::alloc::{Allocator, Global};
+use std::alloc::Global;
 use std::fmt::{Display, Formatter};
 use std::io::{Read, Write};
 use std::{fmt, str};
@@ -34,17 +34,17 @@ impl Display for CastFault {
 
 /// A recording whose lines come in pieces.
 #[derive(Drop)]
-pub struct Lines<F, A: Allocator = Global> {
-    recording: Recording<F, A>,
+pub struct Lines<F> {
+    recording: Recording<F>,
     // what came of the line that is unfinished
-    line: Vec<u8, A>,
+    line: Vec<u8>,
     // how many lines were taken
     count: u64,
 }
 
-impl<F: Feeding<A>, A: Allocator + Copy> Lines<F, A> {
+impl<F: Feeding<Global>> Lines<F> {
     /// A recording of which nothing came, for a filter that was fed nothing. Takes no memory.
-    pub fn new(alloc: A, feeding: F) -> Lines<F, A> {
+    pub fn new(alloc: Global, feeding: F) -> Lines<F> {
         Lines {
             recording: Recording::new(alloc, feeding),
             line: Vec::new(alloc),
@@ -110,8 +110,8 @@ impl<F: Feeding<A>, A: Allocator + Copy> Lines<F, A> {
 
 /// Reads a recording to its end, and writes what is given for its lines by the options, as it
 /// reads. The audience is shown the texts of its events of output, and comes back.
-pub fn filter_recording<R: Read, W: Write, K: Audience + Drop, A: Allocator + Copy>(
-    alloc: A,
+pub fn filter_recording<R: Read, W: Write, K: Audience + Drop>(
+    alloc: Global,
     options: &Options<'_>,
     audience: K,
     reader: &mut Watched<R>,
@@ -129,8 +129,8 @@ pub fn filter_recording<R: Read, W: Write, K: Audience + Drop, A: Allocator + Co
 }
 
 // The same by this filter, where what does not pass may be shown.
-fn filter_shown<R: Read, W: Write, F: Feeding<A> + Drop, K: Audience + Drop, A: Allocator + Copy>(
-    alloc: A,
+fn filter_shown<R: Read, W: Write, F: Feeding<Global> + Drop, K: Audience + Drop>(
+    alloc: Global,
     options: &Options<'_>,
     filter: F,
     audience: K,
@@ -148,8 +148,8 @@ fn filter_shown<R: Read, W: Write, F: Feeding<A> + Drop, K: Audience + Drop, A: 
 }
 
 // The same by this filter, of which these rows may be written again.
-fn filter_rows<R: Read, W: Write, F: Feeding<A> + Drop, K: Audience + Drop, A: Allocator + Copy>(
-    alloc: A,
+fn filter_rows<R: Read, W: Write, F: Feeding<Global> + Drop, K: Audience + Drop>(
+    alloc: Global,
     rows: Option<usize>,
     inner: F,
     audience: K,
@@ -166,8 +166,8 @@ fn filter_rows<R: Read, W: Write, F: Feeding<A> + Drop, K: Audience + Drop, A: A
 }
 
 // The same by way of this filter and its audience.
-fn filter_events<R: Read, W: Write, F: Feeding<A> + Drop, K: Audience + Drop, A: Allocator + Copy>(
-    alloc: A,
+fn filter_events<R: Read, W: Write, F: Feeding<Global> + Drop, K: Audience + Drop>(
+    alloc: Global,
     filter: Accounted<F, K>,
     reader: &mut Watched<R>,
     writer: &mut Watched<W>,
@@ -179,9 +179,9 @@ fn filter_events<R: Read, W: Write, F: Feeding<A> + Drop, K: Audience + Drop, A:
 }
 
 // Reads to the end, and writes what is given for the lines.
-fn filter_lines<R: Read, W: Write, F: Feeding<A>, A: Allocator + Copy>(
-    alloc: A,
-    lines: &mut Lines<F, A>,
+fn filter_lines<R: Read, W: Write, F: Feeding<Global>>(
+    alloc: Global,
+    lines: &mut Lines<F>,
     reader: &mut Watched<R>,
     writer: &mut Watched<W>,
 ) -> Result<(), CastFault> {
@@ -195,8 +195,8 @@ fn filter_lines<R: Read, W: Write, F: Feeding<A>, A: Allocator + Copy>(
 }
 
 // The same by way of this chunk, but for the end of the recording.
-fn take_all<R: Read, W: Write, F: Feeding<A>, A: Allocator + Copy>(
-    lines: &mut Lines<F, A>,
+fn take_all<R: Read, W: Write, F: Feeding<Global>>(
+    lines: &mut Lines<F>,
     reader: &mut Watched<R>,
     writer: &mut Watched<W>,
     chunk: &mut [u8],
@@ -212,8 +212,8 @@ fn take_all<R: Read, W: Write, F: Feeding<A>, A: Allocator + Copy>(
 }
 
 // Takes bytes more, and flushes what is written of the lines that they end.
-fn pass_on<W: Write, F: Feeding<A>, A: Allocator + Copy>(
-    lines: &mut Lines<F, A>,
+fn pass_on<W: Write, F: Feeding<Global>>(
+    lines: &mut Lines<F>,
     bytes: &[u8],
     writer: &mut Watched<W>,
 ) -> Result<(), CastFault> {
@@ -222,8 +222,8 @@ fn pass_on<W: Write, F: Feeding<A>, A: Allocator + Copy>(
 }
 
 // Ends the recording, and flushes what is written then.
-fn end<W: Write, F: Feeding<A>, A: Allocator + Copy>(
-    lines: &mut Lines<F, A>,
+fn end<W: Write, F: Feeding<Global>>(
+    lines: &mut Lines<F>,
     writer: &mut Watched<W>,
 ) -> Result<(), CastFault> {
     lines.end(writer)?;

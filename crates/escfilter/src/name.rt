@@ -4,7 +4,6 @@ use esc_actions::Action;
 use esc_device::DeviceControlMode;
 use esc_functions::{C0, ControlFunction, EscapeFunction};
 use esc_osc::OperatingSystemCommand as Command;
-use std::alloc::Allocator;
 
 /// The name of what an action asks for. All are texts of tables, so there are not many.
 #[derive(Clone, Copy, PartialEq, Eq)]
@@ -28,7 +27,7 @@ fn unnamed(kind: &'static str) -> Name {
 }
 
 /// The name of what an action asks for.
-pub fn name_of<A: Allocator>(action: &Action<A>) -> Name {
+pub fn name_of(action: &Action) -> Name {
     match action {
         Action::Print(_) | Action::PrintString(_) => named("character", "DEL", "delete"),
         Action::Control(code) => control_name(*code as u8),
@@ -62,7 +61,7 @@ fn escape_name(kind: &'static str, function: Option<EscapeFunction>) -> Name {
 }
 
 // The name of a device control string.
-fn device_name<A: Allocator>(mode: &DeviceControlMode<A>) -> Name {
+fn device_name(mode: &DeviceControlMode) -> Name {
     match mode {
         DeviceControlMode::ShortDeviceControl(_) => named("DCS", "$q", "ask for a setting"),
         DeviceControlMode::Enter(_) | DeviceControlMode::Data(_) | DeviceControlMode::Exit => {
@@ -72,7 +71,7 @@ fn device_name<A: Allocator>(mode: &DeviceControlMode<A>) -> Name {
 }
 
 // The name of an operating system command (xterm's list, "Operating System Commands").
-fn command_name<A: Allocator>(command: &Command<A>) -> Name {
+fn command_name(command: &Command) -> Name {
     let (number, words) = match command {
         Command::SetIconNameAndWindowTitle(_) => ("0", "icon name and window title"),
         Command::SetIconName(_) => ("1", "icon name"),

@@ -3,7 +3,7 @@
 use crate::named_groups::{ALLOWED, Choice, DENIED};
 use command_line::{Apart, Found, Given, Known, Takes, Wrong, read};
 use esc_filter::{Policy, Unicode, is_scheme};
-use std::alloc::{Allocator, Global};
+use std::alloc::Global;
 
 /// How streams are filtered.
 #[derive(Clone, Copy)]
@@ -62,7 +62,7 @@ pub enum Target<'a> {
 
 /// What the program's words ask for.
 #[derive(Drop)]
-pub struct Task<'a, A: Allocator = Global> {
+pub struct Task<'a> {
     /// What the program does.
     pub kind: Kind,
     /// Where the output goes.
@@ -70,7 +70,7 @@ pub struct Task<'a, A: Allocator = Global> {
     /// How streams are filtered.
     pub options: Options<'a>,
     /// The files.
-    pub files: Vec<&'a str, A>,
+    pub files: Vec<&'a str>,
     /// The first of these that an option before it could take.
     pub apart: Option<Apart<'a>>,
 }
@@ -169,10 +169,10 @@ const KNOWN: &[Known] = &[
     Known::VERSION,
 ];
 
-impl<'a, A: Allocator + Copy> Task<'a, A> {
+impl<'a> Task<'a> {
     /// The task that these words, the program's arguments, name; of an option that is given twice
     /// the last counts.
-    pub fn of(alloc: A, words: &'a [String]) -> Result<Task<'a, A>, Wrong<'a>> {
+    pub fn of(alloc: Global, words: &'a [String]) -> Result<Task<'a>, Wrong<'a>> {
         match read(alloc, KNOWN, words) {
             Ok(found) => match wrong_value(&found.options) {
                 Some(wrong) => Err(wrong),
@@ -183,7 +183,7 @@ impl<'a, A: Allocator + Copy> Task<'a, A> {
     }
 
     // The task that these options and files name.
-    fn from_found(found: Found<'a, A>) -> Task<'a, A> {
+    fn from_found(found: Found<'a>) -> Task<'a> {
         let mut asked = Asked::nothing();
         for given in &found.options {
             asked.take(given);

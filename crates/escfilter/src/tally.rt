@@ -10,7 +10,7 @@ use esc_actions::Action;
 use esc_device::DeviceControlMode;
 use esc_filter::passes;
 use esc_parse::Sink;
-use std::alloc::{AllocError, Allocator, Global};
+use std::alloc::{AllocError, Global};
 
 /// How many actions of a name were left out.
 #[derive(Clone, Copy)]
@@ -33,7 +33,7 @@ enum Fate {
 
 /// How many actions of a stream pass, and how many of each name are left out.
 #[derive(Drop)]
-pub struct Tally<'a, A: Allocator = Global> {
+pub struct Tally<'a> {
     choice: Choice<'a>,
     /// The segment that is read.
     pub span: Span,
@@ -43,15 +43,15 @@ pub struct Tally<'a, A: Allocator = Global> {
     pub left_actions: u64,
     pub left_bytes: u64,
     /// Those by name, in the order in which the first of each came.
-    pub rows: Vec<Row, A>,
+    pub rows: Vec<Row>,
     /// What means nothing.
     pub swallowed: Swallowed,
     last: Fate,
 }
 
-impl<'a, A: Allocator> Tally<'a, A> {
+impl<'a> Tally<'a> {
     /// Of no action yet, where this passes. Takes no memory.
-    pub fn new(alloc: A, choice: Choice<'a>) -> Tally<'a, A> {
+    pub fn new(alloc: Global, choice: Choice<'a>) -> Tally<'a> {
         Tally {
             choice,
             span: Span::new(),
@@ -109,7 +109,7 @@ impl<'a, A: Allocator> Tally<'a, A> {
     }
 
     // Notes an action, which is at this place.
-    fn note(&mut self, action: &Action<A>, place: Place) -> Result<(), AllocError> {
+    fn note(&mut self, action: &Action, place: Place) -> Result<(), AllocError> {
         self.actions = self.actions.saturating_add(1);
         if passes(&self.choice, action) {
             self.last = Fate::Passed;
@@ -142,7 +142,7 @@ impl<'a, A: Allocator> Tally<'a, A> {
     }
 }
 
-impl<'a, A: Allocator> Sink<Action<A>> for Tally<'a, A> {
+impl<'a> Sink<Action> for Tally<'a> {
     ghost is_ready = { λ _. Unit {0} };
 
     ghost may = { λ _ _. Unit {0} };
@@ -151,7 +151,7 @@ impl<'a, A: Allocator> Sink<Action<A>> for Tally<'a, A> {
 
     ghost refuses = { λ p a q. Unit {0} };
 
-    fn receive(&mut self, action: Action<A>) -> Result<(), AllocError> {
+    fn receive(&mut self, action: Action) -> Result<(), AllocError> {
         let (place, bytes) = self.span.take(is_control(&action));
         let noted = if is_part(&action) {
             Ok(())
@@ -164,13 +164,13 @@ impl<'a, A: Allocator> Sink<Action<A>> for Tally<'a, A> {
 }
 
 // Whether it is a control.
-fn is_control<A: Allocator>(action: &Action<A>) -> bool {
+fn is_control(action: &Action) -> bool {
     matches!(action, Action::Control(_))
 }
 
 // Whether it is a part of what came last: a string terminator, data of a device control string, or
 // its end.
-fn is_part<A: Allocator>(action: &Action<A>) -> bool {
+fn is_part(action: &Action) -> bool {
     match action {
         Action::DeviceControl(DeviceControlMode::Data(_) | DeviceControlMode::Exit) => true,
         _ => action.is_terminator(),

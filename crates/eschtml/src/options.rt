@@ -2,7 +2,7 @@
 
 use command_line::{Apart, Found, Given, Known, Takes, Wrong, read};
 use esc_html::Layout;
-use std::alloc::{Allocator, Global};
+use std::alloc::Global;
 
 /// How streams become HTML.
 #[derive(Clone, Copy)]
@@ -36,7 +36,7 @@ pub enum Kind {
 
 /// What the program's words ask for.
 #[derive(Drop)]
-pub struct Task<'a, A: Allocator = Global> {
+pub struct Task<'a> {
     /// What the program does.
     pub kind: Kind,
     /// How streams become HTML.
@@ -44,7 +44,7 @@ pub struct Task<'a, A: Allocator = Global> {
     /// The file that the output goes to; standard output, where there is none.
     pub output: Option<&'a str>,
     /// The files.
-    pub files: Vec<&'a str, A>,
+    pub files: Vec<&'a str>,
     /// The last of these that an option before it could take.
     pub apart: Option<Apart<'a>>,
 }
@@ -101,10 +101,10 @@ const KNOWN: &[Known] = &[
     Known::VERSION,
 ];
 
-impl<'a, A: Allocator + Copy> Task<'a, A> {
+impl<'a> Task<'a> {
     /// The task that these words, the program's arguments, name; of an option that is given twice
     /// the last counts.
-    pub fn of(alloc: A, words: &'a [String]) -> Result<Task<'a, A>, Wrong<'a>> {
+    pub fn of(alloc: Global, words: &'a [String]) -> Result<Task<'a>, Wrong<'a>> {
         let found = match read(alloc, KNOWN, words) {
             Ok(found) => found,
             Err(wrong) => return Err(wrong),
@@ -118,7 +118,7 @@ impl<'a, A: Allocator + Copy> Task<'a, A> {
     }
 
     // The task that these options and files name.
-    fn from_found(found: Found<'a, A>) -> Task<'a, A> {
+    fn from_found(found: Found<'a>) -> Task<'a> {
         let mut kind = Kind::Convert;
         let mut output = None;
         let mut apart = None;

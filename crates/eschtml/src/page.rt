@@ -2,7 +2,7 @@
 
 use crate::style::STYLE;
 use esc_html::push_text;
-use std::alloc::{AllocError, Allocator};
+use std::alloc::{AllocError, Global};
 use std::io;
 use std::io::{ErrorKind, Write};
 
@@ -10,7 +10,7 @@ use std::io::{ErrorKind, Write};
 const PART: usize = 32_768;
 
 /// What a page begins with: its title, and its style sheet. The error is that memory was refused.
-pub fn head<A: Allocator>(alloc: A, title: &str) -> Result<String<A>, AllocError> {
+pub fn head(alloc: Global, title: &str) -> Result<String, AllocError> {
     let mut text = String::new(alloc);
     memory::push_str(
         &mut text,
@@ -38,8 +38,8 @@ const LAST: &str = "</div></div>\n";
 
 /// Writes what comes after a stream: the numbers of its lines, which come after the first ones, as
 /// anchors without text; the style sheet counts them, so they are not copied.
-pub fn write_numbers<A: Allocator + Copy, W: Write>(
-    alloc: A,
+pub fn write_numbers<W: Write>(
+    alloc: Global,
     output: &mut W,
     first: u64,
     last: u64,
@@ -61,7 +61,7 @@ pub fn write_numbers<A: Allocator + Copy, W: Write>(
 }
 
 // Appends the anchor of a line.
-fn push_anchor<A: Allocator>(text: &mut String<A>, line: u64) -> Result<(), AllocError> {
+fn push_anchor(text: &mut String, line: u64) -> Result<(), AllocError> {
     memory::push_str(text, "<a id=\"L")?;
     memory::push_display(text, &line)?;
     memory::push_str(text, "\" href=\"#L")?;
