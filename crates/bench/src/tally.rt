@@ -3,6 +3,7 @@
 ghost use Rattle.std.specs.Prelude.{⊤};
 
 use crate::counted::Counted;
+use esc_values::CsiParam;
 use escape_stream::{Action, Sink};
 use std::alloc::{AllocError, Allocator};
 
@@ -52,6 +53,33 @@ impl<A: Allocator> Sink<Action<A>> for Tally {
     fn receive(&mut self, action: Action<A>) -> Result<(), AllocError> {
         self.add(action);
         Ok(())
+    }
+
+    // What follows is as by default, and written out: at the type of an action, a method that is
+    // taken over from the trait costs a proof some seconds more.
+    #[inline]
+    fn receive_sequence(
+        &mut self,
+        _params: &[CsiParam],
+        _parameters_truncated: bool,
+        _control: u8,
+    ) -> Result<bool, AllocError> {
+        Ok(false)
+    }
+
+    #[inline]
+    fn receive_command(&mut self, _text: &[u8]) -> Result<bool, AllocError> {
+        Ok(false)
+    }
+
+    #[inline]
+    fn drops_sequences(&self, _control: u8) -> bool {
+        false
+    }
+
+    #[inline]
+    fn drops_images(&self) -> bool {
+        false
     }
 }
 

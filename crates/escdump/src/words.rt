@@ -12,6 +12,7 @@ use esc_actions::{Action, ControlCode};
 use esc_device::DeviceControlMode;
 use esc_parse::Sink;
 use esc_sequences::{CSI, Sgr};
+use esc_values::CsiParam;
 use std::alloc::{AllocError, Global};
 
 /// The words of the actions of a segment, and the data of a mode, of which as many bytes are kept
@@ -148,5 +149,32 @@ impl Sink<Action> for Words {
 
     fn receive_str(&mut self, _text: &str) -> Result<(), AllocError> {
         Ok(())
+    }
+
+    // What follows is as by default, and written out: at the type of an action, a method that is
+    // taken over from the trait costs a proof some seconds more.
+    #[inline]
+    fn receive_sequence(
+        &mut self,
+        _params: &[CsiParam],
+        _parameters_truncated: bool,
+        _control: u8,
+    ) -> Result<bool, AllocError> {
+        Ok(false)
+    }
+
+    #[inline]
+    fn receive_command(&mut self, _text: &[u8]) -> Result<bool, AllocError> {
+        Ok(false)
+    }
+
+    #[inline]
+    fn drops_sequences(&self, _control: u8) -> bool {
+        false
+    }
+
+    #[inline]
+    fn drops_images(&self) -> bool {
+        false
     }
 }

@@ -10,6 +10,7 @@ use esc_actions::Action;
 use esc_device::DeviceControlMode;
 use esc_filter::passes;
 use esc_parse::Sink;
+use esc_values::CsiParam;
 use std::alloc::{AllocError, Global};
 
 /// How many actions of a name were left out.
@@ -160,6 +161,33 @@ impl<'a> Sink<Action> for Tally<'a> {
         };
         self.add_bytes(bytes);
         noted
+    }
+
+    // What follows is as by default, and written out: at the type of an action, a method that is
+    // taken over from the trait costs a proof some seconds more.
+    #[inline]
+    fn receive_sequence(
+        &mut self,
+        _params: &[CsiParam],
+        _parameters_truncated: bool,
+        _control: u8,
+    ) -> Result<bool, AllocError> {
+        Ok(false)
+    }
+
+    #[inline]
+    fn receive_command(&mut self, _text: &[u8]) -> Result<bool, AllocError> {
+        Ok(false)
+    }
+
+    #[inline]
+    fn drops_sequences(&self, _control: u8) -> bool {
+        false
+    }
+
+    #[inline]
+    fn drops_images(&self) -> bool {
+        false
     }
 }
 
