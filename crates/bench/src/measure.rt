@@ -245,11 +245,12 @@ fn images(alloc: Global, bytes: &[u8]) -> Option<Counted> {
 }
 
 fn endless(alloc: Global, bytes: &[u8]) -> Option<Counted> {
-    let mut tally = Tally::new();
     let mut parser = Parser::with_limit(alloc, LIMIT);
-    let mut ending = parser.parse(b"\x1b]0;", |action| tally.add(action));
+    let (mut ending, mut tally) = parser.parse_into(b"\x1b]0;", Tally::new());
     for _ in 0..TIMES {
-        ending = parser.parse(bytes, |action| tally.add(action));
+        let (next, counted) = parser.parse_into(bytes, tally);
+        ending = next;
+        tally = counted;
     }
     ended(ending, tally.counted())
 }
