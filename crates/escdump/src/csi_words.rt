@@ -194,12 +194,7 @@ fn label_of(parameter: Parameter) -> &'static str {
         Parameter::Page => "page ",
         Parameter::LastLine => "to line ",
         Parameter::LastColumn => "to column ",
-        Parameter::Count
-        | Parameter::Selector(_)
-        | Parameter::Mode
-        | Parameter::PrivateMode
-        | Parameter::Rendition
-        | Parameter::Number => "",
+        _ => "",
     }
 }
 
@@ -208,15 +203,7 @@ fn last_words(parameter: Parameter) -> &'static str {
     match parameter {
         Parameter::LastLine => ", to the last line",
         Parameter::LastColumn => ", to the last column",
-        Parameter::Line
-        | Parameter::Column
-        | Parameter::Page
-        | Parameter::Count
-        | Parameter::Selector(_)
-        | Parameter::Mode
-        | Parameter::PrivateMode
-        | Parameter::Rendition
-        | Parameter::Number => "",
+        _ => "",
     }
 }
 
@@ -224,13 +211,7 @@ fn last_words(parameter: Parameter) -> &'static str {
 fn first_of(parameter: Parameter) -> Option<i64> {
     match parameter {
         Parameter::Line | Parameter::Column | Parameter::Page | Parameter::Count => Some(1),
-        Parameter::LastLine
-        | Parameter::LastColumn
-        | Parameter::Selector(_)
-        | Parameter::Mode
-        | Parameter::PrivateMode
-        | Parameter::Rendition
-        | Parameter::Number => None,
+        _ => None,
     }
 }
 

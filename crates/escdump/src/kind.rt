@@ -63,39 +63,14 @@ impl Kind {
 
     /// Its bit: that of its word in [`KINDS`].
     pub fn bit(self) -> u64 {
-        match self {
-            Kind::Text => 0x1,
-            Kind::Control => 0x2,
-            Kind::Escape => 0x4,
-            Kind::Csi => 0x8,
-            Kind::Dcs => 0x10,
-            Kind::Osc => 0x20,
-            Kind::Apc => 0x40,
-            Kind::Sos => 0x80,
-            Kind::Pm => 0x100,
-            Kind::St => 0x200,
-            Kind::Cut => 0x400,
-            Kind::Broken => 0x800,
-            Kind::Stray => 0x1000,
-        }
+        1u64.wrapping_shl(self as u32)
     }
 
     /// Its word.
     pub fn word(self) -> &'static str {
-        match self {
-            Kind::Text => "text",
-            Kind::Control => "control",
-            Kind::Escape => "escape",
-            Kind::Csi => "csi",
-            Kind::Dcs => "dcs",
-            Kind::Osc => "osc",
-            Kind::Apc => "apc",
-            Kind::Sos => "sos",
-            Kind::Pm => "pm",
-            Kind::St => "st",
-            Kind::Cut => "cut",
-            Kind::Broken => "broken",
-            Kind::Stray => "stray",
+        match KINDS.get(self as usize) {
+            Some(word) => *word,
+            None => "",
         }
     }
 
@@ -129,22 +104,15 @@ impl Kind {
             Kind::Sos => "start of string",
             Kind::Pm => "privacy message",
             Kind::St => "string terminator",
-            Kind::Text | Kind::Control | Kind::Cut | Kind::Broken | Kind::Stray => "",
+            _ => "",
         }
     }
 
     /// Whether it is a string: it has a text.
     pub fn is_string(self) -> bool {
-        match self {
-            Kind::Dcs | Kind::Osc | Kind::Apc | Kind::Sos | Kind::Pm => true,
-            Kind::Text
-            | Kind::Control
-            | Kind::Escape
-            | Kind::Csi
-            | Kind::St
-            | Kind::Cut
-            | Kind::Broken
-            | Kind::Stray => false,
-        }
+        matches!(
+            self,
+            Kind::Dcs | Kind::Osc | Kind::Apc | Kind::Sos | Kind::Pm
+        )
     }
 }

@@ -93,17 +93,17 @@ fn add_deleted(what: Delete, to: &mut Phrase) {
 // Whether the data of the images are deleted too.
 fn is_with_data(what: Delete) -> bool {
     match what {
-        Delete::All { delete } => delete,
-        Delete::ByImageId { delete, .. } => delete,
-        Delete::ByImageNumber { delete, .. } => delete,
-        Delete::AtCursorPosition { delete } => delete,
-        Delete::AnimationFrames { delete } => delete,
-        Delete::DeleteAt { delete, .. } => delete,
-        Delete::DeleteAtZ { delete, .. } => delete,
-        Delete::DeleteColumn { delete, .. } => delete,
-        Delete::DeleteRow { delete, .. } => delete,
-        Delete::DeleteZ { delete, .. } => delete,
-        Delete::ByImageIdRange { delete, .. } => delete,
+        Delete::All { delete }
+        | Delete::AtCursorPosition { delete }
+        | Delete::AnimationFrames { delete }
+        | Delete::ByImageId { delete, .. }
+        | Delete::ByImageNumber { delete, .. }
+        | Delete::ByImageIdRange { delete, .. }
+        | Delete::DeleteAt { delete, .. }
+        | Delete::DeleteAtZ { delete, .. }
+        | Delete::DeleteColumn { delete, .. }
+        | Delete::DeleteRow { delete, .. }
+        | Delete::DeleteZ { delete, .. } => delete,
     }
 }
 
