@@ -1,5 +1,5 @@
 //! The calls that rows name.
-use crate::codecs::{base64, bytes_image, displayed, of_parts, written};
+use crate::codecs::{base64, bytes_image, displayed, emitted, of_parts, written};
 use crate::heap::is_exact;
 use crate::lent::{compared, noise_compared};
 use crate::lines::left;
@@ -63,21 +63,45 @@ pub fn answer(
             written(alloc, image, if call == "image" { b"" } else { input })
         }
         "image-of-bytes" => displayed(alloc, bytes_image(heap, input)),
+        "query-again" => query_of(alloc, heap, input),
+        "csi" | "esc" | "c0" | "c1" => function(call, alloc, input),
+        _ => of_stream(call, alloc, heap, input),
+    }
+}
+
+// The same of streams and of sixel images.
+fn of_stream(
+    call: &str,
+    alloc: Global,
+    heap: &Refusing<Global>,
+    input: &[u8],
+) -> Result<String, AllocError> {
+    match call {
         "sixel" => drawn(alloc, heap, input),
         "sixel-count" => count_of(alloc, heap, input),
         "sixel-value" => written_with(alloc, heap, input),
-        "query-again" => query_of(alloc, heap, input),
         "segments" => listed(alloc, input),
         "segment-count" => counted(alloc, input),
         "html" | "html-by-lines" => page(alloc, heap, input, call == "html-by-lines"),
-        "left" => left(alloc, heap, input, 32, 200),
-        "left-of-2-by-4" => left(alloc, heap, input, 2, 4),
-        "safe-address" => format!(in alloc; "{}", is_safe_address(text(input))),
-        "csi" | "esc" | "c0" | "c1" => function(call, alloc, input),
+        "left" => left(alloc, heap, input, (32, 200)),
+        "left-of-2-by-4" => left(alloc, heap, input, (2, 4)),
+        "safe-address" => emitted(alloc, is_safe_address(text(input))),
+        _ => of_allocator(call, alloc, heap, input),
+    }
+}
+
+// The same of allocators, and of the parser that is lent its memory.
+fn of_allocator(
+    call: &str,
+    alloc: Global,
+    heap: &Refusing<Global>,
+    input: &[u8],
+) -> Result<String, AllocError> {
+    match call {
         "lent" => compared(alloc, input),
         "lent-noise" => noise_compared(alloc, input),
-        "refusing" => format!(in alloc; "{}", is_exact(alloc)),
-        "reusing" => format!(in alloc; "{}", is_right(alloc)),
+        "refusing" => emitted(alloc, is_exact(alloc)),
+        "reusing" => emitted(alloc, is_right(alloc)),
         "held-in-turn" => in_turn(alloc, heap, text(input)),
         "held-at-once" => at_once(alloc, heap, text(input)),
         "lengthened" => lengthened(alloc, heap, text(input)),

@@ -67,10 +67,10 @@ pub fn of_parts(
     }
 }
 
-fn of_slices(
+fn of_slices<A: Allocator + Copy>(
     call: &str,
     alloc: Global,
-    heap: &Refusing<Global>,
+    heap: A,
     parts: &[&[u8]],
 ) -> Result<String, AllocError> {
     match call {
@@ -83,12 +83,19 @@ fn of_slices(
 /// The parts of a text between this byte; no text has no parts.
 pub fn parts_of(alloc: Global, text: &[u8], mark: u8) -> Result<Vec<&[u8]>, AllocError> {
     let mut parts = Vec::new(alloc);
+    match add_parts(&mut parts, text, mark) {
+        Ok(()) => Ok(parts),
+        Err(error) => Err(error),
+    }
+}
+
+fn add_parts<'a>(parts: &mut Vec<&'a [u8]>, text: &'a [u8], mark: u8) -> Result<(), AllocError> {
     if !text.is_empty() {
         for part in text.split(|b| *b == mark) {
             parts.push(part)?;
         }
     }
-    Ok(parts)
+    Ok(())
 }
 
 /// The bytes that a text in base64 means, and the text of these.

@@ -1,12 +1,11 @@
 //! Streams as pages.
 use esc_html::HtmlWriter;
-use refusing::Refusing;
-use std::alloc::{AllocError, Global};
+use std::alloc::{AllocError, Allocator, Global};
 
 /// The HTML of a stream, with what closes it.
-pub fn page(
+pub fn page<A: Allocator + Copy>(
     alloc: Global,
-    heap: &Refusing<Global>,
+    heap: A,
     stream: &[u8],
     per_line: bool,
 ) -> Result<String, AllocError> {

@@ -1,4 +1,5 @@
 //! What `reusing` asks of the allocator below, and gives back to it.
+use crate::codecs::emitted;
 use linked_list_allocator::LocalHeap;
 use refusing::Refusing;
 use reusing::Reusing;
@@ -7,29 +8,20 @@ use std::alloc::{AllocError, Allocator, Global};
 /// How many requests reach the allocator below, where blocks of these sizes are held in turn.
 pub fn in_turn(alloc: Global, below: &Refusing<Global>, sizes: &str) -> Result<String, AllocError> {
     let memory = Reusing::new(below);
-    let mut is_held = true;
-    for bytes in sizes.split(' ') {
-        is_held &= hold(&memory, bytes.parse::<usize>().unwrap_or(0));
-    }
-    requests(alloc, below, is_held)
+    requests(alloc, below, hold_each(&memory, sizes))
 }
 
 /// How many reach it where this many blocks of one size, and the block of their list, are held at
 /// once ten times.
 pub fn at_once(alloc: Global, below: &Refusing<Global>, count: &str) -> Result<String, AllocError> {
     let memory = Reusing::new(below);
-    let count = count.parse::<u64>().unwrap_or(0);
-    let mut is_held = true;
-    for _round in 0..10u8 {
-        is_held &= hold_at_once(&memory, count);
-    }
-    requests(alloc, below, is_held)
+    requests(alloc, below, hold_rounds(&memory, count))
 }
 
 // The requests, where there was memory for all that was to be held.
 fn requests(alloc: Global, below: &Refusing<Global>, is_held: bool) -> Result<String, AllocError> {
     if is_held {
-        format!(in alloc; "{}", below.requests())
+        emitted(alloc, below.requests())
     } else {
         Err(AllocError)
     }
@@ -43,18 +35,24 @@ pub fn lengthened(
     times: &str,
 ) -> Result<String, AllocError> {
     let memory = Reusing::new(below);
-    let mut bytes = Vec::new(&memory);
-    if !repeat(&mut bytes, times.parse::<u8>().unwrap_or(0)) {
-        return Err(AllocError);
+    match is_lengthened(&memory, times) {
+        Some(is_right) => emitted(alloc, is_right),
+        None => Err(AllocError),
     }
-    let is_grown = is_repeated(&bytes);
-    let is_shrunk = is_kept(&mut bytes, 3000) && is_kept(&mut bytes, 700);
-    format!(in alloc; "{}", is_grown && is_shrunk)
 }
 
 /// Whether it passes a refusal on, and gives back at its end what it keeps.
 pub fn is_right(alloc: Global) -> bool {
     is_passed_on(&Refusing::new(alloc)) && is_given_back(alloc)
+}
+
+// Holds blocks of these sizes in turn, and returns whether there was memory for all.
+fn hold_each<A: Allocator + Copy>(alloc: A, sizes: &str) -> bool {
+    let mut is_held = true;
+    for bytes in sizes.split(' ') {
+        is_held &= hold(alloc, bytes.parse::<usize>().unwrap_or(0));
+    }
+    is_held
 }
 
 // Holds a block of this many bytes for a moment, and returns whether there was memory for it.
@@ -72,6 +70,16 @@ fn hold_at_once<A: Allocator + Copy>(alloc: A, count: u64) -> bool {
         is_held = is_held && push_block(alloc, &mut held, number);
     }
     is_held && are_numbers(&held)
+}
+
+// Does so ten times.
+fn hold_rounds<A: Allocator + Copy>(alloc: A, count: &str) -> bool {
+    let count = count.parse::<u64>().unwrap_or(0);
+    let mut is_held = true;
+    for _round in 0..10u8 {
+        is_held &= hold_at_once(alloc, count);
+    }
+    is_held
 }
 
 // Holds one more block, of this number.
@@ -126,22 +134,39 @@ fn is_kept<A: Allocator>(bytes: &mut Vec<u8, A>, len: usize) -> bool {
     is_repeated(bytes) && bytes.len() == len
 }
 
+// The same of a list that grows to so many times 250 bytes; none where memory was refused.
+fn is_lengthened<A: Allocator>(alloc: A, times: &str) -> Option<bool> {
+    let mut bytes = Vec::new(alloc);
+    if !repeat(&mut bytes, times.parse::<u8>().unwrap_or(0)) {
+        return None;
+    }
+    Some(is_repeated(&bytes) && is_kept(&mut bytes, 3000) && is_kept(&mut bytes, 700))
+}
+
 // Whether a refusal of a new block is passed on, and what is kept asks for none.
 fn is_passed_on(below: &Refusing<Global>) -> bool {
     let memory = Reusing::new(below);
-    let is_held = hold(&memory, 8);
+    is_passed_on_by(&memory, below)
+}
+
+fn is_passed_on_by<A: Allocator + Copy>(alloc: A, below: &Refusing<Global>) -> bool {
+    let is_held = hold(alloc, 8);
     below.refuse_at(1);
-    let is_refused = !hold_at_once(&memory, 3) && below.has_refused();
+    let is_refused = !hold_at_once(alloc, 3) && below.has_refused();
     below.refuse_at(1);
-    is_held && is_refused && hold(&memory, 8) && below.requests() == 0
+    is_held && is_refused && hold(alloc, 8) && below.requests() == 0
+}
+
+// Whether a list and three blocks are held at once.
+fn is_list_held<A: Allocator + Copy>(alloc: A) -> bool {
+    let mut bytes = Vec::new(alloc);
+    hold_at_once(alloc, 3) && repeat(&mut bytes, 5) && is_repeated(&bytes)
 }
 
 // Whether what was asked for is kept as long as the memory is there.
 fn is_kept_below(below: &LocalHeap) -> bool {
     let memory = Reusing::new(below);
-    let mut bytes = Vec::new(&memory);
-    let is_there = hold_at_once(&memory, 3) && repeat(&mut bytes, 5) && is_repeated(&bytes);
-    is_there && below.used() > 0
+    is_list_held(&memory) && below.used() > 0
 }
 
 // Whether it goes back at the end.
