@@ -48,7 +48,7 @@ digits_print : (k n : ℕ) (acc : List ℕ) → list_all printable acc ≡ true
 digits_print zero n acc h = h
 digits_print (suc k) n acc h =
     let more : list_all printable (digit_glyph false (n % 16) ∷ acc) ≡ true =
-        rw (glyph_prints (n % 16) (omega arith), h) refl in
+    rw (glyph_prints (n % 16) (omega arith), h) refl in
     elim (cases_Bool (n / 16 == 0)) [
       | inl is ↦ rw is more
       | inr is ↦ rw is (digits_print k (n / 16) (digit_glyph false (n % 16) ∷ acc) more)
@@ -87,8 +87,8 @@ char_shown false c = elim (cases_Bool (c == 0)) [
   | inl none ↦ rw none ([], refl, refl)
   | inr none ↦ elim (cases_Bool (is_plain c)) [
     | inl plain ↦
-      let k = and_parts (is_shown c) _ plain in
-      rw (none, plain) (c ∷ [], rw k.0 refl, append-nil (encode_utf8 c))
+        let k = and_parts (is_shown c) _ plain in
+        rw (none, plain) (c ∷ [], rw k.0 refl, append-nil (encode_utf8 c))
     | inr plain ↦ rw (none, plain) (escaped_shown c)
   ]
 ]

@@ -97,5 +97,5 @@ strip_is n s None h = rw (sym (starts_text false n s h)) refl
 strip_is n s (Some x) h =
     let m = h.1 in
     let starts : true ≡ starts_with nat_eq s n =
-        starts_text true n s (h.0, m, subst (λ z. IsCharBoundary s z) (sym m.0) m.2) in
+    starts_text true n s (h.0, m, subst (λ z. IsCharBoundary s z) (sym m.0) m.2) in
     rw (sym starts, h.2, m.0) refl

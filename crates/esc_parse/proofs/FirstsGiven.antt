@@ -89,8 +89,8 @@ prefix_empty limit s b c e =
     left_empty (yield_within limit s b) (yield_within limit (s ++ b) c)
     (sym (yield_append limit s b c) ∙ e)
 
--- how many bytes there are, of which at were taken, and then n of the rest, one at least where there
--- are any
+-- how many bytes there are, of which at were taken, and then n of the rest, one at least where
+-- there are any
 pub least : (n : ℕ) → 0 ≤ n
 least n = omega arith
 

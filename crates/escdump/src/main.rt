@@ -25,9 +25,7 @@ mod run;
 mod stats;
 mod words;
 
-use command_line::{
-    FAULT, OUTPUT, last_status, open_closed, program_words, refused, work_through,
-};
+use command_line::{FAULT, OUTPUT, last_status, open_closed, program_words, refused, work_through};
 use options::{Kind, Options, Task, When};
 use run::{Dumping, PROGRAM, ended, say};
 use std::env;

@@ -193,7 +193,11 @@ fn filter_to_new(
 // Filters each file in its place.
 fn filter_in_place(rt: &HostRuntime, options: Options<'_>, files: &[&str], suffix: &str) -> u8 {
     if files.is_empty() {
-        return refused(PROGRAM, Wrong::Nothing("--in-place", "file"), &mut rt.stderr());
+        return refused(
+            PROGRAM,
+            Wrong::Nothing("--in-place", "file"),
+            &mut rt.stderr(),
+        );
     }
     let mut status = DONE;
     let mut is_less = false;
@@ -235,7 +239,10 @@ fn replace_by(
             let mut filtering = filter_of(rt, options, name, &mut new.file);
             (filtering.take(name, input), filtering.is_less)
         }
-        Err(error) => (unread(PROGRAM, name, Reason::of(&error), &mut rt.stderr()), false),
+        Err(error) => (
+            unread(PROGRAM, name, Reason::of(&error), &mut rt.stderr()),
+            false,
+        ),
     };
     match new.end(rt, suffix, ended == Ended::Whole) {
         Ok(()) => (ended, is_less),

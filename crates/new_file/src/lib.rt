@@ -40,11 +40,7 @@ impl<R: Files + AllocGlobal> NewFile<R> {
     ///
     /// The error says why there can be none: there is no file of this name, it is a folder or no
     /// regular file, or the system refuses it.
-    pub fn in_place_of(
-        rt: &R,
-        name: &str,
-        suffix: &str,
-    ) -> Result<NewFile<R>, FileFault<'static>> {
+    pub fn in_place_of(rt: &R, name: &str, suffix: &str) -> Result<NewFile<R>, FileFault<'static>> {
         let place = led_to(rt, name)?;
         let known = metadata(rt, place.as_str())?;
         if known.is_dir() {
@@ -79,12 +75,13 @@ impl<R: Files + AllocGlobal> NewFile<R> {
         self.file.set_permissions(known.permissions())
     }
 
-    /// Puts it in its place where it is whole, once what it holds is on the disk, and keeps what was
-    /// there under its name with this suffix, where there is one. At each moment there is a file of
-    /// its name, the old one or this.
+    /// Puts it in its place where it is whole, once what it holds is on the disk, and keeps what
+    /// was there under its name with this suffix, where there is one. At each moment there is a
+    /// file of its name, the old one or this.
     ///
     /// Where it is not whole, or after an error, it is removed, and the file of its place stays as
-    /// it is. The error says why: there is a file with the suffix already, or the system refuses it.
+    /// it is. The error says why: there is a file with the suffix already, or the system refuses
+    /// it.
     pub fn end<'a>(self, rt: &R, suffix: &'a str, is_whole: bool) -> Result<(), FileFault<'a>> {
         if !is_whole {
             self.give_up(rt);
