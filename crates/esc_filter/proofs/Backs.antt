@@ -213,7 +213,8 @@ module _ (A : Type 0) where
       (step t.origin (private_mode 6 0x6c) _ a b _ (reset 6 a) (ap (λ x. record a { origin = x }))
       (step t.insert (csi (unspecified (Integer (pos 4) ∷ []) false 0x6c)) _ b c _ (replaced b)
       (ap (λ x. record b { insert = x }))
-      (step t.hidden (private_mode 25 0x68) _ c d _ (set_mode 25 c) (ap (λ x. record c { hidden = x }))
+      (step t.hidden (private_mode 25 0x68) _ c d _ (set_mode 25 c)
+      (ap (λ x. record c { hidden = x }))
       (step t.reverse (private_mode 5 0x6c) _ d e _ (reset 5 d) (ap (λ x. record d { reverse = x }))
       (step t.no_wrap (private_mode 7 0x68) _ e f _ (set_mode 7 e)
       (ap (λ x. record e { no_wrap = x }))
@@ -259,12 +260,14 @@ module _ (A : Type 0) where
   all_margins t = whole_screen (calm true t)
 
   margins_start : (k b : Bool) (t : Terminal) → IsAtStart (after_values
-      (next (λ u. if b then without_margins {A = A} k else []) (saved_back k) (calm b t)) (calm b t))
+      (next (λ u. if b then without_margins {A = A} k else []) (saved_back k) (calm b t))
+      (calm b t))
   margins_start k false t = saved_start k (is_changed_saved t.saved) t refl
   margins_start true true t =
       let u = calm true t in
       subst IsAtStart (sym (
-      after_more (without_margins {A = A} true) (saved_back true (after_values (without_margins {A = A} true) u)) u
+      after_more (without_margins {A = A} true)
+      (saved_back true (after_values (without_margins {A = A} true) u)) u
       ∙ ap (λ x. after_values (saved_back {A = A} true x) x) (both_kept t)
       )) (start_calm (record t { saved = nothing_saved }) refl)
   margins_start false true t =
@@ -314,7 +317,8 @@ module _ (A : Type 0) where
       one_by_one screen_back (next states_back (next (margins_back k) (saved_back k))) t
       (ap main_by i.screen)
       (one_by_one states_back (next (margins_back k) (saved_back k)) t (states_none t i)
-      (one_by_one (margins_back k) (saved_back k) t (ap (λ b. if b then without_margins k else []) i.margins)
+      (one_by_one (margins_back k) (saved_back k) t
+      (ap (λ b. if b then without_margins k else []) i.margins)
       (ap (λ s. give (is_changed_saved s) (saved_by k)) i.saved)))
     where
       states_none : (t : Terminal) → IsAtStart t → states_back {A = A} t ≡ []
@@ -335,7 +339,8 @@ module _ (A : Type 0) where
   pub nothing_twice : (admits : Value A → Bool) (vs : List (Value A))
       → closing admits (closed admits vs) ≡ []
   nothing_twice admits vs =
-      nothing_if (keeps_cursor admits) (after_values (closed admits vs) unchanged) (at_start admits vs)
+      nothing_if (keeps_cursor admits) (after_values (closed admits vs) unchanged)
+      (at_start admits vs)
 
   -- nothing is given back where nothing is left changed
   pub nothing_back : (k : Bool) (t : Terminal) → is_changed t ≡ false → given_back {A = A} k t ≡ []

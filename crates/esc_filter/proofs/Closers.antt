@@ -235,7 +235,8 @@ module _ (A : Type 0) where
       saved_text k (is_changed_saved t.saved) f
       ∙ ap (λ x. part x (saved_part k) ++ []) (sym (and-true (is_changed_saved t.saved)))
   last_text true true t f =
-      margins_text true (saved_back true (after_values (without_margins {A = A} true) (calm true t)))
+      margins_text true
+      (saved_back true (after_values (without_margins {A = A} true) (calm true t)))
       [] (λ g. ap (λ x. texts_after g (saved_back {A = A} true x)) (both_kept A t)) f
       ∙ ap (λ x. margins_part true ++ (part x (saved_part true) ++ []))
       (sym (and-false (is_changed_saved t.saved)))

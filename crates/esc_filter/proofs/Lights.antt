@@ -258,7 +258,8 @@ module _ (A : Type 0) where
   pub opens : (x : List ℕ) (t : Terminal) → IsPlainLink A x → x ≢ codes "8;;"
       → record t { link = true } ≡ after_command (meaning {A = A} (parts_of x)) t
   opens x t (l, means, written) n =
-      ap (λ b. record t { link = b }) (sym (some_link x l n (ap command_text (sym means) ∙ written)))
+      ap (λ b. record t { link = b })
+      (sym (some_link x l n (ap command_text (sym means) ∙ written)))
       ∙ ap (λ c. after_command c t) (sym means)
 
   pub ends : (x : List ℕ) (t : Terminal) → x ≡ codes "8;;"

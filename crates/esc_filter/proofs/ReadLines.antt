@@ -27,7 +27,8 @@ module _ {A : Type 0} where
       (ended : (l : List ℕ)
       → Reads (list_text (closed admits (passed_of_line u limit admits l)))
       (normal (closed admits (passed_of_line u limit admits l))))
-      (back : (vs : List (Value A)) → Reads (list_text (closing admits vs)) (normal (closing admits vs)))
+      (back : (vs : List (Value A))
+      → Reads (list_text (closing admits vs)) (normal (closing admits vs)))
       (feed : Reads {A = A} (0x0a ∷ []) (control LineFeed ∷ [])) where
     line_reads : (l : List ℕ) → Reads (line_text u limit admits l) (line_values u limit admits l)
     line_reads l = by (ends_line false l)

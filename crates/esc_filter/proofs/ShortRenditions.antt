@@ -194,7 +194,8 @@ indexed k n t high h first bytes is =
     let (v, one, turns) = first_turns (Integer (pos k) ∷ es) k (es, refl) high refl in
     let none = large_unnamed k es high in
     shade (t ++ 0x3b ∷ 0x35 ∷ 0x3b ∷ decimal n) (Integer (pos k) ∷ es) bytes is (omega arith)
-    (unspecified (Integer (pos k) ∷ es) false 0x6d) true none text refl (plain_lit (Integer (pos k) ∷ es) refl)
+    (unspecified (Integer (pos k) ∷ es) false 0x6d) true none text refl
+    (plain_lit (Integer (pos k) ∷ es) refl)
   where
     text : csi_text (unspecified (Integer (pos k) ∷ P 0x3b ∷ Integer (pos 5) ∷ P 0x3b
         ∷ Integer (pos n) ∷ []) false 0x6d)

@@ -8,6 +8,15 @@ use Rattle.esc_functions.specs.declared.escape_function.EscapeFunction.TheVarian
 use Rattle.esc_filter.specs.Terminal.{after_escape_function, after_function, has_params}
 use Rattle.esc_filter.specs.declared.terminal.Terminal.{Terminal}
 
+-- what a function does, named as another
+pub function_is : (f g : ControlFunction) (es : List CsiParam) (t : Terminal) → f ≡ g
+    → after_function g es t ≡ after_function f es t
+function_is f g es t e = sym (ap (λ x. after_function x es t) e)
+
+pub escape_is : (f g : EscapeFunction) (b : ℕ) (t : Terminal) → f ≡ g
+    → after_escape_function g b t ≡ after_escape_function f b t
+escape_is f g b t e = sym (ap (λ x. after_escape_function x b t) e)
+
 -- of control sequences
 pub other_function : (f : ControlFunction) (es : List CsiParam) (t : Terminal)
     → f ≢ function.SGR

@@ -126,9 +126,9 @@ main_by screen.WithCursor = private_mode 1049 0x6c ∷ []
 abbrev pub screen_back : {A : Type 0} → Terminal → List (Value A)
 screen_back t = main_by t.screen
 
--- Left and right margins; the origin; that characters are not inserted; the cursor; colours that are
--- not reversed; lines that wrap; a screen that is drawn; no rendition; no link; and the character
--- sets.
+-- Left and right margins; the origin; that characters are not inserted; the cursor; colours that
+-- are not reversed; lines that wrap; a screen that is drawn; no rendition; no link; and the
+-- character sets.
 abbrev pub states_back : {A : Type 0} → Terminal → List (Value A)
 states_back t = joined (
     give t.sides (private_mode 69 0x6c)
@@ -169,8 +169,8 @@ abbrev pub next : {A : Type 0} → (Terminal → List (Value A)) → (Terminal �
     → Terminal → List (Value A)
 next first others t = first t ++ others (after_values (first t) t)
 
--- What gives back what is left changed, a part after another, each of what those before it leave. The
--- last two go by whether DECSC and DECRC may be written.
+-- What gives back what is left changed, a part after another, each of what those before it leave.
+-- The last two go by whether DECSC and DECRC may be written.
 abbrev pub given_back : {A : Type 0} → Bool → Terminal → List (Value A)
 given_back keeps =
     next screen_back (next states_back (next (margins_back keeps) (saved_back keeps)))

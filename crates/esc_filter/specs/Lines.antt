@@ -54,7 +54,8 @@ passed_of_line u limit admits l = passed_as u (Some limit) (in_lines true admits
 -- feed has come, what gives back what that leaves changed, and the line feed.
 abbrev pub line_text : {A : Type 0} → Unicode → ℕ → (Value A → Bool) → List ℕ → List ℕ
 line_text u limit admits l =
-    if ends_line false l then list_text (closed admits (passed_of_line u limit admits l)) ++ 0x0a ∷ []
+    if ends_line false l then
+    list_text (closed admits (passed_of_line u limit admits l)) ++ 0x0a ∷ []
     else list_text (passed_of_line u limit admits l)
 
 -- the text of a stream: that of its lines, one after another
@@ -205,7 +206,8 @@ abbrev pub ClosesLine : {P A : Type 0} → Unicode → (Value A → Bool) → �
     → LineFilter P A → Type 0
 ClosesLine {P} {A} u admits limit l old new =
     WasFedIn u true limit admits [] new.filter
-    × (added_by new ≡ added_by old ++ list_text (closing admits (passed_of_line {A = A} u limit admits l)))
+    × (added_by new
+    ≡ added_by old ++ list_text (closing admits (passed_of_line {A = A} u limit admits l)))
 
 -- the same, and the line feed after it
 abbrev pub EndsLine : {P A : Type 0} → Unicode → (Value A → Bool) → ℕ → List ℕ → LineFilter P A

@@ -134,8 +134,8 @@ fn push_all<A: Allocator>(text: &mut Text<A>, parts: &[&'static str]) -> Result<
     Ok(())
 }
 
-/// Whether the cursor is to be saved and restored as this terminal is given back: where that goes by
-/// it, and the policy admits DECSC and DECRC.
+/// Whether the cursor is to be saved and restored as this terminal is given back: where that goes
+/// by it, and the policy admits DECSC and DECRC.
 pub(crate) fn keeps_cursor_of<A: Allocator, P: Admit<A>>(terminal: &Terminal, policy: &P) -> bool
     ensures { result ≡ (is_cursor_due terminal.now && keeps_cursor {A = A} (P.admits policy.now)) }
 {

@@ -165,7 +165,8 @@ impl Terminal {
         }
     }
 
-    // It is restored. Not every terminal saves all of it, so what is changed now is taken to stay so.
+    // It is restored. Not every terminal saves all of it, so what is changed now is taken to stay
+    // so.
     pub fn restore(&mut self)
         ensures { self.new ≡ restore self.old }
     {

@@ -19,7 +19,8 @@ returns-clause-holds g c =
     (c.passed_reads_back.ensures.ended (Some limit) admits)
     (c.passed_reads_back.ensures.goes_on (Some limit) admits) _ _ _
     (c.filter_from.ensures.holds m e new (nothing Keep limit admits)
-    (λ s. let vs = passed (Some limit) admits s in (list_text (closing admits vs), closed_more admits vs))) in
+    (λ s. let vs = passed (Some limit) admits s in
+    (list_text (closing admits vs), closed_more admits vs))) in
     record {
       read_all = f.read_all;
       written = f.written;
@@ -39,4 +40,5 @@ returns-clause-refused g c =
     c.new-filter.ensures.policy c.new-filter.ensures.fed in
     c.filter_from.ensures.refused (passed_text {A = g.row.A.Denot} (Some limit) admits)
     (closed_text {A = g.row.A.Denot} (Some limit) admits) new (nothing Keep limit admits)
-    (λ s. let vs = passed (Some limit) admits s in (list_text (closing admits vs), closed_more admits vs))
+    (λ s. let vs = passed (Some limit) admits s in
+    (list_text (closing admits vs), closed_more admits vs))

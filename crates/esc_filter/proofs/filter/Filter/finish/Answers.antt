@@ -13,7 +13,8 @@ returns-in-Ok-clause-ended g c = λ b u limit s h.
     let left = c.args.self.now.written.left in (
       c.restart.ensures.fed b u limit s (h.0, h.1),
       c.in-Ok.ensures.ok
-          ∙ ap (λ t. t ++ text_given_back c.keeps_cursor_of-keeps_cursor.result left) c.emptied-text.ensures
+          ∙ ap (λ t. t ++ text_given_back c.keeps_cursor_of-keeps_cursor.result left)
+          c.emptied-text.ensures
           ∙ ap (λ k. text_given_back k left) c.keeps_cursor_of-keeps_cursor.ensures
           ∙ same_text (keeps_cursor admits) left
           ∙ ap (text_given_back (keeps_cursor admits)) h.1.1 ∙ sym (closing_text admits vs),
