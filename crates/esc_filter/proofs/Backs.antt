@@ -1,5 +1,5 @@
 -- What gives back what is left changed leaves the terminal as at the start.
-use Rattle.std.proofs.Common.{ℕ, pos, ◌≡◌, Bool, true, false, not, ◌&&◌, ◌||◌, if◌then◌else◌, List, [], ◌∷◌, ◌++◌, None, Some, refl, sym, subst, ap, ◌∙◌}
+use Rattle.std.proofs.Common.{ℕ, pos, ◌≡◌, Bool, true, false, not, ◌||◌, if◌then◌else◌, List, [], ◌∷◌, ◌++◌, None, refl, sym, subst, ap, ◌∙◌}
 use Rattle.esc_sequences.specs.Csis.{sgr, unspecified}
 use Rattle.esc_sequences.specs.declared.sgr.Sgr.TheVariants.{Reset}
 use Rattle.esc_values.specs.declared.csi_param.CsiParam.TheVariants.{Integer}
@@ -10,7 +10,7 @@ use Rattle.esc_actions.specs.Values.{Value, control, csi, osc}
 use Rattle.esc_actions.specs.declared.control_code.ControlCode.TheVariants.{ShiftIn}
 use Rattle.esc_filter.specs.Closing.{IsAtStart, after_value, after_values, ascii_in, closed, closing, escape, give, given_back, keeps_cursor, main_by, margins_back, next, private_mode, saved_back, saved_by, screen_back, states_back, without_margins}
 use Rattle.esc_filter.specs.GivenBack.{on_main, with_main}
-use Rattle.esc_filter.specs.Terminal.{after_escape_function, after_function, after_private, are_changed_sets, is_changed, is_changed_mode, is_changed_saved, is_main, no_sets, nothing_saved, restore, restored, restored_on, save, saved_of, saved_on, unchanged}
+use Rattle.esc_filter.specs.Terminal.{after_escape_function, after_function, after_private, are_changed_sets, is_changed, is_changed_mode, is_changed_saved, is_main, no_sets, nothing_saved, restore, save, unchanged}
 use Rattle.esc_filter.specs.declared.saved.Saved.{Saved}
 use Rattle.esc_filter.specs.declared.terminal.Screen.{Screen}
 use Rattle.esc_filter.specs.declared.terminal.Screen.TheVariants as screen

@@ -11,9 +11,8 @@ use Rattle.esc_parse.specs.Given.{StopsAt}
 use Rattle.esc_filter.specs.Noted.{Notes, WriteDenies}
 use Rattle.esc_filter.specs.declared.written.Written.{Written}
 use Rattle.esc_actions.specs.Values.{Value, print}
-use Rattle.esc_actions.specs.declared.action.Action.{Action}
 use Rattle.esc_actions.specs.declared.action.Action.TheVariants as action
-use Rattle.esc_filter.specs.Fed.{Refuses, Takes, TakesBy}
+use Rattle.esc_filter.specs.Fed.{Refuses, TakesBy}
 use Rattle.memory.specs.Refusals.{Refused}
 use Rattle.esc_filter.specs.Passing.{passes}
 use Rattle.esc_filter.specs.declared.passing.Passing.{Passing}

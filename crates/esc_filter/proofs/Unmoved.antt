@@ -1,11 +1,11 @@
 -- Functions that leave a terminal as it is.
-use Rattle.std.proofs.Common.{◌≡◌, ◌≢◌, Bool, true, false, not, ℕ, length, nat_eq, List, [], ◌∷◌, refl, sym, ap, ◌∙◌}
+use Rattle.std.proofs.Common.{◌≡◌, ◌≢◌, ℕ, List, refl, sym, ap}
 use Rattle.esc_values.specs.declared.csi_param.CsiParam.{CsiParam}
 use Rattle.esc_functions.specs.declared.control_function.ControlFunction.{ControlFunction}
 use Rattle.esc_functions.specs.declared.control_function.ControlFunction.TheVariants as function
 use Rattle.esc_functions.specs.declared.escape_function.EscapeFunction.{EscapeFunction}
 use Rattle.esc_functions.specs.declared.escape_function.EscapeFunction.TheVariants as escape
-use Rattle.esc_filter.specs.Terminal.{after_escape_function, after_function, has_params}
+use Rattle.esc_filter.specs.Terminal.{after_escape_function, after_function}
 use Rattle.esc_filter.specs.declared.terminal.Terminal.{Terminal}
 
 -- what a function does, named as another

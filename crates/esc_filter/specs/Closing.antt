@@ -16,7 +16,7 @@ use Rattle.esc_actions.specs.declared.control_code.ControlCode.{ControlCode}
 use Rattle.esc_actions.specs.declared.control_code.ControlCode.TheVariants.{ShiftIn, ShiftOut}
 use Rattle.esc_write.specs.declared.short_numbers.ShortNumbers.{ShortNumbers}
 use Rattle.esc_write.specs.declared.short_numbers.ShortNumbers.TheVariants as short
-use Rattle.esc_filter.specs.Terminal.{after_named, after_named_escape, is_changed_saved, is_main, nothing_saved, unchanged}
+use Rattle.esc_filter.specs.Terminal.{after_named, after_named_escape, is_changed_saved, nothing_saved, unchanged}
 use Rattle.esc_filter.specs.declared.terminal.Screen.{Screen}
 use Rattle.esc_filter.specs.declared.terminal.Screen.TheVariants as screen
 use Rattle.esc_filter.specs.declared.terminal.Terminal.{Terminal}

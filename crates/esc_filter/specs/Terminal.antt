@@ -1,5 +1,5 @@
 -- A terminal, as far as control functions leave it changed.
-use Rattle.std.specs.Prelude.{ℕ, ◌≡◌, Bool, true, false, not, ◌==◌, ◌||◌, pos, negsuc, if◌then◌else◌, List, [], ◌∷◌, Option, None, Some}
+use Rattle.std.specs.Prelude.{ℕ, Bool, true, false, not, ◌==◌, ◌||◌, pos, negsuc, if◌then◌else◌, List, [], ◌∷◌, Option, None, Some}
 use Rattle.esc_values.specs.declared.csi_param.CsiParam.{CsiParam}
 use Rattle.esc_values.specs.declared.csi_param.CsiParam.TheVariants.{Integer, P}
 use Rattle.esc_functions.specs.declared.control_function.ControlFunction.{ControlFunction}

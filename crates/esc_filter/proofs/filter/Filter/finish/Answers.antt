@@ -1,4 +1,4 @@
-use Rattle.std.proofs.Common.{◌≡◌, Bool, ◌&&◌, true, false, ◌++◌, Some, refl, sym, ap, ◌∙◌}
+use Rattle.std.proofs.Common.{◌++◌, Some, sym, ap, ◌∙◌}
 use Rattle.esc_filter.proofs.Closers.{closing_text, same_text}
 use Rattle.esc_filter.specs.Closing.{keeps_cursor}
 use Rattle.esc_filter.specs.Fed.{policy_of}

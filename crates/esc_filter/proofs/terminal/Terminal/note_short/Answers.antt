@@ -1,4 +1,4 @@
-use Rattle.std.proofs.Common.{ap, sym, subst, ◌∙◌}
+use Rattle.std.proofs.Common.{ap, sym, subst}
 use Rattle.esc_filter.specs.Closing.{IsAfter, turned}
 use Rattle.esc_filter.proofs.Lights.{other_sequence, short_renditions}
 use Rattle.esc_filter.proofs.terminal.Terminal.note_short.Goals as goal
