@@ -22,7 +22,7 @@ use Rattle.esc_filter.specs.declared.line_filter.LineFilter.{LineFilter}
 
 -- ---- line feeds
 
-feeds_append : (x y : List ℕ) → has_line_feed x ≡ false → has_line_feed y ≡ false
+pub feeds_append : (x y : List ℕ) → has_line_feed x ≡ false → has_line_feed y ≡ false
     → has_line_feed (x ++ y) ≡ false
 feeds_append [] y h k = k
 feeds_append (b ∷ x) y h k = by_head (is_line_feed b) h (λ g. feeds_append x y g k)
@@ -114,7 +114,7 @@ lines_append (b ∷ d) x h = by_head (is_line_feed b) d h (lines_append d x)
     by_head false [] g more = absurd cc
     by_head false (c ∷ d) g more = ap (begin_with b) (more g) ∙ begin_more b c d (lines x)
 
-one_line : (x : List ℕ) (b : ℕ) → has_line_feed x ≡ false → is_line_feed b ≡ true
+pub one_line : (x : List ℕ) (b : ℕ) → has_line_feed x ≡ false → is_line_feed b ≡ true
     → lines (x ++ b ∷ []) ≡ (x ++ b ∷ []) ∷ []
 one_line [] b h e = rw e refl
 one_line (a ∷ x) b h e = by_head (is_line_feed a) h (λ g. one_line x b g e)
@@ -126,7 +126,7 @@ one_line (a ∷ x) b h e = by_head (is_line_feed a) h (λ g. one_line x b g e)
     by_head true g more = absurd cc
     by_head false g more = ap (begin_with a) (more g)
 
-open_line : (b : ℕ) (x : List ℕ) → has_line_feed (b ∷ x) ≡ false → lines (b ∷ x) ≡ (b ∷ x) ∷ []
+pub open_line : (b : ℕ) (x : List ℕ) → has_line_feed (b ∷ x) ≡ false → lines (b ∷ x) ≡ (b ∷ x) ∷ []
 open_line b [] h = by_head (is_line_feed b) h
   where
     by_head : (t : Bool) → (t || false) ≡ false

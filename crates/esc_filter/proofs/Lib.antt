@@ -19,6 +19,9 @@ pub mod ByLines
 pub mod ShortRenditions
 pub mod PlainLines
 pub mod LineFeeds
+pub mod LineData
+pub mod Feedless
+pub mod OneLine
 pub mod ReadLines
 pub mod Begun
 pub mod Screens

@@ -1,13 +1,14 @@
 //! Laws of what passes a filter. Each holds for every allocator `A`, which the type of the actions
 //! names.
-ghost use Rattle.std.specs.Prelude.{◌≡◌, ◌++◌, [], ℕ, Bool, List, Option, Some, false, true};
+ghost use Rattle.std.specs.Prelude.{◌≡◌, ◌++◌, [], ℕ, Bool, List, Option, Some, false, map, not, true};
 ghost use Rattle.std.specs.List.{filter};
 ghost use Rattle.esc_actions.specs.Meaning.{yield_within};
 ghost use Rattle.esc_actions.specs.Texts.{list_text};
 ghost use Rattle.esc_actions.specs.Values.{Value};
+ghost use Rattle.esc_frame.specs.Segments.{is_empty};
 ghost use Rattle.esc_filter.specs.Closing.{IsAtStart, after_values, closed, closing};
 ghost use Rattle.esc_filter.specs.Terminal.{unchanged};
-ghost use Rattle.esc_filter.specs.Lines.{IsFilteredByLines, IsFilteredByLinesAs, lines_text, lines_text_as};
+ghost use Rattle.esc_filter.specs.Lines.{IsFilteredByLines, IsFilteredByLinesAs, IsLine, has_line_feed, line_text, lines, lines_text, lines_text_as, passed_of_line, text_by_lines_as};
 ghost use Rattle.esc_sequences.specs.Csis.{CsiValue};
 ghost use Rattle.esc_sequences.specs.declared.esc.Esc.{Esc};
 ghost use Rattle.esc_functions.specs.Effects.{is_answered};
@@ -95,6 +96,31 @@ pub fn written_lines_read_back<A: Allocator>()
 {
     written_reads_back::<A>();
     laws::reads_by_itself::<A>();
+}
+
+/// Each line of a stream is written as one line. A line that has ended is written as one that has,
+/// whatever its segments hold; a last line without a line feed is written without one, and so is
+/// what gives back what it leaves changed. So the lines of what is written are the texts of the
+/// lines, in order, but for an empty text of the last.
+pub fn lines_written<A: Allocator>()
+    ensures ended { (u : Unicode) (limit : ℕ) (admits : Value A → Bool) (l : List ℕ) → IsLine l
+        → IsLine (line_text u limit admits l) }
+    ensures last { (u : Unicode) (limit : ℕ) (admits : Value A → Bool) (l : List ℕ)
+        → has_line_feed l ≡ false → has_line_feed (line_text u limit admits l) ≡ false }
+    ensures closed { (u : Unicode) (limit : ℕ) (admits : Value A → Bool) (l : List ℕ)
+        → has_line_feed l ≡ false → has_line_feed (line_text u limit admits l
+        ++ list_text (closing admits (passed_of_line u limit admits l))) ≡ false }
+    ensures lines { (u : Unicode) (limit : ℕ) (admits : Value A → Bool) (s : List ℕ)
+        → lines (text_by_lines_as u limit admits s)
+        ≡ filter (λ t. not (is_empty t)) (map (line_text u limit admits) (lines s)) }
+{
+    written_reads_back::<A>();
+    laws::meaning_of_the_cut::<A>();
+    laws::has_cut();
+    esc_osc::laws::writes_clear::<A>();
+    esc_kitty::laws::reads_back::<A>();
+    esc_sixel::laws::writes_back::<A>();
+    esc_tcap::laws::writes_back();
 }
 
 /// No control or escape sequence that `Policy::Screen` admits as such has a function that a

@@ -50,9 +50,9 @@ pub use group::Group;
 pub use groups::Groups;
 pub use known::Known;
 pub use laws::{
-    closing_comes_last, lines_read_back, nothing_given_back_twice, passed_more, passed_reads_back,
-    policies_are_groups, screen_is_not_answered, terminal_as_at_the_start, written_lines_read_back,
-    written_reads_back,
+    closing_comes_last, lines_read_back, lines_written, nothing_given_back_twice, passed_more,
+    passed_reads_back, policies_are_groups, screen_is_not_answered, terminal_as_at_the_start,
+    written_lines_read_back, written_reads_back,
 };
 pub use line_filter::LineFilter;
 pub use policy::Policy;
