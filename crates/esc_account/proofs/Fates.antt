@@ -1,0 +1,132 @@
+-- Which fate the rule of a policy gives.
+use Rattle.std.proofs.Common.{ℕ, ◌≡◌, ◌-◌, inl, inr, Bool, true, false, not, ◌&&◌, ◌||◌, ◌==◌, if◌then◌else◌, List, [], ◌∷◌, ◌++◌, length, take, drop, map, bytes_eq, refl, ap, sym, ◌∙◌}
+use Rattle.std.proofs.lemmas.Bool.{and_parts, eqb-true}
+use Rattle.std.proofs.lemmas.List.{take-append-drop}
+use Rattle.std.proofs.lemmas.Slice.Eq.{bytes_eq-Decides}
+use Rattle.std.specs.List.{list_all, list_any}
+use Rattle.esc_segments.specs.declared.kind.SegmentKind.{SegmentKind}
+use Rattle.esc_actions.specs.Texts.{list_text}
+use Rattle.esc_actions.specs.Values.{Value, value_of}
+use Rattle.esc_actions.specs.declared.action.Action.{Action}
+use Rattle.esc_filter.specs.declared.unicode.Unicode.{Unicode}
+use Rattle.esc_account.specs.Accounts.{is_end}
+use Rattle.esc_account.specs.Rules.{IsAsItCame, fate_of, is_own, is_replaced, is_shown, is_spelled, is_written, spelling_of}
+use Rattle.esc_account.specs.declared.fate.Fate.{Fate}
+use Rattle.esc_account.specs.declared.fate.Fate.TheVariants as fates
+use Rattle.esc_account.proofs.Values.{all_map, any_map}
+
+module _ {A : Type 0} (by_lines : Bool) (u : Unicode) (admits : Value A → Bool) (k : SegmentKind)
+    (bytes : List ℕ) (actions : List (Action A)) where
+  abbrev Vs : List (Value A)
+  Vs = map (value_of {A = A}) actions
+
+  -- what a call says of the actions, it says of their values
+  abbrev Own : Bool → Bool → Type 0
+  Own r t = (r ≡ list_any (λ a. is_own k (value_of a)) actions) × (r ≡ t)
+
+  abbrev Written : Bool → Bool → Type 0
+  Written r t = (r ≡ list_all (λ a. is_written by_lines u admits (value_of a)) actions) × (r ≡ t)
+
+  abbrev Replaced : Bool → Bool → Type 0
+  Replaced r t = (r ≡ is_replaced k) × (r ≡ t)
+
+  abbrev Shown : Bool → Bool → Type 0
+  Shown r t = (r ≡ list_any (λ a. is_shown u (value_of a)) actions) × (r ≡ t)
+
+  own_is : (r t : Bool) → Own r t → list_any (is_own k) Vs ≡ t
+  own_is r t h = any_map (is_own k) value_of actions ∙ sym h.0 ∙ h.1
+
+  written_is : (r t : Bool) → Written r t → list_all (is_written by_lines u admits) Vs ≡ t
+  written_is r t h = all_map (is_written by_lines u admits) value_of actions ∙ sym h.0 ∙ h.1
+
+  replaced_is : (r t : Bool) → Replaced r t → is_replaced k ≡ t
+  replaced_is r t h = sym h.0 ∙ h.1
+
+  shown_is : (r t : Bool) → Shown r t → list_any (is_shown u) Vs ≡ t
+  shown_is r t h = any_map (is_shown u) value_of actions ∙ sym h.0 ∙ h.1
+
+  abbrev Is : Fate → Type 0
+  Is f = f ≡ fate_of by_lines u admits k bytes Vs
+
+  pub swallowed : (o : Bool) → Own o false → Is fates.Swallowed
+  swallowed o own = rw (own_is o false own) refl
+
+  pub left_out : (o w : Bool) → Own o true → Written w false → Is fates.LeftOut
+  left_out o w own all = rw (own_is o true own, written_is w false all) refl
+
+  pub replaced : (o w r : Bool) → Own o true → Written w true → Replaced r true
+      → Is fates.Replaced
+  replaced o w r own all rep =
+      rw (own_is o true own, written_is w true all, replaced_is r true rep) refl
+
+  pub shown : (o w r s : Bool) → Own o true → Written w true → Replaced r false → Shown s true
+      → Is fates.Shown
+  shown o w r s own all rep sh =
+      rw (own_is o true own, written_is w true all, replaced_is r false rep, shown_is s true sh)
+      refl
+
+  pub spelled : (o w r s : Bool) → Own o true → Written w true → Replaced r false → Shown s false
+      → Is (spelling_of bytes (list_text Vs))
+  spelled o w r s own all rep sh =
+      rw (own_is o true own, written_is w true all, replaced_is r false rep, shown_is s false sh)
+      refl
+
+-- of the same kind, bytes and values
+pub same_fate : {A : Type 0} (by_lines : Bool) (u : Unicode) (admits : Value A → Bool)
+    (k l : SegmentKind) (x y : List ℕ) (vs ws : List (Value A)) → k ≡ l → x ≡ y → vs ≡ ws
+    → fate_of by_lines u admits k x vs ≡ fate_of by_lines u admits l y ws
+same_fate by_lines u admits k l x y vs ws e f h =
+    ap (λ z. fate_of by_lines u admits z x vs) e ∙ ap (λ z. fate_of by_lines u admits l z vs) f
+    ∙ ap (fate_of by_lines u admits l y) h
+
+-- ---- what a fate says
+
+pub nothing_told : {A : Type 0} (by_lines : Bool) (u : Unicode) (admits : Value A → Bool)
+    (k : SegmentKind) (bytes : List ℕ) (vs : List (Value A)) → vs ≡ []
+    → fate_of by_lines u admits k bytes vs ≡ fates.Swallowed
+nothing_told by_lines u admits k bytes vs e = ap (fate_of by_lines u admits k bytes) e
+
+passed_by : (own all rep some as_came : Bool)
+    → (if not own then fates.Swallowed else if not all then fates.LeftOut
+    else if rep then fates.Replaced else if some then fates.Shown
+    else if as_came then fates.Passed else fates.Respelled) ≡ fates.Passed
+    → (all ≡ true) × (as_came ≡ true)
+passed_by false all rep some as_came h = absurd cc
+passed_by true false rep some as_came h = absurd cc
+passed_by true true true some as_came h = absurd cc
+passed_by true true false true as_came h = absurd cc
+passed_by true true false false false h = absurd cc
+passed_by true true false false true h = (refl, refl)
+
+pub passed_is : {A : Type 0} (by_lines : Bool) (u : Unicode) (admits : Value A → Bool)
+    (k : SegmentKind) (bytes : List ℕ) (vs : List (Value A))
+    → fate_of by_lines u admits k bytes vs ≡ fates.Passed
+    → (list_all (is_written by_lines u admits) vs ≡ true)
+    × (is_spelled bytes (list_text vs) ≡ true)
+passed_is by_lines u admits k bytes vs h =
+    passed_by (list_any (is_own k) vs) (list_all (is_written by_lines u admits) vs)
+    (is_replaced k) (list_any (is_shown u) vs) (is_spelled bytes (list_text vs)) h
+
+end_is : (x : List ℕ) → is_end x ≡ true → x ≡ 0x1b ∷ 0x5c ∷ []
+end_is [] h = absurd cc
+end_is (a ∷ []) h = absurd cc
+end_is (a ∷ b ∷ []) h =
+    let q = and_parts (a == 0x1b) (b == 0x5c) h in
+    ap (λ c. c ∷ b ∷ []) (eqb-true a 0x1b q.0) ∙ ap (λ c. 0x1b ∷ c ∷ []) (eqb-true b 0x5c q.1)
+end_is (a ∷ b ∷ c ∷ x) h = absurd cc
+
+pub as_it_came : (bytes text : List ℕ) → is_spelled bytes text ≡ true → IsAsItCame bytes text
+as_it_came bytes text h = by (bytes_eq text bytes) refl h
+  where
+    n : ℕ
+    n = length text - 2
+
+    by : (t : Bool) → bytes_eq text bytes ≡ t
+        → (t || (is_end (drop n text) && bytes_eq (take n text) bytes)) ≡ true
+        → IsAsItCame bytes text
+    by true e g = inl ((bytes_eq-Decides text bytes).0 e)
+    by false e g =
+        let q = and_parts (is_end (drop n text)) (bytes_eq (take n text) bytes) g in
+        inr (sym (take-append-drop n text)
+        ∙ ap (λ x. x ++ drop n text) ((bytes_eq-Decides (take n text) bytes).0 q.1)
+        ∙ ap (λ x. bytes ++ x) (end_is (drop n text) q.0))

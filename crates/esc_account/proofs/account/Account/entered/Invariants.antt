@@ -1,0 +1,14 @@
+use Rattle.std.proofs.Common.{◌≡◌, ◌+◌, List, length}
+use Rattle.esc_frame.specs.Segments.{Segment as Shape, IsCut}
+use Rattle.esc_segments.specs.Items.{left}
+use Rattle.esc_account.specs.Accounts.{run, total}
+use Rattle.esc_account.proofs.account.Account.entered.Given as goal
+
+abbrev pub invariant-loop-segment : goal.invariant-loop-segment
+invariant-loop-segment g l = record {
+  next : (goal.iterator-loop-segment g).can_next l.segments;
+  finite : (goal.iterator-loop-segment g).is_finite l.segments;
+  sums : total l.account.sums + length (left l.segments) ≡ total l.fn.self.sums + length l.bytes;
+  entered : (gs ks : List Shape) → IsCut l.bytes gs → IsCut (left l.segments) ks
+      → run (g.J.Judge.rule l.judge) l.account ks ≡ run (g.J.Judge.rule l.judge) l.fn.self gs;
+}

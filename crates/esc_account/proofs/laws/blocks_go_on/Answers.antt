@@ -1,0 +1,5 @@
+use Rattle.esc_account.proofs.Blocks.{blocks}
+use Rattle.esc_account.proofs.laws.blocks_go_on.Goals as goal
+
+pub returns : goal.returns
+returns c = blocks c.has_cut.ensures c.one_cut.ensures

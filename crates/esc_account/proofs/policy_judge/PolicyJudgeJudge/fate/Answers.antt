@@ -1,0 +1,23 @@
+use Rattle.std.proofs.Common.{Some, map, ap, ◌∙◌}
+use Rattle.esc_frame.specs.Segments.{bytes_of, is_finished, joined}
+use Rattle.esc_segments.specs.Items.{kind_of}
+use Rattle.esc_actions.specs.Readings.{reading_within}
+use Rattle.esc_actions.specs.Values.{value_of}
+use Rattle.esc_account.specs.Rules.{fate_of, rule_of}
+use Rattle.esc_account.proofs.Fates.{same_fate}
+use Rattle.esc_account.proofs.Values.{spelled_ok}
+use Rattle.esc_account.proofs.policy_judge.PolicyJudgeJudge.fate.Goals as goal
+
+pub returns-in-Ok-clause-given : goal.returns-in-Ok-clause-given
+returns-in-Ok-clause-given g c = λ s gs each item.
+    let j = c.args.self.now in
+    let admits = g.P.Admit.admits j.policy in
+    let values = map value_of c.as_slice.result.now in
+    let reading = reading_within (Some j.limit) s (is_finished s (joined gs)) in
+    spelled_ok c.fate_of.result
+    (fate_of j.by_lines j.unicode admits c.args.segment.kind c.args.segment.bytes.now values)
+    (rule_of j.by_lines j.unicode j.limit admits s (is_finished s (joined gs)))
+    c.fate_of.ensures.given
+    (same_fate j.by_lines j.unicode admits c.args.segment.kind (kind_of s)
+    c.args.segment.bytes.now (bytes_of s) values reading item.kind item.bytes
+    (ap (map value_of) c.as_slice.ensures.value ∙ c.in-Ok.ensures.given s gs each item))

@@ -1,0 +1,133 @@
+-- What becomes of the segments of a stream, and of how many bytes.
+use Rattle.std.specs.Prelude.{ℕ, ◌≡◌, ◌≢◌, ◌+◌, ◌-◌, Bool, true, false, not, ◌==◌, ◌&&◌, if◌then◌else◌, List, [], ◌∷◌, length, get_or, Option, None, Some}
+use Rattle.esc_frame.specs.Segments.{Segment as Shape, AreSegments, IsCut, bytes_of, is_finished, joined}
+use Rattle.esc_segments.specs.declared.kind.SegmentKind.{SegmentKind}
+use Rattle.esc_segments.specs.declared.kind.SegmentKind.TheVariants as kinds
+use Rattle.esc_segments.specs.declared.item.Segment.{Segment as Item}
+use Rattle.esc_segments.specs.Items.{IsItem, kind_of}
+use Rattle.esc_account.specs.declared.account.Account.{Account}
+use Rattle.esc_account.specs.declared.fate.Fate.{Fate}
+use Rattle.esc_account.specs.declared.fate.Fate.TheVariants as fates
+use Rattle.esc_account.specs.declared.sums.Sums.{Sums}
+
+-- what becomes of a segment by itself, finished or not
+abbrev pub Rule : Type 0
+Rule = Shape → Bool → Fate
+
+-- ---- sums
+
+abbrev pub nothing : Sums
+nothing = record {
+  passed = 0;
+  respelled = 0;
+  shown = 0;
+  replaced = 0;
+  left_out = 0;
+  swallowed = 0;
+  overwritten = 0;
+}
+
+-- so many more have this fate
+abbrev pub added : Fate → ℕ → Sums → Sums
+added fates.Passed n x = record x { passed = x.passed + n }
+added fates.Respelled n x = record x { respelled = x.respelled + n }
+added fates.Shown n x = record x { shown = x.shown + n }
+added fates.Replaced n x = record x { replaced = x.replaced + n }
+added fates.LeftOut n x = record x { left_out = x.left_out + n }
+added fates.Swallowed n x = record x { swallowed = x.swallowed + n }
+added fates.Overwritten n x = record x { overwritten = x.overwritten + n }
+
+abbrev pub total : Sums → ℕ
+total x = x.passed + (x.respelled + (x.shown + (x.replaced + (x.left_out + (x.swallowed
+    + x.overwritten)))))
+
+-- ---- strings and their terminators
+
+-- ESC \
+abbrev pub is_end : List ℕ → Bool
+is_end (a ∷ b ∷ []) = (a == 0x1b) && (b == 0x5c)
+is_end _ = false
+
+-- BEL comes last
+abbrev pub ends_in_bell : List ℕ → Bool
+ends_in_bell bytes = get_or bytes (length bytes - 1) 0 == 0x07
+
+-- a string that a terminator may end: one that BEL ends has its end already
+abbrev pub awaits_terminator : SegmentKind → List ℕ → Bool
+awaits_terminator kinds.Osc bytes = not (ends_in_bell bytes)
+awaits_terminator kinds.Dcs bytes = true
+awaits_terminator kinds.Apc bytes = true
+awaits_terminator kinds.Ignored bytes = true
+awaits_terminator _ bytes = false
+
+-- 9C, C2 9C or ESC \
+abbrev pub is_terminator : SegmentKind → List ℕ → Bool
+is_terminator kinds.Terminator bytes = true
+is_terminator kinds.Escape bytes = is_end bytes
+is_terminator _ bytes = false
+
+-- What a string's terminator becomes: in the output `ESC \` ends the string.
+abbrev pub end_fate : Fate → List ℕ → Fate
+end_fate fates.Passed bytes = if is_end bytes then fates.Passed else fates.Respelled
+end_fate f bytes = f
+
+-- what a segment becomes after a string of this fate, where there is one: a terminator goes the way
+-- of its string
+abbrev pub fate_after : Option Fate → SegmentKind → List ℕ → Fate → Fate
+fate_after None k bytes own = own
+fate_after (Some f) k bytes own = if is_terminator k bytes then end_fate f bytes else own
+
+-- what a terminator goes by that comes directly after the segment
+abbrev pub carried : SegmentKind → List ℕ → Fate → Option Fate
+carried k bytes f = if awaits_terminator k bytes then Some f else None
+
+-- ---- accounts
+
+-- of no byte
+abbrev pub begun : Account
+begun = record { sums = nothing; string = None }
+
+-- after a segment of this kind and these bytes, which by itself becomes this
+abbrev pub entered_as : Account → SegmentKind → List ℕ → Fate → Account
+entered_as x k bytes own = record {
+  sums = added (fate_after x.string k bytes own) (length bytes) x.sums;
+  string = carried k bytes (fate_after x.string k bytes own);
+}
+
+-- after a segment, finished or not
+abbrev pub step : Rule → Account → Shape → Bool → Account
+step r x g finished = entered_as x (kind_of g) (bytes_of g) (r g finished)
+
+-- after segments, one after another: each is finished where what comes after it finishes it
+abbrev pub run : Rule → Account → List Shape → Account
+run r x [] = x
+run r x (g ∷ gs) = run r (step r x g (is_finished g (joined gs))) gs
+
+-- the account of a stream, by its one cut
+abbrev pub IsAccount : Rule → List ℕ → Account → Type 0
+IsAccount r s x = (gs : List Shape) × IsCut s gs × (x ≡ run r begun gs)
+
+-- these bytes, which go on where no segment is unfinished, make y of x
+abbrev pub GoesOn : Rule → Account → List ℕ → Account → Type 0
+GoesOn r x b y = (hs : List Shape) → IsCut b hs → y ≡ run r x hs
+
+-- the item, whatever segment of a cut it is, makes y of x
+abbrev pub Enters : Rule → Account → Item → Account → Type 0
+Enters r x item y = (g : Shape) (gs : List Shape) → AreSegments (g ∷ gs)
+    → IsItem item g (joined gs) → y ≡ step r x g (is_finished g (joined gs))
+
+-- ---- lines, each a stream of its own
+
+-- so many bytes are in the output as they came
+abbrev pub all_passed : ℕ → Account → Account
+all_passed n x = record { sums = added fates.Passed n x.sums; string = None }
+
+-- where a line begins, no string came before
+abbrev pub line_begun : Account → Account
+line_begun x = record x { string = None }
+
+-- A line, of which this was written, makes y of x: where it was written as it came all of it
+-- passed, and else its segments tell.
+pub record LineEnters (r : Rule) (x : Account) (line written : List ℕ) (y : Account) : Type 0 where
+  pub same : written ≡ line → y ≡ all_passed (length line) x
+  pub other : written ≢ line → (gs : List Shape) → IsCut line gs → y ≡ run r (line_begun x) gs

@@ -1,0 +1,4 @@
+pub mod Accounts
+pub mod Entries
+pub mod Rules
+pub mod Judges

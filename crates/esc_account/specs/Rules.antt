@@ -1,0 +1,91 @@
+-- What becomes of a segment where a policy says which values pass: its own values tell it.
+use Rattle.std.specs.Prelude.{ℕ, ◌≡◌, ◌⊎◌, ◌-◌, Bool, true, false, not, ◌&&◌, ◌||◌, if◌then◌else◌, List, [], ◌∷◌, ◌++◌, length, take, drop, bytes_eq, Some}
+use Rattle.std.specs.List.{list_all, list_any}
+use Rattle.esc_visible.specs.Characters.{is_deceiving}
+use Rattle.esc_frame.specs.Segments.{Segment as Shape, bytes_of}
+use Rattle.esc_segments.specs.declared.kind.SegmentKind.{SegmentKind}
+use Rattle.esc_segments.specs.declared.kind.SegmentKind.TheVariants as kinds
+use Rattle.esc_segments.specs.Items.{kind_of}
+use Rattle.esc_actions.specs.Readings.{reading_within}
+use Rattle.esc_actions.specs.Texts.{list_text}
+use Rattle.esc_actions.specs.Values.{Value, print, control}
+use Rattle.esc_filter.specs.Passing.{is_line_feed, passes}
+use Rattle.esc_filter.specs.declared.unicode.Unicode.{Unicode}
+use Rattle.esc_filter.specs.declared.unicode.Unicode.TheVariants.{Drop, Keep, Show}
+use Rattle.esc_account.specs.Accounts.{is_end}
+use Rattle.esc_account.specs.declared.fate.Fate.{Fate}
+use Rattle.esc_account.specs.declared.fate.Fate.TheVariants as fates
+
+-- a character that deceives
+abbrev pub deceives : {A : Type 0} → Value A → Bool
+deceives (print c) = is_deceiving c
+deceives _ = false
+
+-- nothing is written of it, though it passes
+abbrev pub is_dropped : {A : Type 0} → Unicode → Value A → Bool
+is_dropped Drop v = deceives v
+is_dropped Show v = false
+is_dropped Keep v = false
+
+-- its number is written
+abbrev pub is_shown : {A : Type 0} → Unicode → Value A → Bool
+is_shown Show v = deceives v
+is_shown Drop v = false
+is_shown Keep v = false
+
+-- Something is written of it. Where lines are streams of their own, each is written with its line
+-- feed, whatever the policy says.
+abbrev pub is_written : {A : Type 0} → Bool → Unicode → (Value A → Bool) → Value A → Bool
+is_written by_lines u admits v =
+    (by_lines && is_line_feed v) || (passes admits v && not (is_dropped u v))
+
+-- a character or a control by itself, and no sequence or string
+abbrev pub is_lone : SegmentKind → Bool
+is_lone kinds.Character = true
+is_lone kinds.Broken = true
+is_lone kinds.Stray = true
+is_lone kinds.Control = true
+is_lone _ = false
+
+abbrev pub is_control : {A : Type 0} → Value A → Bool
+is_control (control c) = true
+is_control _ = false
+
+-- what the segment itself means, and no control that comes within a sequence or an opener
+abbrev pub is_own : {A : Type 0} → SegmentKind → Value A → Bool
+is_own k v = is_lone k || not (is_control v)
+
+-- no character: the replacement character stands for it
+abbrev pub is_replaced : SegmentKind → Bool
+is_replaced kinds.Broken = true
+is_replaced kinds.Stray = true
+is_replaced _ = false
+
+-- The text is these bytes, or these and the `ESC \` that ends a string.
+abbrev pub is_spelled : List ℕ → List ℕ → Bool
+is_spelled bytes text = bytes_eq text bytes
+    || (is_end (drop (length text - 2) text) && bytes_eq (take (length text - 2) text) bytes)
+
+-- the same as a fact
+abbrev pub IsAsItCame : List ℕ → List ℕ → Type 0
+IsAsItCame bytes text = (text ≡ bytes) ⊎ (text ≡ bytes ++ 0x1b ∷ 0x5c ∷ [])
+
+-- what becomes of bytes that are written as this text
+abbrev pub spelling_of : List ℕ → List ℕ → Fate
+spelling_of bytes text = if is_spelled bytes text then fates.Passed else fates.Respelled
+
+-- What becomes of a segment of this kind, these bytes and these values. One that means nothing of
+-- its own is swallowed; and one of which any value is not written is left out whole.
+abbrev pub fate_of : {A : Type 0} → Bool → Unicode → (Value A → Bool) → SegmentKind → List ℕ
+    → List (Value A) → Fate
+fate_of by_lines u admits k bytes vs =
+    if not (list_any (is_own k) vs) then fates.Swallowed
+    else if not (list_all (is_written by_lines u admits) vs) then fates.LeftOut
+    else if is_replaced k then fates.Replaced
+    else if list_any (is_shown u) vs then fates.Shown
+    else spelling_of bytes (list_text vs)
+
+-- what becomes of a segment: by its reading under the limit
+abbrev pub rule_of : {A : Type 0} → Bool → Unicode → ℕ → (Value A → Bool) → Shape → Bool → Fate
+rule_of by_lines u limit admits g finished =
+    fate_of by_lines u admits (kind_of g) (bytes_of g) (reading_within (Some limit) g finished)

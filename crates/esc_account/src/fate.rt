@@ -1,0 +1,21 @@
+//! What becomes of bytes.
+#![tactic(auto)]
+
+/// What becomes of the bytes of a segment.
+#[derive(Clone, Copy, PartialEq, Eq, Debug)]
+pub enum Fate {
+    /// They are in the output as they came.
+    Passed,
+    /// What they mean is in the output, in another spelling.
+    Respelled,
+    /// They are in the output as visible text that stands for them.
+    Shown,
+    /// They are no character, and the replacement character is in the output for them.
+    Replaced,
+    /// They mean something that does not pass, and are not in the output.
+    LeftOut,
+    /// They mean nothing, and are not in the output.
+    Swallowed,
+    /// They passed, and other text took their place on the line.
+    Overwritten,
+}

@@ -1,0 +1,31 @@
+//! The account of a filter: what became of every byte of a stream.
+//!
+//! A stream is cut into segments, as a parser cuts it, and of each a [`Judge`] says what becomes of
+//! it: a [`PolicyJudge`] says what a filter does. Its bytes are counted by their [`Fate`], so that
+//! each byte of the input is in the output as it came, or in one of the other sums. An [`Account`]
+//! goes on line by line, or from one place without an unfinished segment to the next. A line that
+//! was written as it came passed, and is not cut.
+//!
+//! ```
+//! let judge = PolicyJudge::by_lines(alloc, 65_536, Policy::Color, Unicode::Keep);
+//! let line = b"a\x1b]0;title\x1b\\b\n";
+//! let account = Account::new().line_entered(&judge, line, b"ab\n")?;
+//! account.sums.passed       // 3
+//! account.sums.left_out     // 11: the title and its terminator
+//! ```
+#![tactic(auto)]
+
+pub mod account;
+pub mod fate;
+pub mod judge;
+pub mod laws;
+pub mod policy_judge;
+mod reading;
+pub mod sums;
+mod terminator;
+
+pub use account::Account;
+pub use fate::Fate;
+pub use judge::Judge;
+pub use policy_judge::PolicyJudge;
+pub use sums::Sums;
