@@ -1,4 +1,5 @@
 pub mod Rows
+pub mod Placing
 pub mod Texts
 pub mod Runs
 pub mod Streams

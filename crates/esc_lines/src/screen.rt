@@ -140,11 +140,11 @@ impl<A: Allocator + Copy> Screen<A> {
             character: c,
             look: self.pen,
         };
-        if let Some(row) = self.rows.get_mut(self.row) {
-            row.put(column, glyph)?;
-        }
         self.column = column + 1;
-        Ok(())
+        match self.rows.get_mut(self.row) {
+            Some(row) => row.put(column, glyph),
+            None => Ok(()),
+        }
     }
 
     fn print(&mut self, c: char) -> Result<(), AllocError>
@@ -219,10 +219,10 @@ impl<A: Allocator + Copy> Screen<A> {
             (window_of self.old)) self.new) }
         ensures refused { OnErr result (Refused A) }
     {
-        if let Some(row) = self.rows.get_mut(self.row) {
-            row.put_text(self.column, text, &self.pen)?;
+        match self.rows.get_mut(self.row) {
+            Some(row) => row.put_text(self.column, text, &self.pen),
+            None => Ok(()),
         }
-        Ok(())
     }
 
     // Prints characters of ASCII, one by one.
@@ -320,10 +320,10 @@ impl<A: Allocator + Copy> Screen<A> {
         ensures ok { OnOk result (Becomes self.old [] (left_erased (window_of self.old)) self.new) }
         ensures refused { OnErr result (Refused A) }
     {
-        if let Some(row) = self.rows.get_mut(self.row) {
-            row.erase_left(self.column)?;
+        match self.rows.get_mut(self.row) {
+            Some(row) => row.erase_left(self.column),
+            None => Ok(()),
         }
-        Ok(())
     }
 
     fn erase_row(&mut self)
@@ -340,10 +340,10 @@ impl<A: Allocator + Copy> Screen<A> {
             self.new) }
         ensures refused { OnErr result (Refused A) }
     {
-        if let Some(row) = self.rows.get_mut(self.row) {
-            row.erase_cells(self.column, count)?;
+        match self.rows.get_mut(self.row) {
+            Some(row) => row.erase_cells(self.column, count),
+            None => Ok(()),
         }
-        Ok(())
     }
 
     fn delete_cells(&mut self, count: usize) -> Result<(), AllocError>
@@ -352,10 +352,10 @@ impl<A: Allocator + Copy> Screen<A> {
             (window_of self.old)) self.new) }
         ensures refused { OnErr result (Refused A) }
     {
-        if let Some(row) = self.rows.get_mut(self.row) {
-            row.delete_cells(self.column, count)?;
+        match self.rows.get_mut(self.row) {
+            Some(row) => row.delete_cells(self.column, count),
+            None => Ok(()),
         }
-        Ok(())
     }
 
     fn insert_cells(&mut self, count: usize) -> Result<(), AllocError>
@@ -364,10 +364,10 @@ impl<A: Allocator + Copy> Screen<A> {
             (window_of self.old)) self.new) }
         ensures refused { OnErr result (Refused A) }
     {
-        if let Some(row) = self.rows.get_mut(self.row) {
-            row.insert_cells(self.column, count, self.max_columns)?;
+        match self.rows.get_mut(self.row) {
+            Some(row) => row.insert_cells(self.column, count, self.max_columns),
+            None => Ok(()),
         }
-        Ok(())
     }
 
     // Makes all cells of the rows from one to before another blank.

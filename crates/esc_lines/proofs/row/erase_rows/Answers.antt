@@ -1,6 +1,6 @@
 use Rattle.std.proofs.Common.{◌<◌, [], length, get_or, set, ap, sym, ◌∙◌, arith, rules}
 use Rattle.esc_lines.specs.Rows.{lines_blanked, with_cells}
-use Rattle.esc_lines.proofs.Rows.{change_more}
+use Rattle.esc_lines.proofs.Rows.{blanked_all, change_more, ends}
 use Rattle.esc_lines.proofs.row.erase_rows.Goals as goal
 
 pub loop-i-preserved : goal.loop-i-preserved
@@ -18,3 +18,11 @@ loop-i-preserved g c =
           ∙ change_more (with_cells []) m i x xs from less
           (c.index-rows-i.is ∙ ap (λ ys. get_or ys i x) c.loop-i.invariant.1),
     )
+
+pub returns : goal.returns
+returns g c =
+    c.loop-i.invariant.1
+    ∙ blanked_all (with_cells []) c.args.from c.args.to c.loop-i.i c.args.rows.now
+    c.loop-i.auto.i (ends c.args.from c.args.to (length c.args.rows.now) c.min-end.result c.loop-i.i
+    c.min-end.ensures c.loop-i-test.false c.loop-i.auto.i-end
+    c.requires)

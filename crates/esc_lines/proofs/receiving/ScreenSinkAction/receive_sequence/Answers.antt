@@ -1,4 +1,5 @@
 use Rattle.std.proofs.Common.{ap, subst, sym, ◌∙◌, rules}
+use Rattle.std.proofs.lemmas.Bool.{true≢false}
 use Rattle.std.proofs.lemmas.Result.{err_from_is_err_and}
 use Rattle.esc_lines.specs.Fed.{Adds}
 use Rattle.esc_lines.specs.Steps.{function_step}
@@ -26,6 +27,6 @@ returns-clause-given g c = record {
       (c.is_unspecified.ensures c.if-not-is_unspecified.false)
       (subst (λ s. Adds p s c.take.new.self) (c.of_function.ensures
       ∙ ap (function_step p.pen) c.of_params-function.ensures) c.in_ok-take.ensures.ok);
-  left = search rules;
-  refused = search rules;
+  left = λ e. absurd (true≢false e);
+  refused = tt;
 }
