@@ -1,4 +1,5 @@
-use Rattle.std.proofs.Common.{◌∙◌, inl, rules}
+use Rattle.std.proofs.Common.{◌∙◌, inl}
+use Rattle.std.proofs.lemmas.Bool.{true≢false}
 use Rattle.esc_values.specs.Clear.{parts_of}
 use Rattle.esc_filter.proofs.Sequences.{command_passes, command_refused, command_stays, left_alone}
 use Rattle.esc_filter.proofs.passing.Passing.ask_command.Goals as goal
@@ -19,8 +20,8 @@ pub returns-in-Some-false : goal.returns-in-Some-false
 returns-in-Some-false g c = record {
   taken = λ _. command_stays g.P.Admit.admits (parts_of c.args.text.now) c.args.self.now
       (c.in-Some-false.ensures ∙ c.in-Some-false.field-0-test);
-  left = search rules;
-  refused = search rules;
+  left = λ e. absurd (true≢false e);
+  refused = tt;
 }
 
 pub receive_command-requires : goal.receive_command-requires

@@ -1,4 +1,4 @@
-use Rattle.std.proofs.Common.{rules}
+use Rattle.std.proofs.lemmas.Bool.{true≢false}
 use Rattle.esc_values.specs.Clear.{parts_of}
 use Rattle.esc_osc.specs.Reading.{meaning as command_meant}
 use Rattle.esc_filter.proofs.Commands.{other_begins}
@@ -13,6 +13,6 @@ returns-then-known-clause-given g c = record {
       (c.known-known.ensures.no_commands c.if-known.true (command_meant ps)
       (other_begins g.row.A.Denot c.args.text.now
       (c.has_other_code.ensures c.if-has_other_code.true)));
-  left = search rules;
-  refused = search rules;
+  left = λ e. absurd (true≢false e);
+  refused = tt;
 }

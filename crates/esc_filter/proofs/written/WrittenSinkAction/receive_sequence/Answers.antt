@@ -1,4 +1,5 @@
-use Rattle.std.proofs.Common.{◌++◌, Ok, Err, true, ap, sym, ◌∙◌, rules}
+use Rattle.std.proofs.Common.{◌++◌, Ok, Err, true, ap, sym, ◌∙◌}
+use Rattle.std.proofs.lemmas.Bool.{true≢false}
 use Rattle.std.specs.declared.alloc.AllocError.{AllocError}
 use Rattle.esc_sequences.specs.Csis.{csi_of}
 use Rattle.esc_normal.proofs.Spelling.{plain_given, plain_refused}
@@ -21,14 +22,14 @@ returns-in-Ok-clause-given g c = record {
         c.in-Ok.ensures.ok.0 ∙ ap (λ t. p.spell.text ++ t) (sym (c.in-Some.ensures.text more)),
         c.in-Ok.ensures.ok.1,
       ));
-  left = search rules;
-  refused = search rules;
+  left = λ e. absurd (true≢false e);
+  refused = tt;
 }
 
 pub returns-in-Err-clause-given : goal.returns-in-Err-clause-given
 returns-in-Err-clause-given g c = record {
-  taken = search rules;
-  left = search rules;
+  taken = tt;
+  left = tt;
   refused =
       let p = c.args.self.now in
       let more = c.args.parameters_truncated in
