@@ -1,4 +1,4 @@
-use Rattle.std.proofs.Common.{Ok, ap, subst, sym}
+use Rattle.std.proofs.Common.{Ok, subst, sym}
 use Rattle.esc_parse.proofs.Collecting.{list_refused, lists_found}
 use Rattle.esc_parse.specs.Calls.{FindsFirstList}
 use Rattle.esc_parse.proofs.parser.Parser.parse_first_as_vec.Goals as goal
