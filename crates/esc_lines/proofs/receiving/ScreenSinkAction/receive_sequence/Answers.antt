@@ -1,6 +1,5 @@
-use Rattle.std.proofs.Common.{ap, subst, sym, ◌∙◌, rules}
+use Rattle.std.proofs.Common.{ap, subst, ◌∙◌, rules}
 use Rattle.std.proofs.lemmas.Bool.{true≢false}
-use Rattle.std.proofs.lemmas.Result.{err_from_is_err_and}
 use Rattle.esc_lines.specs.Fed.{Adds}
 use Rattle.esc_lines.specs.Steps.{function_step}
 use Rattle.esc_lines.proofs.Runs.{err_any, sequence_refused, sequence_taken}
