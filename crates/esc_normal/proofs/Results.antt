@@ -1,5 +1,5 @@
 -- Results, and bytes that were read and written.
-use Rattle.std.proofs.Common.{◌≡◌, ◌↔◌, Bool, true, false, IsTrue, ◌≤◌, ◌<◌, ◌+◌, ℕ, List, [], ◌++◌, Option, refl, sym, subst, ap, ◌∙◌, append-nil, append_assoc, arith, length, length-append, take, Ok, Err, IsErrOf, OnOk, Result, ◌||◌, is_err}
+use Rattle.std.proofs.Common.{◌≡◌, ◌↔◌, Bool, true, false, IsTrue, ◌≤◌, ◌<◌, ◌+◌, ℕ, List, [], ◌++◌, Option, refl, sym, subst, ap, ◌∙◌, append-nil, append_assoc, arith, length, length-append, take, Ok, Err, IfErr, IsErrOf, OnOk, Result, ◌||◌, is_err}
 use Rattle.std.proofs.lemmas.Bool.{true≢false}
 use Rattle.std.proofs.KnownBytes.{Appends-nil, Appends-trans, Consumes-trans}
 use Rattle.std.specs.Io.KnownBytes.{Appends, Consumes}
@@ -94,6 +94,13 @@ is_itself T fault.Endless = refl
 pub other : {T : Type 0} (r : Result T FilterError) (e : FilterError) → IsErrOf r e
     → is_fault e r ≡ false → ⊥
 other {T} r e h not = true≢false (sym (ap (is_fault e) h ∙ is_itself T e) ∙ not)
+
+-- nor is one whose error is another fault
+pub no_other : {T : Type 0} (r : Result T FilterError) (e f : FilterError) → IfErr r (λ x. x ≡ f)
+    → IsErrOf r e → is_fault {T = T} e (Err f) ≡ false → ⊥
+no_other (Ok t) e f is h not = absurd cc
+no_other {T} (Err x) e f is h not =
+    other (Err x) e h (ap (λ y. is_fault {T = T} e (Err y)) is ∙ not)
 
 -- what had not failed, has not after a call that did not
 pub stays_sound : {T E : Type 0} (r : Result T E) (t : T) (old new : Bool) → new ≡ old || is_err r

@@ -1,4 +1,5 @@
-use Rattle.std.proofs.Common.{◌++◌, ap, sym, ◌∙◌, rules}
+use Rattle.std.proofs.Common.{◌++◌, ap, sym, ◌∙◌}
+use Rattle.std.proofs.lemmas.Bool.{true≢false}
 use Rattle.esc_values.specs.Clear.{framed, parts_of}
 use Rattle.esc_normal.proofs.Spelling.{command_given, command_refused}
 use Rattle.esc_normal.proofs.spell.SpellSinkAction.receive_command.Goals as goal
@@ -12,14 +13,14 @@ returns-in-Ok-clause-given g c = record {
             ∙ ap (λ t. text ++ t) (sym c.in-Some.ensures.written),
         c.in-Ok.ensures.ok.1,
       );
-  left = search rules;
-  refused = search rules;
+  left = λ e. absurd (true≢false e);
+  refused = tt;
 }
 
 pub returns-in-Err-clause-given : goal.returns-in-Err-clause-given
 returns-in-Err-clause-given g c = record {
-  taken = search rules;
-  left = search rules;
+  taken = tt;
+  left = tt;
   refused =
       command_refused ⊥ c.args.self.now _ (parts_of c.args.text.now) c.in-Err.ensures.refused;
 }

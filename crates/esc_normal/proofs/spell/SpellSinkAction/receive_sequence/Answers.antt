@@ -1,4 +1,5 @@
-use Rattle.std.proofs.Common.{◌++◌, ap, sym, ◌∙◌, rules}
+use Rattle.std.proofs.Common.{◌++◌, ap, sym, ◌∙◌}
+use Rattle.std.proofs.lemmas.Bool.{true≢false}
 use Rattle.esc_normal.proofs.Spelling.{plain_given, plain_refused}
 use Rattle.esc_normal.proofs.spell.SpellSinkAction.receive_sequence.Goals as goal
 
@@ -12,14 +13,14 @@ returns-in-Ok-clause-given g c = record {
             (sym (c.in-Some.ensures.text more)),
         c.in-Ok.ensures.ok.1,
       );
-  left = search rules;
-  refused = search rules;
+  left = λ e. absurd (true≢false e);
+  refused = tt;
 }
 
 pub returns-in-Err-clause-given : goal.returns-in-Err-clause-given
 returns-in-Err-clause-given g c = record {
-  taken = search rules;
-  left = search rules;
+  taken = tt;
+  left = tt;
   refused =
       let more = c.args.parameters_truncated in
       plain_refused ⊥ c.args.self.now _ c.args.params.now more c.args.control
@@ -33,14 +34,14 @@ returns-in-Ok-write_sequence-clause-given g c = record {
       plain_given c.args.self.now _ c.args.params.now c.args.parameters_truncated c.args.control
       (c.is_plain.ensures c.if-not-is_plain.false)
       c.in-Ok-write_sequence.ensures.ok;
-  left = search rules;
-  refused = search rules;
+  left = λ e. absurd (true≢false e);
+  refused = tt;
 }
 
 pub returns-in-Err-write_sequence-clause-given : goal.returns-in-Err-write_sequence-clause-given
 returns-in-Err-write_sequence-clause-given g c = record {
-  taken = search rules;
-  left = search rules;
+  taken = tt;
+  left = tt;
   refused =
       plain_refused ⊥ c.args.self.now _ c.args.params.now c.args.parameters_truncated c.args.control
       (c.is_plain.ensures c.if-not-is_plain.false) c.in-Err-write_sequence.ensures.refused;
