@@ -351,6 +351,18 @@ impl<A: Allocator> Sink<Action<A>> for Page<A> {
     fn drops_images(&self) -> bool {
         true
     }
+
+    // What follows is as by default, and written out: at the type of an action, a method that is
+    // taken over from the trait costs a proof some seconds more.
+    #[inline]
+    fn receive_command(&mut self, _text: &[u8]) -> Result<bool, AllocError> {
+        Ok(false)
+    }
+
+    #[inline]
+    fn drops_sequences(&self, _control: u8) -> bool {
+        false
+    }
 }
 
 // The same as one of all renditions.

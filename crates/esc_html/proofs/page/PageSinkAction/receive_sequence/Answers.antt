@@ -1,4 +1,5 @@
 use Rattle.std.proofs.Common.{rules}
+use Rattle.std.proofs.lemmas.Bool.{true≢false}
 use Rattle.esc_html.proofs.Sequences.{on_err, rendition_refused, rendition_taken, sequence_refused, sequence_taken}
 use Rattle.esc_html.proofs.page.PageSinkAction.receive_sequence.Goals as goal
 
@@ -7,8 +8,8 @@ returns-in-Some-clause-given g c = record {
   taken = λ yes.
       rendition_taken c.args.self.now _ _ c.in-Some.rendition c.in-Some.ensures
       c.in_ok-take_rendition.ensures.ok;
-  left = search rules;
-  refused = search rules;
+  left = λ e. absurd (true≢false e);
+  refused = tt;
 }
 
 pub returns-in_err-take_rendition-clause-given : goal.returns-in_err-take_rendition-clause-given
@@ -26,8 +27,8 @@ returns-clause-given g c = record {
       sequence_taken c.args.self.now _ _ c.args.params.now c.args.parameters_truncated
       c.args.control
       (c.is_unspecified.ensures c.if-not-is_unspecified.false) c.in_ok-take_params.ensures.ok;
-  left = search rules;
-  refused = search rules;
+  left = λ e. absurd (true≢false e);
+  refused = tt;
 }
 
 pub returns-in_err-take_params-clause-given : goal.returns-in_err-take_params-clause-given
