@@ -165,8 +165,10 @@ impl VTActor for Images {
 
     #[inline]
     fn apc_dispatch(&mut self, text: &[u8]) -> Result<(), AllocError> {
-        if let Some(image) = KittyImage::parse_apc(self.alloc, text)? {
-            self.add(payload_size(&image));
+        match &KittyImage::parse_apc(self.alloc, text) {
+            Ok(Some(image)) => self.add(payload_size(image)),
+            Ok(None) => {}
+            Err(_) => return Err(AllocError),
         }
         Ok(())
     }

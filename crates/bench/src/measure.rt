@@ -10,7 +10,7 @@ use crate::tally::Tally;
 use esc_frame::parser::VTParser;
 use escape_stream::{Action, Parser, Watched, encode, normalise, parse_borrowed};
 use reusing::Reusing;
-use std::alloc::Global;
+use std::alloc::{Allocator, Global};
 use std::fmt;
 
 /// What can be measured.
@@ -159,7 +159,11 @@ fn borrowed(alloc: Global, bytes: &[u8]) -> Option<Counted> {
 
 fn reusing(alloc: Global, bytes: &[u8]) -> Option<Counted> {
     let memory = Reusing::new(alloc);
-    let (ending, tally) = Parser::new(&memory).parse_into(bytes, Tally::new());
+    parse_over(&memory, bytes)
+}
+
+fn parse_over<A: Allocator + Copy>(memory: A, bytes: &[u8]) -> Option<Counted> {
+    let (ending, tally) = Parser::new(memory).parse_into(bytes, Tally::new());
     ended(ending, tally.counted())
 }
 
