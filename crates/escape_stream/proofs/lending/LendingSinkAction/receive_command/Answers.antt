@@ -1,4 +1,5 @@
-use Rattle.std.proofs.Common.{◌≡◌, refl, rules}
+use Rattle.std.proofs.Common.{◌≡◌, refl}
+use Rattle.std.proofs.lemmas.Bool.{true≢false}
 use Rattle.esc_values.specs.Clear.{parts_of}
 use Rattle.esc_actions.specs.Values.{osc, value_of}
 use Rattle.esc_actions.specs.declared.action.Action.TheVariants as action
@@ -24,14 +25,14 @@ returns-in-Ok-clause-given g c = record {
       (action.OperatingSystemCommand (command_meant (parts_of c.args.text.now)))
       (Command c.args.text) refl refl refl _
       c.nothing_begun.ensures c.in-Ok.ensures.given;
-  left = search rules;
-  refused = search rules;
+  left = λ e. absurd (true≢false e);
+  refused = tt;
 }
 
 pub returns-in-Err-clause-given : goal.returns-in-Err-clause-given
 returns-in-Err-clause-given g c = record {
-  taken = search rules;
-  left = search rules;
+  taken = tt;
+  left = tt;
   refused =
       one_refused g.S.BorrowingSink.takes (λ a ps. value_of a ≡ osc (command_meant ps))
       c.args.self.now

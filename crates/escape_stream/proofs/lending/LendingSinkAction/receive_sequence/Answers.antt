@@ -1,4 +1,5 @@
-use Rattle.std.proofs.Common.{◌≡◌, refl, rules}
+use Rattle.std.proofs.Common.{◌≡◌, refl}
+use Rattle.std.proofs.lemmas.Bool.{true≢false}
 use Rattle.esc_sequences.specs.Csis.{unspecified}
 use Rattle.esc_sequences.specs.declared.csi.CSI.TheVariants as csi_variant
 use Rattle.esc_actions.specs.Values.{csi, value_of}
@@ -35,14 +36,14 @@ returns-in-Ok-clause-given g c = record {
       (Sequence c.args.params c.args.parameters_truncated c.args.control)
       (c.has_no_name.ensures c.if-not-has_no_name.false) refl refl _
       c.nothing_begun.ensures c.in-Ok.ensures.given;
-  left = search rules;
-  refused = search rules;
+  left = λ e. absurd (true≢false e);
+  refused = tt;
 }
 
 pub returns-in-Err-clause-given : goal.returns-in-Err-clause-given
 returns-in-Err-clause-given g c = record {
-  taken = search rules;
-  left = search rules;
+  taken = tt;
+  left = tt;
   refused =
       one_refused g.S.BorrowingSink.takes (λ a v. value_of a ≡ csi v) c.args.self.now
       c.nothing_begun.ensures _
