@@ -1,7 +1,7 @@
 //! How often a filter asks its policy.
 use crate::reading::Reading;
 use esc_filter::{Admit, filter_stream};
-use escape_stream::{Action, Watched};
+use escape_stream::{Action, Esc, Watched};
 use std::alloc::Global;
 use std::cell::Cell;
 
@@ -31,16 +31,32 @@ impl Expecting<'_> {
             asked,
             differs,
         } = self.progress.get();
-        let is_due = match self.actions.get(done) {
-            Some(due) => due == action,
-            None => false,
+        let Some(due) = self.actions.get(done) else {
+            let differs = differs || !is_of_the_cursor(action);
+            return self.progress.set(Progress {
+                done,
+                asked,
+                differs,
+            });
         };
+        let is_due = due == action;
         self.progress.set(Progress {
             done: done.saturating_add(usize::from(is_done)),
             asked: asked.saturating_add(usize::from(is_asked)),
             differs: differs || !is_due,
         });
     }
+}
+
+// Whether it saves or restores the cursor: what a policy may be asked of at the end.
+fn is_of_the_cursor(action: &Action) -> bool {
+    matches!(
+        action,
+        Action::Esc(Esc::Unspecified {
+            intermediate: None,
+            control: b'7' | b'8',
+        })
+    )
 }
 
 impl Admit<Global> for Expecting<'_> {
@@ -58,7 +74,7 @@ impl Admit<Global> for Expecting<'_> {
 
 /// Whether a policy that admits all is asked of each action that can be written by itself, and
 /// shown each other one; a policy that admits none is asked of the same, and shown each: once, in
-/// order.
+/// order. At the end it may be asked whether the cursor may be saved and restored.
 pub fn is_asked_once(alloc: Global, stream: &[u8], limit: usize) -> bool {
     match &Reading::Whole.read(alloc, stream) {
         Ok(actions) => are_asked_once(alloc, stream, limit, actions),

@@ -29,7 +29,9 @@ pub trait Admit<A: Allocator> {
     /// Whether the action may pass. It is asked of each action once, in order, but for the
     /// characters of a run that [`admits_text`](Admit::admits_text) lets through, and those of
     /// which [`admits_sequence`](Admit::admits_sequence) or
-    /// [`admits_command`](Admit::admits_command) knows it.
+    /// [`admits_command`](Admit::admits_command) knows it. At the end of a stream, and by lines of
+    /// a line, that leaves margins or something saved with the cursor, it is asked of DECSC and
+    /// DECRC, since these would give it back.
     fn admits(&self, action: &Action<A>) -> bool
         ensures { result ≡ admits self.now (value_of action.now) };
 
