@@ -1,3 +1,4 @@
 mod OtherWords
 pub mod Left
 mod Seen
+mod Chosen

@@ -1,4 +1,7 @@
 //! The groups of actions that the options name.
+ghost use Rattle.std.specs.Prelude.{◌≡◌, ◌<◌, ◌^◌, ◌/◌, false, true};
+ghost use Rattle.esc_filter.specs.Groups.{with_group};
+ghost use Rattle.escfilter.specs.Choices.{IsChanged, IsLinked, IsMoving, begun_by, groups_in, has_word, policy_named};
 
 use esc_actions::Action;
 use esc_filter::{Admit, Group, Groups, Known, Policy};
@@ -43,6 +46,12 @@ macro_rules! names_and_policies {
     };
 }
 
+macro_rules! groups_alone {
+    ($($group:ident, $name:literal, $words:literal);+ $(;)?) => {
+        [$(Group::$group),+]
+    };
+}
+
 macro_rules! rows {
     ($($group:ident, $name:literal, $words:literal);+ $(;)?) => {
         [$((Group::$group, $name, $words)),+]
@@ -58,6 +67,8 @@ pub const DENIED: &[&str] = groups!(names);
 // How many words of `ALLOWED` are policies.
 const POLICIES: u32 = 5;
 
+const GROUPS: [Group; 15] = groups!(groups_alone);
+
 static ROWS: [(Group, &str, &str); 15] = groups!(rows);
 
 /// What passes: what a policy admits, or where groups were added to it or taken away, these.
@@ -72,7 +83,9 @@ pub struct Choice<'a> {
 impl<'a> Choice<'a> {
     /// What passes besides, by the bits of the words in `ALLOWED`. Where a policy is among them, it
     /// is what it admits and the groups, and nothing of what was there.
-    pub fn and(self, words: u64) -> Choice<'a> {
+    pub fn and(self, words: u64) -> Choice<'a>
+        ensures { IsChanged (words / 2 ^ 5) true (begun_by (policy_named words) self.entry) result }
+    {
         let begun = match policy_of(words) {
             Some(policy) => Choice {
                 policy,
@@ -84,12 +97,16 @@ impl<'a> Choice<'a> {
     }
 
     /// What passes but these groups, by the bits of the words in `DENIED`.
-    pub fn without(self, words: u64) -> Choice<'a> {
+    pub fn without(self, words: u64) -> Choice<'a>
+        ensures { IsChanged words false self.entry result }
+    {
         self.with(words, false)
     }
 
     /// What passes, but of links those alone that lead to addresses of these schemes.
-    pub fn with_schemes(self, schemes: &'a str) -> Choice<'a> {
+    pub fn with_schemes(self, schemes: &'a str) -> Choice<'a>
+        ensures { IsLinked schemes.now self.entry result }
+    {
         Choice {
             policy: self.policy,
             groups: Some(self.all_groups().with_schemes(schemes)),
@@ -98,7 +115,9 @@ impl<'a> Choice<'a> {
 
     /// What passes, and what moves the cursor or erases, backspaces too: none of it is written
     /// itself, but what it leaves of the lines is.
-    pub fn with_movements(self) -> Choice<'a> {
+    pub fn with_movements(self) -> Choice<'a>
+        ensures { IsMoving self.entry result }
+    {
         let groups = self
             .all_groups()
             .and(Group::Controls)
@@ -111,7 +130,9 @@ impl<'a> Choice<'a> {
     }
 
     // The groups of what passes.
-    fn all_groups(self) -> Groups<'a> {
+    fn all_groups(self) -> Groups<'a>
+        ensures { result ≡ groups_in self.entry }
+    {
         match self.groups {
             Some(groups) => groups,
             None => Groups::of(self.policy),
@@ -119,13 +140,15 @@ impl<'a> Choice<'a> {
     }
 
     // What passes with these groups, or without them.
-    fn with(self, words: u64, passes: bool) -> Choice<'a> {
+    fn with(self, words: u64, passes: bool) -> Choice<'a>
+        ensures { IsChanged words passes self.entry result }
+    {
         if words == 0 {
             return self;
         }
         let mut groups = self.all_groups();
         let mut rest = words;
-        for (group, _, _) in &ROWS {
+        for group in &GROUPS {
             if rest % 2 == 1 {
                 groups = changed(groups, *group, passes);
             }
@@ -202,7 +225,9 @@ impl<'a, A: Allocator> Admit<A> for Choice<'a> {
 }
 
 // The groups with this one, or without it.
-fn changed(groups: Groups<'_>, group: Group, passes: bool) -> Groups<'_> {
+fn changed(groups: Groups<'_>, group: Group, passes: bool) -> Groups<'_>
+    ensures { result ≡ with_group groups.entry group passes }
+{
     if passes {
         groups.and(group)
     } else {
@@ -211,18 +236,28 @@ fn changed(groups: Groups<'_>, group: Group, passes: bool) -> Groups<'_> {
 }
 
 // The policy that admits most of those whose bits are among these.
-fn policy_of(words: u64) -> Option<Policy> {
-    if words & 0x10 != 0 {
+fn policy_of(words: u64) -> Option<Policy>
+    ensures { result ≡ policy_named words }
+{
+    if has_word(4, words) {
         Some(Policy::All)
-    } else if words & 0x08 != 0 {
+    } else if has_word(3, words) {
         Some(Policy::Screen)
-    } else if words & 0x06 != 0 {
+    } else if has_word(2, words) || has_word(1, words) {
         Some(Policy::Color)
-    } else if words & 0x01 != 0 {
+    } else if has_word(0, words) {
         Some(Policy::Text)
     } else {
         None
     }
+}
+
+// Whether the word of this number, from 0, is among those whose bits are set.
+fn has_word(at: u32, words: u64) -> bool
+    requires { at < 64 }
+    ensures { result ≡ has_word at words }
+{
+    (words >> at) % 2 == 1
 }
 
 /// The groups, a line each.

@@ -1,5 +1,5 @@
 //! Calls of `Noting`.
-use crate::scripted::{Scripted, scripted};
+use crate::scripted::{Scripted, with_errors};
 use command_line::Noting;
 use std::io;
 use std::io::{ErrorKind, Read, Write};
@@ -15,13 +15,13 @@ fn told(outcome: io::Result<usize>, inner: Noting<Scripted>) -> (Result<usize, E
 }
 
 fn read_by(errors: &'static [ErrorKind]) -> (Result<usize, ErrorKind>, usize) {
-    let mut reader = Noting::new(scripted(errors));
+    let mut reader = Noting::new(with_errors(errors));
     let outcome = reader.read(&mut [0u8; 4]);
     told(outcome, reader)
 }
 
 fn write_by(errors: &'static [ErrorKind]) -> (Result<usize, ErrorKind>, usize) {
-    let mut writer = Noting::new(scripted(errors));
+    let mut writer = Noting::new(with_errors(errors));
     let outcome = writer.write(b"ab");
     told(outcome, writer)
 }
@@ -51,7 +51,7 @@ fn a_call_that_ends_well_is_made_once(rt: HostRuntime) -> Result<(), Fail> {
 
 #[test]
 fn a_flush_is_passed_on(rt: HostRuntime) -> Result<(), Fail> {
-    let mut writer = Noting::new(scripted(&[ErrorKind::BrokenPipe]));
+    let mut writer = Noting::new(with_errors(&[ErrorKind::BrokenPipe]));
     let is_error = writer.flush().is_err();
     let is_closed = match writer.reason() {
         Some(reason) => reason.is_closed(),

@@ -15,7 +15,7 @@ pub struct Scripted {
 }
 
 /// One to which nothing came yet.
-pub fn scripted(errors: &'static [ErrorKind]) -> Scripted {
+pub fn with_errors(errors: &'static [ErrorKind]) -> Scripted {
     Scripted {
         errors,
         calls: 0,
