@@ -5,3 +5,6 @@ pub mod Places
 pub mod Ended
 pub mod Values
 pub mod Fates
+pub mod LineCounts
+pub mod SameBytes
+pub mod LinesRun

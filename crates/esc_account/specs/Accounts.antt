@@ -1,10 +1,11 @@
 -- What becomes of the segments of a stream, and of how many bytes.
-use Rattle.std.specs.Prelude.{ℕ, ◌≡◌, ◌≢◌, ◌+◌, ◌-◌, Bool, true, false, not, ◌==◌, ◌&&◌, if◌then◌else◌, List, [], ◌∷◌, length, get_or, Option, None, Some}
+use Rattle.std.specs.Prelude.{ℕ, ◌≡◌, ◌≢◌, ◌+◌, ◌-◌, ◌*◌, ◌<◌, ◌≤◌, ◌^◌, Bool, true, false, not, ◌==◌, ◌&&◌, if◌then◌else◌, List, [], ◌∷◌, length, get_or, Option, None, Some}
 use Rattle.esc_frame.specs.Segments.{Segment as Shape, AreSegments, IsCut, bytes_of, is_finished, joined}
 use Rattle.esc_segments.specs.declared.kind.SegmentKind.{SegmentKind}
 use Rattle.esc_segments.specs.declared.kind.SegmentKind.TheVariants as kinds
 use Rattle.esc_segments.specs.declared.item.Segment.{Segment as Item}
 use Rattle.esc_segments.specs.Items.{IsItem, kind_of}
+use Rattle.esc_filter.specs.Lines.{is_line_feed}
 use Rattle.esc_account.specs.declared.account.Account.{Account}
 use Rattle.esc_account.specs.declared.fate.Fate.{Fate}
 use Rattle.esc_account.specs.declared.fate.Fate.TheVariants as fates
@@ -83,15 +84,21 @@ carried k bytes f = if awaits_terminator k bytes then Some f else None
 
 -- ---- accounts
 
+-- how many line feeds there are
+abbrev pub feeds : List ℕ → ℕ
+feeds [] = 0
+feeds (b ∷ s) = if is_line_feed b then 1 + feeds s else feeds s
+
 -- of no byte
 abbrev pub begun : Account
-begun = record { sums = nothing; string = None }
+begun = record { sums = nothing; string = None; lines = 0 }
 
 -- after a segment of this kind and these bytes, which by itself becomes this
 abbrev pub entered_as : Account → SegmentKind → List ℕ → Fate → Account
 entered_as x k bytes own = record {
   sums = added (fate_after x.string k bytes own) (length bytes) x.sums;
   string = carried k bytes (fate_after x.string k bytes own);
+  lines = x.lines + feeds bytes;
 }
 
 -- after a segment, finished or not
@@ -116,11 +123,23 @@ abbrev pub Enters : Rule → Account → Item → Account → Type 0
 Enters r x item y = (g : Shape) (gs : List Shape) → AreSegments (g ∷ gs)
     → IsItem item g (joined gs) → y ≡ step r x g (is_finished g (joined gs))
 
+-- so many bytes more can be counted
+abbrev pub HasRoom : Account → ℕ → Type 0
+HasRoom x n = total x.sums + (x.lines + 2 * n) < 2 ^ 64
+
+-- y counts so many bytes more than x
+abbrev pub Counts : Account → ℕ → Account → Type 0
+Counts x n y = (total y.sums ≡ total x.sums + n) × (y.lines ≤ x.lines + n)
+
 -- ---- lines, each a stream of its own
 
--- so many bytes are in the output as they came
-abbrev pub all_passed : ℕ → Account → Account
-all_passed n x = record { sums = added fates.Passed n x.sums; string = None }
+-- these bytes are in the output as they came
+abbrev pub all_passed : List ℕ → Account → Account
+all_passed bytes x = record {
+  sums = added fates.Passed (length bytes) x.sums;
+  string = None;
+  lines = x.lines + feeds bytes;
+}
 
 -- where a line begins, no string came before
 abbrev pub line_begun : Account → Account
@@ -129,5 +148,5 @@ line_begun x = record x { string = None }
 -- A line, of which this was written, makes y of x: where it was written as it came all of it
 -- passed, and else its segments tell.
 pub record LineEnters (r : Rule) (x : Account) (line written : List ℕ) (y : Account) : Type 0 where
-  pub same : written ≡ line → y ≡ all_passed (length line) x
+  pub same : written ≡ line → y ≡ all_passed line x
   pub other : written ≢ line → (gs : List Shape) → IsCut line gs → y ≡ run r (line_begun x) gs

@@ -1,4 +1,6 @@
 pub mod Accounts
 pub mod Entries
+pub mod Ledgers
+pub mod Wholes
 pub mod Rules
 pub mod Judges

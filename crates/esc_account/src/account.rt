@@ -1,15 +1,21 @@
 //! The account of a stream.
 #![tactic(auto)]
 
-ghost use Rattle.std.specs.Prelude.{◌≡◌, ◌+◌, ◌<◌, ◌^◌, ◌↔◌, IfOk, IsTrue, List, OnErr, length};
-ghost use Rattle.esc_frame.specs.Segments.{Segment as Shape, IsCut};
+ghost use Rattle.std.specs.Prelude.{◌≡◌, ◌++◌, ◌∷◌, ◌<◌, ◌≤◌, ◌^◌, ◌↔◌, IfOk, IsTrue, List, [], OnErr, OnOk, length};
+ghost use Rattle.esc_frame.specs.Segments.{AreSegments, Segment as Shape, IsCut, is_finished, joined};
+ghost use Rattle.esc_segments.specs.Items.{IsItem};
 ghost use Rattle.memory.specs.Refusals.{Refused};
-ghost use Rattle.esc_account.specs.Accounts.{Enters, LineEnters, all_passed, begun, carried, entered_as, run, total};
+ghost use Rattle.esc_account.specs.Accounts.{Counts, Enters, HasRoom, LineEnters, all_passed, begun, carried, entered_as, run, total};
+ghost use Rattle.esc_account.specs.Entries.{Entry as Told, ends_string, entries, entry_as, entry_of, is_passed, noted};
+ghost use Rattle.esc_account.specs.Ledgers.{LineGives};
 
+use crate::book::Book;
+use crate::entry::Entry;
 use crate::fate::Fate;
+use crate::feeds::feeds;
 use crate::judge::Judge;
 use crate::sums::Sums;
-use crate::terminator::{awaits_terminator, fate_after};
+use crate::terminator::{awaits_terminator, fate_after, is_terminator};
 use esc_frame::laws;
 use esc_segments::{Segment, SegmentKind, Segments};
 use std::alloc::{AllocError, Allocator};
@@ -29,6 +35,8 @@ pub struct Account {
     /// The fate of the string that came last, where nothing came after it: the terminator that ends
     /// it goes the same way.
     pub string: Option<Fate>,
+    /// How many line feeds they have.
+    pub lines: u64,
 }
 
 impl Account {
@@ -39,35 +47,41 @@ impl Account {
         Account {
             sums: Sums::new(),
             string: None,
+            lines: 0,
         }
     }
 
-    /// The account of so many bytes more, which are in the output as they came. No string is
+    /// The account of these bytes too, which are in the output as they came. No string is
     /// unfinished after them.
-    #[tactic(auto, using(crate::proofs::Totals::total_added))]
-    pub fn passed(self, count: u64) -> Account
-        requires room { total self.sums + count < 2 ^ 64 }
-        ensures passed { result ≡ all_passed count self }
-        ensures sums { total result.sums ≡ total self.sums + count }
+    #[tactic(auto, using(crate::proofs::Totals::total_added, crate::proofs::LineCounts::few_feeds))]
+    pub fn passed(self, bytes: &[u8]) -> Account
+        requires room { HasRoom self (length bytes.now) }
+        ensures passed { result ≡ all_passed bytes.now self }
+        ensures counts { Counts self (length bytes.now) result }
     {
         Account {
-            sums: self.sums.with(Fate::Passed, count),
+            sums: self.sums.with(Fate::Passed, bytes.len() as u64),
             string: None,
+            lines: self.lines + feeds(bytes),
         }
     }
 
-    /// The account of these bytes too: each of their segments has the fate that the judge says. The
-    /// bytes go on where no segment is unfinished. `AllocError` says that a request for memory was
-    /// refused.
-    pub fn entered<A: Allocator, J: Judge<A>>(
+    /// The account of these bytes too: each of their segments has the fate that the judge says, and
+    /// those that did not pass are written into the book. The bytes go on where no segment is
+    /// unfinished. `AllocError` says that a request for memory was refused.
+    pub fn entered<A: Allocator, J: Judge<A>, B: Book<A>>(
         self,
         judge: &J,
+        book: &mut B,
         bytes: &[u8],
     ) -> Result<Account, AllocError>
-        requires room { total self.sums + length bytes.now < 2 ^ 64 }
+        requires room { HasRoom self (length bytes.now) }
         ensures entered { (gs : List Shape) → IsCut bytes.now gs
             → IfOk result (λ x. x ≡ run (J.rule judge.now) self gs) }
-        ensures sums { IfOk result (λ x. total x.sums ≡ total self.sums + length bytes.now) }
+        ensures counts { IfOk result (Counts self (length bytes.now)) }
+        ensures given { (gs : List Shape) (es : List Told) → IsCut bytes.now gs
+            → B.was_given book.old es → OnOk result (B.was_given book.new
+            (es ++ noted (entries (J.rule judge.now) self gs))) }
         ensures refused { OnErr result (Refused A) }
     {
         laws::one_cut();
@@ -77,7 +91,7 @@ impl Account {
         loop {
             match segments.next() {
                 None => return Ok(account),
-                Some(segment) => match account.segment_entered(judge, segment) {
+                Some(segment) => match account.segment_entered(judge, book, segment) {
                     Ok(longer) => account = longer,
                     Err(error) => return Err(error),
                 },
@@ -85,69 +99,186 @@ impl Account {
         }
     }
 
+    // The account of the segments of these bytes that are finished, and how many bytes these are.
+    pub(crate) fn finished_entered<A: Allocator, J: Judge<A>, B: Book<A>>(
+        self,
+        judge: &J,
+        book: &mut B,
+        bytes: &[u8],
+    ) -> Result<(Account, usize), AllocError>
+        requires room { HasRoom self (length bytes.now) }
+        ensures counts { IfOk result (λ r. (r.1 ≤ length bytes.now) × Counts self r.1 r.0) }
+        ensures refused { OnErr result (Refused A) }
+    {
+        laws::has_cut();
+        let mut account = self;
+        let mut count = 0;
+        let mut segments = Segments::new(bytes);
+        loop {
+            match segments.next() {
+                None => return Ok((account, count)),
+                Some(segment) => {
+                    if !segment.finished {
+                        return Ok((account, count));
+                    }
+                    account = account.segment_entered(judge, book, segment)?;
+                    count += segment.bytes.len();
+                }
+            }
+        }
+    }
+
     /// The account of a line too, which is a stream of its own: where it was written as it came,
     /// all of it passed; else each of its segments has the fate that the judge says. `AllocError`
     /// says that a request for memory was refused.
-    pub fn line_entered<A: Allocator, J: Judge<A>>(
+    pub fn line_entered<A: Allocator, J: Judge<A>, B: Book<A>>(
         self,
         judge: &J,
+        book: &mut B,
         line: &[u8],
         written: &[u8],
     ) -> Result<Account, AllocError>
-        requires room { total self.sums + length line.now < 2 ^ 64 }
+        requires room { HasRoom self (length line.now) }
         ensures entered { IfOk result
             (LineEnters (J.rule judge.now) self line.now written.now) }
-        ensures sums { IfOk result (λ x. total x.sums ≡ total self.sums + length line.now) }
+        ensures counts { IfOk result (Counts self (length line.now)) }
+        ensures given { (es : List Told) → B.was_given book.old es → OnOk result
+            ((fs : List Told) × LineGives (J.rule judge.now) self line.now written.now fs
+            × B.was_given book.new (es ++ fs)) }
         ensures refused { OnErr result (Refused A) }
     {
+        laws::has_cut();
+        laws::one_cut();
         if is_same(written, line) {
-            Ok(self.passed(line.len() as u64))
+            Ok(self.passed(line))
         } else {
             let begun = Account {
                 sums: self.sums,
                 string: None,
+                lines: self.lines,
             };
-            begun.entered(judge, line)
+            begun.entered(judge, book, line)
         }
     }
 
     // The account of a segment too.
-    fn segment_entered<A: Allocator, J: Judge<A>>(
+    fn segment_entered<A: Allocator, J: Judge<A>, B: Book<A>>(
         self,
         judge: &J,
+        book: &mut B,
         segment: Segment<'_>,
     ) -> Result<Account, AllocError>
-        requires room { total self.sums + length segment.bytes.now < 2 ^ 64 }
+        requires room { HasRoom self (length segment.bytes.now) }
         ensures entered { IfOk result (Enters (J.rule judge.now) self segment.entry) }
-        ensures sums { IfOk result
-            (λ x. total x.sums ≡ total self.sums + length segment.entry.bytes.now) }
+        ensures counts { IfOk result (Counts self (length segment.entry.bytes.now)) }
+        ensures given { (g : Shape) (gs : List Shape) (es : List Told) → AreSegments (g ∷ gs)
+            → IsItem segment.entry g (joined gs) → B.was_given book.old es
+            → OnOk result (B.was_given book.new (es ++ noted
+            (entry_of (J.rule judge.now) self g (is_finished g (joined gs)) ∷ []))) }
         ensures refused { OnErr result (Refused A) }
     {
         match judge.fate(segment) {
-            Ok(own) => Ok(self.after(segment.kind, segment.bytes, own)),
+            Ok(own) => self.written(book, segment, own),
             Err(error) => Err(error),
         }
     }
 
+    // The account of a segment too, which by itself has this fate: it is written into the book,
+    // unless it passed.
+    fn written<A: Allocator, B: Book<A>>(
+        self,
+        book: &mut B,
+        segment: Segment<'_>,
+        own: Fate,
+    ) -> Result<Account, AllocError>
+        requires room { HasRoom self (length segment.bytes.now) }
+        ensures entered { IfOk result (λ x. x ≡ entered_as self segment.entry.kind
+            segment.entry.bytes.now own) }
+        ensures counts { IfOk result (Counts self (length segment.entry.bytes.now)) }
+        ensures given { (es : List Told) → B.was_given book.old es
+            → OnOk result (B.was_given book.new (es ++ noted (entry_as self segment.entry.kind
+            segment.entry.bytes.now segment.entry.finished own ∷ []))) }
+        ensures refused { OnErr result (Refused A) }
+    {
+        match self.note(book, segment, own) {
+            Ok(()) => Ok(self.after(segment.kind, segment.bytes, own)),
+            Err(error) => Err(error),
+        }
+    }
+
+    // Writes a segment into the book, unless it passed.
+    fn note<A: Allocator, B: Book<A>>(
+        self,
+        book: &mut B,
+        segment: Segment<'_>,
+        own: Fate,
+    ) -> Result<(), AllocError>
+        requires room { HasRoom self (length segment.bytes.now) }
+        ensures given { (es : List Told) → B.was_given book.old es
+            → OnOk result (B.was_given book.new (es ++ noted (entry_as self segment.entry.kind
+            segment.entry.bytes.now segment.entry.finished own ∷ []))) }
+        ensures refused { OnErr result (Refused A) }
+    {
+        let fate = fate_after(self.string, segment.kind, segment.bytes, own);
+        if is_passed(fate) {
+            return Ok(());
+        }
+        book.enter(Entry {
+            segment,
+            fate,
+            place: self.place(),
+            line: self.lines,
+            is_end: ends_string(self.string, segment.kind, segment.bytes),
+        })
+    }
+
+    // How many bytes it is of.
+    fn place(self) -> u64
+        requires { total self.sums < 2 ^ 64 }
+        ensures { result ≡ total self.sums }
+    {
+        self.sums.total() as u64
+    }
+
     // After a segment of this kind and these bytes, which by itself has this fate.
-    #[tactic(auto, using(crate::proofs::Totals::total_added))]
+    #[tactic(auto, using(crate::proofs::Totals::total_added, crate::proofs::LineCounts::few_feeds))]
     fn after(self, kind: SegmentKind, bytes: &[u8], own: Fate) -> Account
-        requires room { total self.sums + length bytes.now < 2 ^ 64 }
+        requires room { HasRoom self (length bytes.now) }
         ensures entered { result ≡ entered_as self kind bytes.now own }
-        ensures sums { total result.sums ≡ total self.sums + length bytes.now }
+        ensures counts { Counts self (length bytes.now) result }
     {
         let fate = fate_after(self.string, kind, bytes, own);
         let sums = self.sums.with(fate, bytes.len() as u64);
-        let string = carried(kind, bytes, fate);
-        Account { sums, string }
+        Account {
+            sums,
+            string: carried(kind, bytes, fate),
+            lines: self.lines + feeds(bytes),
+        }
     }
 }
 
 // Whether the bytes are the same.
-fn is_same(written: &[u8], line: &[u8]) -> bool
+pub(crate) fn is_same(written: &[u8], line: &[u8]) -> bool
     ensures { IsTrue result ↔ (written.now ≡ line.now) }
 {
     written == line
+}
+
+// Whether it is the fate of what passed.
+fn is_passed(fate: Fate) -> bool
+    ensures { result ≡ is_passed fate }
+{
+    matches!(fate, Fate::Passed)
+}
+
+// Whether the segment is a terminator directly after a string.
+fn ends_string(string: Option<Fate>, kind: SegmentKind, bytes: &[u8]) -> bool
+    ensures { result ≡ ends_string string kind bytes.now }
+{
+    match string {
+        None => false,
+        Some(_) => is_terminator(kind, bytes),
+    }
 }
 
 // What a terminator after the segment goes by.

@@ -2,7 +2,7 @@
 //! policy.
 #![tactic(auto)]
 
-ghost use Rattle.std.specs.Prelude.{◌≡◌, ◌++◌, ℕ, Bool, List, Some, [], length, true};
+ghost use Rattle.std.specs.Prelude.{◌≡◌, ◌++◌, ◌∷◌, ◌<◌, ℕ, Bool, List, Some, [], false, length, true};
 ghost use Rattle.std.specs.List.{list_all};
 ghost use Rattle.esc_frame.specs.Segments.{Segment as Shape, bytes_of, joined};
 ghost use Rattle.esc_frame.specs.Stream.{IsAtGround};
@@ -10,8 +10,10 @@ ghost use Rattle.esc_actions.specs.Readings.{reading_within};
 ghost use Rattle.esc_actions.specs.Texts.{list_text};
 ghost use Rattle.esc_actions.specs.Values.{Value};
 ghost use Rattle.esc_filter.specs.declared.unicode.Unicode.{Unicode};
-ghost use Rattle.esc_account.specs.Accounts.{GoesOn, IsAccount, Rule, begun, run, total};
-ghost use Rattle.esc_account.specs.Entries.{AllLie, entries};
+ghost use Rattle.esc_account.specs.Accounts.{Counts, GoesOn, IsAccount, Rule, all_passed, begun, run, total};
+ghost use Rattle.esc_account.specs.Entries.{AllLie, Entry, entries};
+ghost use Rattle.esc_account.specs.Ledgers.{HasRun, IsLineAccount, LineRuns};
+ghost use Rattle.esc_filter.specs.Lines.{IsLine, ends_line, has_line_feed};
 ghost use Rattle.esc_account.specs.Rules.{IsAsItCame, is_written, rule_of};
 ghost use Rattle.esc_account.specs.declared.account.Account.{Account};
 
@@ -32,6 +34,22 @@ pub fn blocks_go_on()
     esc_frame::laws::one_cut();
     esc_frame::laws::has_cut();
 }
+
+/// The account of lines goes on line by line: with the line that comes next, and what was written of
+/// it; with lines that were written as they came; and with a last line that no line feed ends.
+pub fn lines_go_on()
+    ensures line { (r : Rule) (s t l w : List ℕ) (x y : Account) (es fs : List Entry)
+        → HasRun r s t x es → IsLine l → IsLine w → LineRuns r x l w y fs
+        → Counts x (length l) y → HasRun r (s ++ l) (t ++ w) y (es ++ fs) }
+    ensures same { (r : Rule) (s t u : List ℕ) (x : Account) (es : List Entry)
+        → HasRun r s t x es → ends_line true u ≡ true → 0 < length u
+        → Counts x (length u) (all_passed u x)
+        → HasRun r (s ++ u) (t ++ u) (all_passed u x) es }
+    ensures last { (r : Rule) (s t : List ℕ) (b : ℕ) (l w : List ℕ) (x y : Account)
+        (es fs : List Entry) → HasRun r s t x es → has_line_feed (b ∷ l) ≡ false
+        → has_line_feed w ≡ false → LineRuns r x (b ∷ l) w y fs
+        → IsLineAccount r (s ++ b ∷ l) (t ++ w) y (es ++ fs) }
+{}
 
 /// The place of each entry is that of its segment in the stream, and its bytes are the segment's.
 pub fn each_lies_at_its_place()

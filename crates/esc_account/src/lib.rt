@@ -16,16 +16,31 @@
 #![tactic(auto)]
 
 pub mod account;
+pub mod audience;
+pub mod audited;
+pub mod book;
+pub mod entry;
 pub mod fate;
+mod feeds;
 pub mod judge;
 pub mod laws;
+pub mod ledger;
+pub mod line_ledger;
 pub mod policy_judge;
-mod reading;
+pub mod reading;
+mod same_lines;
 pub mod sums;
 mod terminator;
 
 pub use account::Account;
+pub use audience::Audience;
+pub use audited::Audited;
+pub use book::{Book, NoBook};
+pub use entry::Entry;
 pub use fate::Fate;
 pub use judge::Judge;
+pub use ledger::Ledger;
+pub use line_ledger::LineLedger;
 pub use policy_judge::PolicyJudge;
+pub use reading::read_segment;
 pub use sums::Sums;

@@ -114,7 +114,8 @@ impl<P: Admit<A>, A: Allocator + Copy> PolicyJudge<P, A> {
         actions.iter().all(|action| self.writes(action))
     }
 
-    fn writes(&self, action: &Action<A>) -> bool
+    /// Whether something is written of the action.
+    pub fn writes(&self, action: &Action<A>) -> bool
         ensures { result ≡ is_written self.now.by_lines self.now.unicode
             (P.admits self.now.policy) (value_of action.now) }
     {

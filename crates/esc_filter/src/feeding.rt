@@ -19,6 +19,8 @@ impl<P: Admit<A>, A: Allocator + Copy> Feeding<A> for Filter<P, A> {
 
     ghost added = { λ f. added_by f };
 
+    ghost has_ended = { λ _ _ _. Unit {0} };
+
     fn feed_piece(&mut self, bytes: &[u8]) -> Result<(), AllocError> {
         match self.feed(bytes) {
             Ok(()) => Ok(()),
@@ -42,6 +44,8 @@ impl<P: Admit<A>, A: Allocator + Copy> Feeding<A> for LineFilter<P, A> {
         × (c ≡ closed_by_lines_as {A = A} u limit (P.admits (policy_of_lines f))) };
 
     ghost added = { λ f. added_by_lines f };
+
+    ghost has_ended = { λ _ _ _. Unit {0} };
 
     fn feed_piece(&mut self, bytes: &[u8]) -> Result<(), AllocError> {
         match self.feed(bytes) {

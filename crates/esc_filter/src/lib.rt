@@ -54,7 +54,7 @@ pub use laws::{
     passed_reads_back, policies_are_groups, screen_is_not_answered, terminal_as_at_the_start,
     written_lines_read_back, written_reads_back,
 };
-pub use line_filter::LineFilter;
+pub use line_filter::{LineFilter, line_length};
 pub use policy::Policy;
 pub use schemes::is_scheme;
 pub use unicode::Unicode;

@@ -238,9 +238,9 @@ impl<P: Admit<A>, A: Allocator + Copy> LineFilter<P, A> {
     }
 }
 
-// The length of the line that these bytes begin with, with its line feed. None where they have no
-// line feed.
-fn line_length(bytes: &[u8]) -> Option<usize>
+/// The length of the line that these bytes begin with, with its line feed. None where they have no
+/// line feed.
+pub fn line_length(bytes: &[u8]) -> Option<usize>
     ensures { MatchOption result (has_line_feed bytes.now ≡ false)
         (λ n. (0 < n) × (n ≤ length bytes.now) × IsLine (take n bytes.now)) }
 {

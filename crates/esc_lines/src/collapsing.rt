@@ -41,6 +41,8 @@ impl<F: Feeding<A> + Drop, A: Allocator + Copy> Feeding<A> for Collapsing<F, A> 
 
     ghost added = { λ f. added_by_collapse f.collapse };
 
+    ghost has_ended = { λ f _ s. (c : List ℕ → List ℕ) × F.has_ended f.inner c s };
+
     fn feed_piece(&mut self, bytes: &[u8]) -> Result<(), AllocError> {
         self.inner.feed_piece(bytes)?;
         self.collapse.feed(self.inner.added_text().as_bytes())

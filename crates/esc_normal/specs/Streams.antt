@@ -94,6 +94,11 @@ abbrev pub HasFed : {F A R W : Type 0} → Feeder F A → Reader R → Writer W 
 HasFed V R W m c filter reader writer =
     (s : List ℕ) × V.gives filter m c s × Reads R s reader × Writes W (m s) writer
 
+-- the reader gave some bytes, which were the filter's stream, and that has ended
+abbrev pub HasEnded : {F A R : Type 0} → Feeder F A → Reader R → (List ℕ → List ℕ) → F
+    → Borrowed R → Type 0
+HasEnded V R c filter reader = (s : List ℕ) × V.has_ended filter c s × Reads R s reader
+
 -- the filter, which was fed s, was fed b too, and the text that b adds was written
 abbrev pub PassesOn : {F A W : Type 0} → Feeder F A → Writer W → (List ℕ → List ℕ)
     → (List ℕ → List ℕ) → List ℕ → List ℕ → F → Borrowed W → Type 0

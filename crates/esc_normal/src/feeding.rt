@@ -14,6 +14,9 @@ pub trait Feeding<A: Allocator> {
     // what the bytes fed last added
     ghost added: { Self → List ℕ };
 
+    // its stream has ended: it was this one, and this is the text of one that has ended
+    ghost has_ended: { Self → (List ℕ → List ℕ) → List ℕ → Type 0 };
+
     /// Takes bytes more.
     fn feed_piece(&mut self, bytes: &[u8]) -> Result<(), AllocError>
         ensures given { (m c : List ℕ → List ℕ) (s : List ℕ) → gives self.old m c s
@@ -28,6 +31,8 @@ pub trait Feeding<A: Allocator> {
     fn finish_all(&mut self) -> Result<(), AllocError>
         ensures ended { (m c : List ℕ → List ℕ) (s : List ℕ) → gives self.old m c s
             → OnOk result (c s ≡ m s ++ added self.new) }
+        ensures closed { (m c : List ℕ → List ℕ) (s : List ℕ) → gives self.old m c s
+            → OnOk result (has_ended self.new c s) }
         ensures longer { (m c : List ℕ → List ℕ) (s : List ℕ) → gives self.old m c s
             → (t : List ℕ) × (c s ≡ m s ++ t) }
         ensures refused { (m c : List ℕ → List ℕ) (s : List ℕ) → gives self.old m c s

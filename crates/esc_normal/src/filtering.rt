@@ -1,7 +1,7 @@
 //! From a stream to the text of what takes it in pieces.
 ghost use Rattle.std.specs.Prelude.{ℕ, ◌≡◌, ◌<◌, ◌++◌, List, length, IfErr, IsErrOf, OnErr, OnOk};
 ghost use Rattle.esc_normal.specs.Io.{FailsWith, Writes, WritesPrefix};
-ghost use Rattle.esc_normal.specs.Streams.{FeedsAll, Filters, IsEither, New, PassesOn, PassesPrefixOn, WritesAdded};
+ghost use Rattle.esc_normal.specs.Streams.{FeedsAll, Filters, HasEnded, IsEither, New, PassesOn, PassesPrefixOn, WritesAdded};
 ghost use Rattle.memory.specs.Refusals.{Refused};
 
 use crate::feeding::Feeding;
@@ -31,6 +31,8 @@ pub fn filter_from<R: Read, W: Write, F: Feeding<A>, A: Allocator + Copy>(
 ) -> Result<(), FilterError>
     ensures holds { New F.Feeding filter.old (λ m c.
         Filters R.Read W.Write c (IsEither c m) result reader writer) }
+    ensures ended { New F.Feeding filter.old (λ m c.
+        OnOk result (HasEnded F.Feeding R.Read c filter.new reader)) }
     ensures refused { New F.Feeding filter.old (λ m c.
         IsErrOf result FilterError.Memory → Refused A) }
 {
@@ -89,7 +91,8 @@ fn end<W: Write, F: Feeding<A>, A: Allocator + Copy>(
     output: &mut Watched<W>,
 ) -> Result<(), FilterError>
     ensures { WritesAdded F.Feeding filter.old
-        (λ m c s. (t : List ℕ) × (c s ≡ m s ++ t) × Writes W.Write t output)
+        (λ m c s. F.has_ended filter.new c s
+        × ((t : List ℕ) × (c s ≡ m s ++ t) × Writes W.Write t output))
         (λ m c s. (t : List ℕ) × (c s ≡ m s ++ t) × WritesPrefix W.Write t output)
         result output }
 {

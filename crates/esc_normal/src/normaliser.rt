@@ -89,6 +89,8 @@ impl<A: Allocator + Copy> Feeding<A> for Normaliser<A> {
 
     ghost added = { λ n. added_by n };
 
+    ghost has_ended = { λ _ _ _. Unit {0} };
+
     fn feed_piece(&mut self, bytes: &[u8]) -> Result<(), AllocError> {
         match self.feed(bytes) {
             Ok(()) => Ok(()),

@@ -1,8 +1,8 @@
 //! A recording, from its reader to the output.
 
-use crate::accounted::{Accounted, Audience};
 use crate::options::Options;
 use crate::stream::COLUMNS;
+use esc_account::{Audience, Audited};
 use esc_cast::{CastError, Recording};
 use esc_filter::{Feeding, Filter, FilterError, LineFilter};
 use esc_lines::Collapsing;
@@ -52,16 +52,6 @@ impl<F: Feeding<Global>> Lines<F> {
         }
     }
 
-    /// What the texts of its events were fed.
-    pub fn into_feeding(self) -> F {
-        let Lines {
-            recording,
-            line: _,
-            count: _,
-        } = self;
-        recording.into_feeding()
-    }
-
     // Takes bytes more, and writes the lines that they end.
     fn take<W: Write>(&mut self, bytes: &[u8], writer: &mut Watched<W>) -> Result<(), CastFault> {
         let mut rest = bytes;
@@ -109,14 +99,14 @@ impl<F: Feeding<Global>> Lines<F> {
 }
 
 /// Reads a recording to its end, and writes what is given for its lines by the options, as it
-/// reads. The audience is shown the texts of its events of output, and comes back.
-pub fn filter_recording<R: Read, W: Write, K: Audience + Drop>(
+/// reads. The audience hears the texts of its events of output.
+pub fn filter_recording<R: Read, W: Write, K: Audience<Global> + Drop>(
     alloc: Global,
     options: &Options<'_>,
     audience: K,
     reader: &mut Watched<R>,
     writer: &mut Watched<W>,
-) -> (Result<(), CastFault>, K) {
+) -> Result<(), CastFault> {
     let by_lines = options.by_lines;
     let unicode = options.unicode;
     if by_lines {
@@ -129,14 +119,14 @@ pub fn filter_recording<R: Read, W: Write, K: Audience + Drop>(
 }
 
 // The same by this filter, where what does not pass may be shown.
-fn filter_shown<R: Read, W: Write, F: Feeding<Global> + Drop, K: Audience + Drop>(
+fn filter_shown<R: Read, W: Write, F: Feeding<Global> + Drop, K: Audience<Global> + Drop>(
     alloc: Global,
     options: &Options<'_>,
     filter: F,
     audience: K,
     reader: &mut Watched<R>,
     writer: &mut Watched<W>,
-) -> (Result<(), CastFault>, K) {
+) -> Result<(), CastFault> {
     let shows = options.shows;
     if shows {
         let reveal = Reveal::new(alloc, options.limit, options.choice, options.by_lines);
@@ -148,48 +138,37 @@ fn filter_shown<R: Read, W: Write, F: Feeding<Global> + Drop, K: Audience + Drop
 }
 
 // The same by this filter, of which these rows may be written again.
-fn filter_rows<R: Read, W: Write, F: Feeding<Global> + Drop, K: Audience + Drop>(
+fn filter_rows<R: Read, W: Write, F: Feeding<Global> + Drop, K: Audience<Global> + Drop>(
     alloc: Global,
     rows: Option<usize>,
     inner: F,
     audience: K,
     reader: &mut Watched<R>,
     writer: &mut Watched<W>,
-) -> (Result<(), CastFault>, K) {
+) -> Result<(), CastFault> {
+    let filter = Audited { inner, audience };
     let Some(rows) = rows else {
-        return filter_events(alloc, Accounted { inner, audience }, reader, writer);
+        return filter_lines(alloc, Lines::new(alloc, filter), reader, writer);
     };
-    match Collapsing::new(alloc, inner, rows, COLUMNS) {
-        Ok(inner) => filter_events(alloc, Accounted { inner, audience }, reader, writer),
-        Err(_) => (Err(CastFault::Stream(FilterError::Memory)), audience),
+    match Collapsing::new(alloc, filter, rows, COLUMNS) {
+        Ok(filter) => filter_lines(alloc, Lines::new(alloc, filter), reader, writer),
+        Err(_) => Err(CastFault::Stream(FilterError::Memory)),
     }
 }
 
-// The same by way of this filter and its audience.
-fn filter_events<R: Read, W: Write, F: Feeding<Global> + Drop, K: Audience + Drop>(
-    alloc: Global,
-    filter: Accounted<F, K>,
-    reader: &mut Watched<R>,
-    writer: &mut Watched<W>,
-) -> (Result<(), CastFault>, K) {
-    let mut lines = Lines::new(alloc, filter);
-    let outcome = filter_lines(alloc, &mut lines, reader, writer);
-    let Accounted { inner: _, audience } = lines.into_feeding();
-    (outcome, audience)
-}
-
 // Reads to the end, and writes what is given for the lines.
-fn filter_lines<R: Read, W: Write, F: Feeding<Global>>(
+fn filter_lines<R: Read, W: Write, F: Feeding<Global> + Drop>(
     alloc: Global,
-    lines: &mut Lines<F>,
+    lines: Lines<F>,
     reader: &mut Watched<R>,
     writer: &mut Watched<W>,
 ) -> Result<(), CastFault> {
     let Ok(mut chunk) = memory::read_buffer(alloc) else {
         return Err(CastFault::Stream(FilterError::Memory));
     };
-    match take_all(lines, reader, writer, chunk.as_mut_slice()) {
-        Ok(()) => end(lines, writer),
+    let mut lines = lines;
+    match take_all(&mut lines, reader, writer, chunk.as_mut_slice()) {
+        Ok(()) => end(&mut lines, writer),
         Err(fault) => Err(fault),
     }
 }

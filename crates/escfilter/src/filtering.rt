@@ -1,11 +1,10 @@
 //! Streams that are filtered to one output, each with its report.
 
-use crate::account::Account;
+use crate::auditor::Auditor;
 use crate::cast::{CastFault, filter_recording};
 use crate::json::tell_json;
-use crate::observed::Observed;
 use crate::options::{Form, Options};
-use crate::report::tell_text;
+use crate::report::{is_less, tell_text};
 use crate::stream::{PROGRAM, filter_by};
 use command_line::{Ended, Noting, Place, Work, ended_by};
 use esc_filter::FilterError;
@@ -40,12 +39,21 @@ impl<'a, W: Write, E: Write> Work for Filtering<'a, W, E> {
 impl<'a, W: Write, E: Write> Filtering<'a, W, E> {
     // Filters a stream of this name.
     fn take_stream<R: Read + Drop>(&mut self, name: &str, input: R) -> Ended {
-        let mut reader = Watched::new(Noting::new(Observed::new(input, self.account())));
+        let mut auditor = Auditor::new(self.alloc, self.options);
+        let mut reader = Watched::new(Noting::new(input));
         let mut writer = Watched::new(Noting::new(&mut *self.output));
-        let outcome = filter_by(self.alloc, &self.options, &mut reader, &mut writer);
-        let reader = reader.into_inner();
-        let reason = reader.reason().or(writer.into_inner().reason());
-        self.report(name, reader.into_inner().ended());
+        let outcome = filter_by(
+            self.alloc,
+            &self.options,
+            &mut auditor,
+            &mut reader,
+            &mut writer,
+        );
+        let reason = reader
+            .into_inner()
+            .reason()
+            .or(writer.into_inner().reason());
+        self.report(name, &auditor, outcome.is_ok());
         let place = match outcome {
             Err(FilterError::Write) => Place::Output(self.output_name),
             _ => Place::Input(name),
@@ -55,13 +63,13 @@ impl<'a, W: Write, E: Write> Filtering<'a, W, E> {
 
     // Filters a recording of this name.
     fn take_cast<R: Read + Drop>(&mut self, name: &str, input: R) -> Ended {
-        let account = self.account();
+        let mut auditor = Auditor::new(self.alloc, self.options);
         let mut reader = Watched::new(Noting::new(input));
         let mut writer = Watched::new(Noting::new(&mut *self.output));
-        let (outcome, account) = filter_recording(
+        let outcome = filter_recording(
             self.alloc,
             &self.options,
-            account,
+            &mut auditor,
             &mut reader,
             &mut writer,
         );
@@ -69,7 +77,7 @@ impl<'a, W: Write, E: Write> Filtering<'a, W, E> {
             .into_inner()
             .reason()
             .or(writer.into_inner().reason());
-        self.report(name, account);
+        self.report(name, &auditor, outcome.is_ok());
         let place = match outcome {
             Err(CastFault::Stream(FilterError::Write)) => Place::Output(self.output_name),
             _ => Place::Input(name),
@@ -77,25 +85,16 @@ impl<'a, W: Write, E: Write> Filtering<'a, W, E> {
         ended_by(PROGRAM, outcome, place, reason, &mut self.faults)
     }
 
-    // The account of a stream, where the options ask what is left out of it.
-    fn account(&self) -> Option<Account<'a>> {
-        if self.options.report.is_some() || self.options.fails {
-            Some(Account::new(self.alloc, self.options))
-        } else {
-            None
-        }
-    }
-
-    // Reports what was left out of the stream of this name, where the options ask for it.
-    fn report(&mut self, name: &str, account: Option<Account<'_>>) {
-        let Some(account) = account else {
+    // Reports what did not pass of the stream of this name, where the options ask for it.
+    fn report(&mut self, name: &str, auditor: &Auditor<'_>, is_complete: bool) {
+        let Some((account, rows)) = auditor.account() else {
             return;
         };
         match self.options.report {
-            Some(Form::Text) => tell_text(&account, name, &mut self.faults),
-            Some(Form::Json) => tell_json(&account, name, &mut self.faults),
+            Some(Form::Text) => tell_text(account, rows, name, &mut self.faults),
+            Some(Form::Json) => tell_json(account, rows, name, is_complete, &mut self.faults),
             None => {}
         }
-        self.is_less = self.is_less || account.is_less();
+        self.is_less = self.is_less || is_less(account.sums);
     }
 }

@@ -1,32 +1,29 @@
-//! What was left out of a stream, as JSON (RFC 8259).
+//! What did not pass of a stream, as JSON (RFC 8259).
 
-use crate::account::Account;
-use crate::opened::{EACH, Opened};
-use crate::place::Place;
+use crate::name::Name;
+use crate::report::{each_sum, words_of};
+use crate::rows::{Open, Place, Row, Rows};
 use crate::saying::{put, put_number};
-use crate::swallowed::{Count, Lost, Swallowed};
-use crate::tally::Row;
+use esc_account::{Account, Fate, Sums};
 use std::io::Write;
 
-/// Writes a line on `faults`: an object that says of the stream of this name what `tell_text` says.
-pub fn tell_json<E: Write>(account: &Account, name: &str, faults: &mut E) {
-    let tally = account.tally();
+/// Writes a line on `faults`: an object that says of the stream of this name what `tell_text` says,
+/// and whether all of the stream was read.
+pub fn tell_json<E: Write>(
+    account: Account,
+    rows: &Rows,
+    name: &str,
+    is_complete: bool,
+    faults: &mut E,
+) {
     put("{\"file\":", faults);
     put_text(name, faults);
-    put_number(",\"bytes\":", account.bytes(), faults);
-    put_number(",\"actions\":", tally.actions, faults);
-    put_number(",\"left_out\":{\"actions\":", tally.left_actions, faults);
-    put_number(",\"bytes\":", tally.left_bytes, faults);
-    put_rows(&tally.rows, faults);
-    put_swallowed(&tally.swallowed, faults);
-    put_open(account.open(), faults);
-    let complete = if account.has_failed() {
-        "false"
-    } else {
-        "true"
-    };
+    put_number(",\"bytes\":", account.sums.total() as u64, faults);
+    put_sums(account.sums, faults);
+    put_rows(&rows.rows, faults);
+    put_open(rows.open(account), faults);
     put(",\"complete\":", faults);
-    put(complete, faults);
+    put(if is_complete { "true" } else { "false" }, faults);
     put("}\n", faults);
 }
 
@@ -50,20 +47,44 @@ fn put_char<E: Write>(c: char, faults: &mut E) {
 
 // Writes a place.
 fn put_place<E: Write>(place: Place, faults: &mut E) {
-    put_number(",\"line\":", place.line, faults);
+    put_number(",\"line\":", place.line.saturating_add(1), faults);
     put_number(",\"byte\":", place.byte, faults);
 }
 
-// Writes what was left out, by name, and ends that object.
+// Writes how many bytes had each fate.
+fn put_sums<E: Write>(sums: Sums, faults: &mut E) {
+    put(",\"sums\":{", faults);
+    let mut is_first = true;
+    for (fate, count) in &each_sum(sums) {
+        put_comma(is_first, faults);
+        put_fate(*fate, faults);
+        put_number(":", *count, faults);
+        is_first = false;
+    }
+    put("}", faults);
+}
+
+// Writes a fate, as a key has it.
+fn put_fate<E: Write>(fate: Fate, faults: &mut E) {
+    put_text(
+        match fate {
+            Fate::LeftOut => "left_out",
+            _ => words_of(fate),
+        },
+        faults,
+    );
+}
+
+// Writes what did not pass, by fate and name.
 fn put_rows<E: Write>(rows: &[Row], faults: &mut E) {
-    put(",\"by_name\":[", faults);
+    put(",\"rows\":[", faults);
     let mut is_first = true;
     for row in rows {
         put_comma(is_first, faults);
         put_row(row, faults);
         is_first = false;
     }
-    put("]}", faults);
+    put("]", faults);
 }
 
 // Writes a comma before what is not the first.
@@ -73,71 +94,39 @@ fn put_comma<E: Write>(is_first: bool, faults: &mut E) {
     }
 }
 
-// Writes what was left out under a name.
+// Writes what had one fate under a name.
 fn put_row<E: Write>(row: &Row, faults: &mut E) {
-    put("{\"kind\":", faults);
-    put_text(row.name.kind, faults);
-    put(",\"name\":", faults);
-    put_text(row.name.name, faults);
-    put(",\"words\":", faults);
-    put_text(row.name.words, faults);
-    put_number(",\"actions\":", row.actions, faults);
+    put("{\"fate\":", faults);
+    put_fate(row.fate, faults);
+    put(",", faults);
+    put_name(row.name, faults);
+    put_number(",\"count\":", row.count, faults);
     put_number(",\"bytes\":", row.bytes, faults);
     put_place(row.first, faults);
     put("}", faults);
 }
 
-// Writes what was swallowed.
-fn put_swallowed<E: Write>(swallowed: &Swallowed, faults: &mut E) {
-    put_number(",\"swallowed\":{\"count\":", swallowed.all.count, faults);
-    put_number(",\"bytes\":", swallowed.all.bytes, faults);
-    put(",\"by_kind\":[", faults);
-    let mut is_first = true;
-    for (kind, count) in EACH.iter().zip(&swallowed.counts) {
-        if count.count > 0 {
-            put_count(*kind, *count, is_first, faults);
-            is_first = false;
-        }
-    }
-    put("],\"first\":[", faults);
-    put_first(swallowed.first(), faults);
-    put("]}", faults);
-}
-
-// Writes how many of a kind were swallowed.
-fn put_count<E: Write>(kind: Opened, count: Count, is_first: bool, faults: &mut E) {
-    put_comma(is_first, faults);
-    put("{\"kind\":", faults);
-    put_text(kind.name(), faults);
-    put_number(",\"count\":", count.count, faults);
-    put_number(",\"bytes\":", count.bytes, faults);
-    put("}", faults);
-}
-
-// Writes where these began.
-fn put_first<E: Write>(first: &[Lost], faults: &mut E) {
-    let mut is_first = true;
-    for lost in first {
-        put_comma(is_first, faults);
-        put_lost(*lost, faults);
-        is_first = false;
-    }
-}
-
-// Writes one of what was swallowed.
-fn put_lost<E: Write>(lost: Lost, faults: &mut E) {
-    put("{\"kind\":", faults);
-    put_text(lost.kind.name(), faults);
-    put_number(",\"bytes\":", lost.bytes, faults);
-    put_place(lost.place, faults);
-    put("}", faults);
+// Writes the words of a name.
+fn put_name<E: Write>(name: Name, faults: &mut E) {
+    put("\"kind\":", faults);
+    put_text(name.kind, faults);
+    put(",\"name\":", faults);
+    put_text(name.name, faults);
+    put(",\"words\":", faults);
+    put_text(name.words, faults);
 }
 
 // Writes what the end of the stream leaves open.
-fn put_open<E: Write>(open: Option<Lost>, faults: &mut E) {
+fn put_open<E: Write>(open: Option<Open>, faults: &mut E) {
     put(",\"open\":", faults);
     match open {
-        Some(lost) => put_lost(lost, faults),
+        Some(open) => {
+            put("{", faults);
+            put_name(open.name, faults);
+            put_number(",\"bytes\":", open.bytes, faults);
+            put_place(open.first, faults);
+            put("}", faults);
+        }
         None => put("null", faults),
     }
 }

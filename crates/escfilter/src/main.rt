@@ -3,23 +3,17 @@
 //! come: for a log or a recording of unknown origin that goes to a terminal.
 #![tactic(auto)]
 
-mod account;
-mod accounted;
+mod auditor;
 mod cast;
 mod filtering;
 mod json;
 mod name;
 mod named_groups;
-mod observed;
-mod opened;
 mod options;
-mod place;
 mod report;
+mod rows;
 mod saying;
-mod span;
 mod stream;
-mod swallowed;
-mod tally;
 
 use command_line::{
     DONE, Ended, FAULT, OUTPUT, Reason, Work, Wrong, is_text, open_closed, program_words, refused,

@@ -4,6 +4,7 @@ use esc_actions::Action;
 use esc_device::DeviceControlMode;
 use esc_functions::{C0, ControlFunction, EscapeFunction};
 use esc_osc::OperatingSystemCommand as Command;
+use esc_segments::SegmentKind;
 
 /// The name of what an action asks for. All are texts of tables, so there are not many.
 #[derive(Clone, Copy, PartialEq, Eq)]
@@ -21,6 +22,43 @@ fn named(kind: &'static str, name: &'static str, words: &'static str) -> Name {
     Name { kind, name, words }
 }
 
+const DECEIVING: Name = Name {
+    kind: "character",
+    name: "",
+    words: "that hides or reorders text",
+};
+
+/// The name of a segment of this kind and these bytes that means nothing of its own, or of which
+/// other characters are written.
+pub fn kind_name(kind: SegmentKind, bytes: &[u8]) -> Name {
+    match kind {
+        SegmentKind::Character => DECEIVING,
+        SegmentKind::Broken | SegmentKind::Stray => named("character", "", "that is no UTF-8"),
+        SegmentKind::Control => named("control", "", "without a name"),
+        SegmentKind::Terminator => named("control", "ST", "string terminator that ends nothing"),
+        SegmentKind::Escape => unnamed("ESC"),
+        SegmentKind::Csi => named("CSI", "", "malformed"),
+        SegmentKind::Osc => named("OSC", "", ""),
+        SegmentKind::Dcs => named("DCS", "", ""),
+        SegmentKind::Apc => named("APC", "", ""),
+        SegmentKind::Ignored => named("SOS or PM", "", ""),
+        SegmentKind::CutShort => named(opened_by(bytes), "", "cut short"),
+    }
+}
+
+// What a sequence is that is cut short.
+fn opened_by(bytes: &[u8]) -> &'static str {
+    for byte in bytes {
+        match *byte {
+            0x1b | 0xc2 | 0x00..=0x1a | 0x1c..=0x1f | 0x7f => {}
+            b'[' | 0x9b => return "CSI",
+            b'P' | 0x90 => return "DCS",
+            _ => return "ESC",
+        }
+    }
+    "ESC"
+}
+
 // What has no name.
 fn unnamed(kind: &'static str) -> Name {
     named(kind, "", "without a name")
@@ -29,7 +67,8 @@ fn unnamed(kind: &'static str) -> Name {
 /// The name of what an action asks for.
 pub fn name_of(action: &Action) -> Name {
     match action {
-        Action::Print(_) | Action::PrintString(_) => named("character", "DEL", "delete"),
+        Action::Print('\x7f') => named("character", "DEL", "delete"),
+        Action::Print(_) | Action::PrintString(_) => DECEIVING,
         Action::Control(code) => control_name(*code as u8),
         Action::Esc(esc) => escape_name("ESC", EscapeFunction::of(*esc)),
         Action::CSI(csi) => match ControlFunction::of(csi) {

@@ -1,30 +1,62 @@
-//! What was left out of a stream, in lines of text.
+//! What did not pass of a stream, in lines of text.
 
-use crate::account::Account;
-use crate::place::Place;
+use crate::name::Name;
+use crate::rows::{Open, Place, Row, Rows};
 use crate::saying::{put, put_number};
 use crate::stream::PROGRAM;
-use crate::swallowed::Lost;
-use crate::tally::{Row, Tally};
 use command_line::Shown;
+use esc_account::{Account, Fate, Sums};
 use std::io::Write;
 
-/// Writes lines on `faults` that name the stream: how much of it was left out; each kind of that by
-/// its name, with the place in the input where the first of it was; what was swallowed; and what
-/// the end of the stream leaves open.
-pub fn tell_text<E: Write>(account: &Account, name: &str, faults: &mut E) {
-    let tally = account.tally();
-    tell_sums(account, tally, name, faults);
-    for row in &tally.rows {
+/// Writes lines on `faults` that name the stream: how many of its bytes had each fate; each kind of
+/// what did not pass by its name, with the place in the input where the first of it was; and what
+/// the end of the stream leaves open. Where all of it passed, or was respelled, it writes nothing.
+pub fn tell_text<E: Write>(account: Account, rows: &Rows, name: &str, faults: &mut E) {
+    if !is_less(account.sums) {
+        return;
+    }
+    tell_sums(account.sums, name, faults);
+    for row in &rows.rows {
         tell_row(row, name, faults);
     }
-    tell_swallowed(tally, name, faults);
-    if let Some(open) = account.open() {
+    if let Some(open) = rows.open(account) {
         tell_open(open, name, faults);
     }
-    if account.has_failed() {
-        tell_failure(account.bytes(), name, faults);
+}
+
+/// Whether some bytes are not in the output, in any spelling.
+pub fn is_less(sums: Sums) -> bool {
+    sums.shown > 0
+        || sums.replaced > 0
+        || sums.left_out > 0
+        || sums.swallowed > 0
+        || sums.overwritten > 0
+}
+
+/// What became of bytes, in words.
+pub fn words_of(fate: Fate) -> &'static str {
+    match fate {
+        Fate::Passed => "passed",
+        Fate::Respelled => "respelled",
+        Fate::Shown => "shown",
+        Fate::Replaced => "replaced",
+        Fate::LeftOut => "left out",
+        Fate::Swallowed => "swallowed",
+        Fate::Overwritten => "overwritten",
     }
+}
+
+/// The fates, with how many bytes had each.
+pub fn each_sum(sums: Sums) -> [(Fate, u64); 7] {
+    [
+        (Fate::Passed, sums.passed),
+        (Fate::Respelled, sums.respelled),
+        (Fate::Shown, sums.shown),
+        (Fate::Replaced, sums.replaced),
+        (Fate::LeftOut, sums.left_out),
+        (Fate::Swallowed, sums.swallowed),
+        (Fate::Overwritten, sums.overwritten),
+    ]
 }
 
 // Begins a line that names the stream.
@@ -32,14 +64,34 @@ fn begin<E: Write>(name: &str, faults: &mut E) {
     let _ = write!(faults, "{PROGRAM}: {}: ", Shown(name));
 }
 
-// How much was left out, of how much.
-fn tell_sums<E: Write>(account: &Account, tally: &Tally, name: &str, faults: &mut E) {
+// How many bytes had each fate that any had.
+fn tell_sums<E: Write>(sums: Sums, name: &str, faults: &mut E) {
     begin(name, faults);
-    put_number("left out ", tally.left_actions, faults);
-    put_number(" of ", tally.actions, faults);
-    put_number(" actions, ", tally.left_bytes, faults);
-    put_number(" of ", account.bytes(), faults);
-    put(" bytes\n", faults);
+    put_number("of ", sums.total() as u64, faults);
+    put(" bytes", faults);
+    let mut before = " ";
+    for (fate, count) in &each_sum(sums) {
+        if *count > 0 {
+            put_number(before, *count, faults);
+            put(" ", faults);
+            put(words_of(*fate), faults);
+            before = ", ";
+        }
+    }
+    put("\n", faults);
+}
+
+// What had one fate under a name.
+fn tell_row<E: Write>(row: &Row, name: &str, faults: &mut E) {
+    begin(name, faults);
+    put(words_of(row.fate), faults);
+    tell_name(row.name, faults);
+    put_number(": ", row.count, faults);
+    put(",", faults);
+    tell_bytes(row.bytes, faults);
+    put(", the first", faults);
+    tell_place(row.first, faults);
+    put("\n", faults);
 }
 
 // So many bytes.
@@ -48,86 +100,28 @@ fn tell_bytes<E: Write>(bytes: u64, faults: &mut E) {
     put(if bytes == 1 { " byte" } else { " bytes" }, faults);
 }
 
-// What was left out under a name.
-fn tell_row<E: Write>(row: &Row, name: &str, faults: &mut E) {
-    begin(name, faults);
-    put(row.name.kind, faults);
-    tell_word(row.name.name, faults);
-    tell_word(row.name.words, faults);
-    put_number(": ", row.actions, faults);
-    put(",", faults);
-    tell_bytes(row.bytes, faults);
-    put(", the first", faults);
-    tell_place(row.first, faults);
-    put("\n", faults);
-}
-
-// A word of a name, where there is one.
-fn tell_word<E: Write>(word: &str, faults: &mut E) {
-    if !word.is_empty() {
-        put(" ", faults);
-        put(word, faults);
+// The words of a name.
+fn tell_name<E: Write>(name: Name, faults: &mut E) {
+    for word in &[name.kind, name.name, name.words] {
+        if !word.is_empty() {
+            put(" ", faults);
+            put(*word, faults);
+        }
     }
 }
 
 // A place in the input.
 fn tell_place<E: Write>(place: Place, faults: &mut E) {
-    put_number(" on line ", place.line, faults);
+    put_number(" on line ", place.line.saturating_add(1), faults);
     put_number(" at byte ", place.byte, faults);
 }
 
-// What was swallowed: how much, by kind, and where the first of it began.
-fn tell_swallowed<E: Write>(tally: &Tally, name: &str, faults: &mut E) {
-    let swallowed = &tally.swallowed;
-    if swallowed.all.count == 0 {
-        return;
-    }
-    begin(name, faults);
-    put("swallowed", faults);
-    tell_bytes(swallowed.all.bytes, faults);
-    let mut is_first = true;
-    for lost in swallowed.first() {
-        tell_lost(*lost, is_first, faults);
-        is_first = false;
-    }
-    tell_more(swallowed.more(), faults);
-    put("\n", faults);
-}
-
-// What was swallowed at a place.
-fn tell_lost<E: Write>(lost: Lost, is_first: bool, faults: &mut E) {
-    put(if is_first { ":" } else { "," }, faults);
-    tell_bytes(lost.bytes, faults);
-    put(" of ", faults);
-    put(lost.kind.name(), faults);
-    tell_place(lost.place, faults);
-}
-
-// How often more was swallowed.
-fn tell_more<E: Write>(more: u64, faults: &mut E) {
-    if more > 0 {
-        put_number(", and ", more, faults);
-        put(" more", faults);
-    }
-}
-
 // What the end of the stream leaves open.
-fn tell_open<E: Write>(open: Lost, name: &str, faults: &mut E) {
+fn tell_open<E: Write>(open: Open, name: &str, faults: &mut E) {
     begin(name, faults);
-    put("warning: ", faults);
-    put(open.kind.name(), faults);
+    put("warning:", faults);
+    tell_name(open.name, faults);
     put(" is open at the end, since it began", faults);
-    tell_place(open.place, faults);
+    tell_place(open.first, faults);
     put("\n", faults);
-}
-
-// That the account is of a beginning of the stream.
-fn tell_failure<E: Write>(bytes: u64, name: &str, faults: &mut E) {
-    begin(name, faults);
-    put_number(
-        "out of memory for the report, which is of the first ",
-        bytes,
-        faults,
-    );
-    put(" bytes\n", faults);
 }

@@ -1,11 +1,12 @@
 //! One stream, from its reader to the output.
-ghost use Rattle.std.specs.Prelude.{IsErrOf, false, true};
+ghost use Rattle.std.specs.Prelude.{IsErrOf, [], false, true};
 ghost use Rattle.esc_normal.specs.Streams.{Filters, IsEither, New};
 ghost use Rattle.memory.specs.Refusals.{Refused};
 ghost use Rattle.escfilter.specs.Adding.{NewAdding};
 ghost use Rattle.escfilter.specs.Written.{IsWritten, final_by, left_by, seen_by, text_of};
 
 use crate::options::Options;
+use esc_account::{Audience, Audited};
 use esc_filter::{
     Feeding, Filter, FilterError, LineFilter, filter_from, written_lines_read_back,
     written_reads_back,
@@ -25,13 +26,16 @@ pub(crate) const COLUMNS: usize = 16_384;
 /// Writes on `writer` what passes by the options of what `reader` reads, as it comes: of each line,
 /// or of the whole; where what does not pass is shown, that in place; and of it all what is left of
 /// the lines, where these may be written again. It returns what `filter_lines` does, or
-/// `filter_stream`.
-pub fn filter_by<A: Allocator + Copy, R: Read, W: Write>(
+/// `filter_stream`. The audience hears what is read, and what passes of it, before rows of that are
+/// written again.
+pub fn filter_by<A: Allocator + Copy, R: Read, W: Write, K: Audience<A> + Drop>(
     alloc: A,
     options: &Options<'_>,
+    audience: K,
     reader: &mut Watched<R>,
     writer: &mut Watched<W>,
 ) -> Result<(), FilterError>
+    requires { K.heard audience [] [] }
     ensures holds { Filters R.Read W.Write (text_of A options.now) (IsWritten A options.now) result
         reader writer }
     ensures refused { IsErrOf result FilterError.Memory → Refused A }
@@ -41,22 +45,30 @@ pub fn filter_by<A: Allocator + Copy, R: Read, W: Write>(
     if by_lines {
         written_lines_read_back::<A>();
         let filter = LineFilter::with_unicode(alloc, options.limit, options.choice, unicode);
-        filter_shown(alloc, options, filter, reader, writer)
+        filter_shown(alloc, options, filter, audience, reader, writer)
     } else {
         written_reads_back::<A>();
         let filter = Filter::with_unicode(alloc, options.limit, options.choice, unicode);
-        filter_shown(alloc, options, filter, reader, writer)
+        filter_shown(alloc, options, filter, audience, reader, writer)
     }
 }
 
 // Writes on `writer` by this filter, which was fed nothing, what is written of what `reader` reads.
-fn filter_shown<A: Allocator + Copy, R: Read, W: Write, F: Feeding<A> + Drop>(
+fn filter_shown<
+    A: Allocator + Copy,
+    R: Read,
+    W: Write,
+    F: Feeding<A> + Drop,
+    K: Audience<A> + Drop,
+>(
     alloc: A,
     options: &Options<'_>,
     filter: F,
+    audience: K,
     reader: &mut Watched<R>,
     writer: &mut Watched<W>,
 ) -> Result<(), FilterError>
+    requires { K.heard audience [] [] }
     ensures holds { NewAdding F.Feeding filter (λ m c. Filters R.Read W.Write
         (left_by A options.now.rows (λ s. c (seen_by A options.now true s)))
         (IsEither (left_by A options.now.rows (λ s. c (seen_by A options.now true s)))
@@ -69,26 +81,35 @@ fn filter_shown<A: Allocator + Copy, R: Read, W: Write, F: Feeding<A> + Drop>(
     if shows {
         let reveal = Reveal::new(alloc, options.limit, options.choice, options.by_lines);
         let filter = Revealing::new(alloc, reveal, filter);
-        filter_left(alloc, options.rows, filter, reader, writer)
+        filter_left(alloc, options.rows, filter, audience, reader, writer)
     } else {
-        filter_left(alloc, options.rows, filter, reader, writer)
+        filter_left(alloc, options.rows, filter, audience, reader, writer)
     }
 }
 
 // Writes on `writer` what is left of the lines of what this filter, which was fed nothing, gives
 // for what `reader` reads; where no rows may be written again, all of it.
-fn filter_left<A: Allocator + Copy, R: Read, W: Write, F: Feeding<A> + Drop>(
+fn filter_left<
+    A: Allocator + Copy,
+    R: Read,
+    W: Write,
+    F: Feeding<A> + Drop,
+    K: Audience<A> + Drop,
+>(
     alloc: A,
     rows: Option<usize>,
-    filter: F,
+    inner: F,
+    audience: K,
     reader: &mut Watched<R>,
     writer: &mut Watched<W>,
 ) -> Result<(), FilterError>
-    ensures holds { New F.Feeding filter (λ m c. Filters R.Read W.Write (left_by A rows c)
+    requires { K.heard audience [] [] }
+    ensures holds { New F.Feeding inner (λ m c. Filters R.Read W.Write (left_by A rows c)
         (IsEither (left_by A rows c) (final_by A rows m)) result reader writer) }
-    ensures refused { New F.Feeding filter (λ m c.
+    ensures refused { New F.Feeding inner (λ m c.
         IsErrOf result FilterError.Memory → Refused A) }
 {
+    let filter = Audited { inner, audience };
     match rows {
         None => {
             let mut filter = filter;

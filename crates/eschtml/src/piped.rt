@@ -36,6 +36,8 @@ impl<F: Feeding<A>, G: Feeding<A>, A: Allocator> Feeding<A> for Piped<F, G, A> {
 
     ghost added = { λ f. string_bytes f.text };
 
+    ghost has_ended = { λ _ _ _. Unit {0} };
+
     fn feed_piece(&mut self, bytes: &[u8]) -> Result<(), AllocError> {
         self.text.clear();
         match self.first.feed_piece(bytes) {

@@ -49,6 +49,8 @@ impl<A: Allocator + Copy> Feeding<A> for Marked<A> {
 
     ghost added = { λ f. if f.has_ended then f.closing.now else added_by f.writer };
 
+    ghost has_ended = { λ _ _ _. Unit {0} };
+
     fn feed_piece(&mut self, bytes: &[u8]) -> Result<(), AllocError> {
         self.has_ended = false;
         match self.writer.feed(bytes) {

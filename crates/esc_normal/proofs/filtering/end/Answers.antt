@@ -10,7 +10,8 @@ returns-in-Ok g c =
     let out = c.write_out.ensures in record {
       given = λ m e s h.
           let k = c.in-Ok.ensures.ended m e s h ∙ ap (λ x. m s ++ x) (sym c.added_text.ensures) in
-          on_ok_more _ _ c.write_out.result (λ a. (c.added_text.result.now, k, a)) out.whole;
+          on_ok_more _ _ c.write_out.result
+          (λ a. (c.in-Ok.ensures.closed m e s h, (c.added_text.result.now, k, a))) out.whole;
       beginning = λ m e s h.
           let k = c.in-Ok.ensures.ended m e s h ∙ ap (λ x. m s ++ x) (sym c.added_text.ensures) in
           on_err_weaker c.write_out.result (λ a. (c.added_text.result.now, k, a)) out.beginning;

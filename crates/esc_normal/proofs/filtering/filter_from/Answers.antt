@@ -15,7 +15,7 @@ returns-in-Ok-filter_all-clause-holds g c = λ m e fresh none more.
     record {
       read_all = ok_any c.end.result f.read_all;
       written = on_ok_more _ _ c.end.result
-          (λ w. (r.0, e r.0, r.2, written_more _ _ _ _ w.0 _ r.3 w.2 w.1, refl))
+          (λ w. (r.0, e r.0, r.2, written_more _ _ _ _ w.1.0 _ r.3 w.1.2 w.1.1, refl))
           (ends.given m e r.0 r.1);
       decided = λ k. absurd (ends.no_read k);
       endless = λ k. absurd (ends.no_end k);
@@ -78,3 +78,14 @@ returns-clause-holds g c = λ m e fresh none more.
 
 pub returns-clause-refused : goal.returns-clause-refused
 returns-clause-refused g c = λ m e fresh none more. c.in-Err.ensures.refused m e fresh none more
+
+pub returns-in-Ok-filter_all-clause-ended : goal.returns-in-Ok-filter_all-clause-ended
+returns-in-Ok-filter_all-clause-ended g c = λ m e fresh none more.
+    let r = c.in-Ok-filter_all.ensures.fed m e fresh none more in
+    on_ok_more _ _ c.end.result (λ w. (r.0, w.0, r.2)) (c.end.ensures.given m e r.0 r.1)
+
+pub returns-in_default-clause-ended : goal.returns-in_default-clause-ended
+returns-in_default-clause-ended g c = λ m e fresh none more. tt
+
+pub returns-clause-ended : goal.returns-clause-ended
+returns-clause-ended g c = λ m e fresh none more. tt

@@ -1,7 +1,8 @@
-use Rattle.std.proofs.Common.{◌≡◌, ◌+◌, List, length}
+use Rattle.std.proofs.Common.{◌≡◌, ◌≤◌, ◌+◌, ◌++◌, List, length}
 use Rattle.esc_frame.specs.Segments.{Segment as Shape, IsCut}
 use Rattle.esc_segments.specs.Items.{left}
 use Rattle.esc_account.specs.Accounts.{run, total}
+use Rattle.esc_account.specs.Entries.{Entry, entries, noted}
 use Rattle.esc_account.proofs.account.Account.entered.Given as goal
 
 abbrev pub invariant-loop-segment : goal.invariant-loop-segment
@@ -9,6 +10,13 @@ invariant-loop-segment g l = record {
   next : (goal.iterator-loop-segment g).can_next l.segments;
   finite : (goal.iterator-loop-segment g).is_finite l.segments;
   sums : total l.account.sums + length (left l.segments) ≡ total l.fn.self.sums + length l.bytes;
+  lines : l.account.lines + length (left l.segments) ≤ l.fn.self.lines + length l.bytes;
   entered : (gs ks : List Shape) → IsCut l.bytes gs → IsCut (left l.segments) ks
       → run (g.J.Judge.rule l.judge) l.account ks ≡ run (g.J.Judge.rule l.judge) l.fn.self gs;
+  given : (gs : List Shape) (es : List Entry) → IsCut l.bytes gs
+      → g.B.Book.was_given l.fn.book es
+      → (fs : List Entry) × g.B.Book.was_given l.book fs
+      × ((ks : List Shape) → IsCut (left l.segments) ks
+      → fs ++ noted (entries (g.J.Judge.rule l.judge) l.account ks)
+      ≡ es ++ noted (entries (g.J.Judge.rule l.judge) l.fn.self gs));
 }

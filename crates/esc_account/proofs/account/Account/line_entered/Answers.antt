@@ -1,4 +1,7 @@
-use Rattle.esc_account.proofs.Entering.{line_other, line_same, never}
+use Rattle.esc_parse.proofs.Lists.{on_ok_more}
+use Rattle.esc_account.specs.Accounts.{line_begun}
+use Rattle.esc_account.specs.Entries.{entries, noted}
+use Rattle.esc_account.proofs.Entering.{gives_other, line_other, line_same, never}
 use Rattle.esc_account.proofs.account.Account.line_entered.Goals as goal
 
 pub returns-then-is_same-clause-entered : goal.returns-then-is_same-clause-entered
@@ -11,3 +14,17 @@ returns-else-is_same-clause-entered g c =
     line_other (g.J.Judge.rule c.args.judge.now) c.args.self c.args.line.now c.args.written.now
     c.entered.result (λ e. never c.is_same.result (c.is_same.ensures.1 e) c.if-is_same.false)
     c.entered.ensures.entered
+
+pub returns-else-is_same-clause-given : goal.returns-else-is_same-clause-given
+returns-else-is_same-clause-given g c = λ es old.
+    let r = g.J.Judge.rule c.args.judge.now in
+    let line = c.args.line.now in
+    let k = c.has_cut.ensures line in
+    on_ok_more _ _ c.entered.result
+    (λ h. (
+      noted (entries r (line_begun c.args.self) k.0),
+      gives_other c.one_cut.ensures r c.args.self line c.args.written.now k.0
+          (λ e. never c.is_same.result (c.is_same.ensures.1 e) c.if-is_same.false) k.1,
+      h,
+    ))
+    (c.entered.ensures.given k.0 es k.1 old)

@@ -1,0 +1,10 @@
+use Rattle.std.proofs.Common.{arith}
+use Rattle.esc_account.proofs.SameBytes.{block_more}
+use Rattle.esc_account.proofs.same_lines.same_bytes.Goals as goal
+
+pub loop-at-preserved : goal.loop-at-preserved
+loop-at-preserved c = record {
+  few = omega (arith, c.loop-at-test.true);
+  same = block_more c.loop-at.at 256 c.args.bytes.now c.args.text.now c.loop-at.invariant.same
+      (c.is_same.ensures.0 c.if-is_same.true);
+}

@@ -1,0 +1,45 @@
+//! Whoever hears of a stream what is written of it.
+#![tactic(auto)]
+
+ghost use Rattle.std.specs.Prelude.{◌++◌, ℕ, List, OnErr, OnOk};
+ghost use Rattle.memory.specs.Refusals.{Refused};
+
+use std::alloc::{AllocError, Allocator};
+
+/// Hears what comes of a stream, each time with the text that a filter wrote of that: a
+/// [`LineLedger`](crate::LineLedger) or a [`Ledger`](crate::Ledger).
+pub trait Audience<A: Allocator> {
+    // it heard this stream, of which this text was written
+    ghost heard: { Self → List ℕ → List ℕ → Type 0 };
+
+    // the same of one that has ended
+    ghost heard_all: { Self → List ℕ → List ℕ → Type 0 };
+
+    /// Hears bytes more, and the text that was written of them. `AllocError` says that a request
+    /// for memory was refused.
+    fn hear(&mut self, bytes: &[u8], text: &str) -> Result<(), AllocError>
+        ensures heard { (s t : List ℕ) → heard self.old s t
+            → OnOk result (heard self.new (s ++ bytes.now) (t ++ text.now)) }
+        ensures refused { OnErr result (Refused A) };
+
+    /// Hears that the stream has ended, and the text that was written at its end.
+    fn hear_end(&mut self, text: &str) -> Result<(), AllocError>
+        ensures ended { (s t : List ℕ) → heard self.old s t
+            → OnOk result (heard_all self.new s (t ++ text.now)) }
+        ensures refused { OnErr result (Refused A) };
+}
+
+// What is lent.
+impl<K: Audience<A>, A: Allocator> Audience<A> for &mut K {
+    ghost heard = { λ k s t. K.heard k.now s t };
+
+    ghost heard_all = { λ k s t. K.heard_all k.now s t };
+
+    fn hear(&mut self, bytes: &[u8], text: &str) -> Result<(), AllocError> {
+        (**self).hear(bytes, text)
+    }
+
+    fn hear_end(&mut self, text: &str) -> Result<(), AllocError> {
+        (**self).hear_end(text)
+    }
+}

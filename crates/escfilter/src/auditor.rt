@@ -1,0 +1,64 @@
+//! Whoever keeps the account of a stream, where there is one.
+
+use crate::named_groups::Choice;
+use crate::options::Options;
+use crate::rows::{Rows, judge_of};
+use esc_account::{Account, Audience, Ledger, LineLedger, PolicyJudge};
+use std::alloc::{AllocError, Global};
+
+/// Keeps the account of a stream, or none.
+#[derive(Drop)]
+pub enum Auditor<'a> {
+    /// None.
+    Nobody,
+    /// Of a stream whose lines are streams of their own.
+    Lines(LineLedger<PolicyJudge<Choice<'a>>, Rows<'a>>),
+    /// Of a stream that is one.
+    Whole(Ledger<PolicyJudge<Choice<'a>>, Rows<'a>>),
+}
+
+impl<'a> Auditor<'a> {
+    /// Of no byte yet: of a stream that is filtered by these options. Takes no memory.
+    pub fn new(alloc: Global, options: Options<'a>) -> Auditor<'a> {
+        let rows = Rows::new(alloc, options);
+        let judge = judge_of(alloc, options);
+        if options.report.is_none() && !options.fails {
+            Auditor::Nobody
+        } else if options.by_lines {
+            Auditor::Lines(LineLedger::new(alloc, judge, rows))
+        } else {
+            Auditor::Whole(Ledger::new(alloc, judge, rows))
+        }
+    }
+
+    /// The account, and what did not pass.
+    pub fn account(&self) -> Option<(Account, &Rows<'a>)> {
+        match self {
+            Auditor::Nobody => None,
+            Auditor::Lines(ledger) => Some((ledger.account(), ledger.book())),
+            Auditor::Whole(ledger) => Some((ledger.account(), ledger.book())),
+        }
+    }
+}
+
+impl<'a> Audience<Global> for Auditor<'a> {
+    ghost heard = { λ _ _ _. Unit {0} };
+
+    ghost heard_all = { λ _ _ _. Unit {0} };
+
+    fn hear(&mut self, bytes: &[u8], text: &str) -> Result<(), AllocError> {
+        match self {
+            Auditor::Nobody => Ok(()),
+            Auditor::Lines(ledger) => ledger.hear(bytes, text),
+            Auditor::Whole(ledger) => ledger.hear(bytes, text),
+        }
+    }
+
+    fn hear_end(&mut self, text: &str) -> Result<(), AllocError> {
+        match self {
+            Auditor::Nobody => Ok(()),
+            Auditor::Lines(ledger) => ledger.hear_end(text),
+            Auditor::Whole(ledger) => ledger.hear_end(text),
+        }
+    }
+}

@@ -1,0 +1,161 @@
+//! What did not pass of a stream, by name.
+
+use crate::name::{Name, kind_name, name_of};
+use crate::named_groups::Choice;
+use crate::options::Options;
+use esc_account::{Account, Book, Entry, Fate, PolicyJudge, read_segment};
+use esc_segments::{Segment, SegmentKind};
+use std::alloc::{AllocError, Global};
+
+/// What of a stream has one fate and one name.
+#[derive(Clone, Copy)]
+pub struct Row {
+    pub fate: Fate,
+    pub name: Name,
+    /// How many segments there are, and of how many bytes with the terminators of strings.
+    pub count: u64,
+    pub bytes: u64,
+    /// Where the first of them is.
+    pub first: Place,
+}
+
+/// A place in a stream.
+#[derive(Clone, Copy)]
+pub struct Place {
+    /// How many bytes come before it.
+    pub byte: u64,
+    /// How many line feeds are among these.
+    pub line: u64,
+}
+
+/// What the end of a stream leaves unfinished.
+#[derive(Clone, Copy)]
+pub struct Open {
+    pub name: Name,
+    pub bytes: u64,
+    pub first: Place,
+}
+
+/// What did not pass of a stream: a row for each fate and name, in the order in which the first of
+/// each came.
+#[derive(Drop)]
+pub struct Rows<'a> {
+    alloc: Global,
+    options: Options<'a>,
+    judge: PolicyJudge<Choice<'a>>,
+    pub rows: Vec<Row>,
+    // the row of the entry that came last
+    last: usize,
+    open: Option<Open>,
+}
+
+impl<'a> Rows<'a> {
+    /// None yet. Takes no memory.
+    pub fn new(alloc: Global, options: Options<'a>) -> Rows<'a> {
+        Rows {
+            alloc,
+            options,
+            judge: judge_of(alloc, options),
+            rows: Vec::new(alloc),
+            last: 0,
+            open: None,
+        }
+    }
+
+    /// What the end of the stream, of which this is the account, leaves unfinished.
+    pub fn open(&self, account: Account) -> Option<Open> {
+        match self.open {
+            Some(open) if (open.first.byte as u128) + (open.bytes as u128) == account.sums.total() => {
+                Some(open)
+            }
+            _ => None,
+        }
+    }
+
+    // Notes an entry under this name.
+    fn note(&mut self, entry: Entry<'_>, name: Name) -> Result<(), AllocError> {
+        let first = Place {
+            byte: entry.place,
+            line: entry.line,
+        };
+        self.last = self.row_of(entry.fate, name, first)?;
+        if let Some(row) = self.rows.get_mut(self.last) {
+            row.count = row.count.saturating_add(1);
+        }
+        self.open = self.open_of(entry.segment, name, first);
+        Ok(())
+    }
+
+    // What the segment, which has this name and place, would leave unfinished at the end of the
+    // stream: by lines a line feed ends it.
+    fn open_of(&self, segment: Segment<'_>, name: Name, first: Place) -> Option<Open> {
+        let ends = self.options.by_lines && segment.bytes.last() == Some(&b'\n');
+        if segment.finished || ends {
+            return None;
+        }
+        Some(Open {
+            name,
+            bytes: segment.bytes.len() as u64,
+            first,
+        })
+    }
+
+    // The row of this fate and name, which is new where there is none.
+    fn row_of(&mut self, fate: Fate, name: Name, first: Place) -> Result<usize, AllocError> {
+        for (at, row) in self.rows.iter().enumerate() {
+            if row.fate == fate && row.name == name {
+                return Ok(at);
+            }
+        }
+        let at = self.rows.len();
+        self.rows.push(Row {
+            fate,
+            name,
+            count: 0,
+            bytes: 0,
+            first,
+        })?;
+        Ok(at)
+    }
+
+    // The name of what did not pass of a segment: of the first action of which nothing is written,
+    // and else of what the segment is.
+    fn name(&self, segment: Segment<'_>, fate: Fate) -> Result<Name, AllocError> {
+        if fate == Fate::LeftOut {
+            let actions = read_segment(self.alloc, self.options.limit, segment)?;
+            for action in &actions {
+                if !self.judge.writes(action) {
+                    return Ok(name_of(action));
+                }
+            }
+        }
+        Ok(kind_name(segment.kind, segment.bytes))
+    }
+}
+
+impl<'a> Book<Global> for Rows<'a> {
+    ghost was_given = { λ _ _. Unit {0} };
+
+    fn enter(&mut self, made: Entry<'_>) -> Result<(), AllocError> {
+        if made.fate == Fate::Respelled {
+            return Ok(());
+        }
+        if !made.is_end {
+            let name = self.name(made.segment, made.fate)?;
+            self.note(made, name)?;
+        }
+        if let Some(row) = self.rows.get_mut(self.last) {
+            row.bytes = row.bytes.saturating_add(made.segment.bytes.len() as u64);
+        }
+        Ok(())
+    }
+}
+
+/// Says what becomes of a segment by these options.
+pub fn judge_of<'a>(alloc: Global, options: Options<'a>) -> PolicyJudge<Choice<'a>> {
+    if options.by_lines {
+        PolicyJudge::by_lines(alloc, options.limit, options.choice, options.unicode)
+    } else {
+        PolicyJudge::new(alloc, options.limit, options.choice, options.unicode)
+    }
+}
