@@ -1,3 +1,4 @@
 pub mod Written
 pub mod Adding
 pub mod Choices
+pub mod Fates

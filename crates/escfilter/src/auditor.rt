@@ -1,9 +1,9 @@
 //! Whoever keeps the account of a stream, where there is one.
 
-use crate::named_groups::Choice;
+use crate::judging::Judging;
 use crate::options::Options;
-use crate::rows::{Rows, judge_of};
-use esc_account::{Account, Audience, Ledger, LineLedger, PolicyJudge};
+use crate::rows::Rows;
+use esc_account::{Account, Audience, Ledger, LineLedger};
 use std::alloc::{AllocError, Global};
 
 /// Keeps the account of a stream, or none.
@@ -12,16 +12,16 @@ pub enum Auditor<'a> {
     /// None.
     Nobody,
     /// Of a stream whose lines are streams of their own.
-    Lines(LineLedger<PolicyJudge<Choice<'a>>, Rows<'a>>),
+    Lines(LineLedger<Judging<'a>, Rows<'a>>),
     /// Of a stream that is one.
-    Whole(Ledger<PolicyJudge<Choice<'a>>, Rows<'a>>),
+    Whole(Ledger<Judging<'a>, Rows<'a>>),
 }
 
 impl<'a> Auditor<'a> {
     /// Of no byte yet: of a stream that is filtered by these options. Takes no memory.
     pub fn new(alloc: Global, options: Options<'a>) -> Auditor<'a> {
         let rows = Rows::new(alloc, options);
-        let judge = judge_of(alloc, options);
+        let judge = Judging::new(alloc, options);
         if options.report.is_none() && !options.fails {
             Auditor::Nobody
         } else if options.by_lines {

@@ -7,6 +7,7 @@ mod auditor;
 mod cast;
 mod filtering;
 mod json;
+mod judging;
 mod name;
 mod named_groups;
 mod options;

@@ -1,10 +1,10 @@
 //! What did not pass of a stream, by name.
 
 use crate::name::{Name, kind_name, name_of};
-use crate::named_groups::Choice;
+use crate::judging::Judging;
 use crate::options::Options;
-use esc_account::{Account, Book, Entry, Fate, PolicyJudge, read_segment};
-use esc_segments::{Segment, SegmentKind};
+use esc_account::{Account, Book, Entry, Fate, read_segment};
+use esc_segments::Segment;
 use std::alloc::{AllocError, Global};
 
 /// What of a stream has one fate and one name.
@@ -42,7 +42,7 @@ pub struct Open {
 pub struct Rows<'a> {
     alloc: Global,
     options: Options<'a>,
-    judge: PolicyJudge<Choice<'a>>,
+    judge: Judging<'a>,
     pub rows: Vec<Row>,
     // the row of the entry that came last
     last: usize,
@@ -55,7 +55,7 @@ impl<'a> Rows<'a> {
         Rows {
             alloc,
             options,
-            judge: judge_of(alloc, options),
+            judge: Judging::new(alloc, options),
             rows: Vec::new(alloc),
             last: 0,
             open: None,
@@ -65,10 +65,15 @@ impl<'a> Rows<'a> {
     /// What the end of the stream, of which this is the account, leaves unfinished.
     pub fn open(&self, account: Account) -> Option<Open> {
         match self.open {
-            Some(open) if (open.first.byte as u128) + (open.bytes as u128) == account.sums.total() => {
-                Some(open)
+            Some(open) => {
+                let end = open.first.byte as u128 + open.bytes as u128;
+                if end == account.sums.total() {
+                    Some(open)
+                } else {
+                    None
+                }
             }
-            _ => None,
+            None => None,
         }
     }
 
@@ -121,7 +126,7 @@ impl<'a> Rows<'a> {
     // The name of what did not pass of a segment: of the first action of which nothing is written,
     // and else of what the segment is.
     fn name(&self, segment: Segment<'_>, fate: Fate) -> Result<Name, AllocError> {
-        if fate == Fate::LeftOut {
+        if fate == Fate::LeftOut || fate == Fate::Shown {
             let actions = read_segment(self.alloc, self.options.limit, segment)?;
             for action in &actions {
                 if !self.judge.writes(action) {
@@ -148,14 +153,5 @@ impl<'a> Book<Global> for Rows<'a> {
             row.bytes = row.bytes.saturating_add(made.segment.bytes.len() as u64);
         }
         Ok(())
-    }
-}
-
-/// Says what becomes of a segment by these options.
-pub fn judge_of<'a>(alloc: Global, options: Options<'a>) -> PolicyJudge<Choice<'a>> {
-    if options.by_lines {
-        PolicyJudge::by_lines(alloc, options.limit, options.choice, options.unicode)
-    } else {
-        PolicyJudge::new(alloc, options.limit, options.choice, options.unicode)
     }
 }

@@ -1,0 +1,11 @@
+-- What becomes of bytes, where what is not in the output may be shown.
+use Rattle.std.specs.Prelude.{Bool, true, false}
+use Rattle.esc_account.specs.declared.fate.Fate.{Fate}
+use Rattle.esc_account.specs.declared.fate.Fate.TheVariants as fates
+
+abbrev pub shown_by : Bool → Fate → Fate
+shown_by false f = f
+shown_by true fates.LeftOut = fates.Shown
+shown_by true fates.Swallowed = fates.Shown
+shown_by true fates.Replaced = fates.Shown
+shown_by true f = f

@@ -1,0 +1,73 @@
+//! What becomes of a segment by the program's options.
+ghost use Rattle.esc_account.specs.Rules.{rule_of};
+ghost use Rattle.escfilter.specs.Fates.{shown_by};
+ghost use Rattle.escfilter.specs.Written.{admits_choice};
+
+use crate::named_groups::Choice;
+use crate::options::Options;
+use esc_account::{Fate, Judge, PolicyJudge};
+use esc_actions::Action;
+use esc_segments::Segment;
+use std::alloc::{AllocError, Global};
+
+/// Says what the program does to a segment: what the filter does, but that what is not in the
+/// output as itself may be shown.
+#[derive(Drop)]
+pub struct Judging<'a> {
+    policy: PolicyJudge<Choice<'a>>,
+    shows: bool,
+}
+
+impl<'a> Judging<'a> {
+    /// By these options.
+    pub fn new(alloc: Global, options: Options<'a>) -> Judging<'a> {
+        let Options {
+            limit,
+            choice,
+            unicode,
+            ..
+        } = options;
+        let policy = if options.by_lines {
+            PolicyJudge::by_lines(alloc, limit, choice, unicode)
+        } else {
+            PolicyJudge::new(alloc, limit, choice, unicode)
+        };
+        Judging {
+            policy,
+            shows: options.shows,
+        }
+    }
+
+    /// Whether something is written of the action.
+    pub fn writes(&self, action: &Action) -> bool {
+        self.policy.writes(action)
+    }
+}
+
+impl<'a> Judge<Global> for Judging<'a> {
+    ghost rule = { λ j g finished. shown_by j.shows (rule_of {A = Global} j.policy.by_lines
+        j.policy.unicode j.policy.limit (admits_choice j.policy.policy) g finished) };
+
+    fn fate(&self, segment: Segment<'_>) -> Result<Fate, AllocError> {
+        match self.policy.fate(segment) {
+            Ok(fate) => Ok(shown_by(self.shows, fate)),
+            Err(error) => Err(error),
+        }
+    }
+}
+
+// What becomes of what has this fate, where what is not in the output may be shown.
+fn shown_by(shows: bool, fate: Fate) -> Fate
+    ensures { result ≡ shown_by shows fate }
+{
+    match fate {
+        Fate::LeftOut | Fate::Swallowed | Fate::Replaced => {
+            if shows {
+                Fate::Shown
+            } else {
+                fate
+            }
+        }
+        Fate::Passed | Fate::Respelled | Fate::Shown | Fate::Overwritten => fate,
+    }
+}
