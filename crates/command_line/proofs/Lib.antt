@@ -1,2 +1,4 @@
 mod Words
 mod ShownWords
+mod Bits
+mod Units

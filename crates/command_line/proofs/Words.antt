@@ -8,7 +8,7 @@ use Rattle.std.proofs.lemmas.List.{append_assoc, drop-map}
 use Rattle.std.proofs.lemmas.Bool.{cases_Bool}
 use Rattle.std.proofs.lemmas.Str.Pattern.{starts_text}
 use Rattle.command_line.specs.declared.table.Known.{Known}
-use Rattle.command_line.specs.Words.{ends_options, files_of, given_by, is_file, options_of, takes_next}
+use Rattle.command_line.specs.Words.{are_right, ends_options, files_of, given_by, is_file, is_right, options_of, takes_next}
 
 -- how many words an option takes
 abbrev pub taken : List Known → List ℕ → ℕ
@@ -28,7 +28,7 @@ files_left known true [] = refl
 files_left known true (w ∷ ws) = refl
 
 -- the options of all words are those that the first adds and those that are left
-options_next : (known : List Known) (os ns : List (List ℕ × List ℕ)) (w : List ℕ)
+options_next : (known : List Known) (os ns : List (List ℕ × List ℕ × ℕ × ℕ)) (w : List ℕ)
     (ws rest : List (List ℕ)) → ends_options w ≡ false
     → (is_file w ≡ true → (rest ≡ ws) × (ns ≡ os))
     → (is_file w ≡ false → (rest ≡ drop (taken known w) ws)
@@ -56,7 +56,7 @@ files_next known os ns w ws rest e f o = elim (cases_Bool (is_file w)) [
 
 -- the same of words that have a text
 pub options_step : {S : Type 0} (text : S → List ℕ) (known : List Known)
-    (os ns : List (List ℕ × List ℕ)) (w : List ℕ) (x : S) (all after rest : List S)
+    (os ns : List (List ℕ × List ℕ × ℕ × ℕ)) (w : List ℕ) (x : S) (all after rest : List S)
     → w ≡ text x → all ≡ x ∷ after → ends_options w ≡ false
     → (is_file w ≡ true → (rest ≡ after) × (ns ≡ os))
     → (is_file w ≡ false → (rest ≡ drop (taken known w) after)
@@ -87,6 +87,38 @@ files_step text known os ns w x all after rest t a e f o =
     ))
     ∙ ap (λ v. os ++ files_of known false (v ∷ map text after)) t
     ∙ ap (λ us. os ++ files_of known false (map text us)) (sym a)
+
+-- ---- which words are right
+
+right_left : (known : List Known) (t : Bool) (ws : List (List ℕ))
+    → are_right known t ws ≡ are_right known false (drop (if t then 1 else 0) ws)
+right_left known false ws = refl
+right_left known true [] = refl
+right_left known true (w ∷ ws) = refl
+
+-- where a file or an option is right, those that are left decide
+right_next : (known : List Known) (w : List ℕ) (ws rest : List (List ℕ)) → ends_options w ≡ false
+    → (is_file w ≡ true → rest ≡ ws) → (is_file w ≡ false → rest ≡ drop (taken known w) ws)
+    → (if is_file w then true else is_right known w ws) ≡ true
+    → are_right known false rest ≡ are_right known false (w ∷ ws)
+right_next known w ws rest e f o r = elim (cases_Bool (is_file w)) [
+  | inl is ↦ rw e (rw is (rw (f is) refl))
+  | inr is ↦
+      let right : is_right known w ws ≡ true = rw is at r in
+      rw e (rw is (rw (right, o is) (sym (right_left known (takes_next known w) ws))))
+]
+
+pub right_step : {S : Type 0} (text : S → List ℕ) (known : List Known) (w : List ℕ) (x : S)
+    (all after rest : List S) → w ≡ text x → all ≡ x ∷ after → ends_options w ≡ false
+    → (is_file w ≡ true → rest ≡ after) → (is_file w ≡ false → rest ≡ drop (taken known w) after)
+    → (if is_file w then true else is_right known w (map text after)) ≡ true
+    → are_right known false (map text rest) ≡ are_right known false (map text all)
+right_step text known w x all after rest t a e f o r =
+    right_next known w (map text after) (map text rest) e
+    (λ is. ap (map text) (f is))
+    (λ is. ap (map text) (o is) ∙ sym (drop-map text (taken known w) after)) r
+    ∙ ap (λ v. are_right known false (v ∷ map text after)) t
+    ∙ ap (λ us. are_right known false (map text us)) (sym a)
 
 -- what is left of a text after another, where it begins with it
 pub strip_is : (n s : List ℕ) (r : Option (Bor (List ℕ)))

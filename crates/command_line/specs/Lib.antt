@@ -1,3 +1,5 @@
 pub mod Words
+pub mod Given
+pub mod Sizes
 pub mod Endings
 pub mod ShownWords

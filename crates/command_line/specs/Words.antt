@@ -1,11 +1,13 @@
 -- Which of a program's words are options, and which are files.
-use Rattle.std.specs.Prelude.{ℕ, nat_lt, nat_eq, ◌==◌, ◌&&◌, ◌||◌, Bool, true, false, not, if◌then◌else◌, List, [], ◌∷◌, ◌++◌, drop, length, codes, slice_index, Option, Some, None}
+use Rattle.std.specs.Prelude.{ℕ, ◌≡◌, ◌≢◌, MatchResult, Result, nat_lt, nat_eq, ◌==◌, ◌&&◌, ◌||◌, Bool, true, false, not, if◌then◌else◌, List, [], ◌∷◌, ◌++◌, drop, length, codes, slice_index, Option, Some, None}
 use Rattle.std.specs.Cmp.Lexicographic.{pointwise}
 use Rattle.std.specs.List.{before_first, after_first, starts_with}
-use Rattle.command_line.specs.declared.reading.Given.{Given}
+use Rattle.command_line.specs.Given.{is_value, said_by}
 use Rattle.command_line.specs.declared.table.Known.{Known}
 use Rattle.command_line.specs.declared.table.Takes.{Takes}
 use Rattle.command_line.specs.declared.table.Takes.TheVariants as takes
+use Rattle.command_line.specs.declared.wrong.Wrong.{Wrong}
+use Rattle.command_line.specs.declared.wrong.Wrong.TheVariants as wrong
 
 -- `--`, after which all words are files
 abbrev pub ends_options : List ℕ → Bool
@@ -65,15 +67,6 @@ value_of known w ws =
     if has_value w then after_first (λ b. b == 0x3d) w
     else if takes_next known w then first_of ws else []
 
--- the word that is given, where one or several of some are taken; a size that is given is not
--- said
-abbrev pub word_given : Takes → List ℕ → List ℕ
-word_given takes.Nothing v = []
-word_given takes.Size v = []
-word_given (takes.OneOf c ws) v = v
-word_given (takes.SomeOf c ws) v = v
-word_given (takes.Maybe c ws) v = v
-
 -- whether it is this option's name without its first `-`, as -output
 abbrev pub lacks_dash : Known → List ℕ → Bool
 lacks_dash o n = pointwise nat_eq o.name.now (0x2d ∷ n)
@@ -98,37 +91,34 @@ abbrev pub option_joined : List Known → List ℕ → List ℕ → Option (Know
 option_joined [] n w = None
 option_joined (o ∷ os) n w = with_value o (joined o n w) (option_joined os n w)
 
--- an option's name and its word, with this value
-abbrev pub given_of : Option Known → List ℕ → List (List ℕ × List ℕ)
+-- what an option is given, with this value
+abbrev pub given_of : Option Known → List ℕ → List (List ℕ × List ℕ × ℕ × ℕ)
 given_of None v = []
-given_of (Some o) v = (o.name.now, word_given o.takes v) ∷ []
+given_of (Some o) v = said_by o v ∷ []
 
 -- of the option that a word has the name or the letter of, with this value; or else of the one to
 -- whose letter its value is joined
-abbrev pub given_or : Option Known → List ℕ → Option (Known × List ℕ) → List (List ℕ × List ℕ)
+abbrev pub given_or : Option Known → List ℕ → Option (Known × List ℕ)
+    → List (List ℕ × List ℕ × ℕ × ℕ)
 given_or (Some o) v j = given_of (Some o) v
 given_or None v None = []
 given_or None v (Some j) = given_of (Some j.0) j.1
 
 -- of the option that a word names, before these words
-abbrev pub given_by : List Known → List ℕ → List (List ℕ) → List (List ℕ × List ℕ)
+abbrev pub given_by : List Known → List ℕ → List (List ℕ) → List (List ℕ × List ℕ × ℕ × ℕ)
 given_by known w ws =
     given_or (option_named known (name_in w)) (value_of known w ws)
     (option_joined known (name_in w) w)
 
--- the names and the words of the options that these words name, of which an option takes the first
--- where that is said
-abbrev pub options_of : List Known → Bool → List (List ℕ) → List (List ℕ × List ℕ)
+-- what the options that these words name are given, of which an option takes the first where that
+-- is said
+abbrev pub options_of : List Known → Bool → List (List ℕ) → List (List ℕ × List ℕ × ℕ × ℕ)
 options_of known is_taken [] = []
 options_of known true (w ∷ ws) = options_of known false ws
 options_of known false (w ∷ ws) =
     if ends_options w then []
     else if is_file w then options_of known false ws
     else given_by known w ws ++ options_of known (takes_next known w) ws
-
--- the name and the word of an option that was read
-abbrev pub said : Given → List ℕ × List ℕ
-said g = (g.name.now, g.word.now)
 
 -- the files that these words name, of which an option takes the first where that is said
 abbrev pub files_of : List Known → Bool → List (List ℕ) → List (List ℕ)
@@ -138,3 +128,42 @@ files_of known false (w ∷ ws) =
     if ends_options w then ws
     else if is_file w then w ∷ files_of known false ws
     else files_of known (takes_next known w) ws
+
+-- ---- which words are right
+
+abbrev pub first_is_value : Takes → List (List ℕ) → Bool
+first_is_value t [] = false
+first_is_value t (w ∷ ws) = is_value t w
+
+-- whether an option, without a value of its own, has one in the first of these words, where it
+-- takes one
+abbrev pub next_is_right : Known → List (List ℕ) → Bool
+next_is_right o ws = if takes_value o.takes then first_is_value o.takes ws else true
+
+-- whether the option that a word has the name or the letter of takes what the word, or the first of
+-- these, gives it; or else the one to whose letter its value is joined
+abbrev pub right_or : Option Known → List ℕ → List (List ℕ) → Option (Known × List ℕ) → Bool
+right_or (Some o) w ws j =
+    if has_value w then is_value o.takes (after_first (λ b. b == 0x3d) w) else next_is_right o ws
+right_or None w ws None = false
+right_or None w ws (Some j) = is_value j.0.takes j.1
+
+-- whether a word names an option, before these words, and gives it what it takes
+abbrev pub is_right : List Known → List ℕ → List (List ℕ) → Bool
+is_right known w ws =
+    right_or (option_named known (name_in w)) w ws (option_joined known (name_in w) w)
+
+-- whether each of these words is a file or a right option, of which an option takes the first where
+-- that is said
+abbrev pub are_right : List Known → Bool → List (List ℕ) → Bool
+are_right known is_taken [] = true
+are_right known true (w ∷ ws) = are_right known false ws
+are_right known false (w ∷ ws) =
+    if ends_options w then true
+    else if is_file w then are_right known false ws
+    else is_right known w ws && are_right known (takes_next known w) ws
+
+-- The result is no error where this holds, and where it does not there is one; that memory was
+-- refused may come in either case.
+abbrev pub Decides : {X : Type 0} → Bool → Result X Wrong → Type 0
+Decides holds r = MatchResult r (λ _. holds ≡ true) (λ e. e ≢ wrong.Memory → holds ≡ false)

@@ -25,7 +25,7 @@ pub use esc_visible::is_shown;
 pub use files::{INPUT, OUTPUT, Work, work_through};
 pub use noting::Noting;
 pub use output_file::open_closed;
-pub use reading::{Found, Given, read};
+pub use reading::{Found, Given, bits_are_words, read};
 pub use reason::Reason;
 pub use showing::Shown;
 pub use table::{Known, Takes};

@@ -1,6 +1,9 @@
 //! From a program's words to its options and its files.
-ghost use Rattle.std.specs.Prelude.{◌≡◌, ◌≤◌, ◌++◌, ◌∷◌, [], IfOk, drop, false, if◌then◌else◌, length, map, string_bytes, true};
-ghost use Rattle.command_line.specs.Words.{files_of, first_of, given_by, is_file, options_of, said, takes_next, takes_value, word_given};
+ghost use Rattle.std.specs.Prelude.{◌≡◌, ◌≤◌, ◌++◌, ◌∷◌, ℕ, List, [], IfErr, IfOk, MatchResult, drop, false, if◌then◌else◌, length, map, string_bytes, true, ◌<◌};
+ghost use denote.Ref.{Bor};
+ghost use Rattle.std.specs.List.{list_all, list_any};
+ghost use Rattle.command_line.specs.Given.{bit, bits_of, has_bit, is_among, is_one_of, is_place, is_value, parts, place_in, said, said_by};
+ghost use Rattle.command_line.specs.Words.{Decides, are_right, files_of, first_of, given_by, is_file, is_right, next_is_right, options_of, takes_next, takes_value};
 
 use crate::nearness::{nearest_name, nearest_word};
 use crate::sizes::size_of;
@@ -42,6 +45,10 @@ pub struct Given<'a> {
 /// which all words are files. What an option takes is the next word, whatever it is, or follows the
 /// name after `=`; what it may take follows `=`. Either may be joined to the option's letter, as in
 /// `-ofile`, but in a word that is the option's name without the first `-`.
+///
+/// The error is [`Wrong::Memory`] where memory was refused, and another exactly where a word is
+/// wrong: where it names no option, or gives one a value that it does not take, or none where it
+/// takes one.
 pub fn read<'a, A: Allocator + Copy>(
     alloc: A,
     known: &[Known],
@@ -51,6 +58,7 @@ pub fn read<'a, A: Allocator + Copy>(
         ≡ files_of known.now false (map string_bytes words.now)) }
     ensures options { IfOk result (λ found. map said found.options.items
         ≡ options_of known.now false (map string_bytes words.now)) }
+    ensures right { Decides (are_right known.now false (map string_bytes words.now)) result }
 {
     let mut found = Found {
         options: Vec::new(alloc),
@@ -74,6 +82,7 @@ fn read_into<'a, A: Allocator + Copy>(
     ensures options { IfOk result (λ _. map said found.new.options.items
         ≡ map said found.old.options.items
         ++ options_of known.now false (map string_bytes words.now)) }
+    ensures right { Decides (are_right known.now false (map string_bytes words.now)) result }
 {
     let mut rest = words;
     while let Some((word, after)) = rest.split_first() {
@@ -103,6 +112,8 @@ fn add_word<'a, A: Allocator + Copy>(
         × (found.new.files.items ≡ found.old.files.items)
         × (map said found.new.options.items ≡ map said found.old.options.items
         ++ given_by known.now word.now (map string_bytes after.now))) }
+    ensures right { Decides (if is_file word.now then true
+        else is_right known.now word.now (map string_bytes after.now)) result }
 {
     if word == "-" || !word.starts_with('-') {
         return match found.files.push(word) {
@@ -124,6 +135,7 @@ fn add_files<'a, A: Allocator + Copy>(
 ) -> Result<(), Wrong<'a>>
     ensures files { IfOk result (λ _. map (λ f. f.now) files.new.items
         ≡ map (λ f. f.now) files.old.items ++ map string_bytes words.now) }
+    ensures memory { IfErr result (λ e. e ≡ Wrong.Memory) }
 {
     for word in words {
         match files.push(word.as_str()) {
@@ -146,28 +158,19 @@ fn option_of<'a>(
         x.1.now ≡ drop (if takes_next known.now word.now then 1 else 0) after.now) }
     ensures given { IfOk result (λ x. said x.0 ∷ []
         ≡ given_by known.now word.now (map string_bytes after.now)) }
+    ensures right { Decides (is_right known.now word.now (map string_bytes after.now)) result }
 {
     let (name, value) = match word.split_once('=') {
         Some((name, value)) => (name, Some(value)),
         None => (word, None),
     };
     match (option_named(known, name), value) {
-        (Some(option), Some(value)) => Ok((given_equal(option, value)?, after)),
+        (Some(option), Some(value)) => Ok((given_with(option, value)?, after)),
         (Some(option), None) => given_before(option, after),
         (None, _) => match option_joined(known, name, word) {
             Some((option, value)) => Ok((given_with(option, value)?, after)),
             None => Err(Wrong::Name(name, nearest_name(known, name))),
         },
-    }
-}
-
-// An option with a value after `=`.
-fn given_equal<'a>(option: Known, value: &'a str) -> Result<Given<'a>, Wrong<'a>>
-    ensures { IfOk result (λ g. said g ≡ (option.name.now, word_given option.takes value.now)) }
-{
-    match option.takes {
-        Takes::Nothing => Err(Wrong::Something(option.name)),
-        _ => given_with(option, value),
     }
 }
 
@@ -179,11 +182,9 @@ fn given_before<'a>(
     ensures shorter { IfOk result (λ x. length x.1.now ≤ length after.now) }
     ensures rest { IfOk result (λ x.
         x.1.now ≡ drop (if takes_value option.takes then 1 else 0) after.now) }
-    ensures given { IfOk result (λ x. said x.0 ≡ (
-      option.name.now,
-      word_given option.takes
-          (if takes_value option.takes then first_of (map string_bytes after.now) else []),
-    )) }
+    ensures given { IfOk result (λ x. said x.0 ≡ said_by option
+        (if takes_value option.takes then first_of (map string_bytes after.now) else [])) }
+    ensures right { Decides (next_is_right option (map string_bytes after.now)) result }
 {
     let called = match option.takes {
         Takes::Nothing => return Ok((taken(option, "", 0), after)),
@@ -199,10 +200,11 @@ fn given_before<'a>(
 
 // An option with this value.
 fn given_with<'a>(option: Known, value: &'a str) -> Result<Given<'a>, Wrong<'a>>
-    ensures { IfOk result (λ g. said g ≡ (option.name.now, word_given option.takes value.now)) }
+    ensures given { IfOk result (λ g. said g ≡ said_by option value.now) }
+    ensures right { Decides (is_value option.takes value.now) result }
 {
     match option.takes {
-        Takes::Nothing => Ok(taken(option, "", 0)),
+        Takes::Nothing => Err(Wrong::Something(option.name)),
         Takes::Size => match size_of(value) {
             Some(size) => Ok(taken(option, "", size)),
             None => Err(Wrong::Size(option.name, value)),
@@ -232,32 +234,59 @@ fn given_with<'a>(option: Known, value: &'a str) -> Result<Given<'a>, Wrong<'a>>
 
 // The bits of the words that a text has with `,` between them; or the first that is not one of the
 // list.
-fn bits_of<'a>(words: &[&'static str], text: &'a str) -> Result<u64, &'a str> {
+fn bits_of<'a>(words: &[&'static str], text: &'a str) -> Result<u64, &'a str>
+    ensures { MatchResult result
+        (λ bits. (list_all (is_among words.now) (parts text.now) ≡ true)
+        × (bits ≡ bits_of words.now (parts text.now)))
+        (λ _. list_all (is_among words.now) (parts text.now) ≡ false) }
+{
     let mut bits = 0;
-    for part in text.split(',') {
-        match bit_of(words, part) {
-            Some(bit) => bits |= bit,
+    let mut rest = text;
+    while let Some((part, more)) = rest.split_once(',') {
+        match place_in(words, part) {
+            Some(place) => bits |= bit(place),
             None => return Err(part),
         }
+        rest = more;
     }
-    Ok(bits)
+    match place_in(words, rest) {
+        Some(place) => Ok(bits | bit(place)),
+        None => Err(rest),
+    }
 }
 
-// The bit of a word, where it is in the list.
-fn bit_of(words: &[&'static str], text: &str) -> Option<u64> {
-    let mut bit: u64 = 1;
+// The bit of the word at this place: none past the 64th.
+fn bit(place: usize) -> u64
+    ensures { result ≡ bit (Some place) }
+{
+    if place < 64 { 1 << place } else { 0 }
+}
+
+// The place of a word in the list, from 0: that of the first that it is.
+fn place_in(words: &[&'static str], text: &str) -> Option<usize>
+    ensures { result ≡ place_in words.now text.now }
+{
+    let mut place = 0;
     for word in words {
         if *word == text {
-            return Some(bit);
+            return Some(place);
         }
-        bit = bit.saturating_mul(2);
+        place += 1;
     }
     None
 }
 
+/// Which bits an option has that takes some of these words: that of the word at each place below 64
+/// where one of the parts between `,` is that word.
+pub fn bits_are_words()
+    ensures { (words : List (Bor (List ℕ))) (given : List (List ℕ)) (i : ℕ) → i < 64
+        → has_bit i (bits_of words given)
+        ≡ list_any (λ part. is_place i (place_in words part)) given }
+{}
+
 // The option, with a word or a size.
 fn taken<'a>(option: Known, word: &'a str, size: usize) -> Given<'a>
-    ensures { said result ≡ (option.name.now, word.now) }
+    ensures { said result ≡ (option.name.now, word.now, size, 0) }
 {
     Given {
         name: option.name,
@@ -270,7 +299,7 @@ fn taken<'a>(option: Known, word: &'a str, size: usize) -> Given<'a>
 
 // The option without what it may take, before these words.
 fn followed<'a>(option: Known, after: &'a [String]) -> Given<'a>
-    ensures { said result ≡ (option.name.now, []) }
+    ensures { said result ≡ (option.name.now, [], 0, 0) }
 {
     let mut given = taken(option, "", 0);
     if let Some(next) = after.first() {
@@ -280,6 +309,8 @@ fn followed<'a>(option: Known, after: &'a [String]) -> Given<'a>
 }
 
 // Whether it is one of these words, or there are none.
-fn is_one_of(words: &[&'static str], value: &str) -> bool {
-    words.is_empty() || bit_of(words, value).is_some()
+fn is_one_of(words: &[&'static str], value: &str) -> bool
+    ensures { result ≡ is_one_of words.now value.now }
+{
+    words.is_empty() || place_in(words, value).is_some()
 }

@@ -1,7 +1,8 @@
 //! A recording that is filtered line by line.
-ghost use Rattle.std.specs.Prelude.{◌≡◌, ◌≢◌, ◌++◌, ◌∷◌, ℕ, List, [], IfOk, OnOk};
+ghost use Rattle.std.specs.Prelude.{◌≡◌, ◌≢◌, ◌++◌, ◌∷◌, ℕ, List, [], IfOk, OnOk, false};
 ghost use Rattle.json.specs.Print.{IsNumber};
 ghost use Rattle.esc_normal.specs.Streams.{Given};
+ghost use Rattle.esc_cast.specs.Recorded.{IsEndTime};
 ghost use Rattle.esc_cast.specs.Recordings.{IsEvent, IsUnheard, kind_of, output, wrong};
 
 use crate::cast_error::CastError;
@@ -31,12 +32,13 @@ pub struct Recording<F, A: Allocator = Global> {
 }
 
 impl<F: Feeding<A>, A: Allocator + Copy> Recording<F, A> {
-    ghost use Rattle.esc_cast.specs.Recorded.{Closes, Hears, feeding_of, text_of};
+    ghost use Rattle.esc_cast.specs.Recorded.{Closes, Hears, IsAs, feeding_of, is_relative, is_relative_after, text_of, time_of};
 
     /// A recording of which no line was taken, for a filter that was fed nothing. Takes no memory.
     pub fn new(alloc: A, feeding: F) -> Recording<F, A>
         ensures feeding { feeding_of result ≡ feeding }
         ensures empty { text_of result ≡ [] }
+        ensures time { (time_of result ≡ []) × (is_relative result ≡ false) }
     {
         Recording {
             feeding,
@@ -56,13 +58,16 @@ impl<F: Feeding<A>, A: Allocator + Copy> Recording<F, A> {
     /// the recording is of no use.
     pub fn take_line(&mut self, line: &str) -> Result<(), CastError>
         ensures output { Given F.Feeding (feeding_of self.old) (λ m c s. (t d : List ℕ)
-            → kind_of line.now ≡ output t d → OnOk result (Hears F.Feeding m c s t d self.new)) }
+            → kind_of line.now ≡ output t d → OnOk result (Hears F.Feeding m c s t d self.new
+            × (time_of self.new ≡ t) × (is_relative self.new ≡ is_relative self.old))) }
         ensures other { IsUnheard (kind_of line.now) → OnOk result
             ((feeding_of self.new ≡ feeding_of self.old)
-            × (text_of self.new ≡ line.now ++ 0x0a ∷ [])) }
+            × (text_of self.new ≡ line.now ++ 0x0a ∷ []) × (time_of self.new ≡ time_of self.old)
+            × (is_relative self.new
+            ≡ is_relative_after (kind_of line.now) (is_relative self.old))) }
         ensures right { OnOk result (kind_of line.now ≢ wrong) }
         ensures no_event { result ≡ Err CastError.NoEvent → (kind_of line.now ≡ wrong)
-            × (feeding_of self.new ≡ feeding_of self.old) }
+            × IsAs self.old self.new }
     {
         let kind = line_of(self.alloc, line, &mut self.scratch)?;
         match kind {
@@ -87,7 +92,7 @@ impl<F: Feeding<A>, A: Allocator + Copy> Recording<F, A> {
     /// else it is empty.
     pub fn finish(&mut self) -> Result<(), CastError>
         ensures given { Given F.Feeding (feeding_of self.old) (λ m c s.
-            OnOk result (Closes m c s (text_of self.new))) }
+            OnOk result (Closes m c s self.old self.new)) }
         ensures memory { result ≡ Err CastError.NoEvent → ⊥ }
     {
         self.text.clear();
@@ -126,7 +131,9 @@ impl<F: Feeding<A>, A: Allocator + Copy> Recording<F, A> {
     // Gives a line as it came.
     fn pass(&mut self, line: &str) -> Result<(), CastError>
         ensures text { OnOk result (text_of self.new ≡ line.now ++ 0x0a ∷ []) }
-        ensures feeding { feeding_of self.new ≡ feeding_of self.old }
+        ensures kept { (feeding_of self.new ≡ feeding_of self.old)
+            × (time_of self.new ≡ time_of self.old)
+            × (is_relative self.new ≡ is_relative self.old) }
         ensures memory { result ≡ Err CastError.NoEvent → ⊥ }
     {
         self.text.clear();
@@ -138,7 +145,8 @@ impl<F: Feeding<A>, A: Allocator + Copy> Recording<F, A> {
 
 // The time of what comes last, where this was that of the last event.
 fn end_time(is_relative: bool, time: &str) -> &str
-    ensures { IsNumber result.now }
+    ensures number { IsNumber result.now }
+    ensures time { IsEndTime is_relative time.now result.now }
 {
     if is_relative || !is_number(time) {
         "0"

@@ -101,10 +101,6 @@ pub trait Admit<A: Allocator> {
     /// [`admits_images`](Admit::admits_images) returns false. It does nothing, unless an
     /// implementation does.
     fn leaves_out(&self, _action: &Action<A>) {}
-
-    /// A line feed was added to the text of a line, whose own was taken away: in most cases by a
-    /// string that nobody had ended. It does nothing, unless an implementation does.
-    fn closes_line(&self) {}
 }
 
 /// Whether the action passes a filter of this policy, where a parser handed it out: it can be

@@ -121,7 +121,9 @@ impl<P: Admit<A>, A: Allocator + Copy> Filter<P, A> {
         ensures ended { (by_lines : Bool) → AfterIn by_lines P.Admit self.old (λ u limit admits s.
             OnOk result (EndsAs u by_lines admits limit s self.new)) }
         ensures policy { policy_of self.new ≡ policy_of self.old }
-        ensures refused { OnErr result ((added_by self.new ≡ []) × Refused A) }
+        ensures refused { OnErr result (Refused A × (added_by self.new ≡ [])
+            × ((by_lines : Bool) → AfterIn by_lines P.Admit self.old (λ u limit admits s.
+            WasFedIn u by_lines limit admits s self.new))) }
         ensures failed { IsBroken self.old → IsBroken self.new }
     {
         let mut text = mem::replace(&mut self.written.spell.text, Text::new(self.alloc));
@@ -170,14 +172,6 @@ impl<P: Admit<A>, A: Allocator + Copy> Filter<P, A> {
         ensures { IsTrue result → ArePassedRenditions (P.admits (policy_of self.now)) }
     {
         self.policy.known().renditions
-    }
-
-    /// Tells the policy that a line feed was added to the text of a line, where its own did not
-    /// pass.
-    pub(crate) fn close_line(&self) {
-        if !self.written.has_ended {
-            self.policy.closes_line();
-        }
     }
 
     /// The text that the bytes fed last added.

@@ -212,7 +212,6 @@ impl<P: Admit<A>, A: Allocator + Copy> LineFilter<P, A> {
             × (self.new.has_failed ≡ self.old.has_failed) }
         ensures refused { OnErr result (Refused A) }
     {
-        self.filter.close_line();
         match self.close() {
             Ok(()) => memory::push_char(&mut self.text, '\n'),
             Err(e) => Err(e),

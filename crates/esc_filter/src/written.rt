@@ -37,8 +37,6 @@ pub(crate) struct Written<A: Allocator = Global> {
     pub unicode: Unicode,
     /// Whether line feeds are dropped.
     pub by_lines: bool,
-    /// Whether one was.
-    pub has_ended: bool,
 }
 
 impl<A: Allocator> Written<A> {
@@ -52,7 +50,6 @@ impl<A: Allocator> Written<A> {
             left: Terminal::unchanged(),
             unicode,
             by_lines,
-            has_ended: false,
         }
     }
 
@@ -66,7 +63,6 @@ impl<A: Allocator> Written<A> {
             left,
             unicode,
             by_lines,
-            has_ended,
         } = self;
         let Spell {
             text,
@@ -80,7 +76,6 @@ impl<A: Allocator> Written<A> {
             left,
             unicode,
             by_lines,
-            has_ended,
         }
     }
 
@@ -91,7 +86,6 @@ impl<A: Allocator> Written<A> {
     {
         self.spell.follows_string = false;
         self.left = Terminal::unchanged();
-        self.has_ended = false;
     }
 }
 
@@ -230,14 +224,13 @@ impl<A: Allocator> Written<A> {
         }
     }
 
-    /// Appends a control, or notes the end of a line.
+    /// Appends a control, but a line feed where these are dropped.
     #[inline]
     pub fn append_control(&mut self, code: ControlCode) -> Result<(), AllocError>
         ensures ok { OnOk result (Notes self.old (action.Control code) self.new) }
         ensures refused { OnErr result (Refused A) }
     {
         if self.by_lines && is_line_feed(code) {
-            self.has_ended = true;
             return Ok(());
         }
         match self.spell.text.push(code.as_char()) {

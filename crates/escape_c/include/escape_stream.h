@@ -137,7 +137,8 @@ uint32_t escape_stream_is_normal(const uint8_t *bytes, size_t length, bool *answ
  *
  *   policy           one of ESCAPE_STREAM_POLICY_..
  *   limit            how many bytes are kept of a string, such as a title or an image; of one with more nothing is written.
- *                    So it bounds the memory that one string can take. 1048576 will do
+ *                    So it bounds the memory that one string can take: while it is read at most 41 times as many bytes, as
+ *                    one of semicolons alone does (measured on 2026-11-28). 1048576 will do
  *   bytes, length    the stream, and how many bytes it has
  *   out, capacity    where the text goes, and for how many bytes there is room
  *   needed           where the length of the text goes, in bytes

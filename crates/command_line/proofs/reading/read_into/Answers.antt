@@ -1,6 +1,7 @@
 use Rattle.std.proofs.Common.{rules, ◌≡◌, ◌∙◌, ap, false, map, string_bytes}
-use Rattle.command_line.specs.Words.{ends_options, said}
-use Rattle.command_line.proofs.Words.{files_step, options_step}
+use Rattle.command_line.specs.Given.{said}
+use Rattle.command_line.specs.Words.{ends_options}
+use Rattle.command_line.proofs.Words.{files_step, options_step, right_step}
 use Rattle.command_line.proofs.reading.read_into.Goals as goal
 
 pub loop-word-preserved : goal.loop-word-preserved
@@ -27,4 +28,8 @@ loop-word-preserved g c =
           (λ is. let f = file is in (f.0, ap (map said) f.2))
           (λ is. let o = option is in (o.0, o.2))
           ∙ c.loop-word.invariant.1,
+      right_step string_bytes c.args.known.now w word all after rest
+          c.as_str-in-Some.ensures.value c.in-Some.ensures.cases.0 goes_on
+          (λ is. let f = file is in f.0) (λ is. let o = option is in o.0) c.in_ok-rest.ensures.right
+          ∙ c.loop-word.invariant.2,
     )

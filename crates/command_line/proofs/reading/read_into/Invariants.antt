@@ -1,8 +1,10 @@
 use Rattle.std.proofs.Common.{◌≡◌, ◌++◌, false, length, map, string_bytes}
-use Rattle.command_line.specs.Words.{files_of, options_of, said}
+use Rattle.command_line.specs.Given.{said}
+use Rattle.command_line.specs.Words.{are_right, files_of, options_of}
 use Rattle.command_line.proofs.reading.read_into.Given as goal
 
--- the files and the options so far, and those of the words that are left, are those of all words
+-- the files and the options so far, and those of the words that are left, are those of all words;
+-- and those that are left decide whether all are right
 abbrev pub invariant-loop-word : goal.invariant-loop-word
 invariant-loop-word g l =
     (map (λ f. f.now) l.found.files.items ++ files_of l.known false (map string_bytes l.rest)
@@ -11,6 +13,8 @@ invariant-loop-word g l =
     × (map said l.found.options.items ++ options_of l.known false (map string_bytes l.rest)
     ≡ map said l.initial.found.options.items
     ++ options_of l.known false (map string_bytes l.initial.rest))
+    × (are_right l.known false (map string_bytes l.rest)
+    ≡ are_right l.known false (map string_bytes l.initial.rest))
 
 abbrev pub decreases-loop-word : goal.decreases-loop-word
 decreases-loop-word g l = length l.rest
