@@ -32,3 +32,4 @@ pub mod PolicyGroups
 pub mod Digits
 pub mod Pieces
 pub mod AtMost
+pub mod Rest

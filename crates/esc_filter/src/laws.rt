@@ -184,3 +184,11 @@ pub fn some_groups_admit_less<A: Allocator>()
         → ((c : Group) → has g c ≡ true → has (groups_of p) c ≡ true)
         → AdmitsAtMost {A = A} p (admits_groups g) }
 {}
+
+/// What follows such a text in another one is such a text, since no character, rendition or link
+/// begins with another. So what a filter adds for bytes that it is fed, and for the end of a
+/// stream, is whole pieces, wherever the bytes are cut.
+pub fn rest_is_whole()
+    ensures plain { (x t : List ℕ) → IsPlainText x → IsPlainText (x ++ t) → IsPlainText t }
+    ensures color { (x t : List ℕ) → IsColorText x → IsColorText (x ++ t) → IsColorText t }
+{}
