@@ -8,6 +8,7 @@ mod accounted;
 mod cast;
 mod filtering;
 mod json;
+mod laws;
 mod name;
 mod named_groups;
 mod observed;

@@ -3,8 +3,9 @@ ghost use Rattle.std.specs.Prelude.{IsErrOf, false, true};
 ghost use Rattle.esc_normal.specs.Streams.{Filters, IsEither, New};
 ghost use Rattle.memory.specs.Refusals.{Refused};
 ghost use Rattle.escfilter.specs.Adding.{NewAdding};
-ghost use Rattle.escfilter.specs.Written.{IsWritten, final_by, left_by, seen_by, text_of};
+ghost use Rattle.escfilter.specs.Written.{IsOfPieces, IsWritten, final_by, left_by, seen_by, text_of};
 
+use crate::laws::writes_pieces;
 use crate::options::Options;
 use esc_filter::{
     Feeding, Filter, FilterError, LineFilter, filter_from, written_lines_read_back,
@@ -25,7 +26,8 @@ pub(crate) const COLUMNS: usize = 16_384;
 /// Writes on `writer` what passes by the options of what `reader` reads, as it comes: of each line,
 /// or of the whole; where what does not pass is shown, that in place; and of it all what is left of
 /// the lines, where these may be written again. It returns what `filter_lines` does, or
-/// `filter_stream`.
+/// `filter_stream`. Where the groups are some of those of `Policy::Color`, what is written is made
+/// of characters, renditions and links.
 pub fn filter_by<A: Allocator + Copy, R: Read, W: Write>(
     alloc: A,
     options: &Options<'_>,
@@ -35,7 +37,9 @@ pub fn filter_by<A: Allocator + Copy, R: Read, W: Write>(
     ensures holds { Filters R.Read W.Write (text_of A options.now) (IsWritten A options.now) result
         reader writer }
     ensures refused { IsErrOf result FilterError.Memory → Refused A }
+    ensures pieces { IsOfPieces A options.now }
 {
+    writes_pieces::<A>();
     let by_lines = options.by_lines;
     let unicode = options.unicode;
     if by_lines {
