@@ -18,6 +18,7 @@ use Rattle.esc_filter.specs.declared.terminal.Terminal.{Terminal}
 use Rattle.esc_filter.specs.Noted.{AreKept, Writes}
 use Rattle.esc_filter.specs.declared.written.Written.{Written}
 use Rattle.esc_filter.specs.Passing.{passes}
+use Rattle.esc_filter.specs.Rules.{is_shown}
 use Rattle.esc_normal.specs.Texts.{ends_in_string}
 use Rattle.esc_filter.specs.declared.unicode.Unicode.{Unicode}
 use Rattle.esc_filter.specs.declared.unicode.Unicode.TheVariants.{Drop, Keep, Show}
@@ -161,6 +162,12 @@ module _ (t : ℕ → Bool) (digit : (d : ℕ) → d < 16 → t (digit_glyph tru
       (more (digit_at 0x10 c) d0 (one 0x10 c)
       (more (digit_glyph true (c % 16)) (0x3e ∷ []) (digit (c % 16) (sixteenth c))
       (more 0x3e [] l refl))))))))
+
+digit_shown : (d : ℕ) → d < 16 → is_shown (digit_glyph true d) ≡ true
+digit_shown d h = grind (arith, nat_tests)
+
+pub number_shown : (c : ℕ) → list_all is_shown (number_text c) ≡ true
+number_shown c = all_number is_shown digit_shown c refl refl refl refl
 
 pub number_clear : (c : ℕ) → list_all is_clear (number_text c) ≡ true
 number_clear c = all_number is_clear digit_clear c refl refl refl refl

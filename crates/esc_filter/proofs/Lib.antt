@@ -29,3 +29,7 @@ pub mod ByGroup
 pub mod Choices
 pub mod Conceals
 pub mod PolicyGroups
+pub mod Digits
+pub mod Pieces
+pub mod AtMost
+pub mod Rest

@@ -6,7 +6,7 @@ use Rattle.esc_values.specs.declared.csi_param.CsiParam.{CsiParam}
 use Rattle.esc_filter.specs.Closing.{joined}
 use Rattle.esc_filter.specs.Terminal.{has_params}
 
-joined_both : (xs ys : List (List ℕ)) → joined (xs ++ ys) ≡ joined xs ++ joined ys
+pub joined_both : (xs ys : List (List ℕ)) → joined (xs ++ ys) ≡ joined xs ++ joined ys
 joined_both [] ys = refl
 joined_both (x ∷ xs) ys =
     ap (λ t. x ++ t) (joined_both xs ys) ∙ sym (append_assoc x (joined xs) (joined ys))

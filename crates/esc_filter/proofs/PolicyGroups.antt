@@ -1,5 +1,6 @@
 -- The groups of a policy admit what the policy does.
-use Rattle.std.proofs.Common.{◌≡◌, ℕ, Bool, true, false, not, ◌&&◌, ◌||◌, ◌==◌, if◌then◌else◌, List, Option, Some, None, refl, ap, ◌∙◌, arith}
+use Rattle.std.proofs.Common.{◌≡◌, ℕ, Bool, true, false, not, ◌&&◌, ◌||◌, ◌==◌, if◌then◌else◌, List, Option, Some, None, refl, sym, ap, ◌∙◌, arith}
+use Rattle.std.proofs.lemmas.Bool.{and_parts}
 use Rattle.std.proofs.lemmas.Bool.Decides.{nat_tests}
 use Rattle.std.specs.List.{list_all}
 use Rattle.esc_sequences.specs.Csis.{CsiValue, sgr, unspecified}
@@ -26,9 +27,11 @@ use Rattle.esc_actions.specs.Values.Value.{print, string, control, esc, csi, osc
 use Rattle.esc_filter.specs.Concealed.{conceals}
 use Rattle.esc_filter.specs.Groups.{admits_groups, group_of, groups_of, has, of_control, of_escape_function, of_function, of_named, of_escape_named, of_other_command, of_rendition, place}
 use Rattle.esc_filter.specs.Rules.{admits, changes_with, escape_changes_with, is_colour, is_escape_function, is_layout, is_link, is_palette, is_plain_param, is_screen, is_screen_control, is_screen_function, is_set, is_set_pair, is_shown, is_text}
+use Rattle.esc_filter.specs.Pieces.{AdmitsAtMost}
 use Rattle.esc_filter.specs.Schemes.{leads}
 use Rattle.esc_filter.specs.declared.group.Group.{Group}
 use Rattle.esc_filter.specs.declared.group.Group.TheVariants as group
+use Rattle.esc_filter.specs.declared.groups.Groups.{Groups}
 use Rattle.esc_filter.specs.declared.policy.Policy.{Policy}
 use Rattle.esc_filter.specs.declared.policy.Policy.TheVariants as policy
 
@@ -337,3 +340,11 @@ pub same : {A : Type 0} (p : Policy) (v : Value A) → admits_groups (groups_of 
 same p v =
     led (leads (groups_of p).schemes v) (chosen p (group_of v)) (each_leads p v)
     ∙ each_ruled p v ∙ ruled p v
+
+-- some of a policy's groups
+pub at_most : {A : Type 0} (p : Policy) (g : Groups)
+    → ((c : Group) → has g c ≡ true → has (groups_of p) c ≡ true)
+    → AdmitsAtMost {A = A} p (admits_groups g)
+at_most p g some v h =
+    sym (each_ruled p v ∙ ruled p v)
+    ∙ some (group_of v) (and_parts (leads g.schemes v) (has g (group_of v)) h).1

@@ -12,3 +12,4 @@ pub mod Lines
 pub mod Concealed
 pub mod Schemes
 pub mod Groups
+pub mod Pieces

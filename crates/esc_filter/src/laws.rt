@@ -8,7 +8,7 @@ ghost use Rattle.esc_actions.specs.Values.{Value};
 ghost use Rattle.esc_frame.specs.Segments.{is_empty};
 ghost use Rattle.esc_filter.specs.Closing.{IsAtStart, after_values, closed, closing};
 ghost use Rattle.esc_filter.specs.Terminal.{unchanged};
-ghost use Rattle.esc_filter.specs.Lines.{IsFilteredByLines, IsFilteredByLinesAs, IsLine, has_line_feed, line_text, lines, lines_text, lines_text_as, passed_of_line, text_by_lines_as};
+ghost use Rattle.esc_filter.specs.Lines.{IsFilteredByLines, IsFilteredByLinesAs, IsLine, closed_by_lines_as, has_line_feed, line_text, lines, lines_text, lines_text_as, passed_of_line, text_by_lines_as};
 ghost use Rattle.esc_sequences.specs.Csis.{CsiValue};
 ghost use Rattle.esc_sequences.specs.declared.esc.Esc.{Esc};
 ghost use Rattle.esc_functions.specs.Effects.{is_answered};
@@ -17,10 +17,14 @@ ghost use Rattle.esc_functions.specs.Escapes.{named as escape_named};
 ghost use Rattle.esc_functions.specs.Functions.{named};
 ghost use Rattle.esc_functions.specs.declared.control_function.ControlFunction.{ControlFunction};
 ghost use Rattle.esc_functions.specs.declared.escape_function.EscapeFunction.{EscapeFunction};
-ghost use Rattle.esc_filter.specs.Groups.{admits_groups, groups_of};
+ghost use Rattle.esc_filter.specs.Groups.{admits_groups, groups_of, has};
 ghost use Rattle.esc_filter.specs.Passing.{IsFiltered, IsFilteredAs, closed_text, closed_text_as, passed, passed_text, passed_text_as, passes};
+ghost use Rattle.esc_filter.specs.Pieces.{AdmitsAtMost, IsColorText, IsPlainText};
 ghost use Rattle.esc_filter.specs.Rules.{admits, is_screen_escape, is_screen_sequence};
+ghost use Rattle.esc_filter.specs.declared.groups.Groups.{Groups};
+ghost use Rattle.esc_filter.specs.declared.group.Group.{Group};
 ghost use Rattle.esc_filter.specs.declared.policy.Policy.{Policy};
+ghost use Rattle.esc_filter.specs.declared.policy.Policy.TheVariants as policy;
 ghost use Rattle.esc_filter.specs.declared.unicode.Unicode.{Unicode};
 
 use esc_actions::laws;
@@ -136,4 +140,55 @@ pub fn screen_is_not_answered()
 #[tactic(auto, using(crate::proofs::PolicyGroups::same))]
 pub fn policies_are_groups<A: Allocator>()
     ensures { (p : Policy) (v : Value A) → admits_groups (groups_of p) v ≡ admits p v }
+{}
+
+/// Under a policy that admits no more than `Policy::Text`, the text of a stream that goes on, and
+/// of one that has ended, whole and by lines, is made of tabs, line feeds, carriage returns and
+/// characters from U+0020 to U+007E and from U+00A0 on: no other control, no DEL and no ESC.
+pub fn writes_plain_text<A: Allocator>()
+    ensures goes_on { (u : Unicode) (limit : Option ℕ) (f : Value A → Bool)
+        → AdmitsAtMost policy.Text f → (s : List ℕ) → IsPlainText (passed_text_as u limit f s) }
+    ensures ended { (u : Unicode) (limit : Option ℕ) (f : Value A → Bool)
+        → AdmitsAtMost policy.Text f → (s : List ℕ) → IsPlainText (closed_text_as u limit f s) }
+    ensures by_lines { (u : Unicode) (limit : ℕ) (f : Value A → Bool)
+        → AdmitsAtMost policy.Text f → (s : List ℕ) → IsPlainText (text_by_lines_as u limit f s) }
+    ensures ended_by_lines { (u : Unicode) (limit : ℕ) (f : Value A → Bool)
+        → AdmitsAtMost policy.Text f
+        → (s : List ℕ) → IsPlainText (closed_by_lines_as u limit f s) }
+{
+    written_reads_back::<A>();
+}
+
+/// Under one that admits no more than `Policy::Color`, it is made of these and of whole renditions
+/// and links: `ESC [`, digits, `:` and `;`, `m`; and `ESC ]`, a text that begins with `8;` and has
+/// no control of C0 or C1, `ESC \`.
+pub fn writes_color_text<A: Allocator>()
+    ensures goes_on { (u : Unicode) (limit : Option ℕ) (f : Value A → Bool)
+        → AdmitsAtMost policy.Color f → (s : List ℕ) → IsColorText (passed_text_as u limit f s) }
+    ensures ended { (u : Unicode) (limit : Option ℕ) (f : Value A → Bool)
+        → AdmitsAtMost policy.Color f → (s : List ℕ) → IsColorText (closed_text_as u limit f s) }
+    ensures by_lines { (u : Unicode) (limit : ℕ) (f : Value A → Bool)
+        → AdmitsAtMost policy.Color f → (s : List ℕ) → IsColorText (text_by_lines_as u limit f s) }
+    ensures ended_by_lines { (u : Unicode) (limit : ℕ) (f : Value A → Bool)
+        → AdmitsAtMost policy.Color f
+        → (s : List ℕ) → IsColorText (closed_by_lines_as u limit f s) }
+{
+    written_reads_back::<A>();
+}
+
+/// Groups that are all of a policy's admit no more than the policy does, whatever schemes links
+/// have to have.
+#[tactic(auto, using(crate::proofs::PolicyGroups::at_most))]
+pub fn some_groups_admit_less<A: Allocator>()
+    ensures { (p : Policy) (g : Groups)
+        → ((c : Group) → has g c ≡ true → has (groups_of p) c ≡ true)
+        → AdmitsAtMost {A = A} p (admits_groups g) }
+{}
+
+/// What follows such a text in another one is such a text, since no character, rendition or link
+/// begins with another. So what a filter adds for bytes that it is fed, and for the end of a
+/// stream, is whole pieces, wherever the bytes are cut.
+pub fn rest_is_whole()
+    ensures plain { (x t : List ℕ) → IsPlainText x → IsPlainText (x ++ t) → IsPlainText t }
+    ensures color { (x t : List ℕ) → IsColorText x → IsColorText (x ++ t) → IsColorText t }
 {}

@@ -51,7 +51,8 @@ pub use groups::Groups;
 pub use known::Known;
 pub use laws::{
     closing_comes_last, lines_read_back, lines_written, nothing_given_back_twice, passed_more,
-    passed_reads_back, policies_are_groups, screen_is_not_answered, terminal_as_at_the_start,
+    passed_reads_back, policies_are_groups, rest_is_whole, screen_is_not_answered,
+    some_groups_admit_less, terminal_as_at_the_start, writes_color_text, writes_plain_text,
     written_lines_read_back, written_reads_back,
 };
 pub use line_filter::{LineFilter, line_length};

@@ -3,3 +3,4 @@ pub mod Placing
 pub mod Texts
 pub mod Runs
 pub mod Streams
+pub mod Pieces

@@ -1,5 +1,5 @@
 -- What each value of a stream does to the rows.
-use Rattle.std.specs.Prelude.{ℕ, ◌-◌, ◌==◌, Bool, not, if◌then◌else◌}
+use Rattle.std.specs.Prelude.{ℕ, ◌-◌, ◌==◌, Bool, true, false, not, if◌then◌else◌}
 use Rattle.esc_actions.specs.Values.{Value, print, control, csi}
 use Rattle.esc_actions.specs.declared.control_code.ControlCode.{ControlCode}
 use Rattle.esc_actions.specs.declared.control_code.ControlCode.TheVariants as code
@@ -72,3 +72,12 @@ step_of l (print c) = print_step c
 step_of l (control c) = control_step c
 step_of l (csi c) = function_step l (of_csi c)
 step_of l _ = Nothing
+
+-- whether it selects how the characters look that come
+abbrev pub is_selection : Function → Bool
+is_selection (renditions rs) = true
+is_selection _ = false
+
+abbrev pub selects : {A : Type 0} → Value A → Bool
+selects (csi c) = is_selection (of_csi c)
+selects _ = false

@@ -2,3 +2,4 @@ mod OtherWords
 pub mod Left
 mod Seen
 mod Chosen
+mod OfPieces

@@ -1,16 +1,20 @@
 -- What is written of a stream under the program's options.
 use Rattle.std.specs.Prelude.{ℕ, ◌≡◌, Bool, true, false, if◌then◌else◌, List, Option, Some, None, max}
 use Rattle.esc_actions.specs.Values.{Value}
-use Rattle.esc_filter.specs.Groups.{admits_groups}
+use Rattle.esc_filter.specs.Groups.{admits_groups, groups_of, has}
 use Rattle.esc_filter.specs.Lines.{IsFilteredByLinesAs, closed_by_lines_as, text_by_lines_as}
 use Rattle.esc_filter.specs.Passing.{IsFilteredAs, closed_text_as, passed_text_as}
+use Rattle.esc_filter.specs.Pieces.{IsColorText, IsPlainText}
 use Rattle.esc_filter.specs.Rules.{admits}
+use Rattle.esc_filter.specs.declared.group.Group.{Group}
 use Rattle.esc_filter.specs.declared.groups.Groups.{Groups}
 use Rattle.esc_filter.specs.declared.policy.Policy.{Policy}
+use Rattle.esc_filter.specs.declared.policy.Policy.TheVariants as policy
 use Rattle.esc_filter.specs.declared.unicode.Unicode.{Unicode}
 use Rattle.esc_lines.specs.Streams.{final_of, left_of, values_of}
 use Rattle.esc_lines.specs.Windows.{Size, sized}
 use Rattle.esc_reveal.specs.Revealed.{revealed, revealed_whole}
+use Rattle.escfilter.specs.Choices.{groups_in}
 use Rattle.escfilter.specs.declared.named_groups.Choice.{Choice}
 use Rattle.escfilter.specs.declared.options.Options.{Options}
 use Rattle.escfilter.specs.declared.stream.TheConstants.{COLUMNS}
@@ -93,3 +97,23 @@ IsWritten A o b s t = (u : List ℕ)
 abbrev pub text_of : (A : Type 0) → Options → List ℕ → List ℕ
 text_of A o s = left_by A o.rows (λ x. closed_by {A = A} o.unicode o.by_lines o.limit
     (admits_choice o.choice) (seen_by A o true x)) s
+
+-- ---- what it is made of
+
+-- the groups of the choice are some of the policy's
+abbrev pub IsWithin : Policy → Choice → Type 0
+IsWithin p c = (g : Group) → has (groups_in c) g ≡ true → has (groups_of p) g ≡ true
+
+-- this holds of the text of each stream that has ended, and of each text that is written of one
+-- that has ended or goes on
+abbrev pub OfAllWritten : (A : Type 0) → Options → (List ℕ → Type 0) → Type 0
+OfAllWritten A o C = ((s : List ℕ) → C (text_of A o s))
+    × ((b : Bool) (s t : List ℕ) → IsWritten A o b s t → C t)
+
+-- What is written is plain text where the groups are some of those of `Text`, and rows may not be
+-- written again; and text of characters, renditions and links where they are some of those of
+-- `Color`, and wherever rows may be written again.
+pub record IsOfPieces (A : Type 0) (o : Options) : Type 0 where
+  pub plain : o.rows ≡ None → IsWithin policy.Text o.choice → OfAllWritten A o IsPlainText
+  pub color : IsWithin policy.Color o.choice → OfAllWritten A o IsColorText
+  pub collapsed : (n : ℕ) → o.rows ≡ Some n → OfAllWritten A o IsColorText

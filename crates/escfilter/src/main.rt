@@ -8,6 +8,7 @@ mod cast;
 mod filtering;
 mod json;
 mod judging;
+mod laws;
 mod name;
 mod named_groups;
 mod options;

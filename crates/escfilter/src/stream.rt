@@ -3,8 +3,9 @@ ghost use Rattle.std.specs.Prelude.{IsErrOf, [], false, true};
 ghost use Rattle.esc_normal.specs.Streams.{Filters, IsEither, New};
 ghost use Rattle.memory.specs.Refusals.{Refused};
 ghost use Rattle.escfilter.specs.Adding.{NewAdding};
-ghost use Rattle.escfilter.specs.Written.{IsWritten, final_by, left_by, seen_by, text_of};
+ghost use Rattle.escfilter.specs.Written.{IsOfPieces, IsWritten, final_by, left_by, seen_by, text_of};
 
+use crate::laws::writes_pieces;
 use crate::options::Options;
 use esc_account::{Audience, Audited};
 use esc_filter::{
@@ -26,8 +27,9 @@ pub(crate) const COLUMNS: usize = 16_384;
 /// Writes on `writer` what passes by the options of what `reader` reads, as it comes: of each line,
 /// or of the whole; where what does not pass is shown, that in place; and of it all what is left of
 /// the lines, where these may be written again. It returns what `filter_lines` does, or
-/// `filter_stream`. The audience hears what is read, and what passes of it, before rows of that are
-/// written again.
+/// `filter_stream`. Where the groups are some of those of `Policy::Color`, what is written is made
+/// of characters, renditions and links. The audience hears what is read, and what passes of it,
+/// before rows of that are written again.
 pub fn filter_by<A: Allocator + Copy, R: Read, W: Write, K: Audience<A> + Drop>(
     alloc: A,
     options: &Options<'_>,
@@ -39,7 +41,9 @@ pub fn filter_by<A: Allocator + Copy, R: Read, W: Write, K: Audience<A> + Drop>(
     ensures holds { Filters R.Read W.Write (text_of A options.now) (IsWritten A options.now) result
         reader writer }
     ensures refused { IsErrOf result FilterError.Memory → Refused A }
+    ensures pieces { IsOfPieces A options.now }
 {
+    writes_pieces::<A>();
     let by_lines = options.by_lines;
     let unicode = options.unicode;
     if by_lines {

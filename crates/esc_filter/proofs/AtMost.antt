@@ -1,0 +1,266 @@
+-- What passes a policy that admits no more than `Text` or `Color` does, and what gives back what it
+-- leaves changed, is what these admit.
+use Rattle.std.proofs.Common.{ℕ, ◌≡◌, ◌⊎◌, inl, inr, Bool, true, false, not, ◌||◌, ◌==◌, if◌then◌else◌, List, [], ◌∷◌, ◌++◌, map, Option, Some, refl, sym, ap, ◌∙◌, subst, lit<}
+use Rattle.std.specs.Prelude.{is_some}
+use Rattle.std.specs.List.{filter, list_all}
+use Rattle.std.proofs.lemmas.Bool.{and_parts, eqb-true, true≢false}
+use Rattle.std.proofs.lemmas.Str.{encode_ascii}
+use Rattle.esc_visible.specs.Characters.{is_deceiving, number_text}
+use Rattle.esc_sequences.specs.Csis.{CsiValue, sgr, unspecified}
+use Rattle.esc_osc.specs.declared.command.OperatingSystemCommand.{OperatingSystemCommand}
+use Rattle.esc_osc.specs.declared.command.OperatingSystemCommand.TheVariants as command
+use Rattle.esc_actions.specs.ControlCodes.{code_number}
+use Rattle.esc_actions.specs.Meaning.{meaning_within}
+use Rattle.esc_actions.specs.Texts.{list_text}
+use Rattle.esc_actions.specs.Values.{Value, print, string, control, esc, csi, osc, kitty, sixel, termcap, short, enter, datum, exit}
+use Rattle.esc_actions.specs.Writable.{AreWritable}
+use Rattle.esc_actions.specs.declared.control_code.ControlCode.{ControlCode}
+use Rattle.esc_actions.specs.declared.control_code.ControlCode.TheVariants as code
+use Rattle.esc_filter.specs.Characters.{in_characters, in_unicode, instead}
+use Rattle.esc_filter.specs.Closing.{after_body, after_command, after_control, after_sequence, after_value, after_values, closed, closing, given_back, is_reset, keeps_cursor, turned}
+use Rattle.esc_filter.specs.Lines.{closed_by_lines_as, ends_line, last_line, line_closing, line_text, lines, passed_of_line, text_by_lines_as}
+use Rattle.esc_filter.specs.Passing.{closed_text_as, in_lines, is_line_feed, is_whole, passed, passed_as, passed_text_as, passes}
+use Rattle.esc_filter.specs.Pieces.{AdmitsAtMost, IsOfPieces}
+use Rattle.esc_filter.specs.Rules.{admits, is_colour, is_layout, is_link, is_plain_param, is_rendition, is_shown, is_text}
+use Rattle.esc_filter.specs.Terminal.{unchanged}
+use Rattle.esc_filter.specs.declared.policy.Policy.TheVariants as policy
+use Rattle.esc_filter.specs.declared.terminal.Terminal.{Terminal}
+use Rattle.esc_filter.specs.declared.unicode.Unicode.{Unicode}
+use Rattle.esc_filter.specs.declared.unicode.Unicode.TheVariants.{Drop, Keep, Show}
+use Rattle.esc_filter.proofs.Characters.{in_more, in_none, kinds, number_shown}
+use Rattle.esc_filter.proofs.Closers.{back_writable}
+use Rattle.esc_filter.proofs.Lights.{plain_lit}
+use Rattle.esc_filter.proofs.LineData.{both}
+use Rattle.esc_filter.proofs.Pieces.{all_pieces, least, more_pieces, plain_piece, texts_pieces}
+
+-- ---- what passes
+
+text_least : {A : Type 0} (k : Bool) (v : Value A) → is_text v ≡ true → admits (least k) v ≡ true
+text_least false v h = h
+text_least true v h = rw h refl
+
+module _ (A : Type 0) (k : Bool) where
+  abbrev is_least : Value A → Bool
+  is_least v = admits (least k) v
+
+  -- each of them is admitted
+  abbrev AreLeast : List (Value A) → Type 0
+  AreLeast vs = list_all is_least vs ≡ true
+
+  filtered : (f : Value A → Bool) → AdmitsAtMost (least k) f → (vs : List (Value A))
+      → AreLeast (filter (passes f) vs)
+  filtered f most [] = refl
+  filtered f most (v ∷ vs) = by (passes f v) refl (filtered f most vs)
+    where
+      by : (t : Bool) → passes f v ≡ t → AreLeast (filter (passes f) vs)
+          → AreLeast (if t then v ∷ filter (passes f) vs else filter (passes f) vs)
+      by true e h = rw (most v (and_parts (is_whole v) (f v) e).1, h) refl
+      by false e h = h
+
+  prints : (xs : List ℕ) → list_all is_shown xs ≡ true → AreLeast (map print xs)
+  prints [] h = refl
+  prints (x ∷ xs) h =
+      let q = and_parts (is_shown x) (list_all is_shown xs) h in
+      rw (text_least {A = A} k (print x) q.0, prints xs q.1) refl
+
+  shown_instead : (u : Unicode) (c : ℕ) (t : Bool) → is_least (print c) ≡ true
+      → AreLeast (if t then instead u c else print c ∷ [])
+  shown_instead u c false h = rw h refl
+  shown_instead Keep c true h = rw h refl
+  shown_instead Show c true h = prints (number_text c) (number_shown c)
+  shown_instead Drop c true h = refl
+
+  shown_value : (u : Unicode) (v : Value A) → is_least v ≡ true → AreLeast (in_unicode u v)
+  shown_value u v h = by (kinds v)
+    where
+      by : ((c : ℕ) × (v ≡ print c)) ⊎ ((w : Unicode) → in_unicode w v ≡ v ∷ [])
+          → AreLeast (in_unicode u v)
+      by (inl (c, e)) =
+          ap (λ x. list_all is_least (in_unicode u x)) e
+          ∙ shown_instead u c (is_deceiving c) (ap is_least (sym e) ∙ h)
+      by (inr f) = ap (list_all is_least) (f u) ∙ rw h refl
+
+  shown_values : (u : Unicode) (vs : List (Value A)) → AreLeast vs → AreLeast (in_characters u vs)
+  shown_values u [] h = ap (list_all is_least) (in_none {A = A} u)
+  shown_values u (v ∷ vs) h =
+      let q = and_parts (is_least v) (list_all is_least vs) h in
+      ap (list_all is_least) (in_more u v vs)
+      ∙ both is_least (in_unicode u v) (in_characters u vs) (shown_value u v q.0)
+      (shown_values u vs q.1)
+
+-- ---- what it leaves changed
+
+-- a rendition and a link alone
+abbrev tinted : Bool → Bool → Terminal
+tinted r l = record unchanged { rendition = r; link = l }
+
+abbrev IsTinted : Bool → Terminal → Type 0
+IsTinted false t = t ≡ unchanged
+IsTinted true t = (r : Bool) × (l : Bool) × (t ≡ tinted r l)
+
+layout_stays : (c : ControlCode) (t : Terminal) → is_layout (code_number c) ≡ true
+    → after_control c t ≡ t
+layout_stays code.ShiftOut t h = absurd (true≢false (sym h))
+layout_stays code.ShiftIn t h = absurd (true≢false (sym h))
+layout_stays _ t h = refl
+
+text_stays : {A : Type 0} (v : Value A) (t : Terminal) → is_text v ≡ true → after_value v t ≡ t
+text_stays (print c) t h = refl
+text_stays (string x) t h = refl
+text_stays (control c) t h = layout_stays c t h
+text_stays (esc e) t h = absurd (true≢false (sym h))
+text_stays (csi c) t h = absurd (true≢false (sym h))
+text_stays (osc c) t h = absurd (true≢false (sym h))
+text_stays (kitty i) t h = refl
+text_stays (sixel s) t h = refl
+text_stays (termcap ns) t h = refl
+text_stays (short s) t h = refl
+text_stays (enter e) t h = refl
+text_stays (datum b) t h = refl
+text_stays exit t h = refl
+
+tinted_by : (b : Bool) (t : Terminal) → IsTinted true t → IsTinted true (turned b t)
+tinted_by b t (r, l, e) = (b, l, ap (turned b) e)
+
+rendition_tints : (c : CsiValue) (t : Terminal) → is_rendition c ≡ true → IsTinted true t
+    → IsTinted true (after_sequence c t)
+rendition_tints (sgr s) t h k = tinted_by (not (is_reset s)) t k
+rendition_tints (unspecified es more f) t h k =
+    let q = and_parts (f == 0x6d) (list_all is_plain_param es) h in
+    subst (IsTinted true)
+    (sym (ap (λ x. after_body es x t) (eqb-true f 0x6d q.0) ∙ plain_lit es q.1 t))
+    (tinted_by true t k)
+
+abbrev linked : Bool → Terminal → Terminal
+linked b t = record t { link = b }
+
+link_tints : {A : Type 0} (c : OperatingSystemCommand A) (t : Terminal) → is_link c ≡ true
+    → IsTinted true t → IsTinted true (after_command c t)
+link_tints (command.SetHyperlink l) t h (r, m, e) =
+    (r, is_some l, ap (linked (is_some l)) e)
+link_tints _ t h k = absurd (true≢false (sym h))
+
+colour_tints : {A : Type 0} (v : Value A) (t : Terminal) → is_colour v ≡ true → IsTinted true t
+    → IsTinted true (after_value v t)
+colour_tints (csi c) t h k = rendition_tints c t h k
+colour_tints (osc c) t h k = link_tints c t h k
+colour_tints (esc e) t h k = absurd (true≢false (sym h))
+colour_tints (control c) t h k = absurd (true≢false (sym h))
+colour_tints (print c) t h k = k
+colour_tints (string x) t h k = k
+colour_tints (kitty i) t h k = k
+colour_tints (sixel s) t h k = k
+colour_tints (termcap ns) t h k = k
+colour_tints (short s) t h k = k
+colour_tints (enter e) t h k = k
+colour_tints (datum b) t h k = k
+colour_tints exit t h k = k
+
+value_tints : {A : Type 0} (k : Bool) (v : Value A) (t : Terminal) → admits (least k) v ≡ true
+    → IsTinted k t → IsTinted k (after_value v t)
+value_tints false v t h e = text_stays v t h ∙ e
+value_tints true v t h e = by (is_text v) refl h
+  where
+    by : (s : Bool) → is_text v ≡ s → (s || is_colour v) ≡ true
+        → IsTinted true (after_value v t)
+    by true g i = subst (IsTinted true) (sym (text_stays v t g)) e
+    by false g i = colour_tints v t i e
+
+values_tint : {A : Type 0} (k : Bool) (vs : List (Value A)) (t : Terminal)
+    → list_all (admits (least k)) vs ≡ true → IsTinted k t → IsTinted k (after_values vs t)
+values_tint k [] t h e = e
+values_tint k (v ∷ vs) t h e =
+    let q = and_parts (admits (least k) v) (list_all (admits (least k)) vs) h in
+    values_tint k vs (after_value v t) q.1 (value_tints k v t q.0 e)
+
+at_first : (k : Bool) → IsTinted k unchanged
+at_first false = refl
+at_first true = (false, false, refl)
+
+-- a reset of renditions, and the end of a link
+back_of : (A : Type 0) (b r l : Bool)
+    → list_all (admits policy.Color) (given_back {A = A} b (tinted r l)) ≡ true
+back_of A b false false = refl
+back_of A b true false = refl
+back_of A b false true = refl
+back_of A b true true = refl
+
+back_least : (A : Type 0) (k b : Bool) (t : Terminal) → IsTinted k t
+    → list_all (admits (least k)) (given_back {A = A} b t) ≡ true
+back_least A false b t e = ap (λ x. list_all (admits policy.Text) (given_back {A = A} b x)) e
+back_least A true b t (r, l, e) =
+    ap (λ x. list_all (admits policy.Color) (given_back {A = A} b x)) e ∙ back_of A b r l
+
+closing_least : {A : Type 0} (k : Bool) (f : Value A → Bool) (vs : List (Value A))
+    → list_all (admits (least k)) vs ≡ true → list_all (admits (least k)) (closing f vs) ≡ true
+closing_least {A} k f vs h =
+    back_least A k (keeps_cursor f) (after_values vs unchanged)
+    (values_tint k vs unchanged h (at_first k))
+
+closed_least : {A : Type 0} (k : Bool) (f : Value A → Bool) (vs : List (Value A))
+    → list_all (admits (least k)) vs ≡ true → list_all (admits (least k)) (closed f vs) ≡ true
+closed_least k f vs h = both (admits (least k)) vs (closing f vs) h (closing_least k f vs h)
+
+-- ---- texts
+
+module _ {A : Type 0}
+    (goes_on : (u : Unicode) (limit : Option ℕ) (f : Value A → Bool) (s : List ℕ)
+    → AreWritable (passed_as u limit f s))
+    (has_ended : (u : Unicode) (limit : Option ℕ) (f : Value A → Bool) (s : List ℕ)
+    → AreWritable (closed f (passed_as u limit f s)))
+    (k : Bool) (u : Unicode) where
+  passed_least : (limit : Option ℕ) (f : Value A → Bool) → AdmitsAtMost (least k) f
+      → (s : List ℕ) → list_all (admits (least k)) (passed_as u limit f s) ≡ true
+  passed_least limit f most s =
+      shown_values A k u (passed limit f s) (filtered A k f most (meaning_within limit s))
+
+  pub passed_pieces : (limit : Option ℕ) (f : Value A → Bool) → AdmitsAtMost (least k) f
+      → (s : List ℕ) → IsOfPieces k (passed_text_as u limit f s)
+  passed_pieces limit f most s =
+      texts_pieces k false false (passed_as u limit f s) (goes_on u limit f s)
+      (passed_least limit f most s)
+
+  pub closed_pieces : (limit : Option ℕ) (f : Value A → Bool) → AdmitsAtMost (least k) f
+      → (s : List ℕ) → IsOfPieces k (closed_text_as u limit f s)
+  closed_pieces limit f most s =
+      texts_pieces k false false (closed f (passed_as u limit f s)) (has_ended u limit f s)
+      (closed_least k f (passed_as u limit f s) (passed_least limit f most s))
+
+  -- ---- by lines
+
+  module _ (limit : ℕ) (f : Value A → Bool) (most : AdmitsAtMost (least k) f) where
+    in_line : AdmitsAtMost (least k) (in_lines true f)
+    in_line v h = most v (and_parts (not (is_line_feed v)) (f v) h).1
+
+    line_least : (l : List ℕ)
+        → list_all (admits (least k)) (passed_of_line u limit f l) ≡ true
+    line_least l = passed_least (Some limit) (in_lines true f) in_line l
+
+    end_piece : IsOfPieces k (0x0a ∷ [])
+    end_piece = subst (IsOfPieces k) (encode_ascii 0x0a (lit< tt)) (plain_piece k 0x0a refl)
+
+    line_pieces : (l : List ℕ) → IsOfPieces k (line_text u limit f l)
+    line_pieces l = by (ends_line false l)
+      where
+        by : (t : Bool) → IsOfPieces k (if t
+            then list_text (closed f (passed_of_line u limit f l)) ++ 0x0a ∷ []
+            else list_text (passed_of_line u limit f l))
+        by true =
+            more_pieces k (list_text (closed f (passed_of_line u limit f l))) (0x0a ∷ [])
+            (closed_pieces (Some limit) (in_lines true f) in_line l) end_piece
+        by false = passed_pieces (Some limit) (in_lines true f) in_line l
+
+    pub lines_pieces : (s : List ℕ) → IsOfPieces k (text_by_lines_as u limit f s)
+    lines_pieces s = all_pieces k (line_text u limit f) (lines s) line_pieces
+
+    last_pieces : (s : List ℕ) → IsOfPieces k (list_text (line_closing u limit f s))
+    last_pieces s =
+        let vs = passed_of_line u limit f (last_line s) in
+        texts_pieces k false false (closing f vs)
+        (back_writable A (keeps_cursor f) (after_values vs unchanged))
+        (closing_least k f vs (line_least (last_line s)))
+
+    pub closed_lines_pieces : (s : List ℕ) → IsOfPieces k (closed_by_lines_as u limit f s)
+    closed_lines_pieces s =
+        more_pieces k (text_by_lines_as u limit f s) (list_text (line_closing u limit f s))
+        (lines_pieces s) (last_pieces s)
