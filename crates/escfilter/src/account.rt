@@ -6,6 +6,7 @@ use crate::options::Options;
 use crate::place::{BEGINNING, Place};
 use crate::swallowed::Lost;
 use crate::tally::Tally;
+use esc_decode::{Encoding, Mask};
 use esc_frame::{ParseError, VTParser};
 use esc_parse::performer::Performer;
 use esc_parse::unfinished::Unfinished;
@@ -19,6 +20,8 @@ pub struct Account<'a> {
     parser: VTParser,
     performer: Performer<Tally<'a>>,
     by_lines: bool,
+    // what replaces bytes, where any are replaced
+    mask: Option<Mask>,
     // where the next byte is
     place: Place,
     // what the segment is that is read, and its last byte
@@ -41,6 +44,7 @@ impl<'a> Account<'a> {
                 unfinished: Unfinished::new(Some(options.limit)),
             },
             by_lines: options.by_lines,
+            mask: mask_of(options),
             place: BEGINNING,
             opened: Opened::Character,
             before: 0,
@@ -56,7 +60,11 @@ impl<'a> Account<'a> {
             if self.has_failed {
                 return;
             }
-            if self.take(*byte).is_err() {
+            let byte = match &mut self.mask {
+                Some(mask) => mask.take(*byte),
+                None => *byte,
+            };
+            if self.take(byte).is_err() {
                 self.has_failed = true;
             }
         }
@@ -147,6 +155,14 @@ impl<'a> Account<'a> {
         self.parser.restart();
         self.performer.unfinished.restart();
         self.owed = 0;
+    }
+}
+
+// What replaces bytes of a stream before a filter is fed it.
+fn mask_of(options: Options<'_>) -> Option<Mask> {
+    match options.encoding {
+        Encoding::Utf8 if !options.shows => Some(Mask::new()),
+        Encoding::Utf8 | Encoding::EightBit => None,
     }
 }
 

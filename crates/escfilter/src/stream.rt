@@ -6,6 +6,7 @@ ghost use Rattle.escfilter.specs.Adding.{NewAdding};
 ghost use Rattle.escfilter.specs.Written.{IsWritten, final_by, left_by, seen_by, text_of};
 
 use crate::options::Options;
+use esc_decode::Decoding;
 use esc_filter::{
     Feeding, Filter, FilterError, LineFilter, filter_from, written_lines_read_back,
     written_reads_back,
@@ -50,6 +51,7 @@ pub fn filter_by<A: Allocator + Copy, R: Read, W: Write>(
 }
 
 // Writes on `writer` by this filter, which was fed nothing, what is written of what `reader` reads.
+// Where what does not pass is shown, so is a byte that is no part of a character.
 fn filter_shown<A: Allocator + Copy, R: Read, W: Write, F: Feeding<A> + Drop>(
     alloc: A,
     options: &Options<'_>,
@@ -71,6 +73,7 @@ fn filter_shown<A: Allocator + Copy, R: Read, W: Write, F: Feeding<A> + Drop>(
         let filter = Revealing::new(alloc, reveal, filter);
         filter_left(alloc, options.rows, filter, reader, writer)
     } else {
+        let filter = Decoding::new(alloc, options.encoding, filter);
         filter_left(alloc, options.rows, filter, reader, writer)
     }
 }

@@ -1,11 +1,11 @@
 use Rattle.std.proofs.Common.{ℕ, ◌≡◌, ◌++◌, List, [], true, false, refl, sym, ap, ◌∙◌}
 use Rattle.esc_reveal.proofs.Begins.{through_longer, through_nothing}
-use Rattle.esc_reveal.specs.Through.{through, through_whole}
+use Rattle.esc_decode.specs.Decodings.{decoded, through}
 use Rattle.esc_filter.specs.declared.admit.Admit.{Ghosts as Admitter}
 use Rattle.escfilter.specs.Written.{admits_choice, seen_by}
 use Rattle.escfilter.specs.declared.named_groups.Choice.{Choice}
 use Rattle.escfilter.proofs.OtherWords.{same_texts}
-use Rattle.escfilter.proofs.Seen.{going_same, going_shown, whole_same, whole_shown}
+use Rattle.escfilter.proofs.Seen.{going_same, going_shown, nothing_decoded, whole_same, whole_shown}
 use Rattle.escfilter.proofs.stream.filter_shown.Goals as goal
 
 pub returns-then-shows-clause-holds : goal.returns-then-shows-clause-holds
@@ -54,10 +54,13 @@ pub returns-else-shows-clause-holds : goal.returns-else-shows-clause-holds
 returns-else-shows-clause-holds g c = λ m e fresh none only.
     let a = g.row.A.Denot in
     let o = c.args.options.now in
-    let f = same_texts a o.rows e m (λ s. e (seen_by a o true s)) (λ s. m (seen_by a o false s))
+    let new = c.new-filter-else-shows.ensures.begins m e fresh only in
+    let f = same_texts a o.rows (through o.encoding e) (through o.encoding m)
+    (λ s. e (seen_by a o true s)) (λ s. m (seen_by a o false s))
     (λ s. ap e (whole_same a o.shows o c.if-shows.false s))
     (λ s. ap m (going_same a o.shows o c.if-shows.false s)) _ _ _
-    (c.filter_left-else-shows.ensures.holds m e fresh none only.end) in
+    (c.filter_left-else-shows.ensures.holds _ _ new (ap m (nothing_decoded o.encoding) ∙ none)
+    (λ s. only.end (decoded o.encoding s))) in
     record {
       read_all = f.read_all;
       written = f.written;
@@ -71,4 +74,7 @@ returns-else-shows-clause-holds g c = λ m e fresh none only.
 
 pub returns-else-shows-clause-refused : goal.returns-else-shows-clause-refused
 returns-else-shows-clause-refused g c = λ m e fresh none only.
-    c.filter_left-else-shows.ensures.refused m e fresh none only.end
+    let o = c.args.options.now in
+    let new = c.new-filter-else-shows.ensures.begins m e fresh only in
+    c.filter_left-else-shows.ensures.refused _ _ new (ap m (nothing_decoded o.encoding) ∙ none)
+    (λ s. only.end (decoded o.encoding s))
