@@ -14,18 +14,25 @@ use Rattle.esc_reveal.specs.Revealed.{revealed, revealed_whole}
 use Rattle.esc_filter.specs.declared.admit.Admit.{Ghosts as Admitter}
 use Rattle.esc_reveal.specs.declared.reveal.Rule.{Rule}
 use Rattle.esc_reveal.specs.Fed.{text_by, whole_by}
-use Rattle.escfilter.specs.Adding.{OnlyAdds}
+use Rattle.esc_decode.specs.Decodings.{OnlyAdds, decoded}
+use Rattle.esc_decode.specs.declared.encoding.Encoding.{Encoding}
+use Rattle.esc_decode.specs.declared.encoding.Encoding.TheVariants.{EightBit, Utf8}
 use Rattle.escfilter.specs.Written.{admits_choice, going_in, seen_by, whole_in}
 use Rattle.escfilter.specs.declared.options.Options.{Options}
 
+-- nothing becomes nothing
+pub nothing_decoded : (e : Encoding) → decoded e [] ≡ []
+nothing_decoded Utf8 = refl
+nothing_decoded EightBit = refl
+
 -- where nothing is shown
 pub whole_same : (A : Type 0) (b : Bool) (o : Options) → b ≡ false → (s : List ℕ)
-    → s ≡ whole_in A b o s
+    → decoded o.encoding s ≡ whole_in A b o s
 whole_same A true o e s = absurd cc
 whole_same A false o e s = refl
 
 pub going_same : (A : Type 0) (b : Bool) (o : Options) → b ≡ false → (s : List ℕ)
-    → s ≡ going_in A b o s
+    → decoded o.encoding s ≡ going_in A b o s
 going_same A true o e s = absurd cc
 going_same A false o e s = refl
 

@@ -1,6 +1,7 @@
 -- What is written of a stream under the program's options.
 use Rattle.std.specs.Prelude.{ℕ, ◌≡◌, Bool, true, false, if◌then◌else◌, List, Option, Some, None, max}
 use Rattle.esc_actions.specs.Values.{Value}
+use Rattle.esc_decode.specs.Decodings.{decoded}
 use Rattle.esc_filter.specs.Groups.{admits_groups, groups_of, has}
 use Rattle.esc_filter.specs.Lines.{IsFilteredByLinesAs, closed_by_lines_as, text_by_lines_as}
 use Rattle.esc_filter.specs.Passing.{IsFilteredAs, closed_text_as, passed_text_as}
@@ -29,15 +30,18 @@ admits_by (Some g) p v = admits_groups g v
 abbrev pub admits_choice : {A : Type 0} → Choice → Value A → Bool
 admits_choice c v = admits_by c.groups c.policy v
 
--- the stream; or, where what does not pass is shown, what is revealed of it
+-- what the stream becomes by its encoding; or, where what does not pass is shown, what is revealed
+-- of it
 abbrev pub going_in : Type 0 → Bool → Options → List ℕ → List ℕ
 going_in A shows o s =
-    if shows then revealed {A = A} o.by_lines o.limit (admits_choice o.choice) s else s
+    if shows then revealed {A = A} o.by_lines o.limit (admits_choice o.choice) s
+    else decoded o.encoding s
 
 -- the same of one that has ended
 abbrev pub whole_in : Type 0 → Bool → Options → List ℕ → List ℕ
 whole_in A shows o s =
-    if shows then revealed_whole {A = A} o.by_lines o.limit (admits_choice o.choice) s else s
+    if shows then revealed_whole {A = A} o.by_lines o.limit (admits_choice o.choice) s
+    else decoded o.encoding s
 
 abbrev pub seen_by : Type 0 → Options → Bool → List ℕ → List ℕ
 seen_by A o true s = whole_in A o.shows o s
@@ -86,7 +90,7 @@ is_left_by A (Some n) false u t = t ≡ final_of (size_of n) (values_of A u)
 -- ---- what is written
 
 -- the text t is written of the stream s, which has ended or goes on: what is left of the lines of
--- what passes of it, or of what is revealed of it
+-- what passes of what it becomes, or of what is revealed of it
 abbrev pub IsWritten : (A : Type 0) → Options → Bool → List ℕ → List ℕ → Type 0
 IsWritten A o b s t = (u : List ℕ)
     × is_passed_by {A = A} o.unicode o.by_lines b o.limit (admits_choice o.choice)

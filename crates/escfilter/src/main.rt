@@ -37,9 +37,9 @@ const USAGE: &str = "\
 usage: escfilter [--allow text|color|screen|all|layout|sgr|hidden|links|controls|cursor|erase|\
 scroll|modes|charsets|palette|titles|clipboard|images|other] [--deny layout|sgr|hidden|links|\
 controls|cursor|erase|scroll|modes|charsets|palette|titles|clipboard|images|other] \
-[--links scheme,..] [--lines|--whole] [--limit size] [--unicode keep|show|drop] [--show] \
-[--collapse[=rows]] [--cast] [--report[=text|json]] [--fail] [-o|--output file] \
-[-i|--in-place[=suffix]] [-h|--help] [-V|--version] [--] [FILE..]";
+[--links scheme,..] [--lines|--whole] [--limit size] [--c1 replace|obey] \
+[--unicode keep|show|drop] [--show] [--collapse[=rows]] [--cast] [--report[=text|json]] \
+[--fail] [-o|--output file] [-i|--in-place[=suffix]] [-h|--help] [-V|--version] [--] [FILE..]";
 
 const HELP: &str = "\
 Writes what the policy admits of each FILE, or of standard input, as it is read. What that
@@ -57,6 +57,8 @@ leaves on, as colours or a link, is taken back at its end, and at each line's wi
   --whole         takes each FILE as one stream (the default with screen and all)
   --limit size    the most bytes of an unfinished sequence that are kept (1MiB): a number,
                   as 65536, or 64K, 1M or 1G, also as 64KiB, in powers of 1024
+  --c1 way        of bytes 80 to 9F that are no part of a UTF-8 character: replace writes
+                  U+FFFD in their place (the default), obey takes them for controls
   --unicode way   of characters that hide or reorder text: show writes <U+202E> in their place
                   (the default with text and color), drop nothing, keep themselves
   --show          writes what does not pass in its place, as text: ^[]0;title^G

@@ -2,6 +2,7 @@
 
 use crate::named_groups::{ALLOWED, Choice, DENIED};
 use command_line::{Apart, Found, Given, Known, Takes, Wrong, read};
+use esc_decode::Encoding;
 use esc_filter::{Policy, Unicode, is_scheme};
 use std::alloc::Global;
 
@@ -10,6 +11,8 @@ use std::alloc::Global;
 pub struct Options<'a> {
     /// What passes.
     pub choice: Choice<'a>,
+    /// How the bytes of a stream are read.
+    pub encoding: Encoding,
     /// How many bytes are kept of an unfinished segment.
     pub limit: usize,
     /// Whether each line is a stream of its own.
@@ -81,6 +84,7 @@ impl<'a> Options<'a> {
         match given.name {
             "--allow" => self.choice = self.choice.and(given.some),
             "--deny" => self.choice = self.choice.without(given.some),
+            "--c1" => self.encoding = encoding_of(given.word),
             "--limit" => self.limit = given.size,
             "--show" => self.shows = true,
             "--collapse" => self.rows = rows_of(given.word),
@@ -113,6 +117,11 @@ const KNOWN: &[Known] = &[
         name: "--links",
         letter: "",
         takes: Takes::OneOf("scheme", &[]),
+    },
+    Known {
+        name: "--c1",
+        letter: "",
+        takes: Takes::OneOf("way", &["replace", "obey"]),
     },
     Known {
         name: "--limit",
@@ -220,6 +229,7 @@ impl<'a> Asked<'a> {
                     policy: Policy::Color,
                     groups: None,
                 },
+                encoding: Encoding::Utf8,
                 limit: DEFAULT_LIMIT,
                 by_lines: false,
                 unicode: Unicode::Keep,
@@ -297,6 +307,15 @@ fn unicode_of(name: &str) -> Unicode {
         "show" => Unicode::Show,
         "drop" => Unicode::Drop,
         _ => Unicode::Keep,
+    }
+}
+
+// How bytes are read where controls of C1 that are single bytes are taken in this way, which is one
+// of those in the table.
+fn encoding_of(name: &str) -> Encoding {
+    match name {
+        "obey" => Encoding::EightBit,
+        _ => Encoding::Utf8,
     }
 }
 

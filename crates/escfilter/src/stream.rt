@@ -8,6 +8,7 @@ ghost use Rattle.escfilter.specs.Written.{IsOfPieces, IsWritten, final_by, left_
 use crate::laws::writes_pieces;
 use crate::options::Options;
 use esc_account::{Audience, Audited};
+use esc_decode::Decoding;
 use esc_filter::{
     Feeding, Filter, FilterError, LineFilter, filter_from, written_lines_read_back,
     written_reads_back,
@@ -58,6 +59,7 @@ pub fn filter_by<A: Allocator + Copy, R: Read, W: Write, K: Audience<A> + Drop>(
 }
 
 // Writes on `writer` by this filter, which was fed nothing, what is written of what `reader` reads.
+// Where what does not pass is shown, so is a byte that is no part of a character.
 fn filter_shown<
     A: Allocator + Copy,
     R: Read,
@@ -84,36 +86,33 @@ fn filter_shown<
     let shows = options.shows;
     if shows {
         let reveal = Reveal::new(alloc, options.limit, options.choice, options.by_lines);
-        let filter = Revealing::new(alloc, reveal, filter);
-        filter_left(alloc, options.rows, filter, audience, reader, writer)
+        let inner = Revealing::new(alloc, reveal, filter);
+        let filter = Audited { inner, audience };
+        filter_left(alloc, options.rows, filter, reader, writer)
     } else {
-        filter_left(alloc, options.rows, filter, audience, reader, writer)
+        let filter = Audited {
+            inner: filter,
+            audience,
+        };
+        let filter = Decoding::new(alloc, options.encoding, filter);
+        filter_left(alloc, options.rows, filter, reader, writer)
     }
 }
 
 // Writes on `writer` what is left of the lines of what this filter, which was fed nothing, gives
 // for what `reader` reads; where no rows may be written again, all of it.
-fn filter_left<
-    A: Allocator + Copy,
-    R: Read,
-    W: Write,
-    F: Feeding<A> + Drop,
-    K: Audience<A> + Drop,
->(
+fn filter_left<A: Allocator + Copy, R: Read, W: Write, F: Feeding<A> + Drop>(
     alloc: A,
     rows: Option<usize>,
-    inner: F,
-    audience: K,
+    filter: F,
     reader: &mut Watched<R>,
     writer: &mut Watched<W>,
 ) -> Result<(), FilterError>
-    requires { K.heard audience [] [] }
-    ensures holds { New F.Feeding inner (λ m c. Filters R.Read W.Write (left_by A rows c)
+    ensures holds { New F.Feeding filter (λ m c. Filters R.Read W.Write (left_by A rows c)
         (IsEither (left_by A rows c) (final_by A rows m)) result reader writer) }
-    ensures refused { New F.Feeding inner (λ m c.
+    ensures refused { New F.Feeding filter (λ m c.
         IsErrOf result FilterError.Memory → Refused A) }
 {
-    let filter = Audited { inner, audience };
     match rows {
         None => {
             let mut filter = filter;

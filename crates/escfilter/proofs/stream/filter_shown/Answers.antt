@@ -1,11 +1,11 @@
-use Rattle.std.proofs.Common.{ℕ, ◌≡◌, ◌++◌, List, [], true, false, refl, sym, ap, ◌∙◌}
+use Rattle.std.proofs.Common.{ℕ, ◌≡◌, ◌++◌, List, [], true, false, refl, sym, ap, ◌∙◌, subst}
 use Rattle.esc_reveal.proofs.Begins.{through_longer, through_nothing}
-use Rattle.esc_reveal.specs.Through.{through, through_whole}
+use Rattle.esc_decode.specs.Decodings.{decoded, through}
 use Rattle.esc_filter.specs.declared.admit.Admit.{Ghosts as Admitter}
 use Rattle.escfilter.specs.Written.{admits_choice, seen_by}
 use Rattle.escfilter.specs.declared.named_groups.Choice.{Choice}
 use Rattle.escfilter.proofs.OtherWords.{same_texts}
-use Rattle.escfilter.proofs.Seen.{going_same, going_shown, whole_same, whole_shown}
+use Rattle.escfilter.proofs.Seen.{going_same, going_shown, nothing_decoded, whole_same, whole_shown}
 use Rattle.escfilter.proofs.stream.filter_shown.Goals as goal
 
 pub returns-then-shows-clause-holds : goal.returns-then-shows-clause-holds
@@ -25,7 +25,9 @@ returns-then-shows-clause-holds g c = λ m e fresh none only.
     o.shows c.if-shows.true s))
     (λ s. ap m (going_shown V rule o c.new-reveal.ensures.limit c.new-reveal.ensures.lines admits
     o.shows c.if-shows.true s)) _ _ _
-    (c.filter_left.ensures.holds _ _ new (through_nothing V rule m e none)
+    (c.filter_left.ensures.holds _ _
+    (new, subst (g.K.Audience.heard c.args.audience []) (sym (through_nothing V rule m e none))
+    c.requires) (through_nothing V rule m e none)
     (through_longer V rule m e only.more only.end)) in
     record {
       read_all = f.read_all;
@@ -47,17 +49,23 @@ returns-then-shows-clause-refused g c = λ m e fresh none only.
     let new = c.new-filter.ensures.begins m e fresh
     (record { more = λ f s b k. only.more s b; end = λ f s b k. only.end (s ++ b) })
     c.new-reveal.ensures.fed in
-    c.filter_left.ensures.refused _ _ new (through_nothing V rule m e none)
+    c.filter_left.ensures.refused _ _
+    (new, subst (g.K.Audience.heard c.args.audience []) (sym (through_nothing V rule m e none))
+    c.requires) (through_nothing V rule m e none)
     (through_longer V rule m e only.more only.end)
 
 pub returns-else-shows-clause-holds : goal.returns-else-shows-clause-holds
 returns-else-shows-clause-holds g c = λ m e fresh none only.
     let a = g.row.A.Denot in
     let o = c.args.options.now in
-    let f = same_texts a o.rows e m (λ s. e (seen_by a o true s)) (λ s. m (seen_by a o false s))
+    let new = c.new-filter-else-shows.ensures.begins m e
+    (fresh, subst (g.K.Audience.heard c.args.audience []) (sym none) c.requires) only in
+    let f = same_texts a o.rows (through o.encoding e) (through o.encoding m)
+    (λ s. e (seen_by a o true s)) (λ s. m (seen_by a o false s))
     (λ s. ap e (whole_same a o.shows o c.if-shows.false s))
     (λ s. ap m (going_same a o.shows o c.if-shows.false s)) _ _ _
-    (c.filter_left-else-shows.ensures.holds m e fresh none only.end) in
+    (c.filter_left-else-shows.ensures.holds _ _ new (ap m (nothing_decoded o.encoding) ∙ none)
+    (λ s. only.end (decoded o.encoding s))) in
     record {
       read_all = f.read_all;
       written = f.written;
@@ -71,4 +79,8 @@ returns-else-shows-clause-holds g c = λ m e fresh none only.
 
 pub returns-else-shows-clause-refused : goal.returns-else-shows-clause-refused
 returns-else-shows-clause-refused g c = λ m e fresh none only.
-    c.filter_left-else-shows.ensures.refused m e fresh none only.end
+    let o = c.args.options.now in
+    let new = c.new-filter-else-shows.ensures.begins m e
+    (fresh, subst (g.K.Audience.heard c.args.audience []) (sym none) c.requires) only in
+    c.filter_left-else-shows.ensures.refused _ _ new (ap m (nothing_decoded o.encoding) ∙ none)
+    (λ s. only.end (decoded o.encoding s))

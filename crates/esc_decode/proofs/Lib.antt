@@ -1,0 +1,5 @@
+pub mod Outcomes
+pub mod Masks
+pub mod Characters
+pub mod Raw
+pub mod Feeding

@@ -1,0 +1,43 @@
+-- A stream in the encoding that a filter reads, and a filter that is fed it.
+use Rattle.std.specs.Prelude.{ℕ, ◌≡◌, List, [], ◌++◌}
+use Rattle.esc_frame.specs.Machine.Prefixes.{prefix_of}
+use Rattle.esc_frame.specs.declared.utf8.sequence.Pending.{Pending}
+use Rattle.esc_normal.specs.declared.feeding.Feeding.{Ghosts as Feeder}
+use Rattle.esc_decode.specs.Masks.{begun_after, masked_after}
+use Rattle.esc_decode.specs.declared.encoding.Encoding.{Encoding}
+use Rattle.esc_decode.specs.declared.encoding.Encoding.TheVariants.{EightBit, Utf8}
+
+-- what bytes become that come after a stream, of which this has begun a character; and what has
+-- then
+abbrev pub decoded_after : Encoding → List ℕ → List ℕ → List ℕ
+decoded_after Utf8 f s = masked_after f s
+decoded_after EightBit f s = s
+
+abbrev pub begun_by : Encoding → List ℕ → List ℕ → List ℕ
+begun_by Utf8 f s = begun_after f s
+begun_by EightBit f s = f
+
+-- what a stream becomes
+abbrev pub decoded : Encoding → List ℕ → List ℕ
+decoded e s = decoded_after e [] s
+
+-- the text of a stream in this encoding, where this is that of what it becomes
+abbrev pub through : Encoding → (List ℕ → List ℕ) → List ℕ → List ℕ
+through e m s = m (decoded e s)
+
+-- More of a stream adds to its text, and so does its end: nothing that was written is taken back.
+pub record OnlyAdds (m c : List ℕ → List ℕ) : Type 0 where
+  pub more : (s b : List ℕ) → (t : List ℕ) × (m (s ++ b) ≡ m s ++ t)
+  pub end : (s : List ℕ) → (t : List ℕ) × (c s ≡ m s ++ t)
+
+-- The filter was fed what this stream becomes, in which this has begun. The text of a stream is the
+-- filter's, of that.
+pub record Decodes {F A : Type 0} (G : Feeder F A) (e : Encoding) (begun : Pending) (filter : F)
+    (m c : List ℕ → List ℕ) (s : List ℕ) : Type 0 where
+  pub inner : List ℕ → List ℕ
+  pub inner_end : List ℕ → List ℕ
+  pub adds : OnlyAdds inner inner_end
+  pub given : G.gives filter inner inner_end (decoded e s)
+  pub left : prefix_of begun ≡ begun_by e [] s
+  pub goes_on : m ≡ through e inner
+  pub ended : c ≡ through e inner_end

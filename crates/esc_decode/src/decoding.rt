@@ -1,0 +1,73 @@
+//! A filter, of what a stream becomes.
+ghost use Rattle.std.specs.Prelude.{◌≡◌, ℕ, List, []};
+ghost use Rattle.esc_decode.specs.Decodings.{Decodes, OnlyAdds, through};
+
+use crate::encoding::Encoding;
+use crate::runs::{look, push_masked};
+use esc_frame::utf8::sequence::Pending;
+use esc_normal::Feeding;
+use std::alloc::{AllocError, Allocator, Global};
+
+/// Takes a stream, and gives a filter what it becomes by its encoding. A piece that stays as it is
+/// goes to the filter as it lies. So the filter's text is its own, of that, and nothing is written
+/// that it would not write.
+///
+/// It keeps which bytes have begun a character, and the last piece that does not stay as it is.
+#[derive(Drop)]
+pub struct Decoding<F, A: Allocator = Global> {
+    encoding: Encoding,
+    // of a character
+    begun: Pending,
+    filter: F,
+    // what the last piece became that did not stay
+    piece: Vec<u8, A>,
+}
+
+impl<F: Feeding<A>, A: Allocator + Copy> Decoding<F, A> {
+    /// This filter, of what a stream in this encoding becomes; the filter is at the beginning of a
+    /// stream. Takes no memory.
+    pub fn new(alloc: A, encoding: Encoding, filter: F) -> Decoding<F, A>
+        ensures filter { result.filter ≡ filter }
+        ensures begins { (m c : List ℕ → List ℕ) → F.gives filter m c [] → OnlyAdds m c
+            → Decodes F.Feeding result.encoding result.begun result.filter (through encoding m)
+            (through encoding c) [] }
+    {
+        Decoding {
+            encoding,
+            begun: Pending::Nothing,
+            filter,
+            piece: Vec::new(alloc),
+        }
+    }
+}
+
+impl<F: Feeding<A>, A: Allocator + Copy> Feeding<A> for Decoding<F, A> {
+    ghost gives = { λ d m c s. Decodes F.Feeding d.encoding d.begun d.filter m c s };
+
+    ghost added = { λ d. F.added d.filter };
+
+    ghost has_ended = { λ d _ _. (c : List ℕ → List ℕ) × (s : List ℕ) × F.has_ended d.filter c s };
+
+    fn feed_piece(&mut self, bytes: &[u8]) -> Result<(), AllocError> {
+        let Encoding::Utf8 = self.encoding else {
+            return self.filter.feed_piece(bytes);
+        };
+        let (begun, stays) = look(self.begun, bytes);
+        if stays {
+            self.begun = begun;
+            return self.filter.feed_piece(bytes);
+        }
+        self.piece.clear();
+        push_masked(&mut self.piece, self.begun, bytes)?;
+        self.begun = begun;
+        self.filter.feed_piece(&self.piece)
+    }
+
+    fn finish_all(&mut self) -> Result<(), AllocError> {
+        self.filter.finish_all()
+    }
+
+    fn added_text(&self) -> &str {
+        self.filter.added_text()
+    }
+}

@@ -1,0 +1,12 @@
+//! Encodings.
+
+/// How the bytes of a stream are read.
+#[derive(Clone, Copy)]
+pub enum Encoding {
+    /// As UTF-8: a byte 80 to 9F that is no part of a well-formed character (Unicode, Table 3-7) is
+    /// replaced, so it is no control.
+    Utf8,
+    /// As they are, where such a byte is a control of C1: an 8-bit code, or UTF-8 with controls as
+    /// bytes.
+    EightBit,
+}

@@ -1,0 +1,28 @@
+//! A stage in front of a filter, for the encoding of the stream that it reads.
+//!
+//! The framing obeys a byte 80 to 9F between characters as a control of C1 (ECMA-48, 5.3). In a
+//! stream of UTF-8 there is none: such a byte is a part of a character, or of a text in another
+//! encoding, of which it would open a string and so take away what follows. A [`Decoding`] before a
+//! filter has it replaced, by FF, which begins no character either and is shown as U+FFFD.
+//!
+//! ```text
+//! let inner = Filter::new(alloc, 65_536, Policy::Color);
+//! let mut filter = Decoding::new(alloc, Encoding::Utf8, inner);
+//! filter.feed_piece(b"\x9ele\n")?;
+//! filter.added_text()       // "\u{fffd}le\n"
+//! ```
+#![tactic(auto)]
+
+mod decoding;
+mod encoding;
+mod laws;
+mod mask;
+mod runs;
+
+pub use decoding::Decoding;
+pub use encoding::Encoding;
+pub use laws::{
+    ascii_stays, characters_stay, each_byte_stays_or_is_masked, length_stays, masks_piece_by_piece,
+    no_raw_control_begins, raw_bytes_go_on,
+};
+pub use mask::Mask;
