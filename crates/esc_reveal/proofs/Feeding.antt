@@ -4,6 +4,7 @@ use Rattle.std.specs.List.{flat_map}
 use Rattle.esc_actions.specs.Meaning.{meaning_within}
 use Rattle.esc_actions.specs.Values.{Value}
 use Rattle.esc_filter.specs.Lines.{is_line_feed}
+use Rattle.esc_normal.specs.Normalising.{normal_form}
 use Rattle.esc_filter.specs.declared.admit.Admit.{Ghosts as Admitter}
 use Rattle.esc_reveal.proofs.Cutting.{all_append, grows_more, line_ends, nothing_more, rest_append, rest_none}
 use Rattle.esc_reveal.proofs.Quiet.{part_makes}
@@ -14,7 +15,7 @@ use Rattle.esc_reveal.specs.Pieces.{is_at_ground, pieces, rest, rest_after}
 use Rattle.esc_reveal.specs.Revealed.{are_kept, piece_text, revealed, revealed_whole}
 use Rattle.esc_reveal.specs.Runs.{IsAdmittedText, IsPart}
 use Rattle.esc_reveal.specs.Visible.{rest_text, visible}
-use Rattle.esc_reveal.specs.Whole.{is_whole}
+use Rattle.esc_reveal.specs.Spelled.{is_spelled}
 use Rattle.esc_reveal.specs.declared.reveal.Reveal.{Reveal}
 use Rattle.esc_reveal.specs.declared.reveal.Rule.{Rule}
 
@@ -88,21 +89,24 @@ module _ {P A : Type 0} (V : Admitter P A) (rule : Rule P) (x : List ℕ) where
     e,
   )
 
+  -- all of its bytes are in the text of what it means
+  abbrev spelled : Bool
+  spelled = is_spelled x (normal_form A (Some rule.limit) x)
+
   module _ (k : Bool) (e : k ≡ are_kept passing (meaning_within (Some rule.limit) x)) where
-    by_test : (b : Bool) → (nat_le (length x) rule.limit && (is_whole x && k)) ≡ b
+    by_test : (b : Bool) → (nat_le (length x) rule.limit && (k && spelled)) ≡ b
         → closed_text V rule x ≡ (if b then x else visible x)
     by_test b h =
-        ap (λ y. if nat_le (length x) rule.limit && (is_whole x && y) then x else visible x)
-        (sym e)
+        ap (λ y. if nat_le (length x) rule.limit && (y && spelled) then x else visible x) (sym e)
         ∙ ap (λ y. if y then x else visible x) h
 
-    pub stays_as : (nat_le (length x) rule.limit && (is_whole x && k)) ≡ true
+    pub stays_as : (t : Bool) → t ≡ (nat_le (length x) rule.limit && (k && spelled)) → t ≡ true
         → closed_text V rule x ≡ x
-    stays_as h = by_test true h
+    stays_as t is h = by_test true (sym is ∙ h)
 
-    pub shown_as : (nat_le (length x) rule.limit && (is_whole x && k)) ≡ false
+    pub shown_as : (t : Bool) → t ≡ (nat_le (length x) rule.limit && (k && spelled)) → t ≡ false
         → closed_text V rule x ≡ visible x
-    shown_as h = by_test false h
+    shown_as t is h = by_test false (sym is ∙ h)
 
 module _ {P A : Type 0} (V : Admitter P A) (rule : Rule P) where
   abbrev allows : Value A → Bool

@@ -254,13 +254,7 @@ module _ {A : Type 0} (admits : Value A → Bool) where
       → judged admits k (osc (command_meant ps))
       ≡ record { some = true; all = k.all && b; follows = true }
   command_found b k ps h =
-      ap (λ g. record { some = true; all = k.all && g; follows = true })
-      (by_follows k.follows (admits (osc (command_meant ps))) ∙ h)
-    where
-      by_follows : (f a : Bool) → (a || (f && false)) ≡ a
-      by_follows f true = refl
-      by_follows true false = refl
-      by_follows false false = refl
+      ap (λ g. record { some = true; all = k.all && g; follows = true }) h
 
 -- a control by itself
 pub control_found : {A : Type 0} (admits : Value A → Bool) (limit : ℕ) (x : List ℕ) (b : ℕ)
@@ -273,7 +267,7 @@ control_found admits limit x b code e k =
     ∙ ap (λ o. are_kept admits (executed o ++ [])) k
     ∙ by_pass (passes admits (control code))
   where
-    by_pass : (t : Bool) → ((t || false) && true) ≡ t
+    by_pass : (t : Bool) → (t && true) ≡ t
     by_pass true = refl
     by_pass false = refl
 

@@ -1,16 +1,18 @@
 -- Characters, each of which is a piece by itself.
-use Rattle.std.proofs.Common.{IsAscii, ℕ, zero, suc, ◌≡◌, ◌<◌, ◌≤◌, ◌-◌, ◌&&◌, ◌||◌, ◌==◌, inl, inr, not, Bool, true, false, nat_le, if◌then◌else◌, List, [], ◌∷◌, ◌++◌, length, take, drop, Some, arith, refl, ap, sym, ◌∙◌, subst}
+use Rattle.std.proofs.Common.{ℕ, ◌≡◌, ◌<◌, ◌≤◌, ◌-◌, ◌&&◌, ◌||◌, inl, inr, Bool, true, false, nat_le, if◌then◌else◌, List, [], ◌∷◌, ◌++◌, length, take, Some, arith, refl, ap, sym, ◌∙◌, subst}
 use Rattle.std.specs.Char.{encode_utf8}
-use Rattle.std.specs.List.{flat_map, list_all, list_any}
-use Rattle.std.specs.Str.{IsUtf8, chars, encode_utf8_all, is_utf8}
+use Rattle.std.specs.List.{flat_map, list_all}
+use Rattle.std.specs.Str.{IsUtf8, chars, encode_utf8_all}
 use Rattle.std.proofs.lemmas.Bool.Decides.{nat_tests}
 use Rattle.std.proofs.lemmas.Bool.{and_parts}
 use Rattle.std.proofs.lemmas.List.{append-nil, take_all}
-use Rattle.std.proofs.lemmas.Str.{IsUtf8-from_ascii, chars-IsAscii, chars-nil, chars_past_char, encode_ascii, encodes-chars, is_utf8-from_IsUtf8, len_utf8_bounds, length-encode}
+use Rattle.std.proofs.lemmas.Slice.Eq.{bytes_eq-Decides}
+use Rattle.std.proofs.lemmas.Str.{encode_ascii, encodes-chars, len_utf8_bounds, length-encode}
 use Rattle.esc_actions.specs.Meaning.{meaning_within, values_from}
+use Rattle.esc_actions.specs.Texts.{list_text}
 use Rattle.esc_actions.specs.Values.{Value, plain, print}
 use Rattle.esc_filter.specs.Lines.{has_line_feed, is_line_feed}
-use Rattle.esc_frame.proofs.Characters.{clear_cases, four_is, none_five, spells_clear, three_is, two_is}
+use Rattle.esc_frame.proofs.Characters.{clear_cases, spells_clear}
 use Rattle.esc_frame.proofs.ClearRuns.{clear_run, free_text_clear}
 use Rattle.esc_frame.proofs.Still.{character_still}
 use Rattle.esc_frame.specs.Events.Event.{Print}
@@ -18,7 +20,6 @@ use Rattle.esc_frame.specs.Leads.Unfinished.{Ground}
 use Rattle.esc_frame.specs.Machine.Characters.{IsCharacter}
 use Rattle.esc_frame.specs.Machine.Moves.{after_all, events_all, is_ground}
 use Rattle.esc_frame.specs.Scans.{IsFreeTo, is_text_byte}
-use Rattle.esc_frame.specs.Sequences.{is_sequence}
 use Rattle.esc_frame.specs.Stream.{events_within}
 use Rattle.esc_values.specs.Clear.{is_clear}
 use Rattle.esc_reveal.proofs.Cutting.{all_append, rest_append, rest_none}
@@ -29,7 +30,7 @@ use Rattle.esc_reveal.specs.Pieces.{is_at_ground, pieces_after, rest_after}
 use Rattle.esc_reveal.specs.Revealed.{are_kept, is_kept, piece_text, revealed_after}
 use Rattle.esc_reveal.specs.Runs.{IsAdmittedText, IsPart, has_line_end}
 use Rattle.esc_reveal.specs.Visible.{rest_text, visible}
-use Rattle.esc_reveal.specs.Whole.{breaks, ends_in_terminator, has_break, is_whole}
+use Rattle.esc_reveal.specs.Spelled.{is_control_sequence, is_single, is_spelled, is_text_of}
 
 -- ---- no line feed
 
@@ -45,34 +46,17 @@ feedless : (by_lines : Bool) (x : List ℕ) → has_line_feed x ≡ false
 feedless false x h = refl
 feedless true x h = h
 
--- ---- no string terminator
-
-sequence_ends : (x : List ℕ) → is_sequence x ≡ true → ends_in_terminator x ≡ false
-sequence_ends [] h = refl
-sequence_ends (a ∷ []) h = refl
-sequence_ends (a ∷ b ∷ []) h =
-    let q = (two_is a b h).0 in
-    let k : (a == 0x1b) ≡ false = grind (arith, nat_tests) in rw k refl
-sequence_ends (a ∷ b ∷ c ∷ []) h =
-    let q = (three_is a b c h).2 in
-    let k : (b == 0x1b) ≡ false = grind (arith, nat_tests) in rw k refl
-sequence_ends (a ∷ b ∷ c ∷ d ∷ []) h =
-    let q = (four_is a b c d h).6 in
-    let k : (c == 0x1b) ≡ false = grind (arith, nat_tests) in rw k refl
-sequence_ends (a ∷ b ∷ c ∷ d ∷ e ∷ x) h = absurd (none_five a b c d e x h)
-
 -- ---- one character
 
 -- what is known of its bytes
 record IsOne (x : List ℕ) : Type 0 where
   feed : has_line_feed x ≡ false
   quiet : (k : ℕ) → 0 < k → k < length x → is_at_ground (take k x) ≡ false
-  ends : ends_in_terminator x ≡ false
 
 ascii_one : (c : ℕ) → 0x20 ≤ c → IsOne (c ∷ [])
 ascii_one c l =
     let k : is_line_feed c ≡ false = grind (arith, nat_tests) in
-    record { feed = rw k refl; quiet = λ k a b. absurd (omega (arith, a, b)); ends = refl }
+    record { feed = rw k refl; quiet = λ k a b. absurd (omega (arith, a, b)) }
 
 wide_quiet : (x : List ℕ) (c : ℕ) → IsCharacter x c → (k : ℕ) → 0 < k → k < length x
     → is_at_ground (take k x) ≡ false
@@ -85,7 +69,6 @@ wide_one : (x : List ℕ) (c : ℕ) → IsCharacter x c → IsOne x
 wide_one x c h = record {
   feed = high_feed x (sequence_high x h.0);
   quiet = wide_quiet x c h;
-  ends = sequence_ends x h.0;
 }
 
 char_one : (c : ℕ) → is_clear c ≡ true → IsOne (encode_utf8 c)
@@ -94,22 +77,21 @@ char_one c h = let q = clear_cases c h in elim q.1 [
   | inr l ↦ let w = spells_clear c q.0 l in wide_one (encode_utf8 c) c (w.0, w.1, sym w.2)
 ]
 
-char_utf8 : (c : ℕ) → is_clear c ≡ true → IsUtf8 (encode_utf8 c)
-char_utf8 c h = (
-  c ∷ [],
-  (ap (λ s. s && true) (clear_cases c h).0, append-nil (encode_utf8 c)),
-)
-
-char_whole : (c : ℕ) → is_clear c ≡ true → is_whole (encode_utf8 c) ≡ true
-unfolding is_whole
-char_whole c h =
+-- it is its text
+char_spelled : (A : Type 0) (c : ℕ)
+    → is_spelled (encode_utf8 c) (list_text {A = A} (print c ∷ [])) ≡ true
+char_spelled A c =
     let x = encode_utf8 c in
-    let u = char_utf8 c h in
-    ap (λ e. is_utf8 (if e then take (length x - 2) x else x)
-    && not (has_break (if e then take (length x - 2) x else x))) (char_one c h).ends
-    ∙ ap (λ t. t && not (has_break x)) (is_utf8-from_IsUtf8 x u)
-    ∙ ap (λ cs. not (list_any breaks (drop 1 cs)))
-    (chars_past_char x [] c u (sym (append-nil x)) ∙ ap (λ y. c ∷ y) chars-nil)
+    ap (λ t. is_spelled x t) (append-nil x)
+    ∙ by_same (is_single x) (is_control_sequence x) (is_text_of x x) (same x)
+  where
+    same : (x : List ℕ) → is_text_of x x ≡ true
+    same x = rw ((bytes_eq-Decides x x).1 refl) refl
+
+    by_same : (a b t : Bool) → t ≡ true → (a || (b || t)) ≡ true
+    by_same true b t e = refl
+    by_same false true t e = refl
+    by_same false false t e = e
 
 char_ground : (c : ℕ) → is_clear c ≡ true → is_at_ground (encode_utf8 c) ≡ true
 unfolding is_at_ground
@@ -138,11 +120,12 @@ module _ {A : Type 0} (by_lines : Bool) (limit : ℕ) (admits : Value A → Bool
         let n = length x in
         let few : n ≤ limit = omega (arith, room, length-encode c, (len_utf8_bounds c).1) in
         let short : nat_le n limit ≡ true = grind (arith, nat_tests) in
-        ap (λ w. nat_le n limit && (w && are_kept admits (meaning_within {A = A} (Some limit) x)))
-        (char_whole c h)
-        ∙ ap (λ vs. nat_le n limit && are_kept admits vs) (char_means limit c h)
-        ∙ ap (λ b. b && are_kept admits (print c ∷ [])) short
-        ∙ ap (λ b. (b || false) && true) a
+        ap (λ vs. nat_le n limit && (are_kept admits vs && is_spelled x (list_text vs)))
+        (char_means limit c h)
+        ∙ ap (λ b. b && (are_kept admits (print c ∷ []) && is_spelled x (list_text {A = A}
+        (print c ∷ [])))) short
+        ∙ ap (λ b. (b && true) && is_spelled x (list_text {A = A} (print c ∷ []))) a
+        ∙ char_spelled A c
 
     char_part : (c : ℕ) → is_clear c ≡ true → IsPart by_lines [] (encode_utf8 c)
     char_part c h = record {
@@ -218,34 +201,3 @@ wide_admitted admits x text n free same u a = (
 
 pub none_admitted : {A : Type 0} (admits : Value A → Bool) → IsAdmittedText admits []
 none_admitted admits = ([], refl, refl, refl)
-
--- ---- pieces of ASCII
-
-text_ascii : (xs : List ℕ) → list_all is_text_byte xs ≡ true → IsAscii xs
-text_ascii [] h i = omega arith
-text_ascii (b ∷ xs) h zero =
-    let q = (and_parts (is_text_byte b) (list_all is_text_byte xs) h).0 in
-    grind (arith, nat_tests)
-text_ascii (b ∷ xs) h (suc i) =
-    text_ascii xs (and_parts (is_text_byte b) (list_all is_text_byte xs) h).1 i
-
-first_ascii : (a : ℕ) (xs : List ℕ) → a < 128 → IsAscii xs → IsAscii (a ∷ xs)
-first_ascii a xs l h zero = l
-first_ascii a xs l h (suc i) = h i
-
-text_breaks : (xs : List ℕ) → list_all is_text_byte xs ≡ true → list_any breaks xs ≡ false
-text_breaks [] h = refl
-text_breaks (b ∷ xs) h =
-    let q = and_parts (is_text_byte b) (list_all is_text_byte xs) h in
-    let t = q.0 in
-    let k : breaks b ≡ false = grind (arith, nat_tests) in rw (k, text_breaks xs q.1) refl
-
-pub plain_whole : (p : List ℕ) (a : ℕ) (xs : List ℕ) → p ≡ a ∷ xs → a < 128
-    → list_all is_text_byte xs ≡ true → (is_utf8 p && not (has_break p)) ≡ true
-plain_whole p a xs e l text =
-    let ascii = first_ascii a xs l (text_ascii xs text) in
-    ap (λ y. is_utf8 y && not (has_break y)) e
-    ∙ ap (λ u. u && not (has_break (a ∷ xs)))
-    (is_utf8-from_IsUtf8 (a ∷ xs) (IsUtf8-from_ascii (a ∷ xs) ascii))
-    ∙ ap (λ cs. not (list_any breaks (drop 1 cs))) (chars-IsAscii (a ∷ xs) ascii)
-    ∙ ap not (text_breaks xs text)

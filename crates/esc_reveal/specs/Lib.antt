@@ -1,4 +1,4 @@
-pub mod Whole
+pub mod Spelled
 pub mod Fed
 pub mod Grown
 pub mod Judged

@@ -1,17 +1,18 @@
 -- A stream in which each piece that is not admitted is shown as visible text.
-use Rattle.std.specs.Prelude.{ℕ, Bool, true, false, ◌&&◌, ◌||◌, nat_le, if◌then◌else◌, List, [], ◌∷◌, ◌++◌, Some, length}
+use Rattle.std.specs.Prelude.{ℕ, Bool, true, false, ◌&&◌, nat_le, if◌then◌else◌, List, [], ◌∷◌, ◌++◌, Some, length}
 use Rattle.std.specs.List.{flat_map}
 use Rattle.esc_actions.specs.Meaning.{meaning_within}
-use Rattle.esc_actions.specs.Texts.{is_string, is_terminator}
+use Rattle.esc_actions.specs.Texts.{is_string, is_terminator, list_text}
 use Rattle.esc_actions.specs.Values.{Value}
 use Rattle.esc_filter.specs.Passing.{passes}
 use Rattle.esc_reveal.specs.Pieces.{ends_in_line, pieces, pieces_after, rest, rest_after}
 use Rattle.esc_reveal.specs.Visible.{rest_text, visible}
-use Rattle.esc_reveal.specs.Whole.{is_whole}
+use Rattle.esc_reveal.specs.Spelled.{is_spelled}
 
--- the value passes; a string terminator also where a string comes directly before it
+-- the value passes; a string terminator exactly where a string comes directly before it, which it
+-- ends
 abbrev pub goes_through : {A : Type 0} → (Value A → Bool) → Bool → Value A → Bool
-goes_through admits follows v = passes admits v || (follows && is_terminator v)
+goes_through admits follows v = if is_terminator v then follows else passes admits v
 
 -- each of them does, where `follows` says whether a string comes before them
 abbrev pub all_through : {A : Type 0} → (Value A → Bool) → Bool → List (Value A) → Bool
@@ -27,12 +28,13 @@ is_some (_ ∷ _) = true
 abbrev pub are_kept : {A : Type 0} → (Value A → Bool) → List (Value A) → Bool
 are_kept admits vs = is_some vs && all_through admits false vs
 
--- a piece that stays as it is: of at most so many bytes, all of segments that mean something, and
--- it means values, each of which passes
+-- a piece that stays as it is: of at most so many bytes; it means values, each of which passes; and
+-- all of its bytes are in the text of these
 abbrev pub is_kept : {A : Type 0} → ℕ → (Value A → Bool) → List ℕ → Bool
 is_kept {A = A} limit admits p =
     nat_le (length p) limit
-    && (is_whole p && are_kept admits (meaning_within {A = A} (Some limit) p))
+    && (are_kept admits (meaning_within {A = A} (Some limit) p)
+    && is_spelled p (list_text (meaning_within {A = A} (Some limit) p)))
 
 -- all but the last
 abbrev pub but_last : List ℕ → List ℕ

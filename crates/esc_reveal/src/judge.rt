@@ -5,11 +5,12 @@ ghost use Rattle.esc_frame.specs.Stream.{IsQuietWithin, LeadsToWithin};
 ghost use Rattle.esc_parse.specs.Fed.{Hooks};
 ghost use Rattle.esc_reveal.specs.Judged.{HasJudged, HasJudgedSome, begun, judged, noted};
 ghost use Rattle.esc_reveal.specs.Revealed.{are_kept};
-ghost use Rattle.esc_reveal.specs.Whole.{is_whole};
+ghost use Rattle.esc_normal.specs.Normalising.{normal_form};
+ghost use Rattle.esc_reveal.specs.Spelled.{is_spelled};
 ghost use Rattle.esc_actions.specs.Meaning.{meaning_within};
 ghost use Rattle.memory.specs.Refusals.{Refused};
 
-use crate::whole::is_whole;
+use crate::spelled::is_spelled;
 use esc_actions::{Action, ControlCode};
 use esc_filter::{Admit, passes};
 use esc_frame::VTParser;
@@ -82,7 +83,11 @@ impl<'p, P: Admit<A>, A: Allocator> Sink<Action<A>> for Judge<'p, P> {
     ghost refuses = { λ _ _ _. ⊥ };
 
     fn receive(&mut self, action: Action<A>) -> Result<(), AllocError> {
-        let goes = passes(self.policy, &action) || (self.verdict.follows && action.is_terminator());
+        let goes = if action.is_terminator() {
+            self.verdict.follows
+        } else {
+            passes(self.policy, &action)
+        };
         self.verdict = Verdict {
             some: true,
             all: self.verdict.all && goes,
@@ -232,9 +237,9 @@ fn judge_all<P: Admit<A>, A: Allocator + Copy>(
     }
 }
 
-/// Whether the piece, which the framer was fed, stays: all of it is of segments that mean
-/// something, and each value that it means goes through. The framer was fed it again.
-pub(crate) fn stays_whole<P: Admit<A>, A: Allocator + Copy>(
+/// Whether the piece, which the framer was fed, stays: each value that it means goes through, and
+/// all of its bytes are in the text of these. The framer was fed it again.
+pub(crate) fn stays_spelled<P: Admit<A>, A: Allocator + Copy>(
     alloc: A,
     framer: &mut VTParser<A>,
     policy: &P,
@@ -242,13 +247,15 @@ pub(crate) fn stays_whole<P: Admit<A>, A: Allocator + Copy>(
     piece: &[u8],
 ) -> Result<bool, AllocError>
     ensures kept { LeadsToWithin (Some limit) piece.now framer.old → IfOk result
-        (λ k. LeadsToWithin (Some limit) piece.now framer.new × (k ≡ (is_whole piece.now
-        && are_kept (P.admits policy.now) (meaning_within (Some limit) piece.now)))) }
+        (λ k. LeadsToWithin (Some limit) piece.now framer.new × (k
+        ≡ (are_kept (P.admits policy.now) (meaning_within (Some limit) piece.now)
+        && is_spelled piece.now (normal_form A (Some limit) piece.now)))) }
     ensures refused { LeadsToWithin (Some limit) piece.now framer.old
         → OnErr result (Refused A) }
 {
-    if is_whole(piece) {
-        stays(alloc, framer, policy, limit, piece)
+    let keeps = stays(alloc, framer, policy, limit, piece)?;
+    if keeps {
+        is_spelled(alloc, limit, piece)
     } else {
         Ok(false)
     }

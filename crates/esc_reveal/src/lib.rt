@@ -18,9 +18,9 @@ mod reveal;
 mod revealing;
 mod shown;
 mod silent;
+mod spelled;
 mod text;
 mod visible;
-mod whole;
 
 pub use laws::{
     pieces_are_all, pieces_are_streams, pieces_end_at_ground, read_back, shows_characters,

@@ -8,12 +8,12 @@ ghost use Rattle.esc_reveal.specs.Visible.{rest_text, visible};
 ghost use Rattle.esc_reveal.specs.declared.reveal.TheConstants.{MOST_BYTES};
 ghost use Rattle.memory.specs.Refusals.{Refused};
 
-use crate::judge::{judge_piece, stays_whole};
+use crate::judge::{judge_piece, stays_spelled};
 use crate::kept::Kept;
 use crate::shown::push_visible;
 use crate::silent::frame_some;
+use crate::spelled::may_stay;
 use crate::text::admitted_run;
-use crate::whole::may_stay;
 use esc_filter::Admit;
 use esc_frame::VTParser;
 use memchr::memchr;
@@ -39,11 +39,13 @@ pub(crate) struct Rule<P> {
 /// [`push_visible`](crate::push_visible) writes it.
 ///
 /// The stream is cut where no segment is unfinished, so a string and its terminator are one piece.
-/// A piece stays as it is where it is a text, no segment of it breaks off another, it means
-/// something, and each of its actions passes a filter of the policy; else it is shown whole. One
-/// that is longer than the limit is shown as it comes, and so is, at the end of the stream, one
-/// that has not ended. Where `by_lines`, a line feed always ends a piece: it stays, and what was
-/// unfinished before it is shown.
+/// A piece stays as it is where it means something, each of its actions passes a filter of the
+/// policy, and what the filter writes of them is the piece itself, or the same with `ESC \` in the
+/// place of the BEL that ends a string. A control sequence with no control in it stays also where
+/// its numbers and renditions are spelled otherwise. Any other piece is shown whole. One that is
+/// longer than the limit is shown as it comes, and so is, at the end of the stream, one that has
+/// not ended. Where `by_lines`, a line feed always ends a piece: it stays, and what was unfinished
+/// before it is shown.
 ///
 /// Of the stream it keeps the piece that has not ended, at most the limit, and what a
 /// [`VTParser`](esc_frame::VTParser) of this limit keeps of a segment that has not ended.
@@ -270,7 +272,8 @@ impl<P: Admit<A>, A: Allocator + Copy> Reveal<P, A> {
             return self.kept.extend(self.rule.limit, bytes, &mut self.text);
         }
         self.framer.restart();
-        if may_stay(self.rule.limit, passes, bytes) {
+        let stays = may_stay(self.alloc, self.rule.limit, passes, bytes)?;
+        if stays {
             memory::extend(&mut self.text, bytes)
         } else {
             push_visible(&mut self.text, bytes)
@@ -337,7 +340,7 @@ impl<P: Admit<A>, A: Allocator + Copy> Reveal<P, A> {
         ensures refused { (r : List ℕ) → AtRest r self.old → OnErr result (Refused A) }
     {
         match self.kept.piece() {
-            Some(piece) => stays_whole(
+            Some(piece) => stays_spelled(
                 self.alloc,
                 &mut self.framer,
                 &self.rule.policy,

@@ -19,30 +19,31 @@ returns-then-not-is_ground-clause-given g c = λ f part e.
     (record { unfailed = f.unfailed; framed = f.framed; kept = k.0 }))
     (c.extend.ensures.given [] f.kept)
 
-pub returns-then-may_stay-clause-given : goal.returns-then-may_stay-clause-given
-returns-then-may_stay-clause-given g c = λ f part e.
+pub returns-then-stays-clause-given : goal.returns-then-stays-clause-given
+returns-then-stays-clause-given g c = λ f part e.
     let old = c.args.self.now in
     let rule = old.rule in
     let V = g.P.Admit in
     let x = c.args.bytes.now in
     let test = ground_test c.is_ground.result x
     (c.is_ground.ensures.ground (Some rule.limit) x f.framed) in
-    let extend = c.extend-then-may_stay in
+    let extend = c.extend-then-stays in
     pushed extend.result (added_by old) x extend.new.vec.items extend.ensures.items (λ i.
     let new = record old { framer = c.restart.new.self; text = extend.new.vec } in
     end_grows V rule [] x new (added_by old) (added_by new) part
     (sym test ∙ c.if-not-is_ground.false)
     (at_once V rule x (added_by old) (added_by new)
     (i ∙ ap (λ y. added_by old ++ y)
-    (sym (stays_as V rule x c.args.passes e (sym c.may_stay.ensures ∙ c.if-may_stay.true)))))
+    (sym (stays_as V rule x c.args.passes e c.in_ok-stays.stays c.in_ok-stays.ensures.given
+    c.if-stays.true))))
     (record {
       unfailed = f.unfailed;
       framed = c.restart.ensures.fed (Some rule.limit) x f.framed;
       kept = f.kept;
     }))
 
-pub returns-else-may_stay-clause-given : goal.returns-else-may_stay-clause-given
-returns-else-may_stay-clause-given g c = λ f part e.
+pub returns-else-stays-clause-given : goal.returns-else-stays-clause-given
+returns-else-stays-clause-given g c = λ f part e.
     let old = c.args.self.now in
     let rule = old.rule in
     let V = g.P.Admit in
@@ -55,7 +56,8 @@ returns-else-may_stay-clause-given g c = λ f part e.
     (sym test ∙ c.if-not-is_ground.false)
     (at_once V rule x (added_by old) (added_by new)
     (i ∙ ap (λ y. added_by old ++ y)
-    (sym (shown_as V rule x c.args.passes e (sym c.may_stay.ensures ∙ c.if-may_stay.false)))))
+    (sym (shown_as V rule x c.args.passes e c.in_ok-stays.stays c.in_ok-stays.ensures.given
+    c.if-stays.false))))
     (record {
       unfailed = f.unfailed;
       framed = c.restart.ensures.fed (Some rule.limit) x f.framed;
