@@ -8,3 +8,4 @@ pub mod Fates
 pub mod LineCounts
 pub mod SameBytes
 pub mod LinesRun
+pub mod AtOnce

@@ -1,14 +1,17 @@
 //! What becomes of a segment where a policy says which actions pass.
 #![tactic(auto)]
 
-ghost use Rattle.std.specs.Prelude.{◌≡◌, IfOk, OnErr, false, map, true};
+ghost use Rattle.std.specs.Prelude.{◌≡◌, ℕ, Bool, IfOk, IsTrue, List, OnErr, false, map, true};
+ghost use Rattle.esc_frame.specs.Scans.{is_data_byte};
+ghost use Rattle.esc_frame.specs.Segments.{HasShape, Segment as Shape};
+ghost use Rattle.esc_segments.specs.Items.{IsItem};
 ghost use Rattle.std.specs.List.{list_all, list_any};
 ghost use Rattle.esc_actions.specs.Texts.{list_text};
 ghost use Rattle.esc_actions.specs.Values.{value_of};
 ghost use Rattle.esc_actions.specs.Writable.{AreHandedOut};
 ghost use Rattle.memory.specs.Refusals.{Refused};
 ghost use Rattle.esc_filter.specs.Passing.{is_line_feed};
-ghost use Rattle.esc_account.specs.Rules.{deceives, fate_of, is_control, is_dropped, is_lone, is_own, is_replaced, is_shown, is_written, spelling_of};
+ghost use Rattle.esc_account.specs.Rules.{deceives, fate_of, is_control, is_dropped, is_lone, is_own, is_replaced, is_shown, is_written, rule_of, spelling_of};
 
 use crate::fate::Fate;
 use crate::judge::Judge;
@@ -68,11 +71,12 @@ impl<P, A: Allocator> PolicyJudge<P, A> {
 }
 
 impl<P: Admit<A>, A: Allocator + Copy> Judge<A> for PolicyJudge<P, A> {
-    ghost use Rattle.esc_account.specs.Rules.{rule_of};
-
     ghost rule = { λ j. rule_of j.by_lines j.unicode j.limit (P.admits j.policy) };
 
     fn fate(&self, segment: Segment<'_>) -> Result<Fate, AllocError> {
+        if self.passes_at_once(segment) {
+            return Ok(Fate::Passed);
+        }
         match read_segment(self.alloc, self.limit, segment) {
             Ok(actions) => self.fate_of(segment.kind, segment.bytes, actions.as_slice()),
             Err(error) => Err(error),
@@ -81,6 +85,22 @@ impl<P: Admit<A>, A: Allocator + Copy> Judge<A> for PolicyJudge<P, A> {
 }
 
 impl<P: Admit<A>, A: Allocator + Copy> PolicyJudge<P, A> {
+    // Whether the segment is a character 20 to 7E and the policy admits such text: then it passes,
+    // and need not be read.
+    fn passes_at_once(&self, segment: Segment<'_>) -> bool
+        ensures { IsTrue result → (g : Shape) (after : List ℕ) (finished : Bool) → HasShape g after
+            → IsItem segment.entry g after → rule_of self.now.by_lines self.now.unicode
+            self.now.limit (P.admits self.now.policy) g finished ≡ Fate.Passed }
+    {
+        if !is_character(segment.kind) || segment.bytes.len() != 1 {
+            return false;
+        }
+        if !is_plain(segment.bytes[0]) {
+            return false;
+        }
+        self.policy.admits_text(segment.bytes)
+    }
+
     // What becomes of a segment of this kind, these bytes and these actions.
     fn fate_of(
         &self,
@@ -147,6 +167,19 @@ impl<P: Admit<A>, A: Allocator + Copy> PolicyJudge<P, A> {
             Unicode::Keep | Unicode::Drop => false,
         }
     }
+}
+
+fn is_character(kind: SegmentKind) -> bool
+    ensures { IsTrue result → kind ≡ SegmentKind.Character }
+{
+    matches!(kind, SegmentKind::Character)
+}
+
+// Whether it is a byte 20 to 7E.
+fn is_plain(byte: u8) -> bool
+    ensures { result ≡ is_data_byte byte }
+{
+    0x20 <= byte && byte <= 0x7e
 }
 
 fn deceives<A: Allocator>(action: &Action<A>) -> bool
