@@ -10,7 +10,7 @@ use Rattle.esc_filter.specs.declared.policy.Policy.{Policy}
 use Rattle.esc_filter.specs.declared.unicode.Unicode.{Unicode}
 use Rattle.esc_lines.specs.Streams.{final_of, left_of, values_of}
 use Rattle.esc_lines.specs.Windows.{Size, sized}
-use Rattle.esc_reveal.specs.Revealed.{revealed, revealed_whole}
+use Rattle.esc_reveal.specs.Revealed.{revealed_as, revealed_whole_as}
 use Rattle.escfilter.specs.declared.named_groups.Choice.{Choice}
 use Rattle.escfilter.specs.declared.options.Options.{Options}
 use Rattle.escfilter.specs.declared.stream.TheConstants.{COLUMNS}
@@ -28,12 +28,13 @@ admits_choice c v = admits_by c.groups c.policy v
 -- the stream; or, where what does not pass is shown, what is revealed of it
 abbrev pub going_in : Type 0 → Bool → Options → List ℕ → List ℕ
 going_in A shows o s =
-    if shows then revealed {A = A} o.by_lines o.limit (admits_choice o.choice) s else s
+    if shows then revealed_as {A = A} o.marking o.by_lines o.limit (admits_choice o.choice) s else s
 
 -- the same of one that has ended
 abbrev pub whole_in : Type 0 → Bool → Options → List ℕ → List ℕ
 whole_in A shows o s =
-    if shows then revealed_whole {A = A} o.by_lines o.limit (admits_choice o.choice) s else s
+    if shows then revealed_whole_as {A = A} o.marking o.by_lines o.limit (admits_choice o.choice) s
+    else s
 
 abbrev pub seen_by : Type 0 → Options → Bool → List ℕ → List ℕ
 seen_by A o true s = whole_in A o.shows o s

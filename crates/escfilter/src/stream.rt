@@ -67,7 +67,13 @@ fn filter_shown<A: Allocator + Copy, R: Read, W: Write, F: Feeding<A> + Drop>(
 {
     let shows = options.shows;
     if shows {
-        let reveal = Reveal::new(alloc, options.limit, options.choice, options.by_lines);
+        let reveal = Reveal::with_marking(
+            alloc,
+            options.limit,
+            options.choice,
+            options.by_lines,
+            options.marking,
+        );
         let filter = Revealing::new(alloc, reveal, filter);
         filter_left(alloc, options.rows, filter, reader, writer)
     } else {

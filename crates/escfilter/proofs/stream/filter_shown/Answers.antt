@@ -1,6 +1,5 @@
-use Rattle.std.proofs.Common.{ℕ, ◌≡◌, ◌++◌, List, [], true, false, refl, sym, ap, ◌∙◌}
+use Rattle.std.proofs.Common.{◌++◌, true, false, ap}
 use Rattle.esc_reveal.proofs.Begins.{through_longer, through_nothing}
-use Rattle.esc_reveal.specs.Through.{through, through_whole}
 use Rattle.esc_filter.specs.declared.admit.Admit.{Ghosts as Admitter}
 use Rattle.escfilter.specs.Written.{admits_choice, seen_by}
 use Rattle.escfilter.specs.declared.named_groups.Choice.{Choice}
@@ -12,19 +11,20 @@ pub returns-then-shows-clause-holds : goal.returns-then-shows-clause-holds
 returns-then-shows-clause-holds g c = λ m e fresh none only.
     let a = g.row.A.Denot in
     let o = c.args.options.now in
-    let rule = c.new-reveal.result.rule in
+    let rule = c.with_marking-reveal.result.rule in
     let V : Admitter Choice g.row.A.Denot = record {
       admits = admits_choice {A = g.row.A.Denot};
     } in
     let new = c.new-filter.ensures.begins m e fresh
     (record { more = λ f s b k. only.more s b; end = λ f s b k. only.end (s ++ b) })
-    c.new-reveal.ensures.fed in
-    let admits = ap (λ p. admits_choice {A = a} p) c.new-reveal.ensures.policy in
+    c.with_marking-reveal.ensures.fed in
+    let new_reveal = c.with_marking-reveal.ensures in
+    let admits = ap (λ p. admits_choice {A = a} p) new_reveal.policy in
     let f = same_texts a o.rows _ _ (λ s. e (seen_by a o true s)) (λ s. m (seen_by a o false s))
-    (λ s. ap e (whole_shown V rule o c.new-reveal.ensures.limit c.new-reveal.ensures.lines admits
-    o.shows c.if-shows.true s))
-    (λ s. ap m (going_shown V rule o c.new-reveal.ensures.limit c.new-reveal.ensures.lines admits
-    o.shows c.if-shows.true s)) _ _ _
+    (λ s. ap e (whole_shown V rule o new_reveal.limit new_reveal.lines admits o.shows
+    c.if-shows.true s))
+    (λ s. ap m (going_shown V rule o new_reveal.limit new_reveal.lines admits o.shows
+    c.if-shows.true s)) _ _ _
     (c.filter_left.ensures.holds _ _ new (through_nothing V rule m e none)
     (through_longer V rule m e only.more only.end)) in
     record {
@@ -40,13 +40,13 @@ returns-then-shows-clause-holds g c = λ m e fresh none only.
 
 pub returns-then-shows-clause-refused : goal.returns-then-shows-clause-refused
 returns-then-shows-clause-refused g c = λ m e fresh none only.
-    let rule = c.new-reveal.result.rule in
+    let rule = c.with_marking-reveal.result.rule in
     let V : Admitter Choice g.row.A.Denot = record {
       admits = admits_choice {A = g.row.A.Denot};
     } in
     let new = c.new-filter.ensures.begins m e fresh
     (record { more = λ f s b k. only.more s b; end = λ f s b k. only.end (s ++ b) })
-    c.new-reveal.ensures.fed in
+    c.with_marking-reveal.ensures.fed in
     c.filter_left.ensures.refused _ _ new (through_nothing V rule m e none)
     (through_longer V rule m e only.more only.end)
 
