@@ -1,5 +1,5 @@
 -- Pieces of a stream, as it grows.
-use Rattle.std.proofs.Common.{ℕ, ◌≡◌, ◌&&◌, ◌||◌, Bool, true, false, nat_le, if◌then◌else◌, List, [], ◌∷◌, ◌++◌, length, arith, refl, ap, sym, ◌∙◌, append_assoc}
+use Rattle.std.proofs.Common.{ℕ, ◌≡◌, ◌&&◌, ◌||◌, Bool, true, false, nat_le, if◌then◌else◌, List, [], ◌∷◌, ◌++◌, arith, refl, ap, sym, ◌∙◌, append_assoc}
 use Rattle.std.specs.List.{flat_map}
 use Rattle.std.proofs.lemmas.Bool.Decides.{nat_tests}
 use Rattle.std.proofs.lemmas.Bool.{and_parts}
@@ -11,7 +11,9 @@ use Rattle.esc_filter.specs.Lines.{is_line_feed}
 use Rattle.esc_reveal.specs.Grown.{Grows}
 use Rattle.esc_reveal.specs.Pieces.{ends_in_line, is_at_ground, is_piece, pieces_after, rest_after}
 use Rattle.esc_reveal.specs.Revealed.{but_last, is_kept, piece_text, revealed_after}
-use Rattle.esc_reveal.specs.Visible.{rest_text, settled, visible}
+use Rattle.esc_reveal.proofs.Showing.{rest_whole}
+use Rattle.esc_reveal.specs.Visible.{rest_text, shown}
+use Rattle.esc_reveal.specs.declared.marking.Marking.{Marking}
 
 -- ---- texts that grew
 
@@ -68,48 +70,47 @@ module _ (by_lines : Bool) where
       by_piece true h k = ap (λ ps. (r ++ b ∷ []) ∷ ps) h
       by_piece false h k = k
 
-pub rest_none : (limit : ℕ) → rest_text limit [] ≡ []
-rest_none limit = let none : List ℕ = [] in by_any (nat_le (length none) limit)
+pub rest_none : (m : Marking) (limit : ℕ) → rest_text m limit [] ≡ []
+rest_none m limit = rest_whole m limit [] (none limit)
   where
-    by_any : (t : Bool) → (if t then [] else settled [] []) ≡ []
-    by_any true = refl
-    by_any false = refl
+    none : (limit : ℕ) → nat_le 0 limit ≡ true
+    none limit = grind (arith, nat_tests)
 
-module _ {A : Type 0} (by_lines : Bool) (limit : ℕ) (admits : Value A → Bool) where
+module _ {A : Type 0} (m : Marking) (by_lines : Bool) (limit : ℕ) (admits : Value A → Bool) where
   abbrev text : List ℕ → List ℕ
-  text p = piece_text {A = A} by_lines limit admits p
+  text p = piece_text {A = A} m by_lines limit admits p
 
   abbrev all : List ℕ → List ℕ → List ℕ
-  all r s = revealed_after {A = A} by_lines limit admits r s
+  all r s = revealed_after {A = A} m by_lines limit admits r s
 
   pub all_append : (r x y : List ℕ) → all r (x ++ y)
       ≡ flat_map text (pieces_after by_lines r x) ++ all (rest_after by_lines r x) y
   all_append r x y =
       let f = flat_map text (pieces_after by_lines r x) in
-      let m = rest_after by_lines r x in
-      let g = flat_map text (pieces_after by_lines m y) in
-      ap (λ ps. flat_map text ps ++ rest_text limit (rest_after by_lines r (x ++ y)))
+      let k = rest_after by_lines r x in
+      let g = flat_map text (pieces_after by_lines k y) in
+      ap (λ ps. flat_map text ps ++ rest_text m limit (rest_after by_lines r (x ++ y)))
       (pieces_append by_lines r x y)
-      ∙ ap (λ t. t ++ rest_text limit (rest_after by_lines r (x ++ y)))
-      (flat_map-append text (pieces_after by_lines r x) (pieces_after by_lines m y))
-      ∙ append_assoc f g (rest_text limit (rest_after by_lines r (x ++ y)))
-      ∙ ap (λ z. f ++ (g ++ rest_text limit z)) (rest_append by_lines r x y)
+      ∙ ap (λ t. t ++ rest_text m limit (rest_after by_lines r (x ++ y)))
+      (flat_map-append text (pieces_after by_lines r x) (pieces_after by_lines k y))
+      ∙ append_assoc f g (rest_text m limit (rest_after by_lines r (x ++ y)))
+      ∙ ap (λ z. f ++ (g ++ rest_text m limit z)) (rest_append by_lines r x y)
 
   -- what grew by a prefix, and then by the rest
-  pub grows_more : (r x y a b c : List ℕ) → Grows a b (rest_text limit r) (all r x)
-      → Grows b c (rest_text limit (rest_after by_lines r x)) (all (rest_after by_lines r x) y)
-      → Grows a c (rest_text limit r) (all r (x ++ y))
+  pub grows_more : (r x y a b c : List ℕ) → Grows a b (rest_text m limit r) (all r x)
+      → Grows b c (rest_text m limit (rest_after by_lines r x)) (all (rest_after by_lines r x) y)
+      → Grows a c (rest_text m limit r) (all r (x ++ y))
   grows_more r x y a b c (t, e, f) (u, g, h) =
       let done = flat_map text (pieces_after by_lines r x) in
-      let m = rest_text limit (rest_after by_lines r x) in (
+      let k = rest_text m limit (rest_after by_lines r x) in (
         t ++ u,
-        all_append r x y ∙ ap (λ z. done ++ z) g ∙ sym (append_assoc done m u)
-            ∙ ap (λ z. z ++ u) e ∙ append_assoc (rest_text limit r) t u,
+        all_append r x y ∙ ap (λ z. done ++ z) g ∙ sym (append_assoc done k u)
+            ∙ ap (λ z. z ++ u) e ∙ append_assoc (rest_text m limit r) t u,
         h ∙ ap (λ z. z ++ u) f ∙ append_assoc a t u,
       )
 
-  pub nothing_more : (r a : List ℕ) → Grows a a (rest_text limit r) (all r [])
-  nothing_more r a = grows_not a (rest_text limit r)
+  pub nothing_more : (r a : List ℕ) → Grows a a (rest_text m limit r) (all r [])
+  nothing_more r a = grows_not a (rest_text m limit r)
 
   -- ---- one byte
 
@@ -118,18 +119,18 @@ module _ {A : Type 0} (by_lines : Bool) (limit : ℕ) (admits : Value A → Bool
   piece_ends r b h = (
     ap (λ t. if t then [] else r ++ b ∷ []) h,
     ap (λ t. flat_map text (if t then (r ++ b ∷ []) ∷ [] else [])
-        ++ rest_text limit (if t then [] else r ++ b ∷ [])) h
-        ∙ ap (λ z. (text (r ++ b ∷ []) ++ []) ++ z) (rest_none limit)
+        ++ rest_text m limit (if t then [] else r ++ b ∷ [])) h
+        ∙ ap (λ z. (text (r ++ b ∷ []) ++ []) ++ z) (rest_none m limit)
         ∙ append-nil (text (r ++ b ∷ []) ++ []) ∙ append-nil (text (r ++ b ∷ [])),
   )
 
   pub piece_goes : (r : List ℕ) (b : ℕ) → is_piece by_lines (r ++ b ∷ []) ≡ false
       → (rest_after by_lines r (b ∷ []) ≡ r ++ b ∷ [])
-      × (all r (b ∷ []) ≡ rest_text limit (r ++ b ∷ []))
+      × (all r (b ∷ []) ≡ rest_text m limit (r ++ b ∷ []))
   piece_goes r b h = (
     ap (λ t. if t then [] else r ++ b ∷ []) h,
     ap (λ t. flat_map text (if t then (r ++ b ∷ []) ∷ [] else [])
-        ++ rest_text limit (if t then [] else r ++ b ∷ [])) h,
+        ++ rest_text m limit (if t then [] else r ++ b ∷ [])) h,
   )
 
 -- ---- the last byte
@@ -143,52 +144,52 @@ before_last [] b = refl
 before_last (a ∷ []) b = refl
 before_last (a ∷ c ∷ r) b = ap (λ s. a ∷ s) (before_last (c ∷ r) b)
 
-feed_is : (by_lines : Bool) (b : ℕ) → (by_lines && is_line_feed b) ≡ true → b ≡ 0x0a
+pub feed_is : (by_lines : Bool) (b : ℕ) → (by_lines && is_line_feed b) ≡ true → b ≡ 0x0a
 feed_is by_lines b h = is_feed b (and_parts by_lines (is_line_feed b) h).1
   where
     is_feed : (b : ℕ) → is_line_feed b ≡ true → b ≡ 0x0a
     is_feed b h = grind (arith, nat_tests)
 
-module _ {A : Type 0} (by_lines : Bool) (limit : ℕ) (admits : Value A → Bool) (r : List ℕ)
-    (b : ℕ) where
+module _ {A : Type 0} (m : Marking) (by_lines : Bool) (limit : ℕ) (admits : Value A → Bool)
+    (r : List ℕ) (b : ℕ) where
   -- where a line feed ends the piece
   pub line_ends : (by_lines && is_line_feed b) ≡ true
       → (rest_after by_lines r (b ∷ []) ≡ [])
-      × (revealed_after {A = A} by_lines limit admits r (b ∷ []) ≡ visible r ++ b ∷ [])
+      × (revealed_after {A = A} m by_lines limit admits r (b ∷ []) ≡ shown m r ++ b ∷ [])
   line_ends h =
       let p = r ++ b ∷ [] in
       let ends = last_of by_lines r b ∙ h in
-      let one = piece_ends by_lines limit admits r b (ap (λ t. t || is_at_ground p) ends) in (
+      let one = piece_ends m by_lines limit admits r b (ap (λ t. t || is_at_ground p) ends) in (
         one.0,
         one.1
-            ∙ ap (λ t. if t then visible (but_last p) ++ 0x0a ∷ []
-            else if is_kept limit admits p then p else visible p) ends
-            ∙ ap (λ z. visible z ++ 0x0a ∷ []) (before_last r b)
-            ∙ ap (λ c. visible r ++ c ∷ []) (sym (feed_is by_lines b h)),
+            ∙ ap (λ t. if t then shown m (but_last p) ++ 0x0a ∷ []
+            else if is_kept m limit admits p then p else shown m p) ends
+            ∙ ap (λ z. shown m z ++ 0x0a ∷ []) (before_last r b)
+            ∙ ap (λ c. shown m r ++ c ∷ []) (sym (feed_is by_lines b h)),
       )
 
   module _ (no : (by_lines && is_line_feed b) ≡ false) where
     -- where no segment is unfinished after it
     pub ground_ends : is_at_ground (r ++ b ∷ []) ≡ true
         → (rest_after by_lines r (b ∷ []) ≡ [])
-        × (revealed_after {A = A} by_lines limit admits r (b ∷ [])
-        ≡ (if is_kept limit admits (r ++ b ∷ []) then r ++ b ∷ [] else visible (r ++ b ∷ [])))
+        × (revealed_after {A = A} m by_lines limit admits r (b ∷ [])
+        ≡ (if is_kept m limit admits (r ++ b ∷ []) then r ++ b ∷ [] else shown m (r ++ b ∷ [])))
     ground_ends h =
         let p = r ++ b ∷ [] in
         let goes = last_of by_lines r b ∙ no in
-        let one = piece_ends by_lines limit admits r b
+        let one = piece_ends m by_lines limit admits r b
         (ap (λ t. t || is_at_ground p) goes ∙ h) in (
           one.0,
-          one.1 ∙ ap (λ t. if t then visible (but_last p) ++ 0x0a ∷ []
-              else if is_kept limit admits p then p else visible p) goes,
+          one.1 ∙ ap (λ t. if t then shown m (but_last p) ++ 0x0a ∷ []
+              else if is_kept m limit admits p then p else shown m p) goes,
         )
 
     -- where one is
     pub goes_on : is_at_ground (r ++ b ∷ []) ≡ false
         → (rest_after by_lines r (b ∷ []) ≡ r ++ b ∷ [])
-        × (revealed_after {A = A} by_lines limit admits r (b ∷ [])
-        ≡ rest_text limit (r ++ b ∷ []))
+        × (revealed_after {A = A} m by_lines limit admits r (b ∷ [])
+        ≡ rest_text m limit (r ++ b ∷ []))
     goes_on h =
         let p = r ++ b ∷ [] in
         let goes = last_of by_lines r b ∙ no in
-        piece_goes by_lines limit admits r b (ap (λ t. t || is_at_ground p) goes ∙ h)
+        piece_goes m by_lines limit admits r b (ap (λ t. t || is_at_ground p) goes ∙ h)

@@ -12,9 +12,9 @@ use Rattle.esc_reveal.proofs.Texts.{admitted_stays}
 use Rattle.esc_reveal.specs.Fed.{AtRest, GrowsBy, closed_text}
 use Rattle.esc_reveal.specs.Grown.{Grows}
 use Rattle.esc_reveal.specs.Pieces.{is_at_ground, pieces, rest, rest_after}
-use Rattle.esc_reveal.specs.Revealed.{are_kept, piece_text, revealed, revealed_whole}
+use Rattle.esc_reveal.specs.Revealed.{are_kept, piece_text, revealed_as, revealed_whole_as}
 use Rattle.esc_reveal.specs.Runs.{IsAdmittedText, IsPart}
-use Rattle.esc_reveal.specs.Visible.{rest_text, visible}
+use Rattle.esc_reveal.specs.Visible.{lets_stay, rest_text, shown}
 use Rattle.esc_reveal.specs.Spelled.{is_spelled}
 use Rattle.esc_reveal.specs.declared.reveal.Reveal.{Reveal}
 use Rattle.esc_reveal.specs.declared.reveal.Rule.{Rule}
@@ -35,14 +35,15 @@ module _ {P A : Type 0} (V : Admitter P A) (rule : Rule P) (r : List ℕ) (b : �
 
   -- a line feed that ends a piece
   pub line_grows : (rule.by_lines && is_line_feed b) ≡ true
-      → Grows t0 t1 (rest_text rule.limit r) (visible r) → t2 ≡ t1 ++ b ∷ []
+      → Grows t0 t1 (rest_text rule.marking rule.limit r) (shown rule.marking r) → t2 ≡ t1 ++ b ∷ []
       → AtRest [] new → GrowsBy V rule r (b ∷ []) t0 t2 new
   line_grows h (t, e, f) k at =
-      let ends = line_ends rule.by_lines rule.limit admits r b h in (
+      let ends = line_ends rule.marking rule.by_lines rule.limit admits r b h in (
         subst (λ x. AtRest x new) (sym ends.0) at,
         (
           t ++ b ∷ [],
-          ends.1 ∙ ap (λ x. x ++ b ∷ []) e ∙ append_assoc (rest_text rule.limit r) t (b ∷ []),
+          ends.1 ∙ ap (λ x. x ++ b ∷ []) e
+              ∙ append_assoc (rest_text rule.marking rule.limit r) t (b ∷ []),
           k ∙ ap (λ x. x ++ b ∷ []) f ∙ append_assoc t0 t (b ∷ []),
         ),
       )
@@ -58,22 +59,23 @@ module _ {P A : Type 0} (V : Admitter P A) (rule : Rule P) (r x : List ℕ)
 
   -- where no segment is unfinished after it
   pub end_grows : is_at_ground q ≡ true
-      → Grows t0 t1 (rest_text rule.limit r) (closed_text V rule q) → AtRest [] new
+      → Grows t0 t1 (rest_text rule.marking rule.limit r) (closed_text V rule q) → AtRest [] new
       → GrowsBy V rule r x t0 t1 new
   end_grows h grown at =
-      let ends = (part_makes rule.by_lines rule.limit admitted r x part).0 h in (
+      let ends = (part_makes rule.marking rule.by_lines rule.limit admitted r x part).0 h in (
         subst (λ y. AtRest y new) (sym ends.0) at,
-        subst (Grows t0 t1 (rest_text rule.limit r)) (sym ends.1) grown,
+        subst (Grows t0 t1 (rest_text rule.marking rule.limit r)) (sym ends.1) grown,
       )
 
   -- where one is
   pub more_grows : is_at_ground q ≡ false
-      → Grows t0 t1 (rest_text rule.limit r) (rest_text rule.limit q) → AtRest q new
+      → Grows t0 t1 (rest_text rule.marking rule.limit r) (rest_text rule.marking rule.limit q)
+      → AtRest q new
       → GrowsBy V rule r x t0 t1 new
   more_grows h grown at =
-      let goes = (part_makes rule.by_lines rule.limit admitted r x part).1 h in (
+      let goes = (part_makes rule.marking rule.by_lines rule.limit admitted r x part).1 h in (
         subst (λ y. AtRest y new) (sym goes.0) at,
-        subst (Grows t0 t1 (rest_text rule.limit r)) (sym goes.1) grown,
+        subst (Grows t0 t1 (rest_text rule.marking rule.limit r)) (sym goes.1) grown,
       )
 
 -- a piece that came at once
@@ -82,10 +84,10 @@ module _ {P A : Type 0} (V : Admitter P A) (rule : Rule P) (x : List ℕ) where
   passing v = V.admits rule.policy v
 
   pub at_once : (t0 t1 : List ℕ) → t1 ≡ t0 ++ closed_text V rule x
-      → Grows t0 t1 (rest_text rule.limit []) (closed_text V rule x)
+      → Grows t0 t1 (rest_text rule.marking rule.limit []) (closed_text V rule x)
   at_once t0 t1 e = (
     closed_text V rule x,
-    ap (λ z. z ++ closed_text V rule x) (sym (rest_none rule.limit)),
+    ap (λ z. z ++ closed_text V rule x) (sym (rest_none rule.marking rule.limit)),
     e,
   )
 
@@ -93,19 +95,23 @@ module _ {P A : Type 0} (V : Admitter P A) (rule : Rule P) (x : List ℕ) where
   abbrev spelled : Bool
   spelled = is_spelled x (normal_form A (Some rule.limit) x)
 
-  module _ (k : Bool) (e : k ≡ are_kept passing (meaning_within (Some rule.limit) x)) where
-    by_test : (b : Bool) → (nat_le (length x) rule.limit && (k && spelled)) ≡ b
-        → closed_text V rule x ≡ (if b then x else visible x)
-    by_test b h =
-        ap (λ y. if nat_le (length x) rule.limit && (y && spelled) then x else visible x) (sym e)
-        ∙ ap (λ y. if y then x else visible x) h
+  -- it is short enough, and has no marks where these are shown
+  abbrev fits : Bool
+  fits = nat_le (length x) rule.limit && lets_stay rule.marking x
 
-    pub stays_as : (t : Bool) → t ≡ (nat_le (length x) rule.limit && (k && spelled)) → t ≡ true
+  module _ (k : Bool) (e : k ≡ are_kept passing (meaning_within (Some rule.limit) x)) where
+    by_test : (b : Bool) → (fits && (k && spelled)) ≡ b
+        → closed_text V rule x ≡ (if b then x else shown rule.marking x)
+    by_test b h =
+        ap (λ y. if fits && (y && spelled) then x else shown rule.marking x) (sym e)
+        ∙ ap (λ y. if y then x else shown rule.marking x) h
+
+    pub stays_as : (t : Bool) → t ≡ (fits && (k && spelled)) → t ≡ true
         → closed_text V rule x ≡ x
     stays_as t is h = by_test true (sym is ∙ h)
 
-    pub shown_as : (t : Bool) → t ≡ (nat_le (length x) rule.limit && (k && spelled)) → t ≡ false
-        → closed_text V rule x ≡ visible x
+    pub shown_as : (t : Bool) → t ≡ (fits && (k && spelled)) → t ≡ false
+        → closed_text V rule x ≡ shown rule.marking x
     shown_as t is h = by_test false (sym is ∙ h)
 
 module _ {P A : Type 0} (V : Admitter P A) (rule : Rule P) where
@@ -114,7 +120,7 @@ module _ {P A : Type 0} (V : Admitter P A) (rule : Rule P) where
 
   -- nothing, and then more
   pub grown_not : (r t0 : List ℕ) (f : Reveal P A) → AtRest r f → GrowsBy V rule r [] t0 t0 f
-  grown_not r t0 f h = (h, nothing_more rule.by_lines rule.limit allows r t0)
+  grown_not r t0 f h = (h, nothing_more rule.marking rule.by_lines rule.limit allows r t0)
 
   pub grown_more : (r x y t0 t1 t2 : List ℕ) (mid new : Reveal P A)
       → GrowsBy V rule r x t0 t1 mid
@@ -122,41 +128,45 @@ module _ {P A : Type 0} (V : Admitter P A) (rule : Rule P) where
       → GrowsBy V rule r (x ++ y) t0 t2 new
   grown_more r x y t0 t1 t2 mid new (at, a) (later, b) = (
     subst (λ z. AtRest z new) (sym (rest_append rule.by_lines r x y)) later,
-    grows_more rule.by_lines rule.limit allows r x y t0 t1 t2 a b,
+    grows_more rule.marking rule.by_lines rule.limit allows r x y t0 t1 t2 a b,
   )
 
   -- ---- characters that pass
 
   pub text_grows : (r xs t0 t1 : List ℕ) (new : Reveal P A) → r ≡ []
-      → IsAdmittedText allows xs → 4 ≤ rule.limit → AtRest r new → t1 ≡ t0 ++ xs
+      → IsAdmittedText allows xs → lets_stay rule.marking xs ≡ true → 4 ≤ rule.limit
+      → AtRest r new → t1 ≡ t0 ++ xs
       → GrowsBy V rule r xs t0 t1 new
-  text_grows r xs t0 t1 new e h l at k =
+  text_grows r xs t0 t1 new e h free l at k =
       subst (λ z. GrowsBy V rule z xs t0 t1 new) (sym e)
-      (let stays = admitted_stays rule.by_lines rule.limit allows l xs h in (
+      (let stays = admitted_stays rule.marking rule.by_lines rule.limit allows l xs h free in (
         subst (λ z. AtRest z new) (e ∙ sym stays.0) at,
-        (xs, stays.1 ∙ ap (λ z. z ++ xs) (sym (rest_none rule.limit)), k),
+        (xs, stays.1 ∙ ap (λ z. z ++ xs) (sym (rest_none rule.marking rule.limit)), k),
       ))
 
   -- ---- whole streams
 
   abbrev Text : List ℕ → List ℕ
-  Text s = revealed {A = A} rule.by_lines rule.limit allows s
+  Text s = revealed_as {A = A} rule.marking rule.by_lines rule.limit allows s
 
   pub adds_all : (s b t : List ℕ) (new : Reveal P A)
       → GrowsBy V rule (rest rule.by_lines s) b [] t new
       → AtRest (rest rule.by_lines (s ++ b)) new × (Text (s ++ b) ≡ Text s ++ t)
   adds_all s b t new (at, (u, e, f)) =
-      let done = flat_map (piece_text rule.by_lines rule.limit allows) (pieces rule.by_lines s) in
-      let m = rest_text rule.limit (rest rule.by_lines s) in (
+      let done = flat_map (piece_text rule.marking rule.by_lines rule.limit allows)
+      (pieces rule.by_lines s) in
+      let m = rest_text rule.marking rule.limit (rest rule.by_lines s) in (
         subst (λ z. AtRest z new) (sym (rest_append rule.by_lines [] s b)) at,
-        all_append rule.by_lines rule.limit allows [] s b ∙ ap (λ z. done ++ z) e
+        all_append rule.marking rule.by_lines rule.limit allows [] s b ∙ ap (λ z. done ++ z) e
             ∙ sym (append_assoc done m u) ∙ ap (λ z. (done ++ m) ++ z) (sym f),
       )
 
   pub ends_all : (s t : List ℕ)
-      → Grows [] t (rest_text rule.limit (rest rule.by_lines s)) (visible (rest rule.by_lines s))
-      → revealed_whole {A = A} rule.by_lines rule.limit allows s ≡ Text s ++ t
+      → Grows [] t (rest_text rule.marking rule.limit (rest rule.by_lines s))
+      (shown rule.marking (rest rule.by_lines s))
+      → revealed_whole_as {A = A} rule.marking rule.by_lines rule.limit allows s ≡ Text s ++ t
   ends_all s t (u, e, f) =
-      let done = flat_map (piece_text rule.by_lines rule.limit allows) (pieces rule.by_lines s) in
-      let m = rest_text rule.limit (rest rule.by_lines s) in
+      let done = flat_map (piece_text rule.marking rule.by_lines rule.limit allows)
+      (pieces rule.by_lines s) in
+      let m = rest_text rule.marking rule.limit (rest rule.by_lines s) in
       ap (λ z. done ++ z) e ∙ sym (append_assoc done m u) ∙ ap (λ z. (done ++ m) ++ z) (sym f)

@@ -13,3 +13,7 @@ pub mod Showing
 pub mod Shows
 pub mod Texts
 pub mod Through
+pub mod Back
+pub mod Written
+pub mod Marks
+pub mod Passing

@@ -14,7 +14,8 @@ use Rattle.esc_reveal.specs.Judged.{IsQuietTo}
 use Rattle.esc_reveal.specs.Pieces.{ends_in_line, is_at_ground, is_piece, pieces_after, rest_after}
 use Rattle.esc_reveal.specs.Revealed.{is_kept, piece_text, revealed_after}
 use Rattle.esc_reveal.specs.Runs.{IsPart, has_line_end}
-use Rattle.esc_reveal.specs.Visible.{rest_text, visible}
+use Rattle.esc_reveal.specs.Visible.{rest_text, shown}
+use Rattle.esc_reveal.specs.declared.marking.Marking.{Marking}
 
 -- ---- what a framer says of it
 
@@ -123,9 +124,9 @@ quiet_more limit x at n before here more k l m = elim (cases_lt k at) [
 
 -- ---- what it makes of the text
 
-module _ {A : Type 0} (by_lines : Bool) (limit : ℕ) (admits : Value A → Bool) where
+module _ {A : Type 0} (m : Marking) (by_lines : Bool) (limit : ℕ) (admits : Value A → Bool) where
   abbrev all : List ℕ → List ℕ → List ℕ
-  all r s = revealed_after {A = A} by_lines limit admits r s
+  all r s = revealed_after {A = A} m by_lines limit admits r s
 
   -- a byte that ends no piece
   passed_over : (r : List ℕ) (b : ℕ) (s : List ℕ) → is_piece by_lines (r ++ b ∷ []) ≡ false
@@ -133,21 +134,21 @@ module _ {A : Type 0} (by_lines : Bool) (limit : ℕ) (admits : Value A → Bool
       × (all r (b ∷ s) ≡ all (r ++ b ∷ []) s)
   passed_over r b s h = (
     ap (λ t. if t then rest_after by_lines [] s else rest_after by_lines (r ++ b ∷ []) s) h,
-    ap (λ t. flat_map (piece_text {A = A} by_lines limit admits)
+    ap (λ t. flat_map (piece_text {A = A} m by_lines limit admits)
         (if t then (r ++ b ∷ []) ∷ pieces_after by_lines [] s
         else pieces_after by_lines (r ++ b ∷ []) s)
-        ++ rest_text limit (if t then rest_after by_lines [] s
+        ++ rest_text m limit (if t then rest_after by_lines [] s
         else rest_after by_lines (r ++ b ∷ []) s)) h,
   )
 
   -- the piece has ended
   abbrev Ended : List ℕ → List ℕ → Type 0
   Ended r x = (rest_after by_lines r x ≡ [])
-      × (all r x ≡ (if is_kept limit admits (r ++ x) then r ++ x else visible (r ++ x)))
+      × (all r x ≡ (if is_kept m limit admits (r ++ x) then r ++ x else shown m (r ++ x)))
 
   -- it goes on
   abbrev Open : List ℕ → List ℕ → Type 0
-  Open r x = (rest_after by_lines r x ≡ r ++ x) × (all r x ≡ rest_text limit (r ++ x))
+  Open r x = (rest_after by_lines r x ≡ r ++ x) × (all r x ≡ rest_text m limit (r ++ x))
 
   abbrev Makes : List ℕ → List ℕ → Type 0
   Makes r x =
@@ -168,9 +169,9 @@ module _ {A : Type 0} (by_lines : Bool) (limit : ℕ) (admits : Value A → Bool
       let step = passed_over r b s h in
       let same : (r ++ b ∷ []) ++ s ≡ r ++ b ∷ s = append_assoc r (b ∷ []) s in
       subst (λ y. (is_at_ground y ≡ true → (rest_after by_lines r (b ∷ s) ≡ [])
-      × (all r (b ∷ s) ≡ (if is_kept limit admits y then y else visible y)))
+      × (all r (b ∷ s) ≡ (if is_kept m limit admits y then y else shown m y)))
       × (is_at_ground y ≡ false → (rest_after by_lines r (b ∷ s) ≡ y)
-      × (all r (b ∷ s) ≡ rest_text limit y))) same (
+      × (all r (b ∷ s) ≡ rest_text m limit y))) same (
         λ g. let k = ends g in (step.0 ∙ k.0, step.1 ∙ k.1),
         λ g. let k = goes g in (step.0 ∙ k.0, step.1 ∙ k.1),
       )
@@ -179,16 +180,16 @@ module _ {A : Type 0} (by_lines : Bool) (limit : ℕ) (admits : Value A → Bool
   part_makes r [] h = absurd (omega (arith, h.some))
   part_makes r (b ∷ []) h =
       let no = first_no b [] h.lineless in
-      (ground_ends by_lines limit admits r b no, goes_on by_lines limit admits r b no)
+      (ground_ends m by_lines limit admits r b no, goes_on m by_lines limit admits r b no)
   part_makes r (b ∷ c ∷ s) h =
       let no = first_no b (c ∷ s) h.lineless in
       let line : ends_in_line by_lines (r ++ b ∷ []) ≡ false = last_of by_lines r b ∙ no in
       let more : IsPart by_lines (r ++ b ∷ []) (c ∷ s) = record {
         some = omega arith;
         lineless = later by_lines 1 (b ∷ c ∷ s) h.lineless;
-        quiet = λ k l m.
+        quiet = λ k l few.
             subst (λ y. is_at_ground y ≡ false) (sym (append_assoc r (b ∷ []) (take k (c ∷ s))))
-            (h.quiet (suc k) (omega arith) (omega (arith, m)));
+            (h.quiet (suc k) (omega arith) (omega (arith, few)));
       } in
       makes_more r b (c ∷ s)
       (ap (λ t. t || is_at_ground (r ++ b ∷ [])) line ∙ h.quiet 1 (omega arith) (omega arith))

@@ -55,7 +55,7 @@ read_control b h after =
     let other : ((0x40 + b) == 0x3f) ≡ false = grind (arith, nat_tests) in
     rw other (ap (λ n. n ∷ read_from Plain after) (omega arith))
 
-read_itself : (b : ℕ) → (b == 0x3c) ≡ false → (b == 0x5e) ≡ false → IsRead (b ∷ []) (b ∷ [])
+pub read_itself : (b : ℕ) → (b == 0x3c) ≡ false → (b == 0x5e) ≡ false → IsRead (b ∷ []) (b ∷ [])
 read_itself b h k after = rw (h, k) refl
 
 read_quoted : (b : ℕ) → b < 0x80 → IsRead (quoted_text b) (b ∷ [])

@@ -5,7 +5,8 @@ use Rattle.std.proofs.lemmas.List.{append-nil}
 use Rattle.esc_frame.specs.Machine.Prefixes.{prefix_of}
 use Rattle.esc_frame.specs.Sequences.{outcome}
 use Rattle.esc_reveal.specs.Grown.{Grows, Keeps, KeepsBy}
-use Rattle.esc_reveal.specs.Visible.{begun_after, next_begun, next_text, rest_text, settled, stray_text, visible}
+use Rattle.esc_reveal.specs.Visible.{begun_after, closing, next_begun, next_text, opening, rest_text, settled, shown, stray_text, visible}
+use Rattle.esc_reveal.specs.declared.marking.Marking.{Marking}
 use Rattle.esc_reveal.specs.declared.kept.Kept.{Kept}
 
 -- ---- bytes, and then more
@@ -55,29 +56,45 @@ short_within limit r x h = by_length (length (r ++ x)) (omega (arith, h, length-
 
 -- ---- what is written of a rest
 
-pub rest_whole : (limit : ℕ) (r : List ℕ) → nat_le (length r) limit ≡ true
-    → rest_text limit r ≡ []
-rest_whole limit r h = rw h refl
+pub rest_whole : (m : Marking) (limit : ℕ) (r : List ℕ) → nat_le (length r) limit ≡ true
+    → rest_text m limit r ≡ []
+rest_whole m limit r h = rw h refl
 
-pub rest_over : (limit : ℕ) (r : List ℕ) → nat_le (length r) limit ≡ false
-    → rest_text limit r ≡ settled [] r
-rest_over limit r h = rw h refl
+pub rest_over : (m : Marking) (limit : ℕ) (r : List ℕ) → nat_le (length r) limit ≡ false
+    → rest_text m limit r ≡ opening m ++ settled [] r
+rest_over m limit r h = rw h refl
 
-module _ {A : Type 0} (limit : ℕ) (r : List ℕ) (k : Kept A) (t0 t1 : List ℕ) where
-  pub shows_over : KeepsBy limit r k true → t1 ≡ t0 ++ stray_text (prefix_of k.begun)
-      → Grows t0 t1 (rest_text limit r) (visible r)
-  shows_over h e = (
-    stray_text (begun_after [] r),
-    ap (λ x. x ++ stray_text (begun_after [] r)) (sym (rest_over limit r h.0)),
-    e ∙ ap (λ f. t0 ++ stray_text f) h.1,
-  )
+-- what is longer than the limit is some bytes
+pub shown_over : (m : Marking) (limit : ℕ) (r : List ℕ) → nat_le (length r) limit ≡ false
+    → shown m r ≡ opening m ++ (visible r ++ closing m)
+shown_over m limit [] h = absurd (some limit h)
+  where
+    some : (limit : ℕ) → nat_le 0 limit ≡ false → ⊥
+    some limit h = grind (arith, nat_tests)
+shown_over m limit (b ∷ r) h = refl
 
-  pub shows_whole : KeepsBy limit r k false → t1 ≡ t0 ++ visible k.piece.items
-      → Grows t0 t1 (rest_text limit r) (visible r)
+module _ {A : Type 0} (m : Marking) (limit : ℕ) (r : List ℕ) (k : Kept A) (t0 t1 : List ℕ) where
+  pub shows_over : (tm : List ℕ) → KeepsBy limit r k true
+      → tm ≡ t0 ++ stray_text (prefix_of k.begun) → t1 ≡ tm ++ closing m
+      → Grows t0 t1 (rest_text m limit r) (shown m r)
+  shows_over tm h e f =
+      let stray = stray_text (begun_after [] r) in
+      let o = opening m in (
+        stray ++ closing m,
+        shown_over m limit r h.0
+            ∙ ap (λ x. o ++ x) (append_assoc (settled [] r) stray (closing m))
+            ∙ sym (append_assoc o (settled [] r) (stray ++ closing m))
+            ∙ ap (λ x. x ++ (stray ++ closing m)) (sym (rest_over m limit r h.0)),
+        f ∙ ap (λ x. x ++ closing m) (e ∙ ap (λ f. t0 ++ stray_text f) h.1)
+            ∙ append_assoc t0 stray (closing m),
+      )
+
+  pub shows_whole : KeepsBy limit r k false → t1 ≡ t0 ++ shown m k.piece.items
+      → Grows t0 t1 (rest_text m limit r) (shown m r)
   shows_whole h e = (
-    visible r,
-    ap (λ x. x ++ visible r) (sym (rest_whole limit r h.0)),
-    e ∙ ap (λ p. t0 ++ visible p) h.1,
+    shown m r,
+    ap (λ x. x ++ shown m r) (sym (rest_whole m limit r h.0)),
+    e ∙ ap (λ p. t0 ++ shown m p) h.1,
   )
 
   whole_by : (b : Bool) → KeepsBy limit r k b → nat_le (length r) limit ≡ true
@@ -86,10 +103,10 @@ module _ {A : Type 0} (limit : ℕ) (r : List ℕ) (k : Kept A) (t0 t1 : List �
   whole_by true h e = absurd cc
 
   pub writes_whole : Keeps limit r k → nat_le (length r) limit ≡ true
-      → t1 ≡ t0 ++ k.piece.items → Grows t0 t1 (rest_text limit r) r
+      → t1 ≡ t0 ++ k.piece.items → Grows t0 t1 (rest_text m limit r) r
   writes_whole h l e = (
     r,
-    ap (λ x. x ++ r) (sym (rest_whole limit r l)),
+    ap (λ x. x ++ r) (sym (rest_whole m limit r l)),
     e ∙ ap (λ p. t0 ++ p) (whole_by k.is_over h l),
   )
 
@@ -98,40 +115,44 @@ module _ {A : Type 0} (limit : ℕ) (r : List ℕ) (k : Kept A) (t0 t1 : List �
         → prefix_of new.begun ≡ begun_after (prefix_of k.begun) x
         → t1 ≡ t0 ++ settled (prefix_of k.begun) x
         → KeepsBy limit (r ++ x) new true
-        × Grows t0 t1 (rest_text limit r) (rest_text limit (r ++ x))
+        × Grows t0 t1 (rest_text m limit r) (rest_text m limit (r ++ x))
     extends_over h p e =
         let g = begun_after [] r in
         let over = over_more limit r x h.0 in (
           (over, p ∙ ap (λ f. begun_after f x) h.1 ∙ sym (begun_append [] r x)),
           (
             settled g x,
-            rest_over limit (r ++ x) over ∙ settled_append [] r x
-                ∙ ap (λ t. t ++ settled g x) (sym (rest_over limit r h.0)),
+            rest_over m limit (r ++ x) over ∙ ap (λ t. opening m ++ t) (settled_append [] r x)
+                ∙ sym (append_assoc (opening m) (settled [] r) (settled g x))
+                ∙ ap (λ t. t ++ settled g x) (sym (rest_over m limit r h.0)),
             e ∙ ap (λ f. t0 ++ settled f x) h.1,
           ),
         )
 
     -- where they were kept whole, and are not any more
     pub overflows : Keeps limit r k → k.is_over ≡ false → limit < length r + length x
-        → (f tm : List ℕ) → f ≡ begun_after [] k.piece.items
-        → prefix_of new.begun ≡ begun_after f x
-        → tm ≡ t0 ++ settled [] k.piece.items → t1 ≡ tm ++ settled f x
+        → (f to tm : List ℕ) → f ≡ begun_after [] k.piece.items
+        → prefix_of new.begun ≡ begun_after f x → to ≡ t0 ++ opening m
+        → tm ≡ to ++ settled [] k.piece.items → t1 ≡ tm ++ settled f x
         → KeepsBy limit (r ++ x) new true
-        × Grows t0 t1 (rest_text limit r) (rest_text limit (r ++ x))
-    overflows h kept long f tm begun p d e =
+        × Grows t0 t1 (rest_text m limit r) (rest_text m limit (r ++ x))
+    overflows h kept long f to tm begun p o d e =
         let q = subst (KeepsBy limit r k) kept h in
         let over = long_over limit r x long in
         let g = begun_after [] r in
         let same : f ≡ g = begun ∙ ap (begun_after []) q.1 in (
           (over, p ∙ ap (λ y. begun_after y x) same ∙ sym (begun_append [] r x)),
           (
-            settled [] (r ++ x),
-            rest_over limit (r ++ x) over
-                ∙ ap (λ t. t ++ settled [] (r ++ x)) (sym (rest_whole limit r q.0)),
+            opening m ++ settled [] (r ++ x),
+            rest_over m limit (r ++ x) over
+                ∙ ap (λ t. t ++ (opening m ++ settled [] (r ++ x)))
+                (sym (rest_whole m limit r q.0)),
             e ∙ ap (λ y. tm ++ settled y x) same
-                ∙ ap (λ t. t ++ settled g x) (d ∙ ap (λ y. t0 ++ settled [] y) q.1)
-                ∙ append_assoc t0 (settled [] r) (settled g x)
-                ∙ ap (λ t. t0 ++ t) (sym (settled_append [] r x)),
+                ∙ ap (λ t. t ++ settled g x) (d ∙ ap (λ y. to ++ settled [] y) q.1)
+                ∙ append_assoc to (settled [] r) (settled g x)
+                ∙ ap (λ t. to ++ t) (sym (settled_append [] r x))
+                ∙ ap (λ t. t ++ settled [] (r ++ x)) o
+                ∙ append_assoc t0 (opening m) (settled [] (r ++ x)),
           ),
         )
 
@@ -139,13 +160,14 @@ module _ {A : Type 0} (limit : ℕ) (r : List ℕ) (k : Kept A) (t0 t1 : List �
     pub extends_whole : KeepsBy limit r k false → length k.piece.items + length x ≤ limit
         → new.piece.items ≡ k.piece.items ++ x
         → KeepsBy limit (r ++ x) new false
-        × Grows t0 t0 (rest_text limit r) (rest_text limit (r ++ x))
+        × Grows t0 t0 (rest_text m limit r) (rest_text m limit (r ++ x))
     extends_whole h few e =
         let room = short_within limit r x (subst (λ y. length y + length x ≤ limit) h.1 few) in (
           (room, e ∙ ap (λ y. y ++ x) h.1),
           (
             [],
-            rest_whole limit (r ++ x) room ∙ ap (λ y. y ++ []) (sym (rest_whole limit r h.0)),
+            rest_whole m limit (r ++ x) room
+                ∙ ap (λ y. y ++ []) (sym (rest_whole m limit r h.0)),
             sym (append-nil t0),
           ),
         )

@@ -32,7 +32,7 @@ both t u x y (cs, all, e) (ds, more, f) = (
 
 -- ---- characters from 20 to 7E
 
-abbrev is_mere : ℕ → Bool
+abbrev pub is_mere : ℕ → Bool
 is_mere c = is_among 0x20 0x7e c
 
 mere_small : (c : ℕ) → is_mere c ≡ true → c < 128
@@ -43,7 +43,7 @@ all_shown [] h = refl
 all_shown (c ∷ t) h = let q = and_parts (is_mere c) (list_all is_mere t) h in
     rw (q.0, all_shown t q.1) refl
 
-all_encode : (t : List ℕ) → list_all is_mere t ≡ true → encode_utf8_all t ≡ t
+pub all_encode : (t : List ℕ) → list_all is_mere t ≡ true → encode_utf8_all t ≡ t
 all_encode [] h = refl
 all_encode (c ∷ t) h = let q = and_parts (is_mere c) (list_all is_mere t) h in
     rw (encode_ascii c (mere_small c q.0), all_encode t q.1) refl
@@ -56,7 +56,7 @@ digit_mere n h = grind (arith, nat_tests)
 
 -- ---- single bytes
 
-hex_mere : (b : ℕ) → b < 0x100 → list_all is_mere (hex_byte b) ≡ true
+pub hex_mere : (b : ℕ) → b < 0x100 → list_all is_mere (hex_byte b) ≡ true
 hex_mere b h = rw (digit_mere (b / 16) (omega arith), digit_mere (b % 16) (omega arith)) refl
 
 control_mere : (b : ℕ) → b < 0x20 → is_mere (0x40 + b) ≡ true
@@ -89,7 +89,7 @@ ascii_mere b h = by_control (nat_lt b 0x20) refl
     by_control true e = rw (control_mere b (lt_of b 0x20 e)) refl
     by_control false e = printed_mere b (ge_of b 0x20 e) h
 
-single_mere : (b : ℕ) → b < 0x100 → list_all is_mere (single_text b) ≡ true
+pub single_mere : (b : ℕ) → b < 0x100 → list_all is_mere (single_text b) ≡ true
 single_mere b h = by_high (nat_lt b 0x80) refl
   where
     by_high : (x : Bool) → nat_lt b 0x80 ≡ x
@@ -124,7 +124,7 @@ marked_mere high c h =
     list_all-append is_mere high (four_digits c ++ 0x3e ∷ []) ∙ ap (λ x. x
     && list_all is_mere (four_digits c ++ 0x3e ∷ [])) h ∙ four_mere c
 
-number_mere : (c : ℕ) → list_all is_mere (number_text c) ≡ true
+pub number_mere : (c : ℕ) → list_all is_mere (number_text c) ≡ true
 unfolding number_text
 number_mere c = by (nat_lt c 0x10000) (nat_lt c 0x100000)
   where

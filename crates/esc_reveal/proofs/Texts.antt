@@ -1,11 +1,12 @@
 -- Characters, each of which is a piece by itself.
-use Rattle.std.proofs.Common.{ℕ, ◌≡◌, ◌<◌, ◌≤◌, ◌-◌, ◌&&◌, ◌||◌, inl, inr, Bool, true, false, nat_le, if◌then◌else◌, List, [], ◌∷◌, ◌++◌, length, take, Some, arith, refl, ap, sym, ◌∙◌, subst}
+use Rattle.std.proofs.Common.{ℕ, ◌≡◌, ◌<◌, ◌≤◌, ◌-◌, ◌&&◌, ◌||◌, not, inl, inr, Bool, true, false, nat_le, if◌then◌else◌, List, [], ◌∷◌, ◌++◌, length, take, Some, arith, refl, ap, sym, ◌∙◌, subst}
 use Rattle.std.specs.Char.{encode_utf8}
-use Rattle.std.specs.List.{flat_map, list_all}
+use Rattle.std.specs.List.{flat_map, list_all, list_any}
 use Rattle.std.specs.Str.{IsUtf8, chars, encode_utf8_all}
 use Rattle.std.proofs.lemmas.Bool.Decides.{nat_tests}
 use Rattle.std.proofs.lemmas.Bool.{and_parts}
 use Rattle.std.proofs.lemmas.List.{append-nil, take_all}
+use Rattle.std.proofs.lemmas.List.Folds.{list_any-append}
 use Rattle.std.proofs.lemmas.Slice.Eq.{bytes_eq-Decides}
 use Rattle.std.proofs.lemmas.Str.{encode_ascii, encodes-chars, len_utf8_bounds, length-encode}
 use Rattle.esc_actions.specs.Meaning.{meaning_within, values_from}
@@ -29,7 +30,9 @@ use Rattle.esc_reveal.proofs.Reading.{sequence_high}
 use Rattle.esc_reveal.specs.Pieces.{is_at_ground, pieces_after, rest_after}
 use Rattle.esc_reveal.specs.Revealed.{are_kept, is_kept, piece_text, revealed_after}
 use Rattle.esc_reveal.specs.Runs.{IsAdmittedText, IsPart, has_line_end}
-use Rattle.esc_reveal.specs.Visible.{rest_text, visible}
+use Rattle.esc_reveal.specs.Visible.{is_mark, lets_stay, rest_text, shown}
+use Rattle.esc_reveal.specs.declared.marking.Marking.{Marking}
+use Rattle.esc_reveal.specs.declared.marking.Marking.TheVariants as marking
 use Rattle.esc_reveal.specs.Spelled.{is_control_sequence, is_single, is_spelled, is_text_of}
 
 -- ---- no line feed
@@ -111,63 +114,81 @@ char_means : {A : Type 0} (limit c : ℕ) → is_clear c ≡ true
 unfolding meaning_within
 char_means limit c h = ap (values_from (Some limit) plain) (char_events limit c h)
 
-module _ {A : Type 0} (by_lines : Bool) (limit : ℕ) (admits : Value A → Bool) (room : 4 ≤ limit)
-  where
-    char_kept : (c : ℕ) → is_clear c ≡ true → admits (print c) ≡ true
-        → is_kept limit admits (encode_utf8 c) ≡ true
-    char_kept c h a =
-        let x = encode_utf8 c in
-        let n = length x in
-        let few : n ≤ limit = omega (arith, room, length-encode c, (len_utf8_bounds c).1) in
-        let short : nat_le n limit ≡ true = grind (arith, nat_tests) in
-        ap (λ vs. nat_le n limit && (are_kept admits vs && is_spelled x (list_text vs)))
-        (char_means limit c h)
-        ∙ ap (λ b. b && (are_kept admits (print c ∷ []) && is_spelled x (list_text {A = A}
-        (print c ∷ [])))) short
-        ∙ ap (λ b. (b && true) && is_spelled x (list_text {A = A} (print c ∷ []))) a
-        ∙ char_spelled A c
+-- ---- marks
 
-    char_part : (c : ℕ) → is_clear c ≡ true → IsPart by_lines [] (encode_utf8 c)
-    char_part c h = record {
-      some = omega (arith, length-encode c, (len_utf8_bounds c).0);
-      lineless = feedless by_lines (encode_utf8 c) (char_one c h).feed;
-      quiet = (char_one c h).quiet;
-    }
+none_of : (x y : Bool) → not (x || y) ≡ true → (not x ≡ true) × (not y ≡ true)
+none_of true y h = absurd cc
+none_of false y h = (refl, h)
 
-    -- nothing of these bytes is unfinished, and they stay as they are
-    abbrev pub Stays : List ℕ → Type 0
-    Stays x = (rest_after by_lines [] x ≡ [])
-        × (revealed_after {A = A} by_lines limit admits [] x ≡ x)
+both_free : (m : Marking) (x y : List ℕ) → lets_stay m (x ++ y) ≡ true
+    → (lets_stay m x ≡ true) × (lets_stay m y ≡ true)
+both_free marking.Plain x y h = (refl, refl)
+both_free marking.Reversed x y h = (refl, refl)
+both_free marking.Escaped x y h =
+    none_of (list_any is_mark x) (list_any is_mark y)
+    (ap not (sym (list_any-append is_mark x y)) ∙ h)
 
-    char_stays : (c : ℕ) → is_clear c ≡ true → admits (print c) ≡ true → Stays (encode_utf8 c)
-    char_stays c h a =
-        let x = encode_utf8 c in
-        let ends = (part_makes by_lines limit admits [] x (char_part c h)).0 (char_ground c h) in
-        (ends.0, ends.1 ∙ ap (λ k. if k then x else visible x) (char_kept c h a))
+module _ {A : Type 0} (m : Marking) (by_lines : Bool) (limit : ℕ) (admits : Value A → Bool)
+    (room : 4 ≤ limit) where
+  char_kept : (c : ℕ) → is_clear c ≡ true → admits (print c) ≡ true
+      → lets_stay m (encode_utf8 c) ≡ true → is_kept m limit admits (encode_utf8 c) ≡ true
+  char_kept c h a free =
+      let x = encode_utf8 c in
+      let n = length x in
+      let few : n ≤ limit = omega (arith, room, length-encode c, (len_utf8_bounds c).1) in
+      let short : nat_le n limit ≡ true = grind (arith, nat_tests) in
+      let spelled : Bool = is_spelled x (list_text {A = A} (print c ∷ [])) in
+      ap (λ vs. (nat_le n limit && lets_stay m x)
+      && (are_kept admits vs && is_spelled x (list_text vs))) (char_means limit c h)
+      ∙ ap (λ b. (b && lets_stay m x) && (are_kept admits (print c ∷ []) && spelled)) short
+      ∙ ap (λ b. b && (are_kept admits (print c ∷ []) && spelled)) free
+      ∙ ap (λ b. (b && true) && spelled) a ∙ char_spelled A c
 
-    both_stay : (x y : List ℕ) → Stays x → Stays y → Stays (x ++ y)
-    both_stay x y one more =
-        let done = flat_map (piece_text by_lines limit admits) (pieces_after by_lines [] x) in
-        let first : done ≡ x =
-        sym (append-nil done) ∙ ap (λ z. done ++ z) (sym (rest_none limit))
-        ∙ ap (λ z. done ++ rest_text limit z) (sym one.0) ∙ one.1 in (
-          rest_append by_lines [] x y ∙ ap (λ z. rest_after by_lines z y) one.0 ∙ more.0,
-          all_append by_lines limit admits [] x y
-              ∙ ap (λ z. done ++ revealed_after {A = A} by_lines limit admits z y) one.0
-              ∙ ap (λ z. done ++ z) more.1 ∙ ap (λ z. z ++ y) first,
-        )
+  char_part : (c : ℕ) → is_clear c ≡ true → IsPart by_lines [] (encode_utf8 c)
+  char_part c h = record {
+    some = omega (arith, length-encode c, (len_utf8_bounds c).0);
+    lineless = feedless by_lines (encode_utf8 c) (char_one c h).feed;
+    quiet = (char_one c h).quiet;
+  }
 
-    chars_stay : (cs : List ℕ) → list_all is_clear cs ≡ true
-        → list_all (λ c. admits (print c)) cs ≡ true → Stays (encode_utf8_all cs)
-    chars_stay [] h a = (refl, rest_none limit)
-    chars_stay (c ∷ cs) h a =
-        let p = and_parts (is_clear c) (list_all is_clear cs) h in
-        let q = and_parts (admits (print c)) (list_all (λ c. admits (print c)) cs) a in
-        both_stay (encode_utf8 c) (encode_utf8_all cs) (char_stays c p.0 q.0)
-        (chars_stay cs p.1 q.1)
+  -- nothing of these bytes is unfinished, and they stay as they are
+  abbrev pub Stays : List ℕ → Type 0
+  Stays x = (rest_after by_lines [] x ≡ [])
+      × (revealed_after {A = A} m by_lines limit admits [] x ≡ x)
 
-    pub admitted_stays : (x : List ℕ) → IsAdmittedText admits x → Stays x
-    admitted_stays x (cs, clear, passes, e) = subst Stays e (chars_stay cs clear passes)
+  char_stays : (c : ℕ) → is_clear c ≡ true → admits (print c) ≡ true
+      → lets_stay m (encode_utf8 c) ≡ true → Stays (encode_utf8 c)
+  char_stays c h a free =
+      let x = encode_utf8 c in
+      let ends = (part_makes m by_lines limit admits [] x (char_part c h)).0 (char_ground c h) in
+      (ends.0, ends.1 ∙ ap (λ k. if k then x else shown m x) (char_kept c h a free))
+
+  both_stay : (x y : List ℕ) → Stays x → Stays y → Stays (x ++ y)
+  both_stay x y one more =
+      let done = flat_map (piece_text m by_lines limit admits) (pieces_after by_lines [] x) in
+      let first : done ≡ x =
+      sym (append-nil done) ∙ ap (λ z. done ++ z) (sym (rest_none m limit))
+      ∙ ap (λ z. done ++ rest_text m limit z) (sym one.0) ∙ one.1 in (
+        rest_append by_lines [] x y ∙ ap (λ z. rest_after by_lines z y) one.0 ∙ more.0,
+        all_append m by_lines limit admits [] x y
+            ∙ ap (λ z. done ++ revealed_after {A = A} m by_lines limit admits z y) one.0
+            ∙ ap (λ z. done ++ z) more.1 ∙ ap (λ z. z ++ y) first,
+      )
+
+  chars_stay : (cs : List ℕ) → list_all is_clear cs ≡ true
+      → list_all (λ c. admits (print c)) cs ≡ true → lets_stay m (encode_utf8_all cs) ≡ true
+      → Stays (encode_utf8_all cs)
+  chars_stay [] h a free = (refl, rest_none m limit)
+  chars_stay (c ∷ cs) h a free =
+      let p = and_parts (is_clear c) (list_all is_clear cs) h in
+      let q = and_parts (admits (print c)) (list_all (λ c. admits (print c)) cs) a in
+      let f = both_free m (encode_utf8 c) (encode_utf8_all cs) free in
+      both_stay (encode_utf8 c) (encode_utf8_all cs) (char_stays c p.0 q.0 f.0)
+      (chars_stay cs p.1 q.1 f.1)
+
+  pub admitted_stays : (x : List ℕ) → IsAdmittedText admits x → lets_stay m x ≡ true → Stays x
+  admitted_stays x (cs, clear, passes, e) free =
+      subst Stays e (chars_stay cs clear passes (ap (lets_stay m) e ∙ free))
 
 -- ---- runs
 

@@ -25,14 +25,14 @@ module _ {F P A : Type 0} (G : Feeder F A) (V : Admitter P A) (reveal : Reveal P
 
   pub through_more : (b : List ℕ) → (t : List ℕ) × (m (s ++ b) ≡ m s ++ t)
   through_more b =
-      let (x, e) = revealed_longer reveal.rule.limit reveal.rule.by_lines
+      let (x, e) = revealed_longer reveal.rule.marking reveal.rule.limit reveal.rule.by_lines
       (V.admits reveal.rule.policy) s b in
       let (t, f) = h.adds.more filter (Text s) x h.given in
       (t, text_is (s ++ b) ∙ ap h.inner e ∙ f ∙ ap (λ y. y ++ t) (sym (text_is s)))
 
   pub through_end : (t : List ℕ) × (c s ≡ m s ++ t)
   through_end =
-      let (x, e) = whole_longer reveal.rule.limit reveal.rule.by_lines
+      let (x, e) = whole_longer reveal.rule.marking reveal.rule.limit reveal.rule.by_lines
       (V.admits reveal.rule.policy) s in
       let (t, f) = h.adds.more filter (Text s) x h.given in
       let (u, k) = h.adds.end filter (Text s) x h.given in (
@@ -45,7 +45,7 @@ module _ {F P A : Type 0} (G : Feeder F A) (V : Admitter P A) (reveal : Reveal P
 
 nothing_revealed : {P A : Type 0} (V : Admitter P A) (rule : Rule P)
     → text_by {A = A} V rule [] ≡ []
-nothing_revealed V rule = rest_none rule.limit
+nothing_revealed V rule = rest_none rule.marking rule.limit
 
 pub through_begins : {F P A : Type 0} (G : Feeder F A) (V : Admitter P A) (reveal : Reveal P A)
     (filter : F) (m c : List ℕ → List ℕ) → G.gives filter m c [] → OnlyAdds G m c

@@ -4,8 +4,9 @@ use Rattle.esc_filter.specs.declared.admit.Admit.{Ghosts as Admitter}
 use Rattle.esc_frame.specs.Stream.{LeadsToWithin}
 use Rattle.esc_reveal.specs.Grown.{Grows, Keeps}
 use Rattle.esc_reveal.specs.Pieces.{rest, rest_after}
-use Rattle.esc_reveal.specs.Revealed.{is_kept, revealed, revealed_after, revealed_whole}
-use Rattle.esc_reveal.specs.Visible.{rest_text, visible}
+use Rattle.esc_reveal.specs.Revealed.{is_kept, revealed_after, revealed_as, revealed_whole_as}
+use Rattle.esc_reveal.specs.Visible.{rest_text, shown}
+use Rattle.esc_reveal.specs.declared.marking.Marking.{Marking}
 use Rattle.esc_reveal.specs.declared.reveal.Reveal.{Reveal}
 use Rattle.esc_reveal.specs.declared.reveal.Rule.{Rule}
 use Rattle.memory.specs.Refusals.{Refused}
@@ -16,6 +17,9 @@ policy_of f = f.rule.policy
 
 abbrev pub limit_of : {P A : Type 0} → Reveal P A → ℕ
 limit_of f = f.rule.limit
+
+abbrev pub marking_of : {P A : Type 0} → Reveal P A → Marking
+marking_of f = f.rule.marking
 
 abbrev pub by_lines_of : {P A : Type 0} → Reveal P A → Bool
 by_lines_of f = f.rule.by_lines
@@ -42,11 +46,12 @@ WasFed s f = AtRest (rest (by_lines_of f) s) f
 
 -- what is written of a stream that goes on, and of one that has ended, by its rule
 abbrev pub text_by : {P A : Type 0} → Admitter P A → Rule P → List ℕ → List ℕ
-text_by {A = A} V rule s = revealed {A = A} rule.by_lines rule.limit (V.admits rule.policy) s
+text_by {A = A} V rule s =
+    revealed_as {A = A} rule.marking rule.by_lines rule.limit (V.admits rule.policy) s
 
 abbrev pub whole_by : {P A : Type 0} → Admitter P A → Rule P → List ℕ → List ℕ
 whole_by {A = A} V rule s =
-    revealed_whole {A = A} rule.by_lines rule.limit (V.admits rule.policy) s
+    revealed_whole_as {A = A} rule.marking rule.by_lines rule.limit (V.admits rule.policy) s
 
 -- it added what b adds after s
 abbrev pub AddsTo : {P A : Type 0} → Admitter P A → List ℕ → List ℕ → Reveal P A → Reveal P A
@@ -69,16 +74,17 @@ Holds r before after old new = AtRest r new × Grows (added_by old) (added_by ne
 
 -- what is written of a piece that no line feed ends
 abbrev pub closed_text : {P A : Type 0} → Admitter P A → Rule P → List ℕ → List ℕ
-closed_text {A = A} V rule p = if is_kept {A = A} rule.limit (V.admits rule.policy) p then p
-    else visible p
+closed_text {A = A} V rule p =
+    if is_kept {A = A} rule.marking rule.limit (V.admits rule.policy) p then p
+    else shown rule.marking p
 
 -- where r was unfinished, it took b, and its text grew by what that adds
 abbrev pub GrowsBy : {P A : Type 0} → Admitter P A → Rule P → List ℕ → List ℕ → List ℕ → List ℕ
     → Reveal P A → Type 0
 GrowsBy {A = A} V rule r b told tnew new =
     AtRest (rest_after rule.by_lines r b) new
-    × Grows told tnew (rest_text rule.limit r)
-    (revealed_after {A = A} rule.by_lines rule.limit (V.admits rule.policy) r b)
+    × Grows told tnew (rest_text rule.marking rule.limit r)
+    (revealed_after {A = A} rule.marking rule.by_lines rule.limit (V.admits rule.policy) r b)
 
 -- r is what is unfinished of a piece, which is nothing
 abbrev pub AtPieceEnd : {P A : Type 0} → List ℕ → Reveal P A → Type 0

@@ -6,7 +6,9 @@ use Rattle.esc_actions.specs.Texts.{is_string, is_terminator, list_text}
 use Rattle.esc_actions.specs.Values.{Value}
 use Rattle.esc_filter.specs.Passing.{passes}
 use Rattle.esc_reveal.specs.Pieces.{ends_in_line, pieces, pieces_after, rest, rest_after}
-use Rattle.esc_reveal.specs.Visible.{rest_text, visible}
+use Rattle.esc_reveal.specs.Visible.{lets_stay, rest_text, shown}
+use Rattle.esc_reveal.specs.declared.marking.Marking.{Marking}
+use Rattle.esc_reveal.specs.declared.marking.Marking.TheVariants as marking
 use Rattle.esc_reveal.specs.Spelled.{is_spelled}
 
 -- the value passes; a string terminator exactly where a string comes directly before it, which it
@@ -28,11 +30,12 @@ is_some (_ ∷ _) = true
 abbrev pub are_kept : {A : Type 0} → (Value A → Bool) → List (Value A) → Bool
 are_kept admits vs = is_some vs && all_through admits false vs
 
--- a piece that stays as it is: of at most so many bytes; it means values, each of which passes; and
+-- a piece that stays as it is: of at most so many bytes, without marks where
+-- these are shown; it means values, each of which passes; and
 -- all of its bytes are in the text of these
-abbrev pub is_kept : {A : Type 0} → ℕ → (Value A → Bool) → List ℕ → Bool
-is_kept {A = A} limit admits p =
-    nat_le (length p) limit
+abbrev pub is_kept : {A : Type 0} → Marking → ℕ → (Value A → Bool) → List ℕ → Bool
+is_kept {A = A} m limit admits p =
+    (nat_le (length p) limit && lets_stay m p)
     && (are_kept admits (meaning_within {A = A} (Some limit) p)
     && is_spelled p (list_text (meaning_within {A = A} (Some limit) p)))
 
@@ -44,21 +47,30 @@ but_last (b ∷ c ∷ s) = b ∷ but_last (c ∷ s)
 
 -- What is written of a piece: the piece itself, or its visible text. A line feed that ends one is
 -- written, and what of the piece comes before it was unfinished.
-abbrev pub piece_text : {A : Type 0} → Bool → ℕ → (Value A → Bool) → List ℕ → List ℕ
-piece_text by_lines limit admits p =
-    if ends_in_line by_lines p then visible (but_last p) ++ 0x0a ∷ []
-    else if is_kept limit admits p then p else visible p
+abbrev pub piece_text : {A : Type 0} → Marking → Bool → ℕ → (Value A → Bool) → List ℕ → List ℕ
+piece_text m by_lines limit admits p =
+    if ends_in_line by_lines p then shown m (but_last p) ++ 0x0a ∷ []
+    else if is_kept m limit admits p then p else shown m p
 
 -- what is written of s and what r before it is unfinished
-abbrev pub revealed_after : {A : Type 0} → Bool → ℕ → (Value A → Bool) → List ℕ → List ℕ → List ℕ
-revealed_after by_lines limit admits r s =
-    flat_map (piece_text by_lines limit admits) (pieces_after by_lines r s)
-    ++ rest_text limit (rest_after by_lines r s)
+abbrev pub revealed_after : {A : Type 0} → Marking → Bool → ℕ → (Value A → Bool) → List ℕ → List ℕ
+    → List ℕ
+revealed_after m by_lines limit admits r s =
+    flat_map (piece_text m by_lines limit admits) (pieces_after by_lines r s)
+    ++ rest_text m limit (rest_after by_lines r s)
 
 -- A stream that goes on, and one that has ended, of which the rest is shown.
+abbrev pub revealed_as : {A : Type 0} → Marking → Bool → ℕ → (Value A → Bool) → List ℕ → List ℕ
+revealed_as m by_lines limit admits s = revealed_after m by_lines limit admits [] s
+
+abbrev pub revealed_whole_as : {A : Type 0} → Marking → Bool → ℕ → (Value A → Bool) → List ℕ
+    → List ℕ
+revealed_whole_as m by_lines limit admits s =
+    flat_map (piece_text m by_lines limit admits) (pieces by_lines s) ++ shown m (rest by_lines s)
+
+-- the same where what is shown is not told from other text
 abbrev pub revealed : {A : Type 0} → Bool → ℕ → (Value A → Bool) → List ℕ → List ℕ
-revealed by_lines limit admits s = revealed_after by_lines limit admits [] s
+revealed by_lines limit admits s = revealed_as marking.Plain by_lines limit admits s
 
 abbrev pub revealed_whole : {A : Type 0} → Bool → ℕ → (Value A → Bool) → List ℕ → List ℕ
-revealed_whole by_lines limit admits s =
-    flat_map (piece_text by_lines limit admits) (pieces by_lines s) ++ visible (rest by_lines s)
+revealed_whole by_lines limit admits s = revealed_whole_as marking.Plain by_lines limit admits s

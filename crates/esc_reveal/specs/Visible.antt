@@ -1,10 +1,12 @@
 -- Bytes as text that shows each of them: printable characters alone.
-use Rattle.std.specs.Prelude.{ℕ, ◌+◌, ◌/◌, ◌%◌, Bool, true, nat_le, nat_lt, ◌==◌, ◌||◌, if◌then◌else◌, List, [], ◌∷◌, ◌++◌, length}
+use Rattle.std.specs.Prelude.{ℕ, ◌+◌, ◌/◌, ◌%◌, Bool, true, not, nat_le, nat_lt, ◌==◌, ◌||◌, if◌then◌else◌, List, [], ◌∷◌, ◌++◌, length}
 use Rattle.std.specs.Fmt.{digit_glyph}
-use Rattle.std.specs.List.{flat_map}
+use Rattle.std.specs.List.{flat_map, list_any}
 use Rattle.esc_frame.specs.Sequences.{is_prefix, number_of, outcome}
 use Rattle.esc_frame.specs.declared.utf8.sequence.Outcome.{Outcome}
 use Rattle.esc_frame.specs.declared.utf8.sequence.Outcome.TheVariants.{Whole, More, Broken}
+use Rattle.esc_reveal.specs.declared.marking.Marking.{Marking}
+use Rattle.esc_reveal.specs.declared.marking.Marking.TheVariants as marking
 use Rattle.esc_visible.specs.Characters.{is_shown, number_text}
 
 -- a byte by its number, as <9D>
@@ -70,7 +72,31 @@ begun_after f (b ∷ s) = begun_after (next_begun f b (outcome f b)) s
 abbrev pub visible : List ℕ → List ℕ
 visible s = settled [] s ++ stray_text (begun_after [] s)
 
+-- ---- what is told from other text
+
+-- a piece of these bytes may stay: where marks are shown, one without any
+abbrev pub lets_stay : Marking → List ℕ → Bool
+lets_stay marking.Plain p = true
+lets_stay marking.Escaped p = not (list_any is_mark p)
+lets_stay marking.Reversed p = true
+
+-- what comes before bytes that are shown, and after them: `ESC [7m` and `ESC [27m`, or nothing
+abbrev pub opening : Marking → List ℕ
+opening marking.Plain = []
+opening marking.Escaped = []
+opening marking.Reversed = 0x1b ∷ 0x5b ∷ 0x37 ∷ 0x6d ∷ []
+
+abbrev pub closing : Marking → List ℕ
+closing marking.Plain = []
+closing marking.Escaped = []
+closing marking.Reversed = 0x1b ∷ 0x5b ∷ 0x32 ∷ 0x37 ∷ 0x6d ∷ []
+
+-- what is written of bytes that are shown
+abbrev pub shown : Marking → List ℕ → List ℕ
+shown m [] = []
+shown m (b ∷ p) = opening m ++ (visible (b ∷ p) ++ closing m)
+
 -- of a piece that has not ended nothing is written, but once it is longer than the limit: then it
 -- cannot be kept
-abbrev pub rest_text : ℕ → List ℕ → List ℕ
-rest_text limit r = if nat_le (length r) limit then [] else settled [] r
+abbrev pub rest_text : Marking → ℕ → List ℕ → List ℕ
+rest_text m limit r = if nat_le (length r) limit then [] else opening m ++ settled [] r

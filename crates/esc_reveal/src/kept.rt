@@ -1,10 +1,11 @@
 //! What is kept of a piece that has not ended.
 ghost use Rattle.std.specs.Prelude.{◌<◌, ◌+◌, ◌≡◌, ◌++◌, ◌↔◌, ℕ, List, [], length, nat_le, true, false, IsTrue, MatchOption, OnErr, OnOk};
 ghost use Rattle.esc_reveal.specs.Grown.{Grows, Keeps};
-ghost use Rattle.esc_reveal.specs.Visible.{rest_text, visible};
+ghost use Rattle.esc_reveal.specs.Visible.{rest_text, shown};
 ghost use Rattle.memory.specs.Refusals.{Refused};
 
-use crate::shown::{push_runs, push_visible};
+use crate::marking::Marking;
+use crate::shown::{push_runs, push_shown};
 use crate::visible::push_stray;
 use esc_frame::utf8::sequence::Pending;
 use std::alloc::{AllocError, Allocator, Global};
@@ -41,14 +42,15 @@ impl<A: Allocator> Kept<A> {
     /// Takes bytes more. Of a piece that is longer than the limit now they are shown at once.
     pub fn extend(
         &mut self,
+        marking: Marking,
         limit: usize,
         bytes: &[u8],
         text: &mut Vec<u8, A>,
     ) -> Result<(), AllocError>
         ensures given { (r : List ℕ) → Keeps limit r self.old → OnOk result
             (Keeps limit (r ++ bytes.now) self.new
-            × Grows text.old.items text.new.items (rest_text limit r)
-            (rest_text limit (r ++ bytes.now))) }
+            × Grows text.old.items text.new.items (rest_text marking limit r)
+            (rest_text marking limit (r ++ bytes.now))) }
         ensures refused { OnErr result (Refused A) }
     {
         if self.is_over {
@@ -59,19 +61,25 @@ impl<A: Allocator> Kept<A> {
         if length <= limit {
             return memory::extend(&mut self.piece, bytes);
         }
-        self.overflow(bytes, text)
+        self.overflow(marking, bytes, text)
     }
 
     // Takes bytes with which the piece is longer than the limit.
-    fn overflow(&mut self, bytes: &[u8], text: &mut Vec<u8, A>) -> Result<(), AllocError>
+    fn overflow(
+        &mut self,
+        marking: Marking,
+        bytes: &[u8],
+        text: &mut Vec<u8, A>,
+    ) -> Result<(), AllocError>
         requires { self.old.is_over ≡ false }
         ensures given { (limit : ℕ) (r : List ℕ) → Keeps limit r self.old
             → limit < length r + length bytes.now → OnOk result
             (Keeps limit (r ++ bytes.now) self.new
-            × Grows text.old.items text.new.items (rest_text limit r)
-            (rest_text limit (r ++ bytes.now))) }
+            × Grows text.old.items text.new.items (rest_text marking limit r)
+            (rest_text marking limit (r ++ bytes.now))) }
         ensures refused { OnErr result (Refused A) }
     {
+        memory::extend(text, marking.opening())?;
         let begun = push_runs(text, Pending::Nothing, &self.piece)?;
         self.begun = push_runs(text, begun, bytes)?;
         self.is_over = true;
@@ -92,28 +100,29 @@ impl<A: Allocator> Kept<A> {
         }
     }
 
-    /// Shows what of the piece was not shown yet. Nothing is kept then.
-    pub fn show(&mut self, text: &mut Vec<u8, A>) -> Result<(), AllocError>
+    /// Shows what of the piece was not shown yet, in this way. Nothing is kept then.
+    pub fn show(&mut self, marking: Marking, text: &mut Vec<u8, A>) -> Result<(), AllocError>
         ensures given { (limit : ℕ) (r : List ℕ) → Keeps limit r self.old → OnOk result
             (Keeps limit [] self.new
-            × Grows text.old.items text.new.items (rest_text limit r) (visible r)) }
+            × Grows text.old.items text.new.items (rest_text marking limit r) (shown marking r)) }
         ensures refused { OnErr result (Refused A) }
     {
         if self.is_over {
             push_stray(text, self.begun)?;
+            memory::extend(text, marking.closing())?;
             self.clear();
             return Ok(());
         }
-        push_visible(text, &self.piece)?;
+        push_shown(text, marking, &self.piece)?;
         self.clear();
         Ok(())
     }
 
     /// Writes the piece, which is within the limit, as it came. Nothing is kept then.
     pub fn write(&mut self, text: &mut Vec<u8, A>) -> Result<(), AllocError>
-        ensures given { (limit : ℕ) (r : List ℕ) → Keeps limit r self.old
+        ensures given { (m : Marking) (limit : ℕ) (r : List ℕ) → Keeps limit r self.old
             → nat_le (length r) limit ≡ true → OnOk result (Keeps limit [] self.new
-            × Grows text.old.items text.new.items (rest_text limit r) r) }
+            × Grows text.old.items text.new.items (rest_text m limit r) r) }
         ensures refused { OnErr result (Refused A) }
     {
         memory::extend(text, &self.piece)?;

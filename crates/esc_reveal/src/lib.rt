@@ -14,6 +14,7 @@
 mod judge;
 mod kept;
 mod laws;
+mod marking;
 mod reveal;
 mod revealing;
 mod shown;
@@ -23,8 +24,10 @@ mod text;
 mod visible;
 
 pub use laws::{
-    pieces_are_all, pieces_are_streams, pieces_end_at_ground, read_back, shows_characters,
+    escaped_reads_back, kept_is_written, pieces_are_all, pieces_are_streams, pieces_end_at_ground,
+    read_back, shown_is_written, shows_characters, unmarked_reads_back,
 };
+pub use marking::Marking;
 pub use reveal::Reveal;
 pub use revealing::Revealing;
 pub use shown::push_visible;

@@ -4,13 +4,14 @@ ghost use Rattle.esc_actions.specs.Meaning.{meaning_within};
 ghost use Rattle.esc_filter.specs.Lines.{is_line_feed};
 ghost use Rattle.esc_reveal.specs.Revealed.{are_kept, is_kept};
 ghost use Rattle.esc_reveal.specs.Runs.{IsAdmittedText, IsOpenRun, IsPart, has_line_end};
-ghost use Rattle.esc_reveal.specs.Visible.{rest_text, visible};
+ghost use Rattle.esc_reveal.specs.Visible.{lets_stay, rest_text, shown};
 ghost use Rattle.esc_reveal.specs.declared.reveal.TheConstants.{MOST_BYTES};
 ghost use Rattle.memory.specs.Refusals.{Refused};
 
 use crate::judge::{judge_piece, stays_spelled};
 use crate::kept::Kept;
-use crate::shown::push_visible;
+use crate::marking::Marking;
+use crate::shown::push_shown;
 use crate::silent::frame_some;
 use crate::spelled::may_stay;
 use crate::text::admitted_run;
@@ -32,6 +33,8 @@ pub(crate) struct Rule<P> {
     pub limit: usize,
     /// Whether a line feed ends a piece.
     pub by_lines: bool,
+    /// How what is shown is told from text that stays.
+    pub marking: Marking,
 }
 
 /// Takes a stream in whatever pieces it comes, and gives for each the text that it adds: the stream
@@ -61,7 +64,7 @@ pub struct Reveal<P, A: Allocator = Global> {
 }
 
 impl<P: Admit<A>, A: Allocator + Copy> Reveal<P, A> {
-    ghost use Rattle.esc_reveal.specs.Fed.{AddsTo, AtPieceEnd, AtRest, EndsAs, FailsForGood, GrowsTo, Holds, IsFramed, TakesSome, WasFed, added_by, by_lines_of, closed_text, limit_of, policy_of};
+    ghost use Rattle.esc_reveal.specs.Fed.{AddsTo, AtPieceEnd, AtRest, EndsAs, FailsForGood, GrowsTo, Holds, IsFramed, TakesSome, WasFed, added_by, by_lines_of, closed_text, limit_of, marking_of, policy_of};
 
     /// One at the beginning of a stream, of which a piece of at most `limit` bytes is kept. Takes
     /// no memory.
@@ -69,13 +72,30 @@ impl<P: Admit<A>, A: Allocator + Copy> Reveal<P, A> {
         ensures fed { WasFed [] result }
         ensures limit { limit_of result ≡ limit }
         ensures policy { policy_of result ≡ policy }
-        ensures lines { by_lines_of result ≡ by_lines }
+        ensures lines { (by_lines_of result ≡ by_lines) × (marking_of result ≡ Marking.Plain) }
+    {
+        Reveal::with_marking(alloc, limit, policy, by_lines, Marking::Plain)
+    }
+
+    /// The same, where what is shown is told from text that stays in this way.
+    pub fn with_marking(
+        alloc: A,
+        limit: usize,
+        policy: P,
+        by_lines: bool,
+        marking: Marking,
+    ) -> Reveal<P, A>
+        ensures fed { WasFed [] result }
+        ensures limit { limit_of result ≡ limit }
+        ensures policy { policy_of result ≡ policy }
+        ensures lines { (by_lines_of result ≡ by_lines) × (marking_of result ≡ marking) }
     {
         Reveal {
             rule: Rule {
                 policy,
                 limit,
                 by_lines,
+                marking,
             },
             framer: VTParser::with_limit(alloc, limit),
             alloc,
@@ -234,12 +254,13 @@ impl<P: Admit<A>, A: Allocator + Copy> Reveal<P, A> {
         requires { 0 < length bytes.now }
         ensures few { result ≤ length bytes.now }
         ensures limit { 0 < result → MOST_BYTES ≤ limit_of self.now }
-        ensures text { IsAdmittedText (P.admits (policy_of self.now)) (take result bytes.now) }
+        ensures text { IsAdmittedText (P.admits (policy_of self.now)) (take result bytes.now)
+            × (lets_stay (marking_of self.now) (take result bytes.now) ≡ true) }
     {
         if self.rule.limit < MOST_BYTES {
             return 0;
         }
-        admitted_run(&self.rule.policy, bytes)
+        admitted_run(&self.rule.policy, self.rule.marking, bytes)
     }
 
     // Takes bytes up to the end of a piece, or all, where no segment is unfinished, and returns how
@@ -269,14 +290,17 @@ impl<P: Admit<A>, A: Allocator + Copy> Reveal<P, A> {
         ensures refused { OnErr result (Refused A) }
     {
         if !self.framer.is_ground() {
-            return self.kept.extend(self.rule.limit, bytes, &mut self.text);
+            return self
+                .kept
+                .extend(self.rule.marking, self.rule.limit, bytes, &mut self.text);
         }
         self.framer.restart();
-        let stays = may_stay(self.alloc, self.rule.limit, passes, bytes)?;
+        let rule = &self.rule;
+        let stays = may_stay(self.alloc, rule.marking, rule.limit, passes, bytes)?;
         if stays {
             memory::extend(&mut self.text, bytes)
         } else {
-            push_visible(&mut self.text, bytes)
+            push_shown(&mut self.text, self.rule.marking, bytes)
         }
     }
 
@@ -299,7 +323,8 @@ impl<P: Admit<A>, A: Allocator + Copy> Reveal<P, A> {
         ensures refused { (r : List ℕ) → IsFramed r bytes.now self.old → OnErr result (Refused A) }
     {
         let has_ended = self.framer.is_ground();
-        self.kept.extend(self.rule.limit, bytes, &mut self.text)?;
+        self.kept
+            .extend(self.rule.marking, self.rule.limit, bytes, &mut self.text)?;
         if has_ended { self.close() } else { Ok(()) }
     }
 
@@ -318,8 +343,8 @@ impl<P: Admit<A>, A: Allocator + Copy> Reveal<P, A> {
     // Ends a piece that no line feed ends.
     fn close(&mut self) -> Result<(), AllocError>
         ensures given { (r : List ℕ) → AtRest r self.old → OnOk result
-            (Holds [] (rest_text (limit_of self.old) r) (closed_text P.Admit self.old.rule r)
-            self.old self.new) }
+            (Holds [] (rest_text (marking_of self.old) (limit_of self.old) r)
+            (closed_text P.Admit self.old.rule r) self.old self.new) }
         ensures rule { self.new.rule ≡ self.old.rule }
         ensures refused { (r : List ℕ) → AtRest r self.old → OnErr result (Refused A) }
     {
@@ -334,19 +359,25 @@ impl<P: Admit<A>, A: Allocator + Copy> Reveal<P, A> {
     fn is_kept(&mut self) -> Result<bool, AllocError>
         ensures given { (r : List ℕ) → AtRest r self.old → IfOk result
             (λ k. AtRest r self.new
-            × (k ≡ is_kept (limit_of self.old) (P.admits (policy_of self.old)) r)) }
+            × (k ≡ is_kept (marking_of self.old) (limit_of self.old)
+            (P.admits (policy_of self.old)) r)) }
         ensures rule { self.new.rule ≡ self.old.rule }
         ensures text { added_by self.new ≡ added_by self.old }
         ensures refused { (r : List ℕ) → AtRest r self.old → OnErr result (Refused A) }
     {
         match self.kept.piece() {
-            Some(piece) => stays_spelled(
-                self.alloc,
-                &mut self.framer,
-                &self.rule.policy,
-                self.rule.limit,
-                piece,
-            ),
+            Some(piece) => {
+                if !self.rule.marking.lets_stay(piece) {
+                    return Ok(false);
+                }
+                stays_spelled(
+                    self.alloc,
+                    &mut self.framer,
+                    &self.rule.policy,
+                    self.rule.limit,
+                    piece,
+                )
+            }
             None => Ok(false),
         }
     }
@@ -355,7 +386,8 @@ impl<P: Admit<A>, A: Allocator + Copy> Reveal<P, A> {
     fn write(&mut self) -> Result<(), AllocError>
         ensures given { (r : List ℕ) → AtRest r self.old
             → nat_le (length r) (limit_of self.old) ≡ true → OnOk result
-            (Holds [] (rest_text (limit_of self.old) r) r self.old self.new) }
+            (Holds [] (rest_text (marking_of self.old) (limit_of self.old) r) r
+            self.old self.new) }
         ensures rule { self.new.rule ≡ self.old.rule }
         ensures refused { OnErr result (Refused A) }
     {
@@ -366,11 +398,12 @@ impl<P: Admit<A>, A: Allocator + Copy> Reveal<P, A> {
     // Shows what of the piece was not shown yet, and begins anew.
     fn show(&mut self) -> Result<(), AllocError>
         ensures given { (r : List ℕ) → AtRest r self.old → OnOk result
-            (Holds [] (rest_text (limit_of self.old) r) (visible r) self.old self.new) }
+            (Holds [] (rest_text (marking_of self.old) (limit_of self.old) r)
+            (shown (marking_of self.old) r) self.old self.new) }
         ensures rule { self.new.rule ≡ self.old.rule }
         ensures refused { OnErr result (Refused A) }
     {
         self.framer.restart();
-        self.kept.show(&mut self.text)
+        self.kept.show(self.rule.marking, &mut self.text)
     }
 }

@@ -3,9 +3,10 @@ ghost use Rattle.std.specs.Prelude.{[], ◌≡◌, ◌++◌, ◌<◌, ◌≤◌,
 ghost use Rattle.std.specs.List.{list_all};
 ghost use Rattle.esc_frame.specs.Machine.Prefixes.{prefix_of};
 ghost use Rattle.esc_reveal.specs.Runs.{is_plain};
-ghost use Rattle.esc_reveal.specs.Visible.{begun_after, settled, visible};
+ghost use Rattle.esc_reveal.specs.Visible.{begun_after, settled, shown, visible};
 ghost use Rattle.memory.specs.Refusals.{Refused};
 
+use crate::marking::Marking;
 use crate::visible::{push_next, push_stray};
 use esc_frame::utf8::sequence::Pending;
 use std::alloc::{AllocError, Allocator};
@@ -24,6 +25,23 @@ pub fn push_visible<A: Allocator>(text: &mut Vec<u8, A>, bytes: &[u8]) -> Result
 {
     let last = push_runs(text, Pending::Nothing, bytes)?;
     push_stray(text, last)
+}
+
+/// Appends what is written of bytes that are shown so: nothing of none.
+pub(crate) fn push_shown<A: Allocator>(
+    text: &mut Vec<u8, A>,
+    marking: Marking,
+    bytes: &[u8],
+) -> Result<(), AllocError>
+    ensures ok { OnOk result (text.new.items ≡ text.old.items ++ shown marking bytes.now) }
+    ensures refused { OnErr result (Refused A) }
+{
+    if bytes.is_empty() {
+        return Ok(());
+    }
+    memory::extend(text, marking.opening())?;
+    push_visible(text, bytes)?;
+    memory::extend(text, marking.closing())
 }
 
 /// Appends the text that `bytes` after `begun` show whatever follows, and returns what has begun at

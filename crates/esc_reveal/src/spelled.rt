@@ -2,9 +2,11 @@
 ghost use Rattle.std.specs.Prelude.{◌≡◌, ◌&&◌, ◌≤◌, IfOk, OnErr, Some, length, nat_le};
 ghost use Rattle.esc_normal.specs.Normalising.{normal_form};
 ghost use Rattle.esc_reveal.specs.Spelled.{digits_after, ends_in_bell, is_body, is_end, is_control_sequence, is_single, is_spelled, is_text_of, most_digits};
+ghost use Rattle.esc_reveal.specs.Visible.{lets_stay};
 ghost use Rattle.esc_values.specs.Params.{is_body_byte, is_digit, is_final};
 ghost use Rattle.memory.specs.Refusals.{Refused};
 
+use crate::marking::Marking;
 use esc_normal::normal_text;
 use std::alloc::{AllocError, Allocator};
 
@@ -14,15 +16,17 @@ const MOST_DIGITS: usize = 18;
 /// Whether the piece stays, where each value that it means passes, or does not.
 pub(crate) fn may_stay<A: Allocator + Copy>(
     alloc: A,
+    marking: Marking,
     limit: usize,
     passes: bool,
     piece: &[u8],
 ) -> Result<bool, AllocError>
-    ensures given { IfOk result (λ k. k ≡ (nat_le (length piece.now) limit && (passes
+    ensures given { IfOk result (λ k. k ≡ ((nat_le (length piece.now) limit
+        && lets_stay marking piece.now) && (passes
         && is_spelled piece.now (normal_form A (Some limit) piece.now)))) }
     ensures refused { OnErr result (Refused A) }
 {
-    if passes && piece.len() <= limit {
+    if passes && piece.len() <= limit && marking.lets_stay(piece) {
         is_spelled(alloc, limit, piece)
     } else {
         Ok(false)

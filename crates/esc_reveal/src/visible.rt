@@ -87,7 +87,8 @@ fn push_printed<A: Allocator>(text: &mut Vec<u8, A>, byte: u8) -> Result<(), All
     }
 }
 
-fn is_mark(byte: u8) -> bool
+/// Whether the notation begins with the byte.
+pub(crate) fn is_mark(byte: u8) -> bool
     ensures { result ≡ is_mark byte }
 {
     byte == b'<' || byte == b'^'

@@ -1,5 +1,5 @@
 -- What of a stream goes to the filter.
-use Rattle.std.proofs.Common.{ℕ, ◌≡◌, Bool, true, false, List, [], ◌++◌, Some, refl, sym, ap, ◌∙◌}
+use Rattle.std.proofs.Common.{ℕ, ◌≡◌, Bool, true, false, List, Some, refl, ap, ◌∙◌}
 use Rattle.esc_actions.specs.Texts.{list_text, texts_after}
 use Rattle.esc_actions.specs.Values.{Value}
 use Rattle.esc_filter.proofs.ByLines.{by_more}
@@ -10,14 +10,14 @@ use Rattle.esc_filter.specs.Lines.{line_closing, closed_by_lines_as, text_by_lin
 use Rattle.esc_filter.specs.Passing.{closed_text_as, passed_as, passed_text_as}
 use Rattle.esc_normal.specs.Texts.{ends_in_string}
 use Rattle.esc_filter.specs.declared.unicode.Unicode.{Unicode}
-use Rattle.esc_reveal.specs.Revealed.{revealed, revealed_whole}
+use Rattle.esc_reveal.specs.Revealed.{revealed_as, revealed_whole_as}
 use Rattle.esc_filter.specs.declared.admit.Admit.{Ghosts as Admitter}
 use Rattle.esc_reveal.specs.declared.reveal.Rule.{Rule}
 use Rattle.esc_reveal.specs.Fed.{text_by, whole_by}
 use Rattle.esc_decode.specs.Decodings.{OnlyAdds, decoded}
 use Rattle.esc_decode.specs.declared.encoding.Encoding.{Encoding}
 use Rattle.esc_decode.specs.declared.encoding.Encoding.TheVariants.{EightBit, Utf8}
-use Rattle.escfilter.specs.Written.{admits_choice, going_in, seen_by, whole_in}
+use Rattle.escfilter.specs.Written.{admits_choice, going_in, whole_in}
 use Rattle.escfilter.specs.declared.options.Options.{Options}
 
 -- nothing becomes nothing
@@ -38,20 +38,25 @@ going_same A false o e s = refl
 
 -- where what does not pass is, by this rule
 module _ {P A : Type 0} (V : Admitter P A) (rule : Rule P) (o : Options)
-    (limit : rule.limit ≡ o.limit) (lines : rule.by_lines ≡ o.by_lines)
+    (limit : rule.limit ≡ o.limit)
+    (lines : (rule.by_lines ≡ o.by_lines) × (rule.marking ≡ o.marking))
     (admits : V.admits rule.policy ≡ admits_choice o.choice) where
   pub whole_shown : (b : Bool) → b ≡ true → (s : List ℕ)
       → whole_by {A = A} V rule s ≡ whole_in A b o s
-  whole_shown true e s = ap (λ l. revealed_whole rule.by_lines l (V.admits rule.policy) s) limit
-      ∙ ap (λ b. revealed_whole b o.limit (V.admits rule.policy) s) lines
-      ∙ ap (λ a. revealed_whole o.by_lines o.limit a s) admits
+  whole_shown true e s =
+      ap (λ m. revealed_whole_as m rule.by_lines rule.limit (V.admits rule.policy) s) lines.1
+      ∙ ap (λ l. revealed_whole_as o.marking rule.by_lines l (V.admits rule.policy) s) limit
+      ∙ ap (λ b. revealed_whole_as o.marking b o.limit (V.admits rule.policy) s) lines.0
+      ∙ ap (λ a. revealed_whole_as o.marking o.by_lines o.limit a s) admits
   whole_shown false e s = absurd cc
 
   pub going_shown : (b : Bool) → b ≡ true → (s : List ℕ)
       → text_by {A = A} V rule s ≡ going_in A b o s
-  going_shown true e s = ap (λ l. revealed rule.by_lines l (V.admits rule.policy) s) limit
-      ∙ ap (λ b. revealed b o.limit (V.admits rule.policy) s) lines
-      ∙ ap (λ a. revealed o.by_lines o.limit a s) admits
+  going_shown true e s =
+      ap (λ m. revealed_as m rule.by_lines rule.limit (V.admits rule.policy) s) lines.1
+      ∙ ap (λ l. revealed_as o.marking rule.by_lines l (V.admits rule.policy) s) limit
+      ∙ ap (λ b. revealed_as o.marking b o.limit (V.admits rule.policy) s) lines.0
+      ∙ ap (λ a. revealed_as o.marking o.by_lines o.limit a s) admits
   going_shown false e s = absurd cc
 
 -- the texts of the filters

@@ -14,7 +14,7 @@ use Rattle.esc_filter.specs.declared.policy.Policy.TheVariants as policy
 use Rattle.esc_filter.specs.declared.unicode.Unicode.{Unicode}
 use Rattle.esc_lines.specs.Streams.{final_of, left_of, values_of}
 use Rattle.esc_lines.specs.Windows.{Size, sized}
-use Rattle.esc_reveal.specs.Revealed.{revealed, revealed_whole}
+use Rattle.esc_reveal.specs.Revealed.{revealed_as, revealed_whole_as}
 use Rattle.escfilter.specs.Choices.{groups_in}
 use Rattle.escfilter.specs.declared.named_groups.Choice.{Choice}
 use Rattle.escfilter.specs.declared.options.Options.{Options}
@@ -34,13 +34,13 @@ admits_choice c v = admits_by c.groups c.policy v
 -- of it
 abbrev pub going_in : Type 0 → Bool → Options → List ℕ → List ℕ
 going_in A shows o s =
-    if shows then revealed {A = A} o.by_lines o.limit (admits_choice o.choice) s
+    if shows then revealed_as {A = A} o.marking o.by_lines o.limit (admits_choice o.choice) s
     else decoded o.encoding s
 
 -- the same of one that has ended
 abbrev pub whole_in : Type 0 → Bool → Options → List ℕ → List ℕ
 whole_in A shows o s =
-    if shows then revealed_whole {A = A} o.by_lines o.limit (admits_choice o.choice) s
+    if shows then revealed_whole_as {A = A} o.marking o.by_lines o.limit (admits_choice o.choice) s
     else decoded o.encoding s
 
 abbrev pub seen_by : Type 0 → Options → Bool → List ℕ → List ℕ

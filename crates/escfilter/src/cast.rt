@@ -129,7 +129,13 @@ fn filter_shown<R: Read, W: Write, F: Feeding<Global> + Drop, K: Audience<Global
 ) -> Result<(), CastFault> {
     let shows = options.shows;
     if shows {
-        let reveal = Reveal::new(alloc, options.limit, options.choice, options.by_lines);
+        let reveal = Reveal::with_marking(
+            alloc,
+            options.limit,
+            options.choice,
+            options.by_lines,
+            options.marking,
+        );
         let filter = Revealing::new(alloc, reveal, filter);
         filter_rows(alloc, options.rows, filter, audience, reader, writer)
     } else {

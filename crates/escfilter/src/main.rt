@@ -38,8 +38,9 @@ usage: escfilter [--allow text|color|screen|all|layout|sgr|hidden|links|controls
 scroll|modes|charsets|palette|titles|clipboard|images|other] [--deny layout|sgr|hidden|links|\
 controls|cursor|erase|scroll|modes|charsets|palette|titles|clipboard|images|other] \
 [--links scheme,..] [--lines|--whole] [--limit size] [--c1 replace|obey] \
-[--unicode keep|show|drop] [--show] [--collapse[=rows]] [--cast] [--report[=text|json]] \
-[--fail] [-o|--output file] [-i|--in-place[=suffix]] [-h|--help] [-V|--version] [--] [FILE..]";
+[--unicode keep|show|drop] [--show[=escaped|color]] [--collapse[=rows]] [--cast] \
+[--report[=text|json]] [--fail] [-o|--output file] [-i|--in-place[=suffix]] [-h|--help] \
+[-V|--version] [--] [FILE..]";
 
 const HELP: &str = "\
 Writes what the policy admits of each FILE, or of standard input, as it is read. What that
@@ -61,7 +62,9 @@ leaves on, as colours or a link, is taken back at its end, and at each line's wi
                   U+FFFD in their place (the default), obey takes them for controls
   --unicode way   of characters that hide or reorder text: show writes <U+202E> in their place
                   (the default with text and color), drop nothing, keep themselves
-  --show          writes what does not pass in its place, as text: ^[]0;title^G
+  --show          writes what does not pass in its place, as text: ^[]0;title^G;
+                  --show=escaped a ^ and < of other text too, as <5E> and <3C>, so that the
+                  input can be read back; --show=color in reverse video, where that passes
   --collapse      writes what a terminal leaves of lines that are written again, as by
                   progress bars; --collapse=rows where these go back over more rows than 32
   --cast          takes each FILE as a recording of asciinema: filters the texts of its

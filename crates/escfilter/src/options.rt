@@ -4,6 +4,7 @@ use crate::named_groups::{ALLOWED, Choice, DENIED};
 use command_line::{Apart, Found, Given, Known, Takes, Wrong, read};
 use esc_decode::Encoding;
 use esc_filter::{Policy, Unicode, is_scheme};
+use esc_reveal::Marking;
 use std::alloc::Global;
 
 /// How streams are filtered.
@@ -21,6 +22,8 @@ pub struct Options<'a> {
     pub unicode: Unicode,
     /// Whether what does not pass is shown in place.
     pub shows: bool,
+    /// How it is told from text that passes.
+    pub marking: Marking,
     /// How many rows may be written again, where what is left of them is written.
     pub rows: Option<usize>,
     /// Whether the input is a recording, of which the events of output are filtered.
@@ -86,7 +89,10 @@ impl<'a> Options<'a> {
             "--deny" => self.choice = self.choice.without(given.some),
             "--c1" => self.encoding = encoding_of(given.word),
             "--limit" => self.limit = given.size,
-            "--show" => self.shows = true,
+            "--show" => {
+                self.shows = true;
+                self.marking = marking_of(given.word);
+            }
             "--collapse" => self.rows = rows_of(given.word),
             "--cast" => self.is_cast = true,
             "--report" => self.report = Some(form_of(given.word)),
@@ -146,7 +152,7 @@ const KNOWN: &[Known] = &[
     Known {
         name: "--show",
         letter: "",
-        takes: Takes::Nothing,
+        takes: Takes::Maybe("form", &["escaped", "color"]),
     },
     Known {
         name: "--collapse",
@@ -234,6 +240,7 @@ impl<'a> Asked<'a> {
                 by_lines: false,
                 unicode: Unicode::Keep,
                 shows: false,
+                marking: Marking::Plain,
                 rows: None,
                 is_cast: false,
                 report: None,
@@ -370,6 +377,7 @@ fn apart_of<'a>(options: &[Given<'a>]) -> Option<Apart<'a>> {
 fn could_take(name: &str, word: &str) -> bool {
     match name {
         "--report" => word == "text" || word == "json",
+        "--show" => word == "escaped" || word == "color",
         "--collapse" => !word.is_empty() && rows_of(word).is_some(),
         "--in-place" => word.starts_with('.'),
         _ => false,
@@ -384,6 +392,15 @@ fn rows_of(word: &str) -> Option<usize> {
     match word.parse::<usize>() {
         Ok(rows) if 0 < rows && rows <= MOST_ROWS => Some(rows),
         _ => None,
+    }
+}
+
+// How what is shown is told by this word, which is one of those in the table, or none.
+fn marking_of(name: &str) -> Marking {
+    match name {
+        "escaped" => Marking::Escaped,
+        "color" => Marking::Reversed,
+        _ => Marking::Plain,
     }
 }
 

@@ -85,7 +85,13 @@ fn filter_shown<
 {
     let shows = options.shows;
     if shows {
-        let reveal = Reveal::new(alloc, options.limit, options.choice, options.by_lines);
+        let reveal = Reveal::with_marking(
+            alloc,
+            options.limit,
+            options.choice,
+            options.by_lines,
+            options.marking,
+        );
         let inner = Revealing::new(alloc, reveal, filter);
         let filter = Audited { inner, audience };
         filter_left(alloc, options.rows, filter, reader, writer)

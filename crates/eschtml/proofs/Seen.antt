@@ -7,7 +7,8 @@ use Rattle.esc_actions.specs.Values.{print}
 use Rattle.esc_filter.specs.declared.admit.Admit.{Ghosts as Admitter}
 use Rattle.esc_reveal.proofs.Cutting.{rest_none}
 use Rattle.esc_reveal.specs.Fed.{text_by, whole_by}
-use Rattle.esc_reveal.specs.Revealed.{revealed, revealed_whole}
+use Rattle.esc_reveal.specs.Revealed.{revealed_as, revealed_whole_as}
+use Rattle.esc_reveal.specs.declared.marking.Marking.TheVariants as marking
 use Rattle.esc_reveal.specs.declared.reveal.Rule.{Rule}
 use Rattle.eschtml.specs.Written.{going_in, is_kept, whole_in}
 
@@ -24,20 +25,24 @@ going_same A false limit moves e s = refl
 
 -- where what is left out is, by this rule
 module _ {P A : Type 0} (V : Admitter P A) (rule : Rule P) (limit : ℕ) (moves : Bool)
-    (kept : rule.limit ≡ limit) (lines : rule.by_lines ≡ false)
+    (kept : rule.limit ≡ limit) (lines : (rule.by_lines ≡ false) × (rule.marking ≡ marking.Plain))
     (admits : V.admits rule.policy ≡ is_kept moves) where
   pub whole_shown : (b : Bool) → b ≡ true → (s : List ℕ)
       → whole_by {A = A} V rule s ≡ whole_in A b limit moves s
-  whole_shown true e s = ap (λ l. revealed_whole rule.by_lines l (V.admits rule.policy) s) kept
-      ∙ ap (λ b. revealed_whole b limit (V.admits rule.policy) s) lines
-      ∙ ap (λ a. revealed_whole false limit a s) admits
+  whole_shown true e s =
+      ap (λ m. revealed_whole_as m rule.by_lines rule.limit (V.admits rule.policy) s) lines.1
+      ∙ ap (λ l. revealed_whole_as marking.Plain rule.by_lines l (V.admits rule.policy) s) kept
+      ∙ ap (λ b. revealed_whole_as marking.Plain b limit (V.admits rule.policy) s) lines.0
+      ∙ ap (λ a. revealed_whole_as marking.Plain false limit a s) admits
   whole_shown false e s = absurd cc
 
   pub going_shown : (b : Bool) → b ≡ true → (s : List ℕ)
       → text_by {A = A} V rule s ≡ going_in A b limit moves s
-  going_shown true e s = ap (λ l. revealed rule.by_lines l (V.admits rule.policy) s) kept
-      ∙ ap (λ b. revealed b limit (V.admits rule.policy) s) lines
-      ∙ ap (λ a. revealed false limit a s) admits
+  going_shown true e s =
+      ap (λ m. revealed_as m rule.by_lines rule.limit (V.admits rule.policy) s) lines.1
+      ∙ ap (λ l. revealed_as marking.Plain rule.by_lines l (V.admits rule.policy) s) kept
+      ∙ ap (λ b. revealed_as marking.Plain b limit (V.admits rule.policy) s) lines.0
+      ∙ ap (λ a. revealed_as marking.Plain false limit a s) admits
   going_shown false e s = absurd cc
 
 -- ---- characters
@@ -56,5 +61,5 @@ all_stay A moves (b ∷ x) h =
 -- what has no text of nothing has none of what is seen of it
 pub no_sight : (m : List ℕ → List ℕ) (A : Type 0) (shows : Bool) (limit : ℕ) (moves : Bool)
     → m [] ≡ [] → m (going_in A shows limit moves []) ≡ []
-no_sight m A true limit moves h = ap m (rest_none limit) ∙ h
+no_sight m A true limit moves h = ap m (rest_none marking.Plain limit) ∙ h
 no_sight m A false limit moves h = h

@@ -12,19 +12,20 @@ pub returns-then-shows-clause-holds : goal.returns-then-shows-clause-holds
 returns-then-shows-clause-holds g c = λ m e fresh none only.
     let a = g.row.A.Denot in
     let o = c.args.options.now in
-    let rule = c.new-reveal.result.rule in
+    let rule = c.with_marking-reveal.result.rule in
     let V : Admitter Choice g.row.A.Denot = record {
       admits = admits_choice {A = g.row.A.Denot};
     } in
     let new = c.new-filter.ensures.begins m e fresh
     (record { more = λ f s b k. only.more s b; end = λ f s b k. only.end (s ++ b) })
-    c.new-reveal.ensures.fed in
-    let admits = ap (λ p. admits_choice {A = a} p) c.new-reveal.ensures.policy in
+    c.with_marking-reveal.ensures.fed in
+    let new_reveal = c.with_marking-reveal.ensures in
+    let admits = ap (λ p. admits_choice {A = a} p) new_reveal.policy in
     let f = same_texts a o.rows _ _ (λ s. e (seen_by a o true s)) (λ s. m (seen_by a o false s))
-    (λ s. ap e (whole_shown V rule o c.new-reveal.ensures.limit c.new-reveal.ensures.lines admits
-    o.shows c.if-shows.true s))
-    (λ s. ap m (going_shown V rule o c.new-reveal.ensures.limit c.new-reveal.ensures.lines admits
-    o.shows c.if-shows.true s)) _ _ _
+    (λ s. ap e (whole_shown V rule o new_reveal.limit new_reveal.lines admits o.shows
+    c.if-shows.true s))
+    (λ s. ap m (going_shown V rule o new_reveal.limit new_reveal.lines admits o.shows
+    c.if-shows.true s)) _ _ _
     (c.filter_left.ensures.holds _ _
     (new, subst (g.K.Audience.heard c.args.audience []) (sym (through_nothing V rule m e none))
     c.requires) (through_nothing V rule m e none)
@@ -42,13 +43,13 @@ returns-then-shows-clause-holds g c = λ m e fresh none only.
 
 pub returns-then-shows-clause-refused : goal.returns-then-shows-clause-refused
 returns-then-shows-clause-refused g c = λ m e fresh none only.
-    let rule = c.new-reveal.result.rule in
+    let rule = c.with_marking-reveal.result.rule in
     let V : Admitter Choice g.row.A.Denot = record {
       admits = admits_choice {A = g.row.A.Denot};
     } in
     let new = c.new-filter.ensures.begins m e fresh
     (record { more = λ f s b k. only.more s b; end = λ f s b k. only.end (s ++ b) })
-    c.new-reveal.ensures.fed in
+    c.with_marking-reveal.ensures.fed in
     c.filter_left.ensures.refused _ _
     (new, subst (g.K.Audience.heard c.args.audience []) (sym (through_nothing V rule m e none))
     c.requires) (through_nothing V rule m e none)

@@ -8,9 +8,11 @@ returns-clause-given g c = λ limit r h long.
     let old = c.args.self.now in
     let t0 = c.args.text.now.items in
     let new = record old { begun = c.in_ok-self.field-0 } in
-    overflows limit r old t0 c.push_runs-2.new.text.items c.args.bytes.now new h
-    c.requires long _ c.push_runs.new.text.items
+    overflows c.args.marking limit r old t0 c.push_runs-2.new.text.items c.args.bytes.now new h
+    c.requires long _ c.extend.new.vec.items c.push_runs.new.text.items
     (c.in_ok-begun.ensures.ok.1 ∙ ap (begun_after []) c.deref.ensures.value)
     c.in_ok-self.ensures.ok.1
-    (c.in_ok-begun.ensures.ok.0 ∙ ap (λ p. t0 ++ settled [] p) c.deref.ensures.value)
+    (c.in_ok-extend.ensures.items ∙ ap (λ o. t0 ++ o) c.opening.ensures)
+    (c.in_ok-begun.ensures.ok.0
+    ∙ ap (λ p. c.extend.new.vec.items ++ settled [] p) c.deref.ensures.value)
     c.in_ok-self.ensures.ok.0

@@ -3,8 +3,8 @@ use Rattle.esc_reveal.proofs.Showing.{writes_whole}
 use Rattle.esc_reveal.proofs.kept.Kept.write.Goals as goal
 
 pub returns-clause-given : goal.returns-clause-given
-returns-clause-given g c = λ limit r h l. (
+returns-clause-given g c = λ m limit r h l. (
   c.clear.ensures limit,
-  writes_whole limit r c.args.self.now c.args.text.now.items c.extend.new.vec.items h l
+  writes_whole m limit r c.args.self.now c.args.text.now.items c.extend.new.vec.items h l
       (c.in_ok-extend.ensures.items ∙ ap (λ p. c.args.text.now.items ++ p) c.deref.ensures.value),
 )

@@ -3,7 +3,7 @@ use Rattle.esc_reveal.proofs.Feeding.{at_text, ends_all}
 use Rattle.esc_reveal.specs.Fed.{added_by}
 use Rattle.esc_reveal.specs.Grown.{Grows}
 use Rattle.esc_reveal.specs.Pieces.{rest}
-use Rattle.esc_reveal.specs.Visible.{rest_text, visible}
+use Rattle.esc_reveal.specs.Visible.{rest_text, shown}
 use Rattle.esc_reveal.proofs.reveal.Reveal.finish.Goals as goal
 
 pub returns-in-Ok-clause-ended : goal.returns-in-Ok-clause-ended
@@ -14,6 +14,7 @@ returns-in-Ok-clause-ended g c = λ s w.
     let k = c.in-Ok.ensures.given r (at_text r old c.clear.new.self w) in (
       k.0,
       ends_all g.P.Admit old.rule s (added_by new)
-          (subst (λ t. Grows t (added_by new) (rest_text old.rule.limit r) (visible r))
+          (subst (λ t. Grows t (added_by new) (rest_text old.rule.marking old.rule.limit r)
+          (shown old.rule.marking r))
           c.clear.ensures.items k.1),
     )

@@ -50,8 +50,8 @@ returns-else-stays-clause-given g c = λ f part e.
     let x = c.args.bytes.now in
     let test = ground_test c.is_ground.result x
     (c.is_ground.ensures.ground (Some rule.limit) x f.framed) in
-    on_ok_more _ _ c.push_visible.result (λ i.
-    let new = record old { framer = c.restart.new.self; text = c.push_visible.new.text } in
+    on_ok_more _ _ c.push_shown.result (λ i.
+    let new = record old { framer = c.restart.new.self; text = c.push_shown.new.text } in
     end_grows V rule [] x new (added_by old) (added_by new) part
     (sym test ∙ c.if-not-is_ground.false)
     (at_once V rule x (added_by old) (added_by new)
@@ -62,4 +62,4 @@ returns-else-stays-clause-given g c = λ f part e.
       unfailed = f.unfailed;
       framed = c.restart.ensures.fed (Some rule.limit) x f.framed;
       kept = f.kept;
-    })) c.push_visible.ensures.ok
+    })) c.push_shown.ensures.ok

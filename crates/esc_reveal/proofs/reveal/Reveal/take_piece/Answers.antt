@@ -20,8 +20,8 @@ returns-then-has_ended-clause-given g c = λ r f part.
     on_ok_more _ _ c.close.result (λ e.
     end_grows g.P.Admit rule r c.args.bytes.now new (added_by old) (added_by new) part
     (sym test ∙ c.if-has_ended.true)
-    (grows_then (added_by old) (added_by mid) (added_by new) (rest_text rule.limit r)
-    (rest_text rule.limit q) (closed_text g.P.Admit rule q) k.1 e.1) e.0)
+    (grows_then (added_by old) (added_by mid) (added_by new) (rest_text rule.marking rule.limit r)
+    (rest_text rule.marking rule.limit q) (closed_text g.P.Admit rule q) k.1 e.1) e.0)
     (c.close.ensures.given q (record { unfailed = f.unfailed; framed = f.framed; kept = k.0 }))
 
 pub returns-then-has_ended-clause-refused : goal.returns-then-has_ended-clause-refused

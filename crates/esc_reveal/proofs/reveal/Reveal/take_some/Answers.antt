@@ -25,7 +25,8 @@ returns g c = record {
       let empty : c.is_empty.result ≡ true = search rules in
       let e = (c.is_empty.ensures old.rule.limit r h.kept).0 empty in
       text_grows g.P.Admit old.rule r (take n c.args.bytes.now) (added_by old)
-      c.extend.new.vec.items new e c.text_run-run.ensures.text
+      c.extend.new.vec.items new e c.text_run-run.ensures.text.0
+      c.text_run-run.ensures.text.1
       (c.text_run-run.ensures.limit (search rules)) (at_text r old c.extend.new.vec h)
       c.in_ok-extend.ensures.items;
   rule = search rules;

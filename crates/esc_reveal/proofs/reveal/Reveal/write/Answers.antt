@@ -11,4 +11,4 @@ returns-clause-given g c = λ r h few.
         kept = k.0;
       },
       k.1,
-    )) (c.write.ensures.given c.args.self.now.rule.limit r h.kept few)
+    )) (c.write.ensures.given c.args.self.now.rule.marking c.args.self.now.rule.limit r h.kept few)

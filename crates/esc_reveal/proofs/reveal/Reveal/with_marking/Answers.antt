@@ -1,5 +1,5 @@
 use Rattle.std.proofs.Common.{refl}
-use Rattle.esc_reveal.proofs.reveal.Reveal.new.Goals as goal
+use Rattle.esc_reveal.proofs.reveal.Reveal.with_marking.Goals as goal
 
 pub returns-clause-fed : goal.returns-clause-fed
 returns-clause-fed g c = record {
