@@ -149,12 +149,14 @@ run_same r s t u x es h ends some sum = record {
       ∙ sym (ap length (lines_append t u h.text_ends));
   sums = omega (arith, sum.0, h.sums, length-append s u);
   lines = omega (arith, sum.1, h.lines, length-append s u);
-  run = subst (λ fs. LinesRun r begun (lines (s ++ u)) (lines (t ++ u)) (all_passed u x) fs) (append-nil es)
+  run = subst (λ fs. LinesRun r begun (lines (s ++ u)) (lines (t ++ u)) (all_passed u x) fs)
+      (append-nil es)
       (subst (λ ks. LinesRun r begun ks (lines (t ++ u)) (all_passed u x) (es ++ []))
       (sym (lines_append s u h.ends))
       (subst (λ ks. LinesRun r begun (lines s ++ lines u) ks (all_passed u x) (es ++ []))
       (sym (lines_append t u h.text_ends))
-      (run_more r begun (lines s) (lines t) x es (lines u) (lines u) (all_passed u x) [] h.same h.run
+      (run_more r begun (lines s) (lines t) x es (lines u) (lines u) (all_passed u x) [] h.same
+      h.run
       (lines_same r x u (lines u) (lines_joined u) some))));
 }
 

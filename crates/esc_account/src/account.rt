@@ -78,11 +78,10 @@ impl Account {
         requires room { HasRoom self (length bytes.now) }
         ensures entered { (gs : List Shape) → IsCut bytes.now gs
             → IfOk result (λ x. x ≡ run (J.rule judge.now) self gs) }
-        ensures counts { IfOk result (Counts self (length bytes.now)) }
+        ensures counts { IfOk result (Counts self (length bytes.now)) × OnErr result (Refused A) }
         ensures given { (gs : List Shape) (es : List Told) → IsCut bytes.now gs
             → B.was_given book.old es → OnOk result (B.was_given book.new
             (es ++ noted (entries (J.rule judge.now) self gs))) }
-        ensures refused { OnErr result (Refused A) }
     {
         laws::one_cut();
         laws::has_cut();
@@ -141,11 +140,10 @@ impl Account {
         requires room { HasRoom self (length line.now) }
         ensures entered { IfOk result
             (LineEnters (J.rule judge.now) self line.now written.now) }
-        ensures counts { IfOk result (Counts self (length line.now)) }
+        ensures counts { IfOk result (Counts self (length line.now)) × OnErr result (Refused A) }
         ensures given { (es : List Told) → B.was_given book.old es → OnOk result
             ((fs : List Told) × LineGives (J.rule judge.now) self line.now written.now fs
             × B.was_given book.new (es ++ fs)) }
-        ensures refused { OnErr result (Refused A) }
     {
         laws::has_cut();
         laws::one_cut();
@@ -170,12 +168,12 @@ impl Account {
     ) -> Result<Account, AllocError>
         requires room { HasRoom self (length segment.bytes.now) }
         ensures entered { IfOk result (Enters (J.rule judge.now) self segment.entry) }
-        ensures counts { IfOk result (Counts self (length segment.entry.bytes.now)) }
+        ensures counts { IfOk result (Counts self (length segment.entry.bytes.now))
+            × OnErr result (Refused A) }
         ensures given { (g : Shape) (gs : List Shape) (es : List Told) → AreSegments (g ∷ gs)
             → IsItem segment.entry g (joined gs) → B.was_given book.old es
             → OnOk result (B.was_given book.new (es ++ noted
             (entry_of (J.rule judge.now) self g (is_finished g (joined gs)) ∷ []))) }
-        ensures refused { OnErr result (Refused A) }
     {
         match judge.fate(segment) {
             Ok(own) => self.written(book, segment, own),
@@ -194,11 +192,11 @@ impl Account {
         requires room { HasRoom self (length segment.bytes.now) }
         ensures entered { IfOk result (λ x. x ≡ entered_as self segment.entry.kind
             segment.entry.bytes.now own) }
-        ensures counts { IfOk result (Counts self (length segment.entry.bytes.now)) }
+        ensures counts { IfOk result (Counts self (length segment.entry.bytes.now))
+            × OnErr result (Refused A) }
         ensures given { (es : List Told) → B.was_given book.old es
             → OnOk result (B.was_given book.new (es ++ noted (entry_as self segment.entry.kind
             segment.entry.bytes.now segment.entry.finished own ∷ []))) }
-        ensures refused { OnErr result (Refused A) }
     {
         match self.note(book, segment, own) {
             Ok(()) => Ok(self.after(segment.kind, segment.bytes, own)),

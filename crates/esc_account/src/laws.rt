@@ -35,8 +35,8 @@ pub fn blocks_go_on()
     esc_frame::laws::has_cut();
 }
 
-/// The account of lines goes on line by line: with the line that comes next, and what was written of
-/// it; with lines that were written as they came; and with a last line that no line feed ends.
+/// The account of lines goes on line by line: with the line that comes next, and what was written
+/// of it; with lines that were written as they came; and with a last line that no line feed ends.
 pub fn lines_go_on()
     ensures line { (r : Rule) (s t l w : List ℕ) (x y : Account) (es fs : List Entry)
         → HasRun r s t x es → IsLine l → IsLine w → LineRuns r x l w y fs

@@ -136,8 +136,8 @@ impl<J: Judge<A>, B: Book<A>, A: Allocator> LineLedger<J, B, A> {
 
     // Enters the n bytes of a line that are there, of which the m bytes were written.
     fn enter(&mut self, at: usize, n: usize, to: usize, m: usize) -> Result<(), AllocError>
-        requires line { at + n ≤ length self.old.line.items }
-        requires text { to + m ≤ length self.old.text.items }
+        requires there { (at + n ≤ length self.old.line.items)
+            × (to + m ≤ length self.old.text.items) }
         requires room { HasRoom self.old.account n }
         ensures counts { OnOk result (Counts self.old.account n self.new.account
             × (self.new.line ≡ self.old.line) × (self.new.text ≡ self.old.text)) }

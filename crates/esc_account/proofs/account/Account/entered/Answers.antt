@@ -19,8 +19,11 @@ returns-in-None-clause-counts g c =
     let e : k.0 ≡ [] = (c.in-None.ensures.steps k.0 k.1).0 in
     let none : left c.loop-segment.segments ≡ joined [] = k.1.whole ∙ ap joined e in
     let zero : length (joined []) ≡ 0 = omega arith in (
-      omega (arith, c.loop-segment.invariant.sums, ap length none, zero),
-      omega (arith, c.loop-segment.invariant.lines, ap length none, zero),
+      (
+        omega (arith, c.loop-segment.invariant.sums, ap length none, zero),
+        omega (arith, c.loop-segment.invariant.lines, ap length none, zero),
+      ),
+      tt,
     )
 
 pub returns-in-None-clause-given : goal.returns-in-None-clause-given
@@ -56,7 +59,7 @@ loop-segment-preserved g c =
           omega (
             arith,
             c.loop-segment.invariant.sums,
-            c.in-Ok.ensures.counts.0,
+            c.in-Ok.ensures.counts.0.0,
             ap length h.place,
             length-append c.in-Some.segment.bytes.now (left c.next.new.self),
           );
@@ -64,7 +67,7 @@ loop-segment-preserved g c =
           omega (
             arith,
             c.loop-segment.invariant.lines,
-            c.in-Ok.ensures.counts.1,
+            c.in-Ok.ensures.counts.0.1,
             ap length h.place,
             length-append c.in-Some.segment.bytes.now (left c.next.new.self),
           );
