@@ -3,3 +3,4 @@ pub mod Given
 pub mod Sizes
 pub mod Endings
 pub mod ShownWords
+pub mod Packs

@@ -2,10 +2,12 @@
 
 use crate::arguments::{NO_TEXT, is_text};
 use crate::ending::{DONE, Ended, status_after, unread};
+use crate::packed::{PackedFile, packed_in};
 use crate::reason::Reason;
 use output_file::{IS_OUTPUT, is_output};
 use std::fs::{File, Files, OpenFile, metadata};
 use std::io::{Input, Read, Write};
+use std::os::unix::fs::FileExt;
 
 /// What standard input is called.
 pub const INPUT: &str = "standard input";
@@ -24,15 +26,18 @@ pub trait Work {
 /// returns the status. `-` is standard input, and so is no file at all. After one that cannot be
 /// read the others follow; where nothing can be written, none does.
 ///
-/// A file is not read that is standard output, or whose name is no text. A line on `faults` says
-/// so, and why a file cannot be opened.
+/// A file is not read that is standard output, or compressed, or whose name is no text. A line on
+/// `faults` says so, and why a file cannot be opened.
 pub fn work_through<R: Files + Input, W: Work, E: Write>(
     rt: &R,
     program: &str,
     files: &[&str],
     work: &mut W,
     faults: &mut E,
-) -> u8 {
+) -> u8
+where
+    R::File: FileExt,
+{
     let files: &[&str] = if files.is_empty() { &["-"] } else { files };
     let mut status = DONE;
     for file in files {
@@ -51,7 +56,10 @@ fn work_on<R: Files + Input, W: Work, E: Write>(
     name: &str,
     work: &mut W,
     faults: &mut E,
-) -> Ended {
+) -> Ended
+where
+    R::File: FileExt,
+{
     if name == "-" {
         if is_output(rt, metadata(rt, "/dev/stdin")) {
             return unread(program, INPUT, IS_OUTPUT, faults);
@@ -63,7 +71,29 @@ fn work_on<R: Files + Input, W: Work, E: Write>(
     }
     match File::open(rt, name) {
         Ok(input) if is_output(rt, input.metadata()) => unread(program, name, IS_OUTPUT, faults),
-        Ok(input) => work.take(name, input),
+        Ok(input) => take_opened(program, name, input, work, faults),
         Err(error) => unread(program, name, Reason::of(&error), faults),
+    }
+}
+
+/// Does a program's work with a file of this name that was opened, and returns how that ended. One
+/// that is compressed is not read: a line on `faults` says so, and how to read what is in it.
+pub fn take_opened<F: Read + OpenFile + FileExt + Drop, W: Work, E: Write>(
+    program: &str,
+    name: &str,
+    input: F,
+    work: &mut W,
+    faults: &mut E,
+) -> Ended {
+    match packed_in(&input) {
+        Some(packed) => {
+            let packed = PackedFile {
+                packed,
+                name,
+                program,
+            };
+            unread(program, name, packed, faults)
+        }
+        None => work.take(name, input),
     }
 }

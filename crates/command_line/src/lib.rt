@@ -8,6 +8,7 @@ mod ending;
 mod files;
 mod nearness;
 mod noting;
+mod packed;
 mod reading;
 mod reason;
 mod showing;
@@ -22,9 +23,10 @@ pub use ending::{
     status_of_text, tell, unread, unwritable, unwritten,
 };
 pub use esc_visible::is_shown;
-pub use files::{INPUT, OUTPUT, Work, work_through};
+pub use files::{INPUT, OUTPUT, Work, take_opened, work_through};
 pub use noting::Noting;
 pub use output_file::open_closed;
+pub use packed::{Packed, PackedFile, packed_in};
 pub use reading::{Found, Given, bits_are_words, read};
 pub use reason::Reason;
 pub use showing::Shown;

@@ -88,7 +88,7 @@ fn write_value<W: fmt::Write>(
 }
 
 // Writes each of these texts.
-fn write_texts<W: fmt::Write>(texts: &[&str], f: &mut fmt::Formatter<W>) -> fmt::Result {
+pub(crate) fn write_texts<W: fmt::Write>(texts: &[&str], f: &mut fmt::Formatter<W>) -> fmt::Result {
     for text in texts {
         f.write_str(text)?;
     }

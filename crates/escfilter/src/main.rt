@@ -18,8 +18,8 @@ mod saying;
 mod stream;
 
 use command_line::{
-    DONE, Ended, FAULT, OUTPUT, Reason, Work, Wrong, is_text, open_closed, program_words, refused,
-    status_after, status_of_text, unread, unwritable, work_through, wrong_apart,
+    DONE, Ended, FAULT, OUTPUT, Reason, Wrong, is_text, open_closed, program_words, refused,
+    status_after, status_of_text, take_opened, unread, unwritable, work_through, wrong_apart,
 };
 use filtering::Filtering;
 use named_groups::Listed;
@@ -238,7 +238,8 @@ fn replace_by(
     let (ended, is_less) = match File::open(rt, name) {
         Ok(input) => {
             let mut filtering = filter_of(rt, options, name, &mut new.file);
-            (filtering.take(name, input), filtering.is_less)
+            let ended = take_opened(PROGRAM, name, input, &mut filtering, &mut rt.stderr());
+            (ended, filtering.is_less)
         }
         Err(error) => (
             unread(PROGRAM, name, Reason::of(&error), &mut rt.stderr()),

@@ -157,10 +157,10 @@ fn is_passed_on_by<A: Allocator + Copy>(alloc: A, below: &Refusing<Global>) -> b
     is_held && is_refused && hold(alloc, 8) && below.requests() == 0
 }
 
-// Whether a list and three blocks are held at once.
+// Whether a list and five blocks are held at once: one more than are kept of a size.
 fn is_list_held<A: Allocator + Copy>(alloc: A) -> bool {
     let mut bytes = Vec::new(alloc);
-    hold_at_once(alloc, 3) && repeat(&mut bytes, 5) && is_repeated(&bytes)
+    hold_at_once(alloc, 5) && repeat(&mut bytes, 5) && is_repeated(&bytes)
 }
 
 // Whether what was asked for is kept as long as the memory is there.
