@@ -20,8 +20,9 @@ pub struct Account<'a> {
     parser: VTParser,
     performer: Performer<Tally<'a>>,
     by_lines: bool,
-    // what replaces bytes, where any are replaced
-    mask: Option<Mask>,
+    alloc: Global,
+    encoding: Encoding,
+    mask: Mask,
     // where the next byte is
     place: Place,
     // what the segment is that is read, and its last byte
@@ -44,7 +45,9 @@ impl<'a> Account<'a> {
                 unfinished: Unfinished::new(Some(options.limit)),
             },
             by_lines: options.by_lines,
-            mask: mask_of(options),
+            alloc,
+            encoding: options.encoding,
+            mask: Mask::new(),
             place: BEGINNING,
             opened: Opened::Character,
             before: 0,
@@ -60,11 +63,7 @@ impl<'a> Account<'a> {
             if self.has_failed {
                 return;
             }
-            let byte = match &mut self.mask {
-                Some(mask) => mask.take(*byte),
-                None => *byte,
-            };
-            if self.take(byte).is_err() {
+            if self.read(*byte).is_err() {
                 self.has_failed = true;
             }
         }
@@ -102,6 +101,30 @@ impl<'a> Account<'a> {
     pub fn is_less(&self) -> bool {
         let tally = self.tally();
         tally.left_actions > 0 || tally.swallowed.all.count > 0 || self.has_failed
+    }
+
+    // Takes what the next byte becomes by the encoding.
+    fn read(&mut self, byte: u8) -> Result<(), ParseError> {
+        match self.encoding {
+            Encoding::Utf8 => {
+                let becomes = self.mask.take(byte);
+                self.take(becomes)
+            }
+            Encoding::CodePage(page) if byte >= 0x80 => self.take_character(page.character(byte)),
+            Encoding::EightBit | Encoding::CodePage(_) => self.take(byte),
+        }
+    }
+
+    // Takes a character.
+    fn take_character(&mut self, c: char) -> Result<(), ParseError> {
+        let mut text = String::new(self.alloc);
+        if text.push(c).is_err() {
+            return Err(ParseError::Memory);
+        }
+        for byte in text.as_bytes() {
+            self.take(*byte)?;
+        }
+        Ok(())
     }
 
     // Takes the next byte.
@@ -155,14 +178,6 @@ impl<'a> Account<'a> {
         self.parser.restart();
         self.performer.unfinished.restart();
         self.owed = 0;
-    }
-}
-
-// What replaces bytes of a stream before a filter is fed it.
-fn mask_of(options: Options<'_>) -> Option<Mask> {
-    match options.encoding {
-        Encoding::Utf8 if !options.shows => Some(Mask::new()),
-        Encoding::Utf8 | Encoding::EightBit => None,
     }
 }
 

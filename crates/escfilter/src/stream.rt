@@ -51,7 +51,6 @@ pub fn filter_by<A: Allocator + Copy, R: Read, W: Write>(
 }
 
 // Writes on `writer` by this filter, which was fed nothing, what is written of what `reader` reads.
-// Where what does not pass is shown, so is a byte that is no part of a character.
 fn filter_shown<A: Allocator + Copy, R: Read, W: Write, F: Feeding<A> + Drop>(
     alloc: A,
     options: &Options<'_>,
@@ -70,11 +69,12 @@ fn filter_shown<A: Allocator + Copy, R: Read, W: Write, F: Feeding<A> + Drop>(
     let shows = options.shows;
     if shows {
         let reveal = Reveal::new(alloc, options.limit, options.choice, options.by_lines);
-        let filter = Revealing::new(alloc, reveal, filter);
-        filter_left(alloc, options.rows, filter, reader, writer)
+        let shown = Revealing::new(alloc, reveal, filter);
+        let decoding = Decoding::new(alloc, options.encoding, shown);
+        filter_left(alloc, options.rows, decoding, reader, writer)
     } else {
-        let filter = Decoding::new(alloc, options.encoding, filter);
-        filter_left(alloc, options.rows, filter, reader, writer)
+        let decoding = Decoding::new(alloc, options.encoding, filter);
+        filter_left(alloc, options.rows, decoding, reader, writer)
     }
 }
 
