@@ -1,5 +1,5 @@
 -- What of a stream goes to the filter.
-use Rattle.std.proofs.Common.{ℕ, ◌≡◌, Bool, true, false, List, [], ◌++◌, Some, refl, sym, ap, ◌∙◌}
+use Rattle.std.proofs.Common.{ℕ, ◌≡◌, Bool, true, false, List, [], Some, refl, ap, ◌∙◌}
 use Rattle.esc_actions.specs.Texts.{list_text, texts_after}
 use Rattle.esc_actions.specs.Values.{Value}
 use Rattle.esc_filter.proofs.ByLines.{by_more}
@@ -20,7 +20,7 @@ use Rattle.esc_reveal.specs.Fed.{text_by, whole_by}
 use Rattle.esc_decode.specs.Decodings.{OnlyAdds, decoded}
 use Rattle.esc_decode.specs.declared.encoding.Encoding.{Encoding}
 use Rattle.esc_decode.specs.declared.encoding.Encoding.TheVariants.{CodePage, EightBit, Utf8}
-use Rattle.escfilter.specs.Written.{admits_choice, going_in, seen_by, whole_in}
+use Rattle.escfilter.specs.Written.{admits_choice, going_in, whole_in}
 use Rattle.escfilter.specs.declared.options.Options.{Options}
 
 -- nothing becomes nothing

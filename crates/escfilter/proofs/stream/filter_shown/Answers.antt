@@ -1,4 +1,4 @@
-use Rattle.std.proofs.Common.{ℕ, ◌≡◌, ◌++◌, List, [], true, false, refl, sym, ap, ◌∙◌}
+use Rattle.std.proofs.Common.{◌++◌, true, false, ap, ◌∙◌}
 use Rattle.esc_reveal.proofs.Begins.{through_nothing}
 use Rattle.esc_decode.specs.Decodings.{decoded, through}
 use Rattle.esc_reveal.specs.Through.{through as revealed_through, through_whole}
