@@ -5,9 +5,11 @@ use Rattle.esc_frame.specs.declared.utf8.sequence.Pending.{Pending}
 use Rattle.esc_normal.specs.declared.feeding.Feeding.{Ghosts as Feeder}
 use Rattle.esc_decode.proofs.Masks.{begun_append, masked_append}
 use Rattle.esc_decode.specs.Decodings.{Decodes, OnlyAdds, begun_by, decoded, decoded_after, through}
-use Rattle.esc_decode.specs.Masks.{begun_after, masked_after}
 use Rattle.esc_decode.specs.declared.encoding.Encoding.{Encoding}
 use Rattle.esc_decode.specs.declared.encoding.Encoding.TheVariants.{EightBit, Utf8}
+use Rattle.esc_decode.specs.declared.encoding.Encoding.TheVariants as encoding
+use Rattle.esc_decode.specs.Pages.{table_of}
+use Rattle.esc_decode.proofs.Reading.{read_append}
 
 -- ---- bytes, and then more
 
@@ -15,11 +17,13 @@ pub decoded_append : (e : Encoding) (f x y : List ℕ)
     → decoded_after e f (x ++ y) ≡ decoded_after e f x ++ decoded_after e (begun_by e f x) y
 decoded_append Utf8 f x y = masked_append f x y
 decoded_append EightBit f x y = refl
+decoded_append (encoding.CodePage p) f x y = read_append (table_of p) x y
 
 pub begun_more : (e : Encoding) (f x y : List ℕ)
     → begun_by e f (x ++ y) ≡ begun_by e (begun_by e f x) y
 begun_more Utf8 f x y = begun_append f x y
 begun_more EightBit f x y = refl
+begun_more (encoding.CodePage p) f x y = refl
 
 -- ---- one call
 
@@ -76,14 +80,6 @@ module _ {F A : Type 0} (G : Feeder F A) (e : Encoding) (begun : Pending) (filte
       → h.inner_end (decoded e s) ≡ h.inner (decoded e s) ++ t → c s ≡ m s ++ t
   ends t added = end_is ∙ added ∙ ap (λ y. y ++ t) (sym (text_is s))
 
--- ---- in an encoding
-
-pub utf8_is : (e : Encoding) (f b : List ℕ) → e ≡ Utf8 → masked_after f b ≡ decoded_after e f b
-utf8_is e f b h = ap (λ k. decoded_after k f b) (sym h)
-
-pub utf8_begun : (e : Encoding) (f b : List ℕ) → e ≡ Utf8 → begun_after f b ≡ begun_by e f b
-utf8_begun e f b h = ap (λ k. begun_by k f b) (sym h)
-
 -- ---- a filter that was fed nothing
 
 pub begins : {F A : Type 0} (G : Feeder F A) (e : Encoding) (begun : Pending) (filter : F)
@@ -102,7 +98,9 @@ begins G e begun filter m c none given adds = record {
     by : (k : Encoding) → G.gives filter m c (decoded k [])
     by Utf8 = given
     by EightBit = given
+    by (encoding.CodePage p) = given
 
     nothing : (k : Encoding) → [] ≡ begun_by k [] []
     nothing Utf8 = refl
     nothing EightBit = refl
+    nothing (encoding.CodePage p) = refl

@@ -2,4 +2,5 @@ pub mod Outcomes
 pub mod Masks
 pub mod Characters
 pub mod Raw
+pub mod Reading
 pub mod Feeding

@@ -6,16 +6,20 @@ use Rattle.esc_normal.specs.declared.feeding.Feeding.{Ghosts as Feeder}
 use Rattle.esc_decode.specs.Masks.{begun_after, masked_after}
 use Rattle.esc_decode.specs.declared.encoding.Encoding.{Encoding}
 use Rattle.esc_decode.specs.declared.encoding.Encoding.TheVariants.{EightBit, Utf8}
+use Rattle.esc_decode.specs.declared.encoding.Encoding.TheVariants as encoding
+use Rattle.esc_decode.specs.Pages.{read_by}
 
 -- what bytes become that come after a stream, of which this has begun a character; and what has
 -- then
 abbrev pub decoded_after : Encoding → List ℕ → List ℕ → List ℕ
 decoded_after Utf8 f s = masked_after f s
 decoded_after EightBit f s = s
+decoded_after (encoding.CodePage p) f s = read_by p s
 
 abbrev pub begun_by : Encoding → List ℕ → List ℕ → List ℕ
 begun_by Utf8 f s = begun_after f s
 begun_by EightBit f s = f
+begun_by (encoding.CodePage p) f s = f
 
 -- what a stream becomes
 abbrev pub decoded : Encoding → List ℕ → List ℕ

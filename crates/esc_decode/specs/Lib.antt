@@ -1,2 +1,3 @@
 pub mod Masks
+pub mod Pages
 pub mod Decodings

@@ -2,8 +2,8 @@
 ghost use Rattle.std.specs.Prelude.{◌≡◌, ℕ, List, []};
 ghost use Rattle.esc_decode.specs.Decodings.{Decodes, OnlyAdds, through};
 
+use crate::decode::decode;
 use crate::encoding::Encoding;
-use crate::runs::{look, push_masked};
 use esc_frame::utf8::sequence::Pending;
 use esc_normal::Feeding;
 use std::alloc::{AllocError, Allocator, Global};
@@ -46,21 +46,17 @@ impl<F: Feeding<A>, A: Allocator + Copy> Feeding<A> for Decoding<F, A> {
 
     ghost added = { λ d. F.added d.filter };
 
-    ghost has_ended = { λ d _ _. (c : List ℕ → List ℕ) × (s : List ℕ) × F.has_ended d.filter c s };
+    ghost has_ended = { λ d _ _. (c : List ℕ → List ℕ) × (s : List ℕ)
+        × F.has_ended d.filter c s };
 
     fn feed_piece(&mut self, bytes: &[u8]) -> Result<(), AllocError> {
-        let Encoding::Utf8 = self.encoding else {
-            return self.filter.feed_piece(bytes);
-        };
-        let (begun, stays) = look(self.begun, bytes);
-        if stays {
-            self.begun = begun;
-            return self.filter.feed_piece(bytes);
-        }
-        self.piece.clear();
-        push_masked(&mut self.piece, self.begun, bytes)?;
+        let (begun, stays) = decode(&mut self.piece, self.encoding, self.begun, bytes)?;
         self.begun = begun;
-        self.filter.feed_piece(&self.piece)
+        if stays {
+            self.filter.feed_piece(bytes)
+        } else {
+            self.filter.feed_piece(&self.piece)
+        }
     }
 
     fn finish_all(&mut self) -> Result<(), AllocError> {

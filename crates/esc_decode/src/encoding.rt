@@ -1,5 +1,7 @@
 //! Encodings.
 
+use crate::code_page::CodePage;
+
 /// How the bytes of a stream are read.
 #[derive(Clone, Copy)]
 pub enum Encoding {
@@ -9,4 +11,7 @@ pub enum Encoding {
     /// As they are, where such a byte is a control of C1: an 8-bit code, or UTF-8 with controls as
     /// bytes.
     EightBit,
+    /// As an 8-bit code whose characters have their numbers in Unicode from a table. They are given
+    /// on in UTF-8, so places in what is given on are not those in the stream.
+    CodePage(CodePage),
 }

@@ -1,8 +1,10 @@
 //! Laws of streams of UTF-8 in which no raw control is left.
 ghost use Rattle.std.specs.Prelude.{◌≡◌, ◌++◌, ◌∷◌, ◌<◌, ℕ, List, [], false, length, true};
 ghost use Rattle.std.specs.List.{list_any};
-ghost use Rattle.std.specs.Str.{IsUtf8};
+ghost use Rattle.std.specs.Str.{IsAscii, IsUtf8};
 ghost use Rattle.esc_decode.specs.Masks.{IsMaskOf, begins_raw, begun_after, is_bytewise, is_raw, masked, masked_after};
+ghost use Rattle.esc_decode.specs.Pages.{read_by};
+ghost use Rattle.esc_decode.specs.declared.code_page.CodePage.{CodePage};
 ghost use Rattle.esc_frame.specs.Segments.{IsCut, Segment};
 ghost use Rattle.esc_frame.specs.Sequences.{continues};
 
@@ -36,6 +38,18 @@ pub fn ascii_stays()
 #[tactic(auto, using(crate::proofs::Masks::masked_append))]
 pub fn masks_piece_by_piece()
     ensures { (s t : List ℕ) → masked (s ++ t) ≡ masked s ++ masked_after (begun_after [] s) t }
+{}
+
+/// What a stream in an 8-bit encoding becomes is text in UTF-8.
+#[tactic(auto, using(crate::proofs::Reading::read_is_text))]
+pub fn code_page_is_text()
+    ensures { (p : CodePage) (s : List ℕ) → IsUtf8 (read_by p s) }
+{}
+
+/// And bytes of ASCII stay as they are.
+#[tactic(auto, using(crate::proofs::Reading::ascii_by))]
+pub fn code_page_keeps_ascii()
+    ensures { (p : CodePage) (s : List ℕ) → IsAscii s → read_by p s ≡ s }
 {}
 
 /// A raw control that is left goes on a well-formed character.

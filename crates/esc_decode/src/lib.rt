@@ -13,16 +13,22 @@
 //! ```
 #![tactic(auto)]
 
+mod code_page;
+mod decode;
 mod decoding;
+mod eight_bit;
 mod encoding;
 mod laws;
 mod mask;
 mod runs;
+mod tables;
 
+pub use code_page::CodePage;
 pub use decoding::Decoding;
 pub use encoding::Encoding;
 pub use laws::{
-    ascii_stays, characters_stay, each_byte_stays_or_is_masked, length_stays, masks_piece_by_piece,
-    no_raw_control_begins, raw_bytes_go_on,
+    ascii_stays, characters_stay, code_page_is_text, code_page_keeps_ascii,
+    each_byte_stays_or_is_masked, length_stays, masks_piece_by_piece, no_raw_control_begins,
+    raw_bytes_go_on,
 };
 pub use mask::Mask;

@@ -41,7 +41,8 @@ impl<F: Feeding<A>, P: Admit<A>, A: Allocator + Copy> Feeding<A> for Revealing<F
 
     ghost added = { λ f. string_bytes f.text };
 
-    ghost has_ended = { λ f _ _. (c : List ℕ → List ℕ) × (s : List ℕ) × F.has_ended f.filter c s };
+    ghost has_ended = { λ f _ _. (c : List ℕ → List ℕ) × (s : List ℕ)
+        × F.has_ended f.filter c s };
 
     fn feed_piece(&mut self, bytes: &[u8]) -> Result<(), AllocError> {
         self.text.clear();

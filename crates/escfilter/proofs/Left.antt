@@ -1,5 +1,5 @@
 -- What is left of the lines of a filter's text, in the words of the program's options.
-use Rattle.std.proofs.Common.{ℕ, ◌≡◌, List, [], ◌++◌, Option, Result, Some, refl, ap, ◌∙◌, sym, subst}
+use Rattle.std.proofs.Common.{ℕ, ◌≡◌, List, Option, Result, Some, sym, subst}
 use Rattle.esc_lines.specs.Fed.{final_after, left_after}
 use Rattle.std.specs.declared.io.traits.Read.{Ghosts as Reader}
 use Rattle.std.specs.declared.io.traits.Write.{Ghosts as Writer}

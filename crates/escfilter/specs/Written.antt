@@ -31,16 +31,20 @@ abbrev pub admits_choice : {A : Type 0} → Choice → Value A → Bool
 admits_choice c v = admits_by c.groups c.policy v
 
 -- what the stream becomes by its encoding; or, where what does not pass is shown, what is revealed
--- of it
+-- of that
 abbrev pub going_in : Type 0 → Bool → Options → List ℕ → List ℕ
 going_in A shows o s =
-    if shows then revealed_as {A = A} o.marking o.by_lines o.limit (admits_choice o.choice) s
+    if shows
+    then revealed_as {A = A} o.marking o.by_lines o.limit (admits_choice o.choice)
+    (decoded o.encoding s)
     else decoded o.encoding s
 
 -- the same of one that has ended
 abbrev pub whole_in : Type 0 → Bool → Options → List ℕ → List ℕ
 whole_in A shows o s =
-    if shows then revealed_whole_as {A = A} o.marking o.by_lines o.limit (admits_choice o.choice) s
+    if shows
+    then revealed_whole_as {A = A} o.marking o.by_lines o.limit (admits_choice o.choice)
+    (decoded o.encoding s)
     else decoded o.encoding s
 
 abbrev pub seen_by : Type 0 → Options → Bool → List ℕ → List ℕ
@@ -90,7 +94,7 @@ is_left_by A (Some n) false u t = t ≡ final_of (size_of n) (values_of A u)
 -- ---- what is written
 
 -- the text t is written of the stream s, which has ended or goes on: what is left of the lines of
--- what passes of what it becomes, or of what is revealed of it
+-- what passes of what it becomes, or of what is revealed of that
 abbrev pub IsWritten : (A : Type 0) → Options → Bool → List ℕ → List ℕ → Type 0
 IsWritten A o b s t = (u : List ℕ)
     × is_passed_by {A = A} o.unicode o.by_lines b o.limit (admits_choice o.choice)

@@ -37,9 +37,11 @@ const USAGE: &str = "\
 usage: escfilter [--allow text|color|screen|all|layout|sgr|hidden|links|controls|cursor|erase|\
 scroll|modes|charsets|palette|titles|clipboard|images|other] [--deny layout|sgr|hidden|links|\
 controls|cursor|erase|scroll|modes|charsets|palette|titles|clipboard|images|other] \
-[--links scheme,..] [--lines|--whole] [--limit size] [--c1 replace|obey] \
-[--unicode keep|show|drop] [--show[=escaped|color]] [--collapse[=rows]] [--cast] \
-[--report[=text|json]] [--fail] [-o|--output file] [-i|--in-place[=suffix]] [-h|--help] \
+[--links scheme,..] [--lines|--whole] [--limit size] \
+[--encoding utf-8|latin1|windows-1250|windows-1251|windows-1252|windows-1253|\
+windows-1254|windows-1255|windows-1256|windows-1257|windows-1258] \
+[--c1 replace|obey] [--unicode keep|show|drop] [--show[=escaped|color]] [--collapse[=rows]] \
+[--cast] [--report[=text|json]] [--fail] [-o|--output file] [-i|--in-place[=suffix]] [-h|--help] \
 [-V|--version] [--] [FILE..]";
 
 const HELP: &str = "\
@@ -58,6 +60,7 @@ leaves on, as colours or a link, is taken back at its end, and at each line's wi
   --whole         takes each FILE as one stream (the default with screen and all)
   --limit size    the most bytes of an unfinished sequence that are kept (1MiB): a number,
                   as 65536, or 64K, 1M or 1G, also as 64KiB, in powers of 1024
+  --encoding name reads utf-8 (the default), latin1, or windows-1250 to windows-1258
   --c1 way        of bytes 80 to 9F that are no part of a UTF-8 character: replace writes
                   U+FFFD in their place (the default), obey takes them for controls
   --unicode way   of characters that hide or reorder text: show writes <U+202E> in their place

@@ -2,7 +2,7 @@
 
 use crate::named_groups::{ALLOWED, Choice, DENIED};
 use command_line::{Apart, Found, Given, Known, Takes, Wrong, read};
-use esc_decode::Encoding;
+use esc_decode::{CodePage, Encoding};
 use esc_filter::{Policy, Unicode, is_scheme};
 use esc_reveal::Marking;
 use std::alloc::Global;
@@ -87,7 +87,6 @@ impl<'a> Options<'a> {
         match given.name {
             "--allow" => self.choice = self.choice.and(given.some),
             "--deny" => self.choice = self.choice.without(given.some),
-            "--c1" => self.encoding = encoding_of(given.word),
             "--limit" => self.limit = given.size,
             "--show" => {
                 self.shows = true;
@@ -107,6 +106,20 @@ const DEFAULT_LIMIT: usize = 1_048_576;
 const DEFAULT_ROWS: usize = 32;
 
 const MOST_ROWS: usize = 4096;
+
+const ENCODINGS: &[&str] = &[
+    "utf-8",
+    "latin1",
+    "windows-1250",
+    "windows-1251",
+    "windows-1252",
+    "windows-1253",
+    "windows-1254",
+    "windows-1255",
+    "windows-1256",
+    "windows-1257",
+    "windows-1258",
+];
 
 const KNOWN: &[Known] = &[
     Known {
@@ -128,6 +141,11 @@ const KNOWN: &[Known] = &[
         name: "--c1",
         letter: "",
         takes: Takes::OneOf("way", &["replace", "obey"]),
+    },
+    Known {
+        name: "--encoding",
+        letter: "",
+        takes: Takes::OneOf("name", ENCODINGS),
     },
     Known {
         name: "--limit",
@@ -222,6 +240,10 @@ struct Asked<'a> {
     by_lines: Option<bool>,
     schemes: Option<&'a str>,
     unicode: Option<Unicode>,
+    // an 8-bit encoding
+    page: Option<CodePage>,
+    // whether bytes are controls of C1
+    obeys: bool,
 }
 
 impl<'a> Asked<'a> {
@@ -249,6 +271,8 @@ impl<'a> Asked<'a> {
             by_lines: None,
             schemes: None,
             unicode: None,
+            page: None,
+            obeys: false,
         }
     }
 
@@ -258,6 +282,8 @@ impl<'a> Asked<'a> {
             "--links" => self.schemes = Some(given.word),
             "--lines" => self.by_lines = Some(true),
             "--whole" => self.by_lines = Some(false),
+            "--c1" => self.obeys = given.word == "obey",
+            "--encoding" => self.page = page_of(given.word),
             "--unicode" => self.unicode = Some(unicode_of(given.word)),
             "--output" => self.target = Target::File(given.word),
             "--in-place" => self.target = Target::InPlace(given.word),
@@ -273,8 +299,41 @@ impl<'a> Asked<'a> {
         let policy = options.choice.policy;
         options.by_lines = self.by_lines.unwrap_or(is_by_lines(policy));
         options.unicode = self.unicode.unwrap_or(unicode_under(policy));
+        options.encoding = self.encoding();
         options.choice = settled(options.choice, self.schemes, options.rows);
         options
+    }
+
+    // How the bytes of a stream are read. The texts of a recording are characters, and where bytes
+    // are shown none is replaced.
+    fn encoding(&self) -> Encoding {
+        let obeys = self.obeys || self.options.shows;
+        if self.options.is_cast {
+            return Encoding::EightBit;
+        }
+        match self.page {
+            None if obeys => Encoding::EightBit,
+            None => Encoding::Utf8,
+            Some(CodePage::Latin1) if obeys => Encoding::CodePage(CodePage::Latin1WithControls),
+            Some(page) => Encoding::CodePage(page),
+        }
+    }
+}
+
+// The 8-bit encoding of this name, where it is one.
+fn page_of(name: &str) -> Option<CodePage> {
+    match name {
+        "latin1" => Some(CodePage::Latin1),
+        "windows-1250" => Some(CodePage::Windows1250),
+        "windows-1251" => Some(CodePage::Windows1251),
+        "windows-1252" => Some(CodePage::Windows1252),
+        "windows-1253" => Some(CodePage::Windows1253),
+        "windows-1254" => Some(CodePage::Windows1254),
+        "windows-1255" => Some(CodePage::Windows1255),
+        "windows-1256" => Some(CodePage::Windows1256),
+        "windows-1257" => Some(CodePage::Windows1257),
+        "windows-1258" => Some(CodePage::Windows1258),
+        _ => None,
     }
 }
 
@@ -314,15 +373,6 @@ fn unicode_of(name: &str) -> Unicode {
         "show" => Unicode::Show,
         "drop" => Unicode::Drop,
         _ => Unicode::Keep,
-    }
-}
-
-// How bytes are read where controls of C1 that are single bytes are taken in this way, which is one
-// of those in the table.
-fn encoding_of(name: &str) -> Encoding {
-    match name {
-        "obey" => Encoding::EightBit,
-        _ => Encoding::Utf8,
     }
 }
 

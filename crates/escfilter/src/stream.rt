@@ -59,7 +59,6 @@ pub fn filter_by<A: Allocator + Copy, R: Read, W: Write, K: Audience<A> + Drop>(
 }
 
 // Writes on `writer` by this filter, which was fed nothing, what is written of what `reader` reads.
-// Where what does not pass is shown, so is a byte that is no part of a character.
 fn filter_shown<
     A: Allocator + Copy,
     R: Read,
@@ -92,16 +91,20 @@ fn filter_shown<
             options.by_lines,
             options.marking,
         );
-        let inner = Revealing::new(alloc, reveal, filter);
-        let filter = Audited { inner, audience };
-        filter_left(alloc, options.rows, filter, reader, writer)
+        let shown = Revealing::new(alloc, reveal, filter);
+        let heard = Audited {
+            inner: shown,
+            audience,
+        };
+        let decoding = Decoding::new(alloc, options.encoding, heard);
+        filter_left(alloc, options.rows, decoding, reader, writer)
     } else {
-        let filter = Audited {
+        let heard = Audited {
             inner: filter,
             audience,
         };
-        let filter = Decoding::new(alloc, options.encoding, filter);
-        filter_left(alloc, options.rows, filter, reader, writer)
+        let decoding = Decoding::new(alloc, options.encoding, heard);
+        filter_left(alloc, options.rows, decoding, reader, writer)
     }
 }
 

@@ -1,0 +1,90 @@
+//! Bytes of an 8-bit encoding as characters.
+ghost use Rattle.std.specs.Prelude.{◌≡◌, ◌++◌, ◌<◌, ◌≤◌, IfOk, OnErr, OnOk, encode_utf8, length, take};
+ghost use Rattle.esc_decode.specs.Pages.{character_in, read_in, scalar_or};
+ghost use Rattle.memory.specs.Refusals.{Refused};
+
+use esc_frame::ascii_run;
+use std::alloc::{AllocError, Allocator};
+
+/// Appends the characters of the bytes, by the table of those from 80 on.
+pub(crate) fn push_characters<A: Allocator>(
+    text: &mut Vec<u8, A>,
+    table: &[u16; 128],
+    bytes: &[u8],
+) -> Result<(), AllocError>
+    ensures ok { OnOk result (text.new.items ≡ text.old.items ++ read_in table.now bytes.now) }
+    ensures refused { OnErr result (Refused A) }
+{
+    let mut at = 0;
+    while at < bytes.len() {
+        let n = push_some(text, table, &bytes[at..])?;
+        at += n;
+    }
+    Ok(())
+}
+
+// The same of some of these bytes, one at least, and how many.
+fn push_some<A: Allocator>(
+    text: &mut Vec<u8, A>,
+    table: &[u16; 128],
+    bytes: &[u8],
+) -> Result<usize, AllocError>
+    requires { 0 < length bytes.now }
+    ensures count { IfOk result (λ n. (0 < n) × (n ≤ length bytes.now)) }
+    ensures ok { IfOk result (λ n.
+        text.new.items ≡ text.old.items ++ read_in table.now (take n bytes.now)) }
+    ensures refused { OnErr result (Refused A) }
+{
+    let run = ascii_run(bytes);
+    if run > 0 {
+        memory::extend(text, &bytes[..run])?;
+        return Ok(run);
+    }
+    push_scalar(text, character_of(table, bytes[0]))?;
+    Ok(1)
+}
+
+/// The number of the character of a byte.
+#[inline(always)]
+pub(crate) fn character_of(table: &[u16; 128], byte: u8) -> u16
+    ensures { result ≡ character_in table.now byte }
+{
+    if byte < 0x80 {
+        byte as u16
+    } else {
+        scalar_or(table[byte as usize - 0x80])
+    }
+}
+
+// The number, where it is that of a character.
+#[inline(always)]
+fn scalar_or(n: u16) -> u16
+    ensures { result ≡ scalar_or n }
+{
+    if 0xd800 <= n && n <= 0xdfff {
+        0xfffd
+    } else {
+        n
+    }
+}
+
+// Appends the UTF-8 of the character of this number.
+#[inline(always)]
+fn push_scalar<A: Allocator>(text: &mut Vec<u8, A>, n: u16) -> Result<(), AllocError>
+    ensures ok { OnOk result (text.new.items ≡ text.old.items ++ encode_utf8 n) }
+    ensures refused { OnErr result (Refused A) }
+{
+    if n < 0x80 {
+        return memory::extend(text, &[n as u8]);
+    }
+    let last = (128 + n % 64) as u8;
+    if n < 0x800 {
+        memory::extend(text, &[(192 + n / 64) as u8, last])?;
+    } else {
+        memory::extend(
+            text,
+            &[(224 + n / 4096) as u8, (128 + n / 64 % 64) as u8, last],
+        )?;
+    }
+    Ok(())
+}
