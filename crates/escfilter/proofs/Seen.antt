@@ -68,7 +68,8 @@ pub through_adds : {P A : Type 0} (V : Admitter P A) (rule : Rule P) (m e : List
     → OnlyAdds m e → OnlyAdds (through V rule m) (through_whole V rule e)
 through_adds V rule m e only = record {
   more = λ s b.
-      let (x, q) = revealed_longer rule.marking rule.limit rule.by_lines (V.admits rule.policy) s b in
+      let (x, q) =
+      revealed_longer rule.marking rule.limit rule.by_lines (V.admits rule.policy) s b in
       let (t, f) = only.more (text_by V rule s) x in (t, ap m q ∙ f);
   end = through_longer V rule m e only.more only.end;
 }
