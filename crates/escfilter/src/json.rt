@@ -1,7 +1,7 @@
 //! What did not pass of a stream, as JSON (RFC 8259).
 
 use crate::name::Name;
-use crate::report::{each_sum, words_of};
+use crate::report::{bytes_of, each_sum, words_of};
 use crate::rows::{Open, Place, Row, Rows};
 use crate::saying::{put, put_number};
 use esc_account::{Account, Fate, Sums};
@@ -18,7 +18,7 @@ pub fn tell_json<E: Write>(
 ) {
     put("{\"file\":", faults);
     put_text(name, faults);
-    put_number(",\"bytes\":", account.sums.total() as u64, faults);
+    put_number(",\"bytes\":", bytes_of(account.sums), faults);
     put_sums(account.sums, faults);
     put_rows(&rows.rows, faults);
     put_open(rows.open(account), faults);

@@ -1,4 +1,6 @@
 //! What becomes of a segment by the program's options.
+ghost use Rattle.std.specs.Prelude.{◌≡◌};
+ghost use Rattle.std.specs.Global.{Global};
 ghost use Rattle.esc_account.specs.Rules.{rule_of};
 ghost use Rattle.escfilter.specs.Fates.{shown_by};
 ghost use Rattle.escfilter.specs.Written.{admits_choice};

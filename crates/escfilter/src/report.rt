@@ -59,6 +59,14 @@ pub fn each_sum(sums: Sums) -> [(Fate, u64); 7] {
     ]
 }
 
+/// How many bytes there are.
+pub fn bytes_of(sums: Sums) -> u64 {
+    match u64::try_from(sums.total()) {
+        Ok(count) => count,
+        Err(_) => u64::MAX,
+    }
+}
+
 // Begins a line that names the stream.
 fn begin<E: Write>(name: &str, faults: &mut E) {
     let _ = write!(faults, "{PROGRAM}: {}: ", Shown(name));
@@ -67,7 +75,7 @@ fn begin<E: Write>(name: &str, faults: &mut E) {
 // How many bytes had each fate that any had.
 fn tell_sums<E: Write>(sums: Sums, name: &str, faults: &mut E) {
     begin(name, faults);
-    put_number("of ", sums.total() as u64, faults);
+    put_number("of ", bytes_of(sums), faults);
     put(" bytes", faults);
     let mut before = " ";
     for (fate, count) in &each_sum(sums) {

@@ -1,8 +1,12 @@
 //! What did not pass of a stream, by name.
+ghost use Rattle.std.specs.Prelude.{OnErr};
+ghost use Rattle.std.specs.Global.{Global};
+ghost use Rattle.memory.specs.Refusals.{Refused};
 
 use crate::name::{Name, kind_name, name_of};
 use crate::judging::Judging;
 use crate::options::Options;
+use crate::report::bytes_of;
 use esc_account::{Account, Book, Entry, Fate, read_segment};
 use esc_segments::Segment;
 use std::alloc::{AllocError, Global};
@@ -34,6 +38,8 @@ pub struct Open {
     pub name: Name,
     pub bytes: u64,
     pub first: Place,
+    // how many bytes come before its end
+    end: u64,
 }
 
 /// What did not pass of a stream: a row for each fate and name, in the order in which the first of
@@ -65,20 +71,15 @@ impl<'a> Rows<'a> {
     /// What the end of the stream, of which this is the account, leaves unfinished.
     pub fn open(&self, account: Account) -> Option<Open> {
         match self.open {
-            Some(open) => {
-                let end = open.first.byte as u128 + open.bytes as u128;
-                if end == account.sums.total() {
-                    Some(open)
-                } else {
-                    None
-                }
-            }
-            None => None,
+            Some(open) if open.end == bytes_of(account.sums) => Some(open),
+            _ => None,
         }
     }
 
     // Notes an entry under this name.
-    fn note(&mut self, entry: Entry<'_>, name: Name) -> Result<(), AllocError> {
+    fn note(&mut self, entry: Entry<'_>, name: Name) -> Result<(), AllocError>
+        ensures { OnErr result (Refused Global) }
+    {
         let first = Place {
             byte: entry.place,
             line: entry.line,
@@ -98,34 +99,41 @@ impl<'a> Rows<'a> {
         if segment.finished || ends {
             return None;
         }
+        let bytes = segment.bytes.len() as u64;
         Some(Open {
             name,
-            bytes: segment.bytes.len() as u64,
+            bytes,
             first,
+            end: first.byte.saturating_add(bytes),
         })
     }
 
     // The row of this fate and name, which is new where there is none.
-    fn row_of(&mut self, fate: Fate, name: Name, first: Place) -> Result<usize, AllocError> {
+    fn row_of(&mut self, fate: Fate, name: Name, first: Place) -> Result<usize, AllocError>
+        ensures { OnErr result (Refused Global) }
+    {
         for (at, row) in self.rows.iter().enumerate() {
             if row.fate == fate && row.name == name {
                 return Ok(at);
             }
         }
         let at = self.rows.len();
-        self.rows.push(Row {
+        let row = Row {
             fate,
             name,
             count: 0,
             bytes: 0,
             first,
-        })?;
+        };
+        memory::push(&mut self.rows, row)?;
         Ok(at)
     }
 
     // The name of what did not pass of a segment: of the first action of which nothing is written,
     // and else of what the segment is.
-    fn name(&self, segment: Segment<'_>, fate: Fate) -> Result<Name, AllocError> {
+    fn name(&self, segment: Segment<'_>, fate: Fate) -> Result<Name, AllocError>
+        ensures { OnErr result (Refused Global) }
+    {
         if fate == Fate::LeftOut || fate == Fate::Shown {
             let actions = read_segment(self.alloc, self.options.limit, segment)?;
             for action in &actions {
