@@ -72,9 +72,9 @@ impl<J: Judge<A>, B: Book<A>, A: Allocator> Ledger<J, B, A> {
         ensures counted { (n : ℕ) → HasCounted n self.old → OnOk result (HasCounted n self.new) }
         ensures refused { OnErr result (Refused A) }
     {
-        let (account, count) =
-            self.account
-                .finished_entered(&self.judge, &mut self.book, &self.rest)?;
+        let (account, count) = self
+            .account
+            .finished_entered(&self.judge, &mut self.book, &self.rest)?;
         self.account = account;
         self.rest.drain(..count);
         Ok(())

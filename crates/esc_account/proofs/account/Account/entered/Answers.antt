@@ -80,11 +80,14 @@ loop-segment-preserved g c =
           c.in-Ok.longer s (left c.next.new.self) c.in-Some.segment c.in-Some.ensures.steps
           c.in-Ok.ensures.entered {P = g.B.Book.was_given c.segment_entered.new.book}
           (es ++ noted (entries r c.args.self gs)) f.0
-          (λ h hs each is. c.in-Ok.ensures.given h hs f.0 each is f.1) f.2 in
-          ((m p.0 p.1).0, (m p.0 p.1).1, λ ks rest.
-          subst (λ z. (m p.0 p.1).0 ++ noted (entries r c.in-Ok.longer z)
-          ≡ es ++ noted (entries r c.args.self gs))
-          (c.one_cut.ensures (left c.next.new.self) p.0 ks p.1 rest) (m p.0 p.1).2);
+          (λ h hs each is. c.in-Ok.ensures.given h hs f.0 each is f.1) f.2 in (
+            (m p.0 p.1).0,
+            (m p.0 p.1).1,
+            λ ks rest.
+                subst (λ z. (m p.0 p.1).0 ++ noted (entries r c.in-Ok.longer z)
+                ≡ es ++ noted (entries r c.args.self gs))
+                (c.one_cut.ensures (left c.next.new.self) p.0 ks p.1 rest) (m p.0 p.1).2,
+          );
       entered = λ gs ks cut rest. one_more c.has_cut.ensures c.one_cut.ensures
           (g.J.Judge.rule c.args.judge.now) c.loop-segment.account c.in-Ok.longer
           (run (g.J.Judge.rule c.args.judge.now) c.args.self gs) (left c.loop-segment.segments)
