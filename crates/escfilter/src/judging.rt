@@ -64,11 +64,7 @@ fn shown_by(shows: bool, fate: Fate) -> Fate
 {
     match fate {
         Fate::LeftOut | Fate::Swallowed | Fate::Replaced => {
-            if shows {
-                Fate::Shown
-            } else {
-                fate
-            }
+            if shows { Fate::Shown } else { fate }
         }
         Fate::Passed | Fate::Respelled | Fate::Shown | Fate::Overwritten => fate,
     }

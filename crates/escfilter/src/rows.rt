@@ -3,8 +3,8 @@ ghost use Rattle.std.specs.Prelude.{OnErr};
 ghost use Rattle.std.specs.Global.{Global};
 ghost use Rattle.memory.specs.Refusals.{Refused};
 
-use crate::name::{Name, kind_name, name_of};
 use crate::judging::Judging;
+use crate::name::{Name, kind_name, name_of};
 use crate::options::Options;
 use crate::report::bytes_of;
 use esc_account::{Account, Book, Entry, Fate, read_segment};
