@@ -1,7 +1,6 @@
 -- What passes a policy that admits no more than `Text` or `Color` does, and what gives back what it
 -- leaves changed, is what these admit.
 use Rattle.std.proofs.Common.{ℕ, ◌≡◌, ◌⊎◌, inl, inr, Bool, true, false, not, ◌&&◌, ◌||◌, ◌==◌, if◌then◌else◌, List, [], ◌∷◌, ◌++◌, map, Option, Some, refl, sym, ap, ◌∙◌, subst, lit<}
-use Rattle.std.specs.Prelude.{is_some}
 use Rattle.std.specs.List.{filter, list_all}
 use Rattle.std.proofs.lemmas.Bool.{and_parts, eqb-true, true≢false}
 use Rattle.std.proofs.lemmas.Str.{encode_ascii}
@@ -18,7 +17,7 @@ use Rattle.esc_actions.specs.declared.control_code.ControlCode.{ControlCode}
 use Rattle.esc_actions.specs.declared.control_code.ControlCode.TheVariants as code
 use Rattle.esc_actions.specs.declared.control_code.ControlCode.TheVariants.{CarriageReturn}
 use Rattle.esc_filter.specs.Characters.{in_guard, in_return, in_values, instead, is_return}
-use Rattle.esc_filter.specs.Closing.{after_body, after_command, after_control, after_sequence, after_value, after_values, closed, closing, given_back, is_reset, keeps_cursor, turned}
+use Rattle.esc_filter.specs.Closing.{after_body, after_command, after_control, after_sequence, after_value, after_values, closed, closing, given_back, is_reset, keeps_cursor, opens, turned}
 use Rattle.esc_filter.specs.Lines.{body, closed_by_lines_as, content, end_text, ended_lines, ends_line, ends_return, last_line, last_values, line_text, lines, passed_of_line, text_by_lines_as}
 use Rattle.esc_filter.specs.Passing.{closed_text_as, in_lines, is_line_feed, is_whole, passed, passed_as, passed_text_as, passes}
 use Rattle.esc_filter.specs.Pieces.{AdmitsAtMost, IsOfPieces}
@@ -150,7 +149,7 @@ linked b t = record t { link = b }
 link_tints : {A : Type 0} (c : OperatingSystemCommand A) (t : Terminal) → is_link c ≡ true
     → IsTinted true t → IsTinted true (after_command c t)
 link_tints (command.SetHyperlink l) t h (r, m, e) =
-    (r, is_some l, ap (linked (is_some l)) e)
+    (r, opens l, ap (linked (opens l)) e)
 link_tints _ t h k = absurd (true≢false (sym h))
 
 colour_tints : {A : Type 0} (v : Value A) (t : Terminal) → is_colour v ≡ true → IsTinted true t

@@ -14,7 +14,7 @@ ghost use Rattle.esc_filter.specs.Noted.{AreKept, HasNoted, Notes, WriteDenies, 
 ghost use Rattle.esc_filter.specs.Passing.{is_line_feed};
 
 use crate::guard::Guard;
-use crate::leaving::{leaves_all, renditions_after};
+use crate::leaving::{is_other_end, leaves_all, renditions_after};
 use crate::returns::{Returns, is_return};
 use crate::terminal::Terminal;
 use crate::text::emptied;
@@ -215,8 +215,8 @@ impl<A: Allocator> Written<A> {
         }
     }
 
-    /// Appends a link that is written as it came, and notes it. Where the command of this text is
-    /// none, it returns false.
+    /// Appends a link to an address that is written as it came, or the end of one, and notes it.
+    /// Where the command of this text is none, it returns false.
     #[inline]
     pub fn append_link(&mut self, text: &[u8]) -> Result<bool, AllocError>
         ensures taken { IfOk result (λ b. IsTrue b
@@ -227,6 +227,9 @@ impl<A: Allocator> Written<A> {
         let Some(link) = plain_link::<A>(text) else {
             return Ok(false);
         };
+        if is_other_end(link) {
+            return Ok(false);
+        }
         match self.spell.write_verbatim(link) {
             Ok(()) => {
                 self.left.note_link::<A>(link);
