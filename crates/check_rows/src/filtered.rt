@@ -3,7 +3,10 @@ use crate::questions::is_asked_once;
 use crate::report::Report;
 use crate::row::Row;
 use crate::texts::written;
-use esc_filter::{Filter, FilterError, Policy, Unicode, filter_from, filter_stream};
+use esc_filter::{
+    Feeding, Filter, FilterError, Guard, LineFilter, Policy, Returns, Unicode, filter_from,
+    filter_stream,
+};
 use escape_stream::Watched;
 use refusing::Refusing;
 use refusing::byte_reader::ByteReader;
@@ -19,6 +22,13 @@ const POLICIES: [Policy; 4] = [Policy::Text, Policy::Color, Policy::Screen, Poli
 
 // What can be written of characters that deceive, and the words before what is.
 const CHARACTERS: [(Unicode, &str); 2] = [(Unicode::Show, "shown"), (Unicode::Drop, "dropped")];
+
+// What can be written by lines of carriage returns within one, and the words before what is.
+const RETURNS: [(Returns, &str); 3] = [
+    (Returns::Keep, "lines-kept"),
+    (Returns::Show, "lines-shown"),
+    (Returns::Drop, "lines-dropped"),
+];
 
 /// What each policy lets through of a stream, read whole and byte by byte, that it is flushed, and
 /// that a policy is asked once of each action; and what is written of it where a read, a write or a
@@ -43,6 +53,13 @@ pub fn check_filtered(alloc: Global, row: &Row, report: &mut Report) {
                 written_as(alloc, by_bytes, unicode),
                 report,
             );
+        }
+    }
+    for (returns, word) in RETURNS {
+        if row.has(word) {
+            expect(alloc, row, word, lines_as(alloc, stream, returns), report);
+            let by_bytes = byte_by_byte(stream, 0);
+            expect(alloc, row, word, lines_as(alloc, by_bytes, returns), report);
         }
     }
     let wanted = row.text(alloc, word_of(row, Policy::All), report);
@@ -104,7 +121,31 @@ fn written_as<R: Read + Drop>(
     reader: R,
     unicode: Unicode,
 ) -> Result<String, AllocError> {
-    let mut filter = Filter::with_unicode(alloc, LIMIT, Policy::All, unicode);
+    let filter = Filter::with_unicode(alloc, LIMIT, Policy::All, unicode);
+    written_by(alloc, reader, filter)
+}
+
+// What is written of all actions by lines, of which this is written of carriage returns.
+fn lines_as<R: Read + Drop>(
+    alloc: Global,
+    reader: R,
+    returns: Returns,
+) -> Result<String, AllocError> {
+    let guard = Guard {
+        characters: Unicode::Keep,
+        returns,
+    };
+    let filter = LineFilter::with_guard(alloc, LIMIT, Policy::All, guard);
+    written_by(alloc, reader, filter)
+}
+
+// What this filter writes.
+fn written_by<R: Read + Drop, F: Feeding<Global> + Drop>(
+    alloc: Global,
+    reader: R,
+    filter: F,
+) -> Result<String, AllocError> {
+    let mut filter = filter;
     let mut reader = Watched::new(reader);
     let mut writer = Watched::new(Vec::new(alloc));
     let ending = filter_from(alloc, &mut filter, &mut reader, &mut writer);

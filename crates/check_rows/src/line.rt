@@ -11,8 +11,8 @@ pub struct Line<'a> {
 
 // The words that lines begin with.
 const WORDS: &str = "row stream parts action more kept text unfinished first prefix gives begins \
-piece ends times limit keeps as-text as-color as-screen as-all shown dropped seed count holds \
-input";
+piece ends times limit keeps as-text as-color as-screen as-all shown dropped lines-kept \
+lines-shown lines-dropped seed count holds input";
 
 impl<'a> Line<'a> {
     /// Reads a line. None where it is empty or a comment.

@@ -1,5 +1,5 @@
 -- A character that passes at once.
-use Rattle.std.proofs.Common.{ℕ, ◌≡◌, ◌≤◌, ◌<◌, Bool, true, false, ◌&&◌, List, [], ◌∷◌, ◌++◌, length, Some, bytes_eq, get_or, refl, sym, ap, ◌∙◌, subst, append-nil, true≢false, arith}
+use Rattle.std.proofs.Common.{ℕ, ◌≡◌, ◌<◌, Bool, true, false, ◌&&◌, List, [], ◌∷◌, length, bytes_eq, get_or, refl, sym, ap, ◌∙◌, subst, append-nil, true≢false, arith}
 use Rattle.std.specs.List.{list_all}
 use Rattle.std.proofs.lemmas.Bool.Decides.{nat_tests}
 use Rattle.std.proofs.lemmas.Slice.Eq.{bytes_eq-Decides}
@@ -17,22 +17,23 @@ use Rattle.esc_segments.specs.declared.kind.SegmentKind.TheVariants as kinds
 use Rattle.esc_segments.specs.Items.{kind_of}
 use Rattle.esc_actions.specs.Texts.{list_text}
 use Rattle.esc_actions.specs.Values.{Value, print}
-use Rattle.esc_filter.specs.declared.unicode.Unicode.{Unicode}
-use Rattle.esc_filter.specs.declared.unicode.Unicode.TheVariants.{Drop, Keep, Show}
-use Rattle.esc_account.specs.Rules.{rule_of}
+use Rattle.esc_filter.specs.declared.guard.Guard.{Guard}
+use Rattle.esc_account.specs.Rules.{drops, rule_of, shows}
 use Rattle.esc_account.specs.declared.fate.Fate.TheVariants as fates
 
 module _ {A : Type 0} (limit : ℕ) (admits : Value A → Bool) where
-  one : (by_lines : Bool) (u : Unicode) (b : ℕ) (finished : Bool) → is_deceiving b ≡ false
+  no : (x : Bool) → (x && false) ≡ false
+  no true = refl
+  no false = refl
+
+  one : (by_lines : Bool) (u : Guard) (b : ℕ) (finished : Bool) → is_deceiving b ≡ false
       → admits (print b) ≡ true → list_text {A = A} (print b ∷ []) ≡ b ∷ []
       → bytes_eq (b ∷ []) (b ∷ []) ≡ true
       → rule_of by_lines u limit admits (Character b) finished ≡ fates.Passed
-  one true Keep b finished d h t e = rw (h, t, e) refl
-  one true Show b finished d h t e = rw (d, h, t, e) refl
-  one true Drop b finished d h t e = rw (d, h, t, e) refl
-  one false Keep b finished d h t e = rw (h, t, e) refl
-  one false Show b finished d h t e = rw (d, h, t, e) refl
-  one false Drop b finished d h t e = rw (d, h, t, e) refl
+  one true u b finished d h t e =
+      rw (d, h, t, e, no (drops u.characters), no (shows u.characters)) refl
+  one false u b finished d h t e =
+      rw (d, h, t, e, no (drops u.characters), no (shows u.characters)) refl
 
   -- the same of a segment of one byte
   abbrev is_character : SegmentKind → Bool
@@ -53,7 +54,7 @@ module _ {A : Type 0} (limit : ℕ) (admits : Value A → Bool) where
   head_same : (a b : ℕ) → a ∷ [] ≡ b ∷ [] → a ≡ b
   head_same a b e = ap (λ x. get_or x 0 0) e
 
-  pub at_once : (by_lines : Bool) (u : Unicode) (g : Shape) (after : List ℕ) (finished : Bool)
+  pub at_once : (by_lines : Bool) (u : Guard) (g : Shape) (after : List ℕ) (finished : Bool)
       (b : ℕ) → HasShape g after → kind_of g ≡ kinds.Character → bytes_of g ≡ b ∷ []
       → is_data_byte b ≡ true → admits (print b) ≡ true
       → rule_of by_lines u limit admits g finished ≡ fates.Passed

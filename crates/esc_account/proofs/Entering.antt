@@ -1,11 +1,12 @@
 -- A segment is entered after those before it.
-use Rattle.std.proofs.Common.{ℕ, ◌≡◌, ◌≢◌, Bool, true, false, if◌then◌else◌, length, Result, Ok, Err, IfOk, List, [], ◌∷◌, ◌++◌, refl, ap, sym, ◌∙◌, subst, append_assoc}
+use Rattle.std.proofs.Common.{ℕ, ◌≡◌, ◌≢◌, Bool, true, false, if◌then◌else◌, Result, Ok, Err, IfOk, List, [], ◌∷◌, ◌++◌, refl, ap, sym, ◌∙◌, subst, append_assoc}
 use Rattle.esc_frame.specs.Segments.{Segment as Shape, AreSegments, IsCut, is_finished, joined}
 use Rattle.esc_segments.specs.declared.item.Segment.{Segment as Item}
 use Rattle.esc_segments.specs.Items.{IsHead, IsItem}
-use Rattle.esc_account.specs.Accounts.{Enters, LineEnters, Rule, all_passed, line_begun, run, step}
+use Rattle.esc_account.specs.Accounts.{Enters, Rule, all_passed, line_begun, run, step}
 use Rattle.esc_account.specs.Entries.{Entry, entries, entry_of, is_noted, noted}
-use Rattle.esc_account.specs.Ledgers.{LineGives}
+use Rattle.esc_account.specs.Ledgers.{LineEnters, LineGives}
+use Rattle.esc_account.specs.LineEnds.{ends_so, line_entries, run_line}
 use Rattle.esc_account.specs.declared.account.Account.{Account}
 
 -- what `has_cut` and `one_cut` say
@@ -34,7 +35,7 @@ one_more has once r x y all s t item gives enters before ks cut =
 
 -- ---- what is written into a book
 
-noted_more : (e : Entry) (es : List Entry) → noted (e ∷ es) ≡ noted (e ∷ []) ++ noted es
+pub noted_more : (e : Entry) (es : List Entry) → noted (e ∷ es) ≡ noted (e ∷ []) ++ noted es
 noted_more e es = by (is_noted e)
   where
     by : (b : Bool) → (if b then e ∷ noted es else noted es)
@@ -86,7 +87,8 @@ line_same r x y line written e h = record {
 
 pub line_other : {E : Type 0} (r : Rule) (x : Account) (line written : List ℕ)
     (result : Result Account E) → written ≢ line
-    → ((gs : List Shape) → IsCut line gs → IfOk result (λ y. y ≡ run r (line_begun x) gs))
+    → ((gs : List Shape) → IsCut line gs
+    → IfOk result (λ y. y ≡ run_line (ends_so written) r (line_begun x) gs))
     → IfOk result (LineEnters r x line written)
 line_other r x line written (Ok y) n h = record {
   same = λ e. absurd (n e);
@@ -97,8 +99,10 @@ line_other r x line written (Err e) n h = tt
 -- the entries of a line that was not written as it came
 pub gives_other : OneCut → (r : Rule) (x : Account) (line written : List ℕ) (gs : List Shape)
     → written ≢ line → IsCut line gs
-    → LineGives r x line written (noted (entries r (line_begun x) gs))
+    → LineGives r x line written (noted (line_entries (ends_so written) r (line_begun x) gs))
 gives_other once r x line written gs n cut = record {
   same = λ e. absurd (n e);
-  other = λ m ks more. ap (λ z. noted (entries r (line_begun x) z)) (once line gs ks cut more);
+  other = λ m ks more.
+      ap (λ z. noted (line_entries (ends_so written) r (line_begun x) z))
+      (once line gs ks cut more);
 }

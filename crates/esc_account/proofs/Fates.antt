@@ -8,14 +8,14 @@ use Rattle.esc_segments.specs.declared.kind.SegmentKind.{SegmentKind}
 use Rattle.esc_actions.specs.Texts.{list_text}
 use Rattle.esc_actions.specs.Values.{Value, value_of}
 use Rattle.esc_actions.specs.declared.action.Action.{Action}
-use Rattle.esc_filter.specs.declared.unicode.Unicode.{Unicode}
+use Rattle.esc_filter.specs.declared.guard.Guard.{Guard}
 use Rattle.esc_account.specs.Accounts.{is_end}
 use Rattle.esc_account.specs.Rules.{IsAsItCame, fate_of, is_own, is_replaced, is_shown, is_spelled, is_written, spelling_of}
 use Rattle.esc_account.specs.declared.fate.Fate.{Fate}
 use Rattle.esc_account.specs.declared.fate.Fate.TheVariants as fates
 use Rattle.esc_account.proofs.Values.{all_map, any_map}
 
-module _ {A : Type 0} (by_lines : Bool) (u : Unicode) (admits : Value A → Bool) (k : SegmentKind)
+module _ {A : Type 0} (by_lines : Bool) (u : Guard) (admits : Value A → Bool) (k : SegmentKind)
     (bytes : List ℕ) (actions : List (Action A)) where
   abbrev Vs : List (Value A)
   Vs = map (value_of {A = A}) actions
@@ -72,7 +72,7 @@ module _ {A : Type 0} (by_lines : Bool) (u : Unicode) (admits : Value A → Bool
       refl
 
 -- of the same kind, bytes and values
-pub same_fate : {A : Type 0} (by_lines : Bool) (u : Unicode) (admits : Value A → Bool)
+pub same_fate : {A : Type 0} (by_lines : Bool) (u : Guard) (admits : Value A → Bool)
     (k l : SegmentKind) (x y : List ℕ) (vs ws : List (Value A)) → k ≡ l → x ≡ y → vs ≡ ws
     → fate_of by_lines u admits k x vs ≡ fate_of by_lines u admits l y ws
 same_fate by_lines u admits k l x y vs ws e f h =
@@ -81,7 +81,7 @@ same_fate by_lines u admits k l x y vs ws e f h =
 
 -- ---- what a fate says
 
-pub nothing_told : {A : Type 0} (by_lines : Bool) (u : Unicode) (admits : Value A → Bool)
+pub nothing_told : {A : Type 0} (by_lines : Bool) (u : Guard) (admits : Value A → Bool)
     (k : SegmentKind) (bytes : List ℕ) (vs : List (Value A)) → vs ≡ []
     → fate_of by_lines u admits k bytes vs ≡ fates.Swallowed
 nothing_told by_lines u admits k bytes vs e = ap (fate_of by_lines u admits k bytes) e
@@ -98,7 +98,7 @@ passed_by true true false true as_came h = absurd cc
 passed_by true true false false false h = absurd cc
 passed_by true true false false true h = (refl, refl)
 
-pub passed_is : {A : Type 0} (by_lines : Bool) (u : Unicode) (admits : Value A → Bool)
+pub passed_is : {A : Type 0} (by_lines : Bool) (u : Guard) (admits : Value A → Bool)
     (k : SegmentKind) (bytes : List ℕ) (vs : List (Value A))
     → fate_of by_lines u admits k bytes vs ≡ fates.Passed
     → (list_all (is_written by_lines u admits) vs ≡ true)

@@ -1,5 +1,6 @@
 pub mod Totals
 pub mod Entering
+pub mod LineRuns
 pub mod Blocks
 pub mod Places
 pub mod Ended

@@ -1,5 +1,5 @@
 -- What becomes of the segments of a stream, and of how many bytes.
-use Rattle.std.specs.Prelude.{ℕ, ◌≡◌, ◌≢◌, ◌+◌, ◌-◌, ◌*◌, ◌<◌, ◌≤◌, ◌^◌, Bool, true, false, not, ◌==◌, ◌&&◌, if◌then◌else◌, List, [], ◌∷◌, length, get_or, Option, None, Some}
+use Rattle.std.specs.Prelude.{ℕ, ◌≡◌, ◌+◌, ◌-◌, ◌*◌, ◌<◌, ◌≤◌, ◌^◌, Bool, true, false, not, ◌==◌, ◌&&◌, if◌then◌else◌, List, [], ◌∷◌, length, get_or, Option, None, Some}
 use Rattle.esc_frame.specs.Segments.{Segment as Shape, AreSegments, IsCut, bytes_of, is_finished, joined}
 use Rattle.esc_segments.specs.declared.kind.SegmentKind.{SegmentKind}
 use Rattle.esc_segments.specs.declared.kind.SegmentKind.TheVariants as kinds
@@ -144,9 +144,3 @@ all_passed bytes x = record {
 -- where a line begins, no string came before
 abbrev pub line_begun : Account → Account
 line_begun x = record x { string = None }
-
--- A line, of which this was written, makes y of x: where it was written as it came all of it
--- passed, and else its segments tell.
-pub record LineEnters (r : Rule) (x : Account) (line written : List ℕ) (y : Account) : Type 0 where
-  pub same : written ≡ line → y ≡ all_passed line x
-  pub other : written ≢ line → (gs : List Shape) → IsCut line gs → y ≡ run r (line_begun x) gs

@@ -2,10 +2,18 @@
 use Rattle.std.specs.Prelude.{ℕ, ◌≡◌, ◌≢◌, ◌+◌, ◌<◌, ◌≤◌, ◌^◌, true, List, [], ◌∷◌, ◌++◌, length}
 use Rattle.esc_frame.specs.Segments.{Segment as Shape, IsCut}
 use Rattle.esc_filter.specs.Lines.{ends_line, lines}
-use Rattle.esc_account.specs.Accounts.{HasRoom, LineEnters, Rule, begun, line_begun, total}
-use Rattle.esc_account.specs.Entries.{Entry, entries, noted}
+use Rattle.esc_account.specs.Accounts.{HasRoom, Rule, all_passed, begun, line_begun, total}
+use Rattle.esc_account.specs.Entries.{Entry, noted}
+use Rattle.esc_account.specs.LineEnds.{ends_so, line_entries, run_line}
 use Rattle.esc_account.specs.declared.account.Account.{Account}
 use Rattle.esc_account.specs.declared.line_ledger.LineLedger.{LineLedger}
+
+-- A line, of which this was written, makes y of x: where it was written as it came all of it
+-- passed, and else its segments tell, and its end passed where what was written has such an end.
+pub record LineEnters (r : Rule) (x : Account) (line written : List ℕ) (y : Account) : Type 0 where
+  pub same : written ≡ line → y ≡ all_passed line x
+  pub other : written ≢ line → (gs : List Shape) → IsCut line gs
+      → y ≡ run_line (ends_so written) r (line_begun x) gs
 
 -- A line, of which this was written, has these entries after x: none where it was written as it
 -- came, and else those of its segments that did not pass.
@@ -13,7 +21,7 @@ pub record LineGives (r : Rule) (x : Account) (line written : List ℕ) (es : Li
     : Type 0 where
   pub same : written ≡ line → es ≡ []
   pub other : written ≢ line → (gs : List Shape) → IsCut line gs
-      → es ≡ noted (entries r (line_begun x) gs)
+      → es ≡ noted (line_entries (ends_so written) r (line_begun x) gs)
 
 -- the line makes y of x, and has these entries
 abbrev pub LineRuns : Rule → Account → List ℕ → List ℕ → Account → List Entry → Type 0

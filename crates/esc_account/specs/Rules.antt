@@ -10,32 +10,47 @@ use Rattle.esc_actions.specs.Readings.{reading_within}
 use Rattle.esc_actions.specs.Texts.{list_text}
 use Rattle.esc_actions.specs.Values.{Value, print, control}
 use Rattle.esc_filter.specs.Passing.{is_line_feed, passes}
+use Rattle.esc_filter.specs.Characters.{is_return}
+use Rattle.esc_filter.specs.declared.guard.Guard.{Guard}
+use Rattle.esc_filter.specs.declared.returns.Returns.{Returns}
+use Rattle.esc_filter.specs.declared.returns.Returns.TheVariants as way
 use Rattle.esc_filter.specs.declared.unicode.Unicode.{Unicode}
-use Rattle.esc_filter.specs.declared.unicode.Unicode.TheVariants.{Drop, Keep, Show}
+use Rattle.esc_filter.specs.declared.unicode.Unicode.TheVariants.{Drop, Show}
 use Rattle.esc_account.specs.Accounts.{is_end}
 use Rattle.esc_account.specs.declared.fate.Fate.{Fate}
 use Rattle.esc_account.specs.declared.fate.Fate.TheVariants as fates
 
--- a character that deceives
-abbrev pub deceives : {A : Type 0} → Value A → Bool
-deceives (print c) = is_deceiving c
-deceives _ = false
+abbrev pub drops : Unicode → Bool
+drops Drop = true
+drops _ = false
 
--- nothing is written of it, though it passes
-abbrev pub is_dropped : {A : Type 0} → Unicode → Value A → Bool
-is_dropped Drop v = deceives v
-is_dropped Show v = false
-is_dropped Keep v = false
+abbrev pub drops_returns : Returns → Bool
+drops_returns way.Drop = true
+drops_returns _ = false
 
--- its number is written
-abbrev pub is_shown : {A : Type 0} → Unicode → Value A → Bool
-is_shown Show v = deceives v
-is_shown Drop v = false
-is_shown Keep v = false
+abbrev pub shows : Unicode → Bool
+shows Show = true
+shows _ = false
+
+abbrev pub shows_returns : Returns → Bool
+shows_returns way.Show = true
+shows_returns _ = false
+
+-- nothing is written of it, though it passes: of a character that deceives, or a carriage return
+abbrev pub is_dropped : {A : Type 0} → Guard → Value A → Bool
+is_dropped u (print c) = drops u.characters && is_deceiving c
+is_dropped u (control c) = drops_returns u.returns && is_return c
+is_dropped u _ = false
+
+-- visible text is written in its place
+abbrev pub is_shown : {A : Type 0} → Guard → Value A → Bool
+is_shown u (print c) = shows u.characters && is_deceiving c
+is_shown u (control c) = shows_returns u.returns && is_return c
+is_shown u _ = false
 
 -- Something is written of it. Where lines are streams of their own, each is written with its line
 -- feed, whatever the policy says.
-abbrev pub is_written : {A : Type 0} → Bool → Unicode → (Value A → Bool) → Value A → Bool
+abbrev pub is_written : {A : Type 0} → Bool → Guard → (Value A → Bool) → Value A → Bool
 is_written by_lines u admits v =
     (by_lines && is_line_feed v) || (passes admits v && not (is_dropped u v))
 
@@ -76,7 +91,7 @@ spelling_of bytes text = if is_spelled bytes text then fates.Passed else fates.R
 
 -- What becomes of a segment of this kind, these bytes and these values. One that means nothing of
 -- its own is swallowed; and one of which any value is not written is left out whole.
-abbrev pub fate_of : {A : Type 0} → Bool → Unicode → (Value A → Bool) → SegmentKind → List ℕ
+abbrev pub fate_of : {A : Type 0} → Bool → Guard → (Value A → Bool) → SegmentKind → List ℕ
     → List (Value A) → Fate
 fate_of by_lines u admits k bytes vs =
     if not (list_any (is_own k) vs) then fates.Swallowed
@@ -86,6 +101,6 @@ fate_of by_lines u admits k bytes vs =
     else spelling_of bytes (list_text vs)
 
 -- what becomes of a segment: by its reading under the limit
-abbrev pub rule_of : {A : Type 0} → Bool → Unicode → ℕ → (Value A → Bool) → Shape → Bool → Fate
+abbrev pub rule_of : {A : Type 0} → Bool → Guard → ℕ → (Value A → Bool) → Shape → Bool → Fate
 rule_of by_lines u limit admits g finished =
     fate_of by_lines u admits (kind_of g) (bytes_of g) (reading_within (Some limit) g finished)

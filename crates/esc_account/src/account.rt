@@ -5,15 +5,16 @@ ghost use Rattle.std.specs.Prelude.{◌≡◌, ◌++◌, ◌∷◌, ◌<◌, ◌
 ghost use Rattle.esc_frame.specs.Segments.{AreSegments, Segment as Shape, IsCut, is_finished, joined};
 ghost use Rattle.esc_segments.specs.Items.{IsItem};
 ghost use Rattle.memory.specs.Refusals.{Refused};
-ghost use Rattle.esc_account.specs.Accounts.{Counts, Enters, HasRoom, LineEnters, all_passed, begun, carried, entered_as, run, total};
+ghost use Rattle.esc_account.specs.Accounts.{Counts, Enters, HasRoom, all_passed, begun, carried, entered_as, run, total};
 ghost use Rattle.esc_account.specs.Entries.{Entry as Told, ends_string, entries, entry_as, entry_of, is_passed, noted};
-ghost use Rattle.esc_account.specs.Ledgers.{LineGives};
+ghost use Rattle.esc_account.specs.Ledgers.{LineEnters, LineGives};
 
 use crate::book::Book;
 use crate::entry::Entry;
 use crate::fate::Fate;
 use crate::feeds::feeds;
 use crate::judge::Judge;
+use crate::line_run::ends_so;
 use crate::sums::Sums;
 use crate::terminator::{awaits_terminator, fate_after, is_terminator};
 use esc_frame::laws;
@@ -128,8 +129,9 @@ impl Account {
     }
 
     /// The account of a line too, which is a stream of its own: where it was written as it came,
-    /// all of it passed; else each of its segments has the fate that the judge says. `AllocError`
-    /// says that a request for memory was refused.
+    /// all of it passed; else each of its segments has the fate that the judge says, but for a
+    /// carriage return and the line feed that end both the line and what was written of it: these
+    /// passed. `AllocError` says that a request for memory was refused.
     pub fn line_entered<A: Allocator, J: Judge<A>, B: Book<A>>(
         self,
         judge: &J,
@@ -155,12 +157,12 @@ impl Account {
                 string: None,
                 lines: self.lines,
             };
-            begun.entered(judge, book, line)
+            begun.line_run(judge, book, line, ends_so(written))
         }
     }
 
     // The account of a segment too.
-    fn segment_entered<A: Allocator, J: Judge<A>, B: Book<A>>(
+    pub(crate) fn segment_entered<A: Allocator, J: Judge<A>, B: Book<A>>(
         self,
         judge: &J,
         book: &mut B,

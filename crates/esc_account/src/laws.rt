@@ -9,7 +9,7 @@ ghost use Rattle.esc_frame.specs.Stream.{IsAtGround};
 ghost use Rattle.esc_actions.specs.Readings.{reading_within};
 ghost use Rattle.esc_actions.specs.Texts.{list_text};
 ghost use Rattle.esc_actions.specs.Values.{Value};
-ghost use Rattle.esc_filter.specs.declared.unicode.Unicode.{Unicode};
+ghost use Rattle.esc_filter.specs.declared.guard.Guard.{Guard};
 ghost use Rattle.esc_account.specs.Accounts.{Counts, GoesOn, IsAccount, Rule, all_passed, begun, run, total};
 ghost use Rattle.esc_account.specs.Entries.{AllLie, Entry, entries};
 ghost use Rattle.esc_account.specs.Ledgers.{HasRun, IsLineAccount, LineRuns};
@@ -59,7 +59,7 @@ pub fn each_lies_at_its_place()
 /// By the rule of a policy what means nothing is swallowed, so that nothing vanishes from the
 /// account.
 pub fn nothing_vanishes<A: Allocator>()
-    ensures { (by_lines : Bool) (u : Unicode) (limit : ℕ) (admits : Value A → Bool) (g : Shape)
+    ensures { (by_lines : Bool) (u : Guard) (limit : ℕ) (admits : Value A → Bool) (g : Shape)
         (finished : Bool) → reading_within {A = A} (Some limit) g finished ≡ []
         → rule_of by_lines u limit admits g finished ≡ Fate.Swallowed }
 {}
@@ -67,11 +67,11 @@ pub fn nothing_vanishes<A: Allocator>()
 /// By the rule of a policy all that a segment means is written where the segment passed, and the
 /// text of that is its bytes, as they came, but for the `ESC \` that ends a string.
 pub fn passed_as_it_came<A: Allocator>()
-    ensures written { (by_lines : Bool) (u : Unicode) (limit : ℕ) (admits : Value A → Bool)
+    ensures written { (by_lines : Bool) (u : Guard) (limit : ℕ) (admits : Value A → Bool)
         (g : Shape) (finished : Bool) → rule_of by_lines u limit admits g finished ≡ Fate.Passed
         → list_all (is_written by_lines u admits)
         (reading_within {A = A} (Some limit) g finished) ≡ true }
-    ensures text { (by_lines : Bool) (u : Unicode) (limit : ℕ) (admits : Value A → Bool)
+    ensures text { (by_lines : Bool) (u : Guard) (limit : ℕ) (admits : Value A → Bool)
         (g : Shape) (finished : Bool) → rule_of by_lines u limit admits g finished ≡ Fate.Passed
         → IsAsItCame (bytes_of g)
         (list_text (reading_within {A = A} (Some limit) g finished)) }

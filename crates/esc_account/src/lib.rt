@@ -26,6 +26,7 @@ pub mod judge;
 pub mod laws;
 pub mod ledger;
 pub mod line_ledger;
+mod line_run;
 pub mod policy_judge;
 pub mod reading;
 mod same_lines;

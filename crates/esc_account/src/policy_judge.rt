@@ -10,15 +10,16 @@ ghost use Rattle.esc_actions.specs.Texts.{list_text};
 ghost use Rattle.esc_actions.specs.Values.{value_of};
 ghost use Rattle.esc_actions.specs.Writable.{AreHandedOut};
 ghost use Rattle.memory.specs.Refusals.{Refused};
+ghost use Rattle.esc_filter.specs.Characters.{is_return, of_unicode};
 ghost use Rattle.esc_filter.specs.Passing.{is_line_feed};
-ghost use Rattle.esc_account.specs.Rules.{deceives, fate_of, is_control, is_dropped, is_lone, is_own, is_replaced, is_shown, is_written, rule_of, spelling_of};
+ghost use Rattle.esc_account.specs.Rules.{drops, drops_returns, fate_of, is_control, is_dropped, is_lone, is_own, is_replaced, is_shown, is_written, rule_of, shows, shows_returns, spelling_of};
 
 use crate::fate::Fate;
 use crate::judge::Judge;
 use crate::reading::read_segment;
 use crate::terminator::is_end;
 use esc_actions::{Action, ControlCode};
-use esc_filter::{Admit, Unicode, is_deceiving, passes};
+use esc_filter::{Admit, Guard, Returns, Unicode, is_deceiving, passes};
 use esc_segments::{Segment, SegmentKind};
 use esc_write::encode;
 use std::alloc::{AllocError, Allocator, Global};
@@ -33,7 +34,7 @@ use std::alloc::{AllocError, Allocator, Global};
 #[derive(Drop)]
 pub struct PolicyJudge<P, A: Allocator = Global> {
     policy: P,
-    unicode: Unicode,
+    guard: Guard,
     limit: usize,
     by_lines: bool,
     alloc: A,
@@ -44,34 +45,35 @@ impl<P, A: Allocator> PolicyJudge<P, A> {
 
     /// What a [`Filter`](esc_filter::Filter) does, which keeps at most `limit` bytes of a segment.
     pub fn new(alloc: A, limit: usize, policy: P, unicode: Unicode) -> Self
-        ensures { GoesBy result false unicode limit policy }
+        ensures { GoesBy result false (of_unicode unicode) limit policy }
     {
-        PolicyJudge {
-            policy,
-            unicode,
-            limit,
-            by_lines: false,
-            alloc,
-        }
+        PolicyJudge::with_guard(alloc, limit, policy, Guard::of_unicode(unicode), false)
     }
 
     /// What a [`LineFilter`](esc_filter::LineFilter) does, which writes the line feed of each line
     /// whatever the policy says.
     pub fn by_lines(alloc: A, limit: usize, policy: P, unicode: Unicode) -> Self
-        ensures { GoesBy result true unicode limit policy }
+        ensures { GoesBy result true (of_unicode unicode) limit policy }
+    {
+        PolicyJudge::with_guard(alloc, limit, policy, Guard::of_unicode(unicode), true)
+    }
+
+    /// The one or the other, where `guard` says what is written of what deceives.
+    pub fn with_guard(alloc: A, limit: usize, policy: P, guard: Guard, by_lines: bool) -> Self
+        ensures { GoesBy result by_lines guard limit policy }
     {
         PolicyJudge {
             policy,
-            unicode,
+            guard,
             limit,
-            by_lines: true,
+            by_lines,
             alloc,
         }
     }
 }
 
 impl<P: Admit<A>, A: Allocator + Copy> Judge<A> for PolicyJudge<P, A> {
-    ghost rule = { λ j. rule_of j.by_lines j.unicode j.limit (P.admits j.policy) };
+    ghost rule = { λ j. rule_of j.by_lines j.guard j.limit (P.admits j.policy) };
 
     fn fate(&self, segment: Segment<'_>) -> Result<Fate, AllocError> {
         if self.passes_at_once(segment) {
@@ -89,7 +91,7 @@ impl<P: Admit<A>, A: Allocator + Copy> PolicyJudge<P, A> {
     // and need not be read.
     fn passes_at_once(&self, segment: Segment<'_>) -> bool
         ensures { IsTrue result → (g : Shape) (after : List ℕ) (finished : Bool) → HasShape g after
-            → IsItem segment.entry g after → rule_of self.now.by_lines self.now.unicode
+            → IsItem segment.entry g after → rule_of self.now.by_lines self.now.guard
             self.now.limit (P.admits self.now.policy) g finished ≡ Fate.Passed }
     {
         if !is_character(segment.kind) || segment.bytes.len() != 1 {
@@ -109,7 +111,7 @@ impl<P: Admit<A>, A: Allocator + Copy> PolicyJudge<P, A> {
         actions: &[Action<A>],
     ) -> Result<Fate, AllocError>
         requires { AreHandedOut (map value_of actions.now) }
-        ensures given { IfOk result (λ f. f ≡ fate_of self.now.by_lines self.now.unicode
+        ensures given { IfOk result (λ f. f ≡ fate_of self.now.by_lines self.now.guard
             (P.admits self.now.policy) kind bytes.now (map value_of actions.now)) }
         ensures refused { OnErr result (Refused A) }
     {
@@ -128,7 +130,7 @@ impl<P: Admit<A>, A: Allocator + Copy> PolicyJudge<P, A> {
 
     // Whether something is written of each of the actions.
     fn writes_all(&self, actions: &[Action<A>]) -> bool
-        ensures { result ≡ list_all (λ a. is_written self.now.by_lines self.now.unicode
+        ensures { result ≡ list_all (λ a. is_written self.now.by_lines self.now.guard
             (P.admits self.now.policy) (value_of a)) actions.now }
     {
         actions.iter().all(|action| self.writes(action))
@@ -136,7 +138,7 @@ impl<P: Admit<A>, A: Allocator + Copy> PolicyJudge<P, A> {
 
     /// Whether something is written of the action.
     pub fn writes(&self, action: &Action<A>) -> bool
-        ensures { result ≡ is_written self.now.by_lines self.now.unicode
+        ensures { result ≡ is_written self.now.by_lines self.now.guard
             (P.admits self.now.policy) (value_of action.now) }
     {
         (self.by_lines && is_line_feed(action))
@@ -144,29 +146,61 @@ impl<P: Admit<A>, A: Allocator + Copy> PolicyJudge<P, A> {
     }
 
     fn drops(&self, action: &Action<A>) -> bool
-        ensures { result ≡ is_dropped self.now.unicode (value_of action.now) }
+        ensures { result ≡ is_dropped self.now.guard (value_of action.now) }
     {
-        match self.unicode {
-            Unicode::Drop => deceives(action),
-            Unicode::Keep | Unicode::Show => false,
+        match action {
+            Action::Print(c) => drops(self.guard.characters) && is_deceiving(*c),
+            Action::Control(code) => drops_returns(self.guard.returns) && is_return(*code),
+            _ => false,
         }
     }
 
-    // Whether of one of the actions its number is written.
+    // Whether of one of the actions visible text is written.
     fn shows_some(&self, actions: &[Action<A>]) -> bool
-        ensures { result ≡ list_any (λ a. is_shown self.now.unicode (value_of a)) actions.now }
+        ensures { result ≡ list_any (λ a. is_shown self.now.guard (value_of a)) actions.now }
     {
         actions.iter().any(|action| self.shows(action))
     }
 
     fn shows(&self, action: &Action<A>) -> bool
-        ensures { result ≡ is_shown self.now.unicode (value_of action.now) }
+        ensures { result ≡ is_shown self.now.guard (value_of action.now) }
     {
-        match self.unicode {
-            Unicode::Show => deceives(action),
-            Unicode::Keep | Unicode::Drop => false,
+        match action {
+            Action::Print(c) => shows(self.guard.characters) && is_deceiving(*c),
+            Action::Control(code) => shows_returns(self.guard.returns) && is_return(*code),
+            _ => false,
         }
     }
+}
+
+fn drops(unicode: Unicode) -> bool
+    ensures { result ≡ drops unicode }
+{
+    matches!(unicode, Unicode::Drop)
+}
+
+fn drops_returns(returns: Returns) -> bool
+    ensures { result ≡ drops_returns returns }
+{
+    matches!(returns, Returns::Drop)
+}
+
+fn shows(unicode: Unicode) -> bool
+    ensures { result ≡ shows unicode }
+{
+    matches!(unicode, Unicode::Show)
+}
+
+fn shows_returns(returns: Returns) -> bool
+    ensures { result ≡ shows_returns returns }
+{
+    matches!(returns, Returns::Show)
+}
+
+fn is_return(code: ControlCode) -> bool
+    ensures { result ≡ is_return code }
+{
+    matches!(code, ControlCode::CarriageReturn)
 }
 
 fn is_character(kind: SegmentKind) -> bool
@@ -180,15 +214,6 @@ fn is_plain(byte: u8) -> bool
     ensures { result ≡ is_data_byte byte }
 {
     0x20 <= byte && byte <= 0x7e
-}
-
-fn deceives<A: Allocator>(action: &Action<A>) -> bool
-    ensures { result ≡ deceives (value_of action.now) }
-{
-    match action {
-        Action::Print(c) => is_deceiving(*c),
-        _ => false,
-    }
 }
 
 fn is_line_feed<A: Allocator>(action: &Action<A>) -> bool

@@ -1,7 +1,6 @@
 -- What passes a policy that admits no more than `Text` or `Color` does, and what gives back what it
 -- leaves changed, is what these admit.
-use Rattle.std.proofs.Common.{ℕ, ◌≡◌, ◌⊎◌, inl, inr, Bool, true, false, not, ◌||◌, ◌==◌, if◌then◌else◌, List, [], ◌∷◌, ◌++◌, map, Option, Some, refl, sym, ap, ◌∙◌, subst, lit<}
-use Rattle.std.specs.Prelude.{is_some}
+use Rattle.std.proofs.Common.{ℕ, ◌≡◌, ◌⊎◌, inl, inr, Bool, true, false, not, ◌&&◌, ◌||◌, ◌==◌, if◌then◌else◌, List, [], ◌∷◌, ◌++◌, map, Option, Some, refl, sym, ap, ◌∙◌, subst, lit<}
 use Rattle.std.specs.List.{filter, list_all}
 use Rattle.std.proofs.lemmas.Bool.{and_parts, eqb-true, true≢false}
 use Rattle.std.proofs.lemmas.Str.{encode_ascii}
@@ -16,19 +15,22 @@ use Rattle.esc_actions.specs.Values.{Value, print, string, control, esc, csi, os
 use Rattle.esc_actions.specs.Writable.{AreWritable}
 use Rattle.esc_actions.specs.declared.control_code.ControlCode.{ControlCode}
 use Rattle.esc_actions.specs.declared.control_code.ControlCode.TheVariants as code
-use Rattle.esc_filter.specs.Characters.{in_characters, in_unicode, instead}
-use Rattle.esc_filter.specs.Closing.{after_body, after_command, after_control, after_sequence, after_value, after_values, closed, closing, given_back, is_reset, keeps_cursor, turned}
-use Rattle.esc_filter.specs.Lines.{closed_by_lines_as, ends_line, last_line, line_closing, line_text, lines, passed_of_line, text_by_lines_as}
+use Rattle.esc_actions.specs.declared.control_code.ControlCode.TheVariants.{CarriageReturn}
+use Rattle.esc_filter.specs.Characters.{in_guard, in_return, in_values, instead, is_return}
+use Rattle.esc_filter.specs.Closing.{after_body, after_command, after_control, after_sequence, after_value, after_values, closed, closing, given_back, is_reset, keeps_cursor, opens, turned}
+use Rattle.esc_filter.specs.Lines.{body, closed_by_lines_as, content, end_text, ended_lines, ends_line, ends_return, last_line, last_values, line_text, lines, passed_of_line, text_by_lines_as}
 use Rattle.esc_filter.specs.Passing.{closed_text_as, in_lines, is_line_feed, is_whole, passed, passed_as, passed_text_as, passes}
 use Rattle.esc_filter.specs.Pieces.{AdmitsAtMost, IsOfPieces}
 use Rattle.esc_filter.specs.Rules.{admits, is_colour, is_layout, is_link, is_plain_param, is_rendition, is_shown, is_text}
 use Rattle.esc_filter.specs.Terminal.{unchanged}
 use Rattle.esc_filter.specs.declared.policy.Policy.TheVariants as policy
 use Rattle.esc_filter.specs.declared.terminal.Terminal.{Terminal}
+use Rattle.esc_filter.specs.declared.guard.Guard.{Guard}
+use Rattle.esc_filter.specs.declared.returns.Returns.{Returns}
+use Rattle.esc_filter.specs.declared.returns.Returns.TheVariants as way
 use Rattle.esc_filter.specs.declared.unicode.Unicode.{Unicode}
 use Rattle.esc_filter.specs.declared.unicode.Unicode.TheVariants.{Drop, Keep, Show}
 use Rattle.esc_filter.proofs.Characters.{in_more, in_none, kinds, number_shown}
-use Rattle.esc_filter.proofs.Closers.{back_writable}
 use Rattle.esc_filter.proofs.Lights.{plain_lit}
 use Rattle.esc_filter.proofs.LineData.{both}
 use Rattle.esc_filter.proofs.Pieces.{all_pieces, least, more_pieces, plain_piece, texts_pieces}
@@ -70,22 +72,32 @@ module _ (A : Type 0) (k : Bool) where
   shown_instead Show c true h = prints (number_text c) (number_shown c)
   shown_instead Drop c true h = refl
 
-  shown_value : (u : Unicode) (v : Value A) → is_least v ≡ true → AreLeast (in_unicode u v)
+  shown_return : (r : Returns) (c : ControlCode) (t : Bool) → is_least (control c) ≡ true
+      → AreLeast (if t then in_return r else control c ∷ [])
+  shown_return r c false h = rw h refl
+  shown_return way.Keep c true h = rw (text_least {A = A} k (control CarriageReturn) refl) refl
+  shown_return way.Show c true h = prints (0x5e ∷ 0x4d ∷ []) refl
+  shown_return way.Drop c true h = refl
+
+  shown_value : (u : Guard) (v : Value A) → is_least v ≡ true → AreLeast (in_guard u v)
   shown_value u v h = by (kinds v)
     where
-      by : ((c : ℕ) × (v ≡ print c)) ⊎ ((w : Unicode) → in_unicode w v ≡ v ∷ [])
-          → AreLeast (in_unicode u v)
+      by : ((c : ℕ) × (v ≡ print c)) ⊎ (((c : ControlCode) × (v ≡ control c))
+          ⊎ ((w : Guard) → in_guard w v ≡ v ∷ [])) → AreLeast (in_guard u v)
       by (inl (c, e)) =
-          ap (λ x. list_all is_least (in_unicode u x)) e
-          ∙ shown_instead u c (is_deceiving c) (ap is_least (sym e) ∙ h)
-      by (inr f) = ap (list_all is_least) (f u) ∙ rw h refl
+          ap (λ x. list_all is_least (in_guard u x)) e
+          ∙ shown_instead u.characters c (is_deceiving c) (ap is_least (sym e) ∙ h)
+      by (inr (inl (c, e))) =
+          ap (λ x. list_all is_least (in_guard u x)) e
+          ∙ shown_return u.returns c (is_return c) (ap is_least (sym e) ∙ h)
+      by (inr (inr f)) = ap (list_all is_least) (f u) ∙ rw h refl
 
-  shown_values : (u : Unicode) (vs : List (Value A)) → AreLeast vs → AreLeast (in_characters u vs)
+  shown_values : (u : Guard) (vs : List (Value A)) → AreLeast vs → AreLeast (in_values u vs)
   shown_values u [] h = ap (list_all is_least) (in_none {A = A} u)
   shown_values u (v ∷ vs) h =
       let q = and_parts (is_least v) (list_all is_least vs) h in
       ap (list_all is_least) (in_more u v vs)
-      ∙ both is_least (in_unicode u v) (in_characters u vs) (shown_value u v q.0)
+      ∙ both is_least (in_guard u v) (in_values u vs) (shown_value u v q.0)
       (shown_values u vs q.1)
 
 -- ---- what it leaves changed
@@ -137,7 +149,7 @@ linked b t = record t { link = b }
 link_tints : {A : Type 0} (c : OperatingSystemCommand A) (t : Terminal) → is_link c ≡ true
     → IsTinted true t → IsTinted true (after_command c t)
 link_tints (command.SetHyperlink l) t h (r, m, e) =
-    (r, is_some l, ap (linked (is_some l)) e)
+    (r, opens l, ap (linked (opens l)) e)
 link_tints _ t h k = absurd (true≢false (sym h))
 
 colour_tints : {A : Type 0} (v : Value A) (t : Terminal) → is_colour v ≡ true → IsTinted true t
@@ -204,11 +216,11 @@ closed_least k f vs h = both (admits (least k)) vs (closing f vs) h (closing_lea
 -- ---- texts
 
 module _ {A : Type 0}
-    (goes_on : (u : Unicode) (limit : Option ℕ) (f : Value A → Bool) (s : List ℕ)
+    (goes_on : (u : Guard) (limit : Option ℕ) (f : Value A → Bool) (s : List ℕ)
     → AreWritable (passed_as u limit f s))
-    (has_ended : (u : Unicode) (limit : Option ℕ) (f : Value A → Bool) (s : List ℕ)
+    (has_ended : (u : Guard) (limit : Option ℕ) (f : Value A → Bool) (s : List ℕ)
     → AreWritable (closed f (passed_as u limit f s)))
-    (k : Bool) (u : Unicode) where
+    (k : Bool) (u : Guard) where
   passed_least : (limit : Option ℕ) (f : Value A → Bool) → AdmitsAtMost (least k) f
       → (s : List ℕ) → list_all (admits (least k)) (passed_as u limit f s) ≡ true
   passed_least limit f most s =
@@ -232,35 +244,41 @@ module _ {A : Type 0}
     in_line : AdmitsAtMost (least k) (in_lines true f)
     in_line v h = most v (and_parts (not (is_line_feed v)) (f v) h).1
 
-    line_least : (l : List ℕ)
-        → list_all (admits (least k)) (passed_of_line u limit f l) ≡ true
-    line_least l = passed_least (Some limit) (in_lines true f) in_line l
+    feed_piece : IsOfPieces k (0x0a ∷ [])
+    feed_piece = subst (IsOfPieces k) (encode_ascii 0x0a (lit< tt)) (plain_piece k 0x0a refl)
 
-    end_piece : IsOfPieces k (0x0a ∷ [])
-    end_piece = subst (IsOfPieces k) (encode_ascii 0x0a (lit< tt)) (plain_piece k 0x0a refl)
+    return_piece : IsOfPieces k (0x0d ∷ [])
+    return_piece = subst (IsOfPieces k) (encode_ascii 0x0d (lit< tt)) (plain_piece k 0x0d refl)
+
+    end_piece : (r : Bool) → IsOfPieces k (end_text f r)
+    end_piece r = by (r && f (control CarriageReturn))
+      where
+        by : (t : Bool) → IsOfPieces k (if t then 0x0d ∷ 0x0a ∷ [] else 0x0a ∷ [])
+        by true = more_pieces k (0x0d ∷ []) (0x0a ∷ []) return_piece feed_piece
+        by false = feed_piece
 
     line_pieces : (l : List ℕ) → IsOfPieces k (line_text u limit f l)
     line_pieces l = by (ends_line false l)
       where
+        m : List ℕ
+        m = body (content l) ++ 0x0a ∷ []
+
+        r : Bool
+        r = ends_return false (content l)
+
         by : (t : Bool) → IsOfPieces k (if t
-            then list_text (closed f (passed_of_line u limit f l)) ++ 0x0a ∷ []
-            else list_text (passed_of_line u limit f l))
+            then list_text (closed f (passed_of_line u limit f m)) ++ end_text f r
+            else list_text (passed_of_line u limit f (body l)))
         by true =
-            more_pieces k (list_text (closed f (passed_of_line u limit f l))) (0x0a ∷ [])
-            (closed_pieces (Some limit) (in_lines true f) in_line l) end_piece
-        by false = passed_pieces (Some limit) (in_lines true f) in_line l
+            more_pieces k (list_text (closed f (passed_of_line u limit f m))) (end_text f r)
+            (closed_pieces (Some limit) (in_lines true f) in_line m) (end_piece r)
+        by false = passed_pieces (Some limit) (in_lines true f) in_line (body l)
 
     pub lines_pieces : (s : List ℕ) → IsOfPieces k (text_by_lines_as u limit f s)
     lines_pieces s = all_pieces k (line_text u limit f) (lines s) line_pieces
 
-    last_pieces : (s : List ℕ) → IsOfPieces k (list_text (line_closing u limit f s))
-    last_pieces s =
-        let vs = passed_of_line u limit f (last_line s) in
-        texts_pieces k false false (closing f vs)
-        (back_writable A (keeps_cursor f) (after_values vs unchanged))
-        (closing_least k f vs (line_least (last_line s)))
-
     pub closed_lines_pieces : (s : List ℕ) → IsOfPieces k (closed_by_lines_as u limit f s)
     closed_lines_pieces s =
-        more_pieces k (text_by_lines_as u limit f s) (list_text (line_closing u limit f s))
-        (lines_pieces s) (last_pieces s)
+        more_pieces k (text_by_lines_as u limit f (ended_lines s))
+        (list_text (last_values u limit f s)) (lines_pieces (ended_lines s))
+        (closed_pieces (Some limit) (in_lines true f) in_line (last_line s))

@@ -12,39 +12,39 @@ use Rattle.esc_actions.specs.Values.{Value}
 use Rattle.esc_filter.specs.Fed.{WasFedIn, policy_of}
 use Rattle.esc_filter.specs.Lines.{WasFedLines, closed_by_lines_as, policy_of_lines, text_by_lines_as}
 use Rattle.esc_filter.specs.Passing.{closed_text_as, passed_text_as, passes}
-use Rattle.esc_filter.specs.Characters.{in_characters}
-use Rattle.esc_filter.specs.declared.unicode.Unicode.{Unicode}
+use Rattle.esc_filter.specs.Characters.{in_values}
+use Rattle.esc_filter.specs.declared.guard.Guard.{Guard}
 use Rattle.esc_filter.proofs.Characters.{in_none}
 use Rattle.esc_normal.specs.Streams.{Filters, IsEither, IsText}
 use Rattle.esc_normal.specs.declared.filter_error.FilterError.{FilterError}
 use Rattle.esc_filter.specs.declared.filter.Filter.{Filter}
 use Rattle.esc_filter.specs.declared.line_filter.LineFilter.{LineFilter}
 
-pub begun : {P A : Type 0} (admits : P → Value A → Bool) (u : Unicode) (limit : ℕ) (policy : P)
+pub begun : {P A : Type 0} (admits : P → Value A → Bool) (u : Guard) (limit : ℕ) (policy : P)
     (f : Filter P A) → policy_of f ≡ policy → WasFedIn u false limit (admits policy) [] f
-    → (w : Unicode) × (l : ℕ) × WasFedIn w false l (admits (policy_of f)) [] f
+    → (w : Guard) × (l : ℕ) × WasFedIn w false l (admits (policy_of f)) [] f
     × (passed_text_as {A = A} u (Some limit) (admits policy)
     ≡ passed_text_as {A = A} w (Some l) (admits (policy_of f)))
     × (closed_text_as {A = A} u (Some limit) (admits policy)
     ≡ closed_text_as {A = A} w (Some l) (admits (policy_of f)))
 begun {P} {A} admits u limit policy f e h =
-    subst (λ q. (w : Unicode) × (l : ℕ) × WasFedIn w false l (admits q) [] f
+    subst (λ q. (w : Guard) × (l : ℕ) × WasFedIn w false l (admits q) [] f
     × (passed_text_as {A = A} u (Some limit) (admits policy)
     ≡ passed_text_as {A = A} w (Some l) (admits q))
     × (closed_text_as {A = A} u (Some limit) (admits policy)
     ≡ closed_text_as {A = A} w (Some l) (admits q)))
     (sym e) (u, limit, h, refl, refl)
 
-pub begun_lines : {P A : Type 0} (admits : P → Value A → Bool) (u : Unicode) (limit : ℕ)
+pub begun_lines : {P A : Type 0} (admits : P → Value A → Bool) (u : Guard) (limit : ℕ)
     (policy : P) (f : LineFilter P A) → policy_of_lines f ≡ policy
     → WasFedLines u limit (admits policy) [] f
-    → (w : Unicode) × (l : ℕ) × WasFedLines w l (admits (policy_of_lines f)) [] f
+    → (w : Guard) × (l : ℕ) × WasFedLines w l (admits (policy_of_lines f)) [] f
     × (text_by_lines_as {A = A} u limit (admits policy)
     ≡ text_by_lines_as {A = A} w l (admits (policy_of_lines f)))
     × (closed_by_lines_as {A = A} u limit (admits policy)
     ≡ closed_by_lines_as {A = A} w l (admits (policy_of_lines f)))
 begun_lines {P} {A} admits u limit policy f e h =
-    subst (λ q. (w : Unicode) × (l : ℕ) × WasFedLines w l (admits q) [] f
+    subst (λ q. (w : Guard) × (l : ℕ) × WasFedLines w l (admits q) [] f
     × (text_by_lines_as {A = A} u limit (admits policy)
     ≡ text_by_lines_as {A = A} w l (admits q))
     × (closed_by_lines_as {A = A} u limit (admits policy)
@@ -52,10 +52,10 @@ begun_lines {P} {A} admits u limit policy f e h =
     (sym e) (u, limit, h, refl, refl)
 
 -- nothing has no text
-pub nothing : {A : Type 0} (u : Unicode) (limit : ℕ) (admits : Value A → Bool)
+pub nothing : {A : Type 0} (u : Guard) (limit : ℕ) (admits : Value A → Bool)
     → passed_text_as {A = A} u (Some limit) admits [] ≡ []
 nothing u limit admits =
-    ap (λ vs. list_text (in_characters u (filter (passes admits) vs))) (meaning_nil (Some limit))
+    ap (λ vs. list_text (in_values u (filter (passes admits) vs))) (meaning_nil (Some limit))
     ∙ ap list_text (in_none u)
 
 -- What holds of each stream and its text holds of what was written. (A contract cannot say so of

@@ -44,7 +44,7 @@ use Rattle.esc_actions.specs.declared.control_code.ControlCode.{ControlCode}
 use Rattle.esc_actions.specs.declared.control_code.ControlCode.TheVariants as code
 use Rattle.esc_filter.specs.Lines.{has_line_feed, is_line_feed}
 use Rattle.esc_filter.specs.Passing.{is_line_feed as is_feed, is_mode_step}
-use Rattle.esc_filter.proofs.ByLines.{feeds_append, line_feed_is}
+use Rattle.esc_filter.proofs.LineBytes.{feeds_append, line_feed_is}
 use Rattle.esc_filter.proofs.LineData.{is_free}
 
 -- ---- texts without a line feed

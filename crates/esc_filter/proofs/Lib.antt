@@ -15,8 +15,10 @@ pub mod Characters
 pub mod Texts
 pub mod Writable
 pub mod Images
+pub mod LineBytes
 pub mod ByLines
 pub mod ShortRenditions
+pub mod PlainBytes
 pub mod PlainLines
 pub mod LineFeeds
 pub mod LineData

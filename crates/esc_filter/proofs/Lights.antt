@@ -1,6 +1,6 @@
 -- Whether renditions are on after a control sequence, and a link is left after a command.
-use Rattle.std.proofs.Common.{◌≡◌, ◌≢◌, true≢false, ℕ, ℤ, pos, ◌<◌, ◌+◌, ◌*◌, ◌%◌, length, ◌==◌, Bool, true, false, not, if◌then◌else◌, List, [], ◌∷◌, codes, Option, Some, None, refl, sym, ap, ◌∙◌, subst, drop, arith}
-use Rattle.std.specs.Prelude.{is_some, unwrap_or}
+use Rattle.std.proofs.Common.{◌≡◌, ◌≢◌, true≢false, ℕ, ℤ, pos, ◌<◌, ◌+◌, ◌-◌, suc, get_or, ◌*◌, ◌%◌, length, ◌==◌, Bool, true, false, not, if◌then◌else◌, List, [], ◌∷◌, ◌++◌, codes, Option, Some, None, refl, sym, ap, ◌∙◌, subst, drop, arith}
+use Rattle.std.specs.Prelude.{unwrap_or}
 use Rattle.std.specs.List.{list_all, onto_first, slice_split}
 use Rattle.std.proofs.lemmas.List.{append_cancel_right}
 use Rattle.std.proofs.lemmas.List.Splits.{slice_split-cons_no}
@@ -12,6 +12,8 @@ use Rattle.esc_values.specs.declared.csi_param.CsiParam.TheVariants.{Integer, P}
 use Rattle.esc_sequences.specs.Csis.{csi_of, is_separator, named, numbered, put_first, rendition, renditions, sgr, unspecified}
 use Rattle.esc_sequences.specs.declared.sgr.Sgr.{Sgr}
 use Rattle.esc_sequences.specs.declared.sgr.Sgr.TheVariants as sgr_variant
+use Rattle.esc_frame.specs.Segments.{is_empty}
+use Rattle.esc_links.specs.Hyperlinks.{hyperlink_text, params_text}
 use Rattle.esc_links.specs.declared.hyperlink.Hyperlink.{Hyperlink}
 use Rattle.esc_osc.specs.Commands.{command_text, inner_text}
 use Rattle.esc_osc.specs.Writable.{IsWritable as IsWritableCommand}
@@ -27,7 +29,7 @@ use Rattle.esc_functions.specs.Rows.{packed}
 use Rattle.esc_functions.specs.declared.control_function.ControlFunction.{ControlFunction}
 use Rattle.esc_functions.specs.declared.control_function.ControlFunction.TheVariants as function
 use Rattle.esc_functions.proofs.Functions.{has_its_key}
-use Rattle.esc_filter.specs.Closing.{IsAfter, BeginsWith, Turns, after_body, after_command, is_reset, lights, turned}
+use Rattle.esc_filter.specs.Closing.{IsAfter, BeginsWith, Turns, after_body, after_command, ends_in_semicolon, is_reset, lights, opens as opened, turned}
 use Rattle.esc_filter.specs.Terminal.{after_function, after_named, lit}
 use Rattle.esc_filter.specs.declared.terminal.Terminal.{Terminal}
 use Rattle.esc_filter.proofs.Screens.{no_marks}
@@ -231,6 +233,23 @@ pub other_sequence : (es : List CsiParam) (f : ℕ) (t u : Terminal) → f ≢ 0
 other_sequence es f t u other after =
     (unspecified es false f, rw (ne_eqb f 0x6d other) refl, after)
 
+-- ---- a semicolon at the end
+
+semicolon_after : (before : Bool) (b : ℕ) (x : List ℕ)
+    → ends_in_semicolon before (b ∷ x) ≡ (get_or (b ∷ x) (length (b ∷ x) - 1) 0 == 0x3b)
+semicolon_after before b [] = refl
+semicolon_after before b (c ∷ x) =
+    semicolon_after (b == 0x3b) c x
+    ∙ ap (λ n. get_or (b ∷ c ∷ x) n 0 == 0x3b) (last_at (length x))
+  where
+    last_at : (n : ℕ) → suc (suc n - 1) ≡ suc (suc n) - 1
+    last_at n = omega arith
+
+pub last_semicolon : (x : List ℕ) → 0 < length x
+    → (get_or x (length x - 1) 0 == 0x3b) ≡ ends_in_semicolon false x
+last_semicolon [] h = absurd (omega (arith, h))
+last_semicolon (b ∷ x) h = sym (semicolon_after false b x)
+
 -- ---- a command
 
 -- the end of a link can be written
@@ -249,17 +268,36 @@ module _ (A : Type 0) where
       → after_command (meaning {A = A} (parts_of x)) t ≡ t
   leaves x t h = sym (stays (meaning (parts_of x)) t (other_begins A x h))
 
+  no_address : (y : List ℕ) (u : List ℕ) → u ≡ []
+      → ends_in_semicolon false (codes "8;" ++ (y ++ 0x3b ∷ u)) ≡ true
+  no_address y u e = ap (λ z. ends_in_semicolon false (codes "8;" ++ (y ++ 0x3b ∷ z))) e ∙ last true y
+    where
+      last : (before : Bool) (y : List ℕ) → ends_in_semicolon before (y ++ 0x3b ∷ []) ≡ true
+      last before [] = refl
+      last before (b ∷ y) = last (b == 0x3b) y
+
   some_link : (x : List ℕ) (l : Option (Hyperlink A)) → x ≢ codes "8;;"
-      → command_text (command.SetHyperlink l) ≡ framed x → is_some l ≡ true
-  some_link x None n e = absurd (n (sym (append_cancel_right (codes "8;;") x (0x1b ∷ 0x5c ∷ [])
+      → ends_in_semicolon false x ≡ false
+      → command_text (command.SetHyperlink l) ≡ framed x → opened l ≡ true
+  some_link x None n s e = absurd (n (sym (append_cancel_right (codes "8;;") x (0x1b ∷ 0x5c ∷ [])
       (ap (drop 2) e))))
-  some_link x (Some h) n e = refl
+  some_link x (Some h) n s e = by h.uri refl
+    where
+      same : hyperlink_text h ≡ x
+      same = append_cancel_right (hyperlink_text h) x (0x1b ∷ 0x5c ∷ []) (ap (drop 2) e)
+
+      by : (u : List ℕ) → h.uri ≡ u → not (is_empty u) ≡ true
+      by [] k =
+          absurd (true≢false (sym (no_address (params_text h.params) h.uri k)
+          ∙ ap (ends_in_semicolon false) same ∙ s))
+      by (b ∷ u) k = refl
 
   pub opens : (x : List ℕ) (t : Terminal) → IsPlainLink A x → x ≢ codes "8;;"
+      → ends_in_semicolon false x ≡ false
       → record t { link = true } ≡ after_command (meaning {A = A} (parts_of x)) t
-  opens x t (l, means, written) n =
+  opens x t (l, means, written) n s =
       ap (λ b. record t { link = b })
-      (sym (some_link x l n (ap command_text (sym means) ∙ written)))
+      (sym (some_link x l n s (ap command_text (sym means) ∙ written)))
       ∙ ap (λ c. after_command c t) (sym means)
 
   pub ends : (x : List ℕ) (t : Terminal) → x ≡ codes "8;;"

@@ -32,7 +32,7 @@ use Rattle.esc_actions.specs.Readings.{MeansItsCut, reading_within, readings_wit
 use Rattle.esc_actions.specs.Values.{Mode, Value, plain, in_sixel, in_termcap, in_short, entered, after, closed_gives, csi, executed, given, imaged, opened, opened_gives, short, sixel, taken_gives, termcap}
 use Rattle.esc_actions.specs.declared.control_code.ControlCode.{ControlCode}
 use Rattle.esc_filter.specs.Lines.{IsLine, has_line_feed, is_line_feed}
-use Rattle.esc_filter.proofs.ByLines.{feeds_append}
+use Rattle.esc_filter.proofs.LineBytes.{feeds_append}
 
 pub both : {X : Type 0} (p : X → Bool) (xs ys : List X) → list_all p xs ≡ true
     → list_all p ys ≡ true → list_all p (xs ++ ys) ≡ true

@@ -13,8 +13,9 @@ use Rattle.esc_actions.specs.Values.{Value, control, csi, osc, print, value_of}
 use Rattle.esc_actions.specs.declared.control_code.ControlCode.{ControlCode}
 use Rattle.esc_filter.proofs.Characters.{AreThemselves}
 use Rattle.esc_visible.specs.Characters.{is_deceiving}
-use Rattle.esc_filter.specs.Characters.{in_unicode}
-use Rattle.esc_filter.specs.declared.unicode.Unicode.{Unicode}
+use Rattle.esc_filter.specs.Characters.{in_guard, in_return, instead, is_return}
+use Rattle.esc_filter.specs.declared.guard.Guard.{Guard}
+use Rattle.esc_filter.specs.declared.returns.Returns.TheVariants as way
 use Rattle.esc_filter.specs.declared.unicode.Unicode.TheVariants.{Drop}
 use Rattle.esc_actions.specs.declared.action.Action.{Action}
 use Rattle.esc_actions.specs.declared.action.Action.TheVariants as action
@@ -42,7 +43,7 @@ module _ {A : Type 0} where
 
   pub writes_one : (p q : Written A) (a : Action A) (v : Value A) → value_of a ≡ v
       → Adds p.spell a q.spell → q.left ≡ after_value v p.left → q.by_lines ≡ p.by_lines
-      → q.unicode ≡ p.unicode → Writes p (v ∷ []) q
+      → q.guard ≡ p.guard → Writes p (v ∷ []) q
   writes_one p q a v is t o b u =
       let f = p.spell.follows_string in (
         t.0
@@ -56,37 +57,59 @@ module _ {A : Type 0} where
 
   -- it is written as it is
   notes_one : (p q : Written A) (a : Action A) (v : Value A) → value_of a ≡ v
-      → written_of p.by_lines p.unicode v ≡ v ∷ []
+      → written_of p.by_lines p.guard v ≡ v ∷ []
       → Adds p.spell a q.spell → q.left ≡ after_value v p.left → q.by_lines ≡ p.by_lines
-      → q.unicode ≡ p.unicode → Notes p a q
+      → q.guard ≡ p.guard → Notes p a q
   notes_one p q a v is itself t o b u =
-      subst (λ x. Writes p (written_of p.by_lines p.unicode x) q) (sym is)
+      subst (λ x. Writes p (written_of p.by_lines p.guard x) q) (sym is)
       (subst (λ ws. Writes p ws q) (sym itself) (writes_one p q a v is t o b u))
 
-  -- a control that is no line feed, or is none that is dropped
-  pub notes_control : (p : Written A) (s : Spell A) (c : ControlCode)
-      → (p.by_lines && is_line_feed {A = A} (control c)) ≡ false → Adds p.spell (action.Control c) s
-      → Notes p (action.Control c) (with_both p (after_control c p.left) s)
-  notes_control p s c h t =
-      notes_one p (with_both p (after_control c p.left) s) (action.Control c) ctl refl
-      (either p.by_lines (is_line_feed ctl) h) t refl refl refl
+  -- what is written of a control that is no line feed, or is none that is dropped
+  in_control : (b : Bool) (u : Guard) (c : ControlCode)
+      → (b && is_line_feed {A = A} (control c)) ≡ false
+      → written_of {A = A} b u (control c) ≡ in_guard u (control c)
+  in_control b u c h = either b (is_line_feed {A = A} (control c)) (in_guard u (control c)) h
     where
-      ctl : Value A
-      ctl = control c
+      either : (x y : Bool) (vs : List (Value A)) → (x && y) ≡ false
+          → (if y && x then [] else vs) ≡ vs
+      either true true vs h = absurd cc
+      either true false vs h = refl
+      either false true vs h = refl
+      either false false vs h = refl
 
-      either : (x y : Bool) → (x && y) ≡ false
-          → (if y && x then [] else ctl ∷ []) ≡ ctl ∷ []
-      either true true h = absurd cc
-      either true false h = refl
-      either false true h = refl
-      either false false h = refl
+  -- of a carriage return, and of any other control
+  of_return : (u : Guard) (c : ControlCode) → is_return c ≡ true
+      → in_guard {A = A} u (control c) ≡ in_return u.returns
+  of_return u c r = ap (λ t. if t then in_return {A = A} u.returns else control c ∷ []) r
+
+  of_other : (u : Guard) (c : ControlCode) → is_return c ≡ false
+      → in_guard {A = A} u (control c) ≡ control c ∷ []
+  of_other u c r = ap (λ t. if t then in_return {A = A} u.returns else control c ∷ []) r
+
+  -- one that is no carriage return either
+  pub notes_control : (p : Written A) (s : Spell A) (c : ControlCode)
+      → (p.by_lines && is_line_feed {A = A} (control c)) ≡ false → is_return c ≡ false
+      → Adds p.spell (action.Control c) s
+      → Notes p (action.Control c) (with_both p (after_control c p.left) s)
+  notes_control p s c h r t =
+      notes_one p (with_both p (after_control c p.left) s) (action.Control c) (control c) refl
+      (in_control p.by_lines p.guard c h ∙ of_other p.guard c r) t refl refl refl
+
+  -- a carriage return
+  pub notes_return : (p q : Written A) (c : ControlCode)
+      → (p.by_lines && is_line_feed {A = A} (control c)) ≡ false → is_return c ≡ true
+      → Writes p (in_return p.guard.returns) q → Notes p (action.Control c) q
+  notes_return p q c h r w =
+      subst (λ ws. Writes p ws q)
+      (sym (in_control p.by_lines p.guard c h ∙ of_return p.guard c r)) w
 
   -- a line feed that is
   pub notes_feed : (p q : Written A) (c : ControlCode) → p.by_lines ≡ true
       → is_line_feed {A = A} (control c) ≡ true → q.spell ≡ p.spell → q.left ≡ p.left
-      → q.by_lines ≡ p.by_lines → q.unicode ≡ p.unicode → Notes p (action.Control c) q
+      → q.by_lines ≡ p.by_lines → q.guard ≡ p.guard → Notes p (action.Control c) q
   notes_feed p q c l f s o b u =
-      subst (λ ws. Writes p ws q) (sym (none p.by_lines (is_line_feed ctl) l f)) (
+      subst (λ ws. Writes p ws q)
+      (sym (none p.by_lines (is_line_feed ctl) (in_guard p.guard ctl) l f)) (
         ap (λ x. x.text) s ∙ sym (append-nil p.spell.text),
         ap (λ x. x.follows_string) s,
         o,
@@ -97,27 +120,42 @@ module _ {A : Type 0} where
       ctl : Value A
       ctl = control c
 
-      none : (x y : Bool) → x ≡ true → y ≡ true → (if y && x then [] else ctl ∷ []) ≡ []
-      none true true h k = refl
-      none true false h k = absurd cc
-      none false y h k = absurd cc
+      none : (x y : Bool) (vs : List (Value A)) → x ≡ true → y ≡ true
+          → (if y && x then [] else vs) ≡ []
+      none true true vs h k = refl
+      none true false vs h k = absurd cc
+      none false y vs h k = absurd cc
 
   -- nothing is written of it
   pub notes_nothing : (p : Written A) (a : Action A)
-      → written_of p.by_lines p.unicode (value_of a) ≡ [] → Notes p a p
+      → written_of p.by_lines p.guard (value_of a) ≡ [] → Notes p a p
   notes_nothing p a e =
       subst (λ ws. Writes p ws p) (sym e)
       (sym (append-nil p.spell.text), refl, refl, refl, refl)
 
   -- a character is left out where it deceives
-  pub dropped : (b : Bool) (u : Unicode) (c : ℕ) → (u ≡ Drop) × (is_deceiving c ≡ true)
+  pub dropped : (b : Bool) (u : Guard) (c : ℕ) → (u.characters ≡ Drop) × (is_deceiving c ≡ true)
       → written_of {A = A} b u (print c) ≡ []
   dropped b u c (e, d) =
-      subst (λ w. written_of {A = A} b w (print c) ≡ []) (sym e) (rw d refl)
+      ap (λ t. if t then instead u.characters c else print c ∷ []) d
+      ∙ ap (λ k. instead k c) e
+
+  -- and a carriage return where these are
+  pub return_dropped : (b : Bool) (u : Guard) (c : ControlCode)
+      → (u.returns ≡ way.Drop) × (is_return c ≡ true) → written_of {A = A} b u (control c) ≡ []
+  return_dropped b u c (e, r) = by (is_line_feed {A = A} (control c)) b
+    where
+      none : in_guard {A = A} u (control c) ≡ []
+      none = of_return u c r ∙ ap in_return e
+
+      by : (x y : Bool) → (if x && y then [] else in_guard {A = A} u (control c)) ≡ []
+      by true true = refl
+      by true false = none
+      by false y = none
 
   -- ---- a run
 
-  pub run_noted : (xs : List ℕ) (p : Written A) (s : Spell A) → AreThemselves A p.unicode xs
+  pub run_noted : (xs : List ℕ) (p : Written A) (s : Spell A) → AreThemselves A p.guard xs
       → FoldsTo Adds p.spell (map action.Print xs) s
       → FoldsTo Notes p (map action.Print xs) (record p { spell = s })
   run_noted [] p s h e = ap (with_spell p) e
@@ -254,7 +292,7 @@ module _ {A : Type 0} where
   -- ---- results
 
   pub print_given : {E : Type 0} (r : Result (Unit {0}) E) (p q : Written A) (c : ℕ)
-      → OnOk r (Writes p (in_unicode p.unicode (print c)) q) → OnErr r (Refused A)
+      → OnOk r (Writes p (in_guard p.guard (print c)) q) → OnErr r (Refused A)
       → MatchResult r (λ _. Notes p (action.Print c) q) (λ _. WriteDenies p (action.Print c) q)
   print_given (Ok t) p q c h k = h
   print_given (Err e) p q c h k = λ _. k

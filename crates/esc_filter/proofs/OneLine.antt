@@ -1,5 +1,5 @@
 -- What is written of a line has no line feed but its own.
-use Rattle.std.proofs.Common.{ℕ, ◌≡◌, Bool, true, false, not, ◌&&◌, if◌then◌else◌, List, [], ◌∷◌, ◌++◌, map, Option, Some, ◌⊎◌, inl, inr, refl, sym, ap, ◌∙◌, subst, append-nil}
+use Rattle.std.proofs.Common.{ℕ, ◌≡◌, Bool, true, false, not, ◌&&◌, if◌then◌else◌, List, [], ◌∷◌, ◌++◌, map, Option, Some, ◌⊎◌, inl, inr, refl, sym, ap, ◌∙◌, subst, append-nil, append_assoc}
 use Rattle.std.specs.List.{filter, flat_map, list_all}
 use Rattle.std.proofs.lemmas.Bool.{and_parts}
 use Rattle.esc_visible.specs.Characters.{is_deceiving, number_text}
@@ -16,11 +16,16 @@ use Rattle.esc_frame.specs.Segments.{Segment, IsCut, is_empty}
 use Rattle.esc_actions.specs.Meaning.{meaning_within}
 use Rattle.esc_actions.specs.Readings.{MeansItsCut}
 use Rattle.esc_actions.specs.Texts.{list_text}
-use Rattle.esc_actions.specs.Values.{Value, print}
+use Rattle.esc_actions.specs.Values.{Value, control, print}
+use Rattle.esc_actions.specs.declared.control_code.ControlCode.{ControlCode}
+use Rattle.esc_actions.specs.declared.control_code.ControlCode.TheVariants.{CarriageReturn}
 use Rattle.esc_actions.specs.Writable.{AreWritable, is_exception}
-use Rattle.esc_filter.specs.Characters.{in_characters, in_unicode, instead}
-use Rattle.esc_filter.specs.Lines.{IsLine, begin_with, has_line_feed, is_line_feed, line_text, lines, passed_of_line, text_by_lines_as}
+use Rattle.esc_filter.specs.Characters.{in_guard, in_return, in_values, instead, is_return}
+use Rattle.esc_filter.specs.Lines.{IsLine, begin_with, body, closed_by_lines_as, content, end_text, ends_return, has_line_feed, is_line_feed, last_line, line_text, lines, passed_of_line, text_by_lines_as}
 use Rattle.esc_filter.specs.Passing.{in_lines, is_line_feed as is_feed, is_mode_step, passed, passed_as, passes}
+use Rattle.esc_filter.specs.declared.guard.Guard.{Guard}
+use Rattle.esc_filter.specs.declared.returns.Returns.{Returns}
+use Rattle.esc_filter.specs.declared.returns.Returns.TheVariants as way
 use Rattle.esc_filter.specs.declared.unicode.Unicode.{Unicode}
 use Rattle.esc_filter.specs.declared.unicode.Unicode.TheVariants.{Drop, Keep, Show}
 use Rattle.esc_filter.specs.Closing.{after_values, closed, closing, give, given_back, keeps_cursor, main_by, margins_back, saved_by, screen_back, states_back, without_margins}
@@ -28,9 +33,8 @@ use Rattle.esc_filter.specs.Terminal.{is_changed_saved, unchanged}
 use Rattle.esc_filter.specs.declared.terminal.Screen.{Screen}
 use Rattle.esc_filter.specs.declared.terminal.Screen.TheVariants as screen
 use Rattle.esc_filter.specs.declared.terminal.Terminal.{Terminal}
-use Rattle.esc_filter.proofs.ByLines.{feeds_append, line_ends, line_feed_is, lines_append, no_end, one_line, open_line}
+use Rattle.esc_filter.proofs.LineBytes.{body_feeds, content_is, ended_open, feeds_append, last_open, line_ends, line_feed_is, lines_append, no_end, one_line, open_line}
 use Rattle.esc_filter.proofs.Characters.{in_more, in_none, kinds}
-use Rattle.esc_filter.proofs.Closers.{back_writable}
 use Rattle.esc_filter.proofs.LineData.{IsAnyLine, both, is_free, line_free}
 use Rattle.esc_filter.proofs.Feedless.{Feedless, is_fine, texts_feedless}
 
@@ -71,23 +75,35 @@ module _ (A : Type 0) where
   instead_fine Show c true = prints_fine (number_text c)
   instead_fine Drop c true = refl
 
-  unicode_fine : (u : Unicode) (v : Value A) → is_fine v ≡ true
-      → list_all is_fine (in_unicode u v) ≡ true
-  unicode_fine u v h = by (kinds v)
-    where
-      by : ((c : ℕ) × (v ≡ print c)) ⊎ ((w : Unicode) → in_unicode w v ≡ v ∷ [])
-          → list_all is_fine (in_unicode u v) ≡ true
-      by (inl (c, e)) =
-          ap (λ x. list_all is_fine (in_unicode u x)) e ∙ instead_fine u c (is_deceiving c)
-      by (inr f) = ap (list_all is_fine) (f u) ∙ rw h refl
+  return_fine : (r : Returns) (c : ControlCode) (t : Bool) → is_fine {A = A} (control c) ≡ true
+      → list_all is_fine (if t then in_return {A = A} r else control c ∷ []) ≡ true
+  return_fine r c false h = rw h refl
+  return_fine way.Keep c true h = refl
+  return_fine way.Show c true h = refl
+  return_fine way.Drop c true h = refl
 
-  written_fine : (u : Unicode) (vs : List (Value A)) → list_all is_fine vs ≡ true
-      → list_all is_fine (in_characters u vs) ≡ true
+  guard_fine : (u : Guard) (v : Value A) → is_fine v ≡ true
+      → list_all is_fine (in_guard u v) ≡ true
+  guard_fine u v h = by (kinds v)
+    where
+      by : ((c : ℕ) × (v ≡ print c)) ⊎ (((c : ControlCode) × (v ≡ control c))
+          ⊎ ((w : Guard) → in_guard w v ≡ v ∷ []))
+          → list_all is_fine (in_guard u v) ≡ true
+      by (inl (c, e)) =
+          ap (λ x. list_all is_fine (in_guard u x)) e
+          ∙ instead_fine u.characters c (is_deceiving c)
+      by (inr (inl (c, e))) =
+          ap (λ x. list_all is_fine (in_guard u x)) e
+          ∙ return_fine u.returns c (is_return c) (ap is_fine (sym e) ∙ h)
+      by (inr (inr f)) = ap (list_all is_fine) (f u) ∙ rw h refl
+
+  written_fine : (u : Guard) (vs : List (Value A)) → list_all is_fine vs ≡ true
+      → list_all is_fine (in_values u vs) ≡ true
   written_fine u [] h = ap (list_all is_fine) (in_none {A = A} u)
   written_fine u (v ∷ vs) h =
       let q = and_parts (is_fine v) (list_all is_fine vs) h in
       ap (list_all is_fine) (in_more u v vs)
-      ∙ both is_fine (in_unicode u v) (in_characters u vs) (unicode_fine u v q.0)
+      ∙ both is_fine (in_guard u v) (in_values u vs) (guard_fine u v q.0)
       (written_fine u vs q.1)
 
   give_fine : (b : Bool) (v : Value A) (vs : List (Value A)) → is_fine v ≡ true
@@ -189,11 +205,11 @@ module _ {A : Type 0} (means : MeansItsCut A)
     (image : (i : KittyImage A) → IsWritableImage i → ReadsBackImage i)
     (pixels : (s : Sixel A) → IsWritableSixel s → WritesBackSixel s)
     (query : (ns : List (List ℕ)) → AreWritableNames ns → WritesBackNames ns)
-    (goes_on : (u : Unicode) (limit : Option ℕ) (admits : Value A → Bool) (s : List ℕ)
+    (goes_on : (u : Guard) (limit : Option ℕ) (admits : Value A → Bool) (s : List ℕ)
     → AreWritable (passed_as u limit admits s))
-    (has_ended : (u : Unicode) (limit : Option ℕ) (admits : Value A → Bool) (s : List ℕ)
+    (has_ended : (u : Guard) (limit : Option ℕ) (admits : Value A → Bool) (s : List ℕ)
     → AreWritable (closed admits (passed_as u limit admits s)))
-    (u : Unicode) (limit : ℕ) (admits : Value A → Bool) where
+    (u : Guard) (limit : ℕ) (admits : Value A → Bool) where
   texts : (vs : List (Value A)) → AreWritable vs → list_all is_fine vs ≡ true
       → Feedless (list_text vs)
   texts vs h k = texts_feedless clear image pixels query false false vs h k
@@ -204,39 +220,65 @@ module _ {A : Type 0} (means : MeansItsCut A)
       (passed_fine A admits (meaning_within (Some limit) l)
       (line_free means has (Some limit) l line))
 
-  back_feedless : (l : List ℕ)
-      → Feedless (list_text (closing admits (passed_of_line {A = A} u limit admits l)))
-  back_feedless l =
-      let o = after_values (passed_of_line {A = A} u limit admits l) unchanged in
-      let k = keeps_cursor admits in
-      texts (given_back k o) (back_writable A k o) (back_fine A k o)
+  -- a text, and the end of a line
+  with_end : (t : List ℕ) (r : Bool) → Feedless t → IsLine (t ++ end_text admits r)
+  with_end t r h = by (r && admits (control CarriageReturn))
+    where
+      by : (c : Bool) → IsLine (t ++ (if c then 0x0d ∷ 0x0a ∷ [] else 0x0a ∷ []))
+      by true = (
+        t ++ 0x0d ∷ [],
+        feeds_append t (0x0d ∷ []) h refl,
+        sym (append_assoc t (0x0d ∷ []) (0x0a ∷ [])),
+      )
+      by false = (t, h, refl)
 
   pub ended_line : (l : List ℕ) → IsLine l → IsLine (line_text {A = A} u limit admits l)
-  ended_line l line =
-      let vs = passed_of_line {A = A} u limit admits l in (
-        list_text (closed admits vs),
-        texts (closed admits vs) (has_ended u (Some limit) (in_lines true admits) l)
-            (both is_fine vs (closing admits vs) (line_fine l (inl line))
-            (back_fine A (keeps_cursor admits) (after_values vs unchanged))),
-        rw (line_ends false l line) refl,
-      )
+  ended_line l (x, none, e) =
+      let m = body x ++ 0x0a ∷ [] in
+      let vs = passed_of_line u limit admits m in
+      let r = ends_return false x in
+      subst IsLine (sym (
+      ap (line_text {A = A} u limit admits) e
+      ∙ ap (λ t. either t (x ++ 0x0a ∷ [])) (line_ends false (x ++ 0x0a ∷ []) (x, none, refl))
+      ∙ ap (λ y. list_text (closed admits (passed_of_line {A = A} u limit admits
+      (body y ++ 0x0a ∷ []))) ++ end_text admits (ends_return false y)) (content_is x [] none)))
+      (with_end (list_text (closed admits vs)) r
+      (texts (closed admits vs) (has_ended u (Some limit) (in_lines true admits) m)
+      (both is_fine vs (closing admits vs)
+      (line_fine m (inl (body x, body_feeds x none, refl)))
+      (back_fine A (keeps_cursor admits) (after_values vs unchanged)))))
+    where
+      either : Bool → List ℕ → List ℕ
+      either t l =
+          if t
+          then list_text (closed admits (passed_of_line {A = A} u limit admits
+          (body (content l) ++ 0x0a ∷ []))) ++ end_text admits (ends_return false (content l))
+          else list_text (passed_of_line {A = A} u limit admits (body l))
 
   open_text_is : (l : List ℕ) → has_line_feed l ≡ false
-      → line_text {A = A} u limit admits l ≡ list_text (passed_of_line u limit admits l)
+      → line_text {A = A} u limit admits l ≡ list_text (passed_of_line u limit admits (body l))
   open_text_is l none = rw (no_end l none) refl
 
   pub last_line_open : (l : List ℕ) → has_line_feed l ≡ false
       → has_line_feed (line_text {A = A} u limit admits l) ≡ false
   last_line_open l none =
       ap has_line_feed (open_text_is l none)
-      ∙ texts (passed_of_line u limit admits l)
-      (goes_on u (Some limit) (in_lines true admits) l) (line_fine l (inr none))
+      ∙ texts (passed_of_line u limit admits (body l))
+      (goes_on u (Some limit) (in_lines true admits) (body l))
+      (line_fine (body l) (inr (body_feeds l none)))
 
   pub last_line_closed : (l : List ℕ) → has_line_feed l ≡ false
-      → has_line_feed (line_text {A = A} u limit admits l
-      ++ list_text (closing admits (passed_of_line u limit admits l))) ≡ false
-  last_line_closed l none = feeds_append (line_text u limit admits l) _ (last_line_open l none)
-      (back_feedless l)
+      → has_line_feed (closed_by_lines_as {A = A} u limit admits l) ≡ false
+  last_line_closed l none =
+      let vs = passed_of_line {A = A} u limit admits l in
+      ap (λ d. has_line_feed (text_by_lines_as {A = A} u limit admits d
+      ++ list_text (closed admits (passed_of_line {A = A} u limit admits (last_line l)))))
+      (ended_open l none)
+      ∙ ap (λ r. has_line_feed (list_text (closed admits
+      (passed_of_line {A = A} u limit admits r)))) (last_open l none)
+      ∙ texts (closed admits vs) (has_ended u (Some limit) (in_lines true admits) l)
+      (both is_fine vs (closing admits vs) (line_fine l (inr none))
+      (back_fine A (keeps_cursor admits) (after_values vs unchanged)))
 
   pub lines_are : (s : List ℕ) → lines (text_by_lines_as {A = A} u limit admits s)
       ≡ filter (λ t. not (is_empty t)) (map (line_text {A = A} u limit admits) (lines s))

@@ -1,11 +1,10 @@
 -- Lines that are written as they are.
-use Rattle.std.proofs.Common.{ℕ, suc, not, ◌≡◌, ◌<◌, ◌+◌, ◌-◌, length, take, drop, get_or, Bool, true, false, ◌||◌, List, [], ◌∷◌, ◌++◌, map, Some, ◌⊎◌, inl, inr, arith, refl, ap, sym, ◌∙◌, subst, append-nil, append_assoc}
+use Rattle.std.proofs.Common.{ℕ, suc, not, ◌≡◌, ◌<◌, ◌+◌, ◌-◌, length, take, drop, get_or, Bool, true, false, ◌||◌, List, [], ◌∷◌, ◌++◌, map, Some, arith, refl, ap, sym, ◌∙◌, subst, append-nil, append_assoc}
 use Rattle.std.specs.Prelude.{IsTrue}
 use Rattle.std.specs.List.{filter, list_all, prefix_len}
 use Rattle.std.specs.Str.{IsAscii}
 use Rattle.std.proofs.Math.Seq.{take-suc}
 use Rattle.std.proofs.lemmas.Bool.{and_parts}
-use Rattle.std.proofs.lemmas.Bool.Decides.{nat_tests}
 use Rattle.std.proofs.lemmas.List.Elements.{filter-append}
 use Rattle.std.proofs.lemmas.List.Folds.{list_any-append}
 use Rattle.std.proofs.lemmas.Str.{IsAscii-append, encode_ascii}
@@ -15,11 +14,11 @@ use Rattle.esc_frame.specs.Events.{Event}
 use Rattle.esc_frame.specs.Events.Event.{CsiDispatch, Execute, Print}
 use Rattle.esc_frame.specs.Leads.{Unfinished}
 use Rattle.esc_frame.specs.Leads.Unfinished.{Ground}
-use Rattle.esc_frame.specs.Machine.Moves.{after_all, after_by, events_all, events_by, ground_move, move}
-use Rattle.esc_frame.specs.Scans.{is_data_byte, is_text_byte}
+use Rattle.esc_frame.specs.Machine.Moves.{after_all, after_by, events_all, events_by, move}
+use Rattle.esc_frame.specs.Scans.{is_data_byte}
 use Rattle.esc_frame.specs.Stream.{events_within}
 use Rattle.esc_frame.proofs.CsiRuns.{run_joins}
-use Rattle.esc_frame.proofs.ManyBytes.{run_passes, text_class}
+use Rattle.esc_frame.proofs.ManyBytes.{run_passes}
 use Rattle.esc_frame.proofs.Streams.{after_append, events_append}
 use Rattle.esc_actions.proofs.Meanings.{mode_append, values_append}
 use Rattle.esc_actions.specs.ControlCodes.{code_of}
@@ -32,59 +31,29 @@ use Rattle.esc_normal.proofs.Texts.{texts_more}
 use Rattle.esc_normal.specs.Texts.{ends_in_string}
 use Rattle.esc_values.specs.declared.csi_param.CsiParam.{CsiParam}
 use Rattle.esc_sequences.specs.Csis.{CsiValue, csi_of, sgr, unspecified}
-use Rattle.esc_filter.specs.Characters.{in_characters, in_unicode}
+use Rattle.esc_filter.specs.Characters.{in_values, in_guard}
 use Rattle.esc_filter.specs.Closing.{after_values, closing, given_back, keeps_cursor, turned}
 use Rattle.esc_filter.specs.Terminal.{unchanged}
 use Rattle.esc_filter.specs.declared.terminal.Terminal.{Terminal}
 use Rattle.esc_filter.specs.Fed.{WasFedIn}
 use Rattle.esc_filter.specs.Known.{ArePassedRenditions, IsPassedText}
-use Rattle.esc_filter.specs.Lines.{ArePlainLines, GrowsBy, IsShortRendition, WasFedLines, added_by, ends_line, has_line_feed, is_line_feed, passed_of_line, text_by_lines_as}
+use Rattle.esc_filter.specs.Lines.{ArePlainLines, GrowsBy, IsShortRendition, WasFedLines, added_by, body, end_text, ends_line, ends_return, has_line_feed, held, is_line_feed, is_return, passed_of_line, text_by_lines_as}
 use Rattle.esc_filter.specs.Passing.{in_lines, passes}
-use Rattle.esc_filter.specs.Rules.{is_rendition, is_shown}
+use Rattle.esc_filter.specs.Rules.{is_rendition}
 use Rattle.esc_filter.specs.declared.line_filter.LineFilter.{LineFilter}
-use Rattle.esc_filter.specs.declared.unicode.Unicode.{Unicode}
-use Rattle.esc_filter.proofs.ByLines.{by_append, closed_text, ends_append, no_end}
+use Rattle.esc_filter.specs.declared.guard.Guard.{Guard}
+use Rattle.esc_filter.proofs.ByLines.{by_append, closed_text}
+use Rattle.esc_filter.proofs.LineBytes.{ends_append, feeds_append, no_end}
+use Rattle.esc_filter.proofs.PlainBytes.{body_held_of, data_ascii, data_inner, data_move, data_shown, data_text, end_ascii, end_ends, has_return, held_feed, no_return, of_inner, with_held}
 use Rattle.esc_filter.proofs.Characters.{in_both, in_more, in_none, text_themselves}
 use Rattle.esc_filter.proofs.Runs.{all_more}
 use Rattle.esc_filter.proofs.Sequences.{each_whole}
 use Rattle.esc_filter.proofs.ShortRenditions.{Shade, is_inner, shade_of}
 use Rattle.esc_filter.proofs.Texts.{after_more}
 
--- ---- bytes
-
-inner_ascii : (b : ℕ) → is_inner b ≡ true → b < 128
-inner_ascii b h = grind (arith, nat_tests)
-
-inner_feed : (b : ℕ) → is_inner b ≡ true → is_line_feed b ≡ false
-inner_feed b h = grind (arith, nat_tests)
-
--- ASCII, without a line feed
-of_inner : (s : List ℕ) → list_all is_inner s ≡ true → IsAscii s × (has_line_feed s ≡ false)
-of_inner [] h = (IsAscii-nil, refl)
-of_inner (b ∷ s) h =
-    let q = and_parts (is_inner b) (list_all is_inner s) h in
-    let r = of_inner s q.1 in
-    (IsAscii-cons b s (inner_ascii b q.0) r.0, rw (inner_feed b q.0, r.1) refl)
-
-data_text : (b : ℕ) → is_data_byte b ≡ true → is_text_byte b ≡ true
-data_text b h = grind (arith, nat_tests)
-
-data_inner : (b : ℕ) → is_data_byte b ≡ true → is_inner b ≡ true
-data_inner b h = grind (arith, nat_tests)
-
-data_ascii : (b : ℕ) → is_data_byte b ≡ true → b < 0x80
-data_ascii b h = grind (arith, nat_tests)
-
-data_shown : (b : ℕ) → is_data_byte b ≡ true → is_shown b ≡ true
-data_shown b h = grind (arith, nat_tests)
-
-data_move : (b : ℕ) → is_data_byte b ≡ true
-    → ground_move b (class_of b) ≡ (Ground, Print b ∷ [])
-data_move b h = rw (text_class b (data_text b h), ground_move) refl
-
 -- ---- text that is written as it is
 
-module _ (A : Type 0) (u : Unicode) (limit : ℕ) (admits : Value A → Bool)
+module _ (A : Type 0) (u : Guard) (limit : ℕ) (admits : Value A → Bool)
     (texts : IsPassedText admits) where
   abbrev pub events_of : List ℕ → List Event
   events_of x = events_all (Some limit) Ground x
@@ -95,10 +64,11 @@ module _ (A : Type 0) (u : Unicode) (limit : ℕ) (admits : Value A → Bool)
     pub means : values_from (Some limit) plain (events_of x) ≡ vs
     pub mode : mode_from plain (events_of x) ≡ plain
     pub pass : filter (passes (in_lines true admits)) vs ≡ vs
-    pub kept : in_characters u vs ≡ vs
+    pub kept : in_values u vs ≡ vs
     pub text : (f : Bool) → texts_after f vs ≡ x
     pub ascii : IsAscii x
     pub one_line : has_line_feed x ≡ false
+    pub unreturned : has_return x ≡ false
 
   nothing : Passed [] []
   nothing = record {
@@ -110,6 +80,7 @@ module _ (A : Type 0) (u : Unicode) (limit : ℕ) (admits : Value A → Bool)
     text = λ f. refl;
     ascii = IsAscii-nil;
     one_line = refl;
+    unreturned = refl;
   }
 
   -- one after another
@@ -139,7 +110,7 @@ module _ (A : Type 0) (u : Unicode) (limit : ℕ) (admits : Value A → Bool)
             ∙ ap (λ zs. zs ++ filter (passes (in_lines true admits)) ws) p.pass
             ∙ ap (λ zs. vs ++ zs) q.pass;
         kept =
-            in_both u vs ws ∙ ap (λ zs. zs ++ in_characters u ws) p.kept
+            in_both u vs ws ∙ ap (λ zs. zs ++ in_values u ws) p.kept
             ∙ ap (λ zs. vs ++ zs) q.kept;
         text =
             λ f. texts_more f vs ws
@@ -147,12 +118,13 @@ module _ (A : Type 0) (u : Unicode) (limit : ℕ) (admits : Value A → Bool)
             ∙ ap (λ t. x ++ t) (q.text (ends_in_string f vs));
         ascii = IsAscii-append x y p.ascii q.ascii;
         one_line = list_any-append is_line_feed x y ∙ rw (p.one_line, q.one_line) refl;
+        unreturned = list_any-append is_return x y ∙ rw (p.unreturned, q.unreturned) refl;
       }
 
   -- one value
   alone : (x : List ℕ) (v : Value A) (e : Event) → after_all Ground x ≡ Ground
       → events_of x ≡ e ∷ [] → given (Some limit) plain e ≡ v ∷ [] → after plain e ≡ plain
-      → passes (in_lines true admits) v ≡ true → in_unicode u v ≡ v ∷ []
+      → passes (in_lines true admits) v ≡ true → in_guard u v ≡ v ∷ []
       → ((f : Bool) → text_after f v ≡ x) → list_all is_inner x ≡ true → Passed x (v ∷ [])
   alone x v e ground events gives stays pass itself text inner =
       let bytes = of_inner x inner in
@@ -164,11 +136,12 @@ module _ (A : Type 0) (u : Unicode) (limit : ℕ) (admits : Value A → Bool)
         mode = ap (mode_from plain) events ∙ stays;
         pass = rw pass refl;
         kept =
-            in_more u v [] ∙ ap (λ zs. zs ++ in_characters u []) itself
+            in_more u v [] ∙ ap (λ zs. zs ++ in_values u []) itself
             ∙ ap (λ zs. v ∷ zs) (in_none u);
         text = λ f. append-nil (text_after f v) ∙ text f;
         ascii = bytes.0;
         one_line = bytes.1;
+        unreturned = bytes.2;
       }
 
   character : (b : ℕ) → is_data_byte b ≡ true → Passed (b ∷ []) (print b ∷ [])
@@ -183,12 +156,6 @@ module _ (A : Type 0) (u : Unicode) (limit : ℕ) (admits : Value A → Bool)
   tab =
       alone (0x09 ∷ []) (control HorizontalTab) (Execute 0x09) refl refl refl refl
       (texts (control HorizontalTab) refl) refl (λ f. encode_ascii 0x09 (omega arith)) refl
-
-  carriage : Passed (0x0d ∷ []) (control CarriageReturn ∷ [])
-  unfolding class_of code_of
-  carriage =
-      alone (0x0d ∷ []) (control CarriageReturn) (Execute 0x0d) refl refl refl refl
-      (texts (control CarriageReturn) refl) refl (λ f. encode_ascii 0x0d (omega arith)) refl
 
   run : (s : List ℕ) → list_all is_data_byte s ≡ true → Passed s (map print s)
   run [] h = nothing
@@ -235,8 +202,11 @@ module _ (A : Type 0) (u : Unicode) (limit : ℕ) (admits : Value A → Bool)
   abbrev pub By : List ℕ → List ℕ
   By s = text_by_lines_as {A = A} u limit admits s
 
-  ends_at : (x : List ℕ) → ends_line false (x ++ 0x0a ∷ []) ≡ true
-  ends_at x = ends_append false x (0x0a ∷ [])
+  abbrev T : List ℕ → List ℕ
+  T s = list_text (passed_of_line {A = A} u limit admits s)
+
+  abbrev C : List ℕ → List ℕ
+  C s = list_text (closing admits (passed_of_line {A = A} u limit admits s))
 
   feed_means : (x : List ℕ) (vs : List (Value A)) → Passed x vs
       → meaning_within (Some limit) (x ++ 0x0a ∷ []) ≡ vs ++ control LineFeed ∷ []
@@ -251,21 +221,38 @@ module _ (A : Type 0) (u : Unicode) (limit : ℕ) (admits : Value A → Bool)
       ++ values_from (Some limit) plain (events_all (Some limit) w (0x0a ∷ []))) p.ground
       ∙ ap (λ zs. zs ++ control LineFeed ∷ []) p.means
 
+  -- a carriage return at its end, or none, is written too
+  end_same : (r : Bool) → end_text admits r ≡ held r ++ 0x0a ∷ []
+  end_same true = rw (texts (control CarriageReturn) refl) refl
+  end_same false = refl
+
   -- one that leaves none on is written as it is
-  one_line : (x : List ℕ) → Line x false → By (x ++ 0x0a ∷ []) ≡ x ++ 0x0a ∷ []
-  one_line x (vs, p, left) =
+  one_line : (x : List ℕ) → Line x false → (r : Bool)
+      → By (x ++ (held r ++ 0x0a ∷ [])) ≡ x ++ (held r ++ 0x0a ∷ [])
+  one_line x (vs, p, left) r =
       let pass = passes (in_lines true admits) in
-      let here : passed_of_line {A = A} u limit admits (x ++ 0x0a ∷ []) ≡ vs =
-      ap (λ zs. in_characters u (filter pass zs)) (feed_means x vs p)
-      ∙ ap (in_characters u)
+      let m = x ++ 0x0a ∷ [] in
+      let y = x ++ held r in
+      let end = held r ++ 0x0a ∷ [] in
+      let here : passed_of_line {A = A} u limit admits m ≡ vs =
+      ap (λ zs. in_values u (filter pass zs)) (feed_means x vs p)
+      ∙ ap (in_values u)
       (filter-append pass vs (control LineFeed ∷ []) ∙ append-nil (filter pass vs) ∙ p.pass)
       ∙ p.kept in
       let same : list_text (closing admits vs) ≡ [] =
       ap (λ o. list_text {A = A} (given_back (keeps_cursor admits) o)) left in
-      closed_text u limit admits (x ++ 0x0a ∷ []) (x, p.one_line, refl)
-      ∙ ap (λ ws. list_text ws ++ (list_text (closing admits ws) ++ 0x0a ∷ [])) here
-      ∙ ap (λ t. t ++ (list_text (closing admits vs) ++ 0x0a ∷ [])) (p.text false)
-      ∙ ap (λ t. x ++ (t ++ 0x0a ∷ [])) same
+      let none = no_return false x refl p.unreturned in
+      let ends : ends_return false y ≡ r = with_held x r none in
+      ap By (sym (append_assoc x (held r) (0x0a ∷ [])))
+      ∙ closed_text u limit admits y (feeds_append x (held r) p.one_line (held_feed r))
+      ∙ ap (λ z. T (z ++ 0x0a ∷ [])
+      ++ (C (z ++ 0x0a ∷ []) ++ end_text admits (ends_return false y)))
+      (body_held_of x r none)
+      ∙ ap (λ t. T m ++ (C m ++ end_text admits t)) ends
+      ∙ ap (λ ws. list_text ws ++ (list_text (closing admits ws) ++ end_text admits r)) here
+      ∙ ap (λ t. t ++ (list_text (closing admits vs) ++ end_text admits r)) (p.text false)
+      ∙ ap (λ t. x ++ (t ++ end_text admits r)) same
+      ∙ ap (λ t. x ++ t) (end_same r)
 
   -- ---- lines that have ended and are written as they are, and the beginning of one
 
@@ -299,21 +286,25 @@ module _ (A : Type 0) (u : Unicode) (limit : ℕ) (admits : Value A → Bool)
     line = longer b.line q leaves;
   }
 
-  feed_ended : (s : List ℕ) → Begun false s → By (s ++ 0x0a ∷ []) ≡ s ++ 0x0a ∷ []
-  feed_ended s b =
-      let both : s ++ 0x0a ∷ [] ≡ b.ended ++ (b.last ++ 0x0a ∷ []) =
-      ap (λ z. z ++ 0x0a ∷ []) b.whole ∙ append_assoc b.ended b.last (0x0a ∷ []) in
-      ap By both ∙ by_append u limit admits b.ended (b.last ++ 0x0a ∷ []) b.ends
-      ∙ ap (λ z. z ++ By (b.last ++ 0x0a ∷ [])) b.same
-      ∙ ap (λ z. b.ended ++ z) (one_line b.last b.line) ∙ sym both
+  -- the end of a line, with a carriage return or without one
+  abbrev end_of : Bool → List ℕ
+  end_of r = held r ++ 0x0a ∷ []
 
-  begun_feed : (s : List ℕ) → Begun false s → Begun false (s ++ 0x0a ∷ [])
-  begun_feed s b = record {
-    ended = s ++ 0x0a ∷ [];
+  feed_ended : (s : List ℕ) → Begun false s → (r : Bool) → By (s ++ end_of r) ≡ s ++ end_of r
+  feed_ended s b r =
+      let both : s ++ end_of r ≡ b.ended ++ (b.last ++ end_of r) =
+      ap (λ z. z ++ end_of r) b.whole ∙ append_assoc b.ended b.last (end_of r) in
+      ap By both ∙ by_append u limit admits b.ended (b.last ++ end_of r) b.ends
+      ∙ ap (λ z. z ++ By (b.last ++ end_of r)) b.same
+      ∙ ap (λ z. b.ended ++ z) (one_line b.last b.line r) ∙ sym both
+
+  begun_feed : (s : List ℕ) → Begun false s → (r : Bool) → Begun false (s ++ end_of r)
+  begun_feed s b r = record {
+    ended = s ++ end_of r;
     last = [];
-    whole = sym (append-nil (s ++ 0x0a ∷ []));
-    ends = ends_append true s (0x0a ∷ []);
-    same = feed_ended s b;
+    whole = sym (append-nil (s ++ end_of r));
+    ends = end_ends s r;
+    same = feed_ended s b r;
     line = ([], nothing, refl);
   }
 
@@ -322,7 +313,7 @@ module _ (A : Type 0) (u : Unicode) (limit : ℕ) (admits : Value A → Bool)
 -- what has been read, after which renditions are on or not
 abbrev pub HasRead : Type 0 → Bool → Bool → List ℕ → Type 0
 HasRead A r on s = IsAscii s
-    × ((u : Unicode) (limit : ℕ) (admits : Value A → Bool) (texts : IsPassedText admits)
+    × ((u : Guard) (limit : ℕ) (admits : Value A → Bool) (texts : IsPassedText admits)
     → (IsTrue r → ArePassedRenditions admits) → Begun A u limit admits texts on s)
 
 module _ (A : Type 0) (r : Bool) where
@@ -350,11 +341,10 @@ module _ (A : Type 0) (r : Bool) where
       let more : suc i ≡ i + 1 = omega arith in
       ap (λ c. take i s ++ c ∷ []) (sym e) ∙ sym (take-suc s i 0 l) ∙ ap (λ k. take k s) more
 
-  -- a tab or a carriage return
-  pub read_layout : (on : Bool) (s : List ℕ) (i : ℕ) → i < length s
-      → (get_or s i 0 ≡ 0x09) ⊎ (get_or s i 0 ≡ 0x0d) → HasRead A r on (take i s)
-      → HasRead A r on (take (i + 1) s)
-  read_layout on s i l (inl e) (ascii, begun) =
+  -- a tab
+  pub read_tab : (on : Bool) (s : List ℕ) (i : ℕ) → i < length s
+      → get_or s i 0 ≡ 0x09 → HasRead A r on (take i s) → HasRead A r on (take (i + 1) s)
+  read_tab on s i l e (ascii, begun) =
       subst (HasRead A r on) (next s i 0x09 l e) (
         IsAscii-append (take i s) (0x09 ∷ []) ascii
             (IsAscii-cons 0x09 [] (omega arith) IsAscii-nil),
@@ -362,35 +352,45 @@ module _ (A : Type 0) (r : Bool) where
             begun_more A u limit admits texts (take i s) (0x09 ∷ [])
             (begun u limit admits texts all) (tab A u limit admits texts) refl,
       )
-  read_layout on s i l (inr e) (ascii, begun) =
-      subst (HasRead A r on) (next s i 0x0d l e) (
-        IsAscii-append (take i s) (0x0d ∷ []) ascii
-            (IsAscii-cons 0x0d [] (omega arith) IsAscii-nil),
-        λ u limit admits texts all.
-            begun_more A u limit admits texts (take i s) (0x0d ∷ [])
-            (begun u limit admits texts all) (carriage A u limit admits texts) refl,
+
+  -- the end of a line, where none is on
+  read_end : (x : List ℕ) (h : Bool) → HasRead A r false x
+      → HasRead A r false (x ++ (held h ++ 0x0a ∷ []))
+      × ArePlainLines A r (x ++ (held h ++ 0x0a ∷ []))
+  read_end x h (ascii, begun) =
+      let bytes = IsAscii-append x (held h ++ 0x0a ∷ []) ascii (end_ascii h) in (
+        (
+          bytes,
+          λ u limit admits texts all.
+              begun_feed A u limit admits texts x (begun u limit admits texts all) h,
+        ),
+        (
+          bytes,
+          end_ends x h,
+          λ u limit admits texts all.
+              feed_ended A u limit admits texts x (begun u limit admits texts all) h,
+        ),
       )
 
-  -- a line feed, where none is on
+  -- a line feed
   pub read_feed : (s : List ℕ) (i : ℕ) → i < length s → get_or s i 0 ≡ 0x0a
       → HasRead A r false (take i s)
       → HasRead A r false (take (i + 1) s) × ArePlainLines A r (take (i + 1) s)
-  read_feed s i l e (ascii, begun) =
-      subst (λ z. HasRead A r false z × ArePlainLines A r z) (next s i 0x0a l e) (
-        (
-          IsAscii-append (take i s) (0x0a ∷ []) ascii
-              (IsAscii-cons 0x0a [] (omega arith) IsAscii-nil),
-          λ u limit admits texts all.
-              begun_feed A u limit admits texts (take i s) (begun u limit admits texts all),
-        ),
-        (
-          IsAscii-append (take i s) (0x0a ∷ []) ascii
-              (IsAscii-cons 0x0a [] (omega arith) IsAscii-nil),
-          ends_append true (take i s) (0x0a ∷ []),
-          λ u limit admits texts all.
-              feed_ended A u limit admits texts (take i s) (begun u limit admits texts all),
-        ),
-      )
+  read_feed s i l e read =
+      subst (λ z. HasRead A r false z × ArePlainLines A r z) (next s i 0x0a l e)
+      (read_end (take i s) false read)
+
+  -- a carriage return and a line feed
+  pub read_return : (s : List ℕ) (i : ℕ) → i + 1 < length s → get_or s i 0 ≡ 0x0d
+      → get_or s (i + 1) 0 ≡ 0x0a → HasRead A r false (take i s)
+      → HasRead A r false (take (i + 2) s) × ArePlainLines A r (take (i + 2) s)
+  read_return s i l e f read =
+      let first : take i s ++ 0x0d ∷ [] ≡ take (i + 1) s = next s i 0x0d (omega (arith, l)) e in
+      let two : i + 1 + 1 ≡ i + 2 = omega arith in
+      subst (λ z. HasRead A r false z × ArePlainLines A r z)
+      (sym (append_assoc (take i s) (0x0d ∷ []) (0x0a ∷ []))
+      ∙ ap (λ z. z ++ 0x0a ∷ []) first ∙ next s (i + 1) 0x0a l f ∙ ap (λ k. take k s) two)
+      (read_end (take i s) true read)
 
   -- a rendition, where all pass
   pub read_rendition : (on lit : Bool) (s : List ℕ) (i n : ℕ) → r ≡ true
@@ -427,13 +427,13 @@ no_rest d (b ∷ r) none ends =
     not_both : {f : Bool} → f ≡ false → f ≡ true → ⊥
     not_both h k = let e : false ≡ true = sym h ∙ k in cc
 
-pub plain_grows : {P A : Type 0} (u : Unicode) (limit : ℕ) (admits : Value A → Bool) (r : Bool)
+pub plain_grows : {P A : Type 0} (u : Guard) (limit : ℕ) (admits : Value A → Bool) (r : Bool)
     (s y : List ℕ) (old new : LineFilter P A) → IsPassedText admits
     → (IsTrue r → ArePassedRenditions admits) → WasFedLines u limit admits s old
     → ends_line true s ≡ true → ArePlainLines A r y → new.filter ≡ old.filter
-    → new.has_failed ≡ old.has_failed → added_by new ≡ added_by old ++ y
+    → new.holds ≡ old.holds → new.has_failed ≡ old.has_failed → added_by new ≡ added_by old ++ y
     → GrowsBy u admits limit s y old new
-plain_grows {A = A} u limit admits r s y old new texts all w ends lines same fails added =
+plain_grows {A = A} u limit admits r s y old new texts all w ends lines same holds fails added =
     let none : w.rest ≡ [] =
     no_rest w.ended w.rest w.unended (subst (λ z. ends_line true z ≡ true) w.whole ends) in (
       y,
@@ -446,7 +446,8 @@ plain_grows {A = A} u limit admits r s y old new texts all w ends lines same fai
           unended = refl;
           fed =
               subst (WasFedIn u true limit admits []) (sym same)
-              (subst (λ z. WasFedIn u true limit admits z old.filter) none w.fed);
+              (subst (λ z. WasFedIn u true limit admits (body z) old.filter) none w.fed);
+          holds = holds ∙ w.holds ∙ ap (ends_return false) none;
           unfailed = fails ∙ w.unfailed;
         },
         by_append u limit admits s y ends

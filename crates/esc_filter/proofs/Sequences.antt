@@ -92,7 +92,7 @@ module _ {A : Type 0} where
   one_taken p q es (plain, (v, one, w)) =
       let a = sequence_action v in
       subst (λ vs. FoldsTo (By IsSequence Notes) p vs q) (sym one)
-      (q, (a.0, a.1, subst (λ x. Writes p (written_of p.by_lines p.unicode x) q) (sym a.1) w), refl)
+      (q, (a.0, a.1, subst (λ x. Writes p (written_of p.by_lines p.guard x) q) (sym a.1) w), refl)
 
   -- a link that was
   pub link_taken : (p q : Written A) (ps : List (List ℕ)) → WritesLink p ps q

@@ -1,6 +1,6 @@
 -- Renditions of one number, and colours of the palette: what their texts mean, and what is written
 -- of that.
-use Rattle.std.proofs.Common.{ℕ, suc, pos, ◌≡◌, ◌+◌, ◌-◌, ◌*◌, ◌/◌, ◌%◌, get_or, ◌<◌, ◌≤◌, ◌^◌, ◌==◌, length, drop, take, Bool, true, false, not, ◌&&◌, List, [], ◌∷◌, ◌++◌, codes, Option, None, inl, inr, arith, refl, ap, sym, ◌∙◌, subst, append-nil, lit≤}
+use Rattle.std.proofs.Common.{ℕ, suc, pos, ◌≡◌, ◌+◌, ◌-◌, ◌*◌, ◌/◌, ◌%◌, get_or, ◌<◌, ◌≤◌, ◌^◌, ◌==◌, length, drop, take, Bool, true, false, not, ◌&&◌, ◌||◌, List, [], ◌∷◌, ◌++◌, codes, Option, None, inl, inr, arith, refl, ap, sym, ◌∙◌, subst, append-nil, lit≤}
 use Rattle.std.specs.Prelude.{nat_eq, nat_lt}
 use Rattle.std.specs.Char.{encode_utf8}
 use Rattle.std.specs.Cmp.Lexicographic.{pointwise, same_text}
@@ -33,7 +33,7 @@ use Rattle.esc_write.specs.Plain.{last_text}
 use Rattle.esc_write.proofs.ShortNumbers.{last_one, last_two, last_three}
 use Rattle.esc_filter.specs.Closing.{after_sequence, turned}
 use Rattle.esc_filter.specs.declared.terminal.Terminal.{Terminal}
-use Rattle.esc_filter.specs.Lines.{IsNumber, IsShortRendition, is_line_feed}
+use Rattle.esc_filter.specs.Lines.{IsNumber, IsShortRendition, is_line_feed, is_return}
 use Rattle.esc_filter.specs.Rules.{is_plain_param, is_rendition}
 use Rattle.esc_filter.proofs.Lights.{first_turns, large_unnamed, lone_turns, plain_lit}
 use Rattle.esc_filter.proofs.Runs.{all_more}
@@ -41,7 +41,7 @@ use Rattle.esc_filter.proofs.Sequences.{renditions_pass}
 
 -- a byte of ASCII that ends no line
 abbrev pub is_inner : ℕ → Bool
-is_inner b = nat_lt b 128 && not (is_line_feed b)
+is_inner b = nat_lt b 128 && not (is_line_feed b || is_return b)
 
 -- ---- the body of a sequence
 

@@ -12,8 +12,8 @@ use Rattle.esc_filter.specs.Noted.{HasNoted, Writes, written_of}
 use Rattle.esc_filter.proofs.Texts.{added_as, after_more, end_longer, left_longer, text_longer_as}
 use Rattle.esc_normal.proofs.Texts.{ends_more, texts_more}
 use Rattle.esc_filter.proofs.Characters.{in_more, in_none}
-use Rattle.esc_filter.specs.Characters.{in_characters, in_unicode}
-use Rattle.esc_filter.specs.declared.unicode.Unicode.{Unicode}
+use Rattle.esc_filter.specs.Characters.{in_values, in_guard}
+use Rattle.esc_filter.specs.declared.guard.Guard.{Guard}
 use Rattle.esc_filter.specs.Passing.{in_lines, is_line_feed, is_whole, passed_as, passed_text_as, passes}
 use Rattle.esc_normal.specs.Texts.{ends_in_string}
 use Rattle.esc_filter.specs.declared.written.Written.{Written}
@@ -37,27 +37,27 @@ module _ {A : Type 0} where
       )
 
   -- a value that passes, or not, and is dropped, or not
-  gives_one : (u : Unicode) (x f y : Bool) (p j q : Written A) (v : Value A) (vs : List (Value A))
+  gives_one : (u : Guard) (x f y : Bool) (p j q : Written A) (v : Value A) (vs : List (Value A))
       → y ≡ (x && not f)
-      → (x ≡ true → Writes p (if f then [] else in_unicode u v) j) × (x ≡ false → j ≡ p)
-      → Writes j (in_characters u vs) q → Writes p (in_characters u (cond y (v ∷ vs) vs)) q
+      → (x ≡ true → Writes p (if f then [] else in_guard u v) j) × (x ≡ false → j ≡ p)
+      → Writes j (in_values u vs) q → Writes p (in_values u (cond y (v ∷ vs) vs)) q
   gives_one u true true true p j q v vs e w g = absurd cc
   gives_one u true true false p j q v vs e w g =
-      writes_both p j q [] (in_characters u vs) (w.0 refl) g
+      writes_both p j q [] (in_values u vs) (w.0 refl) g
   gives_one u true false true p j q v vs e w g =
       subst (λ ws. Writes p ws q) (sym (in_more u v vs))
-      (writes_both p j q (in_unicode u v) (in_characters u vs) (w.0 refl) g)
+      (writes_both p j q (in_guard u v) (in_values u vs) (w.0 refl) g)
   gives_one u true false false p j q v vs e w g = absurd cc
   gives_one u false f true p j q v vs e w g = absurd cc
   gives_one u false f false p j q v vs e w g =
-      subst (λ x. Writes x (in_characters u vs) q) (w.1 refl) g
+      subst (λ x. Writes x (in_values u vs) q) (w.1 refl) g
 
   -- how it writes stays
   ways_same : (x : Bool) (p j : Written A) (ws : List (Value A))
       → (x ≡ true → Writes p ws j) × (x ≡ false → j ≡ p)
-      → (j.by_lines ≡ p.by_lines) × (j.unicode ≡ p.unicode)
+      → (j.by_lines ≡ p.by_lines) × (j.guard ≡ p.guard)
   ways_same true p j ws w = let h = w.0 refl in (h.3, h.4)
-  ways_same false p j ws w = (ap (λ x. x.by_lines) (w.1 refl), ap (λ x. x.unicode) (w.1 refl))
+  ways_same false p j ws w = (ap (λ x. x.by_lines) (w.1 refl), ap (λ x. x.guard) (w.1 refl))
 
 -- what passes, but a line feed that is dropped
 but_feeds : (b w f a : Bool) → (w && (not f && a)) ≡ ((w && a) && not (f && true))
@@ -82,7 +82,7 @@ passes_lines true false admits v e = absurd cc
 passes_lines false true admits v e = absurd cc
 
 -- the text of a piece, where the text of those before it ended so
-fed_more : {A : Type 0} (u : Unicode) (limit : Option ℕ) (b : Bool) (admits : Value A → Bool)
+fed_more : {A : Type 0} (u : Guard) (limit : Option ℕ) (b : Bool) (admits : Value A → Bool)
     (s bs : List ℕ) (p q : Written A) → p.spell.text ≡ []
     → HasNoted b u (passed_as u limit admits s) p
     → Writes p (added_as u limit admits s bs) q
@@ -105,16 +105,16 @@ fed_more u limit b admits s bs p q none (e, o, l, c) g =
 
 -- All of them: a receiver S holds what writes them and a policy K, which stays.
 module _ {S K A : Type 0} (admits : K → Value A → Bool) (policy : S → K) (written : S → Written A)
-    (b : Bool) (u : Unicode) where
+    (b : Bool) (u : Guard) where
   abbrev pub TakesBy : S → Action A → S → Type 0
   TakesBy p a q = Takes (admits (policy p)) (written p) a (written q) × (policy q ≡ policy p)
 
   abbrev kept_by : K → List (Value A) → List (Value A)
-  kept_by k vs = in_characters u (filter (passes (in_lines b (admits k))) vs)
+  kept_by k vs = in_values u (filter (passes (in_lines b (admits k))) vs)
 
   -- what an action makes of it, by what the action is, and how it writes
   taken_as : (k : K) (p j : Written A) (a : Action A) (v : Value A) → value_of a ≡ v
-      → p.by_lines ≡ b → p.unicode ≡ u → Takes (admits k) p a j
+      → p.by_lines ≡ b → p.guard ≡ u → Takes (admits k) p a j
       → (passes (admits k) v ≡ true → Writes p (written_of b u v) j)
       × (passes (admits k) v ≡ false → j ≡ p)
   taken_as k p j a v is l c w =
@@ -124,11 +124,11 @@ module _ {S K A : Type 0} (admits : K → Value A → Bool) (policy : S → K) (
       → Writes p (written_of b x (value_of a)) j)
       × (passes (admits k) (value_of a) ≡ false → j ≡ p)) c
       (subst (λ x. (passes (admits k) (value_of a) ≡ true
-      → Writes p (written_of x p.unicode (value_of a)) j)
+      → Writes p (written_of x p.guard (value_of a)) j)
       × (passes (admits k) (value_of a) ≡ false → j ≡ p)) l w))
 
   gives_all : (p : S) (vs : List (Value A)) (q : S) → (written p).by_lines ≡ b
-      → (written p).unicode ≡ u → FoldsTo (At value_of TakesBy) p vs q
+      → (written p).guard ≡ u → FoldsTo (At value_of TakesBy) p vs q
       → (policy q ≡ policy p) × Writes (written p) (kept_by (policy p) vs) (written q)
   gives_all p [] q l c e = (
     ap policy (sym e),
@@ -137,7 +137,7 @@ module _ {S K A : Type 0} (admits : K → Value A → Bool) (policy : S → K) (
       ap (λ x. (written x).spell.follows_string) (sym e),
       ap (λ x. (written x).left) (sym e),
       ap (λ x. (written x).by_lines) (sym e),
-      ap (λ x. (written x).unicode) (sym e),
+      ap (λ x. (written x).guard) (sym e),
     ),
   )
   gives_all p (v ∷ vs) q l c (j, (a, is, w), rest) =

@@ -10,9 +10,8 @@ use Rattle.esc_filter.specs.Closing.{after_value, after_values}
 use Rattle.esc_filter.specs.Terminal.{unchanged}
 use Rattle.esc_filter.specs.declared.terminal.Terminal.{Terminal}
 use Rattle.esc_filter.specs.Passing.{passed, passed_as, passed_text, passed_text_as, passes}
-use Rattle.esc_filter.specs.Characters.{in_characters}
-use Rattle.esc_filter.specs.declared.unicode.Unicode.{Unicode}
-use Rattle.esc_filter.specs.declared.unicode.Unicode.TheVariants.{Keep}
+use Rattle.esc_filter.specs.Characters.{in_values, kept}
+use Rattle.esc_filter.specs.declared.guard.Guard.{Guard}
 use Rattle.esc_filter.proofs.Characters.{in_both}
 use Rattle.esc_normal.proofs.Texts.{ends_more, texts_more}
 use Rattle.esc_normal.specs.Texts.{ends_in_string}
@@ -26,18 +25,18 @@ passed_longer limit admits s b =
     ∙ filter-append (passes admits) (meaning_within limit s) (yield_within limit s b)
 
 -- what is written of a longer stream
-abbrev pub added_as : {A : Type 0} → Unicode → Option ℕ → (Value A → Bool) → List ℕ → List ℕ
+abbrev pub added_as : {A : Type 0} → Guard → Option ℕ → (Value A → Bool) → List ℕ → List ℕ
     → List (Value A)
-added_as u limit admits s b = in_characters u (filter (passes admits) (yield_within limit s b))
+added_as u limit admits s b = in_values u (filter (passes admits) (yield_within limit s b))
 
-pub written_longer : {A : Type 0} (u : Unicode) (limit : Option ℕ) (admits : Value A → Bool)
+pub written_longer : {A : Type 0} (u : Guard) (limit : Option ℕ) (admits : Value A → Bool)
     (s b : List ℕ)
     → passed_as u limit admits (s ++ b) ≡ passed_as u limit admits s ++ added_as u limit admits s b
 written_longer u limit admits s b =
-    ap (in_characters u) (passed_longer limit admits s b)
+    ap (in_values u) (passed_longer limit admits s b)
     ∙ in_both u (passed limit admits s) (filter (passes admits) (yield_within limit s b))
 
-pub text_longer_as : {A : Type 0} (u : Unicode) (limit : Option ℕ) (admits : Value A → Bool)
+pub text_longer_as : {A : Type 0} (u : Guard) (limit : Option ℕ) (admits : Value A → Bool)
     (s b : List ℕ)
     → passed_text_as u limit admits (s ++ b) ≡ passed_text_as u limit admits s
     ++ texts_after (ends_in_string false (passed_as u limit admits s)) (added_as u limit admits s b)
@@ -49,9 +48,9 @@ pub text_longer : {A : Type 0} (limit : Option ℕ) (admits : Value A → Bool) 
     → passed_text limit admits (s ++ b) ≡ passed_text limit admits s
     ++ texts_after (ends_in_string false (passed limit admits s))
     (filter (passes admits) (yield_within limit s b))
-text_longer limit admits s b = text_longer_as Keep limit admits s b
+text_longer limit admits s b = text_longer_as kept limit admits s b
 
-pub end_longer : {A : Type 0} (u : Unicode) (limit : Option ℕ) (admits : Value A → Bool)
+pub end_longer : {A : Type 0} (u : Guard) (limit : Option ℕ) (admits : Value A → Bool)
     (s b : List ℕ)
     → ends_in_string false (passed_as u limit admits (s ++ b)) ≡ ends_in_string
     (ends_in_string false (passed_as u limit admits s)) (added_as u limit admits s b)
@@ -65,7 +64,7 @@ pub after_more : {A : Type 0} (vs ws : List (Value A)) (o : Terminal)
 after_more [] ws o = refl
 after_more (v ∷ vs) ws o = after_more vs ws (after_value v o)
 
-pub left_longer : {A : Type 0} (u : Unicode) (limit : Option ℕ) (admits : Value A → Bool)
+pub left_longer : {A : Type 0} (u : Guard) (limit : Option ℕ) (admits : Value A → Bool)
     (s b : List ℕ)
     → after_values (passed_as u limit admits (s ++ b)) unchanged
     ≡ after_values (added_as u limit admits s b)

@@ -1,15 +1,19 @@
 -- What passes is writable.
 use Rattle.std.proofs.Common.{◌≡◌, ◌⊎◌, inl, inr, ℕ, Bool, true, false, cond, not, if◌then◌else◌, List, [], ◌∷◌, ◌++◌, map, Option, refl, sym, subst}
-use Rattle.std.proofs.lemmas.Bool.{and_parts, not-true}
+use Rattle.std.proofs.lemmas.Bool.{and_parts, not-true, true≢false}
 use Rattle.std.specs.List.{filter, flat_map, list_all}
 use Rattle.esc_actions.specs.Meaning.{meaning, meaning_within, Reads}
 use Rattle.esc_actions.specs.Texts.{list_text, normal}
 use Rattle.esc_actions.specs.Values.{Value, print, string, control, esc, csi, osc, kitty, sixel, termcap, short, enter, datum, exit}
 use Rattle.esc_actions.specs.Writable.{AreHandedOut, AreWritable, AreWritableFrom, IsWritable, is_exception, is_within, stays_within}
+use Rattle.esc_actions.specs.declared.control_code.ControlCode.{ControlCode}
 use Rattle.esc_filter.proofs.Closers.{closed_writable}
 use Rattle.esc_filter.specs.Passing.{IsFilteredAs, is_mode_step, is_whole, passed, passed_as, passes, when_ended}
 use Rattle.esc_visible.specs.Characters.{is_deceiving, number_text}
-use Rattle.esc_filter.specs.Characters.{in_characters, in_unicode, instead}
+use Rattle.esc_filter.specs.Characters.{in_guard, in_return, in_values, instead, is_return, keeps_all}
+use Rattle.esc_filter.specs.declared.guard.Guard.{Guard}
+use Rattle.esc_filter.specs.declared.returns.Returns.{Returns}
+use Rattle.esc_filter.specs.declared.returns.Returns.TheVariants as way
 use Rattle.esc_filter.specs.declared.unicode.Unicode.{Unicode}
 use Rattle.esc_filter.specs.declared.unicode.Unicode.TheVariants.{Drop, Keep, Show}
 use Rattle.esc_filter.proofs.Characters.{kinds, number_clear}
@@ -71,32 +75,52 @@ char_writable Drop true true c ws h = absurd cc
 char_writable Drop true false c ws h = h.2
 char_writable u false w c ws h = h
 
-all_writable : {A : Type 0} (u : Unicode) (w : Bool) (vs : List (Value A))
-    → AreWritableFrom w vs → AreWritableFrom w (flat_map (in_unicode u) vs)
+-- of a control
+control_writable : {A : Type 0} (r : Returns) (t w : Bool) (c : ControlCode) (ws : List (Value A))
+    → (is_within {A = A} (control c) ≡ w) × IsWritable {A = A} (control c) × AreWritable ws
+    → AreWritableFrom w ((if t then in_return r else control c ∷ []) ++ ws)
+control_writable r false w c ws h = h
+control_writable r true true c ws h = absurd (true≢false (sym h.0))
+control_writable way.Keep true false c ws h = (refl, refl, h.2)
+control_writable way.Show true false c ws h = (refl, refl, (refl, refl, h.2))
+control_writable way.Drop true false c ws h = h.2
+
+all_writable : {A : Type 0} (u : Guard) (w : Bool) (vs : List (Value A))
+    → AreWritableFrom w vs → AreWritableFrom w (flat_map (in_guard u) vs)
 all_writable u w [] h = h
 all_writable {A} u w (v ∷ vs) (i, k, h) =
     by (kinds v) (all_writable u (stays_within v) vs h)
   where
     ws : List (Value A)
-    ws = flat_map (in_unicode u) vs
+    ws = flat_map (in_guard u) vs
 
-    by : ((c : ℕ) × (v ≡ print c)) ⊎ ((u : Unicode) → in_unicode u v ≡ v ∷ [])
-        → AreWritableFrom (stays_within v) ws → AreWritableFrom w (in_unicode u v ++ ws)
+    by : ((c : ℕ) × (v ≡ print c)) ⊎ (((c : ControlCode) × (v ≡ control c))
+        ⊎ ((u : Guard) → in_guard u v ≡ v ∷ []))
+        → AreWritableFrom (stays_within v) ws → AreWritableFrom w (in_guard u v ++ ws)
     by (inl (c, e)) rest =
-        subst (λ x. AreWritableFrom w (in_unicode u x ++ ws)) (sym e)
-        (char_writable u (is_deceiving c) w c ws (
+        subst (λ x. AreWritableFrom w (in_guard u x ++ ws)) (sym e)
+        (char_writable u.characters (is_deceiving c) w c ws (
           subst (λ x. is_within x ≡ w) e i,
           subst IsWritable e k,
           subst (λ x. AreWritableFrom (stays_within x) ws) e rest,
         ))
-    by (inr same) rest =
+    by (inr (inl (c, e))) rest =
+        subst (λ x. AreWritableFrom w (in_guard u x ++ ws)) (sym e)
+        (control_writable u.returns (is_return c) w c ws (
+          subst (λ x. is_within x ≡ w) e i,
+          subst IsWritable e k,
+          subst (λ x. AreWritableFrom (stays_within x) ws) e rest,
+        ))
+    by (inr (inr same)) rest =
         subst (λ xs. AreWritableFrom w (xs ++ ws)) (sym (same u)) (i, k, rest)
 
-in_writable : {A : Type 0} (u : Unicode) (vs : List (Value A)) → AreWritable vs
-    → AreWritable (in_characters u vs)
-in_writable Keep vs h = h
-in_writable Show vs h = all_writable Show false vs h
-in_writable Drop vs h = all_writable Drop false vs h
+in_writable : {A : Type 0} (u : Guard) (vs : List (Value A)) → AreWritable vs
+    → AreWritable (in_values u vs)
+in_writable u vs h = by (keeps_all u)
+  where
+    by : (t : Bool) → AreWritable (if t then vs else flat_map (in_guard u) vs)
+    by true = h
+    by false = all_writable u false vs h
 
 writable_when : {A : Type 0} (b : Bool) (admits : Value A → Bool) (vs : List (Value A))
     → AreWritable vs → AreWritable (when_ended b admits vs)
@@ -107,7 +131,7 @@ pub is_filtered : {A : Type 0} → ((limit : Option ℕ) (s : List ℕ)
     → AreHandedOut {A = A} (meaning_within limit s))
     → ((vs : List (Value A)) → AreWritable vs → meaning (list_text vs) ≡ normal vs)
     → ((vs : List (Value A)) → AreWritable vs → Reads (list_text vs) (normal vs))
-    → (b : Bool) (u : Unicode) (limit : Option ℕ) (admits : Value A → Bool) (s : List ℕ)
+    → (b : Bool) (u : Guard) (limit : Option ℕ) (admits : Value A → Bool) (s : List ℕ)
     → IsFilteredAs u b limit admits s (list_text (when_ended b admits (passed_as u limit admits s)))
 is_filtered out back itself b u limit admits s =
     let vs = when_ended b admits (passed_as u limit admits s) in

@@ -1,5 +1,5 @@
 -- What values leave changed at a terminal, and what gives it back.
-use Rattle.std.specs.Prelude.{ℕ, ◌≡◌, pos, Bool, true, false, not, ◌==◌, ◌&&◌, if◌then◌else◌, List, [], ◌∷◌, ◌++◌, Option, None, is_some, Some}
+use Rattle.std.specs.Prelude.{ℕ, ◌≡◌, pos, Bool, true, false, not, ◌==◌, ◌&&◌, if◌then◌else◌, List, [], ◌∷◌, ◌++◌, Option, None, Some}
 use Rattle.esc_sequences.specs.Csis.{CsiValue, csi_of, sgr, unspecified}
 use Rattle.esc_sequences.specs.declared.esc.Esc.{Esc}
 use Rattle.esc_sequences.specs.declared.esc.Esc.TheVariants as esc_variant
@@ -9,6 +9,8 @@ use Rattle.esc_values.specs.declared.csi_param.CsiParam.{CsiParam}
 use Rattle.esc_values.specs.declared.csi_param.CsiParam.TheVariants.{Integer, P}
 use Rattle.esc_functions.specs.Escapes.{named as named_escape}
 use Rattle.esc_functions.specs.Functions.{function_of, sequence_key}
+use Rattle.esc_frame.specs.Segments.{is_empty}
+use Rattle.esc_links.specs.declared.hyperlink.Hyperlink.{Hyperlink}
 use Rattle.esc_osc.specs.declared.command.OperatingSystemCommand.{OperatingSystemCommand}
 use Rattle.esc_osc.specs.declared.command.OperatingSystemCommand.TheVariants as command
 use Rattle.esc_actions.specs.Values.{Value, control, esc, csi, osc}
@@ -76,8 +78,18 @@ after_control ShiftOut t = record t { sets = record t.sets { shifted = true } }
 after_control ShiftIn t = record t { sets = record t.sets { shifted = false } }
 after_control c t = t
 
+-- a link to an address is open after it: one without an address ends a link, as no link does
+abbrev pub opens : {A : Type 0} → Option (Hyperlink A) → Bool
+opens None = false
+opens (Some link) = not (is_empty link.uri)
+
+-- a semicolon comes last, where `before` says so of what comes before these bytes
+abbrev pub ends_in_semicolon : Bool → List ℕ → Bool
+ends_in_semicolon before [] = before
+ends_in_semicolon before (b ∷ s) = ends_in_semicolon (b == 0x3b) s
+
 abbrev pub after_command : {A : Type 0} → OperatingSystemCommand A → Terminal → Terminal
-after_command (command.SetHyperlink link) t = record t { link = is_some link }
+after_command (command.SetHyperlink link) t = record t { link = opens link }
 after_command _ t = t
 
 -- after a value

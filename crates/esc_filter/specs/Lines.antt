@@ -1,12 +1,14 @@
 -- What is written of a stream whose lines are streams of their own, where u says what is written of
--- characters that deceive.
-use Rattle.std.specs.Prelude.{ℕ, ◌≡◌, ◌<◌, ◌⊎◌, Bool, true, false, not, ◌==◌, if◌then◌else◌, List, [], ◌∷◌, ◌++◌, Some, IsTrue, codes, string_bytes}
+-- what deceives.
+use Rattle.std.specs.Prelude.{ℕ, ◌≡◌, ◌<◌, ◌⊎◌, Bool, true, false, not, ◌==◌, ◌&&◌, if◌then◌else◌, List, [], ◌∷◌, ◌++◌, Some, IsTrue, codes, string_bytes}
 use Rattle.std.specs.List.{list_any, flat_map}
 use Rattle.std.specs.Str.{IsAscii}
 use Rattle.esc_actions.specs.Meaning.{meaning, Reads}
 use Rattle.esc_actions.specs.Texts.{list_text, normal}
 use Rattle.esc_actions.specs.Values.{Value, control}
-use Rattle.esc_actions.specs.declared.control_code.ControlCode.TheVariants.{LineFeed}
+use Rattle.esc_actions.specs.declared.control_code.ControlCode.TheVariants.{CarriageReturn, LineFeed}
+use Rattle.esc_frame.specs.Segments.{is_empty}
+use Rattle.esc_filter.specs.Characters.{kept}
 use Rattle.esc_filter.specs.Closing.{closed, closing}
 use Rattle.esc_filter.specs.Fed.{WasFedIn, policy_of}
 use Rattle.esc_filter.specs.Known.{ArePassedRenditions, IsPassedText}
@@ -14,8 +16,7 @@ use Rattle.esc_filter.specs.Passing.{in_lines, passed_as}
 use Rattle.esc_write.specs.Plain.{last_text}
 use Rattle.esc_filter.specs.declared.admit.Admit.{Ghosts as Admitter}
 use Rattle.esc_filter.specs.declared.line_filter.LineFilter.{LineFilter}
-use Rattle.esc_filter.specs.declared.unicode.Unicode.{Unicode}
-use Rattle.esc_filter.specs.declared.unicode.Unicode.TheVariants.{Keep}
+use Rattle.esc_filter.specs.declared.guard.Guard.{Guard}
 
 abbrev pub is_line_feed : ℕ → Bool
 is_line_feed b = b == 0x0a
@@ -46,27 +47,77 @@ abbrev pub last_line : List ℕ → List ℕ
 last_line [] = []
 last_line (b ∷ s) = if has_line_feed (b ∷ s) then last_line s else b ∷ s
 
+-- what comes before that: the lines that have ended
+abbrev pub ended_lines : List ℕ → List ℕ
+ended_lines [] = []
+ended_lines (b ∷ s) = if has_line_feed (b ∷ s) then b ∷ ended_lines s else []
+
+-- ---- carriage returns
+
+abbrev pub is_return : ℕ → Bool
+is_return b = b == 0x0d
+
+-- whether a carriage return comes last, where `before` says so of what comes before these bytes
+abbrev pub ends_return : Bool → List ℕ → Bool
+ends_return before [] = before
+ends_return before (b ∷ s) = ends_return (is_return b) s
+
+-- the bytes without a carriage return that comes last
+abbrev pub body : List ℕ → List ℕ
+body [] = []
+body (b ∷ s) = if is_empty s && is_return b then [] else b ∷ body s
+
+-- that carriage return
+abbrev pub held : Bool → List ℕ
+held true = 0x0d ∷ []
+held false = []
+
+-- what comes before the line feed of a line: its body, and maybe a carriage return, which is a part
+-- of its end then
+abbrev pub content : List ℕ → List ℕ
+content [] = []
+content (b ∷ s) = if is_line_feed b then [] else b ∷ content s
+
+-- ---- what is written
+
 -- what passes of a line but its line feed
-abbrev pub passed_of_line : {A : Type 0} → Unicode → ℕ → (Value A → Bool) → List ℕ → List (Value A)
+abbrev pub passed_of_line : {A : Type 0} → Guard → ℕ → (Value A → Bool) → List ℕ → List (Value A)
 passed_of_line u limit admits l = passed_as u (Some limit) (in_lines true admits) l
 
+-- what passes of a line with this content: of its body and its line feed
+abbrev pub passed_of_content : {A : Type 0} → Guard → ℕ → (Value A → Bool) → List ℕ
+    → List (Value A)
+passed_of_content u limit admits x = passed_of_line u limit admits (body x ++ 0x0a ∷ [])
+
+-- the end of a line: a line feed, and before it the carriage return where there is one and these
+-- are admitted
+abbrev pub end_values : {A : Type 0} → (Value A → Bool) → Bool → List (Value A)
+end_values admits r =
+    if r && admits (control CarriageReturn)
+    then control CarriageReturn ∷ control LineFeed ∷ [] else control LineFeed ∷ []
+
+abbrev pub end_text : {A : Type 0} → (Value A → Bool) → Bool → List ℕ
+end_text admits r = if r && admits (control CarriageReturn) then 0x0d ∷ 0x0a ∷ [] else 0x0a ∷ []
+
 -- What is written of a line, which is a stream of its own: what passes of it, and where its line
--- feed has come, what gives back what that leaves changed, and the line feed.
-abbrev pub line_text : {A : Type 0} → Unicode → ℕ → (Value A → Bool) → List ℕ → List ℕ
+-- feed has come, what gives back what that leaves changed, and its end. A carriage return that
+-- comes last is not written before the byte after it says whether it is a part of the end.
+abbrev pub line_text : {A : Type 0} → Guard → ℕ → (Value A → Bool) → List ℕ → List ℕ
 line_text u limit admits l =
     if ends_line false l then
-    list_text (closed admits (passed_of_line u limit admits l)) ++ 0x0a ∷ []
-    else list_text (passed_of_line u limit admits l)
+    list_text (closed admits (passed_of_content u limit admits (content l)))
+    ++ end_text admits (ends_return false (content l))
+    else list_text (passed_of_line u limit admits (body l))
 
 -- the text of a stream: that of its lines, one after another
-abbrev pub text_by_lines_as : {A : Type 0} → Unicode → ℕ → (Value A → Bool) → List ℕ → List ℕ
+abbrev pub text_by_lines_as : {A : Type 0} → Guard → ℕ → (Value A → Bool) → List ℕ → List ℕ
 text_by_lines_as {A} u limit admits s = flat_map (line_text {A = A} u limit admits) (lines s)
 
 -- Lines that have ended, in ASCII, which are written as they are wherever all text passes, and
 -- where r also all renditions
 abbrev pub ArePlainLines : Type 0 → Bool → List ℕ → Type 0
 ArePlainLines A r s = IsAscii s × (ends_line true s ≡ true)
-    × ((u : Unicode) (limit : ℕ) (admits : Value A → Bool) → IsPassedText admits
+    × ((u : Guard) (limit : ℕ) (admits : Value A → Bool) → IsPassedText admits
     → (IsTrue r → ArePassedRenditions admits) → text_by_lines_as u limit admits s ≡ s)
 
 -- a number below 1000 as it is written, and `m`; it is another than 0, or not
@@ -80,35 +131,38 @@ IsShortRendition x b = (y : List ℕ) × (((x ≡ 0x1b ∷ 0x5b ∷ y) × IsNumb
     ⊎ (((x ≡ 0x1b ∷ 0x5b ∷ (codes "38;5;" ++ y)) ⊎ (x ≡ 0x1b ∷ 0x5b ∷ (codes "48;5;" ++ y)))
     × (b ≡ true) × ((c : Bool) × IsNumber y c)))
 
--- what the last line, without a line feed, leaves changed is given back once the stream has ended
-abbrev pub line_closing : {A : Type 0} → Unicode → ℕ → (Value A → Bool) → List ℕ → List (Value A)
-line_closing u limit admits s = closing admits (passed_of_line u limit admits (last_line s))
+-- what is written of the last line, without a line feed, once the stream has ended: what passes of
+-- all of it, and what gives back what that leaves changed
+abbrev pub last_values : {A : Type 0} → Guard → ℕ → (Value A → Bool) → List ℕ → List (Value A)
+last_values u limit admits s = closed admits (passed_of_line u limit admits (last_line s))
 
-abbrev pub closed_by_lines_as : {A : Type 0} → Unicode → ℕ → (Value A → Bool) → List ℕ → List ℕ
+-- the text of a stream that has ended
+abbrev pub closed_by_lines_as : {A : Type 0} → Guard → ℕ → (Value A → Bool) → List ℕ → List ℕ
 closed_by_lines_as u limit admits s =
-    text_by_lines_as u limit admits s ++ list_text (line_closing u limit admits s)
+    text_by_lines_as u limit admits (ended_lines s) ++ list_text (last_values u limit admits s)
 
 -- what the text of a line means
-abbrev pub line_values : {A : Type 0} → Unicode → ℕ → (Value A → Bool) → List ℕ → List (Value A)
+abbrev pub line_values : {A : Type 0} → Guard → ℕ → (Value A → Bool) → List ℕ → List (Value A)
 line_values u limit admits l =
-    if ends_line false l then normal (closed admits (passed_of_line u limit admits l))
-    ++ control LineFeed ∷ []
-    else normal (passed_of_line u limit admits l)
+    if ends_line false l then normal (closed admits (passed_of_content u limit admits (content l)))
+    ++ end_values admits (ends_return false (content l))
+    else normal (passed_of_line u limit admits (body l))
 
 -- the text of a stream that has ended, or goes on, and what it means
-abbrev pub lines_text_as : {A : Type 0} → Bool → Unicode → ℕ → (Value A → Bool) → List ℕ → List ℕ
+abbrev pub lines_text_as : {A : Type 0} → Bool → Guard → ℕ → (Value A → Bool) → List ℕ → List ℕ
 lines_text_as true u limit admits s = closed_by_lines_as u limit admits s
 lines_text_as false u limit admits s = text_by_lines_as u limit admits s
 
-abbrev pub lines_values_as : {A : Type 0} → Bool → Unicode → ℕ → (Value A → Bool) → List ℕ
+abbrev pub lines_values_as : {A : Type 0} → Bool → Guard → ℕ → (Value A → Bool) → List ℕ
     → List (Value A)
 lines_values_as true u limit admits s =
-    flat_map (line_values u limit admits) (lines s) ++ normal (line_closing u limit admits s)
+    flat_map (line_values u limit admits) (lines (ended_lines s))
+    ++ normal (last_values u limit admits s)
 lines_values_as false u limit admits s = flat_map (line_values u limit admits) (lines s)
 
 -- What holds of the text t that a filter wrote for the lines of the stream s, which has ended, or
 -- goes on:
-pub record IsFilteredByLinesAs {A : Type 0} (has_ended : Bool) (u : Unicode) (limit : ℕ)
+pub record IsFilteredByLinesAs {A : Type 0} (has_ended : Bool) (u : Guard) (limit : ℕ)
     (admits : Value A → Bool) (s t : List ℕ) : Type 0 where
   -- it is the text of what passes of each line
   pub text : t ≡ lines_text_as has_ended u limit admits s
@@ -119,30 +173,31 @@ pub record IsFilteredByLinesAs {A : Type 0} (has_ended : Bool) (u : Unicode) (li
 
 -- the same where characters that deceive are kept
 abbrev pub text_by_lines : {A : Type 0} → ℕ → (Value A → Bool) → List ℕ → List ℕ
-text_by_lines limit admits s = text_by_lines_as Keep limit admits s
+text_by_lines limit admits s = text_by_lines_as kept limit admits s
 
 abbrev pub closed_by_lines : {A : Type 0} → ℕ → (Value A → Bool) → List ℕ → List ℕ
-closed_by_lines limit admits s = closed_by_lines_as Keep limit admits s
+closed_by_lines limit admits s = closed_by_lines_as kept limit admits s
 
 abbrev pub lines_text : {A : Type 0} → Bool → ℕ → (Value A → Bool) → List ℕ → List ℕ
-lines_text has_ended limit admits s = lines_text_as has_ended Keep limit admits s
+lines_text has_ended limit admits s = lines_text_as has_ended kept limit admits s
 
 abbrev pub IsFilteredByLines : {A : Type 0} → Bool → ℕ → (Value A → Bool) → List ℕ → List ℕ
     → Type 0
 IsFilteredByLines has_ended limit admits s t =
-    IsFilteredByLinesAs has_ended Keep limit admits s t
+    IsFilteredByLinesAs has_ended kept limit admits s t
 
 -- The filter, of this limit and of a policy that admits these values, was fed these bytes, where u
--- says what is written of characters that deceive: lines that have ended, and then the rest of one,
--- which is all that its filter was fed.
-pub record WasFedLines {P A : Type 0} (u : Unicode) (limit : ℕ) (admits : Value A → Bool)
+-- says what is written of what deceives: lines that have ended, and then the rest of one, which is
+-- all that its filter was fed but for a carriage return that comes last and is held back.
+pub record WasFedLines {P A : Type 0} (u : Guard) (limit : ℕ) (admits : Value A → Bool)
     (s : List ℕ) (f : LineFilter P A) : Type 0 where
   pub ended : List ℕ
   pub rest : List ℕ
   pub whole : s ≡ ended ++ rest
   pub ends : ends_line true ended ≡ true
   pub unended : has_line_feed rest ≡ false
-  pub fed : WasFedIn u true limit admits rest f.filter
+  pub fed : WasFedIn u true limit admits (body rest) f.filter
+  pub holds : f.holds ≡ ends_return false rest
   pub unfailed : f.has_failed ≡ false
 
 -- what the bytes fed last added
@@ -155,64 +210,98 @@ policy_of_lines f = policy_of f.filter
 -- this holds of each stream that the filter may have been fed, its limit, and what its policy
 -- admits
 abbrev pub AfterLines : {P A : Type 0} → Admitter P A → LineFilter P A
-    → (Unicode → ℕ → (Value A → Bool) → List ℕ → Type 0) → Type 0
+    → (Guard → ℕ → (Value A → Bool) → List ℕ → Type 0) → Type 0
 AfterLines V f C =
-    (u : Unicode) (limit : ℕ) (s : List ℕ) → WasFedLines u limit (V.admits (policy_of_lines f)) s f
+    (u : Guard) (limit : ℕ) (s : List ℕ) → WasFedLines u limit (V.admits (policy_of_lines f)) s f
     → C u limit (V.admits (policy_of_lines f)) s
 
 -- the filter, which was fed s, was fed b too, and t is the text that b adds
-abbrev pub AddsText : {P A : Type 0} → Unicode → (Value A → Bool) → ℕ → List ℕ → List ℕ → List ℕ
+abbrev pub AddsText : {P A : Type 0} → Guard → (Value A → Bool) → ℕ → List ℕ → List ℕ → List ℕ
     → LineFilter P A → Type 0
 AddsText {P} {A} u admits limit s b t f = WasFedLines u limit admits (s ++ b) f
     × (text_by_lines_as {A = A} u limit admits (s ++ b)
     ≡ text_by_lines_as {A = A} u limit admits s ++ t)
 
 -- it grew its text by that
-abbrev pub GrowsBy : {P A : Type 0} → Unicode → (Value A → Bool) → ℕ → List ℕ → List ℕ
+abbrev pub GrowsBy : {P A : Type 0} → Guard → (Value A → Bool) → ℕ → List ℕ → List ℕ
     → LineFilter P A → LineFilter P A → Type 0
 GrowsBy u admits limit s b old new =
     (t : List ℕ) × AddsText u admits limit s b t new × (added_by new ≡ added_by old ++ t)
 
 -- the stream s has ended, and t is the text that its end adds; the filter is at the beginning of
 -- the next
-abbrev pub EndsLines : {P A : Type 0} → Unicode → (Value A → Bool) → ℕ → List ℕ → List ℕ
+abbrev pub EndsLines : {P A : Type 0} → Guard → (Value A → Bool) → ℕ → List ℕ → List ℕ
     → LineFilter P A → Type 0
 EndsLines {P} {A} u admits limit s t f = WasFedLines u limit admits [] f
     × (closed_by_lines_as {A = A} u limit admits s ≡ text_by_lines_as {A = A} u limit admits s ++ t)
 
+-- the same, and it grew its text by that
+abbrev pub EndsBy : {P A : Type 0} → Guard → (Value A → Bool) → ℕ → List ℕ → LineFilter P A
+    → LineFilter P A → Type 0
+EndsBy u admits limit s old new =
+    (t : List ℕ) × EndsLines u admits limit s t new × (added_by new ≡ added_by old ++ t)
+
 -- ---- the last line
 
--- this holds of each line that the filter's last one may be, so far, of its limit, and of what its
+-- this holds of each line that the filter of the last one was fed, of its limit, and of what its
 -- policy admits
 abbrev pub OnLine : {P A : Type 0} → Admitter P A → LineFilter P A
-    → (Unicode → ℕ → (Value A → Bool) → List ℕ → Type 0) → Type 0
+    → (Guard → ℕ → (Value A → Bool) → List ℕ → Type 0) → Type 0
 OnLine V f C =
-    (u : Unicode) (limit : ℕ) (l : List ℕ)
+    (u : Guard) (limit : ℕ) (l : List ℕ)
     → WasFedIn u true limit (V.admits (policy_of_lines f)) l f.filter
     → C u limit (V.admits (policy_of_lines f)) l
 
--- the last line, which was l, is longer by b, and the text grew by what that adds
-abbrev pub GrowsLine : {P A : Type 0} → Unicode → (Value A → Bool) → ℕ → List ℕ → List ℕ
+-- the same of each that may have come, of which a carriage return that comes last is held back
+abbrev pub OnRest : {P A : Type 0} → Admitter P A → LineFilter P A
+    → (Guard → ℕ → (Value A → Bool) → List ℕ → Type 0) → Type 0
+OnRest V f C =
+    (u : Guard) (limit : ℕ) (r : List ℕ)
+    → WasFedIn u true limit (V.admits (policy_of_lines f)) (body r) f.filter
+    → f.holds ≡ ends_return false r → C u limit (V.admits (policy_of_lines f)) r
+
+-- the filter of the last line, which was fed l, was fed more, so that it is m, and the text grew by
+-- what that adds
+abbrev pub GrowsTo : {P A : Type 0} → Guard → (Value A → Bool) → ℕ → List ℕ → List ℕ
     → LineFilter P A → LineFilter P A → Type 0
-GrowsLine {P} {A} u admits limit l b old new =
-    WasFedIn u true limit admits (l ++ b) new.filter
+GrowsTo {P} {A} u admits limit l m old new =
+    WasFedIn u true limit admits m new.filter
     × ((t : List ℕ)
-    × (list_text (passed_of_line {A = A} u limit admits (l ++ b))
+    × (list_text (passed_of_line {A = A} u limit admits m)
     ≡ list_text (passed_of_line {A = A} u limit admits l) ++ t)
     × (added_by new ≡ added_by old ++ t))
 
+-- it was fed b
+abbrev pub GrowsLine : {P A : Type 0} → Guard → (Value A → Bool) → ℕ → List ℕ → List ℕ
+    → LineFilter P A → LineFilter P A → Type 0
+GrowsLine u admits limit l b old new = GrowsTo u admits limit l (l ++ b) old new
+
+-- what came of the last line, which was r, is r and x now
+abbrev pub GrowsRest : {P A : Type 0} → Guard → (Value A → Bool) → ℕ → List ℕ → List ℕ
+    → LineFilter P A → LineFilter P A → Type 0
+GrowsRest u admits limit r x old new = GrowsTo u admits limit (body r) (body (r ++ x)) old new
+    × (new.holds ≡ ends_return false (r ++ x))
+
+-- and then its line feed came
+abbrev pub FillsLine : {P A : Type 0} → Guard → (Value A → Bool) → ℕ → List ℕ → List ℕ
+    → LineFilter P A → LineFilter P A → Type 0
+FillsLine u admits limit r x old new =
+    GrowsTo u admits limit (body r) (body (r ++ x) ++ 0x0a ∷ []) old new
+    × (new.holds ≡ ends_return false (r ++ x))
+
 -- the last line, which was l, is closed, and the text grew by what gives back what it left changed
-abbrev pub ClosesLine : {P A : Type 0} → Unicode → (Value A → Bool) → ℕ → List ℕ → LineFilter P A
+abbrev pub ClosesLine : {P A : Type 0} → Guard → (Value A → Bool) → ℕ → List ℕ → LineFilter P A
     → LineFilter P A → Type 0
 ClosesLine {P} {A} u admits limit l old new =
     WasFedIn u true limit admits [] new.filter
     × (added_by new
     ≡ added_by old ++ list_text (closing admits (passed_of_line {A = A} u limit admits l)))
 
--- the same, and the line feed after it
-abbrev pub EndsLine : {P A : Type 0} → Unicode → (Value A → Bool) → ℕ → List ℕ → LineFilter P A
+-- the same, and the end of the line after it
+abbrev pub EndsLine : {P A : Type 0} → Guard → (Value A → Bool) → ℕ → List ℕ → LineFilter P A
     → LineFilter P A → Type 0
 EndsLine {P} {A} u admits limit l old new =
     WasFedIn u true limit admits [] new.filter
     × (added_by new ≡ added_by old
-    ++ (list_text (closing admits (passed_of_line {A = A} u limit admits l)) ++ 0x0a ∷ []))
+    ++ (list_text (closing admits (passed_of_line {A = A} u limit admits l))
+    ++ end_text admits old.holds))

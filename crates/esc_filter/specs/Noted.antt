@@ -9,13 +9,13 @@ use Rattle.esc_actions.specs.Values.{Value, csi, osc, value_of}
 use Rattle.esc_actions.specs.declared.action.Action.{Action}
 use Rattle.esc_normal.specs.Spelled.{Denies}
 use Rattle.esc_visible.specs.Characters.{is_deceiving}
-use Rattle.esc_filter.specs.Characters.{in_unicode}
+use Rattle.esc_filter.specs.Characters.{in_guard}
 use Rattle.esc_filter.specs.Closing.{after_values}
 use Rattle.esc_filter.specs.Terminal.{unchanged}
 use Rattle.esc_filter.specs.Passing.{is_line_feed}
 use Rattle.esc_filter.specs.Rules.{is_link, is_plain_param}
 use Rattle.esc_normal.specs.Texts.{ends_in_string}
-use Rattle.esc_filter.specs.declared.unicode.Unicode.{Unicode}
+use Rattle.esc_filter.specs.declared.guard.Guard.{Guard}
 use Rattle.esc_filter.specs.declared.unicode.Unicode.TheVariants.{Keep}
 use Rattle.esc_filter.specs.declared.written.Written.{Written}
 
@@ -27,28 +27,28 @@ without_text w = record w { spell = record w.spell { text = [] } }
 abbrev pub Writes : {A : Type 0} → Written A → List (Value A) → Written A → Type 0
 Writes p vs q = (q.spell.text ≡ p.spell.text ++ texts_after p.spell.follows_string vs)
     × (q.spell.follows_string ≡ ends_in_string p.spell.follows_string vs)
-    × (q.left ≡ after_values vs p.left) × (q.by_lines ≡ p.by_lines) × (q.unicode ≡ p.unicode)
+    × (q.left ≡ after_values vs p.left) × (q.by_lines ≡ p.by_lines) × (q.guard ≡ p.guard)
 
 -- what is written of a value: nothing of a line feed where lines are streams of their own
-abbrev pub written_of : {A : Type 0} → Bool → Unicode → Value A → List (Value A)
-written_of b u v = if is_line_feed v && b then [] else in_unicode u v
+abbrev pub written_of : {A : Type 0} → Bool → Guard → Value A → List (Value A)
+written_of b u v = if is_line_feed v && b then [] else in_guard u v
 
 -- that was done for what is written of the action
 abbrev pub Notes : {A : Type 0} → Written A → Action A → Written A → Type 0
-Notes p a q = Writes p (written_of p.by_lines p.unicode (value_of a)) q
+Notes p a q = Writes p (written_of p.by_lines p.guard (value_of a)) q
 
 -- each of these characters is written as it is
-abbrev pub AreKept : Unicode → List ℕ → Type 0
-AreKept u xs = (u ≡ Keep) ⊎ (list_any is_deceiving xs ≡ false)
+abbrev pub AreKept : Guard → List ℕ → Type 0
+AreKept u xs = (u.characters ≡ Keep) ⊎ (list_any is_deceiving xs ≡ false)
 
 -- an action that has a text is refused where memory is
 abbrev pub WriteDenies : {A : Type 0} → Written A → Action A → Written A → Type 0
 WriteDenies p a q = Denies p.spell a q.spell
 
 -- it wrote these values, by lines or not, where u says what is written of characters that deceive
-abbrev pub HasNoted : {A : Type 0} → Bool → Unicode → List (Value A) → Written A → Type 0
+abbrev pub HasNoted : {A : Type 0} → Bool → Guard → List (Value A) → Written A → Type 0
 HasNoted b u vs w = (w.spell.follows_string ≡ ends_in_string false vs)
-    × (w.left ≡ after_values vs unchanged) × (w.by_lines ≡ b) × (w.unicode ≡ u)
+    × (w.left ≡ after_values vs unchanged) × (w.by_lines ≡ b) × (w.guard ≡ u)
 
 -- ---- sequences and commands that are written from their parameters or their text
 

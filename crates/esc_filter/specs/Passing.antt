@@ -6,10 +6,9 @@ use Rattle.esc_actions.specs.Texts.{list_text, normal}
 use Rattle.esc_actions.specs.Values.{Value, control, enter, datum, exit}
 use Rattle.esc_actions.specs.declared.control_code.ControlCode.TheVariants.{LineFeed}
 use Rattle.esc_actions.specs.Writable.{AreWritable, is_exception}
-use Rattle.esc_filter.specs.Characters.{in_characters}
+use Rattle.esc_filter.specs.Characters.{in_values, kept}
 use Rattle.esc_filter.specs.Closing.{closed}
-use Rattle.esc_filter.specs.declared.unicode.Unicode.{Unicode}
-use Rattle.esc_filter.specs.declared.unicode.Unicode.TheVariants.{Keep}
+use Rattle.esc_filter.specs.declared.guard.Guard.{Guard}
 
 -- a step of a mode: its header, a byte of its data, or its end
 abbrev pub is_mode_step : {A : Type 0} → Value A → Bool
@@ -41,12 +40,12 @@ abbrev pub passed : {A : Type 0} → Option ℕ → (Value A → Bool) → List 
 passed limit admits s = filter (passes admits) (meaning_within limit s)
 
 -- what is written of them
-abbrev pub passed_as : {A : Type 0} → Unicode → Option ℕ → (Value A → Bool) → List ℕ
+abbrev pub passed_as : {A : Type 0} → Guard → Option ℕ → (Value A → Bool) → List ℕ
     → List (Value A)
-passed_as u limit admits s = in_characters u (passed limit admits s)
+passed_as u limit admits s = in_values u (passed limit admits s)
 
 -- its text
-abbrev pub passed_text_as : {A : Type 0} → Unicode → Option ℕ → (Value A → Bool) → List ℕ
+abbrev pub passed_text_as : {A : Type 0} → Guard → Option ℕ → (Value A → Bool) → List ℕ
     → List ℕ
 passed_text_as u limit admits s = list_text (passed_as u limit admits s)
 
@@ -61,7 +60,7 @@ when_ended true admits vs = closed admits vs
 when_ended false admits vs = vs
 
 -- the text of a stream that has ended
-abbrev pub closed_text_as : {A : Type 0} → Unicode → Option ℕ → (Value A → Bool) → List ℕ
+abbrev pub closed_text_as : {A : Type 0} → Guard → Option ℕ → (Value A → Bool) → List ℕ
     → List ℕ
 closed_text_as u limit admits s = list_text (closed admits (passed_as u limit admits s))
 
@@ -70,7 +69,7 @@ closed_text limit admits s = list_text (closed admits (passed limit admits s))
 
 -- What holds of the text t that a filter wrote for the stream s, which has ended, or goes on, where
 -- u says what is written of characters that deceive:
-pub record IsFilteredAs {A : Type 0} (u : Unicode) (has_ended : Bool) (limit : Option ℕ)
+pub record IsFilteredAs {A : Type 0} (u : Guard) (has_ended : Bool) (limit : Option ℕ)
     (admits : Value A → Bool) (s t : List ℕ) : Type 0 where
   -- it is the text of what is written of the values of the stream that pass, and of what gives back
   -- what they leave changed
@@ -85,4 +84,4 @@ pub record IsFilteredAs {A : Type 0} (u : Unicode) (has_ended : Bool) (limit : O
 -- the same where they are kept
 abbrev pub IsFiltered : {A : Type 0} → Bool → Option ℕ → (Value A → Bool) → List ℕ → List ℕ
     → Type 0
-IsFiltered has_ended limit admits s t = IsFilteredAs Keep has_ended limit admits s t
+IsFiltered has_ended limit admits s t = IsFilteredAs kept has_ended limit admits s t

@@ -10,7 +10,7 @@ use Rattle.esc_filter.specs.Closing.{joined}
 use Rattle.esc_filter.specs.Rules.{admits}
 use Rattle.esc_filter.specs.declared.policy.Policy.{Policy}
 
--- a character of plain text: tab, line feed, carriage return, U+0020 to U+007E, or a Unicode scalar
+-- a character of plain text: tab, line feed, carriage return, U+0020 to U+007E, or a Guard scalar
 -- value from U+00A0 on; so no other control of C0, no DEL, and no control of C1
 abbrev pub is_plain : ℕ → Bool
 is_plain c = (c == 0x09) || ((c == 0x0a) || ((c == 0x0d)

@@ -4,6 +4,7 @@ use Rattle.std.specs.Char.{is_ascii_alphabetic, is_ascii_alphanumeric}
 use Rattle.std.specs.Borrow.{Bor}
 use Rattle.std.specs.List.{list_all, list_any, slice_split}
 use Rattle.std.specs.Str.{str_eq_ignore_ascii_case}
+use Rattle.esc_frame.specs.Segments.{is_empty}
 use Rattle.esc_actions.specs.Values.{Value, osc}
 use Rattle.esc_osc.specs.declared.command.OperatingSystemCommand.{OperatingSystemCommand}
 use Rattle.esc_osc.specs.declared.command.OperatingSystemCommand.TheVariants as command
@@ -33,10 +34,11 @@ is_comma b = b == 0x2c
 abbrev pub has_one_scheme : List ℕ → List ℕ → Bool
 has_one_scheme address schemes = list_any (has_scheme address) (slice_split is_comma schemes)
 
--- no link, the end of one, or a link to an address with one of the schemes, where there are some
+-- no link, the end of one, as a link without an address is, or a link to an address with one of the
+-- schemes, where there are some
 abbrev pub link_leads : {A : Type 0} → Option (Bor (List ℕ)) → OperatingSystemCommand A → Bool
 link_leads (Some schemes) (command.SetHyperlink (Some link)) =
-    has_one_scheme link.uri schemes.now
+    is_empty link.uri || has_one_scheme link.uri schemes.now
 link_leads _ _ = true
 
 abbrev pub leads : {A : Type 0} → Option (Bor (List ℕ)) → Value A → Bool

@@ -3,7 +3,7 @@ ghost use Rattle.std.specs.Prelude.{◌≡◌, ℕ, Some, false};
 ghost use Rattle.esc_filter.specs.Fed.{WasFedIn, added_by, policy_of};
 ghost use Rattle.esc_filter.specs.Lines.{WasFedLines, added_by as added_by_lines, closed_by_lines_as, policy_of_lines, text_by_lines_as};
 ghost use Rattle.esc_filter.specs.Passing.{closed_text_as, passed_text_as};
-ghost use Rattle.esc_filter.specs.declared.unicode.Unicode.{Unicode};
+ghost use Rattle.esc_filter.specs.declared.guard.Guard.{Guard};
 
 use crate::admit::Admit;
 use crate::filter::Filter;
@@ -12,7 +12,7 @@ use esc_normal::Feeding;
 use std::alloc::{AllocError, Allocator};
 
 impl<P: Admit<A>, A: Allocator + Copy> Feeding<A> for Filter<P, A> {
-    ghost gives = { λ f m c s. (u : Unicode) × (limit : ℕ)
+    ghost gives = { λ f m c s. (u : Guard) × (limit : ℕ)
         × WasFedIn u false limit (P.admits (policy_of f)) s f
         × (m ≡ passed_text_as {A = A} u (Some limit) (P.admits (policy_of f)))
         × (c ≡ closed_text_as {A = A} u (Some limit) (P.admits (policy_of f))) };
@@ -38,7 +38,7 @@ impl<P: Admit<A>, A: Allocator + Copy> Feeding<A> for Filter<P, A> {
 }
 
 impl<P: Admit<A>, A: Allocator + Copy> Feeding<A> for LineFilter<P, A> {
-    ghost gives = { λ f m c s. (u : Unicode) × (limit : ℕ)
+    ghost gives = { λ f m c s. (u : Guard) × (limit : ℕ)
         × WasFedLines u limit (P.admits (policy_of_lines f)) s f
         × (m ≡ text_by_lines_as {A = A} u limit (P.admits (policy_of_lines f)))
         × (c ≡ closed_by_lines_as {A = A} u limit (P.admits (policy_of_lines f))) };

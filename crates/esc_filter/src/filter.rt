@@ -1,19 +1,23 @@
 //! A filter that is fed a stream piece by piece.
 ghost use Rattle.std.specs.Prelude.{◌≡◌, ◌≤◌, ◌+◌, Bool, List, [], IfErr, IsTrue, OnErr, OnOk, Some, false, min};
 ghost use Rattle.esc_actions.specs.Limited.{data_kept};
+ghost use Rattle.esc_actions.specs.Values.{control};
+ghost use Rattle.esc_actions.specs.declared.control_code.ControlCode.TheVariants.{CarriageReturn};
 ghost use Rattle.esc_frame.specs.Counts.{kept_of_cut};
 ghost use Rattle.esc_frame.specs.Limits.{most};
 ghost use Rattle.esc_frame.specs.Segments.{IsCut, Segment};
+ghost use Rattle.esc_filter.specs.Characters.{of_unicode};
 ghost use Rattle.esc_filter.specs.Known.{ArePassedRenditions, IsPassedText};
 ghost use Rattle.memory.specs.Refusals.{Refused};
 
 use crate::admit::Admit;
 use crate::giving_back::keeps_cursor_of;
+use crate::guard::Guard;
 use crate::passing::Passing;
 use crate::text::emptied;
 use crate::unicode::Unicode;
 use crate::written::Written;
-use esc_actions::laws;
+use esc_actions::{Action, ControlCode, laws};
 use esc_frame::ParseError;
 use esc_parse::Parser;
 use esc_values::Text;
@@ -49,13 +53,22 @@ impl<P: Admit<A>, A: Allocator + Copy> Filter<P, A> {
     }
 
     /// The same, where `unicode` says what is written of characters that deceive. What is within a
-    /// string, as the address of a link, stays as it is.
+    /// string, as the address of a link, stays as it is, and so do carriage returns.
     pub fn with_unicode(alloc: A, limit: usize, policy: P, unicode: Unicode) -> Filter<P, A>
-        ensures fed { WasFedIn unicode false limit (P.admits policy) [] result }
+        ensures fed { WasFedIn (of_unicode unicode) false limit (P.admits policy) [] result }
         ensures policy { policy_of result ≡ policy }
         ensures empty { added_by result ≡ [] }
     {
-        Filter::begun(alloc, limit, policy, unicode, false)
+        Filter::with_guard(alloc, limit, policy, Guard::of_unicode(unicode))
+    }
+
+    /// The same, where `guard` says what is written of these, and of carriage returns.
+    pub fn with_guard(alloc: A, limit: usize, policy: P, guard: Guard) -> Filter<P, A>
+        ensures fed { WasFedIn guard false limit (P.admits policy) [] result }
+        ensures policy { policy_of result ≡ policy }
+        ensures empty { added_by result ≡ [] }
+    {
+        Filter::begun(alloc, limit, policy, guard, false)
     }
 
     /// The same; where `by_lines`, of a line, whose line feed it drops.
@@ -63,16 +76,16 @@ impl<P: Admit<A>, A: Allocator + Copy> Filter<P, A> {
         alloc: A,
         limit: usize,
         policy: P,
-        unicode: Unicode,
+        guard: Guard,
         by_lines: bool,
     ) -> Filter<P, A>
-        ensures fed { WasFedIn unicode by_lines limit (P.admits policy) [] result }
+        ensures fed { WasFedIn guard by_lines limit (P.admits policy) [] result }
         ensures policy { policy_of result ≡ policy }
         ensures empty { added_by result ≡ [] }
     {
         Filter {
             parser: Parser::with_limit(alloc, limit),
-            written: Written::new(alloc, by_lines, unicode),
+            written: Written::new(alloc, by_lines, guard),
             alloc,
             policy,
         }
@@ -94,7 +107,7 @@ impl<P: Admit<A>, A: Allocator + Copy> Filter<P, A> {
             × (added_by self.new ≡ []) }
     {
         laws::yield_handed_out::<A>();
-        let new = Written::new(self.alloc, self.written.by_lines, self.written.unicode);
+        let new = Written::new(self.alloc, self.written.by_lines, self.written.guard);
         let written = mem::replace(&mut self.written, new);
         let sink = Passing {
             written: written.emptied(),
@@ -172,6 +185,18 @@ impl<P: Admit<A>, A: Allocator + Copy> Filter<P, A> {
         ensures { IsTrue result → ArePassedRenditions (P.admits (policy_of self.now)) }
     {
         self.policy.known().renditions
+    }
+
+    /// Whether a carriage return passes. One that does not is shown to the policy as left out.
+    pub(crate) fn passes_return(&self) -> bool
+        ensures { result ≡ P.admits (policy_of self.now) (control CarriageReturn) }
+    {
+        let action = Action::Control(ControlCode::CarriageReturn);
+        let passes = self.policy.admits(&action);
+        if !passes {
+            self.policy.leaves_out(&action);
+        }
+        passes
     }
 
     /// The text that the bytes fed last added.

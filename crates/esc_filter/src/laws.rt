@@ -8,7 +8,7 @@ ghost use Rattle.esc_actions.specs.Values.{Value};
 ghost use Rattle.esc_frame.specs.Segments.{is_empty};
 ghost use Rattle.esc_filter.specs.Closing.{IsAtStart, after_values, closed, closing};
 ghost use Rattle.esc_filter.specs.Terminal.{unchanged};
-ghost use Rattle.esc_filter.specs.Lines.{IsFilteredByLines, IsFilteredByLinesAs, IsLine, closed_by_lines_as, has_line_feed, line_text, lines, lines_text, lines_text_as, passed_of_line, text_by_lines_as};
+ghost use Rattle.esc_filter.specs.Lines.{IsFilteredByLines, IsFilteredByLinesAs, IsLine, closed_by_lines_as, has_line_feed, line_text, lines, lines_text, lines_text_as, text_by_lines_as};
 ghost use Rattle.esc_sequences.specs.Csis.{CsiValue};
 ghost use Rattle.esc_sequences.specs.declared.esc.Esc.{Esc};
 ghost use Rattle.esc_functions.specs.Effects.{is_answered};
@@ -25,7 +25,7 @@ ghost use Rattle.esc_filter.specs.declared.groups.Groups.{Groups};
 ghost use Rattle.esc_filter.specs.declared.group.Group.{Group};
 ghost use Rattle.esc_filter.specs.declared.policy.Policy.{Policy};
 ghost use Rattle.esc_filter.specs.declared.policy.Policy.TheVariants as policy;
-ghost use Rattle.esc_filter.specs.declared.unicode.Unicode.{Unicode};
+ghost use Rattle.esc_filter.specs.declared.guard.Guard.{Guard};
 
 use esc_actions::laws;
 use std::alloc::Allocator;
@@ -41,11 +41,11 @@ pub fn passed_reads_back<A: Allocator>()
     written_reads_back::<A>();
 }
 
-/// The same, whatever is written of characters that deceive.
+/// The same, whatever is written of what deceives.
 pub fn written_reads_back<A: Allocator>()
-    ensures goes_on { (u : Unicode) (limit : Option ℕ) (admits : Value A → Bool) (s : List ℕ)
+    ensures goes_on { (u : Guard) (limit : Option ℕ) (admits : Value A → Bool) (s : List ℕ)
         → IsFilteredAs u false limit admits s (passed_text_as u limit admits s) }
-    ensures ended { (u : Unicode) (limit : Option ℕ) (admits : Value A → Bool) (s : List ℕ)
+    ensures ended { (u : Guard) (limit : Option ℕ) (admits : Value A → Bool) (s : List ℕ)
         → IsFilteredAs u true limit admits s (closed_text_as u limit admits s) }
 {
     laws::handed_out::<A>();
@@ -92,9 +92,9 @@ pub fn lines_read_back<A: Allocator>()
     written_lines_read_back::<A>();
 }
 
-/// The same, whatever is written of characters that deceive.
+/// The same, whatever is written of what deceives.
 pub fn written_lines_read_back<A: Allocator>()
-    ensures { (has_ended : Bool) (u : Unicode) (limit : ℕ) (admits : Value A → Bool) (s : List ℕ)
+    ensures { (has_ended : Bool) (u : Guard) (limit : ℕ) (admits : Value A → Bool) (s : List ℕ)
         → IsFilteredByLinesAs has_ended u limit admits s
         (lines_text_as has_ended u limit admits s) }
 {
@@ -107,14 +107,14 @@ pub fn written_lines_read_back<A: Allocator>()
 /// what gives back what it leaves changed. So the lines of what is written are the texts of the
 /// lines, in order, but for an empty text of the last.
 pub fn lines_written<A: Allocator>()
-    ensures ended { (u : Unicode) (limit : ℕ) (admits : Value A → Bool) (l : List ℕ) → IsLine l
+    ensures ended { (u : Guard) (limit : ℕ) (admits : Value A → Bool) (l : List ℕ) → IsLine l
         → IsLine (line_text u limit admits l) }
-    ensures last { (u : Unicode) (limit : ℕ) (admits : Value A → Bool) (l : List ℕ)
+    ensures last { (u : Guard) (limit : ℕ) (admits : Value A → Bool) (l : List ℕ)
         → has_line_feed l ≡ false → has_line_feed (line_text u limit admits l) ≡ false }
-    ensures closed { (u : Unicode) (limit : ℕ) (admits : Value A → Bool) (l : List ℕ)
-        → has_line_feed l ≡ false → has_line_feed (line_text u limit admits l
-        ++ list_text (closing admits (passed_of_line u limit admits l))) ≡ false }
-    ensures lines { (u : Unicode) (limit : ℕ) (admits : Value A → Bool) (s : List ℕ)
+    ensures closed { (u : Guard) (limit : ℕ) (admits : Value A → Bool) (l : List ℕ)
+        → has_line_feed l ≡ false
+        → has_line_feed (closed_by_lines_as u limit admits l) ≡ false }
+    ensures lines { (u : Guard) (limit : ℕ) (admits : Value A → Bool) (s : List ℕ)
         → lines (text_by_lines_as u limit admits s)
         ≡ filter (λ t. not (is_empty t)) (map (line_text u limit admits) (lines s)) }
 {
@@ -146,13 +146,13 @@ pub fn policies_are_groups<A: Allocator>()
 /// of one that has ended, whole and by lines, is made of tabs, line feeds, carriage returns and
 /// characters from U+0020 to U+007E and from U+00A0 on: no other control, no DEL and no ESC.
 pub fn writes_plain_text<A: Allocator>()
-    ensures goes_on { (u : Unicode) (limit : Option ℕ) (f : Value A → Bool)
+    ensures goes_on { (u : Guard) (limit : Option ℕ) (f : Value A → Bool)
         → AdmitsAtMost policy.Text f → (s : List ℕ) → IsPlainText (passed_text_as u limit f s) }
-    ensures ended { (u : Unicode) (limit : Option ℕ) (f : Value A → Bool)
+    ensures ended { (u : Guard) (limit : Option ℕ) (f : Value A → Bool)
         → AdmitsAtMost policy.Text f → (s : List ℕ) → IsPlainText (closed_text_as u limit f s) }
-    ensures by_lines { (u : Unicode) (limit : ℕ) (f : Value A → Bool)
+    ensures by_lines { (u : Guard) (limit : ℕ) (f : Value A → Bool)
         → AdmitsAtMost policy.Text f → (s : List ℕ) → IsPlainText (text_by_lines_as u limit f s) }
-    ensures ended_by_lines { (u : Unicode) (limit : ℕ) (f : Value A → Bool)
+    ensures ended_by_lines { (u : Guard) (limit : ℕ) (f : Value A → Bool)
         → AdmitsAtMost policy.Text f
         → (s : List ℕ) → IsPlainText (closed_by_lines_as u limit f s) }
 {
@@ -163,13 +163,13 @@ pub fn writes_plain_text<A: Allocator>()
 /// and links: `ESC [`, digits, `:` and `;`, `m`; and `ESC ]`, a text that begins with `8;` and has
 /// no control of C0 or C1, `ESC \`.
 pub fn writes_color_text<A: Allocator>()
-    ensures goes_on { (u : Unicode) (limit : Option ℕ) (f : Value A → Bool)
+    ensures goes_on { (u : Guard) (limit : Option ℕ) (f : Value A → Bool)
         → AdmitsAtMost policy.Color f → (s : List ℕ) → IsColorText (passed_text_as u limit f s) }
-    ensures ended { (u : Unicode) (limit : Option ℕ) (f : Value A → Bool)
+    ensures ended { (u : Guard) (limit : Option ℕ) (f : Value A → Bool)
         → AdmitsAtMost policy.Color f → (s : List ℕ) → IsColorText (closed_text_as u limit f s) }
-    ensures by_lines { (u : Unicode) (limit : ℕ) (f : Value A → Bool)
+    ensures by_lines { (u : Guard) (limit : ℕ) (f : Value A → Bool)
         → AdmitsAtMost policy.Color f → (s : List ℕ) → IsColorText (text_by_lines_as u limit f s) }
-    ensures ended_by_lines { (u : Unicode) (limit : ℕ) (f : Value A → Bool)
+    ensures ended_by_lines { (u : Guard) (limit : ℕ) (f : Value A → Bool)
         → AdmitsAtMost policy.Color f
         → (s : List ℕ) → IsColorText (closed_by_lines_as u limit f s) }
 {

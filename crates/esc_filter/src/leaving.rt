@@ -1,12 +1,12 @@
 //! What the actions that pass leave changed at a terminal.
-ghost use Rattle.std.specs.Prelude.{List, ◌≡◌, ◌∷◌, [], false, pos, IfSome, IsTrue};
+ghost use Rattle.std.specs.Prelude.{List, ◌≡◌, ◌≢◌, ◌∷◌, codes, [], false, pos, IfSome, IsTrue};
 ghost use Rattle.esc_values.specs.Clear.{parts_of};
 ghost use Rattle.esc_sequences.specs.Csis.{CsiValue, csi_of, csi_value};
 ghost use Rattle.esc_values.specs.declared.csi_param.CsiParam.{CsiParam};
 ghost use Rattle.esc_values.specs.declared.csi_param.CsiParam.TheVariants.{Integer};
 ghost use Rattle.esc_actions.specs.Values.{value_of};
 ghost use Rattle.esc_osc.specs.Reading.{meaning as command_meant};
-ghost use Rattle.esc_filter.specs.Closing.{BeginsWith, IsAfter, Turns, after_body, after_command, after_control, after_escape, after_sequence, after_value, is_reset, lights, noted, turned};
+ghost use Rattle.esc_filter.specs.Closing.{BeginsWith, IsAfter, Turns, after_body, after_command, after_control, after_escape, after_sequence, after_value, ends_in_semicolon, is_reset, lights, noted, opens, turned};
 ghost use Rattle.esc_filter.specs.Terminal.{after_escape_function, after_named_escape};
 ghost use Rattle.esc_filter.specs.declared.terminal.Terminal.{Terminal};
 ghost use Rattle.esc_write.specs.Plain.{AreParams, IsPlainLink};
@@ -15,6 +15,7 @@ use crate::policy::{are_plain, has_other_code};
 use crate::terminal::Terminal;
 use esc_actions::{Action, ControlCode};
 use esc_functions::{ControlFunction, EscapeFunction};
+use esc_links::Hyperlink;
 use esc_osc::{OperatingSystemCommand, laws};
 use esc_sequences::csi::is_unspecified;
 use esc_sequences::{CSI, Esc, Sgr};
@@ -107,7 +108,7 @@ impl Terminal {
         ensures { self.new ≡ after_command command.now self.old }
     {
         match command {
-            OperatingSystemCommand::SetHyperlink(link) => self.link = link.is_some(),
+            OperatingSystemCommand::SetHyperlink(link) => self.link = opens(link),
             _ => {}
         }
     }
@@ -151,10 +152,11 @@ impl Terminal {
         }
     }
 
-    /// Notes a link of this text, or the end of one.
+    /// Notes a link to an address of this text, or the end of one, `8;;`.
     #[inline]
     pub fn note_link<A: Allocator>(&mut self, link: &str)
-        requires { IsPlainLink A link.now }
+        requires link { IsPlainLink A link.now }
+        requires address { link.now ≢ codes "8;;" → ends_in_semicolon false link.now ≡ false }
         ensures { self.new ≡ after_command (command_meant {A = A} (parts_of link.now)) self.old }
     {
         laws::reads_back::<A>();
@@ -164,6 +166,32 @@ impl Terminal {
             self.link = true;
         }
     }
+}
+
+// Whether a link to an address is open after it.
+fn opens<A: Allocator>(link: &Option<Hyperlink<A>>) -> bool
+    ensures { result ≡ opens link.now }
+{
+    match link {
+        Some(link) => !link.uri.as_bytes().is_empty(),
+        None => false,
+    }
+}
+
+/// Whether this link, which is written as it came, may be without an address and not written as the
+/// end of a link is.
+#[inline]
+pub(crate) fn is_other_end(link: &str) -> bool
+    ensures { result ≡ false → link.now ≢ codes "8;;" → ends_in_semicolon false link.now ≡ false }
+{
+    link != "8;;" && ends_in_semicolon(link.as_bytes())
+}
+
+// Whether a semicolon comes last.
+fn ends_in_semicolon(bytes: &[u8]) -> bool
+    ensures { result ≡ ends_in_semicolon false bytes.now }
+{
+    !bytes.is_empty() && bytes[bytes.len() - 1] == b';'
 }
 
 // Whether a control sequence with this final byte may leave anything changed, or give it back.

@@ -4,7 +4,8 @@
 //! [`filter_stream`] reads a stream and writes the text of those of its actions that a [`Policy`],
 //! or an [`Admit`] of the caller's own, admits; [`Filter`] does it piece by piece. What is written
 //! reads back as these actions and as nothing else, so no text of the stream becomes a sequence,
-//! however broken it is. [`Unicode`] says what is written of characters that hide or reorder text.
+//! however broken it is. A [`Guard`] says what is written of characters and carriage returns that
+//! hide or reorder text.
 //! [`Encoder`] writes actions one at a time.
 //!
 //! ```text
@@ -24,6 +25,7 @@ mod function_groups;
 mod giving_back;
 mod group;
 mod groups;
+mod guard;
 mod kept_modes;
 mod known;
 mod laws;
@@ -32,6 +34,7 @@ mod line_filter;
 mod passing;
 mod plain_lines;
 mod policy;
+mod returns;
 mod saved;
 mod schemes;
 mod screen;
@@ -48,6 +51,7 @@ pub use filter::Filter;
 pub use filtering::{filter_lines, filter_stream};
 pub use group::Group;
 pub use groups::Groups;
+pub use guard::Guard;
 pub use known::Known;
 pub use laws::{
     closing_comes_last, lines_read_back, lines_written, nothing_given_back_twice, passed_more,
@@ -57,5 +61,6 @@ pub use laws::{
 };
 pub use line_filter::{LineFilter, line_length};
 pub use policy::Policy;
+pub use returns::Returns;
 pub use schemes::is_scheme;
 pub use unicode::Unicode;

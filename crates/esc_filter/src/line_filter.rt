@@ -1,10 +1,12 @@
 //! A filter to which each line is a stream of its own.
-ghost use Rattle.std.specs.Prelude.{◌≡◌, ◌≤◌, ◌<◌, [], Err, IfErr, IfOk, MatchOption, OnErr, OnOk, length, take, true, false};
-ghost use Rattle.esc_filter.specs.Lines.{ends_line, has_line_feed, IsLine};
+ghost use Rattle.std.specs.Prelude.{◌≡◌, ◌++◌, ◌≤◌, ◌<◌, [], Err, IfErr, IfOk, MatchOption, OnErr, OnOk, length, take, true, false};
+ghost use Rattle.esc_filter.specs.Characters.{of_unicode};
+ghost use Rattle.esc_filter.specs.Lines.{content, end_text, ends_line, ends_return, has_line_feed, held, IsLine, body};
 ghost use Rattle.memory.specs.Refusals.{Refused};
 
 use crate::admit::Admit;
 use crate::filter::Filter;
+use crate::guard::Guard;
 use crate::plain_lines::plain_lines;
 use crate::unicode::Unicode;
 use esc_frame::ParseError;
@@ -15,7 +17,12 @@ use std::alloc::{AllocError, Allocator, Global};
 /// [`Filter`] does; but each line, up to its line feed and with it, is a stream of its own. So a
 /// string that nobody ends hides nothing of the lines after it, and each line of the stream has its
 /// line in the text: where a string takes the line feed away, one is added. What a line leaves
-/// changed at a terminal is taken back before its line feed.
+/// changed at a terminal is taken back before its end.
+///
+/// A line ends in its line feed, or in a carriage return and that: such a carriage return is
+/// written before the line feed where the policy admits it, also where a string would take it away.
+/// So one that comes last is held back until the next byte says whether it is one. Each other is
+/// bare, and the [`Guard`] says what is written of it.
 ///
 /// It keeps what a [`Filter`] keeps of the last line, and the text of the piece before.
 #[derive(Drop)]
@@ -23,16 +30,18 @@ pub struct LineFilter<P, A: Allocator = Global> {
     filter: Filter<P, A>,
     // what the bytes fed last added
     text: String<A>,
+    // whether a carriage return came last, which may be a part of the end of its line
+    holds: bool,
     has_failed: bool,
 }
 
 impl<P: Admit<A>, A: Allocator + Copy> LineFilter<P, A> {
-    ghost use Rattle.esc_filter.specs.Lines.{AddsText, AfterLines, ClosesLine, EndsLine, EndsLines, GrowsBy, GrowsLine, OnLine, WasFedLines, added_by, policy_of_lines};
+    ghost use Rattle.esc_filter.specs.Lines.{AddsText, AfterLines, ClosesLine, EndsBy, EndsLine, EndsLines, FillsLine, GrowsBy, GrowsLine, GrowsRest, OnLine, OnRest, WasFedLines, added_by, policy_of_lines};
 
     /// A filter at the beginning of a stream, which keeps at most `limit` bytes of a segment, as
     /// [`Filter::new`] does. Takes no memory.
     pub fn new(alloc: A, limit: usize, policy: P) -> LineFilter<P, A>
-        ensures fed { WasFedLines Unicode.Keep limit (P.admits policy) [] result }
+        ensures fed { WasFedLines (of_unicode Unicode.Keep) limit (P.admits policy) [] result }
         ensures policy { policy_of_lines result ≡ policy }
         ensures empty { added_by result ≡ [] }
     {
@@ -40,15 +49,25 @@ impl<P: Admit<A>, A: Allocator + Copy> LineFilter<P, A> {
     }
 
     /// The same, where `unicode` says what is written of characters that deceive, as
-    /// [`Filter::with_unicode`] does.
+    /// [`Filter::with_unicode`] does. Bare carriage returns are kept.
     pub fn with_unicode(alloc: A, limit: usize, policy: P, unicode: Unicode) -> LineFilter<P, A>
-        ensures fed { WasFedLines unicode limit (P.admits policy) [] result }
+        ensures fed { WasFedLines (of_unicode unicode) limit (P.admits policy) [] result }
+        ensures policy { policy_of_lines result ≡ policy }
+        ensures empty { added_by result ≡ [] }
+    {
+        LineFilter::with_guard(alloc, limit, policy, Guard::of_unicode(unicode))
+    }
+
+    /// The same, where `guard` says what is written of these, and of bare carriage returns.
+    pub fn with_guard(alloc: A, limit: usize, policy: P, guard: Guard) -> LineFilter<P, A>
+        ensures fed { WasFedLines guard limit (P.admits policy) [] result }
         ensures policy { policy_of_lines result ≡ policy }
         ensures empty { added_by result ≡ [] }
     {
         LineFilter {
-            filter: Filter::begun(alloc, limit, policy, unicode, true),
+            filter: Filter::begun(alloc, limit, policy, guard, true),
             text: String::new(alloc),
+            holds: false,
             has_failed: false,
         }
     }
@@ -84,7 +103,8 @@ impl<P: Admit<A>, A: Allocator + Copy> LineFilter<P, A> {
 
     /// Ends the stream, and begins the next. What takes back what its last line left changed at a
     /// terminal, where that has no line feed, is then the [`text`](LineFilter::text), as
-    /// [`Filter::finish`] says.
+    /// [`Filter::finish`] says, and before it what is written of a carriage return that was held
+    /// back.
     ///
     /// `ParseError::Memory` says that a request for memory was refused: the text is empty, and from
     /// then on every call returns `ParseError::Failed`.
@@ -102,7 +122,7 @@ impl<P: Admit<A>, A: Allocator + Copy> LineFilter<P, A> {
         if self.has_failed {
             return Err(ParseError::Failed);
         }
-        match self.close() {
+        match self.finish_line() {
             Ok(()) => Ok(()),
             Err(_) => {
                 self.has_failed = true;
@@ -171,8 +191,29 @@ impl<P: Admit<A>, A: Allocator + Copy> LineFilter<P, A> {
         ensures refused { AfterLines P.Admit self.old (λ u limit admits s.
             OnErr result (Refused A)) }
     {
-        match self.pass(bytes) {
+        match self.fill_line(bytes) {
             Ok(()) => self.end_line(),
+            Err(e) => Err(e),
+        }
+    }
+
+    // Feeds the filter of the last line what ends that, without a carriage return that is a part of
+    // its end.
+    fn fill_line(&mut self, bytes: &[u8]) -> Result<(), AllocError>
+        requires { IsLine bytes.now }
+        ensures given { OnRest P.Admit self.old (λ u limit admits r.
+            OnOk result (FillsLine u admits limit r (content bytes.now) self.old self.new)) }
+        ensures kept { (policy_of_lines self.new ≡ policy_of_lines self.old)
+            × (self.new.has_failed ≡ self.old.has_failed) }
+        ensures refused { OnRest P.Admit self.old (λ u limit admits r.
+            OnErr result (Refused A)) }
+    {
+        let before = &bytes[..bytes.len() - 1];
+        if !self.holds && !ends_return(before) {
+            return self.pass(bytes);
+        }
+        match self.feed_rest(before) {
+            Ok(()) => self.pass(b"\n"),
             Err(e) => Err(e),
         }
     }
@@ -186,7 +227,60 @@ impl<P: Admit<A>, A: Allocator + Copy> LineFilter<P, A> {
         ensures refused { AfterLines P.Admit self.old (λ u limit admits s.
             OnErr result (Refused A)) }
     {
-        self.pass(bytes)
+        self.feed_rest(bytes)
+    }
+
+    // Feeds the filter of the last line, but for a carriage return that comes last.
+    fn feed_rest(&mut self, bytes: &[u8]) -> Result<(), AllocError>
+        ensures given { OnRest P.Admit self.old (λ u limit admits r.
+            OnOk result (GrowsRest u admits limit r bytes.now self.old self.new)) }
+        ensures kept { (policy_of_lines self.new ≡ policy_of_lines self.old)
+            × (self.new.has_failed ≡ self.old.has_failed) }
+        ensures refused { OnRest P.Admit self.old (λ u limit admits r.
+            OnErr result (Refused A)) }
+    {
+        if bytes.is_empty() {
+            return Ok(());
+        }
+        match self.release() {
+            Ok(()) => self.pass_body(bytes),
+            Err(e) => Err(e),
+        }
+    }
+
+    // Feeds the filter of the last line the carriage return that was held back.
+    fn release(&mut self) -> Result<(), AllocError>
+        ensures given { OnLine P.Admit self.old (λ u limit admits l.
+            OnOk result (GrowsLine u admits limit l (held self.old.holds) self.old self.new)) }
+        ensures kept { (policy_of_lines self.new ≡ policy_of_lines self.old)
+            × (self.new.has_failed ≡ self.old.has_failed) × (self.new.holds ≡ false) }
+        ensures refused { OnLine P.Admit self.old (λ u limit admits l.
+            OnErr result (Refused A)) }
+    {
+        if !self.holds {
+            return Ok(());
+        }
+        self.holds = false;
+        self.pass(b"\r")
+    }
+
+    // Feeds the filter of the last line, and holds a carriage return back that comes last.
+    fn pass_body(&mut self, bytes: &[u8]) -> Result<(), AllocError>
+        requires { 0 < length bytes.now }
+        ensures given { OnLine P.Admit self.old (λ u limit admits l.
+            OnOk result (GrowsLine u admits limit l (body bytes.now) self.old self.new)) }
+        ensures kept { (policy_of_lines self.new ≡ policy_of_lines self.old)
+            × (self.new.has_failed ≡ self.old.has_failed)
+            × (self.new.holds ≡ ends_return false bytes.now) }
+        ensures refused { OnLine P.Admit self.old (λ u limit admits l.
+            OnErr result (Refused A)) }
+    {
+        self.holds = ends_return(bytes);
+        if self.holds {
+            self.pass(&bytes[..bytes.len() - 1])
+        } else {
+            self.pass(bytes)
+        }
     }
 
     // Feeds the filter of the last line, and takes over the text that this adds.
@@ -194,7 +288,7 @@ impl<P: Admit<A>, A: Allocator + Copy> LineFilter<P, A> {
         ensures given { OnLine P.Admit self.old (λ u limit admits s.
             OnOk result (GrowsLine u admits limit s bytes.now self.old self.new)) }
         ensures kept { (policy_of_lines self.new ≡ policy_of_lines self.old)
-            × (self.new.has_failed ≡ self.old.has_failed) }
+            × (self.new.has_failed ≡ self.old.has_failed) × (self.new.holds ≡ self.old.holds) }
         ensures refused { OnLine P.Admit self.old (λ u limit admits s.
             OnErr result (Refused A)) }
     {
@@ -209,11 +303,42 @@ impl<P: Admit<A>, A: Allocator + Copy> LineFilter<P, A> {
         ensures given { OnLine P.Admit self.old (λ u limit admits l. OnOk result
             (EndsLine u admits limit l self.old self.new)) }
         ensures kept { (policy_of_lines self.new ≡ policy_of_lines self.old)
-            × (self.new.has_failed ≡ self.old.has_failed) }
+            × (self.new.has_failed ≡ self.old.has_failed) × (self.new.holds ≡ false) }
         ensures refused { OnErr result (Refused A) }
     {
+        let holds = self.holds;
+        self.holds = false;
         match self.close() {
-            Ok(()) => memory::push_char(&mut self.text, '\n'),
+            Ok(()) => self.append_end(holds),
+            Err(e) => Err(e),
+        }
+    }
+
+    // Appends the end of a line, in which there is a carriage return or not.
+    fn append_end(&mut self, holds: bool) -> Result<(), AllocError>
+        ensures end { OnOk result (added_by self.new ≡ added_by self.old
+            ++ end_text (P.admits (policy_of_lines self.old)) holds) }
+        ensures kept { (self.new.filter ≡ self.old.filter)
+            × (self.new.has_failed ≡ self.old.has_failed) × (self.new.holds ≡ self.old.holds) }
+        ensures refused { OnErr result (Refused A) }
+    {
+        if holds && self.filter.passes_return() {
+            memory::push_str(&mut self.text, "\r\n")
+        } else {
+            memory::push_char(&mut self.text, '\n')
+        }
+    }
+
+    // Ends the stream.
+    fn finish_line(&mut self) -> Result<(), AllocError>
+        ensures given { AfterLines P.Admit self.old (λ u limit admits s. OnOk result
+            (EndsBy u admits limit s self.old self.new)) }
+        ensures policy { policy_of_lines self.new ≡ policy_of_lines self.old }
+        ensures refused { AfterLines P.Admit self.old (λ u limit admits s.
+            OnErr result (Refused A)) }
+    {
+        match self.release() {
+            Ok(()) => self.close(),
             Err(e) => Err(e),
         }
     }
@@ -223,7 +348,7 @@ impl<P: Admit<A>, A: Allocator + Copy> LineFilter<P, A> {
         ensures given { OnLine P.Admit self.old (λ u limit admits l. OnOk result
             (ClosesLine u admits limit l self.old self.new)) }
         ensures kept { (policy_of_lines self.new ≡ policy_of_lines self.old)
-            × (self.new.has_failed ≡ self.old.has_failed) }
+            × (self.new.has_failed ≡ self.old.has_failed) × (self.new.holds ≡ self.old.holds) }
         ensures refused { OnErr result (Refused A) }
     {
         if !self.filter.is_changed() {
@@ -235,6 +360,13 @@ impl<P: Admit<A>, A: Allocator + Copy> LineFilter<P, A> {
             Err(e) => Err(e),
         }
     }
+}
+
+// Whether a carriage return comes last.
+fn ends_return(bytes: &[u8]) -> bool
+    ensures { result ≡ ends_return false bytes.now }
+{
+    !bytes.is_empty() && bytes[bytes.len() - 1] == b'\r'
 }
 
 /// The length of the line that these bytes begin with, with its line feed. None where they have no

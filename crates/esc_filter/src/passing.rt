@@ -34,11 +34,15 @@ impl<'p, P: Admit<A>, A: Allocator> Passing<'p, P, A> {
             (action.Control code) self.new.written × (self.new.policy.now ≡ self.old.policy.now)) }
         ensures refused { OnErr result (Refused A) }
     {
-        if self.admits_control(code) {
-            return self.written.append_control(code);
+        if !self.admits_control(code) {
+            self.policy.leaves_out(&Action::Control(code));
+            return Ok(());
         }
-        self.policy.leaves_out(&Action::Control(code));
-        Ok(())
+        if self.written.drops_control(code) {
+            self.policy.leaves_out(&Action::Control(code));
+            return Ok(());
+        }
+        self.written.append_control(code)
     }
 
     // Whether the policy admits a control, of which those that lay out text are the most.

@@ -6,9 +6,9 @@ use esc_frame::runs::scans::data_run;
 use esc_values::ascii::as_str;
 use std::alloc::Allocator;
 
-/// The lines that come first and have nothing before their line feeds but bytes 20 to 7E, tabs,
-/// carriage returns and, where `renditions` is true, renditions that are written as they came, of
-/// which the last in a line turns all off.
+/// The lines that come first and have nothing before their ends but bytes 20 to 7E, tabs and, where
+/// `renditions` is true, renditions that are written as they came, of which the last in a line
+/// turns all off.
 pub(crate) fn plain_lines<A: Allocator>(bytes: &[u8], renditions: bool) -> &str
     ensures lines { ArePlainLines A renditions result.now }
     ensures first { result.now ≡ take (length result.now) bytes.now }
@@ -38,7 +38,14 @@ fn plain_length<A: Allocator>(bytes: &[u8], renditions: bool) -> usize
                 at += 1;
                 end = at;
             }
-            b'\t' | b'\r' => at += 1,
+            b'\r' => {
+                if is_on || at + 1 == bytes.len() || bytes[at + 1] != b'\n' {
+                    return end;
+                }
+                at += 2;
+                end = at;
+            }
+            b'\t' => at += 1,
             0x1b if renditions => {
                 let Some(found) = short_rendition(&bytes[at..]) else {
                     return end;

@@ -32,7 +32,8 @@ fn is_scheme_byte(byte: &u8) -> bool
     byte.is_ascii_alphanumeric() || *byte == b'+' || *byte == b'-' || *byte == b'.'
 }
 
-// Whether the action is no link, the end of one, or a link whose address has one of these schemes.
+// Whether the action is no link, the end of one, as a link without an address is, or a link whose
+// address has one of these schemes.
 pub(crate) fn leads<A: Allocator>(schemes: &Option<&str>, action: &Action<A>) -> bool
     ensures { result ≡ leads schemes.now (value_of action.now) }
 {
@@ -47,7 +48,8 @@ fn link_leads<A: Allocator>(schemes: &Option<&str>, command: &OperatingSystemCom
 {
     match (schemes, command) {
         (Some(schemes), OperatingSystemCommand::SetHyperlink(Some(link))) => {
-            has_one_scheme(link.uri.as_bytes(), schemes.as_bytes())
+            let address = link.uri.as_bytes();
+            address.is_empty() || has_one_scheme(address, schemes.as_bytes())
         }
         _ => true,
     }

@@ -9,11 +9,13 @@ ghost use Rattle.esc_parse.specs.Given.{Receives};
 ghost use Rattle.memory.specs.Refusals.{Refused};
 ghost use Rattle.esc_write.specs.Plain.{IsPlain};
 ghost use Rattle.esc_actions.specs.Values.{control, print, value_of};
-ghost use Rattle.esc_filter.specs.Characters.{in_unicode, instead};
+ghost use Rattle.esc_filter.specs.Characters.{in_guard, in_return, instead};
 ghost use Rattle.esc_filter.specs.Noted.{AreKept, HasNoted, Notes, WriteDenies, Writes, WritesLink, WritesRendition, without_text, written_of};
 ghost use Rattle.esc_filter.specs.Passing.{is_line_feed};
 
-use crate::leaving::{leaves_all, renditions_after};
+use crate::guard::Guard;
+use crate::leaving::{is_other_end, leaves_all, renditions_after};
+use crate::returns::{Returns, is_return};
 use crate::terminal::Terminal;
 use crate::text::emptied;
 use crate::unicode::Unicode;
@@ -33,22 +35,22 @@ pub(crate) struct Written<A: Allocator = Global> {
     pub spell: Spell<A>,
     /// What they left changed.
     pub left: Terminal,
-    /// What is written of characters that deceive.
-    pub unicode: Unicode,
+    /// What is written of what deceives.
+    pub guard: Guard,
     /// Whether line feeds are dropped.
     pub by_lines: bool,
 }
 
 impl<A: Allocator> Written<A> {
     /// Of no action. Takes no memory.
-    pub fn new(alloc: A, by_lines: bool, unicode: Unicode) -> Written<A>
+    pub fn new(alloc: A, by_lines: bool, guard: Guard) -> Written<A>
         ensures text { result.spell.text ≡ [] }
-        ensures noted { HasNoted by_lines unicode [] result }
+        ensures noted { HasNoted by_lines guard [] result }
     {
         Written {
             spell: Spell::new(alloc),
             left: Terminal::unchanged(),
-            unicode,
+            guard,
             by_lines,
         }
     }
@@ -61,7 +63,7 @@ impl<A: Allocator> Written<A> {
         let Written {
             spell,
             left,
-            unicode,
+            guard,
             by_lines,
         } = self;
         let Spell {
@@ -74,7 +76,7 @@ impl<A: Allocator> Written<A> {
                 follows_string,
             },
             left,
-            unicode,
+            guard,
             by_lines,
         }
     }
@@ -82,7 +84,7 @@ impl<A: Allocator> Written<A> {
     /// Begins a new stream. The text stays.
     pub fn restart(&mut self)
         ensures text { self.new.spell.text ≡ self.old.spell.text }
-        ensures noted { HasNoted self.old.by_lines self.old.unicode [] self.new }
+        ensures noted { HasNoted self.old.by_lines self.old.guard [] self.new }
     {
         self.spell.follows_string = false;
         self.left = Terminal::unchanged();
@@ -90,24 +92,34 @@ impl<A: Allocator> Written<A> {
 }
 
 impl<A: Allocator> Written<A> {
-    /// Whether nothing is written of the action, since it is a character that deceives.
+    /// Whether nothing is written of the action, since it deceives.
     #[inline]
     pub fn drops(&self, action: &Action<A>) -> bool
         ensures { IsTrue result
-            → written_of self.now.by_lines self.now.unicode (value_of action.now) ≡ [] }
+            → written_of self.now.by_lines self.now.guard (value_of action.now) ≡ [] }
     {
         match action {
-            Action::Print(c) => self.unicode.drops(*c),
+            Action::Print(c) => self.guard.characters.drops(*c),
+            Action::Control(code) => self.drops_control(*code),
             _ => false,
         }
+    }
+
+    /// The same of a control, since it is a carriage return.
+    #[inline]
+    pub fn drops_control(&self, code: ControlCode) -> bool
+        ensures { IsTrue result
+            → written_of {A = A} self.now.by_lines self.now.guard (control code) ≡ [] }
+    {
+        self.guard.returns.drops(code)
     }
 
     /// Whether each of the characters is written as it is, where it is seen at once.
     #[inline]
     pub fn keeps(&self, text: &str) -> bool
-        ensures { IsTrue result → AreKept self.now.unicode (chars text.now) }
+        ensures { IsTrue result → AreKept self.now.guard (chars text.now) }
     {
-        if let Unicode::Keep = self.unicode {
+        if self.guard.keeps_characters() {
             return true;
         }
         !has_deceiving(text)
@@ -116,7 +128,7 @@ impl<A: Allocator> Written<A> {
     /// Appends a run of characters that are written as they are.
     #[inline]
     pub fn append_str(&mut self, text: &str) -> Result<(), AllocError>
-        requires kept { AreKept self.old.unicode (chars text.now) }
+        requires kept { AreKept self.old.guard (chars text.now) }
         requires some { 0 < length text.now }
         requires clear { list_all is_clear (chars text.now) ≡ true }
         ensures { Receives ⊥ Notes WriteDenies result self.old
@@ -129,10 +141,10 @@ impl<A: Allocator> Written<A> {
     #[inline]
     fn append_char(&mut self, c: char) -> Result<(), AllocError>
         ensures ok { OnOk result
-            (Writes self.old (in_unicode self.old.unicode (print c)) self.new) }
+            (Writes self.old (in_guard self.old.guard (print c)) self.new) }
         ensures refused { OnErr result (Refused A) }
     {
-        if let Unicode::Keep = self.unicode {
+        if self.guard.keeps_characters() {
             return self.append_kept(c);
         }
         if !is_deceiving(c) {
@@ -143,10 +155,10 @@ impl<A: Allocator> Written<A> {
 
     // Appends what is written in place of a character that deceives.
     fn append_instead(&mut self, c: char) -> Result<(), AllocError>
-        ensures ok { OnOk result (Writes self.old (instead self.old.unicode c) self.new) }
+        ensures ok { OnOk result (Writes self.old (instead self.old.guard.characters c) self.new) }
         ensures refused { OnErr result (Refused A) }
     {
-        match self.unicode {
+        match self.guard.characters {
             Unicode::Keep => self.append_kept(c),
             Unicode::Show => self.append_number(c),
             Unicode::Drop => Ok(()),
@@ -203,8 +215,8 @@ impl<A: Allocator> Written<A> {
         }
     }
 
-    /// Appends a link that is written as it came, and notes it. Where the command of this text is
-    /// none, it returns false.
+    /// Appends a link to an address that is written as it came, or the end of one, and notes it.
+    /// Where the command of this text is none, it returns false.
     #[inline]
     pub fn append_link(&mut self, text: &[u8]) -> Result<bool, AllocError>
         ensures taken { IfOk result (λ b. IsTrue b
@@ -215,6 +227,9 @@ impl<A: Allocator> Written<A> {
         let Some(link) = plain_link::<A>(text) else {
             return Ok(false);
         };
+        if is_other_end(link) {
+            return Ok(false);
+        }
         match self.spell.write_verbatim(link) {
             Ok(()) => {
                 self.left.note_link::<A>(link);
@@ -233,10 +248,40 @@ impl<A: Allocator> Written<A> {
         if self.by_lines && is_line_feed(code) {
             return Ok(());
         }
+        if is_return(code) {
+            return self.append_return();
+        }
         match self.spell.text.push(code.as_char()) {
             Ok(()) => {
                 self.spell.follows_string = false;
                 self.left.note_control(code);
+                Ok(())
+            }
+            Err(error) => Err(error),
+        }
+    }
+
+    // Appends what is written of a carriage return.
+    #[inline]
+    fn append_return(&mut self) -> Result<(), AllocError>
+        ensures ok { OnOk result (Writes self.old (in_return self.old.guard.returns) self.new) }
+        ensures refused { OnErr result (Refused A) }
+    {
+        match self.guard.returns {
+            Returns::Keep => self.append_kept('\r'),
+            Returns::Show => self.append_shown_return(),
+            Returns::Drop => Ok(()),
+        }
+    }
+
+    // Appends `^M`.
+    fn append_shown_return(&mut self) -> Result<(), AllocError>
+        ensures ok { OnOk result (Writes self.old (in_return Returns.Show) self.new) }
+        ensures refused { OnErr result (Refused A) }
+    {
+        match self.spell.text.push_str("^M") {
+            Ok(()) => {
+                self.spell.follows_string = false;
                 Ok(())
             }
             Err(error) => Err(error),

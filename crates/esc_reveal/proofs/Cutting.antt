@@ -6,7 +6,7 @@ use Rattle.std.proofs.lemmas.Bool.{and_parts}
 use Rattle.std.proofs.lemmas.Grind.{flat_map-append}
 use Rattle.std.proofs.lemmas.List.{append-nil}
 use Rattle.esc_actions.specs.Values.{Value}
-use Rattle.esc_filter.proofs.ByLines.{ends_append}
+use Rattle.esc_filter.proofs.LineBytes.{ends_append}
 use Rattle.esc_filter.specs.Lines.{is_line_feed}
 use Rattle.esc_reveal.specs.Grown.{Grows}
 use Rattle.esc_reveal.specs.Pieces.{ends_in_line, is_at_ground, is_piece, pieces_after, rest_after}

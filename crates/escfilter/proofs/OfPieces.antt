@@ -10,7 +10,7 @@ use Rattle.esc_filter.specs.Rules.{admits}
 use Rattle.esc_filter.specs.declared.group.Group.{Group}
 use Rattle.esc_filter.specs.declared.groups.Groups.{Groups}
 use Rattle.esc_filter.specs.declared.policy.Policy.{Policy}
-use Rattle.esc_filter.specs.declared.unicode.Unicode.{Unicode}
+use Rattle.esc_filter.specs.declared.guard.Guard.{Guard}
 use Rattle.esc_lines.specs.Streams.{final_of, left_of, values_of}
 use Rattle.esc_lines.specs.Windows.{Size}
 use Rattle.escfilter.specs.Choices.{groups_by}
@@ -37,24 +37,24 @@ choice_within A some same p c within = by c.groups c.policy within
 -- the text of what passes of a stream that has ended
 abbrev closed_text : Type 0 → Options → List ℕ → List ℕ
 closed_text A o x =
-    closed_by {A = A} o.unicode o.by_lines o.limit (admits_choice o.choice) (seen_by A o true x)
+    closed_by {A = A} o.guard o.by_lines o.limit (admits_choice o.choice) (seen_by A o true x)
 
 module _ (A : Type 0) (k : Bool)
-    (goes_on : (u : Unicode) (limit : Option ℕ) (f : Value A → Bool) → AdmitsAtMost (least k) f
+    (goes_on : (u : Guard) (limit : Option ℕ) (f : Value A → Bool) → AdmitsAtMost (least k) f
     → (s : List ℕ) → IsOfPieces k (passed_text_as u limit f s))
-    (ended : (u : Unicode) (limit : Option ℕ) (f : Value A → Bool) → AdmitsAtMost (least k) f
+    (ended : (u : Guard) (limit : Option ℕ) (f : Value A → Bool) → AdmitsAtMost (least k) f
     → (s : List ℕ) → IsOfPieces k (closed_text_as u limit f s))
-    (by_lines : (u : Unicode) (limit : ℕ) (f : Value A → Bool) → AdmitsAtMost (least k) f
+    (by_lines : (u : Guard) (limit : ℕ) (f : Value A → Bool) → AdmitsAtMost (least k) f
     → (s : List ℕ) → IsOfPieces k (text_by_lines_as u limit f s))
-    (ended_by_lines : (u : Unicode) (limit : ℕ) (f : Value A → Bool) → AdmitsAtMost (least k) f
+    (ended_by_lines : (u : Guard) (limit : ℕ) (f : Value A → Bool) → AdmitsAtMost (least k) f
     → (s : List ℕ) → IsOfPieces k (closed_by_lines_as u limit f s))
   where
-    closed_pieces : (u : Unicode) (b : Bool) (limit : ℕ) (f : Value A → Bool)
+    closed_pieces : (u : Guard) (b : Bool) (limit : ℕ) (f : Value A → Bool)
         → AdmitsAtMost (least k) f → (s : List ℕ) → IsOfPieces k (closed_by u b limit f s)
     closed_pieces u true limit f most s = ended_by_lines u limit f most s
     closed_pieces u false limit f most s = ended u (Some limit) f most s
 
-    passed_pieces : (u : Unicode) (b e : Bool) (limit : ℕ) (f : Value A → Bool)
+    passed_pieces : (u : Guard) (b e : Bool) (limit : ℕ) (f : Value A → Bool)
         → AdmitsAtMost (least k) f → (s t : List ℕ) → is_passed_by u b e limit f s t
         → IsOfPieces k t
     passed_pieces u true true limit f most s t h =
@@ -72,12 +72,12 @@ module _ (A : Type 0) (k : Bool)
         → OfAllWritten A o (IsOfPieces k)
     written_pieces o none most = (
       λ s. subst (λ r. IsOfPieces k (left_by A r (closed_text A o) s)) (sym none)
-          (closed_pieces o.unicode o.by_lines o.limit (admits_choice o.choice) most
+          (closed_pieces o.guard o.by_lines o.limit (admits_choice o.choice) most
           (seen_by A o true s)),
       λ b s t h.
           let same : t ≡ h.0 = subst (λ r. is_left_by A r b h.0 t) none h.2 in
           subst (IsOfPieces k) (sym same)
-          (passed_pieces o.unicode o.by_lines b o.limit (admits_choice o.choice) most
+          (passed_pieces o.guard o.by_lines b o.limit (admits_choice o.choice) most
           (seen_by A o b s) h.0 h.1),
     )
 

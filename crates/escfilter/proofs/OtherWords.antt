@@ -8,7 +8,7 @@ use Rattle.esc_parse.proofs.Lists.{on_ok_more}
 use Rattle.esc_normal.specs.Io.{Borrowed, WritesPrefix}
 use Rattle.esc_normal.specs.Streams.{Filters, HasBegun, HasFiltered, IsEither}
 use Rattle.esc_normal.specs.declared.filter_error.FilterError.{FilterError}
-use Rattle.esc_filter.specs.declared.unicode.Unicode.{Unicode}
+use Rattle.esc_filter.specs.declared.guard.Guard.{Guard}
 use Rattle.escfilter.specs.Written.{closed_by, final_by, going_by, is_left_by, is_passed_by, left_by}
 
 -- the same of a text that is equal, and of what holds too
@@ -79,7 +79,7 @@ left A (Some n) c m Is is so false s t e = (m s, so s, e)
 
 -- of lines, or of the whole, of what is seen of a stream
 pub in_other_words : {R W X A : Type 0} {Rd : Reader R} {Wr : Writer W} (rows : Option ℕ)
-    (u : Unicode) (limit : ℕ) (p : Value A → Bool) (seen : Bool → List ℕ → List ℕ) (b l : Bool)
+    (u : Guard) (limit : ℕ) (p : Value A → Bool) (seen : Bool → List ℕ → List ℕ) (b l : Bool)
     → b ≡ l
     → ((s : List ℕ) → is_passed_by u l true limit p s (closed_by u l limit p s))
     → ((s : List ℕ) → is_passed_by u l false limit p s (going_by u l limit p s))

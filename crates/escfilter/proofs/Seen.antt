@@ -2,14 +2,14 @@
 use Rattle.std.proofs.Common.{ℕ, ◌≡◌, Bool, true, false, List, [], Some, refl, ap, ◌∙◌}
 use Rattle.esc_actions.specs.Texts.{list_text, texts_after}
 use Rattle.esc_actions.specs.Values.{Value}
-use Rattle.esc_filter.proofs.ByLines.{by_more}
+use Rattle.esc_filter.proofs.ByLines.{by_more, closed_longer}
 use Rattle.esc_filter.proofs.Closers.{closed_more}
 use Rattle.esc_filter.proofs.Texts.{added_as, text_longer_as}
 use Rattle.esc_filter.specs.Closing.{closing}
-use Rattle.esc_filter.specs.Lines.{line_closing, closed_by_lines_as, text_by_lines_as}
+use Rattle.esc_filter.specs.Lines.{closed_by_lines_as, text_by_lines_as}
 use Rattle.esc_filter.specs.Passing.{closed_text_as, passed_as, passed_text_as}
 use Rattle.esc_normal.specs.Texts.{ends_in_string}
-use Rattle.esc_filter.specs.declared.unicode.Unicode.{Unicode}
+use Rattle.esc_filter.specs.declared.guard.Guard.{Guard}
 use Rattle.esc_reveal.proofs.Begins.{through_longer}
 use Rattle.esc_reveal.proofs.Longer.{revealed_longer}
 use Rattle.esc_reveal.specs.Revealed.{revealed_as, revealed_whole_as}
@@ -75,7 +75,7 @@ through_adds V rule m e only = record {
 }
 
 -- the texts of the filters
-pub whole_adds : {A : Type 0} (u : Unicode) (limit : ℕ) (p : Value A → Bool)
+pub whole_adds : {A : Type 0} (u : Guard) (limit : ℕ) (p : Value A → Bool)
     → OnlyAdds (passed_text_as u (Some limit) p) (closed_text_as u (Some limit) p)
 whole_adds u limit p = record {
   more = λ s b. (
@@ -87,9 +87,9 @@ whole_adds u limit p = record {
       let vs = passed_as u (Some limit) p s in (list_text (closing p vs), closed_more p vs);
 }
 
-pub lines_add : {A : Type 0} (u : Unicode) (limit : ℕ) (p : Value A → Bool)
+pub lines_add : {A : Type 0} (u : Guard) (limit : ℕ) (p : Value A → Bool)
     → OnlyAdds (text_by_lines_as {A = A} u limit p) (closed_by_lines_as u limit p)
 lines_add u limit p = record {
   more = λ s b. by_more u limit p s b;
-  end = λ s. (list_text (line_closing u limit p s), refl);
+  end = closed_longer u limit p;
 }

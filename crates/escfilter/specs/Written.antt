@@ -11,7 +11,7 @@ use Rattle.esc_filter.specs.declared.group.Group.{Group}
 use Rattle.esc_filter.specs.declared.groups.Groups.{Groups}
 use Rattle.esc_filter.specs.declared.policy.Policy.{Policy}
 use Rattle.esc_filter.specs.declared.policy.Policy.TheVariants as policy
-use Rattle.esc_filter.specs.declared.unicode.Unicode.{Unicode}
+use Rattle.esc_filter.specs.declared.guard.Guard.{Guard}
 use Rattle.esc_lines.specs.Streams.{final_of, left_of, values_of}
 use Rattle.esc_lines.specs.Windows.{Size, sized}
 use Rattle.esc_reveal.specs.Revealed.{revealed_as, revealed_whole_as}
@@ -55,17 +55,17 @@ seen_by A o false s = going_in A o.shows o s
 
 -- the text t is what passes of the stream s, which has ended or goes on: of each of its lines, or
 -- of the whole
-abbrev pub is_passed_by : {A : Type 0} → Unicode → Bool → Bool → ℕ → (Value A → Bool) → List ℕ
+abbrev pub is_passed_by : {A : Type 0} → Guard → Bool → Bool → ℕ → (Value A → Bool) → List ℕ
     → List ℕ → Type 0
 is_passed_by u true b limit p s t = IsFilteredByLinesAs b u limit p s t
 is_passed_by u false b limit p s t = IsFilteredAs u b (Some limit) p s t
 
 -- the text of a stream that goes on, and of one that has ended
-abbrev pub going_by : {A : Type 0} → Unicode → Bool → ℕ → (Value A → Bool) → List ℕ → List ℕ
+abbrev pub going_by : {A : Type 0} → Guard → Bool → ℕ → (Value A → Bool) → List ℕ → List ℕ
 going_by {A} u true limit p s = text_by_lines_as {A = A} u limit p s
 going_by {A} u false limit p s = passed_text_as {A = A} u (Some limit) p s
 
-abbrev pub closed_by : {A : Type 0} → Unicode → Bool → ℕ → (Value A → Bool) → List ℕ → List ℕ
+abbrev pub closed_by : {A : Type 0} → Guard → Bool → ℕ → (Value A → Bool) → List ℕ → List ℕ
 closed_by {A} u true limit p s = closed_by_lines_as {A = A} u limit p s
 closed_by {A} u false limit p s = closed_text_as {A = A} u (Some limit) p s
 
@@ -97,13 +97,13 @@ is_left_by A (Some n) false u t = t ≡ final_of (size_of n) (values_of A u)
 -- what passes of what it becomes, or of what is revealed of that
 abbrev pub IsWritten : (A : Type 0) → Options → Bool → List ℕ → List ℕ → Type 0
 IsWritten A o b s t = (u : List ℕ)
-    × is_passed_by {A = A} o.unicode o.by_lines b o.limit (admits_choice o.choice)
+    × is_passed_by {A = A} o.guard o.by_lines b o.limit (admits_choice o.choice)
     (seen_by A o b s) u
     × is_left_by A o.rows b u t
 
 -- the text of a stream that has ended
 abbrev pub text_of : (A : Type 0) → Options → List ℕ → List ℕ
-text_of A o s = left_by A o.rows (λ x. closed_by {A = A} o.unicode o.by_lines o.limit
+text_of A o s = left_by A o.rows (λ x. closed_by {A = A} o.guard o.by_lines o.limit
     (admits_choice o.choice) (seen_by A o true x)) s
 
 -- ---- what it is made of

@@ -108,12 +108,11 @@ pub fn filter_recording<R: Read, W: Write, K: Audience<Global> + Drop>(
     writer: &mut Watched<W>,
 ) -> Result<(), CastFault> {
     let by_lines = options.by_lines;
-    let unicode = options.unicode;
     if by_lines {
-        let filter = LineFilter::with_unicode(alloc, options.limit, options.choice, unicode);
+        let filter = LineFilter::with_guard(alloc, options.limit, options.choice, options.guard);
         filter_shown(alloc, options, filter, audience, reader, writer)
     } else {
-        let filter = Filter::with_unicode(alloc, options.limit, options.choice, unicode);
+        let filter = Filter::with_guard(alloc, options.limit, options.choice, options.guard);
         filter_shown(alloc, options, filter, audience, reader, writer)
     }
 }

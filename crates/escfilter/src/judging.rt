@@ -26,16 +26,12 @@ impl<'a> Judging<'a> {
         let Options {
             limit,
             choice,
-            unicode,
+            guard,
+            by_lines,
             ..
         } = options;
-        let policy = if options.by_lines {
-            PolicyJudge::by_lines(alloc, limit, choice, unicode)
-        } else {
-            PolicyJudge::new(alloc, limit, choice, unicode)
-        };
         Judging {
-            policy,
+            policy: PolicyJudge::with_guard(alloc, limit, choice, guard, by_lines),
             shows: options.shows,
         }
     }
@@ -48,7 +44,7 @@ impl<'a> Judging<'a> {
 
 impl<'a> Judge<Global> for Judging<'a> {
     ghost rule = { λ j g finished. shown_by j.shows (rule_of {A = Global} j.policy.by_lines
-        j.policy.unicode j.policy.limit (admits_choice j.policy.policy) g finished) };
+        j.policy.guard j.policy.limit (admits_choice j.policy.policy) g finished) };
 
     fn fate(&self, segment: Segment<'_>) -> Result<Fate, AllocError> {
         match self.policy.fate(segment) {

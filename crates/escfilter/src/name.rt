@@ -34,6 +34,7 @@ pub fn kind_name(kind: SegmentKind, bytes: &[u8]) -> Name {
     match kind {
         SegmentKind::Character => DECEIVING,
         SegmentKind::Broken | SegmentKind::Stray => named("character", "", "that is no UTF-8"),
+        SegmentKind::Control if bytes.len() == 1 && bytes[0] == b'\r' => control_name(b'\r'),
         SegmentKind::Control => named("control", "", "without a name"),
         SegmentKind::Terminator => named("control", "ST", "string terminator that ends nothing"),
         SegmentKind::Escape => unnamed("ESC"),

@@ -3,7 +3,7 @@
 use crate::named_groups::{ALLOWED, Choice, DENIED};
 use command_line::{Apart, Found, Given, Known, Takes, Wrong, read};
 use esc_decode::{CodePage, Encoding};
-use esc_filter::{Policy, Unicode, is_scheme};
+use esc_filter::{Guard, Policy, Returns, Unicode, is_scheme};
 use esc_reveal::Marking;
 use std::alloc::Global;
 
@@ -18,8 +18,8 @@ pub struct Options<'a> {
     pub limit: usize,
     /// Whether each line is a stream of its own.
     pub by_lines: bool,
-    /// What is written of characters that hide or reorder text.
-    pub unicode: Unicode,
+    /// What is written of what hides or reorders text.
+    pub guard: Guard,
     /// Whether what does not pass is shown in place.
     pub shows: bool,
     /// How it is told from text that passes.
@@ -168,6 +168,11 @@ const KNOWN: &[Known] = &[
         takes: Takes::OneOf("way", &["keep", "show", "drop"]),
     },
     Known {
+        name: "--returns",
+        letter: "",
+        takes: Takes::OneOf("way", &["keep", "show", "drop"]),
+    },
+    Known {
         name: "--show",
         letter: "",
         takes: Takes::Maybe("form", &["escaped", "color"]),
@@ -240,6 +245,7 @@ struct Asked<'a> {
     by_lines: Option<bool>,
     schemes: Option<&'a str>,
     unicode: Option<Unicode>,
+    returns: Option<Returns>,
     // an 8-bit encoding
     page: Option<CodePage>,
     // whether bytes are controls of C1
@@ -260,7 +266,7 @@ impl<'a> Asked<'a> {
                 encoding: Encoding::Utf8,
                 limit: DEFAULT_LIMIT,
                 by_lines: false,
-                unicode: Unicode::Keep,
+                guard: Guard::of_unicode(Unicode::Keep),
                 shows: false,
                 marking: Marking::Plain,
                 rows: None,
@@ -271,6 +277,7 @@ impl<'a> Asked<'a> {
             by_lines: None,
             schemes: None,
             unicode: None,
+            returns: None,
             page: None,
             obeys: false,
         }
@@ -285,6 +292,7 @@ impl<'a> Asked<'a> {
             "--c1" => self.obeys = given.word == "obey",
             "--encoding" => self.page = page_of(given.word),
             "--unicode" => self.unicode = Some(unicode_of(given.word)),
+            "--returns" => self.returns = Some(returns_of(given.word)),
             "--output" => self.target = Target::File(given.word),
             "--in-place" => self.target = Target::InPlace(given.word),
             "--help" => self.kind = Kind::Help,
@@ -298,7 +306,10 @@ impl<'a> Asked<'a> {
         let mut options = self.options;
         let policy = options.choice.policy;
         options.by_lines = self.by_lines.unwrap_or(is_by_lines(policy));
-        options.unicode = self.unicode.unwrap_or(unicode_under(policy));
+        options.guard = Guard {
+            characters: self.unicode.unwrap_or(unicode_under(policy)),
+            returns: returns_in(self.returns, options),
+        };
         options.encoding = self.encoding();
         options.choice = settled(options.choice, self.schemes, options.rows);
         options
@@ -364,6 +375,26 @@ fn unicode_under(policy: Policy) -> Unicode {
     match policy {
         Policy::Text | Policy::Color => Unicode::Show,
         Policy::Screen | Policy::All => Unicode::Keep,
+    }
+}
+
+// What is written of bare carriage returns: they are kept in a stream that is one, and, where the
+// words do not say so, where they move what is written, as in a recording; else it is as with
+// characters.
+fn returns_in(asked: Option<Returns>, options: Options<'_>) -> Returns {
+    let moves = options.is_cast || options.rows.is_some();
+    match (options.by_lines, asked, options.choice.policy) {
+        (true, Some(returns), _) => returns,
+        (true, None, Policy::Text | Policy::Color) if !moves => Returns::Show,
+        _ => Returns::Keep,
+    }
+}
+
+fn returns_of(name: &str) -> Returns {
+    match name {
+        "show" => Returns::Show,
+        "drop" => Returns::Drop,
+        _ => Returns::Keep,
     }
 }
 

@@ -46,14 +46,13 @@ pub fn filter_by<A: Allocator + Copy, R: Read, W: Write, K: Audience<A> + Drop>(
 {
     writes_pieces::<A>();
     let by_lines = options.by_lines;
-    let unicode = options.unicode;
     if by_lines {
         written_lines_read_back::<A>();
-        let filter = LineFilter::with_unicode(alloc, options.limit, options.choice, unicode);
+        let filter = LineFilter::with_guard(alloc, options.limit, options.choice, options.guard);
         filter_shown(alloc, options, filter, audience, reader, writer)
     } else {
         written_reads_back::<A>();
-        let filter = Filter::with_unicode(alloc, options.limit, options.choice, unicode);
+        let filter = Filter::with_guard(alloc, options.limit, options.choice, options.guard);
         filter_shown(alloc, options, filter, audience, reader, writer)
     }
 }

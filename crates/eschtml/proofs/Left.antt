@@ -9,7 +9,7 @@ use Rattle.esc_filter.specs.Passing.{passed, passed_as}
 use Rattle.esc_filter.specs.Rules.{admits}
 use Rattle.esc_normal.specs.Texts.{ends_in_string}
 use Rattle.esc_filter.specs.declared.policy.Policy.TheVariants.{Screen}
-use Rattle.esc_filter.specs.declared.unicode.Unicode.TheVariants.{Keep}
+use Rattle.esc_filter.specs.Characters.{kept}
 use Rattle.esc_html.specs.Pages.{closing_text, page_text}
 use Rattle.esc_html.specs.declared.layout.Layout.{Layout}
 use Rattle.esc_lines.proofs.Streams.{final_after_longer, final_after_nil, left_after_more}
@@ -35,14 +35,14 @@ pages_add A limit y = record {
 
 -- what changes the screen has no text where there is nothing, and only grows
 pub no_screen : (A : Type 0) (limit : ℕ) → screen_text A limit [] ≡ []
-no_screen A limit = nothing {A = A} Keep limit (admits Screen)
+no_screen A limit = nothing {A = A} kept limit (admits Screen)
 
 screen_more : (A : Type 0) (limit : ℕ) (s b : List ℕ)
     → (t : List ℕ) × (screen_text A limit (s ++ b) ≡ screen_text A limit s ++ t)
 screen_more A limit s b = (
-  texts_after (ends_in_string false (passed_as {A = A} Keep (Some limit) (admits Screen) s))
-      (added_as Keep (Some limit) (admits Screen) s b),
-  text_longer_as Keep (Some limit) (admits Screen) s b,
+  texts_after (ends_in_string false (passed_as {A = A} kept (Some limit) (admits Screen) s))
+      (added_as kept (Some limit) (admits Screen) s b),
+  text_longer_as kept (Some limit) (admits Screen) s b,
 )
 
 screen_longer : (A : Type 0) (limit : ℕ) (s : List ℕ)

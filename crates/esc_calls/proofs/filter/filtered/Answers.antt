@@ -5,7 +5,7 @@ use Rattle.esc_actions.specs.Texts.{list_text}
 use Rattle.esc_filter.specs.Fed.{WasFed, added_by}
 use Rattle.esc_filter.specs.Passing.{passed_text, passes}
 use Rattle.esc_filter.specs.Rules.{admits}
-use Rattle.esc_filter.specs.declared.unicode.Unicode.TheVariants.{Keep}
+use Rattle.esc_filter.specs.Characters.{kept}
 use Rattle.esc_calls.proofs.filter.filtered.Goals as goal
 
 pub returns-in-Ok-clause-ok : goal.returns-in-Ok-clause-ok
@@ -15,7 +15,7 @@ returns-in-Ok-clause-ok c =
     let is = c.new-filter.ensures.policy in
     let fed = subst (λ p. WasFed limit (admits {A = Global} p) [] new) (sym is)
     c.new-filter.ensures.fed in
-    let given = c.in-Ok.ensures.given false Keep limit [] fed in
+    let given = c.in-Ok.ensures.given false kept limit [] fed in
     let nothing = ap (λ vs. list_text (filter (passes (admits {A = Global} new.policy)) vs))
     (meaning_nil (Some limit)) in
     sym (ap (λ t. t ++ added_by c.feed.new.self) nothing) ∙ sym given.1
@@ -26,4 +26,4 @@ returns-in-Err-clause-refused c =
     let new = c.new-filter.result in
     let fed = subst (λ p. WasFed c.args.limit (admits {A = Global} p) [] new)
     (sym c.new-filter.ensures.policy) c.new-filter.ensures.fed in
-    (c.in-Err.ensures.refused false Keep c.args.limit [] fed).3
+    (c.in-Err.ensures.refused false kept c.args.limit [] fed).3

@@ -2,7 +2,7 @@ use Rattle.std.proofs.Common.{Global, ◌++◌, false, Some, ap, refl, sym, subs
 use Rattle.esc_filter.proofs.Texts.{text_longer}
 use Rattle.esc_filter.specs.Fed.{TakesIn}
 use Rattle.esc_filter.specs.Rules.{admits}
-use Rattle.esc_filter.specs.declared.unicode.Unicode.TheVariants.{Keep}
+use Rattle.esc_filter.specs.Characters.{kept}
 use Rattle.esc_calls.proofs.Keeping.{filter_fed}
 use Rattle.esc_calls.proofs.filter_pieces.filter_feed.Goals as goal
 use Rattle.esc_calls.specs.Filtered.{passed}
@@ -16,7 +16,7 @@ returns-in-Ok-clause-taken c = λ limit p s h done.
     let f = filter_fed limit p s c.args.filter.now c.in-Filter.inner is h in
     let k = subst
     (λ x. TakesIn {A = Global} false (admits x) limit s c.args.bytes.now c.feed.new.self) f.1
-    (c.in-Ok.ensures.given false Keep limit s f.0) in
+    (c.in-Ok.ensures.given false kept limit s f.0) in
     record {
       taken = record {
         fed = (
@@ -43,5 +43,5 @@ returns-in-Err-clause-memory c = λ limit p s h differs.
           text_longer {A = Global} (Some limit) (admits p) s c.args.bytes.now,
         );
       },
-      (c.in-Err.ensures.refused false Keep limit s f.0).3,
+      (c.in-Err.ensures.refused false kept limit s f.0).3,
     )

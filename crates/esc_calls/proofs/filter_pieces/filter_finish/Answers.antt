@@ -1,7 +1,7 @@
 use Rattle.std.proofs.Common.{Global, ◌++◌, false, Some, ap, sym, subst, ◌∙◌}
 use Rattle.esc_filter.specs.Fed.{Ends}
 use Rattle.esc_filter.specs.Rules.{admits}
-use Rattle.esc_filter.specs.declared.unicode.Unicode.TheVariants.{Keep}
+use Rattle.esc_filter.specs.Characters.{kept}
 use Rattle.esc_calls.proofs.Keeping.{filter_fed}
 use Rattle.esc_calls.proofs.filter_pieces.filter_finish.Goals as goal
 use Rattle.esc_calls.specs.Filtered.{passed}
@@ -14,7 +14,7 @@ returns-in-Ok-clause-finished c = λ limit p s h done.
     (c.in-Some.ensures.some ∙ ap Some (sym c.deref_mut.ensures.value ∙ c.in-Filter.is)) in
     let f = filter_fed limit p s c.args.filter.now c.in-Filter.inner is h in
     let k = subst (λ x. Ends {A = Global} false (admits x) limit s c.finish.new.self) f.1
-    (c.in-Ok.ensures.ended false Keep limit s f.0) in
+    (c.in-Ok.ensures.ended false kept limit s f.0) in
     record {
       fed = (
         c.finish.new.self,

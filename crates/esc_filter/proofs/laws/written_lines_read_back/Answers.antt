@@ -1,11 +1,8 @@
 use Rattle.std.proofs.Common.{true, [], ◌∷◌, Some, refl}
 use Rattle.esc_actions.specs.Values.{control}
-use Rattle.esc_actions.specs.declared.control_code.ControlCode.TheVariants.{LineFeed}
+use Rattle.esc_actions.specs.declared.control_code.ControlCode.TheVariants.{CarriageReturn, LineFeed}
 use lib.Utf8.{encode}
-use Rattle.esc_filter.specs.Closing.{after_values, closing, keeps_cursor}
-use Rattle.esc_filter.specs.Terminal.{unchanged}
 use Rattle.esc_filter.specs.Passing.{in_lines}
-use Rattle.esc_filter.proofs.Closers.{back_writable}
 use Rattle.esc_filter.proofs.ReadLines.{filtered}
 use Rattle.esc_filter.proofs.laws.written_lines_read_back.Goals as goal
 
@@ -17,6 +14,6 @@ returns g c = λ has_ended u limit admits s.
     l).whatever_follows)
     (λ l. (c.written_reads_back.ensures.ended u (Some limit) (in_lines true admits)
     l).whatever_follows)
-    (λ vs. c.reads_by_itself.ensures (closing admits vs)
-    (back_writable _ (keeps_cursor admits) (after_values vs unchanged)))
-    (c.reads_by_itself.ensures (control LineFeed ∷ []) (refl, refl, refl)) has_ended s
+    (c.reads_by_itself.ensures (control LineFeed ∷ []) (refl, refl, refl))
+    (c.reads_by_itself.ensures (control CarriageReturn ∷ control LineFeed ∷ [])
+    (refl, refl, (refl, refl, refl))) has_ended s

@@ -1,5 +1,5 @@
 use Rattle.std.proofs.Common.{◌+◌, ◌≡◌, rules, sym, subst, false, take}
-use Rattle.esc_filter.proofs.PlainLines.{HasRead, read_feed, read_layout, read_rendition, read_run}
+use Rattle.esc_filter.proofs.PlainLines.{HasRead, read_feed, read_rendition, read_return, read_run, read_tab}
 use Rattle.esc_filter.proofs.plain_lines.plain_length.Goals as goal
 
 pub loop-at-preserved-in-10-1 : goal.loop-at-preserved-in-10-1
@@ -30,7 +30,7 @@ loop-at-preserved-in-9-1 g c =
     record {
       within = search rules;
       last = search rules;
-      read = read_layout A c.args.renditions c.loop-at.is_on bs at (search rules) c.in-9.is run;
+      read = read_tab A c.args.renditions c.loop-at.is_on bs at (search rules) c.in-9.is run;
       lines = c.loop-at.invariant.lines;
     }
 
@@ -48,4 +48,22 @@ loop-at-preserved g c =
           read_rendition A c.args.renditions c.loop-at.is_on c.in-Some.found.1 bs at
           c.in-Some.found.0 (search rules) c.in-Some.ensures.1 run;
       lines = c.loop-at.invariant.lines;
+    }
+
+pub loop-at-preserved-in-13-1 : goal.loop-at-preserved-in-13-1
+loop-at-preserved-in-13-1 g c =
+    let A = g.row.A.Denot in
+    let bs = c.args.bytes.now in
+    let at = c.loop-at.at + c.data_run-at.result in
+    let run = read_run A c.args.renditions c.loop-at.is_on bs c.loop-at.at c.data_run-at.result
+    c.loop-at.invariant.read c.data_run-at.ensures.run in
+    let off : c.loop-at.is_on ≡ false = search rules in
+    let more = read_return A c.args.renditions bs at (search rules) c.in-13.is (search rules)
+    (subst (λ on. HasRead A c.args.renditions on (take at bs)) off run) in
+    record {
+      within = search rules;
+      last = search rules;
+      read =
+          subst (λ on. HasRead A c.args.renditions on (take (at + 2) bs)) (sym off) more.0;
+      lines = more.1;
     }

@@ -11,14 +11,14 @@ pub returns-then-by_lines-clause-holds : goal.returns-then-by_lines-clause-holds
 returns-then-by_lines-clause-holds g c =
     let o = c.args.options.now in
     let p = admits_choice {A = g.row.A.Denot} o.choice in
-    let new = begun_lines (admits_choice {A = g.row.A.Denot}) o.unicode o.limit o.choice
-    c.with_unicode-filter.result c.with_unicode-filter.ensures.policy
-    c.with_unicode-filter.ensures.fed in
-    let f = in_other_words o.rows o.unicode o.limit p (seen_by g.row.A.Denot o) o.by_lines true
-    c.if-by_lines.true (c.written_lines_read_back.ensures true o.unicode o.limit p)
-    (c.written_lines_read_back.ensures false o.unicode o.limit p) _ _ _
-    (c.filter_shown.ensures.holds (text_by_lines_as {A = g.row.A.Denot} o.unicode o.limit p)
-    (closed_by_lines_as o.unicode o.limit p) new refl (lines_add o.unicode o.limit p)) in
+    let new = begun_lines (admits_choice {A = g.row.A.Denot}) o.guard o.limit o.choice
+    c.with_guard-filter.result c.with_guard-filter.ensures.policy
+    c.with_guard-filter.ensures.fed in
+    let f = in_other_words o.rows o.guard o.limit p (seen_by g.row.A.Denot o) o.by_lines true
+    c.if-by_lines.true (c.written_lines_read_back.ensures true o.guard o.limit p)
+    (c.written_lines_read_back.ensures false o.guard o.limit p) _ _ _
+    (c.filter_shown.ensures.holds (text_by_lines_as {A = g.row.A.Denot} o.guard o.limit p)
+    (closed_by_lines_as o.guard o.limit p) new refl (lines_add o.guard o.limit p)) in
     record {
       read_all = f.read_all;
       written = f.written;
@@ -34,16 +34,16 @@ pub returns-else-by_lines-clause-holds : goal.returns-else-by_lines-clause-holds
 returns-else-by_lines-clause-holds g c =
     let o = c.args.options.now in
     let p = admits_choice {A = g.row.A.Denot} o.choice in
-    let filter = c.with_unicode-filter-else-by_lines in
-    let new = begun (admits_choice {A = g.row.A.Denot}) o.unicode o.limit o.choice filter.result
+    let filter = c.with_guard-filter-else-by_lines in
+    let new = begun (admits_choice {A = g.row.A.Denot}) o.guard o.limit o.choice filter.result
     filter.ensures.policy filter.ensures.fed in
-    let f = in_other_words o.rows o.unicode o.limit p (seen_by g.row.A.Denot o) o.by_lines false
-    c.if-by_lines.false (c.written_reads_back.ensures.ended o.unicode (Some o.limit) p)
-    (c.written_reads_back.ensures.goes_on o.unicode (Some o.limit) p) _ _ _
+    let f = in_other_words o.rows o.guard o.limit p (seen_by g.row.A.Denot o) o.by_lines false
+    c.if-by_lines.false (c.written_reads_back.ensures.ended o.guard (Some o.limit) p)
+    (c.written_reads_back.ensures.goes_on o.guard (Some o.limit) p) _ _ _
     (c.filter_shown-else-by_lines.ensures.holds
-    (passed_text_as {A = g.row.A.Denot} o.unicode (Some o.limit) p)
-    (closed_text_as o.unicode (Some o.limit) p) new (nothing o.unicode o.limit p)
-    (whole_adds o.unicode o.limit p)) in
+    (passed_text_as {A = g.row.A.Denot} o.guard (Some o.limit) p)
+    (closed_text_as o.guard (Some o.limit) p) new (nothing o.guard o.limit p)
+    (whole_adds o.guard o.limit p)) in
     record {
       read_all = f.read_all;
       written = f.written;
@@ -59,20 +59,20 @@ pub returns-then-by_lines-clause-refused : goal.returns-then-by_lines-clause-ref
 returns-then-by_lines-clause-refused g c =
     let o = c.args.options.now in
     let p = admits_choice {A = g.row.A.Denot} o.choice in
-    let new = begun_lines (admits_choice {A = g.row.A.Denot}) o.unicode o.limit o.choice
-    c.with_unicode-filter.result c.with_unicode-filter.ensures.policy
-    c.with_unicode-filter.ensures.fed in
-    c.filter_shown.ensures.refused (text_by_lines_as {A = g.row.A.Denot} o.unicode o.limit p)
-    (closed_by_lines_as o.unicode o.limit p) new refl (lines_add o.unicode o.limit p)
+    let new = begun_lines (admits_choice {A = g.row.A.Denot}) o.guard o.limit o.choice
+    c.with_guard-filter.result c.with_guard-filter.ensures.policy
+    c.with_guard-filter.ensures.fed in
+    c.filter_shown.ensures.refused (text_by_lines_as {A = g.row.A.Denot} o.guard o.limit p)
+    (closed_by_lines_as o.guard o.limit p) new refl (lines_add o.guard o.limit p)
 
 pub returns-else-by_lines-clause-refused : goal.returns-else-by_lines-clause-refused
 returns-else-by_lines-clause-refused g c =
     let o = c.args.options.now in
     let p = admits_choice {A = g.row.A.Denot} o.choice in
-    let filter = c.with_unicode-filter-else-by_lines in
-    let new = begun (admits_choice {A = g.row.A.Denot}) o.unicode o.limit o.choice filter.result
+    let filter = c.with_guard-filter-else-by_lines in
+    let new = begun (admits_choice {A = g.row.A.Denot}) o.guard o.limit o.choice filter.result
     filter.ensures.policy filter.ensures.fed in
     c.filter_shown-else-by_lines.ensures.refused
-    (passed_text_as {A = g.row.A.Denot} o.unicode (Some o.limit) p)
-    (closed_text_as o.unicode (Some o.limit) p) new (nothing o.unicode o.limit p)
-    (whole_adds o.unicode o.limit p)
+    (passed_text_as {A = g.row.A.Denot} o.guard (Some o.limit) p)
+    (closed_text_as o.guard (Some o.limit) p) new (nothing o.guard o.limit p)
+    (whole_adds o.guard o.limit p)

@@ -5,7 +5,7 @@ use Rattle.esc_filter.proofs.Begun.{begun, filters}
 use Rattle.esc_normal.proofs.Results.{not_failed, prefix_none}
 use Rattle.esc_filter.specs.Rules.{admits}
 use Rattle.esc_filter.specs.declared.policy.Policy.TheVariants.{Screen}
-use Rattle.esc_filter.specs.declared.unicode.Unicode.TheVariants.{Keep}
+use Rattle.esc_filter.specs.Characters.{kept}
 use Rattle.esc_html.specs.Pages.{page_text}
 use Rattle.esc_lines.proofs.Streams.{final_after_nil}
 use Rattle.esc_lines.specs.Fed.{final_after, left_after}
@@ -23,7 +23,7 @@ returns-clause-holds g c =
     let z = size_of c.args.rows in
     let m = screen_text a l in
     let e = whole_screen a l in
-    let fresh = begun (λ p. admits {A = a} p) Keep l Screen c.new-filter.result
+    let fresh = begun (λ p. admits {A = a} p) kept l Screen c.new-filter.result
     c.new-filter.ensures.policy c.new-filter.ensures.fed in
     let y = o.layout in
     let going = after (page_text a (Some l) y) (final_after a z m) in
@@ -91,7 +91,7 @@ returns-clause-refused g c =
     let z = size_of c.args.rows in
     let m = screen_text a l in
     let e = whole_screen a l in
-    let fresh = begun (λ p. admits {A = a} p) Keep l Screen c.new-filter.result
+    let fresh = begun (λ p. admits {A = a} p) kept l Screen c.new-filter.result
     c.new-filter.ensures.policy c.new-filter.ensures.fed in
     let new = c.new-piped.ensures.begins (final_after a z m) (left_after a z e)
     (page_text a (Some l) y) (html_of a l y)

@@ -14,7 +14,7 @@ returns g c = λ passes s after finished shape item.
     let few : length bytes ≡ 1 = search rules in
     let plain : is_data_byte (get_or bytes 0 0) ≡ true = search rules in
     let one = one_byte bytes few in
-    at_once j.limit admits j.by_lines j.unicode s after finished (get_or bytes 0 0) shape
+    at_once j.limit admits j.by_lines j.guard s after finished (get_or bytes 0 0) shape
     (sym item.kind ∙ kind) (sym item.bytes ∙ one) plain
     (first_holds (λ x. admits (print x)) bytes (get_or bytes 0 0) one
     (c.admits_text.ensures passes))

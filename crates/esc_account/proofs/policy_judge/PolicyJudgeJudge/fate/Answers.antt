@@ -15,9 +15,9 @@ returns-in-Ok-clause-given g c = λ s gs each item.
     let values = map value_of c.as_slice.result.now in
     let reading = reading_within (Some j.limit) s (is_finished s (joined gs)) in
     spelled_ok c.fate_of.result
-    (fate_of j.by_lines j.unicode admits c.args.segment.kind c.args.segment.bytes.now values)
-    (rule_of j.by_lines j.unicode j.limit admits s (is_finished s (joined gs)))
+    (fate_of j.by_lines j.guard admits c.args.segment.kind c.args.segment.bytes.now values)
+    (rule_of j.by_lines j.guard j.limit admits s (is_finished s (joined gs)))
     c.fate_of.ensures.given
-    (same_fate j.by_lines j.unicode admits c.args.segment.kind (kind_of s)
+    (same_fate j.by_lines j.guard admits c.args.segment.kind (kind_of s)
     c.args.segment.bytes.now (bytes_of s) values reading item.kind item.bytes
     (ap (map value_of) c.as_slice.ensures.value ∙ c.in-Ok.ensures.given s gs each item))

@@ -4,7 +4,7 @@ use Rattle.esc_filter.proofs.Texts.{added_as, text_longer_as}
 use Rattle.esc_filter.proofs.feeding.FilterFeeding.feed_piece.Goals as goal
 use Rattle.esc_filter.specs.Fed.{WasFedIn, added_by, policy_of}
 use Rattle.esc_filter.specs.Passing.{closed_text_as, passed_as, passed_text_as}
-use Rattle.esc_filter.specs.declared.unicode.Unicode.{Unicode}
+use Rattle.esc_filter.specs.declared.guard.Guard.{Guard}
 use Rattle.esc_normal.specs.Texts.{ends_in_string}
 
 pub returns-in-Ok-clause-given : goal.returns-in-Ok-clause-given
@@ -12,7 +12,7 @@ returns-in-Ok-clause-given g c = λ m e s h.
     let bs = c.args.bytes.now in
     let new = c.feed.new.self in
     let k = c.in-Ok.ensures.given false h.0 h.1 s h.2 in (
-      subst (λ q. (u : Unicode) × (l : ℕ) × WasFedIn u false l (g.P.Admit.admits q) (s ++ bs) new
+      subst (λ q. (u : Guard) × (l : ℕ) × WasFedIn u false l (g.P.Admit.admits q) (s ++ bs) new
           × (m ≡ passed_text_as {A = g.row.A.Denot} u (Some l) (g.P.Admit.admits q))
           × (e ≡ closed_text_as {A = g.row.A.Denot} u (Some l) (g.P.Admit.admits q)))
           (sym c.in-Ok.ensures.policy) (h.0, h.1, k.0, h.3, h.4),

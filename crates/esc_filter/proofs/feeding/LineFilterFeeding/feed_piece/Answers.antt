@@ -2,14 +2,14 @@ use Rattle.std.proofs.Common.{◌≡◌, ◌++◌, ℕ, sym, ap, ◌∙◌, subs
 use Rattle.esc_filter.proofs.ByLines.{by_longer}
 use Rattle.esc_filter.proofs.feeding.LineFilterFeeding.feed_piece.Goals as goal
 use Rattle.esc_filter.specs.Lines.{WasFedLines, added_by, closed_by_lines_as, policy_of_lines, text_by_lines_as}
-use Rattle.esc_filter.specs.declared.unicode.Unicode.{Unicode}
+use Rattle.esc_filter.specs.declared.guard.Guard.{Guard}
 
 pub returns-in-Ok-clause-given : goal.returns-in-Ok-clause-given
 returns-in-Ok-clause-given g c = λ m e s h.
     let bs = c.args.bytes.now in
     let new = c.feed.new.self in
     let k = c.in-Ok.ensures.given h.0 h.1 s h.2 in (
-      subst (λ q. (u : Unicode) × (l : ℕ) × WasFedLines u l (g.P.Admit.admits q) (s ++ bs) new
+      subst (λ q. (u : Guard) × (l : ℕ) × WasFedLines u l (g.P.Admit.admits q) (s ++ bs) new
           × (m ≡ text_by_lines_as {A = g.row.A.Denot} u l (g.P.Admit.admits q))
           × (e ≡ closed_by_lines_as {A = g.row.A.Denot} u l (g.P.Admit.admits q)))
           (sym c.in-Ok.ensures.policy) (h.0, h.1, k.0, h.3, h.4),

@@ -1,7 +1,7 @@
 use Rattle.std.proofs.Common.{◌++◌, sym, ap, ◌∙◌}
-use Rattle.esc_actions.specs.Texts.{list_text}
+use Rattle.esc_filter.proofs.ByLines.{closed_longer}
 use Rattle.esc_filter.proofs.feeding.LineFilterFeeding.finish_all.Goals as goal
-use Rattle.esc_filter.specs.Lines.{added_by, line_closing, policy_of_lines}
+use Rattle.esc_filter.specs.Lines.{added_by, policy_of_lines}
 
 pub returns-in-Ok-clause-ended : goal.returns-in-Ok-clause-ended
 returns-in-Ok-clause-ended g c = λ m e s h.
@@ -11,17 +11,17 @@ returns-in-Ok-clause-ended g c = λ m e s h.
 pub returns-in-Ok-clause-longer : goal.returns-in-Ok-clause-longer
 returns-in-Ok-clause-longer g c = λ m e s h.
     let admits = g.P.Admit.admits (policy_of_lines c.args.self.now) in
-    let t = list_text (line_closing h.0 h.1 admits s) in (
-      t,
-      ap (λ f. f s) h.4 ∙ ap (λ y. y ++ t) (sym (ap (λ f. f s) h.3)),
+    let k = closed_longer h.0 h.1 admits s in (
+      k.0,
+      ap (λ f. f s) h.4 ∙ k.1 ∙ ap (λ y. y ++ k.0) (sym (ap (λ f. f s) h.3)),
     )
 
 pub returns-in-Err-clause-longer : goal.returns-in-Err-clause-longer
 returns-in-Err-clause-longer g c = λ m e s h.
     let admits = g.P.Admit.admits (policy_of_lines c.args.self.now) in
-    let t = list_text (line_closing h.0 h.1 admits s) in (
-      t,
-      ap (λ f. f s) h.4 ∙ ap (λ y. y ++ t) (sym (ap (λ f. f s) h.3)),
+    let k = closed_longer h.0 h.1 admits s in (
+      k.0,
+      ap (λ f. f s) h.4 ∙ k.1 ∙ ap (λ y. y ++ k.0) (sym (ap (λ f. f s) h.3)),
     )
 
 pub returns-in-Err-clause-refused : goal.returns-in-Err-clause-refused

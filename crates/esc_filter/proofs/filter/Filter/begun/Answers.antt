@@ -10,6 +10,6 @@ returns-clause-fed g c =
     let admits = in_lines c.args.by_lines (g.P.Admit.admits c.args.policy) in
     let nil = sym (meaning_nil (Some c.args.limit)) in (
       c.with_limit.ensures,
-      subst (λ vs. HasNoted c.args.by_lines c.args.unicode vs c.new.result)
-          (of_nothing c.args.unicode admits nil) c.new.ensures.noted,
+      subst (λ vs. HasNoted c.args.by_lines c.args.guard vs c.new.result)
+          (of_nothing c.args.guard admits nil) c.new.ensures.noted,
     )

@@ -10,7 +10,7 @@ returns-in-Ok-clause-given g c = λ u limit s w.
     (record c.args.self.now { text = c.clear.new.self }) c.feed_lines.new.self c.clear.ensures.bytes
     (c.in-Ok.ensures.given u limit s
     (fed_same u limit admits s c.args.self.now (record c.args.self.now { text = c.clear.new.self })
-    refl refl w))
+    refl refl refl w))
 
 pub returns-in-Err-clause-refused : goal.returns-in-Err-clause-refused
 returns-in-Err-clause-refused g c = λ u limit s w.
@@ -20,5 +20,5 @@ returns-in-Err-clause-refused g c = λ u limit s w.
       c.clear-in-Err.ensures.bytes,
       c.in-Err.ensures.refused u limit s
           (fed_same u limit admits s c.args.self.now
-          (record c.args.self.now { text = c.clear.new.self }) refl refl w),
+          (record c.args.self.now { text = c.clear.new.self }) refl refl refl w),
     )

@@ -3,7 +3,8 @@ use Rattle.esc_frame.proofs.CsiRuns.{run_joins}
 use Rattle.std.proofs.lemmas.List.{take_rest, take_all}
 use Rattle.esc_filter.specs.Lines.{GrowsBy, WasFedLines, ends_line, policy_of_lines}
 use Rattle.esc_parse.proofs.Lists.{on_err_any, on_ok_more}
-use Rattle.esc_filter.proofs.ByLines.{grows_more, grows_not, line_ended}
+use Rattle.esc_filter.proofs.ByLines.{grows_more, grows_not}
+use Rattle.esc_filter.proofs.LineBytes.{line_ended}
 use Rattle.esc_filter.proofs.line_filter.LineFilter.feed_lines.Goals as goal
 
 -- the bytes from a place on

@@ -20,4 +20,4 @@ returns-clause-given g c = λ u limit s w ends.
     subst (λ x. GrowsBy u admits limit s x c.args.self.now new) c.plain_lines-lines.ensures.first
     (plain_grows u limit admits c.passes_renditions.result s c.plain_lines-lines.result.now
     c.args.self.now new (c.passes_text.ensures passes) c.passes_renditions.ensures w ends
-    c.plain_lines-lines.ensures.lines refl refl c.in_ok-push_str.ensures.bytes)
+    c.plain_lines-lines.ensures.lines refl refl refl c.in_ok-push_str.ensures.bytes)

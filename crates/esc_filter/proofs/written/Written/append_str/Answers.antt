@@ -8,6 +8,6 @@ pub returns : goal.returns
 returns g c =
     match_both _ _ _ _ c.receive_str.result
     (run_noted (chars c.args.text.now) c.args.self.now c.receive_str.new.self
-    (kept_themselves _ c.args.self.now.unicode (chars c.args.text.now) c.requires.kept))
+    (kept_themselves _ c.args.self.now.guard (chars c.args.text.now) c.requires.kept))
     (run_denied (chars c.args.text.now) c.args.self.now c.receive_str.new.self)
     c.receive_str.ensures.given
