@@ -151,7 +151,7 @@ piece_encoded (span false l) =
 piece_encoded span_end = literal (codes "</span>") refl
 piece_encoded (link a) =
     around (codes "<a href=\"") (flat_map escape_value a)
-    (flat_map escape_value (encode_utf8_all a)) (codes "\" rel=\"noopener noreferrer\">") refl refl
+    (flat_map escape_value (encode_utf8_all a)) (codes "\" rel=\"nofollow noopener noreferrer\">") refl refl
     (escape_all 0x22 a (omega arith))
 piece_encoded link_end = literal (codes "</a>") refl
 

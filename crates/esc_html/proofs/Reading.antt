@@ -330,9 +330,9 @@ piece_reads (span false l) r h =
 piece_reads span_end r h = refl
 piece_reads (link a) r h =
     ap (tokens_from (value (begun (codes "a")) (codes "href") []))
-    (append_assoc (flat_map escape_value a) (codes "\" rel=\"noopener noreferrer\">") r)
+    (append_assoc (flat_map escape_value a) (codes "\" rel=\"nofollow noopener noreferrer\">") r)
     ∙ value_chars (begun (codes "a")) (codes "href") [] a
-    (codes "\" rel=\"noopener noreferrer\">" ++ r) h
+    (codes "\" rel=\"nofollow noopener noreferrer\">" ++ r) h
 piece_reads link_end r h = refl
 
 all_read : (ps : List Piece) → list_all is_kept_piece ps ≡ true
@@ -430,7 +430,7 @@ piece_kept span_end h = refl
 piece_kept (link a) h =
     rw (
       list_all-append is_kept (flat_map escape_value a)
-          (codes "\" rel=\"noopener noreferrer\">"),
+          (codes "\" rel=\"nofollow noopener noreferrer\">"),
       all_joined escape_value is_kept (kept_escaped 0x22) a h,
     ) refl
 piece_kept link_end h = refl

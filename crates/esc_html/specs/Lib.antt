@@ -11,3 +11,4 @@ pub mod Renditions
 pub mod Pages
 pub mod Shown
 pub mod Fed
+pub mod Bounds

@@ -74,7 +74,7 @@ piece_text (text t) = flat_map escape_text t
 piece_text (span b l) = codes "<span" ++ (attributes_text (span_attributes b l) ++ codes ">")
 piece_text span_end = codes "</span>"
 piece_text (link a) =
-    codes "<a href=\"" ++ (flat_map escape_value a ++ codes "\" rel=\"noopener noreferrer\">")
+    codes "<a href=\"" ++ (flat_map escape_value a ++ codes "\" rel=\"nofollow noopener noreferrer\">")
 piece_text link_end = codes "</a>"
 
 abbrev pub html_text : List Piece → List ℕ
@@ -86,7 +86,7 @@ piece_tokens (text t) = map character t
 piece_tokens (span b l) = start_tag (codes "span") (span_attributes b l) ∷ []
 piece_tokens span_end = end_tag (codes "span") ∷ []
 piece_tokens (link a) = start_tag (codes "a")
-    ((codes "href", a) ∷ (codes "rel", codes "noopener noreferrer") ∷ []) ∷ []
+    ((codes "href", a) ∷ (codes "rel", codes "nofollow noopener noreferrer") ∷ []) ∷ []
 piece_tokens link_end = end_tag (codes "a") ∷ []
 
 abbrev pub tokens_of : List Piece → List Token

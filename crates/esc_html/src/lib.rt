@@ -28,6 +28,7 @@ mod page;
 mod plain;
 mod shown;
 mod tag;
+mod tags;
 mod writing;
 
 pub use address::is_safe_address;

@@ -17,16 +17,16 @@ static const char STREAM[] = "<i>\x1b[1;32mok\nx\x1b]8;;https://a/?b&c\x07y\x1b]
 
 static const char *const PAGES[] = {
     "&lt;i&gt;<span class=\"bold fg-green\">ok\nx</span>"
-    "<a href=\"https://a/?b&amp;c\" rel=\"noopener noreferrer\"><span class=\"bold fg-green\">y</span></a>"
+    "<a href=\"https://a/?b&amp;c\" rel=\"nofollow noopener noreferrer\"><span class=\"bold fg-green\">y</span></a>"
     "<span class=\"bold fg-green\">z</span>\xef\xbf\xbd<span class=\"italic\">s</span>",
     "&lt;i&gt;<span class=\"bold fg-green\">ok</span>\n<span class=\"bold fg-green\">x</span>"
-    "<a href=\"https://a/?b&amp;c\" rel=\"noopener noreferrer\"><span class=\"bold fg-green\">y</span></a>"
+    "<a href=\"https://a/?b&amp;c\" rel=\"nofollow noopener noreferrer\"><span class=\"bold fg-green\">y</span></a>"
     "<span class=\"bold fg-green\">z</span>\xef\xbf\xbd<span class=\"italic\">s</span>",
     "&lt;i&gt;<span style=\"font-weight:bold;color:#116329;\">ok\nx</span>"
-    "<a href=\"https://a/?b&amp;c\" rel=\"noopener noreferrer\"><span style=\"font-weight:bold;color:#116329;\">y</span></a>"
+    "<a href=\"https://a/?b&amp;c\" rel=\"nofollow noopener noreferrer\"><span style=\"font-weight:bold;color:#116329;\">y</span></a>"
     "<span style=\"font-weight:bold;color:#116329;\">z</span>\xef\xbf\xbd<span style=\"font-style:italic;\">s</span>",
     "&lt;i&gt;<span style=\"font-weight:bold;color:#116329;\">ok</span>\n<span style=\"font-weight:bold;color:#116329;\">x</span>"
-    "<a href=\"https://a/?b&amp;c\" rel=\"noopener noreferrer\"><span style=\"font-weight:bold;color:#116329;\">y</span></a>"
+    "<a href=\"https://a/?b&amp;c\" rel=\"nofollow noopener noreferrer\"><span style=\"font-weight:bold;color:#116329;\">y</span></a>"
     "<span style=\"font-weight:bold;color:#116329;\">z</span>\xef\xbf\xbd<span style=\"font-style:italic;\">s</span>",
 };
 
