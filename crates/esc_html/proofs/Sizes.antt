@@ -290,7 +290,7 @@ class_span_size l =
 weight_size : (i : Intensity) → length (weight_text i) ≤ 17
 weight_size intensity.Normal = leb-true 0 17 refl
 weight_size intensity.Bold = leb-true 17 17 refl
-weight_size intensity.Half = leb-true 13 17 refl
+weight_size intensity.Half = leb-true 12 17 refl
 
 slant_size : (b : Bool) → length (slant_text b) ≤ 18
 slant_size true = leb-true 18 18 refl
