@@ -30,9 +30,9 @@ fn with_classes() {
     wants(
         false,
         false,
-        "&lt;b&gt;<span class=\"bold fg-red\">red\n</span>\
+        "&lt;b&gt;<span class=\"es-bold es-fg-red\">red\n</span>\
          <a href=\"http://a/?b&amp;c=&quot;\" rel=\"nofollow noopener noreferrer\">\
-         <span class=\"bold fg-red\">x</span></a> \u{fffd}<span class=\"underline\">_</span>",
+         <span class=\"es-bold es-fg-red\">x</span></a> \u{fffd}<span class=\"es-underline\">_</span>",
     );
 }
 

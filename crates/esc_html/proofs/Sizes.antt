@@ -9,7 +9,8 @@ use Rattle.std.proofs.lemmas.Str.{len_utf8_bounds, length-encode}
 use Rattle.esc_html.specs.Inline.{background_text, colors_text, decoration_text, foreground_text, inline_text, is_underlined, keywords_text, kind_text, lines_text, slant_text, weight_text}
 use Rattle.esc_html.specs.Pieces.{attribute_text, attributes_text, class_attribute, escape, escape_text, escape_value, needs_reference, piece_text, reference_text, span, style_attribute}
 use Rattle.esc_html.proofs.Encoded.{referenced, unreferenced}
-use Rattle.esc_looks.specs.Classes.{class_name, class_names, color_name, more_names}
+use Rattle.esc_html.specs.Names.{more_span_names, span_name, span_names}
+use Rattle.esc_looks.specs.Classes.{color_name}
 use Rattle.esc_looks.specs.Looks.{background_class, background_style, class_if, foreground_class, foreground_style, intensity_class, look_classes, look_styles, present, shown_background, shown_foreground, underline_class, underline_color_class, underline_color_style}
 use Rattle.esc_looks.specs.Styles.{style_text, styles_text}
 use Rattle.esc_looks.specs.declared.class.Class.{Class}
@@ -92,21 +93,21 @@ color_size ansi.BrightWhite = leb-true 12 14 refl
 -- a name with the space before it
 abbrev name_size : Option Class → ℕ
 name_size None = 0
-name_size (Some c) = 1 + length (class_name c)
+name_size (Some c) = 1 + length (span_name c)
 
 abbrev names_size : List Class → ℕ
 names_size [] = 0
-names_size (c ∷ cs) = (1 + length (class_name c)) + names_size cs
+names_size (c ∷ cs) = (1 + length (span_name c)) + names_size cs
 
 names_next : (o : Option Class) (os : List (Option Class))
     → names_size (present (o ∷ os)) ≡ name_size o + names_size (present os)
 names_next None os = omega arith
 names_next (Some c) os = refl
 
-more_size : (cs : List Class) → length (more_names cs) ≡ names_size cs
+more_size : (cs : List Class) → length (more_span_names cs) ≡ names_size cs
 more_size [] = refl
 more_size (c ∷ cs) =
-    omega (arith, length-append (class_name c) (more_names cs), more_size cs)
+    omega (arith, length-append (span_name c) (more_span_names cs), more_size cs)
 
 value_in : (n v : List ℕ) (k : ℕ) → length (codes "=\"") ≡ 2 → length n ≡ k
     → length (attributes_text ((n, v) ∷ [])) ≡ 4 + k + length v
@@ -123,8 +124,8 @@ classes_size [] = leb-true 0 9 refl
 classes_size (c ∷ cs) =
     omega (
       arith,
-      value_in (codes "class") (class_names (c ∷ cs)) 5 refl refl,
-      length-append (class_name c) (more_names cs),
+      value_in (codes "class") (span_names (c ∷ cs)) 5 refl refl,
+      length-append (span_name c) (more_span_names cs),
       more_size cs,
     )
 
@@ -162,42 +163,42 @@ styles_size (s ∷ ss) =
 
 intensity_size : (i : Intensity) → name_size (intensity_class i) ≤ 9
 intensity_size intensity.Normal = leb-true 0 9 refl
-intensity_size intensity.Bold = leb-true 5 9 refl
-intensity_size intensity.Half = leb-true 6 9 refl
+intensity_size intensity.Bold = leb-true 8 9 refl
+intensity_size intensity.Half = leb-true 9 9 refl
 
 underline_size : (u : Underline) → name_size (underline_class u) ≤ 20
 underline_size underline.None = leb-true 0 20 refl
-underline_size underline.Single = leb-true 10 20 refl
-underline_size underline.Double = leb-true 17 20 refl
-underline_size underline.Curly = leb-true 16 20 refl
-underline_size underline.Dotted = leb-true 17 20 refl
-underline_size underline.Dashed = leb-true 17 20 refl
+underline_size underline.Single = leb-true 13 20 refl
+underline_size underline.Double = leb-true 20 20 refl
+underline_size underline.Curly = leb-true 19 20 refl
+underline_size underline.Dotted = leb-true 20 20 refl
+underline_size underline.Dashed = leb-true 20 20 refl
 
-if_size : (b : Bool) (c : Class) (n : ℕ) → 1 + length (class_name c) ≤ n
+if_size : (b : Bool) (c : Class) (n : ℕ) → 1 + length (span_name c) ≤ n
     → name_size (class_if b c) ≤ n
 if_size true c n h = h
 if_size false c n h = omega arith
 
-named_size : (t : List ℕ) (c : AnsiColor) → length t ≡ 3
+named_size : (t : List ℕ) (c : AnsiColor) → length t ≡ 6
     → 1 + length (t ++ color_name c) ≤ 21
 named_size t c h = omega (arith, length-append t (color_name c), color_size c, h)
 
 foreground_size : (c : Color)
     → name_size (foreground_class c) + declared_size (foreground_style c) ≤ 21
 foreground_size Default = leb-true 0 21 refl
-foreground_size (Named n) = omega (arith, named_size (codes "fg-") n refl)
+foreground_size (Named n) = omega (arith, named_size (codes "es-fg-") n refl)
 foreground_size (Direct d) = leb-true 14 21 refl
 
 background_size : (c : Color)
     → name_size (background_class c) + declared_size (background_style c) ≤ 25
 background_size Default = leb-true 0 25 refl
-background_size (Named n) = omega (arith, named_size (codes "bg-") n refl)
+background_size (Named n) = omega (arith, named_size (codes "es-bg-") n refl)
 background_size (Direct d) = leb-true 25 25 refl
 
 line_size : (c : Color)
     → name_size (underline_color_class c) + declared_size (underline_color_style c) ≤ 30
 line_size Default = leb-true 0 30 refl
-line_size (Named n) = omega (arith, named_size (codes "ul-") n refl)
+line_size (Named n) = omega (arith, named_size (codes "es-ul-") n refl)
 line_size (Direct d) = leb-true 30 30 refl
 
 -- the classes of a look but those of its colours
@@ -226,12 +227,12 @@ marks_size i u a b c d e f rest =
       names_next (class_if f class.Overline) rest,
       intensity_size i,
       underline_size u,
-      if_size a class.Italic 10 (leb-true 7 10 refl),
-      if_size b class.Blink 9 (leb-true 6 9 refl),
-      if_size c class.Inverse 11 (leb-true 8 11 refl),
-      if_size d class.Concealed 13 (leb-true 10 13 refl),
-      if_size e class.Strikethrough 17 (leb-true 14 17 refl),
-      if_size f class.Overline 12 (leb-true 9 12 refl),
+      if_size a class.Italic 10 (leb-true 10 10 refl),
+      if_size b class.Blink 9 (leb-true 9 9 refl),
+      if_size c class.Inverse 11 (leb-true 11 11 refl),
+      if_size d class.Concealed 13 (leb-true 13 13 refl),
+      if_size e class.Strikethrough 17 (leb-true 17 17 refl),
+      if_size f class.Overline 12 (leb-true 12 12 refl),
     )
 
 colors_size : (a b c : Color)

@@ -3,10 +3,10 @@
 use Rattle.std.specs.Prelude.{ℕ, ◌==◌, Bool, true, false, not, ◌&&◌, ◌||◌, if◌then◌else◌, List, [], ◌∷◌, ◌++◌, codes, map}
 use Rattle.std.specs.List.{flat_map, list_all}
 use Rattle.std.specs.Str.{encode_utf8_all}
-use Rattle.esc_looks.specs.Classes.{class_names}
 use Rattle.esc_looks.specs.Looks.{look_classes, look_styles, present}
 use Rattle.esc_looks.specs.Styles.{styles_text}
 use Rattle.esc_html.specs.Inline.{inline_text}
+use Rattle.esc_html.specs.Names.{span_names}
 use Rattle.esc_html.specs.Tokens.{Token, character, start_tag, end_tag}
 use Rattle.esc_looks.specs.declared.class.Class.{Class}
 use Rattle.esc_looks.specs.declared.look.Look.{Look}
@@ -50,7 +50,7 @@ escape_value c = escape 0x22 c
 -- styles where there are some
 abbrev pub class_attribute : List Class → List (List ℕ × List ℕ)
 class_attribute [] = []
-class_attribute (c ∷ cs) = (codes "class", class_names (c ∷ cs)) ∷ []
+class_attribute (c ∷ cs) = (codes "class", span_names (c ∷ cs)) ∷ []
 
 abbrev pub style_attribute : List Style → List (List ℕ × List ℕ)
 style_attribute [] = []

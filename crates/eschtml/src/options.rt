@@ -11,6 +11,8 @@ pub struct Options<'a> {
     pub is_page: bool,
     /// The title of the page, where it is given.
     pub title: Option<&'a str>,
+    /// The address of the style sheet of the page, where it is not the program's.
+    pub css: Option<&'a str>,
     /// How the HTML is laid out.
     pub layout: Layout,
     /// Whether what is left out is shown in place.
@@ -65,6 +67,11 @@ const KNOWN: &[Known] = &[
         name: "--title",
         letter: "",
         takes: Takes::OneOf("text", &[]),
+    },
+    Known {
+        name: "--css",
+        letter: "",
+        takes: Takes::OneOf("address", &[]),
     },
     Known {
         name: "--lines",
@@ -125,6 +132,7 @@ impl<'a> Task<'a> {
         let mut options = Options {
             is_page: false,
             title: None,
+            css: None,
             layout: Layout {
                 per_line: false,
                 inline: false,
@@ -137,6 +145,7 @@ impl<'a> Task<'a> {
             match given.name {
                 "--page" => options.is_page = true,
                 "--title" => options.title = Some(given.word),
+                "--css" => options.css = Some(given.word),
                 "--lines" => options.layout.per_line = true,
                 "--inline" => options.layout.inline = true,
                 "--show" => options.shows = true,
