@@ -78,11 +78,11 @@ parts_within t =
 pub short_size : (a : List ℕ) → is_page_address a ≡ true → value_size a ≤ 12498
 short_size a h =
     let safe = (and_parts (is_safe_address a) (list_all is_kept a) h).0 in
-    let form = (and_parts (is_short a && (has_scheme (codes "http:") a
-    || has_scheme (codes "https:") a || has_scheme (codes "mailto:") a))
+    let form = (and_parts (is_short a && (has_scheme (codes "http://") a
+    || has_scheme (codes "https://") a || has_scheme (codes "mailto:") a))
     (list_all is_address_char (chars a)) safe).0 in
-    let short = (and_parts (is_short a) (has_scheme (codes "http:") a
-    || has_scheme (codes "https:") a || has_scheme (codes "mailto:") a) form).0 in
+    let short = (and_parts (is_short a) (has_scheme (codes "http://") a
+    || has_scheme (codes "https://") a || has_scheme (codes "mailto:") a) form).0 in
     omega (arith, value_small a, leb-true (length a) 2083 short)
 
 pub page_address_size : (a : List ℕ) → is_page_address a ≡ true

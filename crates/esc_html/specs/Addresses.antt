@@ -3,7 +3,7 @@ use Rattle.std.specs.Prelude.{ℕ, nat_le, nat_lt, Bool, ◌&&◌, ◌||◌, Lis
 use Rattle.std.specs.List.{list_all}
 use Rattle.std.specs.Str.{chars, str_eq_ignore_ascii_case}
 
--- Whether an address begins with a scheme and its colon, given in lower case: letters of ASCII may
+-- Whether an address begins with a scheme and what follows it, given in lower case: letters of ASCII may
 -- be of either case (RFC 3986, 3.1).
 abbrev pub has_scheme : List ℕ → List ℕ → Bool
 has_scheme s a = nat_le (length s) (length a)
@@ -21,8 +21,9 @@ longest_address = 2083
 abbrev pub is_short : List ℕ → Bool
 is_short a = nat_le (length a) longest_address
 
--- the UTF-8 of an address with the scheme http, https or mailto, that is no longer
+-- the UTF-8 of an address with the scheme http or https and an authority, or mailto, that is no
+-- longer: without `//` a browser may read it as one of the page's own host (WHATWG URL, 4.4)
 abbrev pub is_safe_address : List ℕ → Bool
-is_safe_address a = (is_short a && (has_scheme (codes "http:") a || has_scheme (codes "https:") a
+is_safe_address a = (is_short a && (has_scheme (codes "http://") a || has_scheme (codes "https://") a
     || has_scheme (codes "mailto:") a))
     && list_all is_address_char (chars a)

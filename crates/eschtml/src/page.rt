@@ -31,11 +31,26 @@ pub fn head(alloc: Global, title: &str, css: Option<&str>) -> Result<String, All
         &mut text,
         "\">\n<meta name=\"viewport\" content=\"width=device-width, initial-scale=1\">\n<title>",
     )?;
-    push_text(&mut text, title)?;
+    push_title(&mut text, title)?;
     memory::push_str(&mut text, "</title>\n")?;
     push_sheet(&mut text, css)?;
     memory::push_str(&mut text, "</head>\n<body>\n")?;
     Ok(text)
+}
+
+// Appends a title: U+FFFD in the place of controls, of which some would be no HTML, and all would be
+// obeyed where the page is printed on a terminal.
+fn push_title(text: &mut String, title: &str) -> Result<(), AllocError> {
+    let mut shown = String::new(*text.allocator());
+    for c in title.chars() {
+        memory::push_char(&mut shown, if is_control(c) { '\u{fffd}' } else { c })?;
+    }
+    push_text(text, shown.as_str())
+}
+
+// Whether it is a control of C0 or C1, or DEL.
+fn is_control(c: char) -> bool {
+    c < '\u{20}' || ('\u{7f}' <= c && c <= '\u{9f}')
 }
 
 // What is allowed to a page with the style sheet of this address, or with its own.
