@@ -3,8 +3,8 @@ use Rattle.std.specs.Prelude.{ℕ, nat_le, nat_lt, Bool, ◌&&◌, ◌||◌, Lis
 use Rattle.std.specs.List.{list_all}
 use Rattle.std.specs.Str.{chars, str_eq_ignore_ascii_case}
 
--- Whether an address begins with a scheme and what follows it, given in lower case: letters of ASCII may
--- be of either case (RFC 3986, 3.1).
+-- Whether an address begins with a scheme and what follows it, given in lower case: letters of
+-- ASCII may be of either case (RFC 3986, 3.1).
 abbrev pub has_scheme : List ℕ → List ℕ → Bool
 has_scheme s a = nat_le (length s) (length a)
     && str_eq_ignore_ascii_case (take (length s) a) s

@@ -7,11 +7,11 @@ ghost use Rattle.esc_html.specs.Addresses.{has_scheme, is_address_char, is_safe_
 // How many bytes of an address VTE and iTerm2 take.
 const LONGEST_ADDRESS: usize = 2083;
 
-/// Whether a link may lead to this address: its scheme is `http` or `https`, with `//`, or `mailto`,
+/// Whether a link may lead to this address: its scheme is `http` or `https` with `//`, or `mailto`,
 /// in letters of either case (RFC 3986, 3.1), and it has no control and no space. A browser leaves
-/// out tabs, line ends and what comes before the scheme, and reads what has no `//` as an address of
-/// the page's own host (WHATWG URL, 4.4), so such an address is refused, and not read as it would
-/// be. So is one of more than 2,083 bytes, as in VTE and iTerm2.
+/// out tabs, line ends and what comes before the scheme, and takes what has no `//` for an address
+/// of the page's own host (WHATWG URL, 4.4): so such an address is refused. So is one of more than
+/// 2,083 bytes, as in VTE and iTerm2.
 pub fn is_safe_address(address: &str) -> bool
     ensures { result ≡ is_safe_address address.now }
 {

@@ -1,5 +1,6 @@
 //! What comes before and after a stream in a whole page.
 
+use crate::options::{Options, Theme};
 use crate::style::{push_page_style, push_style};
 use esc_html::push_text;
 use std::alloc::{AllocError, Global};
@@ -17,29 +18,31 @@ const OWN_STYLES: &str = "default-src 'none'; style-src 'unsafe-inline'; base-ur
 const ANY_STYLES: &str = "default-src 'none'; style-src 'unsafe-inline' 'self' file: http: https:; \
                           base-uri 'none'; form-action 'none'";
 
-/// What a page begins with: its title, and its style sheet or a link to that of this address. The
+/// What a page begins with: its title, and its style sheet or a link to that of the options. The
 /// error is that memory was refused.
-pub fn head(alloc: Global, title: &str, css: Option<&str>) -> Result<String, AllocError> {
+pub fn head(alloc: Global, title: &str, options: Options<'_>) -> Result<String, AllocError> {
     let mut text = String::new(alloc);
+    memory::push_str(&mut text, "<!DOCTYPE html>\n<html lang=\"")?;
+    push_value(&mut text, options.lang)?;
     memory::push_str(
         &mut text,
-        "<!DOCTYPE html>\n<html lang=\"en\">\n<head>\n<meta charset=\"utf-8\">\n\
+        "\">\n<head>\n<meta charset=\"utf-8\">\n\
          <meta http-equiv=\"Content-Security-Policy\" content=\"",
     )?;
-    memory::push_str(&mut text, allowed(css))?;
+    memory::push_str(&mut text, allowed(options.css))?;
     memory::push_str(
         &mut text,
         "\">\n<meta name=\"viewport\" content=\"width=device-width, initial-scale=1\">\n<title>",
     )?;
     push_title(&mut text, title)?;
     memory::push_str(&mut text, "</title>\n")?;
-    push_sheet(&mut text, css)?;
+    push_sheet(&mut text, options.css, theme_of(options))?;
     memory::push_str(&mut text, "</head>\n<body>\n")?;
     Ok(text)
 }
 
-// Appends a title: U+FFFD in the place of controls, of which some would be no HTML, and all would be
-// obeyed where the page is printed on a terminal.
+// Appends a title, with U+FFFD in the place of controls: some are no HTML, and all are obeyed where
+// the page is printed on a terminal.
 fn push_title(text: &mut String, title: &str) -> Result<(), AllocError> {
     let mut shown = String::new(*text.allocator());
     for c in title.chars() {
@@ -61,8 +64,17 @@ fn allowed(css: Option<&str>) -> &'static str {
     }
 }
 
+// Whether the page is light or dark: light where it has the colours of a light one by themselves.
+fn theme_of(options: Options<'_>) -> Theme {
+    if options.layout.inline {
+        Theme::Light
+    } else {
+        options.theme
+    }
+}
+
 // The style sheet, or a link to that of this address.
-fn push_sheet(text: &mut String, css: Option<&str>) -> Result<(), AllocError> {
+fn push_sheet(text: &mut String, css: Option<&str>, theme: Theme) -> Result<(), AllocError> {
     match css {
         Some(address) => {
             memory::push_str(text, "<link rel=\"stylesheet\" href=\"")?;
@@ -71,8 +83,8 @@ fn push_sheet(text: &mut String, css: Option<&str>) -> Result<(), AllocError> {
         }
         None => {
             memory::push_str(text, "<style>\n")?;
-            push_style(text)?;
-            push_page_style(text)?;
+            push_style(text, theme)?;
+            push_page_style(text, theme)?;
             memory::push_str(text, "</style>\n")
         }
     }
@@ -95,7 +107,16 @@ fn push_value(text: &mut String, value: &str) -> Result<(), AllocError> {
 pub const END: &str = "</body>\n</html>\n";
 
 /// What comes before a stream. A browser leaves out the line feed after `<pre>`.
-pub const BEFORE: &str = "<div class=\"es-stream\"><pre>\n";
+pub fn before(wraps: bool) -> &'static str {
+    if wraps {
+        "<div class=\"es-stream es-wrap\"><pre>\n"
+    } else {
+        "<div class=\"es-stream\"><pre>\n"
+    }
+}
+
+/// What comes after a stream whose lines have no numbers.
+pub const UNNUMBERED: &str = "</pre></div>\n";
 
 /// What comes after it, and before the numbers of its lines.
 const AFTER: &str = "</pre><div class=\"es-lines\">\n";

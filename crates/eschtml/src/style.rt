@@ -1,5 +1,6 @@
 //! The style sheet.
 
+use crate::options::Theme;
 use std::alloc::AllocError;
 
 // The colours of a light page, and of looks that are exchanged on it.
@@ -142,30 +143,53 @@ const RULES: &str = "\
 .es-stream .es-concealed { color: transparent !important; }
 .es-stream [class*=\"es-bg-\"], .es-stream .es-inverse, .es-stream [style*=\"background-color\"] {
   padding-block: 0.15em; }
+.es-stream.es-wrap pre { white-space: pre-wrap; overflow-wrap: anywhere; }
 @media print {
   .es-stream pre { white-space: pre-wrap; overflow-wrap: anywhere; }
   .es-stream .es-lines { display: none; }
 }
 ";
 
-// What a whole page has beside it.
-const PAGE: &str = "\
+// What a whole page has beside it, where it is light or dark as its reader's setting.
+const AUTO_PAGE: &str = "\
 :root { color-scheme: light dark; background: #ffffff; }
 @media (prefers-color-scheme: dark) { :root { background: #0d1117; } }
 body { margin: 0; }
 ";
 
-/// Appends the style sheet: light or dark as its reader's setting, for a `div` of class `es-stream`
-/// and what is in it alone.
-pub fn push_style(text: &mut String) -> Result<(), AllocError> {
-    memory::push_str(text, LIGHT)?;
-    memory::push_str(text, "@media (prefers-color-scheme: dark) {\n")?;
-    memory::push_str(text, DARK)?;
-    memory::push_str(text, "}\n")?;
+// What a light one has.
+const LIGHT_PAGE: &str = "\
+:root { color-scheme: light; background: #ffffff; }
+body { margin: 0; }
+";
+
+// What a dark one has.
+const DARK_PAGE: &str = "\
+:root { color-scheme: dark; background: #0d1117; }
+body { margin: 0; }
+";
+
+/// Appends the style sheet: light or dark, for a `div` of class `es-stream` and what is in it.
+pub fn push_style(text: &mut String, theme: Theme) -> Result<(), AllocError> {
+    match theme {
+        Theme::Auto => {
+            memory::push_str(text, LIGHT)?;
+            memory::push_str(text, "@media (prefers-color-scheme: dark) {\n")?;
+            memory::push_str(text, DARK)?;
+            memory::push_str(text, "}\n")?;
+        }
+        Theme::Light => memory::push_str(text, LIGHT)?,
+        Theme::Dark => memory::push_str(text, DARK)?,
+    }
     memory::push_str(text, RULES)
 }
 
 /// Appends what a whole page has beside it.
-pub fn push_page_style(text: &mut String) -> Result<(), AllocError> {
-    memory::push_str(text, PAGE)
+pub fn push_page_style(text: &mut String, theme: Theme) -> Result<(), AllocError> {
+    let style = match theme {
+        Theme::Auto => AUTO_PAGE,
+        Theme::Light => LIGHT_PAGE,
+        Theme::Dark => DARK_PAGE,
+    };
+    memory::push_str(text, style)
 }
