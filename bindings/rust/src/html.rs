@@ -31,7 +31,7 @@ pub struct Layout {
 /// }
 /// page.finish()?;
 /// page.text(|part| html.extend_from_slice(part));
-/// assert_eq!(html, b"a &lt;b&gt;<span class=\"bold fg-red\">red</span>");
+/// assert_eq!(html, b"a &lt;b&gt;<span class=\"es-bold es-fg-red\">red</span>");
 /// # Ok::<(), escape_stream::Error>(())
 /// ```
 #[derive(Debug)]

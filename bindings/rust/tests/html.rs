@@ -30,9 +30,9 @@ fn with_classes() {
     wants(
         false,
         false,
-        "&lt;b&gt;<span class=\"bold fg-red\">red\n</span>\
-         <a href=\"http://a/?b&amp;c=&quot;\" rel=\"noopener noreferrer\">\
-         <span class=\"bold fg-red\">x</span></a> \u{fffd}<span class=\"underline\">_</span>",
+        "&lt;b&gt;<span class=\"es-bold es-fg-red\">red\n</span>\
+         <a href=\"http://a/?b&amp;c=&quot;\" rel=\"nofollow noopener noreferrer\">\
+         <span class=\"es-bold es-fg-red\">x</span></a> \u{fffd}<span class=\"es-underline\">_</span>",
     );
 }
 
@@ -42,7 +42,7 @@ fn with_styles_line_by_line() {
         true,
         true,
         "&lt;b&gt;<span style=\"font-weight:bold;color:#b3261e;\">red</span>\n\
-         <a href=\"http://a/?b&amp;c=&quot;\" rel=\"noopener noreferrer\">\
+         <a href=\"http://a/?b&amp;c=&quot;\" rel=\"nofollow noopener noreferrer\">\
          <span style=\"font-weight:bold;color:#b3261e;\">x</span></a> \u{fffd}\
          <span style=\"text-decoration-line: underline;\">_</span>",
     );

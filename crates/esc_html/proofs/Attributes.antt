@@ -3,7 +3,7 @@ use Rattle.std.proofs.Common.{ℕ, zero, suc, ◌≡◌, ◌<◌, ◌+◌, ◌&&
 use Rattle.std.proofs.lemmas.Grind.{flat_map-append}
 use Rattle.std.proofs.lemmas.List.{append-nil}
 use Rattle.esc_html.specs.Attributes.{begun_classes, begun_styles, is_empty, next_class, next_style}
-use Rattle.esc_looks.specs.Classes.{class_name, more_names}
+use Rattle.esc_html.specs.Names.{more_span_names, span_name}
 use Rattle.esc_looks.specs.Looks.{present}
 use Rattle.esc_html.specs.Pieces.{attribute_text, attributes_text}
 use Rattle.esc_looks.specs.Styles.{style_text, styles_text}
@@ -43,21 +43,22 @@ absent_next (p ∷ ps) o = refl
 -- ---- classes
 
 more_last : (cs : List Class) (c : Class)
-    → more_names (cs ++ c ∷ []) ≡ more_names cs ++ 0x20 ∷ class_name c
-more_last [] c = ap (λ x. 0x20 ∷ x) (append-nil (class_name c))
+    → more_span_names (cs ++ c ∷ []) ≡ more_span_names cs ++ 0x20 ∷ span_name c
+more_last [] c = ap (λ x. 0x20 ∷ x) (append-nil (span_name c))
 more_last (d ∷ cs) c =
-    ap (λ x. 0x20 ∷ (class_name d ++ x)) (more_last cs c)
-    ∙ ap (λ x. 0x20 ∷ x) (sym (append_assoc (class_name d) (more_names cs) (0x20 ∷ class_name c)))
+    ap (λ x. 0x20 ∷ (span_name d ++ x)) (more_last cs c)
+    ∙ ap (λ x. 0x20 ∷ x)
+    (sym (append_assoc (span_name d) (more_span_names cs) (0x20 ∷ span_name c)))
 
 classes_next : (cs : List Class) (o : Option Class)
     → begun_classes (cs ++ one o) ≡ begun_classes cs ++ next_class (is_empty cs) o
 classes_next cs None =
     ap begun_classes (append-nil cs) ∙ sym (append-nil (begun_classes cs))
-classes_next [] (Some c) = ap (λ x. codes " class=\"" ++ x) (append-nil (class_name c))
+classes_next [] (Some c) = ap (λ x. codes " class=\"" ++ x) (append-nil (span_name c))
 classes_next (d ∷ cs) (Some c) =
-    ap (λ x. codes " class=\"" ++ (class_name d ++ x)) (more_last cs c)
+    ap (λ x. codes " class=\"" ++ (span_name d ++ x)) (more_last cs c)
     ∙ ap (λ x. codes " class=\"" ++ x)
-    (sym (append_assoc (class_name d) (more_names cs) (0x20 ∷ class_name c)))
+    (sym (append_assoc (span_name d) (more_span_names cs) (0x20 ∷ span_name c)))
 
 -- ---- styles
 

@@ -9,7 +9,7 @@ use Rattle.std.proofs.lemmas.List.Folds.{list_all-append}
 use Rattle.std.proofs.lemmas.List.{append-nil}
 use Rattle.std.proofs.lemmas.Str.{encode_ascii, encodes-append, inside_one}
 use Rattle.memchr.specs.Find.{is_byte3}
-use Rattle.esc_looks.specs.Classes.{class_names}
+use Rattle.esc_html.specs.Names.{span_names}
 use Rattle.esc_looks.specs.Colors.{color_code, is_small}
 use Rattle.esc_looks.specs.Looks.{look_classes, look_styles, present}
 use Rattle.esc_looks.specs.Styles.{styles_text}
@@ -106,7 +106,7 @@ classes_small : (cs : List Class)
     → list_all is_small (attributes_text (class_attribute cs)) ≡ true
 classes_small [] = refl
 classes_small (c ∷ cs) =
-    let v = class_names (c ∷ cs) in
+    let v = span_names (c ∷ cs) in
     ap (λ x. list_all is_small (codes " class=\"" ++ x)) (append-nil (v ++ codes "\""))
     ∙ quoted_small v (names_plain (c ∷ cs))
 
@@ -151,7 +151,7 @@ piece_encoded (span false l) =
 piece_encoded span_end = literal (codes "</span>") refl
 piece_encoded (link a) =
     around (codes "<a href=\"") (flat_map escape_value a)
-    (flat_map escape_value (encode_utf8_all a)) (codes "\" rel=\"noopener noreferrer\">") refl refl
+    (flat_map escape_value (encode_utf8_all a)) (codes "\" rel=\"nofollow noopener noreferrer\">") refl refl
     (escape_all 0x22 a (omega arith))
 piece_encoded link_end = literal (codes "</a>") refl
 

@@ -8,6 +8,7 @@ use Rattle.esc_actions.specs.Values.{Value, value_of, print, string, control, es
 use Rattle.esc_actions.specs.declared.action.Action.{Action}
 use Rattle.esc_parse.specs.Images.{is_image}
 use Rattle.esc_parse.specs.Given.{At, StopsAt}
+use Rattle.esc_html.specs.Bounds.{IsBoundedPiece}
 use Rattle.esc_html.specs.Fed.{Adds, Takes, WasFed, closing_of, state_of, text_of}
 use Rattle.esc_html.specs.Marks.{nothing, step_of}
 use Rattle.esc_html.specs.Pages.{closed, closing_text, first_state, page_text, pieces_by, pieces_from, state_by, state_from, state_of_stream}
@@ -15,6 +16,7 @@ use Rattle.esc_html.specs.Pieces.{html_text, piece_text}
 use Rattle.esc_html.specs.declared.html_writer.HtmlWriter.{HtmlWriter}
 use Rattle.esc_html.specs.declared.layout.Layout.{Layout}
 use Rattle.esc_html.specs.declared.page.Page.{Page}
+use Rattle.esc_html.proofs.Bounded.{piece_bounded}
 use Rattle.esc_html.proofs.Pages.{pieces_more, state_more}
 
 pub takes_all : {A : Type 0} (p : Page A) (vs : List (Value A)) (q : Page A)
@@ -51,6 +53,7 @@ pub fed_more : {A : Type 0} (limit : Option ℕ) (y : Layout) (s b : List ℕ) (
     → FoldsTo (At value_of Takes) p (yield_within limit s b) q
     → (state_of q ≡ state_of_stream A limit y (s ++ b)) × (q.layout ≡ y)
     × (page_text A limit y (s ++ b) ≡ page_text A limit y s ++ text_of q)
+    × IsBoundedPiece b (text_of q)
 fed_more {A} limit y s b p q none at same f =
     let us = meaning_within {A = A} limit s in
     let vs = yield_within {A = A} limit s b in
@@ -58,7 +61,10 @@ fed_more {A} limit y s b p q none at same f =
     let first = first_state y.inline in
     let line = ap (λ z. z.per_line) same in
     let r = takes_all p vs q f in
-    let more = sym (meaning_more {A = A} limit s b) in (
+    let more = sym (meaning_more {A = A} limit s b) in
+    let text = r.0 ∙ ap (λ t. t ++ html_text (pieces_from p.layout.per_line (state_of p) vs)) none
+    ∙ ap (λ l. html_text (pieces_from l (state_of p) vs)) line
+    ∙ ap (λ g. html_text (pieces_from pl g vs)) at in (
       r.1 ∙ ap (λ l. state_from l (state_of p) vs) line ∙ ap (λ g. state_from pl g vs) at
           ∙ sym (state_more pl first us vs) ∙ ap (state_from pl first) (sym more),
       r.2 ∙ same,
@@ -66,10 +72,8 @@ fed_more {A} limit y s b p q none at same f =
           ∙ ap html_text (pieces_more pl first us vs)
           ∙ flat_map-append piece_text (pieces_from pl first us)
           (pieces_from pl (state_from pl first us) vs)
-          ∙ ap (λ x. page_text A limit y s ++ x)
-          (sym (r.0 ∙ ap (λ t. t ++ html_text (pieces_from p.layout.per_line (state_of p) vs)) none
-          ∙ ap (λ l. html_text (pieces_from l (state_of p) vs)) line
-          ∙ ap (λ g. html_text (pieces_from pl g vs)) at)),
+          ∙ ap (λ x. page_text A limit y s ++ x) (sym text),
+      subst (IsBoundedPiece b) (sym text) (piece_bounded A limit y s b),
     )
 
 -- what closes the tags of a writer

@@ -10,3 +10,8 @@ pub mod Runs
 pub mod Safe
 pub mod Sequences
 pub mod Whole
+pub mod Sizes
+pub mod Costs
+pub mod Addressed
+pub mod Weights
+pub mod Bounded

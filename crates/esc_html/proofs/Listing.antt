@@ -23,7 +23,7 @@ piece_listed (span b l) h =
 piece_listed span_end h = one_listed (end_tag (codes "span")) (inl refl)
 piece_listed (link a) h =
     one_listed (start_tag (codes "a")
-    ((codes "href", a) ∷ (codes "rel", codes "noopener noreferrer") ∷ []))
+    ((codes "href", a) ∷ (codes "rel", codes "nofollow noopener noreferrer") ∷ []))
     (inr (refl, (a, h, refl)))
 piece_listed link_end h = one_listed (end_tag (codes "a")) (inr refl)
 

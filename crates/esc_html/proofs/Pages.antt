@@ -1,16 +1,18 @@
 -- The pieces of a stream nest and close, and show its characters with their looks and links.
-use Rattle.std.proofs.Common.{ℕ, ◌≡◌, Bool, true, false, not, if◌then◌else◌, List, [], ◌∷◌, ◌++◌, Option, Some, None, is_some, map, refl, ap, sym, ◌∙◌, append_assoc, append-nil}
+use Rattle.std.proofs.Common.{ℕ, ◌≡◌, Bool, true, false, List, [], ◌∷◌, ◌++◌, Option, Some, None, is_some, map, refl, ap, sym, ◌∙◌, append_assoc, append-nil}
 use Rattle.std.specs.Char.{encode_utf8}
 use Rattle.std.specs.List.{flat_map}
 use Rattle.std.proofs.lemmas.Grind.{flat_map-append}
 use Rattle.esc_actions.specs.Values.{Value}
 use Rattle.esc_looks.specs.Looks.{is_plain}
-use Rattle.esc_html.specs.Marks.{Pen, Step, changes, shows, nothing, ends_line, marked, marks, pen_at, pen_by, step_of}
-use Rattle.esc_html.specs.Pages.{State, before_character, closed, closing, link_end_if, link_opening, open_or_not, opening, pieces_by, pieces_from, span_end_unless, span_unless, state_by, state_from}
-use Rattle.esc_html.specs.Pieces.{Open, Piece, nests, open_link, open_span, piece_tokens, text, tokens_of}
+use Rattle.esc_html.specs.Marks.{Pen, Step, restyles, redirects, shows, nothing, ends_line, marked, marks, pen_after, pen_at, pen_by, step_of, with_look}
+use Rattle.esc_html.specs.Pages.{State, after_character, before_character, closed, closing, link_end_if, link_opening, opening, pieces_by, pieces_from, span_closing, span_end_unless, span_unless, state_by, state_from, without_span}
+use Rattle.esc_html.specs.Pieces.{Open as OpenTag, Piece, nests, open_link, open_span, piece_tokens, text, tokens_of}
 use Rattle.esc_html.specs.Shown.{Element, elements, link_elements, marked_bytes, shown, span_elements_unless}
 use Rattle.esc_html.specs.Tokens.{Token, character}
 use Rattle.esc_looks.specs.declared.look.Look.{Look}
+use Rattle.esc_html.specs.declared.tags.Tags.{Tags}
+use Rattle.esc_html.specs.declared.tags.Tags.TheVariants.{Closed, Link, Open}
 
 -- ---- one list of values after another
 
@@ -31,19 +33,29 @@ pieces_more pl g (v ∷ vs) ws =
 
 -- ---- nesting
 
-abbrev span_open_unless : Bool → List Open
+abbrev span_open_unless : Bool → List OpenTag
 span_open_unless true = []
 span_open_unless false = open_span ∷ []
 
-abbrev link_open_if : Bool → List Open
+abbrev link_open_if : Bool → List OpenTag
 link_open_if true = open_link ∷ []
 link_open_if false = []
 
-abbrev open_tags : Pen → List Open
-open_tags p = span_open_unless (is_plain p.look) ++ link_open_if (is_some p.link)
+abbrev open_tags : Tags → Pen → List OpenTag
+open_tags Closed p = []
+open_tags Link p = link_open_if (is_some p.link)
+open_tags Open p = span_open_unless (is_plain p.look) ++ link_open_if (is_some p.link)
 
-abbrev nesting : State → List Open
-nesting g = if g.is_open then open_tags g.pen else []
+abbrev nesting : State → List OpenTag
+nesting g = open_tags g.tags g.pen
+
+nests_span : (i b k : Bool) (l : Look) (ps : List Piece)
+    → nests (link_open_if k) (span_unless i b l ++ ps)
+    ≡ nests (span_open_unless b ++ link_open_if k) ps
+nests_span i true true l ps = refl
+nests_span i true false l ps = refl
+nests_span i false true l ps = refl
+nests_span i false false l ps = refl
 
 nests_open : (i b : Bool) (k : Option (List ℕ)) (l : Look) (ps : List Piece)
     → nests [] ((link_opening k ++ span_unless i b l) ++ ps)
@@ -53,6 +65,19 @@ nests_open i false None l ps = refl
 nests_open i true (Some a) l ps = refl
 nests_open i false (Some a) l ps = refl
 
+nests_link_end : (k : Bool) (ps : List Piece)
+    → nests (link_open_if k) (link_end_if k ++ ps) ≡ nests [] ps
+nests_link_end true ps = refl
+nests_link_end false ps = refl
+
+nests_span_end : (b k : Bool) (ps : List Piece)
+    → nests (span_open_unless b ++ link_open_if k) (span_end_unless b ++ ps)
+    ≡ nests (link_open_if k) ps
+nests_span_end true true ps = refl
+nests_span_end true false ps = refl
+nests_span_end false true ps = refl
+nests_span_end false false ps = refl
+
 nests_close : (b k : Bool) (ps : List Piece)
     → nests (span_open_unless b ++ link_open_if k) ((span_end_unless b ++ link_end_if k) ++ ps)
     ≡ nests [] ps
@@ -61,40 +86,50 @@ nests_close true false ps = refl
 nests_close false true ps = refl
 nests_close false false ps = refl
 
-nests_text : (os : List Open) (t : List ℕ) (ps : List Piece) → nests os (text t ∷ ps) ≡ nests os ps
+nests_text : (os : List OpenTag) (t : List ℕ) (ps : List Piece)
+    → nests os (text t ∷ ps) ≡ nests os ps
 nests_text [] t ps = refl
 nests_text (o ∷ os) t ps = refl
 
-nests_opened : (b : Bool) (p : Pen) (ps : List Piece)
-    → nests (if b then open_tags p else []) ((if b then [] else opening p) ++ ps)
-    ≡ nests (open_tags p) ps
-nests_opened true p ps = refl
-nests_opened false p ps = nests_open p.inline (is_plain p.look) p.link p.look ps
+nests_opened : (t : Tags) (p : Pen) (ps : List Piece)
+    → nests (open_tags t p) (opening t p ++ ps) ≡ nests (open_tags Open p) ps
+nests_opened Closed p ps = nests_open p.inline (is_plain p.look) p.link p.look ps
+nests_opened Link p ps = nests_span p.inline (is_plain p.look) (is_some p.link) p.look ps
+nests_opened Open p ps = refl
 
-nests_closed : (b : Bool) (p : Pen) (ps : List Piece)
-    → nests (if b then open_tags p else []) ((if b then closing p else []) ++ ps) ≡ nests [] ps
-nests_closed true p ps = nests_close (is_plain p.look) (is_some p.link) ps
-nests_closed false p ps = refl
+nests_closed : (t : Tags) (p : Pen) (ps : List Piece)
+    → nests (open_tags t p) (closing t p ++ ps) ≡ nests [] ps
+nests_closed Closed p ps = refl
+nests_closed Link p ps = nests_link_end (is_some p.link) ps
+nests_closed Open p ps = nests_close (is_plain p.look) (is_some p.link) ps
+
+nests_restyled : (t : Tags) (p : Pen) (l : Look) (ps : List Piece)
+    → nests (open_tags t p) (span_closing t p ++ ps)
+    ≡ nests (open_tags (without_span t) (with_look p l)) ps
+nests_restyled Closed p l ps = refl
+nests_restyled Link p l ps = refl
+nests_restyled Open p l ps = nests_span_end (is_plain p.look) (is_some p.link) ps
 
 nests_before : (e : Bool) (g : State) (ps : List Piece)
-    → nests (nesting g) (before_character e g ++ ps) ≡ nests (nesting (open_or_not g (not e))) ps
-nests_before true g ps = nests_closed g.is_open g.pen ps
-nests_before false g ps = nests_opened g.is_open g.pen ps
+    → nests (nesting g) (before_character e g ++ ps) ≡ nests (nesting (after_character e g)) ps
+nests_before true g ps = nests_closed g.tags g.pen ps
+nests_before false g ps = nests_opened g.tags g.pen ps
 
 nests_step : (pl : Bool) (g : State) (s : Step) (ps : List Piece)
     → nests (nesting g) (pieces_by pl g s ++ ps) ≡ nests (nesting (state_by pl g s)) ps
-nests_step pl g (changes q) ps = nests_closed g.is_open g.pen ps
+nests_step pl g (restyles l) ps = nests_restyled g.tags g.pen l ps
+nests_step pl g (redirects k) ps = nests_closed g.tags g.pen ps
 nests_step pl g (shows c) ps =
     let e = ends_line pl c in
     ap (nests (nesting g)) (append_assoc (before_character e g) (text (encode_utf8 c) ∷ []) ps)
     ∙ nests_before e g (text (encode_utf8 c) ∷ ps)
-    ∙ nests_text (nesting (open_or_not g (not e))) (encode_utf8 c) ps
+    ∙ nests_text (nesting (after_character e g)) (encode_utf8 c) ps
 nests_step pl g nothing ps = refl
 
 pub pages_nest : {A : Type 0} (pl : Bool) (g : State) (vs : List (Value A))
     → nests (nesting g) (pieces_from pl g vs ++ closed (state_from pl g vs)) ≡ true
 pages_nest pl g [] =
-    ap (nests (nesting g)) (sym (append-nil (closed g))) ∙ nests_closed g.is_open g.pen []
+    ap (nests (nesting g)) (sym (append-nil (closed g))) ∙ nests_closed g.tags g.pen []
 pages_nest pl g (v ∷ vs) =
     let s = step_of g.pen v in
     let rest = pieces_from pl (state_by pl g s) vs in
@@ -104,8 +139,19 @@ pages_nest pl g (v ∷ vs) =
 
 -- ---- what is shown
 
+abbrev open_elements : Tags → Pen → List Element
+open_elements Closed p = []
+open_elements Link p = link_elements p.link
+open_elements Open p = elements p
+
 abbrev elements_at : State → List Element
-elements_at g = if g.is_open then elements g.pen else []
+elements_at g = open_elements g.tags g.pen
+
+shown_span : (i b : Bool) (k : Option (List ℕ)) (l : Look) (ts : List Token)
+    → shown (link_elements k) (tokens_of (span_unless i b l) ++ ts)
+    ≡ shown (span_elements_unless i b l ++ link_elements k) ts
+shown_span i true k l ts = refl
+shown_span i false k l ts = refl
 
 shown_open : (i b : Bool) (k : Option (List ℕ)) (l : Look) (ts : List Token)
     → shown [] (tokens_of (link_opening k ++ span_unless i b l) ++ ts)
@@ -114,6 +160,18 @@ shown_open i true None l ts = refl
 shown_open i false None l ts = refl
 shown_open i true (Some a) l ts = refl
 shown_open i false (Some a) l ts = refl
+
+shown_link_end : (k : Option (List ℕ)) (ts : List Token)
+    → shown (link_elements k) (tokens_of (link_end_if (is_some k)) ++ ts) ≡ shown [] ts
+shown_link_end None ts = refl
+shown_link_end (Some a) ts = refl
+
+shown_span_end : (i b : Bool) (k : Option (List ℕ)) (l : Look) (ts : List Token)
+    → shown (span_elements_unless i b l ++ link_elements k)
+    (tokens_of (span_end_unless b) ++ ts)
+    ≡ shown (link_elements k) ts
+shown_span_end i true k l ts = refl
+shown_span_end i false k l ts = refl
 
 shown_close : (i b : Bool) (k : Option (List ℕ)) (l : Look) (ts : List Token)
     → shown (span_elements_unless i b l ++ link_elements k)
@@ -129,26 +187,33 @@ shown_text : (es : List Element) (t : List ℕ) (ts : List Token)
 shown_text es [] ts = refl
 shown_text es (c ∷ t) ts = ap (λ x. (c, es) ∷ x) (shown_text es t ts)
 
-shown_opened : (b : Bool) (p : Pen) (ts : List Token)
-    → shown (if b then elements p else []) (tokens_of (if b then [] else opening p) ++ ts)
-    ≡ shown (elements p) ts
-shown_opened true p ts = refl
-shown_opened false p ts = shown_open p.inline (is_plain p.look) p.link p.look ts
+shown_opened : (t : Tags) (p : Pen) (ts : List Token)
+    → shown (open_elements t p) (tokens_of (opening t p) ++ ts) ≡ shown (elements p) ts
+shown_opened Closed p ts = shown_open p.inline (is_plain p.look) p.link p.look ts
+shown_opened Link p ts = shown_span p.inline (is_plain p.look) p.link p.look ts
+shown_opened Open p ts = refl
 
-shown_closed : (b : Bool) (p : Pen) (ts : List Token)
-    → shown (if b then elements p else []) (tokens_of (if b then closing p else []) ++ ts)
-    ≡ shown [] ts
-shown_closed true p ts = shown_close p.inline (is_plain p.look) p.link p.look ts
-shown_closed false p ts = refl
+shown_closed : (t : Tags) (p : Pen) (ts : List Token)
+    → shown (open_elements t p) (tokens_of (closing t p) ++ ts) ≡ shown [] ts
+shown_closed Closed p ts = refl
+shown_closed Link p ts = shown_link_end p.link ts
+shown_closed Open p ts = shown_close p.inline (is_plain p.look) p.link p.look ts
+
+shown_restyled : (t : Tags) (p : Pen) (l : Look) (ts : List Token)
+    → shown (open_elements t p) (tokens_of (span_closing t p) ++ ts)
+    ≡ shown (open_elements (without_span t) (with_look p l)) ts
+shown_restyled Closed p l ts = refl
+shown_restyled Link p l ts = refl
+shown_restyled Open p l ts = shown_span_end p.inline (is_plain p.look) p.link p.look ts
 
 shown_before : (e : Bool) (g : State) (ts : List Token)
     → shown (elements_at g) (tokens_of (before_character e g) ++ ts)
-    ≡ shown (elements_at (open_or_not g (not e))) ts
-shown_before true g ts = shown_closed g.is_open g.pen ts
-shown_before false g ts = shown_opened g.is_open g.pen ts
+    ≡ shown (elements_at (after_character e g)) ts
+shown_before true g ts = shown_closed g.tags g.pen ts
+shown_before false g ts = shown_opened g.tags g.pen ts
 
 marked_same : (e : Bool) (g : State) (c : ℕ)
-    → map (λ b. (b, elements_at (open_or_not g (not e)))) (encode_utf8 c)
+    → map (λ b. (b, elements_at (after_character e g))) (encode_utf8 c)
     ≡ marked_bytes (c, pen_at e g.pen) ++ []
 marked_same true g c = sym (append-nil (map (λ b. (b, [])) (encode_utf8 c)))
 marked_same false g c = sym (append-nil (map (λ b. (b, elements g.pen)) (encode_utf8 c)))
@@ -156,10 +221,11 @@ marked_same false g c = sym (append-nil (map (λ b. (b, elements g.pen)) (encode
 shown_character : (e : Bool) (g : State) (c : ℕ) (ts : List Token)
     → shown (elements_at g)
     (tokens_of (before_character e g ++ text (encode_utf8 c) ∷ []) ++ ts)
-    ≡ (marked_bytes (c, pen_at e g.pen) ++ []) ++ shown (elements_at (open_or_not g (not e))) ts
+    ≡ (marked_bytes (c, pen_at e g.pen) ++ [])
+    ++ shown (elements_at (after_character e g)) ts
 shown_character e g c ts =
     let t = encode_utf8 c in
-    let es = elements_at (open_or_not g (not e)) in
+    let es = elements_at (after_character e g) in
     ap (λ x. shown (elements_at g) (x ++ ts))
     (flat_map-append piece_tokens (before_character e g) (text t ∷ []))
     ∙ ap (shown (elements_at g))
@@ -171,13 +237,19 @@ shown_character e g c ts =
 shown_step : (pl : Bool) (g : State) (s : Step) (ts : List Token)
     → shown (elements_at g) (tokens_of (pieces_by pl g s) ++ ts)
     ≡ flat_map marked_bytes (marked pl g.pen s) ++ shown (elements_at (state_by pl g s)) ts
-shown_step pl g (changes q) ts = shown_closed g.is_open g.pen ts
+shown_step pl g (restyles l) ts = shown_restyled g.tags g.pen l ts
+shown_step pl g (redirects k) ts = shown_closed g.tags g.pen ts
 shown_step pl g (shows c) ts = shown_character (ends_line pl c) g c ts
 shown_step pl g nothing ts = refl
 
-pen_same : (pl : Bool) (g : State) (s : Step) → (state_by pl g s).pen ≡ pen_by g.pen s
-pen_same pl g (changes q) = refl
-pen_same pl g (shows c) = refl
+after_same : (e : Bool) (g : State) → (after_character e g).pen ≡ pen_after e g.pen
+after_same true g = refl
+after_same false g = refl
+
+pen_same : (pl : Bool) (g : State) (s : Step) → (state_by pl g s).pen ≡ pen_by pl g.pen s
+pen_same pl g (restyles l) = refl
+pen_same pl g (redirects k) = refl
+pen_same pl g (shows c) = after_same (ends_line pl c) g
 pen_same pl g nothing = refl
 
 pub pages_show : {A : Type 0} (pl : Bool) (g : State) (vs : List (Value A))
@@ -185,7 +257,7 @@ pub pages_show : {A : Type 0} (pl : Bool) (g : State) (vs : List (Value A))
     ≡ flat_map marked_bytes (marks pl g.pen vs)
 pages_show pl g [] =
     ap (shown (elements_at g)) (sym (append-nil (tokens_of (closed g))))
-    ∙ shown_closed g.is_open g.pen []
+    ∙ shown_closed g.tags g.pen []
 pages_show pl g (v ∷ vs) =
     let s = step_of g.pen v in
     let rest = pieces_from pl (state_by pl g s) vs in
@@ -196,4 +268,4 @@ pages_show pl g (v ∷ vs) =
     ∙ ap (λ x. flat_map marked_bytes (marked pl g.pen s) ++ x)
     (pages_show pl (state_by pl g s) vs
     ∙ ap (λ p. flat_map marked_bytes (marks pl p vs)) (pen_same pl g s))
-    ∙ sym (flat_map-append marked_bytes (marked pl g.pen s) (marks pl (pen_by g.pen s) vs))
+    ∙ sym (flat_map-append marked_bytes (marked pl g.pen s) (marks pl (pen_by pl g.pen s) vs))

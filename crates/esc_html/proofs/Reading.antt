@@ -8,7 +8,8 @@ use Rattle.std.proofs.lemmas.List.Folds.{list_all-append}
 use Rattle.std.proofs.lemmas.List.{append-nil}
 use Rattle.esc_typed.specs.declared.ansi_color.AnsiColor.{AnsiColor}
 use Rattle.esc_typed.specs.declared.ansi_color.AnsiColor.TheVariants as ansi
-use Rattle.esc_looks.specs.Classes.{class_name, color_name, more_names, class_names}
+use Rattle.esc_html.specs.Names.{more_span_names, span_name, span_names}
+use Rattle.esc_looks.specs.Classes.{class_name, color_name}
 use Rattle.esc_looks.specs.Colors.{color_code, hex_byte, hex_digit}
 use Rattle.esc_looks.specs.Looks.{look_classes, look_styles, present, shown_background, shown_foreground}
 use Rattle.esc_looks.specs.Styles.{style_color, style_property, style_text, styles_text}
@@ -132,17 +133,26 @@ name_plain (Foreground c) = color_plain c
 name_plain (Background c) = color_plain c
 name_plain (UnderlineColor c) = color_plain c
 
-more_plain : (cs : List Class) → list_all is_name_char (more_names cs) ≡ true
+span_plain : (c : Class) → list_all is_name_char (span_name c) ≡ true
+span_plain c = name_plain c
+
+more_plain : (cs : List Class) → list_all is_name_char (more_span_names cs) ≡ true
 more_plain [] = refl
 more_plain (c ∷ cs) =
-    rw (list_all-append is_name_char (class_name c) (more_names cs), name_plain c, more_plain cs)
-    refl
+    rw (
+      list_all-append is_name_char (span_name c) (more_span_names cs),
+      span_plain c,
+      more_plain cs,
+    ) refl
 
-pub names_plain : (cs : List Class) → list_all is_name_char (class_names cs) ≡ true
+pub names_plain : (cs : List Class) → list_all is_name_char (span_names cs) ≡ true
 names_plain [] = refl
 names_plain (c ∷ cs) =
-    rw (list_all-append is_name_char (class_name c) (more_names cs), name_plain c, more_plain cs)
-    refl
+    rw (
+      list_all-append is_name_char (span_name c) (more_span_names cs),
+      span_plain c,
+      more_plain cs,
+    ) refl
 
 -- ---- styles
 
@@ -301,14 +311,14 @@ span_reads : (cs : List Class) (ss : List Style) (r : List ℕ)
     ∷ tokens_from data_state r
 span_reads [] [] r = refl
 span_reads (c ∷ cs) [] r =
-    last_reads (begun (codes "span")) (codes "class") (class_names (c ∷ cs)) r
+    last_reads (begun (codes "span")) (codes "class") (span_names (c ∷ cs)) r
     (names_plain (c ∷ cs))
 span_reads [] (s ∷ ss) r =
     last_reads (begun (codes "span")) (codes "style") (styles_text (s ∷ ss)) r
     (styles_plain (s ∷ ss))
 span_reads (c ∷ cs) (s ∷ ss) r =
     let t = begun (codes "span") in
-    let v = class_names (c ∷ cs) in
+    let v = span_names (c ∷ cs) in
     ap (tokens_from (value t (codes "class") []))
     (regrouped v (attributes_text (style_attribute (s ∷ ss))) (codes ">") r)
     ∙ value_reads t (codes "class") v
@@ -330,9 +340,9 @@ piece_reads (span false l) r h =
 piece_reads span_end r h = refl
 piece_reads (link a) r h =
     ap (tokens_from (value (begun (codes "a")) (codes "href") []))
-    (append_assoc (flat_map escape_value a) (codes "\" rel=\"noopener noreferrer\">") r)
+    (append_assoc (flat_map escape_value a) (codes "\" rel=\"nofollow noopener noreferrer\">") r)
     ∙ value_chars (begun (codes "a")) (codes "href") [] a
-    (codes "\" rel=\"noopener noreferrer\">" ++ r) h
+    (codes "\" rel=\"nofollow noopener noreferrer\">" ++ r) h
 piece_reads link_end r h = refl
 
 all_read : (ps : List Piece) → list_all is_kept_piece ps ≡ true
@@ -386,7 +396,7 @@ classes_kept : (cs : List Class)
     → list_all is_kept (attributes_text (class_attribute cs)) ≡ true
 classes_kept [] = refl
 classes_kept (c ∷ cs) =
-    let v = class_names (c ∷ cs) in
+    let v = span_names (c ∷ cs) in
     ap (λ x. list_all is_kept (codes " class=\"" ++ x)) (append-nil (v ++ codes "\""))
     ∙ quoted_kept v (names_plain (c ∷ cs))
 
@@ -430,7 +440,7 @@ piece_kept span_end h = refl
 piece_kept (link a) h =
     rw (
       list_all-append is_kept (flat_map escape_value a)
-          (codes "\" rel=\"noopener noreferrer\">"),
+          (codes "\" rel=\"nofollow noopener noreferrer\">"),
       all_joined escape_value is_kept (kept_escaped 0x22) a h,
     ) refl
 piece_kept link_end h = refl

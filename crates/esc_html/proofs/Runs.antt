@@ -1,5 +1,5 @@
 -- A run of characters at once is what each of them, one after another, makes of a page.
-use Rattle.std.proofs.Common.{ℕ, zero, suc, ◌≡◌, ◌≤◌, ◌<◌, ◌+◌, Bool, true, false, not, inl, inr, List, [], ◌∷◌, ◌++◌, length, map, take, drop, get_or, Some, chars, Result, Ok, Err, OnOk, OnErr, MatchResult, refl, ap, sym, ◌∙◌, subst, append_assoc, arith}
+use Rattle.std.proofs.Common.{ℕ, zero, suc, ◌≡◌, ◌≤◌, ◌<◌, ◌+◌, Bool, true, false, inl, inr, List, [], ◌∷◌, ◌++◌, length, map, take, drop, get_or, Some, chars, Result, Ok, Err, OnOk, OnErr, MatchResult, refl, ap, sym, ◌∙◌, subst, append_assoc, arith}
 use Rattle.std.specs.Char.{encode_utf8}
 use Rattle.std.specs.List.{FoldsTo, filter, flat_map, list_all}
 use Rattle.std.specs.Str.{IsAscii, IsUtf8, encode_utf8_all}
@@ -16,9 +16,10 @@ use Rattle.esc_frame.specs.Scans.{is_text_byte}
 use Rattle.esc_values.specs.Clear.{is_clear}
 use Rattle.esc_html.specs.Fed.{Adds, Takes, is_visible, state_of, text_of, with_text}
 use Rattle.esc_html.specs.Marks.{ends_line, print_step, shows}
-use Rattle.esc_html.specs.Pages.{before_character, open_or_not, opened}
+use Rattle.esc_html.specs.Pages.{after_character, before_character, opened, with_tags}
 use Rattle.esc_html.specs.Pieces.{escape_text, html_text, piece_text, text}
 use Rattle.esc_html.specs.declared.page.Page.{Page}
+use Rattle.esc_html.specs.declared.tags.Tags.TheVariants.{Open}
 use Rattle.esc_html.proofs.Fed.{adds_nothing}
 
 -- ---- DEL in a run
@@ -59,7 +60,7 @@ text_more p (b ∷ s) (c ∷ t) =
     let o = html_text (opened (state_of p)) in
     let one = flat_map escape_text (b ∷ s) in
     let two = flat_map escape_text (c ∷ t) in
-    ap (λ x. record p { html = x; is_open = true })
+    ap (λ x. record p { html = x; tags = Open })
     (append_assoc p.html (o ++ one) two ∙ ap (λ x. p.html ++ x) (append_assoc o one two
     ∙ ap (λ x. o ++ x) (sym (flat_map-append escape_text (b ∷ s) (c ∷ t)))))
 
@@ -86,7 +87,7 @@ shown_text p (b ∷ t) l =
     ∙ sym (flat_map-append piece_text o (text (b ∷ t) ∷ [])))
 
 shown_state : {A : Type 0} (p : Page A) (t : List ℕ) → 0 < length t
-    → state_of (with_text p t) ≡ open_or_not (state_of p) true
+    → state_of (with_text p t) ≡ with_tags (state_of p) Open
 shown_state p [] l = absurd (omega (arith, l))
 shown_state p (b ∷ t) l = refl
 
@@ -101,7 +102,7 @@ shown_added p c l e =
     record {
       text = shown_text p t l ∙ ap (λ b. p.html ++ html_text
           (before_character b (state_of p) ++ text t ∷ [])) (sym e);
-      state = shown_state p t l ∙ ap (λ b. open_or_not (state_of p) (not b)) (sym e);
+      state = shown_state p t l ∙ ap (λ b. after_character b (state_of p)) (sym e);
       layout = same_layout p t;
     }
 

@@ -1,5 +1,5 @@
 -- The pieces of a stream are kept and safe.
-use Rattle.std.proofs.Common.{ℕ, suc, ◌≡◌, ◌<◌, ◌==◌, Bool, true, false, ◌&&◌, ◌||◌, if◌then◌else◌, inl, inr, List, [], ◌∷◌, ◌++◌, length, get_or, Option, Some, None, is_some, chars, refl, ap, sym, subst, ◌∙◌, append_assoc, arith}
+use Rattle.std.proofs.Common.{ℕ, suc, ◌≡◌, ◌<◌, ◌-◌, ◌==◌, Bool, true, false, ◌&&◌, ◌||◌, if◌then◌else◌, inl, inr, List, [], ◌∷◌, ◌++◌, length, get_or, Option, Some, None, is_some, chars, refl, ap, sym, subst, ◌∙◌, append_assoc, arith}
 use Rattle.std.specs.Char.{encode_utf8}
 use Rattle.std.specs.List.{list_all}
 use Rattle.std.specs.Str.{IsUtf8, encode_utf8_all}
@@ -18,10 +18,12 @@ use Rattle.esc_typed.specs.Functions.{Value as Function, of_csi, cursor, edit, d
 use Rattle.esc_values.specs.Clear.{is_clear}
 use Rattle.esc_html.specs.Addresses.{is_address_char, is_safe_address}
 use Rattle.esc_looks.specs.Looks.{is_plain}
-use Rattle.esc_html.specs.Marks.{Pen, Step, changes, shows, nothing, address_if, address_of, command_step, control_step, ends_line, function_step, is_page_address, print_step, step_of}
-use Rattle.esc_html.specs.Pages.{State, before_character, closed, closing, link_end_if, link_opening, opening, pieces_by, pieces_from, span_end_unless, span_unless, state_by, state_from}
+use Rattle.esc_html.specs.Marks.{Pen, Step, restyles, redirects, shows, nothing, address_if, address_of, command_step, control_step, ends_line, function_step, is_page_address, print_step, step_of}
+use Rattle.esc_html.specs.Pages.{State, after_character, before_character, closed, closing, link_end_if, link_opening, opening, pieces_by, pieces_from, span_closing, span_end_unless, span_unless, state_by, state_from}
 use Rattle.esc_html.specs.Pieces.{Piece, text, span, span_end, link, link_end, is_kept}
 use Rattle.esc_looks.specs.declared.look.Look.{Look}
+use Rattle.esc_html.specs.declared.tags.Tags.{Tags}
+use Rattle.esc_html.specs.declared.tags.Tags.TheVariants.{Closed, Link, Open}
 
 -- ---- characters that are kept
 
@@ -80,7 +82,8 @@ IsGoodLink None = Unit {0}
 IsGoodLink (Some a) = is_page_address a ≡ true
 
 abbrev pub IsGoodStep : Step → Type 0
-IsGoodStep (changes q) = IsGoodLink q.link
+IsGoodStep (restyles l) = Unit {0}
+IsGoodStep (redirects k) = IsGoodLink k
 IsGoodStep (shows c) = list_all is_kept (encode_utf8 c) ≡ true
 IsGoodStep nothing = Unit {0}
 
@@ -99,20 +102,20 @@ good_control n = by (n == 0x09 || n == 0x0a) refl
     by true e = kept_char n (grind (arith, nat_tests))
     by false e = tt
 
-good_function : (p : Pen) (f : Function) → IsGoodLink p.link → IsGoodStep (function_step p f)
-good_function p (cursor c) h = tt
-good_function p (edit e) h = tt
-good_function p (device d) h = tt
-good_function p (keyboard k) h = tt
-good_function p (mouse m) h = tt
-good_function p (window w) h = tt
-good_function p (mode_status s) h = tt
-good_function p (charset c) h = tt
-good_function p (escape e) h = tt
-good_function p (modes c ms) h = tt
-good_function p (tabs c ns) h = tt
-good_function p (renditions rs) h = h
-good_function p (other u) h = tt
+pub good_function : (p : Pen) (f : Function) → IsGoodStep (function_step p f)
+good_function p (cursor c) = tt
+good_function p (edit e) = tt
+good_function p (device d) = tt
+good_function p (keyboard k) = tt
+good_function p (mouse m) = tt
+good_function p (window w) = tt
+good_function p (mode_status s) = tt
+good_function p (charset c) = tt
+good_function p (escape e) = tt
+good_function p (modes c ms) = tt
+good_function p (tabs c ns) = tt
+good_function p (renditions rs) = tt
+good_function p (other u) = tt
 
 good_address : (b : Bool) (a : List ℕ) → is_page_address a ≡ b → IsGoodLink (address_if b a)
 good_address true a e = e
@@ -122,49 +125,59 @@ good_link : {A : Type 0} (h : Option (Hyperlink A)) → IsGoodLink (address_of h
 good_link None = tt
 good_link (Some h) = good_address (is_page_address h.uri) h.uri refl
 
-good_command : {A : Type 0} (p : Pen) (c : OperatingSystemCommand A) → IsGoodLink p.link
+pub good_command : {A : Type 0} (p : Pen) (c : OperatingSystemCommand A)
     → IsGoodStep (command_step p c)
-good_command p (command.SetHyperlink l) h = good_link l
-good_command p (command.SetIconNameAndWindowTitle t) h = tt
-good_command p (command.SetWindowTitle t) h = tt
-good_command p (command.SetWindowTitleSun t) h = tt
-good_command p (command.SetIconName t) h = tt
-good_command p (command.SetIconNameSun t) h = tt
-good_command p (command.ClearSelection s) h = tt
-good_command p (command.QuerySelection s) h = tt
-good_command p (command.SetSelection s t) h = tt
-good_command p (command.SystemNotification t) h = tt
-good_command p (command.ITermProprietary i) h = tt
-good_command p (command.FinalTermSemanticPrompt q) h = tt
-good_command p (command.ChangeColorNumber cs) h = tt
-good_command p (command.ChangeDynamicColors n cs) h = tt
-good_command p (command.ResetDynamicColor n) h = tt
-good_command p (command.CurrentWorkingDirectory t) h = tt
-good_command p (command.ResetColors cs) h = tt
-good_command p (command.RxvtExtension ts) h = tt
-good_command p (command.ConEmuProgress q) h = tt
-good_command p (command.Unspecified ps) h = tt
+good_command p (command.SetHyperlink l) = good_link l
+good_command p (command.SetIconNameAndWindowTitle t) = tt
+good_command p (command.SetWindowTitle t) = tt
+good_command p (command.SetWindowTitleSun t) = tt
+good_command p (command.SetIconName t) = tt
+good_command p (command.SetIconNameSun t) = tt
+good_command p (command.ClearSelection s) = tt
+good_command p (command.QuerySelection s) = tt
+good_command p (command.SetSelection s t) = tt
+good_command p (command.SystemNotification t) = tt
+good_command p (command.ITermProprietary i) = tt
+good_command p (command.FinalTermSemanticPrompt q) = tt
+good_command p (command.ChangeColorNumber cs) = tt
+good_command p (command.ChangeDynamicColors n cs) = tt
+good_command p (command.ResetDynamicColor n) = tt
+good_command p (command.CurrentWorkingDirectory t) = tt
+good_command p (command.ResetColors cs) = tt
+good_command p (command.RxvtExtension ts) = tt
+good_command p (command.ConEmuProgress q) = tt
+good_command p (command.Unspecified ps) = tt
 
-good_step : {A : Type 0} (p : Pen) (v : Value A) → IsGoodLink p.link → IsHandedOut v
-    → IsGoodStep (step_of p v)
-good_step p (print c) h k = good_print c (k refl)
-good_step p (string t) h k = tt
-good_step p (control c) h k = good_control (code_number c)
-good_step p (esc e) h k = tt
-good_step p (csi c) h k = good_function p (of_csi c) h
-good_step p (osc c) h k = good_command p c h
-good_step p (kitty i) h k = tt
-good_step p (sixel s) h k = tt
-good_step p (termcap ns) h k = tt
-good_step p (short s) h k = tt
-good_step p (enter e) h k = tt
-good_step p (datum b) h k = tt
-good_step p exit h k = tt
+good_step : {A : Type 0} (p : Pen) (v : Value A) → IsHandedOut v → IsGoodStep (step_of p v)
+good_step p (print c) k = good_print c (k refl)
+good_step p (string t) k = tt
+good_step p (control c) k = good_control (code_number c)
+good_step p (esc e) k = tt
+good_step p (csi c) k = good_function p (of_csi c)
+good_step p (osc c) k = good_command p c
+good_step p (kitty i) k = tt
+good_step p (sixel s) k = tt
+good_step p (termcap ns) k = tt
+good_step p (short s) k = tt
+good_step p (enter e) k = tt
+good_step p (datum b) k = tt
+good_step p exit k = tt
 
-good_state : (pl : Bool) (g : State) (s : Step) → IsGoodLink g.pen.link → IsGoodStep s
+pub good_next : (e : Bool) (g : State) → IsGoodLink g.pen.link
+    → IsGoodLink (after_character e g).pen.link
+good_next true g h = by (g.pen.lines == 0)
+  where
+    by : (b : Bool) → IsGoodLink (if b then record g.pen { link = None }
+        else record g.pen { lines = g.pen.lines - 1 }).link
+    by true = tt
+    by false = h
+good_next false g h = h
+
+pub good_state : (pl : Bool) (g : State) (s : Step) → IsGoodLink g.pen.link → IsGoodStep s
     → IsGoodLink (state_by pl g s).pen.link
-good_state pl g (changes q) h k = k
-good_state pl g (shows c) h k = h
+good_state pl g (restyles l) h k = h
+good_state pl g (redirects q) h k = k
+good_state pl g (shows c) h k = good_next (ends_line pl c) g h
 good_state pl g nothing h k = h
 
 -- ---- a test that such pieces pass
@@ -186,23 +199,42 @@ module _ (T : Piece → Bool) (on_span : (i : Bool) (l : Look) → T (span i l) 
   closing_passes false true = rw (on_span_end, on_link_end) refl
   closing_passes false false = rw on_span_end refl
 
-  opened_passes : (b : Bool) (p : Pen) → IsGoodLink p.link
-      → list_all T (if b then [] else opening p) ≡ true
-  opened_passes true p h = refl
-  opened_passes false p h = opening_passes p.inline (is_plain p.look) p.link p.look h
+  span_passes : (i b : Bool) (l : Look) → list_all T (span_unless i b l) ≡ true
+  span_passes i true l = refl
+  span_passes i false l = rw (on_span i l) refl
 
-  closed_passes : (b : Bool) (p : Pen) → list_all T (if b then closing p else []) ≡ true
-  closed_passes true p = closing_passes (is_plain p.look) (is_some p.link)
-  closed_passes false p = refl
+  span_end_passes : (b : Bool) → list_all T (span_end_unless b) ≡ true
+  span_end_passes true = refl
+  span_end_passes false = rw on_span_end refl
+
+  link_end_passes : (b : Bool) → list_all T (link_end_if b) ≡ true
+  link_end_passes true = rw on_link_end refl
+  link_end_passes false = refl
+
+  opened_passes : (t : Tags) (p : Pen) → IsGoodLink p.link → list_all T (opening t p) ≡ true
+  opened_passes Closed p h = opening_passes p.inline (is_plain p.look) p.link p.look h
+  opened_passes Link p h = span_passes p.inline (is_plain p.look) p.look
+  opened_passes Open p h = refl
+
+  closed_passes : (t : Tags) (p : Pen) → list_all T (closing t p) ≡ true
+  closed_passes Closed p = refl
+  closed_passes Link p = link_end_passes (is_some p.link)
+  closed_passes Open p = closing_passes (is_plain p.look) (is_some p.link)
+
+  restyled_passes : (t : Tags) (p : Pen) → list_all T (span_closing t p) ≡ true
+  restyled_passes Closed p = refl
+  restyled_passes Link p = refl
+  restyled_passes Open p = span_end_passes (is_plain p.look)
 
   before_passes : (e : Bool) (g : State) → IsGoodLink g.pen.link
       → list_all T (before_character e g) ≡ true
-  before_passes true g h = closed_passes g.is_open g.pen
-  before_passes false g h = opened_passes g.is_open g.pen h
+  before_passes true g h = closed_passes g.tags g.pen
+  before_passes false g h = opened_passes g.tags g.pen h
 
   step_passes : (pl : Bool) (g : State) (s : Step) → IsGoodLink g.pen.link → IsGoodStep s
       → list_all T (pieces_by pl g s) ≡ true
-  step_passes pl g (changes q) h k = closed_passes g.is_open g.pen
+  step_passes pl g (restyles l) h k = restyled_passes g.tags g.pen
+  step_passes pl g (redirects q) h k = closed_passes g.tags g.pen
   step_passes pl g (shows c) h k =
       list_all-append T (before_character (ends_line pl c) g) (text (encode_utf8 c) ∷ [])
       ∙ ap (λ b. b && (T (text (encode_utf8 c)) && true)) (before_passes (ends_line pl c) g h)
@@ -212,10 +244,10 @@ module _ (T : Piece → Bool) (on_span : (i : Bool) (l : Look) → T (span i l) 
   pub page_passes : {A : Type 0} (pl : Bool) (g : State) (vs : List (Value A))
       → IsGoodLink g.pen.link → AreHandedOut vs
       → list_all T (pieces_from pl g vs ++ closed (state_from pl g vs)) ≡ true
-  page_passes pl g [] h k = closed_passes g.is_open g.pen
+  page_passes pl g [] h k = closed_passes g.tags g.pen
   page_passes pl g (v ∷ vs) h (k, ks) =
       let s = step_of g.pen v in
-      let good = good_step g.pen v h k in
+      let good = good_step g.pen v k in
       let rest = pieces_from pl (state_by pl g s) vs in
       let last = closed (state_from pl (state_by pl g s) vs) in
       ap (list_all T) (append_assoc (pieces_by pl g s) rest last)

@@ -5,9 +5,10 @@ use Rattle.esc_actions.specs.Values.{csi, value_of}
 use Rattle.esc_actions.specs.declared.action.Action.{Action}
 use Rattle.esc_actions.specs.declared.action.Action.TheVariants as action
 use Rattle.esc_html.specs.Fed.{Adds, Takes, state_of}
-use Rattle.esc_html.specs.Marks.{Pen, changes, function_step}
-use Rattle.esc_html.specs.Renditions.{rendition_of, with_rendition}
+use Rattle.esc_html.specs.Marks.{Pen, function_step, restyles}
+use Rattle.esc_html.specs.Renditions.{rendition_of}
 use Rattle.esc_html.specs.declared.page.Page.{Page}
+use Rattle.esc_looks.specs.Looks.{look_by}
 use Rattle.esc_parse.specs.Given.{By, StopsAt}
 use Rattle.esc_sequences.specs.Csis.{CsiValue, sgr, unspecified}
 use Rattle.esc_sequences.specs.declared.csi.CSI.TheVariants as csi_variant
@@ -77,7 +78,7 @@ sequence_refused p q vs es more f e r =
 
 -- a rendition by itself does what one of all does
 pub same_rendition : (p : Pen) (s : Sgr)
-    → changes (with_rendition p (rendition_of s)) ≡ function_step p (of_csi (sgr s))
+    → restyles (look_by p.look (rendition_of s)) ≡ function_step p (of_csi (sgr s))
 same_rendition p known.Reset = refl
 same_rendition p (known.Intensity intensity.Bold) = refl
 same_rendition p (known.Intensity intensity.Half) = refl

@@ -12,6 +12,7 @@ use Rattle.esc_html.specs.Pieces.{is_kept, is_kept_piece, piece_text}
 use Rattle.esc_html.specs.Shown.{IsPage, shown}
 use Rattle.esc_html.specs.Tokens.{tokens}
 use Rattle.esc_html.specs.declared.layout.Layout.{Layout}
+use Rattle.esc_html.proofs.Bounded.{page_bounded}
 use Rattle.esc_html.proofs.Listing.{pieces_are_listed, pieces_close}
 use Rattle.esc_html.proofs.Pages.{pages_nest, pages_show}
 use Rattle.esc_html.proofs.Reading.{pieces_read_back}
@@ -37,4 +38,5 @@ page_is {A} limit y s h =
           (pieces_close ps kept (pages_nest y.per_line first vs));
       shows = sym (ap (λ x. shown [] (tokens x)) same) ∙ ap (shown []) (pieces_read_back ps kept)
           ∙ pages_show y.per_line first vs;
+      bounded = page_bounded A limit y s;
     }

@@ -1,6 +1,7 @@
 -- Attributes that are written part by part.
 use Rattle.std.specs.Prelude.{ℕ, Bool, true, false, if◌then◌else◌, List, [], ◌∷◌, ◌++◌, codes, Option, Some, None}
-use Rattle.esc_looks.specs.Classes.{class_name, class_names}
+use Rattle.esc_html.specs.Names.{span_names}
+use Rattle.esc_looks.specs.Classes.{class_name}
 use Rattle.esc_looks.specs.Styles.{style_text, styles_text}
 use Rattle.esc_looks.specs.declared.class.Class.{Class}
 use Rattle.esc_looks.specs.declared.style.Style.{Style}
@@ -12,11 +13,11 @@ is_empty (x ∷ xs) = false
 -- the attribute `class` without the quote that ends it, where there are classes
 abbrev pub begun_classes : List Class → List ℕ
 begun_classes [] = []
-begun_classes (c ∷ cs) = codes " class=\"" ++ class_names (c ∷ cs)
+begun_classes (c ∷ cs) = codes " class=\"" ++ span_names (c ∷ cs)
 
--- what a class adds to it
+-- what a class adds to it: its name with the prefix
 abbrev pub class_opener : Bool → List ℕ
-class_opener first = if first then codes " class=\"" else codes " "
+class_opener first = if first then codes " class=\"es-" else codes " es-"
 
 abbrev pub next_class : Bool → Option Class → List ℕ
 next_class first None = []

@@ -1,15 +1,17 @@
 -- What a page was fed.
-use Rattle.std.specs.Prelude.{ℕ, ◌≡◌, ◌==◌, Bool, not, true, false, List, [], ◌∷◌, ◌++◌, Some}
+use Rattle.std.specs.Prelude.{ℕ, ◌≡◌, ◌==◌, Bool, not, false, List, [], ◌∷◌, ◌++◌, Some}
 use Rattle.std.specs.List.{flat_map}
 use Rattle.esc_actions.specs.Values.{value_of}
 use Rattle.esc_actions.specs.declared.action.Action.{Action}
 use Rattle.esc_parse.specs.Fed.{IsBroken as IsBrokenParser, WasFedWithin}
+use Rattle.esc_html.specs.Bounds.{IsBoundedPiece}
 use Rattle.esc_html.specs.Marks.{Step, step_of}
 use Rattle.esc_html.specs.Pages.{State, closed, opened, page_text, pieces_by, state_by, state_of_stream}
 use Rattle.esc_html.specs.Pieces.{escape_text, html_text}
 use Rattle.esc_html.specs.declared.html_writer.HtmlWriter.{HtmlWriter}
 use Rattle.esc_html.specs.declared.layout.Layout.{Layout}
 use Rattle.esc_html.specs.declared.page.Page.{Page}
+use Rattle.esc_html.specs.declared.tags.Tags.TheVariants.{Open}
 
 -- what a page is at
 abbrev pub state_of : {A : Type 0} → Page A → State
@@ -17,9 +19,10 @@ state_of p = record {
   pen = record {
     look = p.look;
     link = p.link;
+    lines = p.lines;
     inline = p.layout.inline;
   };
-  is_open = p.is_open;
+  tags = p.tags;
 }
 
 -- its text
@@ -31,7 +34,7 @@ abbrev pub with_text : {A : Type 0} → Page A → List ℕ → Page A
 with_text p [] = p
 with_text p (b ∷ t) = record p {
   html = p.html ++ (html_text (opened (state_of p)) ++ flat_map escape_text (b ∷ t));
-  is_open = true;
+  tags = Open;
 }
 
 -- any character but DEL, of which terminals show nothing
@@ -78,7 +81,8 @@ closing_of w = html_text (closed (state_of w.page))
 abbrev pub After : {A : Type 0} → HtmlWriter A → (ℕ → Layout → List ℕ → Type 0) → Type 0
 After w C = (limit : ℕ) (y : Layout) (s : List ℕ) → WasFed limit y s w → C limit y s
 
--- the writer, which was fed s, was fed b too, and has the text that b adds
+-- the writer, which was fed s, was fed b too, and has the text that b adds, which is bounded
 abbrev pub TakesIn : {A : Type 0} → ℕ → Layout → List ℕ → List ℕ → HtmlWriter A → Type 0
 TakesIn {A} limit y s b w = WasFed limit y (s ++ b) w
     × (page_text A (Some limit) y (s ++ b) ≡ page_text A (Some limit) y s ++ added_by w)
+    × IsBoundedPiece b (added_by w)

@@ -40,7 +40,7 @@ ansi_rgb ansi.BrightWhite = (0x8c, 0x95, 0x9f)
 abbrev pub weight_text : Intensity → List ℕ
 weight_text intensity.Normal = []
 weight_text intensity.Bold = codes "font-weight:bold;"
-weight_text intensity.Half = codes "opacity:0.65;"
+weight_text intensity.Half = codes "opacity:0.8;"
 
 -- whether they are slanted
 abbrev pub slant_text : Bool → List ℕ

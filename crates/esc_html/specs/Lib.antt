@@ -1,6 +1,7 @@
 pub mod Attributes
 pub mod Inline
 pub mod Tokens
+pub mod Names
 pub mod Pieces
 pub mod Growing
 pub mod Addresses
@@ -11,3 +12,4 @@ pub mod Renditions
 pub mod Pages
 pub mod Shown
 pub mod Fed
+pub mod Bounds

@@ -15,7 +15,7 @@ IsSpan n attributes = (n ≡ codes "span")
 -- a link to a safe address, which says nothing of this page to the one that it leads to
 abbrev pub IsLink : List ℕ → List (List ℕ × List ℕ) → Type 0
 IsLink n attributes = (n ≡ codes "a") × ((a : List ℕ) × (is_safe_address a ≡ true)
-    × (attributes ≡ (codes "href", a) ∷ (codes "rel", codes "noopener noreferrer") ∷ []))
+    × (attributes ≡ (codes "href", a) ∷ (codes "rel", codes "nofollow noopener noreferrer") ∷ []))
 
 -- a character, a tag of a span or a tag of a link
 abbrev pub IsListed : Token → Type 0

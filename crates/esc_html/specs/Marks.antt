@@ -1,24 +1,24 @@
 -- The characters of a stream, with the looks and the links that hold for them.
-use Rattle.std.specs.Prelude.{ℕ, ◌==◌, Bool, true, false, not, ◌&&◌, ◌||◌, if◌then◌else◌, List, [], ◌∷◌, ◌++◌, Option, Some, None}
+use Rattle.std.specs.Prelude.{ℕ, ◌==◌, ◌-◌, Bool, true, false, not, ◌&&◌, ◌||◌, if◌then◌else◌, List, [], ◌∷◌, ◌++◌, Option, Some, None}
 use Rattle.std.specs.List.{list_all}
 use Rattle.esc_actions.specs.ControlCodes.{code_number}
 use Rattle.esc_actions.specs.Values.{Value, print, control, csi, osc}
 use Rattle.esc_links.specs.declared.hyperlink.Hyperlink.{Hyperlink}
 use Rattle.esc_osc.specs.declared.command.OperatingSystemCommand.{OperatingSystemCommand}
 use Rattle.esc_osc.specs.declared.command.OperatingSystemCommand.TheVariants.{SetHyperlink}
-use Rattle.esc_values.specs.declared.csi_param.CsiParam.{CsiParam}
-use Rattle.esc_typed.specs.declared.rendition.Rendition.{Rendition}
 use Rattle.esc_typed.specs.Functions.{Value as Function, renditions, of_csi}
 use Rattle.esc_html.specs.Addresses.{is_safe_address}
 use Rattle.esc_looks.specs.Looks.{look_by_all, plain_look}
 use Rattle.esc_html.specs.Pieces.{is_kept}
 use Rattle.esc_looks.specs.declared.look.Look.{Look}
 
--- what holds for the characters that come: their look, the address that they lead to, and whether
--- looks are declarations alone
+-- what holds for the characters that come: their look, the address that they lead to, on how many
+-- more lines they may, where tags are closed at the end of each, and whether looks are declarations
+-- alone
 pub record Pen : Type 0 where
   pub look : Look
   pub link : Option (List ℕ)
+  pub lines : ℕ
   pub inline : Bool
 
 -- at first
@@ -26,6 +26,7 @@ abbrev pub plain_pen : Bool → Pen
 plain_pen b = record {
   look = plain_look;
   link = None;
+  lines = 0;
   inline = b;
 }
 
@@ -42,9 +43,11 @@ abbrev pub address_of : {A : Type 0} → Option (Hyperlink A) → Option (List �
 address_of None = None
 address_of (Some h) = address_if (is_page_address h.uri) h.uri
 
--- what a value does: another pen holds from here on, a character is shown, or nothing
+-- what a value does: another look holds from here on, or another address, a character is shown, or
+-- nothing
 pub data Step : Type 0 where
-  changes : Pen → Step
+  restyles : Look → Step
+  redirects : Option (List ℕ) → Step
   shows : ℕ → Step
   nothing : Step
 
@@ -56,18 +59,27 @@ print_step c = if c == 0x7f then nothing else shows c
 abbrev pub control_step : ℕ → Step
 control_step n = if n == 0x09 || n == 0x0a then shows n else nothing
 
-abbrev pub with_look : Pen → List (Option Rendition × List CsiParam) → Pen
-with_look p rs = record p { look = look_by_all p.look rs }
+abbrev pub with_look : Pen → Look → Pen
+with_look p l = record p { look = l }
+
+-- on how many more lines than its first one a link is opened, where tags are closed at the end of
+-- each line
+abbrev pub more_lines : ℕ
+more_lines = 15
 
 abbrev pub with_link : Pen → Option (List ℕ) → Pen
-with_link p k = record p { link = k }
+with_link p k = record p { link = k; lines = more_lines }
+
+-- at the beginning of the next line, where tags are closed at the end of each
+abbrev pub next_line : Pen → Pen
+next_line p = if p.lines == 0 then record p { link = None } else record p { lines = p.lines - 1 }
 
 abbrev pub function_step : Pen → Function → Step
-function_step p (renditions rs) = changes (with_look p rs)
+function_step p (renditions rs) = restyles (look_by_all p.look rs)
 function_step p _ = nothing
 
 abbrev pub command_step : {A : Type 0} → Pen → OperatingSystemCommand A → Step
-command_step p (SetHyperlink h) = changes (with_link p (address_of h))
+command_step p (SetHyperlink h) = redirects (address_of h)
 command_step p _ = nothing
 
 abbrev pub step_of : {A : Type 0} → Pen → Value A → Step
@@ -105,15 +117,21 @@ is_shown _ = false
 
 -- ---- values, one after another
 
--- the pen after a step
-abbrev pub pen_by : Pen → Step → Pen
-pen_by p (changes q) = q
-pen_by p (shows c) = p
-pen_by p nothing = p
-
 -- a line feed ends a line, where what is open is closed at the end of each
 abbrev pub ends_line : Bool → ℕ → Bool
 ends_line per_line c = per_line && c == 0x0a
+
+-- the pen after a character, which ends a line or not
+abbrev pub pen_after : Bool → Pen → Pen
+pen_after true p = next_line p
+pen_after false p = p
+
+-- the pen after a step
+abbrev pub pen_by : Bool → Pen → Step → Pen
+pen_by per_line p (restyles l) = with_look p l
+pen_by per_line p (redirects k) = with_link p k
+pen_by per_line p (shows c) = pen_after (ends_line per_line c) p
+pen_by per_line p nothing = p
 
 -- the pen that holds for a character: the first one for a line feed that ends a line
 abbrev pub pen_at : Bool → Pen → Pen
@@ -123,11 +141,12 @@ pen_at false p = p
 -- the character of a step
 abbrev pub marked : Bool → Pen → Step → List (ℕ × Pen)
 marked per_line p (shows c) = (c, pen_at (ends_line per_line c) p) ∷ []
-marked per_line p (changes q) = []
+marked per_line p (restyles l) = []
+marked per_line p (redirects k) = []
 marked per_line p nothing = []
 
 -- the characters of values with what holds for each, where this pen holds before them
 abbrev pub marks : {A : Type 0} → Bool → Pen → List (Value A) → List (ℕ × Pen)
 marks per_line p [] = []
 marks per_line p (v ∷ vs) =
-    marked per_line p (step_of p v) ++ marks per_line (pen_by p (step_of p v)) vs
+    marked per_line p (step_of p v) ++ marks per_line (pen_by per_line p (step_of p v)) vs

@@ -1,23 +1,25 @@
 -- The pieces of a stream.
-use Rattle.std.specs.Prelude.{ℕ, Bool, true, false, not, if◌then◌else◌, List, [], ◌∷◌, ◌++◌, Option, Some, None, is_some}
+use Rattle.std.specs.Prelude.{ℕ, Bool, true, false, List, [], ◌∷◌, ◌++◌, Option, Some, None, is_some}
 use Rattle.std.specs.Char.{encode_utf8}
 use Rattle.esc_actions.specs.Meaning.{meaning_within}
 use Rattle.esc_actions.specs.Values.{Value}
 use Rattle.esc_looks.specs.Looks.{is_plain}
-use Rattle.esc_html.specs.Marks.{Pen, Step, changes, shows, nothing, ends_line, plain_pen, step_of}
+use Rattle.esc_html.specs.Marks.{Pen, Step, restyles, redirects, shows, nothing, ends_line, next_line, plain_pen, step_of, with_link, with_look}
 use Rattle.esc_html.specs.Pieces.{Piece, html_text, link, link_end, span, span_end, text}
 use Rattle.esc_looks.specs.declared.look.Look.{Look}
 use Rattle.esc_html.specs.declared.layout.Layout.{Layout}
+use Rattle.esc_html.specs.declared.tags.Tags.{Tags}
+use Rattle.esc_html.specs.declared.tags.Tags.TheVariants.{Closed, Link, Open}
 
--- what a page is at: the pen, and whether the tags of it are open
+-- what a page is at: the pen, and which tags of it are open
 pub record State : Type 0 where
   pub pen : Pen
-  pub is_open : Bool
+  pub tags : Tags
 
 abbrev pub first_state : Bool → State
 first_state b = record {
   pen = plain_pen b;
-  is_open = false;
+  tags = Closed;
 }
 
 abbrev pub link_opening : Option (List ℕ) → List Piece
@@ -37,44 +39,74 @@ abbrev pub span_end_unless : Bool → List Piece
 span_end_unless true = []
 span_end_unless false = span_end ∷ []
 
--- the tags of a pen: a link, and in it a span
-abbrev pub opening : Pen → List Piece
-opening p = link_opening p.link ++ span_unless p.inline (is_plain p.look) p.look
+-- The tags of a pen: a link, and in it a span. What opens those that are not open:
+abbrev pub opening : Tags → Pen → List Piece
+opening Closed p = link_opening p.link ++ span_unless p.inline (is_plain p.look) p.look
+opening Link p = span_unless p.inline (is_plain p.look) p.look
+opening Open p = []
 
-abbrev pub closing : Pen → List Piece
-closing p = span_end_unless (is_plain p.look) ++ link_end_if (is_some p.link)
+-- what closes those that are open
+abbrev pub closing : Tags → Pen → List Piece
+closing Closed p = []
+closing Link p = link_end_if (is_some p.link)
+closing Open p = span_end_unless (is_plain p.look) ++ link_end_if (is_some p.link)
 
--- what opens them, where they are not open
+-- and what closes the span alone, so that the link stays open
+abbrev pub span_closing : Tags → Pen → List Piece
+span_closing Closed p = []
+span_closing Link p = []
+span_closing Open p = span_end_unless (is_plain p.look)
+
+abbrev pub without_span : Tags → Tags
+without_span Closed = Closed
+without_span Link = Link
+without_span Open = Link
+
 abbrev pub opened : State → List Piece
-opened g = if g.is_open then [] else opening g.pen
+opened g = opening g.tags g.pen
 
--- what closes them, where they are open
 abbrev pub closed : State → List Piece
-closed g = if g.is_open then closing g.pen else []
+closed g = closing g.tags g.pen
 
--- the same, but for whether they are open
-abbrev pub open_or_not : State → Bool → State
-open_or_not g b = record g { is_open = b }
+abbrev pub span_closed : State → List Piece
+span_closed g = span_closing g.tags g.pen
 
--- what comes before a character: at the end of a line the tags are closed, and else they are open
+-- the same, but for the tags that are open
+abbrev pub with_tags : State → Tags → State
+with_tags g t = record g { tags = t }
+
+-- the state after a character: at the end of a line the tags are closed, and else they are open
+abbrev pub after_character : Bool → State → State
+after_character true g = record {
+  pen = next_line g.pen;
+  tags = Closed;
+}
+after_character false g = with_tags g Open
+
+-- what comes before it
 abbrev pub before_character : Bool → State → List Piece
 before_character true g = closed g
 before_character false g = opened g
 
 -- the pieces of a step
 abbrev pub pieces_by : Bool → State → Step → List Piece
-pieces_by per_line g (changes p) = closed g
+pieces_by per_line g (restyles l) = span_closed g
+pieces_by per_line g (redirects k) = closed g
 pieces_by per_line g (shows c) =
     before_character (ends_line per_line c) g ++ text (encode_utf8 c) ∷ []
 pieces_by per_line g nothing = []
 
 -- the state after it
 abbrev pub state_by : Bool → State → Step → State
-state_by per_line g (changes p) = record {
-  pen = p;
-  is_open = false;
+state_by per_line g (restyles l) = record {
+  pen = with_look g.pen l;
+  tags = without_span g.tags;
 }
-state_by per_line g (shows c) = open_or_not g (not (ends_line per_line c))
+state_by per_line g (redirects k) = record {
+  pen = with_link g.pen k;
+  tags = Closed;
+}
+state_by per_line g (shows c) = after_character (ends_line per_line c) g
 state_by per_line g nothing = g
 
 -- the pieces of values, and the state after them

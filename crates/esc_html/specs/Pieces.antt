@@ -3,10 +3,10 @@
 use Rattle.std.specs.Prelude.{ℕ, ◌==◌, Bool, true, false, not, ◌&&◌, ◌||◌, if◌then◌else◌, List, [], ◌∷◌, ◌++◌, codes, map}
 use Rattle.std.specs.List.{flat_map, list_all}
 use Rattle.std.specs.Str.{encode_utf8_all}
-use Rattle.esc_looks.specs.Classes.{class_names}
 use Rattle.esc_looks.specs.Looks.{look_classes, look_styles, present}
 use Rattle.esc_looks.specs.Styles.{styles_text}
 use Rattle.esc_html.specs.Inline.{inline_text}
+use Rattle.esc_html.specs.Names.{span_names}
 use Rattle.esc_html.specs.Tokens.{Token, character, start_tag, end_tag}
 use Rattle.esc_looks.specs.declared.class.Class.{Class}
 use Rattle.esc_looks.specs.declared.look.Look.{Look}
@@ -50,7 +50,7 @@ escape_value c = escape 0x22 c
 -- styles where there are some
 abbrev pub class_attribute : List Class → List (List ℕ × List ℕ)
 class_attribute [] = []
-class_attribute (c ∷ cs) = (codes "class", class_names (c ∷ cs)) ∷ []
+class_attribute (c ∷ cs) = (codes "class", span_names (c ∷ cs)) ∷ []
 
 abbrev pub style_attribute : List Style → List (List ℕ × List ℕ)
 style_attribute [] = []
@@ -74,7 +74,7 @@ piece_text (text t) = flat_map escape_text t
 piece_text (span b l) = codes "<span" ++ (attributes_text (span_attributes b l) ++ codes ">")
 piece_text span_end = codes "</span>"
 piece_text (link a) =
-    codes "<a href=\"" ++ (flat_map escape_value a ++ codes "\" rel=\"noopener noreferrer\">")
+    codes "<a href=\"" ++ (flat_map escape_value a ++ codes "\" rel=\"nofollow noopener noreferrer\">")
 piece_text link_end = codes "</a>"
 
 abbrev pub html_text : List Piece → List ℕ
@@ -86,7 +86,7 @@ piece_tokens (text t) = map character t
 piece_tokens (span b l) = start_tag (codes "span") (span_attributes b l) ∷ []
 piece_tokens span_end = end_tag (codes "span") ∷ []
 piece_tokens (link a) = start_tag (codes "a")
-    ((codes "href", a) ∷ (codes "rel", codes "noopener noreferrer") ∷ []) ∷ []
+    ((codes "href", a) ∷ (codes "rel", codes "nofollow noopener noreferrer") ∷ []) ∷ []
 piece_tokens link_end = end_tag (codes "a") ∷ []
 
 abbrev pub tokens_of : List Piece → List Token

@@ -1,6 +1,4 @@
 -- The renditions that are control sequences by themselves.
-use Rattle.esc_html.specs.Marks.{Pen}
-use Rattle.esc_looks.specs.Looks.{look_by}
 use Rattle.esc_sequences.specs.declared.sgr.Sgr.{Sgr}
 use Rattle.esc_sequences.specs.declared.sgr.Sgr.TheVariants as sgr
 use Rattle.esc_typed.specs.declared.rendition.Rendition.{Rendition}
@@ -12,6 +10,3 @@ rendition_of sgr.Reset = Reset
 rendition_of (sgr.Intensity i) = Intensity i
 rendition_of (sgr.Italic b) = Italic b
 rendition_of (sgr.Underline u) = Underline u
-
-abbrev pub with_rendition : Pen → Rendition → Pen
-with_rendition p r = record p { look = look_by p.look r }

@@ -3,6 +3,7 @@ use Rattle.std.specs.Prelude.{ℕ, ◌≡◌, Bool, true, false, List, [], ◌�
 use Rattle.std.specs.Char.{encode_utf8}
 use Rattle.std.specs.List.{All, flat_map}
 use Rattle.esc_actions.specs.Meaning.{meaning_within}
+use Rattle.esc_html.specs.Bounds.{IsBounded}
 use Rattle.esc_html.specs.Listed.{IsListed, closes}
 use Rattle.esc_looks.specs.Looks.{is_plain}
 use Rattle.esc_html.specs.Marks.{Pen, marks, plain_pen}
@@ -30,7 +31,7 @@ shown es (stray ∷ ts) = shown es ts
 abbrev pub link_elements : Option (List ℕ) → List Element
 link_elements None = []
 link_elements (Some a) =
-    (codes "a", (codes "href", a) ∷ (codes "rel", codes "noopener noreferrer") ∷ []) ∷ []
+    (codes "a", (codes "href", a) ∷ (codes "rel", codes "nofollow noopener noreferrer") ∷ []) ∷ []
 
 abbrev pub span_elements_unless : Bool → Bool → Look → List Element
 span_elements_unless b true l = []
@@ -55,3 +56,5 @@ pub record IsPage (A : Type 0) (limit : Option ℕ) (y : Layout) (s t : List ℕ
   pub shows : shown [] (tokens t)
       ≡ flat_map marked_bytes
       (marks {A = A} y.per_line (plain_pen y.inline) (meaning_within limit s))
+  -- and it is at most 150 times as long as the stream, and 150 bytes more
+  pub bounded : IsBounded s t

@@ -2,21 +2,35 @@
 ghost use Rattle.std.specs.Prelude.{◌≡◌};
 ghost use Rattle.std.specs.List.{list_all};
 ghost use Rattle.std.specs.Str.{chars};
-ghost use Rattle.esc_html.specs.Addresses.{has_scheme, is_address_char, is_safe_address};
+ghost use Rattle.esc_html.specs.Addresses.{has_scheme, is_address_char, is_safe_address, is_short};
 
-/// Whether a link may lead to this address: its scheme is `http`, `https` or `mailto`, in letters
-/// of either case (RFC 3986, 3.1), and it has no control and no space. A browser leaves out tabs,
-/// line ends and what comes before the scheme (WHATWG URL, 4.4), so an address that has one of them
-/// is refused, and not read as it would be without.
+// How many bytes of an address VTE and iTerm2 take.
+const LONGEST_ADDRESS: usize = 2083;
+
+/// Whether a link may lead to this address: its scheme is `http` or `https` with `//`, or `mailto`,
+/// in letters of either case (RFC 3986, 3.1), and it has no control and no space. A browser leaves
+/// out tabs, line ends and what comes before the scheme, and takes what has no `//` for an address
+/// of the page's own host (WHATWG URL, 4.4): so such an address is refused. So is one of more than
+/// 2,083 bytes, as in VTE and iTerm2.
 pub fn is_safe_address(address: &str) -> bool
     ensures { result ≡ is_safe_address address.now }
 {
     let bytes = address.as_bytes();
-    (has_scheme(bytes, b"http:") || has_scheme(bytes, b"https:") || has_scheme(bytes, b"mailto:"))
+    is_short(bytes)
+        && (has_scheme(bytes, b"http://")
+            || has_scheme(bytes, b"https://")
+            || has_scheme(bytes, b"mailto:"))
         && are_address_chars(address)
 }
 
-// Whether these bytes begin with a scheme and its colon.
+// Whether these bytes are no longer than terminals take.
+fn is_short(address: &[u8]) -> bool
+    ensures { result ≡ is_short address.now }
+{
+    address.len() <= LONGEST_ADDRESS
+}
+
+// Whether these bytes begin with a scheme and what follows it.
 fn has_scheme(address: &[u8], scheme: &[u8]) -> bool
     ensures { result ≡ has_scheme scheme.now address.now }
 {

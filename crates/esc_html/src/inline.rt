@@ -88,7 +88,7 @@ fn weight(intensity: Intensity) -> &'static str
     match intensity {
         Intensity::Normal => "",
         Intensity::Bold => "font-weight:bold;",
-        Intensity::Half => "opacity:0.65;",
+        Intensity::Half => "opacity:0.8;",
     }
 }
 

@@ -7,7 +7,7 @@
 //! ```text
 //! let mut writer = HtmlWriter::new(alloc, 65_536, false);
 //! writer.feed(b"\x1b[1;31m<b>")?;
-//! writer.html()       // "<span class=\"bold fg-red\">&lt;b&gt;"
+//! writer.html()       // "<span class=\"es-bold es-fg-red\">&lt;b&gt;"
 //! writer.closing()    // "</span>"
 //! ```
 //!
@@ -28,6 +28,7 @@ mod page;
 mod plain;
 mod shown;
 mod tag;
+mod tags;
 mod writing;
 
 pub use address::is_safe_address;

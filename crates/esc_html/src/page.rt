@@ -1,14 +1,15 @@
 //! What writes a page, action by action.
-ghost use Rattle.std.specs.Prelude.{◌≡◌, ◌++◌, [], OnErr, OnOk, false, not, true};
+ghost use Rattle.std.specs.Prelude.{◌≡◌, ◌++◌, [], OnErr, OnOk, true};
 ghost use Rattle.std.specs.List.{filter, list_all};
 ghost use Rattle.esc_frame.specs.Scans.{is_text_byte};
 ghost use Rattle.esc_html.specs.Fed.{Adds, Takes, is_visible, state_of, text_of, with_text};
-ghost use Rattle.esc_looks.specs.Looks.{is_plain};
-ghost use Rattle.esc_html.specs.Marks.{address_of, changes, command_step, control_step, function_step, is_page_address, print_step, shows, with_link, with_look};
-ghost use Rattle.esc_html.specs.Pages.{before_character, closed, first_state, link_end_if, link_opening, open_or_not, opened, span_end_unless, span_unless};
+ghost use Rattle.esc_looks.specs.Looks.{is_plain, look_by, look_by_all};
+ghost use Rattle.esc_html.specs.Marks.{address_of, command_step, control_step, function_step, is_page_address, next_line, print_step, redirects, restyles, shows, with_link};
+ghost use Rattle.esc_html.specs.Pages.{State, after_character, before_character, closed, first_state, link_opening, opened, span_closed, span_unless, with_tags, without_span};
 ghost use Rattle.esc_html.specs.Pieces.{html_text};
-ghost use Rattle.esc_html.specs.Renditions.{rendition_of, with_rendition};
+ghost use Rattle.esc_html.specs.Renditions.{rendition_of};
 ghost use Rattle.esc_sequences.specs.Csis.{sgr, unspecified};
+ghost use Rattle.esc_html.specs.declared.tags.Tags.TheVariants.{Closed, Open};
 ghost use Rattle.esc_typed.specs.Functions.{of_csi, value_of};
 ghost use Rattle.esc_typed.specs.Selections.{left};
 ghost use Rattle.memory.specs.Refusals.{Refused};
@@ -17,6 +18,7 @@ use crate::address::is_safe_address;
 use crate::layout::Layout;
 use crate::markup::Markup;
 use crate::plain::is_plain;
+use crate::tags::{Tags, closing_tags, link_end, span_end};
 use esc_actions::Action;
 use esc_links::Hyperlink;
 use esc_looks::Look;
@@ -30,6 +32,10 @@ use memchr::memchr;
 use std::alloc::{AllocError, Allocator, Global};
 use std::str;
 
+// On how many more lines than its first one a link is opened, where tags are closed at the end of
+// each line.
+const MORE_LINES: u8 = 15;
+
 /// The text of a page so far, and what holds for the characters that come.
 #[derive(Drop)]
 pub(crate) struct Page<A: Allocator = Global> {
@@ -39,8 +45,10 @@ pub(crate) struct Page<A: Allocator = Global> {
     pub look: Look,
     /// The address that they lead to.
     pub link: Option<Text<A>>,
-    /// Whether the tags of the look and the link are open.
-    pub is_open: bool,
+    /// On how many more lines they may, where tags are closed at the end of each.
+    pub lines: u8,
+    /// Which tags are open.
+    pub tags: Tags,
     /// How it is laid out.
     pub layout: Layout,
 }
@@ -56,7 +64,8 @@ impl<A: Allocator> Page<A> {
             html: Markup::new(alloc),
             look: Look::plain(),
             link: None,
-            is_open: false,
+            lines: 0,
+            tags: Tags::Closed,
             layout,
         }
     }
@@ -100,39 +109,50 @@ impl<A: Allocator> Page<A> {
         self.html.push_span(self.layout.inline, &self.look)
     }
 
-    // Opens the tags, where they are not open.
+    // Opens the tags that are not open.
     fn open(&mut self) -> Result<(), AllocError>
         ensures ok { OnOk result (text_of self.new
             ≡ text_of self.old ++ html_text (opened (state_of self.old))) }
-        ensures state { OnOk result (state_of self.new
-            ≡ open_or_not (state_of self.old) true) }
+        ensures state { OnOk result (state_of self.new ≡ with_tags (state_of self.old) Open) }
         ensures layout { OnOk result (self.new.layout ≡ self.old.layout) }
         ensures refused { OnErr result (Refused A) }
     {
-        if self.is_open {
-            return Ok(());
+        match self.tags {
+            Tags::Open => return Ok(()),
+            Tags::Link => {}
+            Tags::Closed => self.open_link()?,
         }
-        self.open_link()?;
         self.open_span()?;
-        self.is_open = true;
+        self.tags = Tags::Open;
         Ok(())
     }
 
-    // Closes the tags, where they are open.
+    // Closes the tags that are open.
     fn close(&mut self) -> Result<(), AllocError>
         ensures ok { OnOk result (text_of self.new
             ≡ text_of self.old ++ html_text (closed (state_of self.old))) }
-        ensures state { OnOk result (state_of self.new
-            ≡ open_or_not (state_of self.old) false) }
+        ensures state { OnOk result (state_of self.new ≡ with_tags (state_of self.old) Closed) }
         ensures layout { OnOk result (self.new.layout ≡ self.old.layout) }
         ensures refused { OnErr result (Refused A) }
     {
-        if !self.is_open {
-            return Ok(());
-        }
         let closing = self.closing();
         self.html.push_html(closing)?;
-        self.is_open = false;
+        self.tags = Tags::Closed;
+        Ok(())
+    }
+
+    // Closes the span alone.
+    fn close_span(&mut self) -> Result<(), AllocError>
+        ensures ok { OnOk result (text_of self.new
+            ≡ text_of self.old ++ html_text (span_closed (state_of self.old))) }
+        ensures state { OnOk result (state_of self.new
+            ≡ with_tags (state_of self.old) (without_span (state_of self.old).tags)) }
+        ensures layout { OnOk result (self.new.layout ≡ self.old.layout) }
+        ensures refused { OnErr result (Refused A) }
+    {
+        let closing = self.span_closing();
+        self.html.push_html(closing)?;
+        self.tags = self.tags.without_span();
         Ok(())
     }
 
@@ -140,10 +160,38 @@ impl<A: Allocator> Page<A> {
     pub fn closing(&self) -> &'static str
         ensures { result.now ≡ html_text (closed (state_of self.now)) }
     {
-        if !self.is_open {
-            return "";
+        match self.tags {
+            Tags::Closed => "",
+            Tags::Link => link_end(self.link.is_some()),
+            Tags::Open => closing_tags(is_plain(&self.look), self.link.is_some()),
         }
-        closing_tags(is_plain(&self.look), self.link.is_some())
+    }
+
+    // What closes the span.
+    fn span_closing(&self) -> &'static str
+        ensures { result.now ≡ html_text (span_closed (state_of self.now)) }
+    {
+        match self.tags {
+            Tags::Closed | Tags::Link => "",
+            Tags::Open => span_end(is_plain(&self.look)),
+        }
+    }
+
+    // Closes the tags at the end of a line, over which a link goes on a number of times.
+    fn end_line(&mut self) -> Result<(), AllocError>
+        ensures ok { OnOk result (text_of self.new
+            ≡ text_of self.old ++ html_text (closed (state_of self.old))) }
+        ensures state { OnOk result (state_of self.new ≡ after_character true (state_of self.old)) }
+        ensures layout { OnOk result (self.new.layout ≡ self.old.layout) }
+        ensures refused { OnErr result (Refused A) }
+    {
+        self.close()?;
+        if self.lines == 0 {
+            self.link = None;
+        } else {
+            self.lines -= 1;
+        }
+        Ok(())
     }
 
     // Closes the tags before the end of a line, and opens them before any other character.
@@ -151,11 +199,15 @@ impl<A: Allocator> Page<A> {
         ensures ok { OnOk result (text_of self.new
             ≡ text_of self.old ++ html_text (before_character ends_line (state_of self.old))) }
         ensures state { OnOk result (state_of self.new
-            ≡ open_or_not (state_of self.old) (not ends_line)) }
+            ≡ after_character ends_line (state_of self.old)) }
         ensures layout { OnOk result (self.new.layout ≡ self.old.layout) }
         ensures refused { OnErr result (Refused A) }
     {
-        if ends_line { self.close() } else { self.open() }
+        if ends_line {
+            self.end_line()
+        } else {
+            self.open()
+        }
     }
 
     // Shows a character.
@@ -233,13 +285,13 @@ impl<A: Allocator> Page<A> {
         self.select_one(rendition_of(rendition))
     }
 
-    // The tags are closed, and the look changes by one rendition.
+    // The span is closed, and the look changes by one rendition.
     fn select_one(&mut self, rendition: Rendition) -> Result<(), AllocError>
         ensures ok { OnOk result (Adds self.old
-            (changes (with_rendition (state_of self.old).pen rendition)) self.new) }
+            (restyles (look_by (state_of self.old).pen.look rendition)) self.new) }
         ensures refused { OnErr result (Refused A) }
     {
-        self.close()?;
+        self.close_span()?;
         self.look.select(rendition);
         Ok(())
     }
@@ -258,13 +310,14 @@ impl<A: Allocator> Page<A> {
         self.take_function(function_of(params, parameters_truncated, control))
     }
 
-    // The tags are closed, and the look changes.
+    // The span is closed, and the look changes.
     fn select(&mut self, renditions: Renditions<'_>) -> Result<(), AllocError>
         ensures ok { OnOk result (Adds self.old
-            (changes (with_look (state_of self.old).pen (left renditions.entry))) self.new) }
+            (restyles (look_by_all (state_of self.old).pen.look (left renditions.entry)))
+            self.new) }
         ensures refused { OnErr result (Refused A) }
     {
-        self.close()?;
+        self.close_span()?;
         self.look.select_all(renditions);
         Ok(())
     }
@@ -284,11 +337,12 @@ impl<A: Allocator> Page<A> {
     // The tags are closed, and the link changes.
     fn lead(&mut self, link: Option<Hyperlink<A>>) -> Result<(), AllocError>
         ensures ok { OnOk result (Adds self.old
-            (changes (with_link (state_of self.old).pen (address_of link))) self.new) }
+            (redirects (address_of link)) self.new) }
         ensures refused { OnErr result (Refused A) }
     {
         self.close()?;
         self.link = address_of(link);
+        self.lines = MORE_LINES;
         Ok(())
     }
 }
@@ -414,16 +468,4 @@ pub(crate) fn is_page_address(address: &str) -> bool
     ensures { result ≡ is_page_address address.now }
 {
     is_safe_address(address)
-}
-
-// The end tags of a span, unless the look is plain, and of a link.
-fn closing_tags(is_plain: bool, has_link: bool) -> &'static str
-    ensures { result.now ≡ html_text (span_end_unless is_plain ++ link_end_if has_link) }
-{
-    match (is_plain, has_link) {
-        (true, false) => "",
-        (false, false) => "</span>",
-        (true, true) => "</a>",
-        (false, true) => "</span></a>",
-    }
 }

@@ -42,8 +42,8 @@ fn push_class_attribute<A: Allocator>(
     end_attribute(html, is_first)
 }
 
-// A class, where it is there: before the first comes the attribute's name, and before any other a
-// space. Whether the next is the first still.
+// A class, where it is there, with a prefix: before the first comes the attribute's name, and
+// before any other a space. Whether the next is the first still.
 fn push_next_class<A: Allocator>(
     html: &mut String<A>,
     is_first: bool,
@@ -63,11 +63,11 @@ fn push_next_class<A: Allocator>(
     Ok(false)
 }
 
-// What comes before the name of a class.
+// What comes before the name of a class: a prefix of its own, too.
 fn class_opener(is_first: bool) -> &'static str
     ensures { result.now ≡ class_opener is_first }
 {
-    if is_first { " class=\"" } else { " " }
+    if is_first { " class=\"es-" } else { " es-" }
 }
 
 // The attribute `style`, where there are styles.

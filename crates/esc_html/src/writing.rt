@@ -95,5 +95,5 @@ pub(crate) fn push_link<A: Allocator>(html: &mut String<A>, address: &str) -> Re
 {
     memory::push_str(html, "<a href=\"")?;
     push_escaped(html, address, b'"')?;
-    memory::push_str(html, "\" rel=\"noopener noreferrer\">")
+    memory::push_str(html, "\" rel=\"nofollow noopener noreferrer\">")
 }

@@ -16,17 +16,17 @@
 static const char STREAM[] = "<i>\x1b[1;32mok\nx\x1b]8;;https://a/?b&c\x07y\x1b]8;;\x07\x1b]8;;javascript:z\x07z\x1b[m\x1b]0;t\x07\xff\x1b[3ms";
 
 static const char *const PAGES[] = {
-    "&lt;i&gt;<span class=\"bold fg-green\">ok\nx</span>"
-    "<a href=\"https://a/?b&amp;c\" rel=\"noopener noreferrer\"><span class=\"bold fg-green\">y</span></a>"
-    "<span class=\"bold fg-green\">z</span>\xef\xbf\xbd<span class=\"italic\">s</span>",
-    "&lt;i&gt;<span class=\"bold fg-green\">ok</span>\n<span class=\"bold fg-green\">x</span>"
-    "<a href=\"https://a/?b&amp;c\" rel=\"noopener noreferrer\"><span class=\"bold fg-green\">y</span></a>"
-    "<span class=\"bold fg-green\">z</span>\xef\xbf\xbd<span class=\"italic\">s</span>",
+    "&lt;i&gt;<span class=\"es-bold es-fg-green\">ok\nx</span>"
+    "<a href=\"https://a/?b&amp;c\" rel=\"nofollow noopener noreferrer\"><span class=\"es-bold es-fg-green\">y</span></a>"
+    "<span class=\"es-bold es-fg-green\">z</span>\xef\xbf\xbd<span class=\"es-italic\">s</span>",
+    "&lt;i&gt;<span class=\"es-bold es-fg-green\">ok</span>\n<span class=\"es-bold es-fg-green\">x</span>"
+    "<a href=\"https://a/?b&amp;c\" rel=\"nofollow noopener noreferrer\"><span class=\"es-bold es-fg-green\">y</span></a>"
+    "<span class=\"es-bold es-fg-green\">z</span>\xef\xbf\xbd<span class=\"es-italic\">s</span>",
     "&lt;i&gt;<span style=\"font-weight:bold;color:#116329;\">ok\nx</span>"
-    "<a href=\"https://a/?b&amp;c\" rel=\"noopener noreferrer\"><span style=\"font-weight:bold;color:#116329;\">y</span></a>"
+    "<a href=\"https://a/?b&amp;c\" rel=\"nofollow noopener noreferrer\"><span style=\"font-weight:bold;color:#116329;\">y</span></a>"
     "<span style=\"font-weight:bold;color:#116329;\">z</span>\xef\xbf\xbd<span style=\"font-style:italic;\">s</span>",
     "&lt;i&gt;<span style=\"font-weight:bold;color:#116329;\">ok</span>\n<span style=\"font-weight:bold;color:#116329;\">x</span>"
-    "<a href=\"https://a/?b&amp;c\" rel=\"noopener noreferrer\"><span style=\"font-weight:bold;color:#116329;\">y</span></a>"
+    "<a href=\"https://a/?b&amp;c\" rel=\"nofollow noopener noreferrer\"><span style=\"font-weight:bold;color:#116329;\">y</span></a>"
     "<span style=\"font-weight:bold;color:#116329;\">z</span>\xef\xbf\xbd<span style=\"font-style:italic;\">s</span>",
 };
 
@@ -82,7 +82,7 @@ static void check_states(void) {
         wants(escape_stream_html_begin(&page, false, false, LIMIT) == ESCAPE_STREAM_DONE, "begun again", "", 0);
         wants(escape_stream_html_text(&page, 0, out, 8) == 0, "a text before the first piece", "", 0);
         wants(escape_stream_html_feed(&page, bytes, 5) == ESCAPE_STREAM_DONE, "fed", "", 0);
-        wants(escape_stream_html_text(&page, 0, out, sizeof out) == 20 && memcmp(out, "<span class=\"bold\">a", 20) == 0, "its text", "", 0);
+        wants(escape_stream_html_text(&page, 0, out, sizeof out) == 20 && memcmp(out, "<span class=\"es-bold\">a", 20) == 0, "its text", "", 0);
     }
     wants(escape_stream_html_finish(&page) == ESCAPE_STREAM_DONE, "ended", "", 0);
     wants(escape_stream_html_text(&page, 0, out, sizeof out) == 7 && memcmp(out, "</span>", 7) == 0, "what closes it", "", 0);

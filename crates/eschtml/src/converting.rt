@@ -2,7 +2,7 @@
 
 use crate::lines::{Counting, Lines};
 use crate::options::Options;
-use crate::page::{BEFORE, write_numbers};
+use crate::page::{UNNUMBERED, before, write_numbers};
 use crate::stream::{PROGRAM, write_html};
 use command_line::{Ended, Noting, Place, Reason, Work, ended_by, unwritten};
 use esc_filter::FilterError;
@@ -36,18 +36,32 @@ impl<'a, W: Write, E: Write> Work for Converting<'a, W, E> {
 }
 
 impl<'a, W: Write, E: Write> Converting<'a, W, E> {
-    // Writes a stream of this name, with the numbers of its lines.
+    // Writes a stream of this name, with the numbers of its lines, unless these go on.
     fn take_on_page<R: Read + Drop>(&mut self, name: &str, input: R) -> Ended {
-        if let Err(error) = self.output.write_all(BEFORE.as_bytes()) {
+        if let Err(error) = self.output.write_all(before(self.options.wraps).as_bytes()) {
             return self.unwritten(error);
         }
         let (ended, lines) = self.take_stream(name, input);
         if ended == Ended::Unwritten || ended == Ended::Closed {
             return ended;
         }
+        if self.options.wraps {
+            return self.after(ended, UNNUMBERED);
+        }
         let first = self.line;
         self.line = first.saturating_add(lines.count());
         match write_numbers(self.alloc, self.output, first, self.line) {
+            Ok(()) => ended,
+            Err(error) => self.unwritten(error),
+        }
+    }
+
+    // How it ends after this text.
+    fn after(&mut self, ended: Ended, text: &str) -> Ended {
+        if let Err(error) = self.output.write_all(text.as_bytes()) {
+            return self.unwritten(error);
+        }
+        match self.output.flush() {
             Ok(()) => ended,
             Err(error) => self.unwritten(error),
         }

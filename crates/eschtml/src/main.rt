@@ -19,17 +19,19 @@ use command_line::{
 use converting::Converting;
 use esc_filter::FilterError;
 use new_file::{NewFile, Output};
-use options::{Kind, Options, Task};
+use options::{Kind, Options, Task, Theme};
 use page::{END, head};
+use std::alloc::{AllocError, Global};
 use std::io;
 use std::io::Write;
 use std::process::ExitCode;
 use stream::PROGRAM;
-use style::STYLE;
+use style::push_style;
 
 const USAGE: &str = "\
-usage: eschtml [--page] [--title text] [--lines] [--inline] [--show] [--final-lines[=rows]] \
-[--style] [--limit size] [-o|--output file] [-h|--help] [-V|--version] [--] [FILE..]";
+usage: eschtml [--page] [--title text] [--css address] [--lang language] \
+[--theme auto|light|dark] [--wrap] [--lines] [--inline] [--show] [--final-lines[=rows]] [--style] \
+[--limit size] [-o|--output file] [-h|--help] [-V|--version] [--] [FILE..]";
 
 const HELP: &str = "\
 Writes each FILE, or standard input, as HTML, as it is read: characters, with colours and
@@ -37,6 +39,12 @@ renditions as spans, and links to http, https and mailto. Nothing of it becomes 
 
   --page          writes a whole page, with a style sheet and line numbers, and not a fragment
   --title text    its title (the name of the first FILE)
+  --css address   links the style sheet at this address in place of its own
+  --lang language its language, as de (en)
+  --theme auto    follows the setting of the page's reader, as it does unless told otherwise
+  --theme light   is light, also where it is printed by --style
+  --theme dark    is dark, also there
+  --wrap          breaks long lines, and has no line numbers
   --lines         closes the tags that are open at the end of each line, and opens them again
                   after it, so that each line is HTML by itself
   --inline        writes colours and renditions as styles, and not as classes, so that the
@@ -80,10 +88,26 @@ fn done(rt: &HostRuntime, task: &Task<'_>) -> u8 {
             Some(wrong) => refused(PROGRAM, wrong, &mut rt.stderr()),
             None => convert_to(rt, task.output, task.options, &task.files),
         },
-        Kind::Style => said(rt, OUTPUT, print!(rt; "{STYLE}")),
+        Kind::Style => print_style(rt, task.options.theme),
         Kind::Help => said(rt, OUTPUT, println!(rt; "{USAGE}\n\n{HELP}")),
         Kind::Version => said(rt, OUTPUT, println!(rt; "{VERSION}")),
     }
+}
+
+// Prints the style sheet.
+fn print_style(rt: &HostRuntime, theme: Theme) -> u8 {
+    let Ok(text) = style_text(rt.alloc(), theme) else {
+        tell(PROGRAM, OUTPUT, FilterError::Memory, &mut rt.stderr());
+        return FAULT;
+    };
+    said(rt, OUTPUT, print!(rt; "{text}"))
+}
+
+// The style sheet. The error is that memory was refused.
+fn style_text(alloc: Global, theme: Theme) -> Result<String, AllocError> {
+    let mut text = String::new(alloc);
+    push_style(&mut text, theme)?;
+    Ok(text)
 }
 
 // The status after a text was written to an output of this name.
@@ -134,7 +158,7 @@ fn convert<W: Write>(
     if !options.is_page {
         return convert_all(rt, options, files, output_name, output);
     }
-    let Ok(text) = head(rt.alloc(), title_of(options, files)) else {
+    let Ok(text) = head(rt.alloc(), title_of(options, files), options) else {
         tell(PROGRAM, output_name, FilterError::Memory, &mut rt.stderr());
         return FAULT;
     };

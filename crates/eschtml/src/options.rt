@@ -11,6 +11,14 @@ pub struct Options<'a> {
     pub is_page: bool,
     /// The title of the page, where it is given.
     pub title: Option<&'a str>,
+    /// The address of the style sheet of the page, where it is not the program's.
+    pub css: Option<&'a str>,
+    /// The language of the page, as `en`.
+    pub lang: &'a str,
+    /// Whether the page is light or dark.
+    pub theme: Theme,
+    /// Whether long lines of the page go on in the next one, without numbers.
+    pub wraps: bool,
     /// How the HTML is laid out.
     pub layout: Layout,
     /// Whether what is left out is shown in place.
@@ -19,6 +27,28 @@ pub struct Options<'a> {
     pub rows: Option<usize>,
     /// How many bytes are kept of an unfinished segment.
     pub limit: usize,
+}
+
+/// Whether a page is light or dark.
+#[derive(Clone, Copy)]
+pub enum Theme {
+    /// As its reader's setting.
+    Auto,
+    /// Light.
+    Light,
+    /// Dark.
+    Dark,
+}
+
+impl Theme {
+    // The one of this name.
+    fn of(name: &str) -> Theme {
+        match name {
+            "light" => Theme::Light,
+            "dark" => Theme::Dark,
+            _ => Theme::Auto,
+        }
+    }
 }
 
 /// What the program does.
@@ -67,6 +97,26 @@ const KNOWN: &[Known] = &[
         takes: Takes::OneOf("text", &[]),
     },
     Known {
+        name: "--css",
+        letter: "",
+        takes: Takes::OneOf("address", &[]),
+    },
+    Known {
+        name: "--lang",
+        letter: "",
+        takes: Takes::OneOf("language", &[]),
+    },
+    Known {
+        name: "--theme",
+        letter: "",
+        takes: Takes::OneOf("theme", &["auto", "light", "dark"]),
+    },
+    Known {
+        name: "--wrap",
+        letter: "",
+        takes: Takes::Nothing,
+    },
+    Known {
         name: "--lines",
         letter: "",
         takes: Takes::Nothing,
@@ -113,6 +163,9 @@ impl<'a> Task<'a> {
             if given.name == "--final-lines" && rows_of(given.word).is_none() {
                 return Err(Wrong::Value("--final-lines", "number of rows", given.word, None));
             }
+            if given.name == "--lang" && !is_language(given.word) {
+                return Err(Wrong::Value("--lang", "language", given.word, None));
+            }
         }
         Ok(Task::from_found(found))
     }
@@ -125,6 +178,10 @@ impl<'a> Task<'a> {
         let mut options = Options {
             is_page: false,
             title: None,
+            css: None,
+            lang: "en",
+            theme: Theme::Auto,
+            wraps: false,
             layout: Layout {
                 per_line: false,
                 inline: false,
@@ -137,6 +194,10 @@ impl<'a> Task<'a> {
             match given.name {
                 "--page" => options.is_page = true,
                 "--title" => options.title = Some(given.word),
+                "--css" => options.css = Some(given.word),
+                "--lang" => options.lang = given.word,
+                "--theme" => options.theme = Theme::of(given.word),
+                "--wrap" => options.wraps = true,
                 "--lines" => options.layout.per_line = true,
                 "--inline" => options.layout.inline = true,
                 "--show" => options.shows = true,
@@ -171,6 +232,16 @@ fn apart_of<'a>(given: &Given<'a>) -> Option<Apart<'a>> {
         option: given.name,
         word: given.next,
     })
+}
+
+// Whether it may be the name of a language (BCP 47): letters and digits of ASCII, and `-`.
+fn is_language(word: &str) -> bool {
+    for byte in word.as_bytes() {
+        if !byte.is_ascii_alphanumeric() && *byte != b'-' {
+            return false;
+        }
+    }
+    !word.is_empty()
 }
 
 // How many rows a word names; where it is empty, the default.

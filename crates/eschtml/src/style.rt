@@ -1,92 +1,195 @@
 //! The style sheet.
 
-/// The style sheet of a page: light or dark as its reader's setting, for each class that a span can
-/// have. A line through, over or under characters adds to the others; what blinks does not.
-pub const STYLE: &str = "\
-:root { color-scheme: light dark; --fg: #1f2328; --bg: #ffffff; --dim: #6e7781;
-  --black: #24292f; --red: #b3261e; --green: #116329; --yellow: #7d4e00;
-  --blue: #0550ae; --magenta: #8250df; --cyan: #0b6b75; --white: #6e7781;
-  --bright-black: #57606a; --bright-red: #cf222e; --bright-green: #1a7f37;
-  --bright-yellow: #9a6700; --bright-blue: #0969da; --bright-magenta: #a475f9;
-  --bright-cyan: #1b7c83; --bright-white: #8c959f; }
-@media (prefers-color-scheme: dark) {
-  :root { --fg: #e6edf3; --bg: #0d1117; --dim: #7d8590;
-    --black: #6e7681; --red: #ff7b72; --green: #3fb950; --yellow: #d29922;
-    --blue: #58a6ff; --magenta: #bc8cff; --cyan: #39c5cf; --white: #b1bac4;
-    --bright-black: #8b949e; --bright-red: #ffa198; --bright-green: #56d364;
-    --bright-yellow: #e3b341; --bright-blue: #79c0ff; --bright-magenta: #d2a8ff;
-    --bright-cyan: #56d4dd; --bright-white: #ffffff; }
-}
-body { margin: 0; background: var(--bg); color: var(--fg); }
-.stream { display: flex; flex-direction: row-reverse; justify-content: flex-end;
-  font: 0.875rem/1.45 ui-monospace, SFMono-Regular, Menlo, Consolas, monospace; }
-.stream pre { margin: 0; padding: 0.5rem 1rem; font: inherit; overflow-x: auto; min-width: 0;
-  flex: 1; tab-size: 8; }
-.lines { padding: 0.5rem 0 0.5rem 1rem; text-align: right; user-select: none; }
-.lines a { display: block; color: var(--dim); text-decoration: none; counter-increment: line; }
-.lines a::before { content: counter(line); }
-.lines a:target { color: var(--fg); font-weight: bold; }
-pre a { color: inherit; }
-pre span { text-decoration-line: var(--under,) var(--through,) var(--over,);
-  text-decoration-style: var(--kind, solid); }
-.bold { font-weight: bold; }
-.faint { opacity: 0.65; }
-.italic { font-style: italic; }
-.underline { --under: underline; }
-.double-underline { --under: underline; --kind: double; }
-.curly-underline { --under: underline; --kind: wavy; }
-.dotted-underline { --under: underline; --kind: dotted; }
-.dashed-underline { --under: underline; --kind: dashed; }
-.strikethrough { --through: line-through; }
-.overline { --over: overline; }
-.inverse { color: var(--bg); background-color: var(--fg); }
-.fg-black { color: var(--black); }
-.fg-red { color: var(--red); }
-.fg-green { color: var(--green); }
-.fg-yellow { color: var(--yellow); }
-.fg-blue { color: var(--blue); }
-.fg-magenta { color: var(--magenta); }
-.fg-cyan { color: var(--cyan); }
-.fg-white { color: var(--white); }
-.fg-bright-black { color: var(--bright-black); }
-.fg-bright-red { color: var(--bright-red); }
-.fg-bright-green { color: var(--bright-green); }
-.fg-bright-yellow { color: var(--bright-yellow); }
-.fg-bright-blue { color: var(--bright-blue); }
-.fg-bright-magenta { color: var(--bright-magenta); }
-.fg-bright-cyan { color: var(--bright-cyan); }
-.fg-bright-white { color: var(--bright-white); }
-.bg-black { background-color: var(--black); }
-.bg-red { background-color: var(--red); }
-.bg-green { background-color: var(--green); }
-.bg-yellow { background-color: var(--yellow); }
-.bg-blue { background-color: var(--blue); }
-.bg-magenta { background-color: var(--magenta); }
-.bg-cyan { background-color: var(--cyan); }
-.bg-white { background-color: var(--white); }
-.bg-bright-black { background-color: var(--bright-black); }
-.bg-bright-red { background-color: var(--bright-red); }
-.bg-bright-green { background-color: var(--bright-green); }
-.bg-bright-yellow { background-color: var(--bright-yellow); }
-.bg-bright-blue { background-color: var(--bright-blue); }
-.bg-bright-magenta { background-color: var(--bright-magenta); }
-.bg-bright-cyan { background-color: var(--bright-cyan); }
-.bg-bright-white { background-color: var(--bright-white); }
-.ul-black { text-decoration-color: var(--black); }
-.ul-red { text-decoration-color: var(--red); }
-.ul-green { text-decoration-color: var(--green); }
-.ul-yellow { text-decoration-color: var(--yellow); }
-.ul-blue { text-decoration-color: var(--blue); }
-.ul-magenta { text-decoration-color: var(--magenta); }
-.ul-cyan { text-decoration-color: var(--cyan); }
-.ul-white { text-decoration-color: var(--white); }
-.ul-bright-black { text-decoration-color: var(--bright-black); }
-.ul-bright-red { text-decoration-color: var(--bright-red); }
-.ul-bright-green { text-decoration-color: var(--bright-green); }
-.ul-bright-yellow { text-decoration-color: var(--bright-yellow); }
-.ul-bright-blue { text-decoration-color: var(--bright-blue); }
-.ul-bright-magenta { text-decoration-color: var(--bright-magenta); }
-.ul-bright-cyan { text-decoration-color: var(--bright-cyan); }
-.ul-bright-white { text-decoration-color: var(--bright-white); }
-.concealed { color: transparent; }
+use crate::options::Theme;
+use std::alloc::AllocError;
+
+// The colours of a light page, and of looks that are exchanged on it.
+const LIGHT: &str = "\
+.es-stream { --es-text: #1f2328; --es-page: #ffffff; --es-dim: #6e7781;
+  --es-black: #24292f; --es-red: #b3261e; --es-green: #116329; --es-yellow: #7d4e00;
+  --es-blue: #0550ae; --es-magenta: #8250df; --es-cyan: #0b6b75; --es-white: #6e7781;
+  --es-bright-black: #57606a; --es-bright-red: #cf222e; --es-bright-green: #1a7f37;
+  --es-bright-yellow: #9a6700; --es-bright-blue: #0969da; --es-bright-magenta: #9a3fd5;
+  --es-bright-cyan: #1b7c83; --es-bright-white: #424a53; }
+.es-stream .es-inverse {
+  --es-red: #ff7b72; --es-green: #3fb950; --es-yellow: #d29922; --es-blue: #58a6ff;
+  --es-magenta: #bc8cff; --es-cyan: #39c5cf; --es-bright-black: #8b949e; --es-bright-red: #ffa198;
+  --es-bright-green: #56d364; --es-bright-yellow: #e3b341; --es-bright-blue: #79c0ff;
+  --es-bright-magenta: #d2a8ff; --es-bright-cyan: #56d4dd; }
 ";
+
+// Those of a dark page.
+const DARK: &str = "\
+.es-stream { --es-text: #e6edf3; --es-page: #0d1117; --es-dim: #7d8590;
+  --es-black: #7d8590; --es-red: #ff7b72; --es-green: #3fb950; --es-yellow: #d29922;
+  --es-blue: #58a6ff; --es-magenta: #bc8cff; --es-cyan: #39c5cf; --es-white: #b1bac4;
+  --es-bright-black: #8b949e; --es-bright-red: #ffa198; --es-bright-green: #56d364;
+  --es-bright-yellow: #e3b341; --es-bright-blue: #79c0ff; --es-bright-magenta: #d2a8ff;
+  --es-bright-cyan: #56d4dd; --es-bright-white: #ffffff; }
+.es-stream .es-inverse {
+  --es-red: #b3261e; --es-green: #116329; --es-yellow: #7d4e00; --es-blue: #0550ae;
+  --es-magenta: #8250df; --es-cyan: #0b6b75; --es-bright-black: #57606a; --es-bright-red: #cf222e;
+  --es-bright-green: #1a7f37; --es-bright-yellow: #9a6700; --es-bright-blue: #0969da;
+  --es-bright-magenta: #9a3fd5; --es-bright-cyan: #1b7c83; }
+";
+
+// The rules for each class that a span can have, all below `.es-stream`, with names of their own. A
+// line through, over or under characters adds to the others; what blinks does not.
+//
+// Grounds have colours of their own: black and white can be read on each, and any other colour on a
+// deeper one. What stands on the ground of a line touches the one of the next.
+const RULES: &str = "\
+.es-stream {
+  --es-on-black: #24292f; --es-on-red: #dd313d; --es-on-green: #258640; --es-on-yellow: #927100;
+  --es-on-blue: #0a71eb; --es-on-magenta: #8959e1; --es-on-cyan: #1c8289; --es-on-white: #d0d7de;
+  --es-on-bright-black: #6e7680; --es-on-bright-red: #eb060b; --es-on-bright-green: #178817;
+  --es-on-bright-yellow: #986e1d; --es-on-bright-blue: #2672e0; --es-on-bright-magenta: #c64191;
+  --es-on-bright-cyan: #098194; --es-on-bright-white: #eaeef2; }
+.es-stream { display: flex; flex-direction: row-reverse; justify-content: flex-end;
+  color: var(--es-text); background-color: var(--es-page);
+  font: 0.875rem/1.45 ui-monospace, SFMono-Regular, Menlo, Consolas, monospace; }
+.es-stream pre { margin: 0; padding: 0.5rem 1rem; font: inherit; overflow-x: auto; min-width: 0;
+  flex: 1; tab-size: 8; }
+.es-stream .es-lines { padding: 0.5rem 0 0.5rem 1rem; text-align: right; user-select: none;
+  -webkit-user-select: none; }
+.es-stream .es-lines a { display: block; color: var(--es-dim); text-decoration: none;
+  counter-increment: es-line; }
+.es-stream .es-lines a::before { content: counter(es-line); }
+.es-stream .es-lines a:target { color: var(--es-text); font-weight: bold; }
+.es-stream pre a { color: inherit; }
+.es-stream pre span { text-decoration-line: var(--es-under,) var(--es-through,) var(--es-over,);
+  text-decoration-style: var(--es-kind, solid); }
+.es-stream .es-bold { font-weight: bold; }
+.es-stream .es-faint { opacity: 0.8; }
+.es-stream .es-italic { font-style: italic; }
+.es-stream .es-underline { --es-under: underline; }
+.es-stream .es-double-underline { --es-under: underline; --es-kind: double; }
+.es-stream .es-curly-underline { --es-under: underline; --es-kind: wavy; }
+.es-stream .es-dotted-underline { --es-under: underline; --es-kind: dotted; }
+.es-stream .es-dashed-underline { --es-under: underline; --es-kind: dashed; }
+.es-stream .es-strikethrough { --es-through: line-through; }
+.es-stream .es-overline { --es-over: overline; }
+.es-stream .es-inverse { color: var(--es-page); background-color: var(--es-text); }
+.es-stream [class*=\"es-bg-\"] {
+  --es-black: #000000; --es-white: #ffffff; --es-bright-white: #ffffff;
+  --es-red: #ff7b72; --es-green: #3fb950; --es-yellow: #d29922; --es-blue: #58a6ff;
+  --es-magenta: #bc8cff; --es-cyan: #39c5cf; --es-bright-black: #8b949e; --es-bright-red: #ffa198;
+  --es-bright-green: #56d364; --es-bright-yellow: #e3b341; --es-bright-blue: #79c0ff;
+  --es-bright-magenta: #d2a8ff; --es-bright-cyan: #56d4dd; }
+.es-stream .es-bg-white, .es-stream .es-bg-bright-white {
+  --es-red: #b3261e; --es-green: #116329; --es-yellow: #7d4e00; --es-blue: #0550ae;
+  --es-magenta: #8250df; --es-cyan: #0b6b75; --es-bright-black: #57606a; --es-bright-red: #cf222e;
+  --es-bright-green: #1a7f37; --es-bright-yellow: #9a6700; --es-bright-blue: #0969da;
+  --es-bright-magenta: #9a3fd5; --es-bright-cyan: #1b7c83; }
+.es-stream [class*=\"es-fg-\"]:not(.es-fg-black):not(.es-fg-white):not(.es-fg-bright-white) {
+  --es-on-red: #681117; --es-on-green: #103c1c; --es-on-yellow: #413200; --es-on-blue: #043369;
+  --es-on-magenta: #3f1885; --es-on-cyan: #0c3a3d; --es-on-bright-black: #24292f;
+  --es-on-bright-red: #6e0305; --es-on-bright-green: #0a3d0a; --es-on-bright-yellow: #43310d;
+  --es-on-bright-blue: #0f3367; --es-on-bright-magenta: #5b1b42; --es-on-bright-cyan: #043a42; }
+.es-stream .es-bg-white.es-fg-white,
+.es-stream .es-bg-white.es-fg-bright-white,
+.es-stream .es-bg-bright-white.es-fg-white,
+.es-stream .es-bg-bright-white.es-fg-bright-white {
+  --es-on-white: #6e7680; --es-on-bright-white: #6e7680; }
+.es-stream .es-bg-black.es-fg-black { --es-on-black: #6e7680; }
+.es-stream .es-bg-black { color: #ffffff; background-color: var(--es-on-black); }
+.es-stream .es-bg-red { color: #ffffff; background-color: var(--es-on-red); }
+.es-stream .es-bg-green { color: #ffffff; background-color: var(--es-on-green); }
+.es-stream .es-bg-yellow { color: #ffffff; background-color: var(--es-on-yellow); }
+.es-stream .es-bg-blue { color: #ffffff; background-color: var(--es-on-blue); }
+.es-stream .es-bg-magenta { color: #ffffff; background-color: var(--es-on-magenta); }
+.es-stream .es-bg-cyan { color: #ffffff; background-color: var(--es-on-cyan); }
+.es-stream .es-bg-white { color: #000000; background-color: var(--es-on-white); }
+.es-stream .es-bg-bright-black { color: #ffffff; background-color: var(--es-on-bright-black); }
+.es-stream .es-bg-bright-red { color: #ffffff; background-color: var(--es-on-bright-red); }
+.es-stream .es-bg-bright-green { color: #ffffff; background-color: var(--es-on-bright-green); }
+.es-stream .es-bg-bright-yellow { color: #ffffff; background-color: var(--es-on-bright-yellow); }
+.es-stream .es-bg-bright-blue { color: #ffffff; background-color: var(--es-on-bright-blue); }
+.es-stream .es-bg-bright-magenta { color: #ffffff; background-color: var(--es-on-bright-magenta); }
+.es-stream .es-bg-bright-cyan { color: #ffffff; background-color: var(--es-on-bright-cyan); }
+.es-stream .es-bg-bright-white { color: #000000; background-color: var(--es-on-bright-white); }
+.es-stream .es-fg-black { color: var(--es-black); }
+.es-stream .es-fg-red { color: var(--es-red); }
+.es-stream .es-fg-green { color: var(--es-green); }
+.es-stream .es-fg-yellow { color: var(--es-yellow); }
+.es-stream .es-fg-blue { color: var(--es-blue); }
+.es-stream .es-fg-magenta { color: var(--es-magenta); }
+.es-stream .es-fg-cyan { color: var(--es-cyan); }
+.es-stream .es-fg-white { color: var(--es-white); }
+.es-stream .es-fg-bright-black { color: var(--es-bright-black); }
+.es-stream .es-fg-bright-red { color: var(--es-bright-red); }
+.es-stream .es-fg-bright-green { color: var(--es-bright-green); }
+.es-stream .es-fg-bright-yellow { color: var(--es-bright-yellow); }
+.es-stream .es-fg-bright-blue { color: var(--es-bright-blue); }
+.es-stream .es-fg-bright-magenta { color: var(--es-bright-magenta); }
+.es-stream .es-fg-bright-cyan { color: var(--es-bright-cyan); }
+.es-stream .es-fg-bright-white { color: var(--es-bright-white); }
+.es-stream .es-ul-black { text-decoration-color: var(--es-black); }
+.es-stream .es-ul-red { text-decoration-color: var(--es-red); }
+.es-stream .es-ul-green { text-decoration-color: var(--es-green); }
+.es-stream .es-ul-yellow { text-decoration-color: var(--es-yellow); }
+.es-stream .es-ul-blue { text-decoration-color: var(--es-blue); }
+.es-stream .es-ul-magenta { text-decoration-color: var(--es-magenta); }
+.es-stream .es-ul-cyan { text-decoration-color: var(--es-cyan); }
+.es-stream .es-ul-white { text-decoration-color: var(--es-white); }
+.es-stream .es-ul-bright-black { text-decoration-color: var(--es-bright-black); }
+.es-stream .es-ul-bright-red { text-decoration-color: var(--es-bright-red); }
+.es-stream .es-ul-bright-green { text-decoration-color: var(--es-bright-green); }
+.es-stream .es-ul-bright-yellow { text-decoration-color: var(--es-bright-yellow); }
+.es-stream .es-ul-bright-blue { text-decoration-color: var(--es-bright-blue); }
+.es-stream .es-ul-bright-magenta { text-decoration-color: var(--es-bright-magenta); }
+.es-stream .es-ul-bright-cyan { text-decoration-color: var(--es-bright-cyan); }
+.es-stream .es-ul-bright-white { text-decoration-color: var(--es-bright-white); }
+.es-stream .es-concealed { color: transparent !important; }
+.es-stream [class*=\"es-bg-\"], .es-stream .es-inverse, .es-stream [style*=\"background-color\"] {
+  padding-block: 0.15em; }
+.es-stream.es-wrap pre { white-space: pre-wrap; overflow-wrap: anywhere; }
+@media print {
+  .es-stream pre { white-space: pre-wrap; overflow-wrap: anywhere; }
+  .es-stream .es-lines { display: none; }
+}
+";
+
+// What a whole page has beside it, where it is light or dark as its reader's setting.
+const AUTO_PAGE: &str = "\
+:root { color-scheme: light dark; background: #ffffff; }
+@media (prefers-color-scheme: dark) { :root { background: #0d1117; } }
+body { margin: 0; }
+";
+
+// What a light one has.
+const LIGHT_PAGE: &str = "\
+:root { color-scheme: light; background: #ffffff; }
+body { margin: 0; }
+";
+
+// What a dark one has.
+const DARK_PAGE: &str = "\
+:root { color-scheme: dark; background: #0d1117; }
+body { margin: 0; }
+";
+
+/// Appends the style sheet: light or dark, for a `div` of class `es-stream` and what is in it.
+pub fn push_style(text: &mut String, theme: Theme) -> Result<(), AllocError> {
+    match theme {
+        Theme::Auto => {
+            memory::push_str(text, LIGHT)?;
+            memory::push_str(text, "@media (prefers-color-scheme: dark) {\n")?;
+            memory::push_str(text, DARK)?;
+            memory::push_str(text, "}\n")?;
+        }
+        Theme::Light => memory::push_str(text, LIGHT)?,
+        Theme::Dark => memory::push_str(text, DARK)?,
+    }
+    memory::push_str(text, RULES)
+}
+
+/// Appends what a whole page has beside it.
+pub fn push_page_style(text: &mut String, theme: Theme) -> Result<(), AllocError> {
+    let style = match theme {
+        Theme::Auto => AUTO_PAGE,
+        Theme::Light => LIGHT_PAGE,
+        Theme::Dark => DARK_PAGE,
+    };
+    memory::push_str(text, style)
+}

@@ -23,11 +23,11 @@ returns-clause-ok g c =
     let two = string_bytes c.push_escaped.new.html in
     let value = flat_map escape_value c.args.address.now in
     grown_ok c.push_str-2.result two (string_bytes c.push_str-2.new.text)
-    (codes "\" rel=\"noopener noreferrer\">")
-    (old ++ (codes "<a href=\"" ++ (value ++ codes "\" rel=\"noopener noreferrer\">")))
+    (codes "\" rel=\"nofollow noopener noreferrer\">")
+    (old ++ (codes "<a href=\"" ++ (value ++ codes "\" rel=\"nofollow noopener noreferrer\">")))
     c.push_str-2.ensures.bytes
     (three_joined old (string_bytes c.push_str.new.text) two (codes "<a href=\"") value
-    (codes "\" rel=\"noopener noreferrer\">") c.in_ok-push_str.ensures.bytes
+    (codes "\" rel=\"nofollow noopener noreferrer\">") c.in_ok-push_str.ensures.bytes
     c.in_ok-push_escaped.ensures.ok)
 
 pub returns-clause-grown : goal.returns-clause-grown
@@ -36,8 +36,8 @@ returns-clause-grown g c =
     let one = string_bytes c.push_str.new.text in
     let two = string_bytes c.push_escaped.new.html in
     grows_on c.push_str-2.result old two (string_bytes c.push_str-2.new.text)
-    (codes "\" rel=\"noopener noreferrer\">")
+    (codes "\" rel=\"nofollow noopener noreferrer\">")
     (grows_then old one two
     (grows_literal old one (codes "<a href=\"") refl c.in_ok-push_str.ensures.bytes)
     c.push_escaped.ensures.grown)
-    (ascii_utf8 (codes "\" rel=\"noopener noreferrer\">") refl) c.push_str-2.ensures.bytes
+    (ascii_utf8 (codes "\" rel=\"nofollow noopener noreferrer\">") refl) c.push_str-2.ensures.bytes

@@ -19,6 +19,7 @@ returns-in-Ok-clause-given g c = λ limit y s h.
         layout = m.1;
       },
       m.2,
+      m.3,
     )
 
 pub returns-in-Err-clause-refused : goal.returns-in-Err-clause-refused
