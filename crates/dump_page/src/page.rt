@@ -79,10 +79,15 @@ impl Page {
     /// Appends spaces up to this column, and one at least.
     pub fn pad(&mut self, columns: usize) {
         let missing = columns.saturating_sub(self.words.columns()).max(1);
-        for _ in 0..missing / 16 {
-            self.words.add(spaces(16));
+        for _ in 0..missing / 32 {
+            self.words.add(spaces(32));
         }
-        self.words.add(spaces(missing % 16));
+        self.words.add(spaces(missing % 32));
+    }
+
+    /// Whether colours are asked for.
+    pub fn is_colored(&self) -> bool {
+        self.is_colored
     }
 
     /// Changes the colour, where colours are asked for.

@@ -6,7 +6,7 @@ ghost use Rattle.dump_page.specs.Quoted.{IsQuote, is_plain};
 
 use crate::hidden::Hidden;
 use crate::name::{Key, Name};
-use crate::plain::{is_plain, plain_text, spaces};
+use crate::plain::{is_plain, plain_text};
 use crate::quote::Quote;
 use esc_values::Text;
 use esc_visible::is_shown;
@@ -168,29 +168,29 @@ impl Phrase {
 
     /// Adds a number in decimal.
     pub fn add_digits(&mut self, number: u64) {
-        if number < 10 {
-            return self.add_digit(number);
-        }
-        let mut is_begun = false;
-        for worth in POWERS {
-            is_begun = is_begun || number >= worth;
-            if is_begun {
-                self.add_digit(number / worth % 10);
+        self.add_number(number, 0, 0);
+    }
+
+    /// Adds a number in decimal, after spaces where it has fewer digits than this, and so many
+    /// spaces after it: 32 characters at most.
+    pub fn add_number(&mut self, number: u64, width: usize, after: usize) {
+        let mut text = [b' '; 32];
+        let mut start = 32_usize.saturating_sub(after);
+        let least = start.saturating_sub(width);
+        let mut left = number;
+        for _ in 0..20 {
+            if start > 0 && start <= 32 {
+                start -= 1;
+                text[start] = b'0' + (left % 10) as u8;
+            }
+            left /= 10;
+            if left == 0 {
+                break;
             }
         }
-        self.add_digit(number % 10);
-    }
-
-    // Adds the digit of a number below 10.
-    fn add_digit(&mut self, number: u64) {
-        self.push(digit((number % 10) as u8, b'a'));
-    }
-
-    /// Adds a number, after spaces where it has fewer digits than this, of 8, 6 or 12 digits.
-    pub fn add_number(&mut self, number: u64, width: usize) {
-        let missing = width.saturating_sub(digits_of(number));
-        self.add(spaces(missing));
-        self.add_digits(number);
+        if let Some(text) = plain_text(&text[start.min(least).min(32)..]) {
+            self.push_plain(text);
+        }
     }
 
     /// An empty quote.
@@ -439,40 +439,6 @@ fn push_between(quoted: &str, to: &mut Text) -> Result<(), AllocError>
     to.push('"')?;
     to.push_str(quoted)?;
     to.push('"')
-}
-
-// The powers of ten that a number may have more than one digit by.
-static POWERS: [u64; 19] = [
-    10_000_000_000_000_000_000,
-    1_000_000_000_000_000_000,
-    100_000_000_000_000_000,
-    10_000_000_000_000_000,
-    1_000_000_000_000_000,
-    100_000_000_000_000,
-    10_000_000_000_000,
-    1_000_000_000_000,
-    100_000_000_000,
-    10_000_000_000,
-    1_000_000_000,
-    100_000_000,
-    10_000_000,
-    1_000_000,
-    100_000,
-    10_000,
-    1_000,
-    100,
-    10,
-];
-
-// How many digits a number has in decimal.
-fn digits_of(number: u64) -> usize {
-    let mut count: usize = 1;
-    for worth in POWERS {
-        if number >= worth {
-            count = count.saturating_add(1);
-        }
-    }
-    count
 }
 
 // The hexadecimal digit of a number below 16, of which the letter of 10 is this one.

@@ -37,15 +37,15 @@ pub fn plain_text(bytes: &[u8]) -> Option<&str>
     }
 }
 
-/// So many spaces, of at most 16.
+/// So many spaces, of at most 32.
 pub fn spaces(count: usize) -> &'static str {
     match SPACES.get(count) {
         Some(spaces) => *spaces,
-        None => "                ",
+        None => "                                ",
     }
 }
 
-static SPACES: [&str; 17] = [
+static SPACES: [&str; 33] = [
     "",
     " ",
     "  ",
@@ -63,4 +63,20 @@ static SPACES: [&str; 17] = [
     "              ",
     "               ",
     "                ",
+    "                 ",
+    "                  ",
+    "                   ",
+    "                    ",
+    "                     ",
+    "                      ",
+    "                       ",
+    "                        ",
+    "                         ",
+    "                          ",
+    "                           ",
+    "                            ",
+    "                             ",
+    "                              ",
+    "                               ",
+    "                                ",
 ];

@@ -25,6 +25,18 @@ pub fn add_controls(counts: &[Count], to: &mut Phrase) {
     }
 }
 
+/// The words of the commonest controls, with their names; nothing of any other.
+pub fn known_words(bytes: &[u8]) -> &'static str {
+    match bytes {
+        b"\n" => "control LF line feed",
+        b"\r" => "control CR carriage return",
+        b"\x08" => "control BS backspace",
+        b"\t" => "control HT tab",
+        b"\x07" => "control BEL bell",
+        _ => "",
+    }
+}
+
 // Adds the C0 control of this code.
 fn add_c0(code: u8, to: &mut Phrase) {
     if let Some(control) = C0::of(code) {

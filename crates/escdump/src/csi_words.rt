@@ -16,11 +16,33 @@ use esc_values::CsiParam;
 pub fn add_sequence(params: &[CsiParam], is_truncated: bool, last: u8, to: &mut Phrase) {
     let function = ControlFunction::of_csi_params(params, last);
     let table = table_of(last);
-    if table.is_empty() || !add_by_row(table, function, params, to) {
+    if table.is_empty()
+        || !may_have_row(function, params)
+        || !add_by_row(table, function, params, to)
+    {
         add_named(function, params, last, to);
     }
     if is_truncated {
         to.add(", and more parameters");
+    }
+}
+
+// Whether a row may be of these parameters: renditions have none, and movements of the cursor as
+// keys alone, with modifiers.
+fn may_have_row(function: Option<ControlFunction>, params: &[CsiParam]) -> bool {
+    match function {
+        Some(ControlFunction::SGR) => false,
+        Some(
+            ControlFunction::CUU
+            | ControlFunction::CUD
+            | ControlFunction::CUF
+            | ControlFunction::CUB
+            | ControlFunction::CNL
+            | ControlFunction::CPL
+            | ControlFunction::DCH
+            | ControlFunction::SU,
+        ) => params.contains(&CsiParam::P(b';')),
+        _ => true,
     }
 }
 

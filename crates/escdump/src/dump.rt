@@ -164,8 +164,6 @@ impl Dump {
     // Adds the line of a run of text or a segment, after which nothing is unfinished.
     fn end_line(&mut self, is_finished: bool) {
         if self.options.has(self.item.kind()) {
-            add_said(&self.item, &mut self.words);
-            self.page.note(self.words.phrase.is_refused());
             self.add_selected(is_finished);
         }
         self.item.end();
@@ -176,6 +174,8 @@ impl Dump {
     fn add_selected(&mut self, is_finished: bool) {
         match self.options.form {
             Form::Stats => {
+                add_said(&self.item, &mut self.words);
+                self.page.note(self.words.phrase.is_refused());
                 let name = self.words.phrase.name();
                 self.page.note(!self.stats.add(&self.item, name));
             }

@@ -1,7 +1,7 @@
 //! Lines of a run of text or a segment.
 
 use crate::apc_words::add_application;
-use crate::controls::add_control;
+use crate::controls::{add_control, known_words};
 use crate::device_words::add_device;
 use crate::escapes::add_escape;
 use crate::item::Item;
@@ -32,7 +32,11 @@ const WIDEST: usize = 4;
 /// Adds the line of an item with these words, in this form.
 pub fn add_line(form: Form, item: &Item, words: &mut Words, is_finished: bool, page: &mut Page) {
     match form {
-        Form::Json => add_object(item, words, is_finished, page),
+        Form::Json => {
+            add_said(item, words);
+            page.note(words.phrase.is_refused());
+            add_object(item, words, is_finished, page);
+        }
         Form::Words => add_words(item, words, is_finished, page),
         Form::Segments => add_segment(item, is_finished, page),
         Form::Bytes | Form::Stats => {
@@ -45,16 +49,20 @@ pub fn add_line(form: Form, item: &Item, words: &mut Words, is_finished: bool, p
 
 // The place.
 fn add_place(place: u64, page: &mut Page) {
-    page.color(Color::Place);
-    page.words().add_number(place, 8);
-    page.color(Color::Plain);
-    page.pad(BYTES);
+    if page.is_colored() {
+        page.color(Color::Place);
+        page.words().add_number(place, 8, 0);
+        page.color(Color::Plain);
+        page.pad(BYTES);
+    } else {
+        page.words().add_number(place, 8, 2);
+    }
 }
 
 // The place and the length of a segment, its kind, and its bytes.
 fn add_segment(item: &Item, is_finished: bool, page: &mut Page) {
     add_place(item.place, page);
-    page.words().add_number(item.length, 6);
+    page.words().add_number(item.length, 6, 0);
     page.pad(KIND);
     page.words().add(full_name(item.kind()));
     page.pad(STATE);
@@ -90,9 +98,13 @@ fn add_words(item: &Item, words: &mut Words, is_finished: bool, page: &mut Page)
     add_first(item.bytes(), page);
     if item.is_text() {
         page.words().add_quoted("text ", item.bytes());
-        page.words().add_hidden_names();
-        return;
+        return page.words().add_hidden_names();
     }
+    let known = known_words(item.bytes());
+    if !known.is_empty() && item.kind() == Kind::Control {
+        return page.words().add(known);
+    }
+    add_said(item, words);
     words.phrase.add_hidden_names();
     add_state(item, is_finished, &mut words.phrase);
     page.push(&words.phrase);

@@ -107,9 +107,9 @@ impl Stats {
 // Adds the line of a name.
 fn add_line(row: Row, page: &mut Page) {
     let words = page.words();
-    words.add_number(row.count, 8);
+    words.add_number(row.count, 8, 0);
     for number in [row.bytes, row.largest, row.first] {
-        words.add_number(number, 12);
+        words.add_number(number, 12, 0);
     }
     words.add("  ");
     words.add_name(row.name);
