@@ -2,12 +2,12 @@
 use Rattle.std.proofs.Common.{arith, ℕ, ◌≡◌, ◌==◌, ◌<◌, nat_le, not, true, false, Bool, List, [], ◌∷◌, ◌++◌, refl, ap, sym, subst, append-nil, append_assoc}
 use Rattle.std.specs.Prelude.{Result, OnOk}
 use Rattle.std.specs.Char.{encode_utf8}
-use Rattle.std.specs.List.{list_all, flat_map}
+use Rattle.std.specs.List.{list_all}
 use Rattle.std.proofs.lemmas.Bool.{and_parts, false≢true}
 use Rattle.std.proofs.lemmas.Bool.Decides.{nat_tests}
 use Rattle.std.proofs.lemmas.Str.{encode_ascii}
 use Rattle.esc_visible.specs.Characters.{is_shown}
-use Rattle.dump_page.specs.Quoted.{IsQuote, Quotes, QuotesSome, is_plain}
+use Rattle.dump_page.specs.Quoted.{IsQuote, Quotes, is_plain}
 use Rattle.dump_page.specs.Pages.{IsPage, is_word}
 use Rattle.dump_page.specs.Pages.Piece.{Word}
 use Rattle.dump_page.proofs.Quoting.{on_ok, quotes_itself, quotes_more, quotes_nothing}

@@ -67,6 +67,11 @@ impl Hidden {
         self.is_refused
     }
 
+    /// Whether none came, and none was refused.
+    pub fn is_empty(&self) -> bool {
+        self.counts.is_empty() && !self.is_refused
+    }
+
     /// Counts a character that is not shown, where it is no control.
     pub fn note(&mut self, c: char) {
         let code = c as u32;

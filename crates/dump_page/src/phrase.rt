@@ -354,6 +354,9 @@ impl Phrase {
 
     /// Adds the names of characters that deceive which came since they were named.
     pub fn add_hidden_names(&mut self) {
+        if self.hidden.is_empty() {
+            return;
+        }
         let hidden = mem::replace(&mut self.hidden, Hidden::new(self.alloc));
         self.is_refused = self.is_refused || hidden.is_refused();
         hidden.add_words(self);

@@ -1,5 +1,5 @@
 -- What a sink that may take anything takes at once.
-use Rattle.std.proofs.Common.{ℕ, ◌≡◌, ◌==◌, ◌&&◌, not, Bool, true, false, List, [], ◌∷◌, refl, sym, subst}
+use Rattle.std.proofs.Common.{ℕ, ◌≡◌, ◌==◌, Bool, false, List, [], ◌∷◌, refl, sym, subst}
 use Rattle.std.specs.List.{FoldsTo}
 use Rattle.esc_actions.specs.Values.{csi, osc, value_of}
 use Rattle.esc_actions.specs.declared.action.Action.{Action}

@@ -272,6 +272,10 @@ fn add_parameters(
     }
     add_entries(after_first(params, each.len()), to);
     to.add_note(chosen_words(function, number_at(params, 0).unwrap_or(0)));
+    if params.contains(&CsiParam::P(b':')) {
+        to.add(", with sub-parameters");
+        add_entries(params, to);
+    }
 }
 
 // Adds a parameter after a separator; returns what separates the next from it.

@@ -97,58 +97,54 @@ fn sets_of(function: EscapeFunction) -> Option<&'static str> {
     }
 }
 
-// Adds a sequence of two intermediates (ECMA-35, 14.3.2 and 15.4).
+// Sequences of two intermediates by both or by the first (ECMA-35, 14.3.2 and 15.4): a line each,
+// with `^` between these, the name and what it does.
+static DOUBLES: &str = "\
+$(^GZDM4^designate G0, a set of several bytes
+$)^G1DM4^designate G1, a set of several bytes
+$*^G2DM4^designate G2, a set of several bytes
+$+^G3DM4^designate G3, a set of several bytes
+$-^G1DM6^designate G1, a set of 96 of several bytes
+$.^G2DM6^designate G2, a set of 96 of several bytes
+$/^G3DM6^designate G3, a set of 96 of several bytes
+%/^DOCS^another coding system, without a return
+(^GZD4^designate G0
+)^G1D4^designate G1
+*^G2D4^designate G2
++^G3D4^designate G3
+-^G1D6^designate G1, a set of 96
+.^G2D6^designate G2, a set of 96
+/^G3D6^designate G3, a set of 96";
+
+// Adds a sequence of two intermediates.
 fn add_double(parts: Parts, to: &mut Phrase) {
-    let Parts {
-        first,
-        second,
-        last,
-        ..
-    } = parts;
-    let (name, words, sets) = match (first, second) {
-        (b'$', b'(') => (
-            "GZDM4",
-            "designate G0, a set of several bytes",
-            SETS_MULTIPLE,
-        ),
-        (b'$', b')') => (
-            "G1DM4",
-            "designate G1, a set of several bytes",
-            SETS_MULTIPLE,
-        ),
-        (b'$', b'*') => (
-            "G2DM4",
-            "designate G2, a set of several bytes",
-            SETS_MULTIPLE,
-        ),
-        (b'$', b'+') => (
-            "G3DM4",
-            "designate G3, a set of several bytes",
-            SETS_MULTIPLE,
-        ),
-        (b'$', b'-') => ("G1DM6", "designate G1, a set of 96 of several bytes", ""),
-        (b'$', b'.') => ("G2DM6", "designate G2, a set of 96 of several bytes", ""),
-        (b'$', b'/') => ("G3DM6", "designate G3, a set of 96 of several bytes", ""),
-        (b'%', b'/') => (
-            "DOCS",
-            "another coding system, without a return",
-            SETS_OTHER,
-        ),
-        (b'(', _) => ("GZD4", "designate G0", SETS_TWO),
-        (b')', _) => ("G1D4", "designate G1", SETS_TWO),
-        (b'*', _) => ("G2D4", "designate G2", SETS_TWO),
-        (b'+', _) => ("G3D4", "designate G3", SETS_TWO),
-        (b'-', _) => ("G1D6", "designate G1, a set of 96", ""),
-        (b'.', _) => ("G2D6", "designate G2, a set of 96", ""),
-        (b'/', _) => ("G3D6", "designate G3, a set of 96", ""),
-        _ => return to.begin("ESC", "", "without a name, of two intermediates"),
+    let both = [parts.first, parts.second];
+    let found = match double_in(&both) {
+        Some(found) => Some(found),
+        None => double_in(&both[..1]),
+    };
+    let Some((name, words)) = found else {
+        return to.begin("ESC", "", "without a name, of two intermediates");
     };
     to.begin("ESC", name, words);
-    if first == b'$' || first == b'%' {
-        to.add_note(set_in(sets, &[last]));
-    } else {
-        to.add_note(set_in(sets, &[second, last]));
+    to.add_note(match both {
+        [b'$', b'('..=b'+'] => set_in(SETS_MULTIPLE, &[parts.last]),
+        [b'%', _] => set_in(SETS_OTHER, &[parts.last]),
+        [b'('..=b'+', second] => set_in(SETS_TWO, &[second, parts.last]),
+        _ => "another character set",
+    });
+}
+
+// The name and the words of these intermediates.
+fn double_in(bytes: &[u8]) -> Option<(&'static str, &'static str)> {
+    for line in DOUBLES.lines() {
+        if let Some((key, rest)) = line.split_once('^') {
+            if key.as_bytes() == bytes {
+                return rest.split_once('^');
+            }
+        }
     }
+    None
 }
 
 // The name of the set of these bytes.

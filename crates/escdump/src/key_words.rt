@@ -176,6 +176,9 @@ pub fn add_function_key(params: &[CsiParam], to: &mut Phrase) {
     to.add_integer(" ", number);
     to.add_note(words_of(FUNCTION_KEYS, number, ""));
     add_modifiers(number_at(params, 1), to);
+    if let Some(event) = part_at(params, 1, 1) {
+        add_event_words(Some(event), ", pressed", to);
+    }
 }
 
 /// Adds a key that kitty reports, the modifiers that are held with it, and what became of it.
@@ -183,9 +186,26 @@ pub fn add_key(params: &[CsiParam], to: &mut Phrase) {
     to.add(" ");
     add_pressed(number_at(params, 0).unwrap_or(1), number_at(params, 1), to);
     add_event_words(part_at(params, 1, 1), ", pressed", to);
-    if let Some(text) = number_at(params, 2) {
-        to.add(", text ");
-        add_code(text, to);
+    add_code_after(", shifted ", part_at(params, 0, 1), to);
+    add_code_after(", at the place of ", part_at(params, 0, 2), to);
+    add_code_after(", text ", number_at(params, 2), to);
+    for part in 1..MOST_TEXT {
+        let code = part_at(params, 2, part);
+        if code.is_none() {
+            break;
+        }
+        add_code_after(" ", code, to);
+    }
+}
+
+// The most characters of a text that a key has; a sequence of more is past what the parser keeps.
+const MOST_TEXT: usize = 256;
+
+// Adds the character of a code after these words, where there is one.
+fn add_code_after(before: &'static str, code: Option<i64>, to: &mut Phrase) {
+    if let Some(code) = code {
+        to.add(before);
+        add_code(code, to);
     }
 }
 
