@@ -1,3 +1,4 @@
 pub mod Quoting
 pub mod PagesMore
 pub mod Finding
+pub mod PlainBytes

@@ -1,9 +1,13 @@
 -- How bytes of a stream come between quotes, and what is read there.
-use Rattle.std.specs.Prelude.{ℕ, ◌≡◌, ◌+◌, ◌*◌, ◌==◌, Bool, true, false, if◌then◌else◌, Option, Some, None, List, [], ◌∷◌, ◌++◌}
+use Rattle.std.specs.Prelude.{ℕ, ◌≡◌, ◌+◌, ◌*◌, ◌==◌, ◌&&◌, nat_le, not, Bool, true, false, if◌then◌else◌, Option, Some, None, List, [], ◌∷◌, ◌++◌}
 use Rattle.std.specs.Char.{encode_utf8, digit_value}
 use Rattle.std.specs.List.{list_all, flat_map}
 use Rattle.std.specs.Option.{is_some}
 use Rattle.esc_visible.specs.Characters.{is_shown}
+
+-- a byte that is a character which comes as it is, in words and between quotes
+abbrev pub is_plain : ℕ → Bool
+is_plain b = nat_le 0x20 b && (nat_le b 0x7e && (not (b == 0x22) && not (b == 0x5c)))
 
 -- bytes before those of the rest
 abbrev pub put : List ℕ → Option (List ℕ) → Option (List ℕ)

@@ -1,8 +1,7 @@
 //! Characters that deceive: those that have no width, break lines, or change the direction of text.
 
-ghost use Rattle.std.specs.Prelude.{◌<◌};
-
 use crate::phrase::Phrase;
+use std::alloc::Global;
 
 // A line for each row of what is counted: what the characters of it are, by Unicode's names or, of
 // several, by what they have in common.
@@ -38,57 +37,82 @@ interlinear annotation
 tag
 character without a width";
 
-const ROWS: usize = 30;
-
-/// Which of these characters came, in how many rows of a table.
+// How often the characters of a row came, and the first of them.
 #[derive(Clone, Copy)]
+struct Count {
+    row: usize,
+    first: u32,
+    count: u64,
+}
+
+/// Which of these characters came, in how many rows of a table. It takes no memory while none
+/// comes.
+#[derive(Drop)]
 pub struct Hidden {
-    counts: [u32; ROWS],
-    firsts: [u32; ROWS],
-    is_any: bool,
+    counts: Vec<Count>,
+    is_refused: bool,
 }
 
 impl Hidden {
     /// None.
-    pub fn new() -> Hidden {
+    pub fn new(alloc: Global) -> Hidden {
         Hidden {
-            counts: [0; ROWS],
-            firsts: [0; ROWS],
-            is_any: false,
+            counts: Vec::new(alloc),
+            is_refused: false,
         }
+    }
+
+    /// Whether memory was refused, and one is not counted.
+    pub fn is_refused(&self) -> bool {
+        self.is_refused
+    }
+
+    /// Whether none came, and none was refused.
+    pub fn is_empty(&self) -> bool {
+        self.counts.is_empty() && !self.is_refused
     }
 
     /// Counts a character that is not shown, where it is no control.
     pub fn note(&mut self, c: char) {
         let code = c as u32;
-        if code < 0xa0 {
-            return;
+        if code >= 0xa0 {
+            self.add(Count {
+                row: row_of(code),
+                first: code,
+                count: 1,
+            });
         }
-        let row = row_of(code);
-        if self.counts[row] == 0 {
-            self.firsts[row] = code;
-        }
-        self.counts[row] = self.counts[row].saturating_add(1);
-        self.is_any = true;
     }
 
     /// Counts those of another text too, which come after these.
     pub fn join(&mut self, others: &Hidden) {
-        if !others.is_any {
-            return;
+        self.is_refused = self.is_refused || others.is_refused;
+        for count in &others.counts {
+            self.add(*count);
         }
-        for row in 0..ROWS {
-            if self.counts[row] == 0 {
-                self.firsts[row] = others.firsts[row];
+    }
+
+    // Counts some more of a row.
+    fn add(&mut self, more: Count) {
+        if !self.has_row(more) && self.counts.push(more).is_err() {
+            self.is_refused = true;
+        }
+    }
+
+    // Adds to the count of this row, and returns whether there is one.
+    fn has_row(&mut self, more: Count) -> bool {
+        for count in &mut self.counts {
+            if count.row == more.row {
+                count.count = count.count.saturating_add(more.count);
+                return true;
             }
-            self.counts[row] = self.counts[row].saturating_add(others.counts[row]);
         }
-        self.is_any = true;
+        false
     }
 
     /// Adds each name once, with the first code point that has it, and how often it came.
     pub fn add_words(&self, to: &mut Phrase) {
-        if !self.is_any {
+        if self.counts.is_empty() {
             return;
         }
         for (row, name) in NAMES.lines().enumerate() {
@@ -98,19 +122,19 @@ impl Hidden {
 
     // Adds the name of a row, where one of its characters came.
     fn add_row(&self, row: usize, name: &'static str, to: &mut Phrase) {
-        if row < ROWS && self.counts[row] > 0 {
-            to.add(", with U+");
-            to.add_code(self.firsts[row]);
-            to.add_word(name);
-            to.add_times(self.counts[row] as u64);
+        for count in &self.counts {
+            if count.row == row {
+                to.add(", with U+");
+                to.add_code(count.first);
+                to.add_word(name);
+                to.add_times(count.count);
+            }
         }
     }
 }
 
 // The row of a character.
-fn row_of(code: u32) -> usize
-    ensures { result < 30 }
-{
+fn row_of(code: u32) -> usize {
     match code {
         0xad => 0,
         0x34f => 1,

@@ -15,12 +15,15 @@
 
 mod hidden;
 mod laws;
+mod name;
 mod page;
 mod phrase;
+mod plain;
 mod quote;
 mod quoted;
 
 pub use laws::quotes_are_found;
+pub use name::{Key, Name};
 pub use page::{Color, Page};
-pub use phrase::{Name, Phrase};
+pub use phrase::Phrase;
 pub use quote::Quote;

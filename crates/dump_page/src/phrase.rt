@@ -1,13 +1,17 @@
 //! Words, one after another.
 ghost use Rattle.std.specs.Prelude.{◌≡◌, ◌∷◌, ◌++◌, [], OnOk, true};
-ghost use Rattle.dump_page.specs.Pages.{IsPage, is_word};
+ghost use Rattle.std.specs.List.{list_all};
+ghost use Rattle.dump_page.specs.Pages.{IsPage, IsPiece, is_word};
+ghost use Rattle.dump_page.specs.Quoted.{IsQuote, is_plain};
 
 use crate::hidden::Hidden;
+use crate::name::{Key, Name};
+use crate::plain::{is_plain, plain_text};
 use crate::quote::Quote;
 use esc_values::Text;
 use esc_visible::is_shown;
 use std::alloc::{AllocError, Global};
-use std::fmt::Display;
+use std::mem;
 
 /// The words of a line, to which more are added: static texts, numbers, and bytes of the stream
 /// between quotes or escaped. Once memory is refused no more are, and
@@ -19,13 +23,10 @@ pub struct Phrase {
     name: Name,
     hidden: Hidden,
     columns: usize,
+    named: usize,
     is_refused: bool,
     ghost safe: { ∥ IsPage text ∥₁ },
 }
-
-/// What a segment is, by name: its kind, as `CSI`, and its own name, as `CUP`, which may be empty.
-#[derive(Clone, Copy, PartialEq, Eq)]
-pub struct Name(pub &'static str, pub &'static str);
 
 impl Phrase {
     /// No words. Takes no memory.
@@ -34,9 +35,10 @@ impl Phrase {
         Phrase {
             alloc,
             text: Text::new(alloc),
-            name: Name("", ""),
-            hidden: Hidden::new(),
+            name: Name("", "", Key::Nothing),
+            hidden: Hidden::new(alloc),
             columns: 0,
+            named: 0,
             is_refused: false,
         }
     }
@@ -65,13 +67,58 @@ impl Phrase {
 
     /// Adds a name, after those of other actions and `; `, and words after it, where there are any.
     pub fn begin(&mut self, kind: &'static str, name: &'static str, words: &'static str) {
+        self.begin_named(Name(kind, name, Key::Nothing), words);
+    }
+
+    /// The same, of a name that may have a key.
+    pub fn begin_named(&mut self, name: Name, words: &'static str) {
         if !self.text.is_empty() {
             self.add("; ");
         }
-        self.name = Name(kind, name);
-        self.add(kind);
-        self.add_word(name);
+        self.name = name;
+        self.add_name(name);
+        self.named = self.text.len();
         self.add_word(words);
+    }
+
+    /// Whether there are words after the name that was given last.
+    pub fn has_words(&self) -> bool {
+        self.text.len() > self.named
+    }
+
+    /// A phrase without words, of the same memory.
+    pub fn empty(&self) -> Phrase {
+        Phrase::new(self.alloc)
+    }
+
+    /// The allocator.
+    pub fn alloc(&self) -> Global {
+        self.alloc
+    }
+
+    /// Adds a name.
+    pub fn add_name(&mut self, name: Name) {
+        let Name(kind, word, key) = name;
+        self.add(kind);
+        self.add_word(word);
+        match key {
+            Key::Nothing => {}
+            Key::Number(number) => {
+                self.add(" ");
+                self.add_digits(number);
+            }
+            Key::Bytes(bytes) => self.add_key_bytes(bytes),
+        }
+    }
+
+    // Adds the bytes of a key that are not 0.
+    fn add_key_bytes(&mut self, bytes: [u8; 3]) {
+        self.add(" ");
+        for byte in bytes {
+            if byte != 0 {
+                self.add_char(char::from(byte));
+            }
+        }
     }
 
     /// Adds a space and a word, where it is not empty.
@@ -101,33 +148,49 @@ impl Phrase {
         }
     }
 
-    /// Adds words and, after them, what Display writes of a number or a colour.
-    pub fn add_value<D: Display>(&mut self, before: &'static str, value: &D) {
+    /// Adds words and a number after them.
+    pub fn add_integer(&mut self, before: &'static str, number: i64) {
         self.add(before);
-        let mut text = Text::new(self.alloc);
-        if text.push_display(value).is_err() {
-            self.is_refused = true;
+        if number < 0 {
+            self.add("-");
         }
-        self.push_words(text.as_str());
+        self.add_digits(number.unsigned_abs());
     }
 
     /// Adds how often something came, where that is more than once.
     pub fn add_times(&mut self, count: u64) {
         if count > 1 {
-            self.add_value(", ", &count);
+            self.add(", ");
+            self.add_digits(count);
             self.add(" times");
         }
     }
 
-    /// Adds a number, after spaces where it has fewer digits than this.
-    pub fn add_number(&mut self, number: u64, width: usize) {
-        let mut digits = Phrase::new(self.alloc);
-        digits.add_value("", &number);
-        for _ in digits.text.len()..width {
-            self.add(" ");
+    /// Adds a number in decimal.
+    pub fn add_digits(&mut self, number: u64) {
+        self.add_number(number, 0, 0);
+    }
+
+    /// Adds a number in decimal, after spaces where it has fewer digits than this, and so many
+    /// spaces after it: 32 characters at most.
+    pub fn add_number(&mut self, number: u64, width: usize, after: usize) {
+        let mut text = [b' '; 32];
+        let mut start = 32_usize.saturating_sub(after);
+        let least = start.saturating_sub(width);
+        let mut left = number;
+        for _ in 0..20 {
+            if start > 0 && start <= 32 {
+                start -= 1;
+                text[start] = b'0' + (left % 10) as u8;
+            }
+            left /= 10;
+            if left == 0 {
+                break;
+            }
         }
-        self.is_refused = self.is_refused || digits.is_refused;
-        self.push_words(digits.as_str());
+        if let Some(text) = plain_text(&text[start.min(least).min(32)..]) {
+            self.push_plain(text);
+        }
     }
 
     /// An empty quote.
@@ -137,30 +200,32 @@ impl Phrase {
 
     /// Adds words and, between quotes, bytes of the stream.
     pub fn add_quoted(&mut self, before: &'static str, bytes: &[u8]) {
+        if let Some(text) = plain_text(bytes) {
+            self.add(before);
+            return self.push_quote(text);
+        }
         let mut quote = self.quote();
         quote.add(bytes);
         self.add_quote(before, &quote);
     }
 
-    /// Adds words and, between quotes, what Display writes of a value.
-    pub fn add_shown<D: Display>(&mut self, before: &'static str, value: &D) {
-        let mut text = Text::new(self.alloc);
-        if text.push_display(value).is_err() {
-            self.is_refused = true;
-        }
-        self.add_quoted(before, text.as_bytes());
-    }
-
     /// Adds words and, between quotes, what is quoted.
-    #[tactic(auto, using(crate::proofs::PagesMore::no_page))]
     pub fn add_quote(&mut self, before: &'static str, quote: &Quote) {
         self.add(before);
+        self.hidden.join(quote.hidden());
         self.is_refused = self.is_refused || quote.is_refused();
-        self.hidden.join(&quote.hidden());
+        self.push_quote(quote.as_str());
+    }
+
+    // Adds what is quoted, between quotes.
+    #[tactic(auto, using(crate::proofs::PagesMore::no_page))]
+    fn push_quote(&mut self, quoted: &str)
+        requires { ∥ IsQuote quoted.now ∥₁ }
+    {
         if self.is_refused {
             return;
         }
-        match push_between(quote.as_str(), &mut self.text) {
+        match push_between(quoted, &mut self.text) {
             Ok(()) => {}
             Err(_) => {
                 self.text = Text::new(self.alloc);
@@ -171,6 +236,10 @@ impl Phrase {
 
     /// Adds words and a string of JSON (RFC 8259, 7) after them, of which the value is this.
     pub fn add_string(&mut self, before: &'static str, value: &str) {
+        if is_plain(value.as_bytes()) {
+            self.add(before);
+            return self.push_quote(value);
+        }
         let mut quote = self.quote();
         quote.add_string(value);
         self.add_quote(before, &quote);
@@ -186,35 +255,63 @@ impl Phrase {
     /// not all: a character that is shown as itself, but `\` as `\\`, and each other byte, and `"`,
     /// as `\x` with two hexadecimal digits.
     pub fn add_bytes(&mut self, bytes: &[u8], room: usize) {
-        let mut is_cut = false;
-        for chunk in bytes.utf8_chunks() {
-            for c in chunk.valid().chars() {
-                is_cut = self.columns >= room;
-                if is_cut {
-                    break;
-                }
-                self.add_char(c);
+        let end = self.columns.saturating_add(room);
+        let is_whole = match bytes {
+            [0x1b, rest @ ..] => {
+                self.add_byte(0x1b);
+                self.add_before(rest, end)
             }
-            for byte in chunk.invalid() {
-                is_cut = self.columns >= room;
-                if is_cut {
-                    break;
-                }
-                self.add_byte(*byte);
-            }
-        }
-        if is_cut {
+            _ => self.add_before(bytes, end),
+        };
+        if !is_whole {
             self.add("..");
         }
+    }
+
+    // Adds the first bytes in this way, before this column, and returns whether they are all.
+    fn add_before(&mut self, bytes: &[u8], end: usize) -> bool {
+        let most = end.saturating_sub(self.columns).min(bytes.len());
+        let (first, rest) = bytes.split_at(most);
+        if let Some(text) = plain_text(first) {
+            self.push_plain(text);
+            return rest.is_empty();
+        }
+        for chunk in bytes.utf8_chunks() {
+            let is_whole = self.add_text(chunk.valid(), end);
+            if !is_whole || !self.add_invalid(chunk.invalid(), end) {
+                return false;
+            }
+        }
+        true
+    }
+
+    // Adds the first characters in this way, and returns whether they are all.
+    fn add_text(&mut self, text: &str, end: usize) -> bool {
+        for c in text.chars() {
+            if self.columns >= end {
+                return false;
+            }
+            self.add_char(c);
+        }
+        true
+    }
+
+    // Adds the first bytes that are no part of a character, and returns whether they are all.
+    fn add_invalid(&mut self, bytes: &[u8], end: usize) -> bool {
+        for byte in bytes {
+            if self.columns >= end {
+                return false;
+            }
+            self.add_byte(*byte);
+        }
+        true
     }
 
     /// Adds a character in this way.
     pub fn add_char(&mut self, c: char) {
         if c == '\\' {
-            self.columns = self.columns.saturating_add(2);
             self.add("\\\\");
         } else if is_shown(c) && c != '"' {
-            self.columns = self.columns.saturating_add(1);
             self.push_word(c);
         } else {
             self.add_hidden(c);
@@ -232,7 +329,6 @@ impl Phrase {
 
     // Adds a byte as its number.
     fn add_byte(&mut self, byte: u8) {
-        self.columns = self.columns.saturating_add(4);
         self.add("\\x");
         self.add_hex(byte, b'a');
     }
@@ -256,17 +352,67 @@ impl Phrase {
         self.add_hex(low, b'A');
     }
 
-    /// Adds the names of characters that deceive which came.
+    /// Adds the names of characters that deceive which came since they were named.
     pub fn add_hidden_names(&mut self) {
-        let hidden = self.hidden;
+        if self.hidden.is_empty() {
+            return;
+        }
+        let hidden = mem::replace(&mut self.hidden, Hidden::new(self.alloc));
+        self.is_refused = self.is_refused || hidden.is_refused();
         hidden.add_words(self);
+    }
+
+    /// Forgets which characters that deceive came.
+    pub fn forget_hidden(&mut self) {
+        self.hidden = Hidden::new(self.alloc);
     }
 
     // Adds words.
     fn push_words(&mut self, words: &str) {
+        if is_plain(words.as_bytes()) {
+            return self.push_plain(words);
+        }
         for c in words.chars() {
             self.push(c);
         }
+    }
+
+    // Adds plain words.
+    fn push_plain(&mut self, words: &str)
+        requires { list_all is_plain words.now ≡ true }
+    {
+        self.columns = self.columns.saturating_add(words.len());
+        if !self.is_refused {
+            self.is_refused = self.text.push_str(words).is_err();
+        }
+    }
+
+    /// How many columns come before what is added next, but for what is quoted.
+    pub(crate) fn columns(&self) -> usize {
+        self.columns
+    }
+
+    /// Adds another phrase.
+    pub(crate) fn add_phrase(&mut self, phrase: &Phrase) {
+        self.is_refused = self.is_refused || phrase.is_refused;
+        if !self.is_refused {
+            self.is_refused = self.text.push_str(phrase.as_str()).is_err();
+        }
+    }
+
+    /// Adds a change of the colour or the end of a line.
+    pub(crate) fn push_piece(&mut self, piece: &str)
+        requires { IsPiece piece.now }
+    {
+        if !self.is_refused {
+            self.is_refused = self.text.push_str(piece).is_err();
+        }
+    }
+
+    /// Ends the line.
+    pub(crate) fn end_line(&mut self) {
+        self.push_piece("\n");
+        self.columns = 0;
     }
 
     // Adds a character of words, or U+FFFD for one that is none.
@@ -282,6 +428,7 @@ impl Phrase {
     fn push_word(&mut self, c: char)
         requires { is_word c ≡ true }
     {
+        self.columns = self.columns.saturating_add(1);
         if !self.is_refused {
             self.is_refused = self.text.push(c).is_err();
         }

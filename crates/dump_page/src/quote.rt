@@ -25,7 +25,7 @@ impl Quote {
         Quote {
             alloc,
             text: Text::new(alloc),
-            hidden: Hidden::new(),
+            hidden: Hidden::new(alloc),
             is_refused: false,
         }
     }
@@ -43,8 +43,8 @@ impl Quote {
     }
 
     /// Which characters that deceive came.
-    pub(crate) fn hidden(&self) -> Hidden {
-        self.hidden
+    pub(crate) fn hidden(&self) -> &Hidden {
+        &self.hidden
     }
 
     /// Adds bytes.

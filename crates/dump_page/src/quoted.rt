@@ -6,6 +6,7 @@ ghost use Rattle.esc_visible.specs.Characters.{is_shown};
 ghost use Rattle.dump_page.specs.Quoted.{Quotes, QuotesSome};
 
 use crate::hidden::Hidden;
+use crate::plain::is_plain;
 use esc_values::Text;
 use esc_visible::is_shown;
 use std::alloc::AllocError;
@@ -37,6 +38,9 @@ fn push_chunk(chunk: Utf8Chunk<'_>, to: &mut Text, hidden: &mut Hidden) -> Resul
 fn push_text(text: &str, to: &mut Text, hidden: &mut Hidden) -> Result<(), AllocError>
     ensures { OnOk result (Quotes to.old to.new text.now) }
 {
+    if is_plain(text.as_bytes()) {
+        return to.push_str(text);
+    }
     for c in text.chars() {
         push_char(c, to, hidden)?;
     }

@@ -35,7 +35,7 @@ const REPORTS: &str = "\
 5 ask for the status
 6 ask for the cursor position";
 
-// 996 and 997 are those of contour and kitty.
+// 996 is that of contour and kitty.
 const PRIVATE_REPORTS: &str = "\
 6 ask for the cursor position and page
 10 the printer is ready
@@ -60,10 +60,9 @@ const PRIVATE_REPORTS: &str = "\
 71 the data have a fault
 73 there were no data yet
 75 ask whether the data came whole
-83 sessions are ready
+83 there is one session alone
 85 ask for sessions
-996 ask for the colour scheme
-997 report of the colour scheme: 1 dark, 2 light";
+996 ask for the colour scheme";
 
 const CURSORS: &str = "\
 0 default
@@ -87,9 +86,6 @@ const WINDOW: &str = "\
 5 raise
 6 lower
 7 refresh
-8 resize in characters
-9 maximise
-10 full screen
 11 ask for state
 13 ask for position
 14 ask for size in pixels
@@ -98,9 +94,7 @@ const WINDOW: &str = "\
 18 ask for size in characters
 19 ask for size of the screen in characters
 20 ask for icon label
-21 ask for title
-22 push title
-23 pop title";
+21 ask for title";
 
 // The functions of which the first number chooses, and what.
 static CHOICES: [(ControlFunction, &str); 10] = [

@@ -10,7 +10,7 @@ pub fn add_color(what: &'static str, color: ColorSpec, to: &mut Phrase) {
     to.add(what);
     match color {
         ColorSpec::Default => to.add("default"),
-        ColorSpec::PaletteIndex(index) => to.add_value("palette ", &index),
+        ColorSpec::PaletteIndex(index) => to.add_integer("palette ", i64::from(index)),
         ColorSpec::TrueColor(rgb) => add_channels(rgb, to),
     }
 }

@@ -3,29 +3,65 @@
 use dump_page::Phrase;
 use esc_functions::{C0, EscapeFunction};
 
-/// How many C0 controls there are.
-pub const COUNT: usize = 32;
+/// A C0 control, and how often it came.
+#[derive(Clone, Copy)]
+pub struct Count {
+    /// The control.
+    pub code: u8,
+    /// How often it came.
+    pub times: u64,
+}
 
-/// Adds the C0 controls that came inside a sequence, or alone, by their names, in the order of
-/// their codes: each once, with how often it came.
-pub fn add_controls(counts: &[u64; COUNT], to: &mut Phrase) {
-    for (code, count) in (0..32_u8).zip(counts) {
-        if *count > 0 {
-            add_control(code, *count, to);
+/// Adds the C0 controls that came inside a sequence by their names, in the order of their codes:
+/// each once, with how often it came.
+pub fn add_controls(counts: &[Count], to: &mut Phrase) {
+    for code in 0..32_u8 {
+        for count in counts {
+            if count.code == code {
+                add_c0(code, to);
+                to.add_times(count.times);
+            }
         }
     }
 }
 
-// Adds the control of this code.
-fn add_control(code: u8, count: u64, to: &mut Phrase) {
+/// The words of the commonest controls, with their names; nothing of any other.
+pub fn known_words(bytes: &[u8]) -> &'static str {
+    match bytes {
+        b"\n" => "control LF line feed",
+        b"\r" => "control CR carriage return",
+        b"\x08" => "control BS backspace",
+        b"\t" => "control HT tab",
+        b"\x07" => "control BEL bell",
+        _ => "",
+    }
+}
+
+// Adds the C0 control of this code.
+fn add_c0(code: u8, to: &mut Phrase) {
     if let Some(control) = C0::of(code) {
         to.begin("control", control.name(), control.words());
     }
-    to.add_times(count);
 }
 
-/// Adds a C1 control, 80 to 9F (hexadecimal), by its name, where it has one.
-pub fn add_c1(code: u8, to: &mut Phrase) {
+/// Adds a control of these bytes by its name, where it has one: of C0, or of C1 as one byte or two.
+pub fn add_control(bytes: &[u8], to: &mut Phrase) {
+    match bytes {
+        [.., code] if *code < 0x20 => add_c0(*code, to),
+        [.., code] => add_c1(*code, to),
+        [] => to.begin("control", "", ""),
+    }
+}
+
+// Adds a C1 control, 80 to 9F (hexadecimal). Those that no edition of ECMA-48 has are those of a
+// draft of ISO/IEC 10646 (RFC 1345).
+fn add_c1(code: u8, to: &mut Phrase) {
+    match code {
+        0x80 => return to.begin("control", "PAD", "padding character"),
+        0x81 => return to.begin("control", "HOP", "high octet preset"),
+        0x99 => return to.begin("control", "SGC", "single graphic character introducer"),
+        _ => {}
+    }
     match EscapeFunction::of_c1(code) {
         Some(function) => to.begin("control", function.name(), function.words()),
         None => to.begin("control", "", "without a name"),

@@ -1,31 +1,135 @@
 //! Control sequences in words.
 
 use crate::choices::chosen_words;
+use crate::csi_table::table_of;
 use crate::entries::{after_first, is_mark, number_at};
+use crate::fields::add_fields;
 use crate::key_words::{add_flags, add_function_key, add_key, add_mouse};
 use crate::mode_words::{add_modes, add_private_modes, add_state};
 use crate::renditions::add_renditions;
+use crate::rows::{Row, find_row};
 use dump_page::Phrase;
-use esc_functions::{ControlFunction, Parameter, Parameters};
-use esc_sequences::Unspecified;
+use esc_functions::{ControlFunction, Effect, Parameter, Parameters};
 use esc_values::CsiParam;
 
 /// Adds a control sequence by its name, where it has one.
-pub fn add_sequence(sequence: &Unspecified, to: &mut Phrase) {
-    add_named(sequence.params.as_slice(), sequence.control, to);
-    if sequence.parameters_truncated {
+pub fn add_sequence(params: &[CsiParam], is_truncated: bool, last: u8, to: &mut Phrase) {
+    let function = ControlFunction::of_csi_params(params, last);
+    let table = table_of(last);
+    if table.is_empty()
+        || !may_have_row(function, params)
+        || !add_by_row(table, function, params, to)
+    {
+        add_named(function, params, last, to);
+    }
+    if is_truncated {
         to.add(", and more parameters");
     }
 }
 
-// Adds the function of these parameters and this final byte, where it has a name.
-fn add_named(params: &[CsiParam], last: u8, to: &mut Phrase) {
-    match ControlFunction::of_csi_params(params, last) {
-        Some(function) => add_function(function, params, to),
-        None => {
-            to.begin("CSI", "", "without a name, of the final byte ");
-            to.add_char(char::from(last));
+// Whether a row may be of these parameters: renditions have none, and movements of the cursor as
+// keys alone, with modifiers.
+fn may_have_row(function: Option<ControlFunction>, params: &[CsiParam]) -> bool {
+    match function {
+        Some(ControlFunction::SGR) => false,
+        Some(
+            ControlFunction::CUU
+            | ControlFunction::CUD
+            | ControlFunction::CUF
+            | ControlFunction::CUB
+            | ControlFunction::CNL
+            | ControlFunction::CPL
+            | ControlFunction::DCH
+            | ControlFunction::SU,
+        ) => params.contains(&CsiParam::P(b';')),
+        _ => true,
+    }
+}
+
+// Adds a sequence by the row of these parameters, and returns whether there is one.
+fn add_by_row(
+    table: &'static str,
+    function: Option<ControlFunction>,
+    params: &[CsiParam],
+    to: &mut Phrase,
+) -> bool {
+    let mut marks = to.empty();
+    let mut text = to.empty();
+    add_marks(params, &mut marks);
+    add_entries_after("", params, &mut text);
+    if marks.is_refused() || text.is_refused() {
+        to.refuse();
+    }
+    let given = Some(text.as_str().as_bytes());
+    match find_row(table, marks.as_str().as_bytes(), given) {
+        Some((row, rest)) => {
+            begin_row(row, function, to);
+            add_fields(row.fields, not_empty(rest), to);
+            true
         }
+        None => false,
+    }
+}
+
+// Adds the name and the words of a row, or of the function, where the row has none.
+fn begin_row(row: Row, function: Option<ControlFunction>, to: &mut Phrase) {
+    match function {
+        Some(function) => {
+            let words = if row.words.is_empty() {
+                function.words()
+            } else {
+                row.words
+            };
+            to.begin("CSI", function.name(), words);
+        }
+        None => to.begin("CSI", row.more, row.words),
+    }
+}
+
+// Adds the private prefix and the intermediates.
+fn add_marks(params: &[CsiParam], to: &mut Phrase) {
+    for param in params {
+        if let CsiParam::P(byte) = *param {
+            if is_mark(*param) {
+                to.add_char(char::from(byte));
+            }
+        }
+    }
+}
+
+// A text, where it is not empty.
+fn not_empty(text: Option<&[u8]>) -> Option<&[u8]> {
+    match text {
+        Some([]) | None => None,
+        Some(text) => Some(text),
+    }
+}
+
+// Adds a function by what its parameters are, where it has a name.
+fn add_named(function: Option<ControlFunction>, params: &[CsiParam], last: u8, to: &mut Phrase) {
+    let Some(function) = function else {
+        to.begin("CSI", "", "without a name, of the final byte ");
+        return to.add_char(char::from(last));
+    };
+    if params.contains(&CsiParam::P(b':')) && !has_parts(function) {
+        to.begin("CSI", function.name(), function_words(function, params));
+        to.add(", with sub-parameters that it has none of,");
+        add_entries(params, to);
+    } else {
+        add_function(function, params, to);
+    }
+}
+
+// Whether the parameters of a function may have parts with `:` between them.
+fn has_parts(function: ControlFunction) -> bool {
+    match function.row().parameters {
+        Parameters::Renditions
+        | Parameters::RectangleRenditions
+        | Parameters::KeyEvent
+        | Parameters::Key
+        | Parameters::ExtraCursors
+        | Parameters::Colors => true,
+        _ => false,
     }
 }
 
@@ -35,7 +139,7 @@ fn add_function(function: ControlFunction, params: &[CsiParam], to: &mut Phrase)
     to.begin("CSI", function.name(), function_words(function, params));
     match parameters {
         Parameters::Renditions => add_renditions(params, to),
-        Parameters::Mode | Parameters::Modes => add_modes(params, to),
+        Parameters::Mode | Parameters::Modes => add_modes(function, params, to),
         Parameters::PrivateMode | Parameters::PrivateModes => {
             add_private_modes(function, params, to)
         }
@@ -80,7 +184,7 @@ fn add_number(function: ControlFunction, params: &[CsiParam], to: &mut Phrase) {
 
 // Adds a line or a column, which the function's words name already.
 fn add_one(params: &[CsiParam], to: &mut Phrase) {
-    to.add_value(" ", &number_at(params, 0).unwrap_or(1));
+    to.add_integer(" ", number_at(params, 0).unwrap_or(1).max(1));
     add_entries(after_first(params, 1), to);
 }
 
@@ -157,12 +261,21 @@ fn add_parameters(
     params: &[CsiParam],
     to: &mut Phrase,
 ) {
+    let is_report = function.row().effect == Effect::Report;
     let mut separator = " ";
     for (place, parameter) in each.iter().enumerate() {
-        separator = add_parameter(*parameter, number_at(params, place), separator, to);
+        let number = match number_at(params, place) {
+            Some(0) if !is_report && counts_from_one(*parameter) => None,
+            number => number,
+        };
+        separator = add_parameter(*parameter, number, separator, to);
     }
     add_entries(after_first(params, each.len()), to);
     to.add_note(chosen_words(function, number_at(params, 0).unwrap_or(0)));
+    if params.contains(&CsiParam::P(b':')) {
+        to.add(", with sub-parameters");
+        add_entries(params, to);
+    }
 }
 
 // Adds a parameter after a separator; returns what separates the next from it.
@@ -175,8 +288,8 @@ fn add_parameter(
     match number.or(first_of(parameter)) {
         Some(number) => {
             let what = label_of(parameter);
-            to.add_all(&[separator, what]);
-            to.add_value("", &number);
+            to.add(separator);
+            to.add_integer(what, number);
             if what.is_empty() { ";" } else { ", " }
         }
         None => {
@@ -215,17 +328,40 @@ fn first_of(parameter: Parameter) -> Option<i64> {
     }
 }
 
+// Whether a terminal takes a 0 as a parameter that is left out (the VT510's manual; xterm).
+fn counts_from_one(parameter: Parameter) -> bool {
+    match parameter {
+        Parameter::Count
+        | Parameter::Line
+        | Parameter::Column
+        | Parameter::LastLine
+        | Parameter::LastColumn
+        | Parameter::Page => true,
+        Parameter::Selector(_)
+        | Parameter::Mode
+        | Parameter::PrivateMode
+        | Parameter::Rendition
+        | Parameter::Number => false,
+    }
+}
+
 /// Adds the numbers of some parameters and what separates them, after a space where they begin with
 /// a number.
 pub fn add_entries(params: &[CsiParam], to: &mut Phrase) {
-    let mut space = " ";
+    add_entries_after(" ", params, to);
+}
+
+// The same, after this where they begin with a number.
+fn add_entries_after(before: &'static str, params: &[CsiParam], to: &mut Phrase) {
+    let mut space = before;
     for param in params {
         match *param {
-            CsiParam::Integer(number) => to.add_value(space, &number),
+            CsiParam::Integer(number) => to.add_integer(space, number),
             CsiParam::P(byte) => {
-                if !is_mark(*param) {
-                    to.add_char(char::from(byte));
+                if is_mark(*param) {
+                    continue;
                 }
+                to.add_char(char::from(byte));
             }
         }
         space = "";

@@ -1,95 +1,149 @@
 //! Device control strings and images in words.
 
-pub mod kitty;
-
-use dump_page::Phrase;
-use esc_device::{EnterDeviceControlMode, ShortDeviceControl};
+use crate::device_table::CONTROLS;
+use crate::fields::add_fields;
+use crate::rows::{Row, headed};
+use dump_page::{Key, Name, Phrase};
 use esc_sixel::Sixel;
-use esc_values::Text;
-
-// Device controls: a line each, with its intermediates, or its private prefix, and its final byte;
-// its name; what it does. The VT510's manual (<https://vt100.net/docs/vt510-rm/chapter4.html>;
-// DEC..), DEC's manual of ReGIS (<https://vt100.net/docs/vt3xx-gp/chapter1.html>), and xterm's list
-// (<https://invisible-island.net/xterm/ctlseqs/ctlseqs.html>, "Device-Control functions").
-static DEVICE_CONTROLS: &str = "\
-$q DECRQSS ask for a setting
-$r DECRPSS report of a setting
-$t DECRSPS restore presentation state
-+p XTSETTCAP set termcap data
-+r XTGETTCAP report of termcap data
-!u DECAUPSS assign preferred supplemental set
-!z DECDMAC define macro
-!| DECRPTUI report of the terminal's unit
->| XTVERSION report of name and version
-=s BSU/ESU synchronized update
-p ReGIS graphics
-t tmux passed on by tmux
-{ DECDLD load characters
-| DECUDK user-defined keys";
-
-/// Adds the header of a device control string in words.
-pub fn add_enter(enter: &EnterDeviceControlMode, to: &mut Phrase) {
-    let params = enter.params.as_slice();
-    if enter.byte == b'p' && params == [1000].as_slice() {
-        to.begin("DCS", "tmux", "control mode");
-    } else {
-        add_header(enter.intermediates.as_slice(), enter.byte, to);
-    }
-    let mut separator = " ";
-    for param in params {
-        to.add_value(separator, param);
-        separator = ";";
-    }
-    if enter.ignored_extra_intermediates {
-        to.add(", and more intermediates");
-    }
-}
-
-// Adds the name and the words of a device control, where it has them.
-fn add_header(intermediates: &[u8], last: u8, to: &mut Phrase) {
-    for line in DEVICE_CONTROLS.lines() {
-        if let Some((key, rest)) = line.split_once(' ') {
-            if is_key(key.as_bytes(), intermediates, last) {
-                return add_named(rest, to);
-            }
-        }
-    }
-    to.begin("DCS", "", "without a name");
-}
-
-// Whether the key of a line has these intermediates and this final byte.
-fn is_key(key: &[u8], intermediates: &[u8], last: u8) -> bool {
-    match key.split_last() {
-        Some((end, before)) => *end == last && before == intermediates,
-        None => false,
-    }
-}
-
-// Adds a name, a space and words.
-fn add_named(line: &'static str, to: &mut Phrase) {
-    if let Some((name, words)) = line.split_once(' ') {
-        to.begin("DCS", name, words);
-    }
-}
-
-/// Adds a short device control in words.
-pub fn add_short(short: &ShortDeviceControl, to: &mut Phrase) {
-    add_header(short.intermediates.as_slice(), short.byte, to);
-    to.add_quoted(" ", short.content.as_slice());
-}
-
-/// Adds a termcap query in words.
-pub fn add_query(names: &[Text], to: &mut Phrase) {
-    to.begin("DCS", "XTGETTCAP", "ask for termcap data");
-    for name in names {
-        to.add_quoted(" ", name.as_bytes());
-    }
-}
 
 /// Adds the size of a sixel image in words.
 pub fn add_sixel(image: &Sixel, to: &mut Phrase) {
     let (width, height) = image.dimensions();
     to.begin("DCS", "sixel", "image");
-    to.add_value(", width ", &width);
-    to.add_value(", height ", &height);
+    to.add(", width ");
+    to.add_digits(u64::from(width));
+    to.add(", height ");
+    to.add_digits(u64::from(height));
+}
+
+// A device control string, taken apart: its parameters, its private prefix and intermediates, of
+// which two are kept, its final byte, and its data.
+#[derive(Clone, Copy)]
+struct Parts<'t> {
+    params: &'t [u8],
+    key: [u8; 3],
+    count: usize,
+    data: &'t [u8],
+}
+
+impl Parts<'_> {
+    // The prefix, the intermediates and the final byte.
+    fn key(&self) -> &[u8] {
+        match self.count {
+            0 => &self.key[2..],
+            1 => &self.key[1..],
+            _ => &self.key,
+        }
+    }
+
+    // Adds a prefix or an intermediate.
+    fn add(&mut self, byte: u8) {
+        if self.count == 0 {
+            self.key[1] = byte;
+        } else {
+            self.key[0] = self.key[1];
+            self.key[1] = byte;
+        }
+        self.count = self.count.saturating_add(1);
+    }
+}
+
+// The parts of a device control string of these bytes, where its header is whole.
+fn parts_of(text: &[u8]) -> Option<Parts<'_>> {
+    let mut parts = Parts {
+        params: &[],
+        key: [0; 3],
+        count: 0,
+        data: &[],
+    };
+    for at in 0..text.len() {
+        match text[at] {
+            0x40..=0x7e => {
+                parts.key[2] = text[at];
+                parts.params = digits_in(&text[..at]);
+                parts.data = &text[at + 1..];
+                return Some(parts);
+            }
+            0x20..=0x2f | 0x3c..=0x3f => parts.add(text[at]),
+            _ => {}
+        }
+    }
+    None
+}
+
+// The parameters of a header: from the first digit on, up to what is no parameter.
+fn digits_in(header: &[u8]) -> &[u8] {
+    let header = match header {
+        [0x3c..=0x3f, rest @ ..] => rest,
+        _ => header,
+    };
+    for at in 0..header.len() {
+        if matches!(header[at], 0x20..=0x2f) {
+            return &header[..at];
+        }
+    }
+    header
+}
+
+/// Adds a device control string of these bytes in words: by the row of its final byte with its
+/// intermediates, of which some are told apart by their data or their parameters.
+pub fn add_device(text: &[u8], to: &mut Phrase) {
+    let Some(parts) = parts_of(text) else {
+        to.begin("DCS", "", "device control string");
+        return to.add_quoted(" ", text);
+    };
+    for line in CONTROLS.lines() {
+        if let Some(row) = headed(line, parts.key()) {
+            if let Some(rest) = data_rest(row.key, parts) {
+                return add_row(row, parts.params, rest, to);
+            }
+        }
+    }
+    to.begin_named(Name("DCS", "", Key::Bytes(parts.key)), "without a name");
+    add_params(parts.params, to);
+    if !parts.data.is_empty() {
+        to.add_quoted(" ", parts.data);
+    }
+}
+
+// What the data have after what a row asks for: their beginning, or after a `#` parameters.
+fn data_rest<'t>(asked: &'static str, parts: Parts<'t>) -> Option<&'t [u8]> {
+    if let Some(params) = asked.strip_prefix('#') {
+        return if parts.params == params.as_bytes() {
+            Some(parts.data)
+        } else {
+            None
+        };
+    }
+    let start = asked.as_bytes();
+    if parts.data.len() < start.len() {
+        return None;
+    }
+    let (found, rest) = parts.data.split_at(start.len());
+    if found == start { Some(rest) } else { None }
+}
+
+// Adds a device control string that a row has.
+fn add_row(row: Row, params: &[u8], data: &[u8], to: &mut Phrase) {
+    let (name, fields) = match row.more.split_once('^') {
+        Some(halves) => halves,
+        None => (row.more, ""),
+    };
+    to.begin("DCS", name, row.words);
+    if fields.is_empty() {
+        add_params(params, to);
+    } else if !params.is_empty() {
+        add_fields(fields, Some(params), to);
+    }
+    if !data.is_empty() {
+        add_fields(row.fields, Some(data), to);
+    }
+}
+
+// Adds the parameters as they are.
+fn add_params(params: &[u8], to: &mut Phrase) {
+    if !params.is_empty() {
+        to.add(" ");
+        to.add_bytes(params, usize::MAX);
+    }
 }

@@ -1,7 +1,8 @@
 //! From bytes to lines.
+ghost use Rattle.std.specs.Prelude.{◌≤◌, length};
 
 use crate::item::Item;
-use crate::line::add_line;
+use crate::line::{add_line, add_said};
 use crate::options::{Form, Options};
 use crate::resume::{held_back, resumed};
 use crate::stats::Stats;
@@ -34,7 +35,7 @@ impl Dump {
             alloc,
             options,
             parser: Parser::with_limit(alloc, options.limit),
-            words: Words::new(alloc, options.limit),
+            words: Words::new(alloc),
             item: Item::new(alloc),
             begun: Vec::new(alloc),
             known: 0,
@@ -60,11 +61,29 @@ impl Dump {
     fn take_segments(&mut self, bytes: &[u8]) {
         let mut known = self.known;
         self.known = 0;
-        for segment in Segments::new(bytes) {
+        let mut rest = bytes;
+        for _ in 0..u64::MAX {
+            if known == 0 {
+                rest = self.take_shown(rest);
+            }
+            let Some(segment) = Segments::new(rest).next() else {
+                break;
+            };
+            let length = segment.bytes.len().min(rest.len());
             self.take_segment(segment, known);
+            rest = &rest[length..];
             known = 0;
         }
         self.end_text();
+    }
+
+    // Takes the characters of one byte that come first, and returns what is after them.
+    fn take_shown<'b>(&mut self, bytes: &'b [u8]) -> &'b [u8] {
+        let (shown, rest) = bytes.split_at(shown_run(bytes));
+        if !shown.is_empty() {
+            self.take_piece(SegmentKind::Character, shown);
+        }
+        rest
     }
 
     // Takes the bytes of a segment after those that are known, of an unfinished one but for those
@@ -109,16 +128,20 @@ impl Dump {
         }
         self.page
             .note(!self.item.add(kind, bytes, self.options.limit));
-        self.feed(bytes);
+        if is_parsed(kind) {
+            self.feed(bytes);
+        }
     }
 
     // Takes the last bytes of a segment. A cancel, which cannot be part of any segment but its own,
-    // ends what it means.
+    // ends what it means where its last byte does not.
     fn take_last(&mut self, kind: SegmentKind, bytes: &[u8]) {
         self.take_piece(kind, bytes);
-        if kind != SegmentKind::Character {
+        if is_left_open(kind) {
             self.words.is_ending = true;
             self.feed(b"\x18");
+        }
+        if kind != SegmentKind::Character {
             self.end_line(true);
         }
     }
@@ -132,7 +155,7 @@ impl Dump {
 
     // Adds the words of the actions of these bytes.
     fn feed(&mut self, bytes: &[u8]) {
-        let words = mem::replace(&mut self.words, Words::new(self.alloc, self.options.limit));
+        let words = mem::replace(&mut self.words, Words::new(self.alloc));
         let (result, words) = self.parser.parse_into(bytes, words);
         self.words = words;
         self.page.note(result.is_err());
@@ -140,19 +163,22 @@ impl Dump {
 
     // Adds the line of a run of text or a segment, after which nothing is unfinished.
     fn end_line(&mut self, is_finished: bool) {
-        self.words.add_counted();
-        self.page.note(self.words.phrase.is_refused());
         if self.options.has(self.item.kind()) {
             self.add_selected(is_finished);
         }
         self.item.end();
-        self.words = Words::new(self.alloc, self.options.limit);
+        self.words.clear();
     }
 
     // Adds the line of what is selected, or counts it.
     fn add_selected(&mut self, is_finished: bool) {
         match self.options.form {
-            Form::Stats => self.page.note(!self.stats.add(&self.item, &self.words)),
+            Form::Stats => {
+                add_said(&self.item, &mut self.words);
+                self.page.note(self.words.phrase.is_refused());
+                let name = self.words.phrase.name();
+                self.page.note(!self.stats.add(&self.item, name));
+            }
             form => add_line(
                 form,
                 &self.item,
@@ -162,4 +188,41 @@ impl Dump {
             ),
         }
     }
+}
+
+// How many bytes come first that are characters of one byte: they are segments of their own, where
+// nothing before them is unfinished.
+fn shown_run(bytes: &[u8]) -> usize
+    ensures { result ≤ length bytes.now }
+{
+    for at in 0..bytes.len() {
+        if !matches!(bytes[at], 0x20..=0x7e) {
+            return at;
+        }
+    }
+    bytes.len()
+}
+
+// Whether a segment is given to the parser: it is one in which controls may be, or of which it
+// makes what is not made of its bytes. Others leave the parser as it was.
+fn is_parsed(kind: SegmentKind) -> bool {
+    match kind {
+        SegmentKind::Escape
+        | SegmentKind::Csi
+        | SegmentKind::Dcs
+        | SegmentKind::Osc
+        | SegmentKind::Apc
+        | SegmentKind::Ignored
+        | SegmentKind::CutShort => true,
+        SegmentKind::Character
+        | SegmentKind::Broken
+        | SegmentKind::Stray
+        | SegmentKind::Control
+        | SegmentKind::Terminator => false,
+    }
+}
+
+// Whether the last byte of a segment does not end it for the parser.
+fn is_left_open(kind: SegmentKind) -> bool {
+    is_parsed(kind) && kind != SegmentKind::Escape && kind != SegmentKind::Csi
 }

@@ -13,6 +13,10 @@ pub struct Item {
     pub length: u64,
     /// The kind of what came of it last.
     pub segment: SegmentKind,
+    // The letter that opens it, as `]`; 0, where it has not come.
+    letter: u8,
+    // How many of its bytes come up to that letter.
+    opened: usize,
     bytes: Vec<u8>,
 }
 
@@ -23,6 +27,8 @@ impl Item {
             place: 0,
             length: 0,
             segment: SegmentKind::Control,
+            letter: 0,
+            opened: 0,
             bytes: Vec::new(alloc),
         }
     }
@@ -39,7 +45,7 @@ impl Item {
 
     /// Its kind.
     pub fn kind(&self) -> Kind {
-        Kind::of(self.segment, &self.bytes)
+        Kind::of(self.segment, self.letter)
     }
 
     /// Adds some bytes, of which as many are kept as the limit allows, and of a run of text all;
@@ -47,12 +53,30 @@ impl Item {
     pub fn add(&mut self, segment: SegmentKind, bytes: &[u8], limit: usize) -> bool {
         self.segment = segment;
         self.length = self.length.saturating_add(bytes.len() as u64);
-        let room = if segment == SegmentKind::Character {
-            bytes.len()
-        } else {
-            limit.saturating_sub(self.bytes.len()).min(bytes.len())
-        };
+        if segment == SegmentKind::Character {
+            return self.bytes.extend_from_slice(bytes).is_ok();
+        }
+        if self.letter == 0 {
+            self.open(bytes);
+        }
+        let room = limit.saturating_sub(self.bytes.len()).min(bytes.len());
         self.bytes.extend_from_slice(&bytes[..room]).is_ok()
+    }
+
+    // Looks for the letter that opens it: the first byte 20 to 7E, where it begins with ESC, with
+    // controls and bytes past 7F before it; or that which a control of C1 has after ESC.
+    fn open(&mut self, bytes: &[u8]) {
+        for byte in bytes {
+            self.opened = self.opened.saturating_add(1);
+            match *byte {
+                0x20..=0x7e => self.letter = *byte,
+                0x80..=0x9f if self.opened <= 2 => self.letter = *byte - 0x40,
+                _ => {}
+            }
+            if self.letter != 0 {
+                return;
+            }
+        }
     }
 
     /// The bytes that are kept.
@@ -63,16 +87,21 @@ impl Item {
     /// Those that come after what opens a sequence or a string, without the BEL or the final byte
     /// that ends one.
     pub fn body(&self) -> &[u8] {
-        let body = match self.bytes.as_slice() {
-            [0x1b, _, rest @ ..] | [0xc2, 0x80..=0x9f, rest @ ..] => rest,
-            [0x80..=0x9f, rest @ ..] => rest,
-            _ => return &[],
-        };
+        if self.letter == 0 || self.opened > self.bytes.len() {
+            return &[];
+        }
+        let body = &self.bytes[self.opened..];
         match (self.segment, body) {
             (SegmentKind::Osc, [rest @ .., 0x07]) => rest,
             (SegmentKind::Csi, [rest @ .., 0x40..=0x7e]) => rest,
             _ => body,
         }
+    }
+
+    /// The letter that opens it, as `]`, and those that come after it; of an escape sequence its
+    /// intermediates and its final byte.
+    pub fn letters(&self) -> (u8, &[u8]) {
+        (self.letter, self.body())
     }
 
     /// Whether not all of its bytes are kept.
@@ -84,6 +113,8 @@ impl Item {
     pub fn end(&mut self) {
         self.place = self.place.saturating_add(self.length);
         self.length = 0;
+        self.letter = 0;
+        self.opened = 0;
         self.bytes.clear();
     }
 }

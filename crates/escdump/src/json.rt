@@ -2,35 +2,31 @@
 
 use crate::item::Item;
 use crate::kind::Kind;
-use crate::line::{add_said, name_of};
 use crate::words::Words;
 use dump_page::{Name, Page, Phrase};
 
 /// Adds the object of an item with these words.
-pub fn add_object(item: &Item, words: &mut Words, is_finished: bool, page: &mut Page) {
+pub fn add_object(item: &Item, words: &Words, is_finished: bool, page: &mut Page) {
     let kind = item.kind();
-    let mut object = page.phrase();
-    add_head(item, kind, is_finished, &mut object);
-    add_name(name_of(item, words), page, &mut object);
+    add_head(item, kind, is_finished, page.words());
+    add_name(words.phrase.name(), page.words());
     if kind != Kind::Text {
-        add_said(item, words);
-        object.add_key(",", "words");
-        object.add_string("", words.phrase.as_str());
+        page.words().add_key(",", "words");
+        page.words().add_string("", words.phrase.as_str());
     }
     if kind == Kind::Csi || kind.is_string() {
-        add_fields(kind, item.body(), page, &mut object);
+        add_fields(kind, item.body(), page.words());
     }
-    add_bytes(item, page, &mut object);
-    object.add("}");
-    page.push(&object);
+    add_bytes(item, page.words());
+    page.words().add("}");
 }
 
 // Adds the place and the length, the kind, and whether it is finished.
 fn add_head(item: &Item, kind: Kind, is_finished: bool, object: &mut Phrase) {
     object.add_key("{", "offset");
-    object.add_value("", &item.place);
+    object.add_digits(item.place);
     object.add_key(",", "length");
-    object.add_value("", &item.length);
+    object.add_digits(item.length);
     object.add_key(",", "kind");
     object.add_string("", kind.word());
     object.add_key(",", "finished");
@@ -38,24 +34,33 @@ fn add_head(item: &Item, kind: Kind, is_finished: bool, object: &mut Phrase) {
 }
 
 // Adds the name.
-fn add_name(name: Name, page: &mut Page, object: &mut Phrase) {
-    let mut phrase = page.phrase();
-    phrase.begin(name.0, name.1, "");
-    page.note(phrase.is_refused());
+fn add_name(name: Name, object: &mut Phrase) {
+    let mut phrase = object.empty();
+    phrase.add_name(name);
     object.add_key(",", "name");
+    add_text(&phrase, object);
+}
+
+// Adds the text of a phrase as a string.
+fn add_text(phrase: &Phrase, object: &mut Phrase) {
     object.add_string("", phrase.as_str());
+    if phrase.is_refused() {
+        object.refuse();
+    }
 }
 
 // Adds the fields of a control sequence, of which they have digits and colons alone, or of a
 // string: what has `;` between.
-fn add_fields(kind: Kind, body: &[u8], page: &mut Page, object: &mut Phrase) {
-    let mut phrase = page.phrase();
+fn add_fields(kind: Kind, body: &[u8], object: &mut Phrase) {
+    let mut phrase = object.empty();
     if kind == Kind::Csi {
         add_digits(body, &mut phrase);
     } else {
         phrase.add_bytes(body, usize::MAX);
     }
-    page.note(phrase.is_refused());
+    if phrase.is_refused() {
+        object.refuse();
+    }
     object.add_key(",", "fields");
     let mut is_next = false;
     for field in phrase.as_str().split(';') {
@@ -75,10 +80,9 @@ fn add_digits(bytes: &[u8], phrase: &mut Phrase) {
 }
 
 // Adds the bytes that are kept.
-fn add_bytes(item: &Item, page: &mut Page, object: &mut Phrase) {
-    let mut phrase = page.phrase();
+fn add_bytes(item: &Item, object: &mut Phrase) {
+    let mut phrase = object.empty();
     phrase.add_bytes(item.bytes(), usize::MAX);
-    page.note(phrase.is_refused());
     object.add_key(",", "bytes");
-    object.add_string("", phrase.as_str());
+    add_text(&phrase, object);
 }

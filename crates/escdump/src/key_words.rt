@@ -2,6 +2,7 @@
 
 use crate::entries::{number_at, part_at};
 use crate::named::words_of;
+use crate::values::number_in;
 use dump_page::Phrase;
 use esc_functions::ControlFunction;
 use esc_values::CsiParam;
@@ -136,22 +137,12 @@ static KITTY_KEYS: &str = "\
 
 // The bits of modifiers (kitty's keyboard protocol, "Modifiers"; xterm's 8 is Meta there).
 static MODIFIERS: &str = "\
-1 Shift
-2 Alt
-4 Control
-8 Super
-16 Hyper
-32 Meta
-64 Caps Lock
-128 Num Lock";
+1~Shift/2~Alt/4~Control/8~Super/16~Hyper/32~Meta/64~Caps Lock/128~Num Lock";
 
 // The bits of kitty's flags (its keyboard protocol, "Progressive enhancement").
 static FLAGS: &str = "\
-1 disambiguate escape codes
-2 report event types
-4 report alternate keys
-8 report all keys as escape codes
-16 report text";
+1~disambiguate escape codes/2~report event types/4~report alternate keys/\
+8~report all keys as escape codes/16~report text";
 
 // What is done with flags (the same page).
 static CHANGES: &str = "\
@@ -182,23 +173,55 @@ pub fn add_function_key(params: &[CsiParam], to: &mut Phrase) {
         to.add(" ");
         return add_pressed(code, number_at(params, 1), to);
     }
-    to.add_value(" ", &number);
+    to.add_integer(" ", number);
     to.add_note(words_of(FUNCTION_KEYS, number, ""));
     add_modifiers(number_at(params, 1), to);
+    if let Some(event) = part_at(params, 1, 1) {
+        add_event_words(Some(event), ", pressed", to);
+    }
 }
 
 /// Adds a key that kitty reports, the modifiers that are held with it, and what became of it.
 pub fn add_key(params: &[CsiParam], to: &mut Phrase) {
     to.add(" ");
     add_pressed(number_at(params, 0).unwrap_or(1), number_at(params, 1), to);
-    match part_at(params, 1, 1) {
+    add_event_words(part_at(params, 1, 1), ", pressed", to);
+    add_code_after(", shifted ", part_at(params, 0, 1), to);
+    add_code_after(", at the place of ", part_at(params, 0, 2), to);
+    add_code_after(", text ", number_at(params, 2), to);
+    for part in 1..MOST_TEXT {
+        let code = part_at(params, 2, part);
+        if code.is_none() {
+            break;
+        }
+        add_code_after(" ", code, to);
+    }
+}
+
+// The most characters of a text that a key has; a sequence of more is past what the parser keeps.
+const MOST_TEXT: usize = 256;
+
+// Adds the character of a code after these words, where there is one.
+fn add_code_after(before: &'static str, code: Option<i64>, to: &mut Phrase) {
+    if let Some(code) = code {
+        to.add(before);
+        add_code(code, to);
+    }
+}
+
+// Adds what became of a key.
+fn add_event_words(event: Option<i64>, pressed: &'static str, to: &mut Phrase) {
+    match event {
         Some(2) => to.add(", repeated"),
         Some(3) => to.add(", released"),
-        _ => to.add(", pressed"),
+        _ => to.add(pressed),
     }
-    if let Some(text) = number_at(params, 2) {
-        to.add(", text ");
-        add_character(text, to);
+}
+
+/// Adds what became of a key, where it is given.
+pub fn add_event(event: Option<&[u8]>, to: &mut Phrase) {
+    if let Some(event) = event {
+        add_event_words(number_in(event), ", pressed", to);
     }
 }
 
@@ -207,41 +230,41 @@ fn add_pressed(code: i64, modifiers: Option<i64>, to: &mut Phrase) {
     let words = words_of(KITTY_KEYS, code, "");
     to.add(words);
     if words.is_empty() {
-        add_character(code, to);
+        add_code(code, to);
     }
     add_modifiers(modifiers, to);
 }
 
-// Adds the character of a code between quotes, or a code that has none.
-fn add_character(code: i64, to: &mut Phrase) {
+/// Adds the character of a code between quotes, or a code that has none.
+pub fn add_code(code: i64, to: &mut Phrase) {
     match char::from_u32(u32::try_from(code).unwrap_or(u32::MAX)) {
         Some(c) => {
             let mut quote = to.quote();
             quote.add_char(c);
             to.add_quote("", &quote);
         }
-        None => to.add_value("key ", &code),
+        None => to.add_integer("key ", code),
     }
 }
 
-// Adds the modifiers of a number that is one more than their bits.
-fn add_modifiers(number: Option<i64>, to: &mut Phrase) {
+/// Adds the modifiers of a number that is one more than their bits.
+pub fn add_modifiers(number: Option<i64>, to: &mut Phrase) {
     if let Some(number) = number {
         let _ = add_bits(MODIFIERS, " with ", " and ", number.saturating_sub(1), to);
     }
 }
 
-// Adds the words of the bits of a number, if it has any; returns whether it has.
-fn add_bits(
-    table: &'static str,
+/// Adds the words of the bits of a number, if it has any; returns whether it has.
+pub fn add_bits(
+    values: &'static str,
     before: &'static str,
     between: &'static str,
     number: i64,
     to: &mut Phrase,
 ) -> bool {
     let mut has_any = false;
-    for line in table.lines() {
-        if let Some((key, words)) = line.split_once(' ') {
+    for entry in values.split('/') {
+        if let Some((key, words)) = entry.split_once('~') {
             if has_bit(number, key) {
                 to.add(if has_any { between } else { before });
                 to.add(words);
@@ -254,9 +277,9 @@ fn add_bits(
 
 // Whether a number has the bit that a text is in decimal.
 fn has_bit(number: i64, text: &str) -> bool {
-    match text.parse::<i64>() {
-        Ok(bit) => number & bit != 0,
-        Err(_) => false,
+    match number_in(text.as_bytes()) {
+        Some(bit) => number & bit != 0,
+        None => false,
     }
 }
 
@@ -265,7 +288,7 @@ pub fn add_flags(function: ControlFunction, params: &[CsiParam], to: &mut Phrase
     let Some(number) = number_at(params, 0).or(least_flags(function)) else {
         return;
     };
-    to.add_value(" ", &number);
+    to.add_integer(" ", number);
     if number == 0 {
         to.add(" (none)");
     }
@@ -301,6 +324,6 @@ pub fn add_mouse(function: ControlFunction, params: &[CsiParam], to: &mut Phrase
     }
     // (Shift, Meta and Control are the bits 4, 8 and 16)
     let _ = add_bits(MODIFIERS, " with ", " and ", (number >> 2) & 7, to);
-    to.add_value(", column ", &number_at(params, 1).unwrap_or(1));
-    to.add_value(", line ", &number_at(params, 2).unwrap_or(1));
+    to.add_integer(", column ", number_at(params, 1).unwrap_or(1));
+    to.add_integer(", line ", number_at(params, 2).unwrap_or(1));
 }

@@ -40,8 +40,8 @@ pub const KINDS: &[&str] = &[
 ];
 
 impl Kind {
-    /// The kind of a segment that begins with these bytes.
-    pub fn of(segment: SegmentKind, bytes: &[u8]) -> Kind {
+    /// The kind of a segment that this letter opens.
+    pub fn of(segment: SegmentKind, letter: u8) -> Kind {
         match segment {
             SegmentKind::Character => Kind::Text,
             SegmentKind::Broken => Kind::Broken,
@@ -53,10 +53,8 @@ impl Kind {
             SegmentKind::Dcs => Kind::Dcs,
             SegmentKind::Osc => Kind::Osc,
             SegmentKind::Apc => Kind::Apc,
-            SegmentKind::Ignored => match bytes {
-                [0x1b, b'^', ..] | [0x9e, ..] | [0xc2, 0x9e, ..] => Kind::Pm,
-                _ => Kind::Sos,
-            },
+            SegmentKind::Ignored if letter == b'^' => Kind::Pm,
+            SegmentKind::Ignored => Kind::Sos,
             SegmentKind::CutShort => Kind::Cut,
         }
     }

@@ -1,11 +1,16 @@
 //! Lines of a run of text or a segment.
 
+use crate::apc_words::add_application;
+use crate::controls::{add_control, known_words};
+use crate::device_words::add_device;
+use crate::escapes::add_escape;
 use crate::item::Item;
 use crate::json::add_object;
 use crate::kind::Kind;
 use crate::options::Form;
+use crate::osc_words::add_command;
 use crate::words::Words;
-use dump_page::{Color, Name, Page, Phrase};
+use dump_page::{Color, Page, Phrase};
 
 // The columns at which bytes, words, and a segment's kind, state and bytes begin.
 const BYTES: usize = 10;
@@ -27,7 +32,11 @@ const WIDEST: usize = 4;
 /// Adds the line of an item with these words, in this form.
 pub fn add_line(form: Form, item: &Item, words: &mut Words, is_finished: bool, page: &mut Page) {
     match form {
-        Form::Json => add_object(item, words, is_finished, page),
+        Form::Json => {
+            add_said(item, words);
+            page.note(words.phrase.is_refused());
+            add_object(item, words, is_finished, page);
+        }
         Form::Words => add_words(item, words, is_finished, page),
         Form::Segments => add_segment(item, is_finished, page),
         Form::Bytes | Form::Stats => {
@@ -40,21 +49,24 @@ pub fn add_line(form: Form, item: &Item, words: &mut Words, is_finished: bool, p
 
 // The place.
 fn add_place(place: u64, page: &mut Page) {
-    let mut phrase = page.phrase();
-    phrase.add_number(place, 8);
-    page.push_colored(Color::Place, &phrase, BYTES);
+    if page.is_colored() {
+        page.color(Color::Place);
+        page.words().add_number(place, 8, 0);
+        page.color(Color::Plain);
+        page.pad(BYTES);
+    } else {
+        page.words().add_number(place, 8, 2);
+    }
 }
 
 // The place and the length of a segment, its kind, and its bytes.
 fn add_segment(item: &Item, is_finished: bool, page: &mut Page) {
     add_place(item.place, page);
-    let mut phrase = page.phrase();
-    phrase.add_number(item.length, 6);
-    page.push(&phrase);
+    page.words().add_number(item.length, 6, 0);
     page.pad(KIND);
-    page.push_words(full_name(item.kind()));
+    page.words().add(full_name(item.kind()));
     page.pad(STATE);
-    page.push_words(if is_finished {
+    page.words().add(if is_finished {
         "finished"
     } else {
         "unfinished"
@@ -71,13 +83,12 @@ fn full_name(kind: Kind) -> &'static str {
 
 // The bytes that are kept, and `..` where not all are.
 fn push_bytes(item: &Item, page: &mut Page) {
-    let mut phrase = page.phrase();
-    phrase.add_bytes(item.bytes(), usize::MAX);
-    if item.is_cut() {
-        phrase.add("..");
-    }
     page.color(Color::Bytes);
-    page.push(&phrase);
+    page.words().add_bytes(item.bytes(), usize::MAX);
+    page.words().forget_hidden();
+    if item.is_cut() {
+        page.words().add("..");
+    }
     page.color(Color::Plain);
 }
 
@@ -85,6 +96,14 @@ fn push_bytes(item: &Item, page: &mut Page) {
 fn add_words(item: &Item, words: &mut Words, is_finished: bool, page: &mut Page) {
     add_place(item.place, page);
     add_first(item.bytes(), page);
+    if item.is_text() {
+        page.words().add_quoted("text ", item.bytes());
+        return page.words().add_hidden_names();
+    }
+    let known = known_words(item.bytes());
+    if !known.is_empty() && item.kind() == Kind::Control {
+        return page.words().add(known);
+    }
     add_said(item, words);
     words.phrase.add_hidden_names();
     add_state(item, is_finished, &mut words.phrase);
@@ -94,26 +113,47 @@ fn add_words(item: &Item, words: &mut Words, is_finished: bool, page: &mut Page)
 // The first bytes. Each character takes a column at least, so what is past the column is not read.
 fn add_first(bytes: &[u8], page: &mut Page) {
     let most = bytes.len().min(WIDEST * ROOM + WIDEST);
-    let mut phrase = page.phrase();
-    phrase.add_bytes(&bytes[..most], ROOM);
-    page.push_colored(Color::Bytes, &phrase, WORDS);
+    page.color(Color::Bytes);
+    page.words().add_bytes(&bytes[..most], ROOM);
+    page.words().forget_hidden();
+    page.color(Color::Plain);
+    page.pad(WORDS);
 }
 
-/// Adds to the words of a segment those of what gives none, and its text.
+/// Adds the words of a segment, as far as its actions did not say them.
 pub fn add_said(item: &Item, words: &mut Words) {
     let kind = item.kind();
+    words.add_counted();
     let phrase = &mut words.phrase;
-    if kind == Kind::Text {
-        return phrase.add_quoted("text ", item.bytes());
+    match kind {
+        Kind::Text => phrase.begin("text", "", ""),
+        Kind::Control => add_control(item.bytes(), phrase),
+        Kind::Escape => {
+            let (letter, rest) = item.letters();
+            add_escape(letter, rest, phrase);
+        }
+        Kind::Osc => add_command(item.body(), phrase),
+        Kind::Apc => add_application(item.body(), phrase),
+        Kind::Dcs if !words.has_said => add_device(item.body(), phrase),
+        Kind::Csi if !words.has_said => phrase.begin("CSI", "", "malformed, ignored"),
+        Kind::Dcs | Kind::Csi => {}
+        Kind::Sos | Kind::Pm => {
+            phrase.begin(kind.name(), kind.words(), "");
+            phrase.add_quoted(" ", item.body());
+        }
+        Kind::Cut => {
+            phrase.begin(kind.name(), "", "");
+            phrase.add(cut_words(item));
+        }
+        Kind::St | Kind::Broken | Kind::Stray => phrase.begin(kind.name(), "", kind.words()),
     }
-    let is_said = !phrase.as_str().is_empty();
-    if !is_said || kind == Kind::Cut {
-        phrase.begin(kind.name(), kind.words(), "");
-    }
-    if !is_said && kind.is_string() {
-        phrase.add_quoted(" ", item.body());
-    } else if !words.data.is_empty() {
-        phrase.add_quoted(" ", &words.data);
+}
+
+// What a sequence that is cut short may be: screen passes on what comes after ESC P.
+fn cut_words(item: &Item) -> &'static str {
+    match item.letters() {
+        (b'P', []) => ", or what comes next is passed on by screen",
+        _ => "",
     }
 }
 
@@ -123,17 +163,8 @@ fn add_state(item: &Item, is_finished: bool, phrase: &mut Phrase) {
         phrase.add(", longer than the limit");
     }
     if !is_finished {
-        phrase.add_value(", unfinished, ", &item.length);
+        phrase.add(", unfinished, ");
+        phrase.add_digits(item.length);
         phrase.add(" bytes");
     }
-}
-
-/// The name of an item: that of its last action, or of its kind.
-pub fn name_of(item: &Item, words: &Words) -> Name {
-    let name = words.phrase.name();
-    let kind = item.kind();
-    if name.0.is_empty() || kind == Kind::Cut {
-        return Name(kind.name(), "");
-    }
-    name
 }

@@ -2,15 +2,20 @@
 //! Prints streams of terminal escape sequences as one readable line a run of text or sequence.
 #![tactic(auto)]
 
+mod apc_words;
+mod charsets;
 mod choices;
 mod color_words;
-mod command_words;
 mod controls;
+mod csi_table;
 mod csi_words;
+mod decoded;
+mod device_table;
 mod device_words;
 mod dump;
 mod entries;
 mod escapes;
+mod fields;
 mod item;
 mod json;
 mod key_words;
@@ -19,10 +24,14 @@ mod line;
 mod mode_words;
 mod named;
 mod options;
+mod osc_table;
+mod osc_words;
 mod renditions;
 mod resume;
+mod rows;
 mod run;
 mod stats;
+mod values;
 mod words;
 
 use command_line::{FAULT, OUTPUT, last_status, open_closed, program_words, refused, work_through};

@@ -1,9 +1,7 @@
 //! What a stream holds.
 
 use crate::item::Item;
-use crate::line::name_of;
-use crate::words::Words;
-use dump_page::{Name, Page};
+use dump_page::{Key, Name, Page};
 use std::alloc::Global;
 
 // How often something of a name came, how many bytes they and the longest one have, and how many
@@ -17,11 +15,15 @@ struct Row {
     first: u64,
 }
 
-/// A row for each name that came, in the order in which they first came. There are no more names
-/// than the tables have.
+// The most rows of names that no table has. What has another such name is counted by its kind.
+const MOST: u64 = 500;
+
+/// A row for each name that came, in the order in which they first came.
 #[derive(Drop)]
 pub struct Stats {
     rows: Vec<Row>,
+    // How many of them have a name that no table has.
+    own: u64,
     text_end: u64,
     text_length: u64,
 }
@@ -31,16 +33,17 @@ impl Stats {
     pub fn new(alloc: Global) -> Stats {
         Stats {
             rows: Vec::new(alloc),
+            own: 0,
             text_end: u64::MAX,
             text_length: 0,
         }
     }
 
-    /// Counts an item with these words, and returns whether memory was there for it. A run of text
-    /// goes on with one that ended where it begins.
-    pub fn add(&mut self, item: &Item, words: &Words) -> bool {
+    /// Counts an item of this name, and returns whether memory was there for it. A run of text goes
+    /// on with one that ended where it begins.
+    pub fn add(&mut self, item: &Item, name: Name) -> bool {
         let mut row = Row {
-            name: name_of(item, words),
+            name,
             count: 1,
             bytes: item.length,
             largest: item.length,
@@ -49,7 +52,24 @@ impl Stats {
         if item.is_text() {
             self.join_text(&mut row);
         }
-        self.has_row(row) || self.rows.push(row).is_ok()
+        self.has_row(row) || self.add_row(row)
+    }
+
+    // Adds a row of a new name, and returns whether memory was there for it.
+    fn add_row(&mut self, row: Row) -> bool {
+        let Name(kind, word, key) = row.name;
+        if key == Key::Nothing {
+            return self.rows.push(row).is_ok();
+        }
+        if self.own < MOST {
+            self.own = self.own.saturating_add(1);
+            return self.rows.push(row).is_ok();
+        }
+        let other = Row {
+            name: Name(kind, word, Key::Nothing),
+            ..row
+        };
+        self.has_row(other) || self.rows.push(other).is_ok()
     }
 
     // Joins a run of text with the one that ended where it begins.
@@ -79,20 +99,19 @@ impl Stats {
     pub fn add_lines(&self, page: &mut Page) {
         page.push_line("   count       bytes     largest       first  name");
         for row in &self.rows {
-            add_row(*row, page);
+            add_line(*row, page);
         }
     }
 }
 
 // Adds the line of a name.
-fn add_row(row: Row, page: &mut Page) {
-    let mut phrase = page.phrase();
-    phrase.add_number(row.count, 8);
+fn add_line(row: Row, page: &mut Page) {
+    let words = page.words();
+    words.add_number(row.count, 8, 0);
     for number in [row.bytes, row.largest, row.first] {
-        phrase.add_number(number, 12);
+        words.add_number(number, 12, 0);
     }
-    phrase.add_all(&["  ", row.name.0]);
-    phrase.add_word(row.name.1);
-    page.push(&phrase);
+    words.add("  ");
+    words.add_name(row.name);
     page.end_line();
 }

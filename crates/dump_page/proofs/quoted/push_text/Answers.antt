@@ -2,7 +2,13 @@ use Rattle.std.proofs.Common.{rules, ◌++◌, ap, sym, subst, ◌∙◌, append
 use Rattle.std.specs.Char.{encode_utf8}
 use Rattle.dump_page.specs.Quoted.{Quotes}
 use Rattle.dump_page.proofs.Quoting.{nothing_left, quotes_more, quotes_nothing}
+use Rattle.dump_page.proofs.PlainBytes.{plain_pushed}
 use Rattle.dump_page.proofs.quoted.push_text.Goals as goal
+
+pub returns-then-is_plain : goal.returns-then-is_plain
+returns-then-is_plain c =
+    plain_pushed c.push_str.result c.args.to.now c.push_str.new.self c.args.text.now (search rules)
+    c.push_str.ensures.ok
 
 pub loop-c-init : goal.loop-c-init
 loop-c-init c = ([], search rules, quotes_nothing _)

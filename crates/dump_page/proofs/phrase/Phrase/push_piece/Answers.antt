@@ -1,5 +1,5 @@
 use Rattle.dump_page.proofs.PagesMore.{page_grow}
-use Rattle.dump_page.proofs.page.Page.push_piece.Goals as goal
+use Rattle.dump_page.proofs.phrase.Phrase.push_piece.Goals as goal
 
 pub invariant_of-self : goal.invariant_of-self
 invariant_of-self c = record {

@@ -1,6 +1,0 @@
-use Rattle.std.proofs.Common.{refl}
-use Rattle.esc_visible.proofs.Ranges.{replacement_plain}
-use Rattle.dump_page.proofs.page.Page.push_words.Goals as goal
-
-pub push_word-requires-else-is_shown : goal.push_word-requires-else-is_shown
-push_word-requires-else-is_shown c = rw replacement_plain refl
