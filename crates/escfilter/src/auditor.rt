@@ -22,7 +22,7 @@ impl<'a> Auditor<'a> {
     pub fn new(alloc: Global, options: Options<'a>) -> Auditor<'a> {
         let rows = Rows::new(alloc, options);
         let judge = Judging::new(alloc, options);
-        if options.report.is_none() && !options.fails {
+        if !options.is_audited() {
             Auditor::Nobody
         } else if options.by_lines {
             Auditor::Lines(LineLedger::new(alloc, judge, rows))

@@ -4,8 +4,9 @@ use crate::auditor::Auditor;
 use crate::cast::{CastFault, filter_recording};
 use crate::json::tell_json;
 use crate::options::{Form, Options};
-use crate::report::{is_less, tell_text};
+use crate::report::tell_text;
 use crate::stream::{PROGRAM, filter_by};
+use crate::told::Told;
 use command_line::{Ended, Noting, Place, Work, ended_by};
 use esc_filter::FilterError;
 use esc_normal::Watched;
@@ -22,8 +23,8 @@ pub struct Filtering<'a, W, E> {
     pub output: &'a mut W,
     /// Where reports and what hinders go.
     pub faults: E,
-    /// Whether anything is known to be left out.
-    pub is_less: bool,
+    /// What is told of the streams.
+    pub told: &'a mut Told,
 }
 
 impl<'a, W: Write, E: Write> Work for Filtering<'a, W, E> {
@@ -95,6 +96,6 @@ impl<'a, W: Write, E: Write> Filtering<'a, W, E> {
             Some(Form::Json) => tell_json(account, rows, name, is_complete, &mut self.faults),
             None => {}
         }
-        self.is_less = self.is_less || is_less(account.sums);
+        self.told.gate.take(account.sums);
     }
 }

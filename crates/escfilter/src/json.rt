@@ -1,7 +1,7 @@
 //! What did not pass of a stream, as JSON (RFC 8259).
 
 use crate::name::Name;
-use crate::report::{bytes_of, each_sum, words_of};
+use crate::report::{bytes_of, words_of};
 use crate::rows::{Open, Place, Row, Rows};
 use crate::saying::{put, put_number};
 use esc_account::{Account, Fate, Sums};
@@ -55,10 +55,10 @@ fn put_place<E: Write>(place: Place, faults: &mut E) {
 fn put_sums<E: Write>(sums: Sums, faults: &mut E) {
     put(",\"sums\":{", faults);
     let mut is_first = true;
-    for (fate, count) in &each_sum(sums) {
+    for fate in &Fate::ALL {
         put_comma(is_first, faults);
         put_fate(*fate, faults);
-        put_number(":", *count, faults);
+        put_number(":", sums.of(*fate), faults);
         is_first = false;
     }
     put("}", faults);

@@ -5,6 +5,8 @@
 
 mod auditor;
 mod cast;
+mod encodings;
+mod failing;
 mod filtering;
 mod json;
 mod judging;
@@ -16,6 +18,7 @@ mod report;
 mod rows;
 mod saying;
 mod stream;
+mod told;
 
 use command_line::{
     DONE, Ended, FAULT, OUTPUT, Reason, Wrong, is_text, open_closed, program_words, refused,
@@ -30,8 +33,7 @@ use std::io;
 use std::io::{Stderr, Write};
 use std::process::ExitCode;
 use stream::PROGRAM;
-
-const LEFT_OUT: u8 = 3;
+use told::Told;
 
 const USAGE: &str = "\
 usage: escfilter [--allow text|color|screen|all|layout|sgr|hidden|links|controls|cursor|erase|\
@@ -41,8 +43,9 @@ controls|cursor|erase|scroll|modes|charsets|palette|titles|clipboard|images|othe
 [--encoding utf-8|latin1|windows-1250|windows-1251|windows-1252|windows-1253|\
 windows-1254|windows-1255|windows-1256|windows-1257|windows-1258] \
 [--c1 replace|obey] [--unicode keep|show|drop] [--show[=escaped|color]] [--collapse[=rows]] \
-[--cast] [--report[=text|json]] [--fail] [-o|--output file] [-i|--in-place[=suffix]] [-h|--help] \
-[-V|--version] [--] [FILE..]";
+[--cast] [--report[=text|json]] \
+[--fail[=respelled|shown|replaced|left-out|swallowed|overwritten,..]] \
+[-o|--output file] [-i|--in-place[=suffix]] [-h|--help] [-V|--version] [--] [FILE..]";
 
 const HELP: &str = "\
 Writes what the policy admits of each FILE, or of standard input, as it is read. What that
@@ -74,7 +77,9 @@ leaves on, as colours or a link, is taken back at its end, and at each line's wi
                   events of output, and keeps its times and all other lines
   --report        says on standard error what was left out of each FILE, and where;
                   --report=json as a line of JSON
-  --fail          ends with status 3 where anything was left out
+  --fail          ends with status 3 where anything was shown, replaced, left out or swallowed;
+                  --fail=left-out,swallowed where a byte had one of these fates; respelled,
+                  shown, replaced and overwritten are others
   -o, --output f  writes the file f, whole or not at all
   -i, --in-place  writes each FILE in its place, whole or not at all; -i.bak, as
                   --in-place=.bak, keeps what was there as FILE.bak
@@ -110,7 +115,7 @@ fn done(rt: &HostRuntime, task: &Task<'_>) -> u8 {
     match task.kind {
         Kind::Filter => match wrong_apart(rt, task.apart) {
             Some(wrong) => refused(PROGRAM, wrong, &mut rt.stderr()),
-            None => filter_to(rt, task.target, task.options, &task.files),
+            None => filter(rt, task),
         },
         Kind::Help => said(rt, println!(rt; "{USAGE}\n\n{HELP}\n{Listed}")),
         Kind::Version => said(rt, println!(rt; "{VERSION}")),
@@ -122,12 +127,25 @@ fn said(rt: &HostRuntime, printed: io::Result<()>) -> u8 {
     status_of_text(PROGRAM, OUTPUT, printed, &mut rt.stderr())
 }
 
+// Filters the files, and tells of them what is asked for.
+fn filter(rt: &HostRuntime, task: &Task<'_>) -> u8 {
+    let mut told = Told::new(task.options);
+    let status = filter_to(rt, task.target, task.options, &task.files, &mut told);
+    told.end(task.options, status)
+}
+
 // Filters the files to where the output goes.
-fn filter_to(rt: &HostRuntime, target: Target<'_>, options: Options<'_>, files: &[&str]) -> u8 {
+fn filter_to(
+    rt: &HostRuntime,
+    target: Target<'_>,
+    options: Options<'_>,
+    files: &[&str],
+    told: &mut Told,
+) -> u8 {
     match target {
-        Target::Output => filter_all(rt, options, files, OUTPUT, &mut rt.stdout()),
-        Target::File(name) => filter_to_file(rt, options, files, name),
-        Target::InPlace(suffix) => filter_in_place(rt, options, files, suffix),
+        Target::Output => filter_all(rt, options, files, told, OUTPUT, &mut rt.stdout()),
+        Target::File(name) => filter_to_file(rt, options, files, told, name),
+        Target::InPlace(suffix) => filter_in_place(rt, options, files, told, suffix),
     }
 }
 
@@ -136,18 +154,19 @@ fn filter_all<W: Write>(
     rt: &HostRuntime,
     options: Options<'_>,
     files: &[&str],
+    told: &mut Told,
     output_name: &str,
     output: &mut W,
 ) -> u8 {
-    let mut filtering = filter_of(rt, options, output_name, output);
-    let status = work_through(rt, PROGRAM, files, &mut filtering, &mut rt.stderr());
-    failed_or(options, filtering.is_less, status)
+    let mut filtering = filter_of(rt, options, told, output_name, output);
+    work_through(rt, PROGRAM, files, &mut filtering, &mut rt.stderr())
 }
 
 // A filter of streams to an output of this name.
 fn filter_of<'a, W>(
     rt: &HostRuntime,
     options: Options<'a>,
+    told: &'a mut Told,
     output_name: &'a str,
     output: &'a mut W,
 ) -> Filtering<'a, W, Stderr> {
@@ -157,45 +176,37 @@ fn filter_of<'a, W>(
         output_name,
         output,
         faults: rt.stderr(),
-        is_less: false,
+        told,
     }
 }
 
-// This status, or the one of what was left out where that is a failure.
-fn failed_or(options: Options<'_>, is_less: bool, status: u8) -> u8 {
-    if status == DONE && options.fails && is_less {
-        LEFT_OUT
-    } else {
-        status
-    }
-}
-
-// Filters the files to that of this name, or to the stream of this name.
-fn filter_to_file(rt: &HostRuntime, options: Options<'_>, files: &[&str], name: &str) -> u8 {
-    match Output::of(rt, name, NEW) {
-        Ok(Output::New(new)) => filter_to_new(rt, options, files, name, new),
-        Ok(Output::Stream(mut stream)) => filter_all(rt, options, files, name, &mut stream),
-        Err(fault) => unwritable(PROGRAM, name, fault, &mut rt.stderr()),
-    }
-}
-
-// Filters the files to this one, which takes the place of that name whole or not at all.
-fn filter_to_new(
+// Filters the files to that of this name, whole or not at all, or to the stream of this name.
+fn filter_to_file(
     rt: &HostRuntime,
     options: Options<'_>,
     files: &[&str],
+    told: &mut Told,
     name: &str,
-    mut new: NewFile<HostRuntime>,
 ) -> u8 {
-    let status = filter_all(rt, options, files, name, &mut new.file);
-    match new.end(rt, "", status == DONE || status == LEFT_OUT) {
+    let mut output = match Output::of(rt, name, NEW) {
+        Ok(output) => output,
+        Err(fault) => return unwritable(PROGRAM, name, fault, &mut rt.stderr()),
+    };
+    let status = filter_all(rt, options, files, told, name, &mut output);
+    match output.end(rt, status == DONE) {
         Ok(()) => status,
         Err(fault) => unwritable(PROGRAM, name, fault, &mut rt.stderr()),
     }
 }
 
 // Filters each file in its place.
-fn filter_in_place(rt: &HostRuntime, options: Options<'_>, files: &[&str], suffix: &str) -> u8 {
+fn filter_in_place(
+    rt: &HostRuntime,
+    options: Options<'_>,
+    files: &[&str],
+    told: &mut Told,
+    suffix: &str,
+) -> u8 {
     if files.is_empty() {
         return refused(
             PROGRAM,
@@ -204,29 +215,32 @@ fn filter_in_place(rt: &HostRuntime, options: Options<'_>, files: &[&str], suffi
         );
     }
     let mut status = DONE;
-    let mut is_less = false;
     for file in files {
-        let (ended, left) = replace_file(rt, options, *file, suffix);
-        is_less = is_less || left;
+        let ended = replace_file(rt, options, *file, told, suffix);
         match status_after(ended, status) {
             Ok(next) => status = next,
             Err(last) => return last,
         }
     }
-    failed_or(options, is_less, status)
+    status
 }
 
-// Filters the file of this name in its place. It returns how that ended, and whether anything is
-// known to be left out.
-fn replace_file(rt: &HostRuntime, options: Options<'_>, name: &str, suffix: &str) -> (Ended, bool) {
+// Filters the file of this name in its place. It returns how that ended.
+fn replace_file(
+    rt: &HostRuntime,
+    options: Options<'_>,
+    name: &str,
+    told: &mut Told,
+    suffix: &str,
+) -> Ended {
     let faults = &mut rt.stderr();
     if name == "-" || !is_text(name) {
         let hindrance = "it is changed in place under a name alone";
-        return (unread(PROGRAM, name, hindrance, faults), false);
+        return unread(PROGRAM, name, hindrance, faults);
     }
     match NewFile::in_place_of(rt, name, NEW) {
-        Ok(new) => replace_by(rt, options, name, suffix, new),
-        Err(fault) => (unread(PROGRAM, name, fault, faults), false),
+        Ok(new) => replace_by(rt, options, name, told, suffix, new),
+        Err(fault) => unread(PROGRAM, name, fault, faults),
     }
 }
 
@@ -235,22 +249,19 @@ fn replace_by(
     rt: &HostRuntime,
     options: Options<'_>,
     name: &str,
+    told: &mut Told,
     suffix: &str,
     mut new: NewFile<HostRuntime>,
-) -> (Ended, bool) {
-    let (ended, is_less) = match File::open(rt, name) {
+) -> Ended {
+    let ended = match File::open(rt, name) {
         Ok(input) => {
-            let mut filtering = filter_of(rt, options, name, &mut new.file);
-            let ended = take_opened(PROGRAM, name, input, &mut filtering, &mut rt.stderr());
-            (ended, filtering.is_less)
+            let mut filtering = filter_of(rt, options, told, name, &mut new.file);
+            take_opened(PROGRAM, name, input, &mut filtering, &mut rt.stderr())
         }
-        Err(error) => (
-            unread(PROGRAM, name, Reason::of(&error), &mut rt.stderr()),
-            false,
-        ),
+        Err(error) => unread(PROGRAM, name, Reason::of(&error), &mut rt.stderr()),
     };
     match new.end(rt, suffix, ended == Ended::Whole) {
-        Ok(()) => (ended, is_less),
-        Err(fault) => (unread(PROGRAM, name, fault, &mut rt.stderr()), false),
+        Ok(()) => ended,
+        Err(fault) => unread(PROGRAM, name, fault, &mut rt.stderr()),
     }
 }

@@ -1,5 +1,7 @@
 //! What the program's words ask for.
 
+use crate::encodings::{ENCODINGS, page_of};
+use crate::failing::{FAILING, Failing};
 use crate::named_groups::{ALLOWED, Choice, DENIED};
 use command_line::{Apart, Found, Given, Known, Takes, Wrong, read};
 use esc_decode::{CodePage, Encoding};
@@ -30,8 +32,8 @@ pub struct Options<'a> {
     pub is_cast: bool,
     /// In which form it is reported what was left out.
     pub report: Option<Form>,
-    /// Whether it is a failure that something was left out.
-    pub fails: bool,
+    /// Which fates are a failure, where some are.
+    pub fails: Option<Failing>,
 }
 
 /// The form of a report.
@@ -82,6 +84,11 @@ pub struct Task<'a> {
 }
 
 impl<'a> Options<'a> {
+    /// Whether an account of a stream is kept.
+    pub fn is_audited(&self) -> bool {
+        self.report.is_some() || self.fails.is_some()
+    }
+
     // Takes an option more, where it is one of these.
     fn take(&mut self, given: &Given<'a>) {
         match given.name {
@@ -95,7 +102,7 @@ impl<'a> Options<'a> {
             "--collapse" => self.rows = rows_of(given.word),
             "--cast" => self.is_cast = true,
             "--report" => self.report = Some(form_of(given.word)),
-            "--fail" => self.fails = true,
+            "--fail" => self.fails = Some(Failing::named(given.some)),
             _ => {}
         }
     }
@@ -106,20 +113,6 @@ const DEFAULT_LIMIT: usize = 1_048_576;
 const DEFAULT_ROWS: usize = 32;
 
 const MOST_ROWS: usize = 4096;
-
-const ENCODINGS: &[&str] = &[
-    "utf-8",
-    "latin1",
-    "windows-1250",
-    "windows-1251",
-    "windows-1252",
-    "windows-1253",
-    "windows-1254",
-    "windows-1255",
-    "windows-1256",
-    "windows-1257",
-    "windows-1258",
-];
 
 const KNOWN: &[Known] = &[
     Known {
@@ -190,7 +183,7 @@ const KNOWN: &[Known] = &[
     Known {
         name: "--fail",
         letter: "",
-        takes: Takes::Nothing,
+        takes: Takes::MaybeSome("kind", FAILING),
     },
     Known::OUTPUT,
     Known {
@@ -266,7 +259,7 @@ impl<'a> Asked<'a> {
                 rows: None,
                 is_cast: false,
                 report: None,
-                fails: false,
+                fails: None,
             },
             by_lines: None,
             schemes: None,
@@ -317,23 +310,6 @@ impl<'a> Asked<'a> {
             Some(CodePage::Latin1) if obeys => Encoding::CodePage(CodePage::Latin1WithControls),
             Some(page) => Encoding::CodePage(page),
         }
-    }
-}
-
-// The 8-bit encoding of this name, where it is one.
-fn page_of(name: &str) -> Option<CodePage> {
-    match name {
-        "latin1" => Some(CodePage::Latin1),
-        "windows-1250" => Some(CodePage::Windows1250),
-        "windows-1251" => Some(CodePage::Windows1251),
-        "windows-1252" => Some(CodePage::Windows1252),
-        "windows-1253" => Some(CodePage::Windows1253),
-        "windows-1254" => Some(CodePage::Windows1254),
-        "windows-1255" => Some(CodePage::Windows1255),
-        "windows-1256" => Some(CodePage::Windows1256),
-        "windows-1257" => Some(CodePage::Windows1257),
-        "windows-1258" => Some(CodePage::Windows1258),
-        _ => None,
     }
 }
 
@@ -428,10 +404,31 @@ fn could_take(name: &str, word: &str) -> bool {
     match name {
         "--report" => word == "text" || word == "json",
         "--show" => word == "escaped" || word == "color",
+        "--fail" => are_kinds(word),
         "--collapse" => !word.is_empty() && rows_of(word).is_some(),
         "--in-place" => word.starts_with('.'),
         _ => false,
     }
+}
+
+// Whether these are kinds of failures, with `,` between them.
+fn are_kinds(words: &str) -> bool {
+    for word in words.split(',') {
+        if !is_kind(word) {
+            return false;
+        }
+    }
+    true
+}
+
+// Whether it is a kind of failures.
+fn is_kind(word: &str) -> bool {
+    for kind in FAILING {
+        if *kind == word {
+            return true;
+        }
+    }
+    false
 }
 
 // How many rows a word names; where it is empty, the default.

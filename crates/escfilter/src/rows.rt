@@ -43,7 +43,7 @@ pub struct Open {
 }
 
 /// What did not pass of a stream: a row for each fate and name, in the order in which the first of
-/// each came.
+/// each came; none where the options ask for no report.
 #[derive(Drop)]
 pub struct Rows<'a> {
     alloc: Global,
@@ -150,7 +150,7 @@ impl<'a> Book<Global> for Rows<'a> {
     ghost was_given = { λ _ _. Unit {0} };
 
     fn enter(&mut self, made: Entry<'_>) -> Result<(), AllocError> {
-        if made.fate == Fate::Respelled {
+        if made.fate == Fate::Respelled || self.options.report.is_none() {
             return Ok(());
         }
         if !made.is_end {
