@@ -5,9 +5,11 @@ use crate::cast::{CastFault, filter_recording};
 use crate::json::tell_json;
 use crate::options::{Form, Options};
 use crate::report::tell_text;
+use crate::rows::Rows;
 use crate::stream::{PROGRAM, filter_by};
 use crate::told::Told;
 use command_line::{Ended, Noting, Place, Work, ended_by};
+use esc_account::Account;
 use esc_filter::FilterError;
 use esc_normal::Watched;
 use std::alloc::Global;
@@ -91,11 +93,30 @@ impl<'a, W: Write, E: Write> Filtering<'a, W, E> {
         let Some((account, rows)) = auditor.account() else {
             return;
         };
-        match self.options.report {
-            Some(Form::Text) => tell_text(account, rows, name, &mut self.faults),
-            Some(Form::Json) => tell_json(account, rows, name, is_complete, &mut self.faults),
-            None => {}
+        let form = self.options.report;
+        let mut report = self.told.report.take();
+        match &mut report {
+            Some(aside) => tell(form, account, rows, name, is_complete, aside),
+            None => tell(form, account, rows, name, is_complete, &mut self.faults),
         }
+        self.told.report = report;
         self.told.gate.take(account.sums);
     }
+}
+
+// Writes a report on the stream of this name, where one is asked for.
+fn tell<E: Write>(
+    form: Option<Form>,
+    account: Account,
+    rows: &Rows<'_>,
+    name: &str,
+    is_complete: bool,
+    writer: &mut E,
+) {
+    match form {
+        Some(Form::Text) => tell_text(account, rows, name, writer),
+        Some(Form::Json) => tell_json(account, rows, name, is_complete, writer),
+        None => return,
+    }
+    let _ = writer.flush();
 }

@@ -3,6 +3,7 @@
 //! come: for a log or a recording of unknown origin that goes to a terminal.
 #![tactic(auto)]
 
+mod aside;
 mod auditor;
 mod cast;
 mod encodings;
@@ -43,7 +44,7 @@ controls|cursor|erase|scroll|modes|charsets|palette|titles|clipboard|images|othe
 [--encoding utf-8|latin1|windows-1250|windows-1251|windows-1252|windows-1253|\
 windows-1254|windows-1255|windows-1256|windows-1257|windows-1258] \
 [--c1 replace|obey] [--unicode keep|show|drop] [--show[=escaped|color]] [--collapse[=rows]] \
-[--cast] [--report[=text|json]] \
+[--cast] [--report[=text|json]] [--report-to file] \
 [--fail[=respelled|shown|replaced|left-out|swallowed|overwritten,..]] \
 [-o|--output file] [-i|--in-place[=suffix]] [-h|--help] [-V|--version] [--] [FILE..]";
 
@@ -77,6 +78,7 @@ leaves on, as colours or a link, is taken back at its end, and at each line's wi
                   events of output, and keeps its times and all other lines
   --report        says on standard error what was left out of each FILE, and where;
                   --report=json as a line of JSON
+  --report-to f   writes the report to the file f, in place of standard error
   --fail          ends with status 3 where anything was shown, replaced, left out or swallowed;
                   --fail=left-out,swallowed where a byte had one of these fates; respelled,
                   shown, replaced and overwritten are others
@@ -95,7 +97,7 @@ Groups (text is layout, color is that with sgr, hidden and links, screen is all 
 const VERSION: &str = "escfilter 0.1.0";
 
 // What the name of a new file ends in, until it takes its place.
-const NEW: &str = ".escfilter";
+pub(crate) const NEW: &str = ".escfilter";
 
 fn main(rt: HostRuntime) -> ExitCode {
     open_closed(&rt);
@@ -129,9 +131,13 @@ fn said(rt: &HostRuntime, printed: io::Result<()>) -> u8 {
 
 // Filters the files, and tells of them what is asked for.
 fn filter(rt: &HostRuntime, task: &Task<'_>) -> u8 {
-    let mut told = Told::new(task.options);
-    let status = filter_to(rt, task.target, task.options, &task.files, &mut told);
-    told.end(task.options, status)
+    match Told::of(rt, task) {
+        Ok(mut told) => {
+            let status = filter_to(rt, task.target, task.options, &task.files, &mut told);
+            told.end(rt, task, status)
+        }
+        Err(status) => status,
+    }
 }
 
 // Filters the files to where the output goes.

@@ -77,6 +77,8 @@ pub struct Task<'a> {
     pub target: Target<'a>,
     /// How streams are filtered.
     pub options: Options<'a>,
+    /// Where reports go, where not to standard error.
+    pub report_to: Option<&'a str>,
     /// The files.
     pub files: Vec<&'a str>,
     /// The first of these that an option before it could take.
@@ -181,6 +183,11 @@ const KNOWN: &[Known] = &[
         takes: Takes::Maybe("form", &["text", "json"]),
     },
     Known {
+        name: "--report-to",
+        letter: "",
+        takes: Takes::OneOf("file", &[]),
+    },
+    Known {
         name: "--fail",
         letter: "",
         takes: Takes::MaybeSome("kind", FAILING),
@@ -218,6 +225,7 @@ impl<'a> Task<'a> {
             kind: asked.kind,
             target: asked.target,
             options: asked.settled(),
+            report_to: asked.report_to,
             files: found.files,
             apart: apart_of(&found.options),
         }
@@ -230,6 +238,7 @@ struct Asked<'a> {
     kind: Kind,
     target: Target<'a>,
     options: Options<'a>,
+    report_to: Option<&'a str>,
     by_lines: Option<bool>,
     schemes: Option<&'a str>,
     unicode: Option<Unicode>,
@@ -261,6 +270,7 @@ impl<'a> Asked<'a> {
                 report: None,
                 fails: None,
             },
+            report_to: None,
             by_lines: None,
             schemes: None,
             unicode: None,
@@ -278,6 +288,7 @@ impl<'a> Asked<'a> {
             "--c1" => self.obeys = given.word == "obey",
             "--encoding" => self.page = page_of(given.word),
             "--unicode" => self.unicode = Some(unicode_of(given.word)),
+            "--report-to" => self.report_to = Some(given.word),
             "--output" => self.target = Target::File(given.word),
             "--in-place" => self.target = Target::InPlace(given.word),
             "--help" => self.kind = Kind::Help,
@@ -293,8 +304,17 @@ impl<'a> Asked<'a> {
         options.by_lines = self.by_lines.unwrap_or(is_by_lines(policy));
         options.unicode = self.unicode.unwrap_or(unicode_under(policy));
         options.encoding = self.encoding();
+        options.report = self.report();
         options.choice = settled(options.choice, self.schemes, options.rows);
         options
+    }
+
+    // In which form it is reported what was left out. A file for the report asks for one.
+    fn report(&self) -> Option<Form> {
+        match (self.options.report, self.report_to) {
+            (None, Some(_)) => Some(Form::Text),
+            (report, _) => report,
+        }
     }
 
     // How the bytes of a stream are read. The texts of a recording are characters, and where bytes
