@@ -47,6 +47,11 @@ impl Aside {
         let _ = self.output.into_inner().end(rt, false);
     }
 
+    /// Takes it for one that cannot be whole, for this reason.
+    pub fn fail(&mut self, error: &io::Error) {
+        self.fault = Some(Reason::of(error));
+    }
+
     // Writes what it holds.
     fn write_held(&mut self) -> io::Result<()> {
         self.output.write_all(&self.held)?;
@@ -60,7 +65,7 @@ impl Write for Aside {
             Ok(()) => Ok(buf.len()),
             Err(error) => {
                 let error = io::Error::from(error);
-                self.fault = Some(Reason::of(&error));
+                self.fail(&error);
                 Err(error)
             }
         }
@@ -73,7 +78,7 @@ impl Write for Aside {
         let written = self.write_held();
         self.held.clear();
         if let Err(error) = &written {
-            self.fault = Some(Reason::of(error));
+            self.fail(error);
         }
         written
     }

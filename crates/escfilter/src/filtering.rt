@@ -2,6 +2,7 @@
 
 use crate::auditor::Auditor;
 use crate::cast::{CastFault, filter_recording};
+use crate::events::Events;
 use crate::json::tell_json;
 use crate::options::{Form, Options};
 use crate::report::tell_text;
@@ -31,18 +32,27 @@ pub struct Filtering<'a, W, E> {
 
 impl<'a, W: Write, E: Write> Work for Filtering<'a, W, E> {
     fn take<R: Read + Drop>(&mut self, name: &str, input: R) -> Ended {
-        if self.options.is_cast {
-            self.take_cast(name, input)
+        let events = started(self.told.events.take(), name);
+        let (ended, events) = if self.options.is_cast {
+            self.take_cast(name, input, events)
         } else {
-            self.take_stream(name, input)
-        }
+            self.take_stream(name, input, events)
+        };
+        self.told.events = stopped(events);
+        ended
     }
 }
 
 impl<'a, W: Write, E: Write> Filtering<'a, W, E> {
-    // Filters a stream of this name.
-    fn take_stream<R: Read + Drop>(&mut self, name: &str, input: R) -> Ended {
-        let mut auditor = Auditor::new(self.alloc, self.options);
+    // Filters a stream of this name. It returns how that ended, and where what did not pass is
+    // told.
+    fn take_stream<R: Read + Drop>(
+        &mut self,
+        name: &str,
+        input: R,
+        events: Option<Events>,
+    ) -> (Ended, Option<Events>) {
+        let mut auditor = Auditor::new(self.alloc, self.options, events);
         let mut reader = Watched::new(Noting::new(input));
         let mut writer = Watched::new(Noting::new(&mut *self.output));
         let outcome = filter_by(
@@ -61,12 +71,18 @@ impl<'a, W: Write, E: Write> Filtering<'a, W, E> {
             Err(FilterError::Write) => Place::Output(self.output_name),
             _ => Place::Input(name),
         };
-        ended_by(PROGRAM, outcome, place, reason, &mut self.faults)
+        let ended = ended_by(PROGRAM, outcome, place, reason, &mut self.faults);
+        (ended, auditor.into_events())
     }
 
-    // Filters a recording of this name.
-    fn take_cast<R: Read + Drop>(&mut self, name: &str, input: R) -> Ended {
-        let mut auditor = Auditor::new(self.alloc, self.options);
+    // The same of a recording.
+    fn take_cast<R: Read + Drop>(
+        &mut self,
+        name: &str,
+        input: R,
+        events: Option<Events>,
+    ) -> (Ended, Option<Events>) {
+        let mut auditor = Auditor::new(self.alloc, self.options, events);
         let mut reader = Watched::new(Noting::new(input));
         let mut writer = Watched::new(Noting::new(&mut *self.output));
         let outcome = filter_recording(
@@ -85,7 +101,8 @@ impl<'a, W: Write, E: Write> Filtering<'a, W, E> {
             Err(CastFault::Stream(FilterError::Write)) => Place::Output(self.output_name),
             _ => Place::Input(name),
         };
-        ended_by(PROGRAM, outcome, place, reason, &mut self.faults)
+        let ended = ended_by(PROGRAM, outcome, place, reason, &mut self.faults);
+        (ended, auditor.into_events())
     }
 
     // Reports what did not pass of the stream of this name, where the options ask for it.
@@ -119,4 +136,26 @@ fn tell<E: Write>(
         None => return,
     }
     let _ = writer.flush();
+}
+
+// Where what does not pass is told, at the beginning of the stream of this name.
+fn started(events: Option<Events>, name: &str) -> Option<Events> {
+    match events {
+        Some(mut events) => {
+            events.start(name);
+            Some(events)
+        }
+        None => None,
+    }
+}
+
+// The same at its end.
+fn stopped(events: Option<Events>) -> Option<Events> {
+    match events {
+        Some(mut events) => {
+            events.end();
+            Some(events)
+        }
+        None => None,
+    }
 }

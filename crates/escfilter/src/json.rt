@@ -27,8 +27,8 @@ pub fn tell_json<E: Write>(
     put("}\n", faults);
 }
 
-// Writes a string: what a terminal does not show as itself, a quote and a backslash are escaped.
-fn put_text<E: Write>(text: &str, faults: &mut E) {
+/// Writes a string: what a terminal does not show as itself, a quote and a backslash are escaped.
+pub fn put_text<E: Write>(text: &str, faults: &mut E) {
     put("\"", faults);
     for c in text.chars() {
         put_char(c, faults);
@@ -45,8 +45,8 @@ fn put_char<E: Write>(c: char, faults: &mut E) {
     }
 }
 
-// Writes a place.
-fn put_place<E: Write>(place: Place, faults: &mut E) {
+/// Writes a place, after a comma.
+pub fn put_place<E: Write>(place: Place, faults: &mut E) {
     put_number(",\"line\":", place.line.saturating_add(1), faults);
     put_number(",\"byte\":", place.byte, faults);
 }
@@ -64,8 +64,8 @@ fn put_sums<E: Write>(sums: Sums, faults: &mut E) {
     put("}", faults);
 }
 
-// Writes a fate, as a key has it.
-fn put_fate<E: Write>(fate: Fate, faults: &mut E) {
+/// Writes a fate, as a key has it.
+pub fn put_fate<E: Write>(fate: Fate, faults: &mut E) {
     put_text(
         match fate {
             Fate::LeftOut => "left_out",
@@ -106,8 +106,8 @@ fn put_row<E: Write>(row: &Row, faults: &mut E) {
     put("}", faults);
 }
 
-// Writes the words of a name.
-fn put_name<E: Write>(name: Name, faults: &mut E) {
+/// Writes the words of a name.
+pub fn put_name<E: Write>(name: Name, faults: &mut E) {
     put("\"kind\":", faults);
     put_text(name.kind, faults);
     put(",\"name\":", faults);

@@ -7,6 +7,7 @@ mod aside;
 mod auditor;
 mod cast;
 mod encodings;
+mod events;
 mod failing;
 mod filtering;
 mod json;
@@ -44,7 +45,7 @@ controls|cursor|erase|scroll|modes|charsets|palette|titles|clipboard|images|othe
 [--encoding utf-8|latin1|windows-1250|windows-1251|windows-1252|windows-1253|\
 windows-1254|windows-1255|windows-1256|windows-1257|windows-1258] \
 [--c1 replace|obey] [--unicode keep|show|drop] [--show[=escaped|color]] [--collapse[=rows]] \
-[--cast] [--report[=text|json]] [--report-to file] \
+[--cast] [--report[=text|json]] [--report-to file] [--events file] \
 [--fail[=respelled|shown|replaced|left-out|swallowed|overwritten,..]] \
 [-o|--output file] [-i|--in-place[=suffix]] [-h|--help] [-V|--version] [--] [FILE..]";
 
@@ -79,6 +80,8 @@ leaves on, as colours or a link, is taken back at its end, and at each line's wi
   --report        says on standard error what was left out of each FILE, and where;
                   --report=json as a line of JSON
   --report-to f   writes the report to the file f, in place of standard error
+  --events f      writes to the file f a line of JSON for each thing that did not pass, with
+                  its place and its bytes
   --fail          ends with status 3 where anything was shown, replaced, left out or swallowed;
                   --fail=left-out,swallowed where a byte had one of these fates; respelled,
                   shown, replaced and overwritten are others

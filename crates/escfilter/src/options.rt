@@ -32,6 +32,8 @@ pub struct Options<'a> {
     pub is_cast: bool,
     /// In which form it is reported what was left out.
     pub report: Option<Form>,
+    /// Whether what did not pass is told, one thing after another.
+    pub has_events: bool,
     /// Which fates are a failure, where some are.
     pub fails: Option<Failing>,
 }
@@ -79,6 +81,8 @@ pub struct Task<'a> {
     pub options: Options<'a>,
     /// Where reports go, where not to standard error.
     pub report_to: Option<&'a str>,
+    /// Where what did not pass is told, one thing after another.
+    pub events: Option<&'a str>,
     /// The files.
     pub files: Vec<&'a str>,
     /// The first of these that an option before it could take.
@@ -88,7 +92,12 @@ pub struct Task<'a> {
 impl<'a> Options<'a> {
     /// Whether an account of a stream is kept.
     pub fn is_audited(&self) -> bool {
-        self.report.is_some() || self.fails.is_some()
+        self.has_names() || self.fails.is_some()
+    }
+
+    /// Whether names are asked for of what did not pass.
+    pub fn has_names(&self) -> bool {
+        self.report.is_some() || self.has_events
     }
 
     // Takes an option more, where it is one of these.
@@ -188,6 +197,11 @@ const KNOWN: &[Known] = &[
         takes: Takes::OneOf("file", &[]),
     },
     Known {
+        name: "--events",
+        letter: "",
+        takes: Takes::OneOf("file", &[]),
+    },
+    Known {
         name: "--fail",
         letter: "",
         takes: Takes::MaybeSome("kind", FAILING),
@@ -226,6 +240,7 @@ impl<'a> Task<'a> {
             target: asked.target,
             options: asked.settled(),
             report_to: asked.report_to,
+            events: asked.events,
             files: found.files,
             apart: apart_of(&found.options),
         }
@@ -239,6 +254,7 @@ struct Asked<'a> {
     target: Target<'a>,
     options: Options<'a>,
     report_to: Option<&'a str>,
+    events: Option<&'a str>,
     by_lines: Option<bool>,
     schemes: Option<&'a str>,
     unicode: Option<Unicode>,
@@ -268,9 +284,11 @@ impl<'a> Asked<'a> {
                 rows: None,
                 is_cast: false,
                 report: None,
+                has_events: false,
                 fails: None,
             },
             report_to: None,
+            events: None,
             by_lines: None,
             schemes: None,
             unicode: None,
@@ -289,6 +307,7 @@ impl<'a> Asked<'a> {
             "--encoding" => self.page = page_of(given.word),
             "--unicode" => self.unicode = Some(unicode_of(given.word)),
             "--report-to" => self.report_to = Some(given.word),
+            "--events" => self.events = Some(given.word),
             "--output" => self.target = Target::File(given.word),
             "--in-place" => self.target = Target::InPlace(given.word),
             "--help" => self.kind = Kind::Help,
@@ -305,6 +324,7 @@ impl<'a> Asked<'a> {
         options.unicode = self.unicode.unwrap_or(unicode_under(policy));
         options.encoding = self.encoding();
         options.report = self.report();
+        options.has_events = self.events.is_some();
         options.choice = settled(options.choice, self.schemes, options.rows);
         options
     }

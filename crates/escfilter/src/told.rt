@@ -2,6 +2,7 @@
 
 use crate::NEW;
 use crate::aside::Aside;
+use crate::events::Events;
 use crate::failing::{Failing, Gate};
 use crate::options::{Options, Target, Task};
 use crate::stream::PROGRAM;
@@ -18,6 +19,8 @@ const IS_TAKEN: &str = "it is an input, or an output already";
 pub struct Told {
     /// Where reports go, where not to standard error.
     pub report: Option<Aside>,
+    /// Where what did not pass is told, one thing after another.
+    pub events: Option<Events>,
     /// Whether some byte had a fate that is a failure.
     pub gate: Gate,
 }
@@ -26,22 +29,46 @@ impl Told {
     /// Before the first stream of this task. The error is the status where a file cannot be
     /// written; a line on standard error says why.
     pub fn of(rt: &HostRuntime, task: &Task<'_>) -> Result<Told, u8> {
-        let report = match task.report_to {
-            Some(name) => Some(opened(rt, task, name)?),
-            None => None,
-        };
-        Ok(Told {
-            report,
-            gate: Gate::new(task.options.fails.unwrap_or(Failing::LESS)),
-        })
+        let report = opened(rt, task, task.report_to)?;
+        match opened_events(rt, task) {
+            Ok(events) => Ok(Told {
+                report,
+                events,
+                gate: Gate::new(task.options.fails.unwrap_or(Failing::LESS)),
+            }),
+            Err(status) => {
+                if let Some(aside) = report {
+                    aside.give_up(rt);
+                }
+                Err(status)
+            }
+        }
     }
 
     /// Puts each file in its place, and returns the status of the program, which would end with
     /// this one otherwise.
     pub fn end(self, rt: &HostRuntime, task: &Task<'_>, status: u8) -> u8 {
-        let Told { report, gate } = self;
+        let Told {
+            report,
+            events,
+            gate,
+        } = self;
         let status = with_failures(task.options, gate, status);
-        ended(rt, task.report_to, report, status)
+        let status = ended(rt, task.report_to, report, status);
+        let events = match events {
+            Some(events) => Some(events.into_aside()),
+            None => None,
+        };
+        ended(rt, task.events, events, status)
+    }
+}
+
+// Where events go, where the task asks for them.
+fn opened_events(rt: &HostRuntime, task: &Task<'_>) -> Result<Option<Events>, u8> {
+    match opened(rt, task, task.events) {
+        Ok(Some(aside)) => Ok(Some(Events::new(rt.alloc(), aside))),
+        Ok(None) => Ok(None),
+        Err(status) => Err(status),
     }
 }
 
@@ -53,25 +80,42 @@ fn with_failures(options: Options<'_>, gate: Gate, status: u8) -> u8 {
     }
 }
 
-// A new file of this name, which is to be written beside the output of the task.
-fn opened(rt: &HostRuntime, task: &Task<'_>, name: &str) -> Result<Aside, u8> {
+// A new file of this name, where there is one, which is to be written beside the output of the
+// task.
+fn opened(rt: &HostRuntime, task: &Task<'_>, name: Option<&str>) -> Result<Option<Aside>, u8> {
+    let Some(name) = name else {
+        return Ok(None);
+    };
     if is_taken(rt, task, name) {
         return Err(unwritable(PROGRAM, name, IS_TAKEN, &mut rt.stderr()));
     }
     match Output::of(rt, name, NEW) {
-        Ok(output) => Ok(Aside::new(rt.alloc(), output)),
+        Ok(output) => Ok(Some(Aside::new(rt.alloc(), output))),
         Err(fault) => Err(unwritable(PROGRAM, name, fault, &mut rt.stderr())),
     }
 }
 
-// Whether the file of this name is an input of the task, or its output.
+// Whether the file of this name is an input of the task, or another file that it writes.
 fn is_taken(rt: &HostRuntime, task: &Task<'_>, name: &str) -> bool {
     for file in &task.files {
         if are_one(rt, *file, name) {
             return true;
         }
     }
-    match task.target {
+    are_both(rt, task) || is_output_of(rt, task.target, name)
+}
+
+// Whether reports and events go to one file.
+fn are_both(rt: &HostRuntime, task: &Task<'_>) -> bool {
+    match (task.report_to, task.events) {
+        (Some(report), Some(events)) => are_one(rt, report, events),
+        (Some(_), None) | (None, _) => false,
+    }
+}
+
+// Whether the output goes to the file of this name.
+fn is_output_of(rt: &HostRuntime, target: Target<'_>, name: &str) -> bool {
+    match target {
         Target::Output => is_output(rt, metadata(rt, name)),
         Target::File(output) => are_one(rt, output, name),
         Target::InPlace(_) => false,
