@@ -39,10 +39,26 @@ pub fn put_text<E: Write>(text: &str, faults: &mut E) {
 // Writes a character of a string.
 fn put_char<E: Write>(c: char, faults: &mut E) {
     if c == '"' || c == '\\' || !command_line::is_shown(c) {
-        let _ = write!(faults, "\\u{:04x}", c as u32);
+        put_escaped(c as u32, faults);
     } else {
         let _ = write!(faults, "{c}");
     }
+}
+
+// Writes the number of a character as JSON has it: past FFFF as two surrogates.
+fn put_escaped<E: Write>(number: u32, faults: &mut E) {
+    let past = number.saturating_sub(0x1_0000);
+    if number < 0x1_0000 {
+        put_unit(number, faults);
+    } else {
+        put_unit(0xd800 + past / 0x400, faults);
+        put_unit(0xdc00 + past % 0x400, faults);
+    }
+}
+
+// Writes a code unit by its number.
+fn put_unit<E: Write>(unit: u32, faults: &mut E) {
+    let _ = write!(faults, "\\u{unit:04x}");
 }
 
 /// Writes a place, after a comma.
