@@ -4,12 +4,13 @@ use crate::auditor::Auditor;
 use crate::cast::{CastFault, filter_recording};
 use crate::events::Events;
 use crate::json::tell_json;
+use crate::listing::{Names, Passage, write_name};
 use crate::options::{Form, Options};
 use crate::report::tell_text;
 use crate::rows::Rows;
 use crate::stream::{PROGRAM, filter_by};
 use crate::told::Told;
-use command_line::{Ended, Noting, Place, Work, ended_by};
+use command_line::{Ended, Noting, Place, Reason, Work, ended_by, unwritten};
 use esc_account::Account;
 use esc_filter::FilterError;
 use esc_normal::Watched;
@@ -24,6 +25,8 @@ pub struct Filtering<'a, W, E> {
     /// What the output is called.
     pub output_name: &'a str,
     pub output: &'a mut W,
+    /// How names are written to it, where they are.
+    pub names: Names,
     /// Where reports and what hinders go.
     pub faults: E,
     /// What is told of the streams.
@@ -33,28 +36,35 @@ pub struct Filtering<'a, W, E> {
 impl<'a, W: Write, E: Write> Work for Filtering<'a, W, E> {
     fn take<R: Read + Drop>(&mut self, name: &str, input: R) -> Ended {
         let events = started(self.told.events.take(), name);
-        let (ended, events) = if self.options.is_cast {
+        let (ended, is_failure, events) = if self.options.is_cast {
             self.take_cast(name, input, events)
         } else {
             self.take_stream(name, input, events)
         };
         self.told.events = stopped(events);
-        ended
+        if self.options.is_list && is_failure {
+            self.list(name, ended)
+        } else {
+            ended
+        }
     }
 }
 
 impl<'a, W: Write, E: Write> Filtering<'a, W, E> {
-    // Filters a stream of this name. It returns how that ended, and where what did not pass is
-    // told.
+    // Filters a stream of this name. It returns how that ended, whether some byte had a fate that
+    // is a failure, and where what did not pass is told.
     fn take_stream<R: Read + Drop>(
         &mut self,
         name: &str,
         input: R,
         events: Option<Events>,
-    ) -> (Ended, Option<Events>) {
+    ) -> (Ended, bool, Option<Events>) {
         let mut auditor = Auditor::new(self.alloc, self.options, events);
         let mut reader = Watched::new(Noting::new(input));
-        let mut writer = Watched::new(Noting::new(&mut *self.output));
+        let mut writer = Watched::new(Noting::new(Passage {
+            output: &mut *self.output,
+            is_open: !self.options.is_list,
+        }));
         let outcome = filter_by(
             self.alloc,
             &self.options,
@@ -66,13 +76,13 @@ impl<'a, W: Write, E: Write> Filtering<'a, W, E> {
             .into_inner()
             .reason()
             .or(writer.into_inner().reason());
-        self.report(name, &auditor, outcome.is_ok());
+        let is_failure = self.report(name, &auditor, outcome.is_ok());
         let place = match outcome {
             Err(FilterError::Write) => Place::Output(self.output_name),
             _ => Place::Input(name),
         };
         let ended = ended_by(PROGRAM, outcome, place, reason, &mut self.faults);
-        (ended, auditor.into_events())
+        (ended, is_failure, auditor.into_events())
     }
 
     // The same of a recording.
@@ -81,10 +91,13 @@ impl<'a, W: Write, E: Write> Filtering<'a, W, E> {
         name: &str,
         input: R,
         events: Option<Events>,
-    ) -> (Ended, Option<Events>) {
+    ) -> (Ended, bool, Option<Events>) {
         let mut auditor = Auditor::new(self.alloc, self.options, events);
         let mut reader = Watched::new(Noting::new(input));
-        let mut writer = Watched::new(Noting::new(&mut *self.output));
+        let mut writer = Watched::new(Noting::new(Passage {
+            output: &mut *self.output,
+            is_open: !self.options.is_list,
+        }));
         let outcome = filter_recording(
             self.alloc,
             &self.options,
@@ -96,19 +109,31 @@ impl<'a, W: Write, E: Write> Filtering<'a, W, E> {
             .into_inner()
             .reason()
             .or(writer.into_inner().reason());
-        self.report(name, &auditor, outcome.is_ok());
+        let is_failure = self.report(name, &auditor, outcome.is_ok());
         let place = match outcome {
             Err(CastFault::Stream(FilterError::Write)) => Place::Output(self.output_name),
             _ => Place::Input(name),
         };
         let ended = ended_by(PROGRAM, outcome, place, reason, &mut self.faults);
-        (ended, auditor.into_events())
+        (ended, is_failure, auditor.into_events())
     }
 
-    // Reports what did not pass of the stream of this name, where the options ask for it.
-    fn report(&mut self, name: &str, auditor: &Auditor<'_>, is_complete: bool) {
+    // Writes the name of a stream, which ended so.
+    fn list(&mut self, name: &str, ended: Ended) -> Ended {
+        match write_name(name, self.names, self.output) {
+            Ok(()) => ended,
+            Err(error) => {
+                let reason = Reason::of(&error);
+                unwritten(PROGRAM, self.output_name, reason, &mut self.faults)
+            }
+        }
+    }
+
+    // Reports what did not pass of the stream of this name, where the options ask for it. It
+    // returns whether some byte of it had a fate that is a failure.
+    fn report(&mut self, name: &str, auditor: &Auditor<'_>, is_complete: bool) -> bool {
         let Some((account, rows)) = auditor.account() else {
-            return;
+            return false;
         };
         let form = self.options.report;
         let mut report = self.told.report.take();
@@ -117,7 +142,7 @@ impl<'a, W: Write, E: Write> Filtering<'a, W, E> {
             None => tell(form, account, rows, name, is_complete, &mut self.faults),
         }
         self.told.report = report;
-        self.told.gate.take(account.sums);
+        self.told.gate.take(account.sums)
     }
 }
 

@@ -13,6 +13,7 @@ mod filtering;
 mod json;
 mod judging;
 mod laws;
+mod listing;
 mod name;
 mod named_groups;
 mod options;
@@ -21,18 +22,20 @@ mod rows;
 mod saying;
 mod stream;
 mod told;
+mod values;
 
 use command_line::{
     DONE, Ended, FAULT, OUTPUT, Reason, Wrong, is_text, open_closed, program_words, refused,
     status_after, status_of_text, take_opened, unread, unwritable, work_through, wrong_apart,
 };
 use filtering::Filtering;
+use listing::Names;
 use named_groups::Listed;
 use new_file::{NewFile, Output};
 use options::{Kind, Options, Target, Task};
 use std::fs::File;
 use std::io;
-use std::io::{Stderr, Write};
+use std::io::{IsTerminal, Stderr, Write};
 use std::process::ExitCode;
 use stream::PROGRAM;
 use told::Told;
@@ -46,7 +49,7 @@ controls|cursor|erase|scroll|modes|charsets|palette|titles|clipboard|images|othe
 windows-1254|windows-1255|windows-1256|windows-1257|windows-1258] \
 [--c1 replace|obey] [--unicode keep|show|drop] [--show[=escaped|color]] [--collapse[=rows]] \
 [--cast] [--report[=text|json]] [--report-to file] [--events file] \
-[--fail[=respelled|shown|replaced|left-out|swallowed|overwritten,..]] \
+[--fail[=respelled|shown|replaced|left-out|swallowed|overwritten,..]] [--list] [-z|--null] \
 [-o|--output file] [-i|--in-place[=suffix]] [-h|--help] [-V|--version] [--] [FILE..]";
 
 const HELP: &str = "\
@@ -85,6 +88,9 @@ leaves on, as colours or a link, is taken back at its end, and at each line's wi
   --fail          ends with status 3 where anything was shown, replaced, left out or swallowed;
                   --fail=left-out,swallowed where a byte had one of these fates; respelled,
                   shown, replaced and overwritten are others
+  --list          writes the names of the files in which --fail finds something, a line each,
+                  in place of what passes
+  -z, --null      ends each name with a zero byte, for xargs -0
   -o, --output f  writes the file f, whole or not at all
   -i, --in-place  writes each FILE in its place, whole or not at all; -i.bak, as
                   --in-place=.bak, keeps what was there as FILE.bak
@@ -152,7 +158,11 @@ fn filter_to(
     told: &mut Told,
 ) -> u8 {
     match target {
-        Target::Output => filter_all(rt, options, files, told, OUTPUT, &mut rt.stdout()),
+        Target::Output => {
+            let output = &mut rt.stdout();
+            let names = Names::of(options, output.is_terminal());
+            filter_all(rt, options, files, told, names, OUTPUT, output)
+        }
         Target::File(name) => filter_to_file(rt, options, files, told, name),
         Target::InPlace(suffix) => filter_in_place(rt, options, files, told, suffix),
     }
@@ -164,10 +174,11 @@ fn filter_all<W: Write>(
     options: Options<'_>,
     files: &[&str],
     told: &mut Told,
+    names: Names,
     output_name: &str,
     output: &mut W,
 ) -> u8 {
-    let mut filtering = filter_of(rt, options, told, output_name, output);
+    let mut filtering = filter_of(rt, options, told, names, output_name, output);
     work_through(rt, PROGRAM, files, &mut filtering, &mut rt.stderr())
 }
 
@@ -176,6 +187,7 @@ fn filter_of<'a, W>(
     rt: &HostRuntime,
     options: Options<'a>,
     told: &'a mut Told,
+    names: Names,
     output_name: &'a str,
     output: &'a mut W,
 ) -> Filtering<'a, W, Stderr> {
@@ -184,6 +196,7 @@ fn filter_of<'a, W>(
         options,
         output_name,
         output,
+        names,
         faults: rt.stderr(),
         told,
     }
@@ -201,7 +214,8 @@ fn filter_to_file(
         Ok(output) => output,
         Err(fault) => return unwritable(PROGRAM, name, fault, &mut rt.stderr()),
     };
-    let status = filter_all(rt, options, files, told, name, &mut output);
+    let names = Names::of(options, output.is_terminal());
+    let status = filter_all(rt, options, files, told, names, name, &mut output);
     match output.end(rt, status == DONE) {
         Ok(()) => status,
         Err(fault) => unwritable(PROGRAM, name, fault, &mut rt.stderr()),
@@ -264,7 +278,8 @@ fn replace_by(
 ) -> Ended {
     let ended = match File::open(rt, name) {
         Ok(input) => {
-            let mut filtering = filter_of(rt, options, told, name, &mut new.file);
+            let names = Names::Lines;
+            let mut filtering = filter_of(rt, options, told, names, name, &mut new.file);
             take_opened(PROGRAM, name, input, &mut filtering, &mut rt.stderr())
         }
         Err(error) => unread(PROGRAM, name, Reason::of(&error), &mut rt.stderr()),

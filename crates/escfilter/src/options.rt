@@ -3,9 +3,10 @@
 use crate::encodings::{ENCODINGS, page_of};
 use crate::failing::{FAILING, Failing};
 use crate::named_groups::{ALLOWED, Choice, DENIED};
+use crate::values::{apart_of, rows_of, wrong_value};
 use command_line::{Apart, Found, Given, Known, Takes, Wrong, read};
 use esc_decode::{CodePage, Encoding};
-use esc_filter::{Policy, Unicode, is_scheme};
+use esc_filter::{Policy, Unicode};
 use esc_reveal::Marking;
 use std::alloc::Global;
 
@@ -34,6 +35,10 @@ pub struct Options<'a> {
     pub report: Option<Form>,
     /// Whether what did not pass is told, one thing after another.
     pub has_events: bool,
+    /// Whether the names of files are written in place of what passes.
+    pub is_list: bool,
+    /// Whether a zero byte ends each of them, in place of a line feed.
+    pub is_null: bool,
     /// Which fates are a failure, where some are.
     pub fails: Option<Failing>,
 }
@@ -92,7 +97,7 @@ pub struct Task<'a> {
 impl<'a> Options<'a> {
     /// Whether an account of a stream is kept.
     pub fn is_audited(&self) -> bool {
-        self.has_names() || self.fails.is_some()
+        self.has_names() || self.is_list || self.fails.is_some()
     }
 
     /// Whether names are asked for of what did not pass.
@@ -112,6 +117,8 @@ impl<'a> Options<'a> {
             }
             "--collapse" => self.rows = rows_of(given.word),
             "--cast" => self.is_cast = true,
+            "--list" => self.is_list = true,
+            "--null" => self.is_null = true,
             "--report" => self.report = Some(form_of(given.word)),
             "--fail" => self.fails = Some(Failing::named(given.some)),
             _ => {}
@@ -120,10 +127,6 @@ impl<'a> Options<'a> {
 }
 
 const DEFAULT_LIMIT: usize = 1_048_576;
-
-const DEFAULT_ROWS: usize = 32;
-
-const MOST_ROWS: usize = 4096;
 
 const KNOWN: &[Known] = &[
     Known {
@@ -206,6 +209,16 @@ const KNOWN: &[Known] = &[
         letter: "",
         takes: Takes::MaybeSome("kind", FAILING),
     },
+    Known {
+        name: "--list",
+        letter: "",
+        takes: Takes::Nothing,
+    },
+    Known {
+        name: "--null",
+        letter: "-z",
+        takes: Takes::Nothing,
+    },
     Known::OUTPUT,
     Known {
         name: "--in-place",
@@ -237,7 +250,7 @@ impl<'a> Task<'a> {
         }
         Task {
             kind: asked.kind,
-            target: asked.target,
+            target: asked.target(),
             options: asked.settled(),
             report_to: asked.report_to,
             events: asked.events,
@@ -285,6 +298,8 @@ impl<'a> Asked<'a> {
                 is_cast: false,
                 report: None,
                 has_events: false,
+                is_list: false,
+                is_null: false,
                 fails: None,
             },
             report_to: None,
@@ -327,6 +342,14 @@ impl<'a> Asked<'a> {
         options.has_events = self.events.is_some();
         options.choice = settled(options.choice, self.schemes, options.rows);
         options
+    }
+
+    // Where the output goes. A list changes no file that is read.
+    fn target(&self) -> Target<'a> {
+        match self.target {
+            Target::InPlace(_) if self.options.is_list => Target::Output,
+            target => target,
+        }
     }
 
     // In which form it is reported what was left out. A file for the report asks for one.
@@ -389,96 +412,6 @@ fn unicode_of(name: &str) -> Unicode {
         "show" => Unicode::Show,
         "drop" => Unicode::Drop,
         _ => Unicode::Keep,
-    }
-}
-
-// What is wrong with the values of which the table does not say what they may be.
-fn wrong_value<'a>(options: &[Given<'a>]) -> Option<Wrong<'a>> {
-    match (wrong_scheme(options), wrong_rows(options)) {
-        (Some(scheme), _) => Some(Wrong::Value("--links", "scheme", scheme, None)),
-        (None, Some(rows)) => Some(Wrong::Value("--collapse", "number of rows", rows, None)),
-        (None, None) => None,
-    }
-}
-
-// The first word that `--links` is given as a scheme and is none.
-fn wrong_scheme<'a>(options: &[Given<'a>]) -> Option<&'a str> {
-    for given in options {
-        if given.name != "--links" {
-            continue;
-        }
-        for scheme in given.word.split(',') {
-            if !is_scheme(scheme) {
-                return Some(scheme);
-            }
-        }
-    }
-    None
-}
-
-// The first word that `--collapse` is given as a number of rows and is none.
-fn wrong_rows<'a>(options: &[Given<'a>]) -> Option<&'a str> {
-    for given in options {
-        if given.name == "--collapse" && rows_of(given.word).is_none() {
-            return Some(given.word);
-        }
-    }
-    None
-}
-
-// The first word after an option that could take it, and takes what follows `=` alone.
-fn apart_of<'a>(options: &[Given<'a>]) -> Option<Apart<'a>> {
-    for given in options {
-        if could_take(given.name, given.next) {
-            return Some(Apart {
-                option: given.name,
-                word: given.next,
-            });
-        }
-    }
-    None
-}
-
-// Whether an option of this name could take this word. A suffix is one that looks so.
-fn could_take(name: &str, word: &str) -> bool {
-    match name {
-        "--report" => word == "text" || word == "json",
-        "--show" => word == "escaped" || word == "color",
-        "--fail" => are_kinds(word),
-        "--collapse" => !word.is_empty() && rows_of(word).is_some(),
-        "--in-place" => word.starts_with('.'),
-        _ => false,
-    }
-}
-
-// Whether these are kinds of failures, with `,` between them.
-fn are_kinds(words: &str) -> bool {
-    for word in words.split(',') {
-        if !is_kind(word) {
-            return false;
-        }
-    }
-    true
-}
-
-// Whether it is a kind of failures.
-fn is_kind(word: &str) -> bool {
-    for kind in FAILING {
-        if *kind == word {
-            return true;
-        }
-    }
-    false
-}
-
-// How many rows a word names; where it is empty, the default.
-fn rows_of(word: &str) -> Option<usize> {
-    if word.is_empty() {
-        return Some(DEFAULT_ROWS);
-    }
-    match word.parse::<usize>() {
-        Ok(rows) if 0 < rows && rows <= MOST_ROWS => Some(rows),
-        _ => None,
     }
 }
 
