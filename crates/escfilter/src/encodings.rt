@@ -1,10 +1,13 @@
 //! The encodings that the options name.
 
-use esc_decode::CodePage;
+use esc_decode::{ByteOrder, CodePage};
 
 /// What `--encoding` takes.
 pub const ENCODINGS: &[&str] = &[
     "utf-8",
+    "utf-16",
+    "utf-16le",
+    "utf-16be",
     "latin1",
     "windows-1250",
     "windows-1251",
@@ -30,6 +33,16 @@ pub fn page_of(name: &str) -> Option<CodePage> {
         "windows-1256" => Some(CodePage::Windows1256),
         "windows-1257" => Some(CodePage::Windows1257),
         "windows-1258" => Some(CodePage::Windows1258),
+        _ => None,
+    }
+}
+
+/// Which byte of a unit comes first in the encoding of this name, where it is one of UTF-16.
+pub fn order_of(name: &str) -> Option<ByteOrder> {
+    match name {
+        "utf-16" => Some(ByteOrder::Marked),
+        "utf-16le" => Some(ByteOrder::Little),
+        "utf-16be" => Some(ByteOrder::Big),
         _ => None,
     }
 }

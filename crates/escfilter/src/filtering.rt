@@ -3,6 +3,7 @@
 use crate::auditor::Auditor;
 use crate::cast::{CastFault, filter_recording};
 use crate::events::Events;
+use crate::input::Input;
 use crate::json::tell_json;
 use crate::listing::{Names, Passage, write_name};
 use crate::options::{Form, Options};
@@ -60,6 +61,7 @@ impl<'a, W: Write, E: Write> Filtering<'a, W, E> {
         events: Option<Events>,
     ) -> (Ended, bool, Option<Events>) {
         let mut auditor = Auditor::new(self.alloc, self.options, events);
+        let input = Input::new(self.alloc, self.options.order, input);
         let mut reader = Watched::new(Noting::new(input));
         let mut writer = Watched::new(Noting::new(Passage {
             output: &mut *self.output,
@@ -93,6 +95,7 @@ impl<'a, W: Write, E: Write> Filtering<'a, W, E> {
         events: Option<Events>,
     ) -> (Ended, bool, Option<Events>) {
         let mut auditor = Auditor::new(self.alloc, self.options, events);
+        let input = Input::new(self.alloc, self.options.order, input);
         let mut reader = Watched::new(Noting::new(input));
         let mut writer = Watched::new(Noting::new(Passage {
             output: &mut *self.output,

@@ -10,6 +10,7 @@ mod encodings;
 mod events;
 mod failing;
 mod filtering;
+mod input;
 mod json;
 mod judging;
 mod laws;
@@ -45,8 +46,8 @@ usage: escfilter [--allow text|color|screen|all|layout|sgr|hidden|links|controls
 scroll|modes|charsets|palette|titles|clipboard|images|other] [--deny layout|sgr|hidden|links|\
 controls|cursor|erase|scroll|modes|charsets|palette|titles|clipboard|images|other] \
 [--links scheme,..] [--lines|--whole] [--limit size] \
-[--encoding utf-8|latin1|windows-1250|windows-1251|windows-1252|windows-1253|\
-windows-1254|windows-1255|windows-1256|windows-1257|windows-1258] \
+[--encoding utf-8|utf-16|utf-16le|utf-16be|latin1|windows-1250|windows-1251|windows-1252|\
+windows-1253|windows-1254|windows-1255|windows-1256|windows-1257|windows-1258] \
 [--c1 replace|obey] [--unicode keep|show|drop] [--show[=escaped|color]] [--collapse[=rows]] \
 [--cast] [--report[=text|json]] [--report-to file] [--events file] \
 [--fail[=respelled|shown|replaced|left-out|swallowed|overwritten,..]] [--list] [-z|--null] \
@@ -68,7 +69,8 @@ leaves on, as colours or a link, is taken back at its end, and at each line's wi
   --whole         takes each FILE as one stream (the default with screen and all)
   --limit size    the most bytes of an unfinished sequence that are kept (1MiB): a number,
                   as 65536, or 64K, 1M or 1G, also as 64KiB, in powers of 1024
-  --encoding name reads utf-8 (the default), latin1, or windows-1250 to windows-1258
+  --encoding name reads utf-8 (the default), utf-16, utf-16le, utf-16be, latin1, or windows-1250
+                  to windows-1258
   --c1 way        of bytes 80 to 9F that are no part of a UTF-8 character: replace writes
                   U+FFFD in their place (the default), obey takes them for controls
   --unicode way   of characters that hide or reorder text: show writes <U+202E> in their place

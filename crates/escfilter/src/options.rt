@@ -1,11 +1,11 @@
 //! What the program's words ask for.
 
-use crate::encodings::{ENCODINGS, page_of};
+use crate::encodings::{ENCODINGS, order_of, page_of};
 use crate::failing::{FAILING, Failing};
 use crate::named_groups::{ALLOWED, Choice, DENIED};
 use crate::values::{apart_of, rows_of, wrong_value};
 use command_line::{Apart, Found, Given, Known, Takes, Wrong, read};
-use esc_decode::{CodePage, Encoding};
+use esc_decode::{ByteOrder, CodePage, Encoding};
 use esc_filter::{Policy, Unicode};
 use esc_reveal::Marking;
 use std::alloc::Global;
@@ -15,6 +15,8 @@ use std::alloc::Global;
 pub struct Options<'a> {
     /// What passes.
     pub choice: Choice<'a>,
+    /// Which byte of a unit comes first, where a stream is in UTF-16; then it is read as UTF-8.
+    pub order: Option<ByteOrder>,
     /// How the bytes of a stream are read.
     pub encoding: Encoding,
     /// How many bytes are kept of an unfinished segment.
@@ -288,6 +290,7 @@ impl<'a> Asked<'a> {
                     policy: Policy::Color,
                     groups: None,
                 },
+                order: None,
                 encoding: Encoding::Utf8,
                 limit: DEFAULT_LIMIT,
                 by_lines: false,
@@ -319,7 +322,10 @@ impl<'a> Asked<'a> {
             "--lines" => self.by_lines = Some(true),
             "--whole" => self.by_lines = Some(false),
             "--c1" => self.obeys = given.word == "obey",
-            "--encoding" => self.page = page_of(given.word),
+            "--encoding" => {
+                self.page = page_of(given.word);
+                self.options.order = order_of(given.word);
+            }
             "--unicode" => self.unicode = Some(unicode_of(given.word)),
             "--report-to" => self.report_to = Some(given.word),
             "--events" => self.events = Some(given.word),
