@@ -1,5 +1,5 @@
 -- What an option is given, and what it takes.
-use Rattle.std.specs.Prelude.{ℕ, nat_lt, nat_eq, ◌+◌, ◌/◌, ◌%◌, ◌^◌, ◌==◌, ◌||◌, Bool, false, if◌then◌else◌, List, [], ◌∷◌, length, bit_or, is_some, Option, Some, None}
+use Rattle.std.specs.Prelude.{ℕ, nat_lt, nat_eq, ◌+◌, ◌/◌, ◌%◌, ◌^◌, ◌==◌, ◌&&◌, ◌||◌, Bool, false, not, if◌then◌else◌, List, [], ◌∷◌, length, bit_or, is_some, Option, Some, None}
 use denote.Ref.{Bor}
 use Rattle.std.specs.Cmp.Lexicographic.{pointwise}
 use Rattle.std.specs.List.{fold, list_all, slice_split}
@@ -56,6 +56,8 @@ is_value takes.Size v = is_size v
 is_value (takes.OneOf c ws) v = is_one_of ws.now v
 is_value (takes.SomeOf c ws) v = list_all (is_among ws.now) (parts v)
 is_value (takes.Maybe c ws) v = is_one_of ws.now v
+is_value (takes.MaybeSome c ws) v =
+    not (length v == 0) && list_all (is_among ws.now) (parts v)
 
 -- the word that is given, where one or several of some are taken
 abbrev pub word_given : Takes → List ℕ → List ℕ
@@ -64,6 +66,7 @@ word_given takes.Size v = []
 word_given (takes.OneOf c ws) v = v
 word_given (takes.SomeOf c ws) v = v
 word_given (takes.Maybe c ws) v = v
+word_given (takes.MaybeSome c ws) v = v
 
 -- the size that is given, where one is taken
 abbrev pub size_given : Takes → List ℕ → ℕ
@@ -72,6 +75,7 @@ size_given takes.Size v = size_value v
 size_given (takes.OneOf c ws) v = 0
 size_given (takes.SomeOf c ws) v = 0
 size_given (takes.Maybe c ws) v = 0
+size_given (takes.MaybeSome c ws) v = 0
 
 -- the bits of the words that are given, where several of some are taken
 abbrev pub some_given : Takes → List ℕ → ℕ
@@ -80,6 +84,7 @@ some_given takes.Size v = 0
 some_given (takes.OneOf c ws) v = 0
 some_given (takes.SomeOf c ws) v = bits_of ws.now (parts v)
 some_given (takes.Maybe c ws) v = 0
+some_given (takes.MaybeSome c ws) v = if length v == 0 then 0 else bits_of ws.now (parts v)
 
 -- ---- options that were read
 

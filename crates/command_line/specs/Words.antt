@@ -32,6 +32,7 @@ takes_value takes.Size = true
 takes_value (takes.OneOf c ws) = true
 takes_value (takes.SomeOf c ws) = true
 takes_value (takes.Maybe c ws) = false
+takes_value (takes.MaybeSome c ws) = false
 
 -- whether an option takes something, or may take it
 abbrev pub may_take : Takes → Bool
@@ -40,6 +41,7 @@ may_take takes.Size = true
 may_take (takes.OneOf c ws) = true
 may_take (takes.SomeOf c ws) = true
 may_take (takes.Maybe c ws) = true
+may_take (takes.MaybeSome c ws) = true
 
 abbrev pub some_takes : Option Known → Bool
 some_takes None = false

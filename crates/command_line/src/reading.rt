@@ -188,7 +188,9 @@ fn given_before<'a>(
 {
     let called = match option.takes {
         Takes::Nothing => return Ok((taken(option, "", 0), after)),
-        Takes::Maybe(_, _) => return Ok((followed(option, after), after)),
+        Takes::Maybe(_, _) | Takes::MaybeSome(_, _) => {
+            return Ok((followed(option, after), after));
+        }
         Takes::Size => A_SIZE,
         Takes::OneOf(called, _) | Takes::SomeOf(called, _) => called,
     };
@@ -216,19 +218,39 @@ fn given_with<'a>(option: Known, value: &'a str) -> Result<Given<'a>, Wrong<'a>>
             let near = nearest_word(words, value);
             Err(Wrong::Value(option.name, called, value, near))
         }
-        Takes::SomeOf(called, words) => match bits_of(words, value) {
-            Ok(some) => Ok(Given {
-                name: option.name,
-                word: value,
-                size: 0,
-                some,
-                next: "",
-            }),
-            Err(part) => {
-                let near = nearest_word(words, part);
-                Err(Wrong::Value(option.name, called, part, near))
+        Takes::SomeOf(called, words) => given_some(option.name, called, words, value),
+        Takes::MaybeSome(called, words) => {
+            if value.is_empty() {
+                return Err(Wrong::Value(option.name, called, value, None));
             }
-        },
+            given_some(option.name, called, words, value)
+        }
+    }
+}
+
+// An option of this name with some of these words, which are called so.
+fn given_some<'a>(
+    name: &'static str,
+    called: &'static str,
+    words: &'static [&'static str],
+    value: &'a str,
+) -> Result<Given<'a>, Wrong<'a>>
+    ensures given { IfOk result (λ g. said g
+        ≡ (name.now, value.now, 0, bits_of words.now (parts value.now))) }
+    ensures right { Decides (list_all (is_among words.now) (parts value.now)) result }
+{
+    match bits_of(words, value) {
+        Ok(some) => Ok(Given {
+            name,
+            word: value,
+            size: 0,
+            some,
+            next: "",
+        }),
+        Err(part) => {
+            let near = nearest_word(words, part);
+            Err(Wrong::Value(name, called, part, near))
+        }
     }
 }
 

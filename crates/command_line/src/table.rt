@@ -48,8 +48,10 @@ pub enum Takes {
     OneOf(&'static str, &'static [&'static str]),
     /// Some of these words, at most 64, with `,` between them, and what each is called.
     SomeOf(&'static str, &'static [&'static str]),
-    /// The same after `=`, or nothing.
+    /// One of these words after `=`, or any where there are none, or nothing.
     Maybe(&'static str, &'static [&'static str]),
+    /// Some of these words, as above, after `=`, or nothing.
+    MaybeSome(&'static str, &'static [&'static str]),
 }
 
 // The option of this name or letter.
@@ -93,7 +95,8 @@ fn may_take(takes: Takes) -> bool
 {
     match takes {
         Takes::Nothing => false,
-        Takes::Size | Takes::OneOf(_, _) | Takes::SomeOf(_, _) | Takes::Maybe(_, _) => true,
+        Takes::Size | Takes::OneOf(_, _) | Takes::SomeOf(_, _) => true,
+        Takes::Maybe(_, _) | Takes::MaybeSome(_, _) => true,
     }
 }
 

@@ -28,6 +28,16 @@ nothing = record {
   overwritten = 0;
 }
 
+-- how many have this fate
+abbrev pub count_of : Fate → Sums → ℕ
+count_of fates.Passed x = x.passed
+count_of fates.Respelled x = x.respelled
+count_of fates.Shown x = x.shown
+count_of fates.Replaced x = x.replaced
+count_of fates.LeftOut x = x.left_out
+count_of fates.Swallowed x = x.swallowed
+count_of fates.Overwritten x = x.overwritten
+
 -- so many more have this fate
 abbrev pub added : Fate → ℕ → Sums → Sums
 added fates.Passed n x = record x { passed = x.passed + n }

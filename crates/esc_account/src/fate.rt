@@ -19,3 +19,16 @@ pub enum Fate {
     /// They passed, and other text took their place on the line.
     Overwritten,
 }
+
+impl Fate {
+    /// All of them, in the order in which reports have them.
+    pub const ALL: [Fate; 7] = [
+        Fate::Passed,
+        Fate::Respelled,
+        Fate::Shown,
+        Fate::Replaced,
+        Fate::LeftOut,
+        Fate::Swallowed,
+        Fate::Overwritten,
+    ];
+}

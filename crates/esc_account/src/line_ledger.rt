@@ -63,6 +63,15 @@ impl<J: Judge<A>, B: Book<A>, A: Allocator> LineLedger<J, B, A> {
         &self.book
     }
 
+    /// What did not pass, of a stream of which nothing more comes.
+    pub fn into_book(self) -> B
+    where
+        J: Drop,
+        ensures { result ≡ self.book }
+    {
+        self.book
+    }
+
     // Whether so many bytes more can be counted.
     fn has_room(&self, count: usize) -> bool
         ensures { IsTrue result ↔ HasRoomFor self.now count }

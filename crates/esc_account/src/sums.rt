@@ -2,7 +2,7 @@
 #![tactic(auto)]
 
 ghost use Rattle.std.specs.Prelude.{◌≡◌, ◌+◌, ◌<◌, ◌^◌};
-ghost use Rattle.esc_account.specs.Accounts.{added, nothing, total};
+ghost use Rattle.esc_account.specs.Accounts.{added, count_of, nothing, total};
 
 use crate::fate::Fate;
 
@@ -53,6 +53,21 @@ impl Sums {
             + (self.left_out as u128)
             + (self.swallowed as u128)
             + (self.overwritten as u128)
+    }
+
+    /// How many bytes had this one.
+    pub fn of(self, fate: Fate) -> u64
+        ensures { result ≡ count_of fate self }
+    {
+        match fate {
+            Fate::Passed => self.passed,
+            Fate::Respelled => self.respelled,
+            Fate::Shown => self.shown,
+            Fate::Replaced => self.replaced,
+            Fate::LeftOut => self.left_out,
+            Fate::Swallowed => self.swallowed,
+            Fate::Overwritten => self.overwritten,
+        }
     }
 
     /// So many more had this one.

@@ -4,3 +4,4 @@ pub mod Characters
 pub mod Raw
 pub mod Reading
 pub mod Feeding
+pub mod Units

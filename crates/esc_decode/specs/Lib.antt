@@ -1,3 +1,4 @@
 pub mod Masks
 pub mod Pages
 pub mod Decodings
+pub mod Units

@@ -22,6 +22,8 @@ mod laws;
 mod mask;
 mod runs;
 mod tables;
+mod utf16;
+mod utf16_reader;
 
 pub use code_page::CodePage;
 pub use decoding::Decoding;
@@ -32,3 +34,5 @@ pub use laws::{
     raw_bytes_go_on,
 };
 pub use mask::Mask;
+pub use utf16::Utf16;
+pub use utf16_reader::{ByteOrder, Utf16Reader};

@@ -15,14 +15,14 @@ struct Row {
     first: u64,
 }
 
-// The most rows of names that no table has. What has another such name is counted by its kind.
+// The most rows of names with a number or bytes. What has another such name is counted by its kind.
 const MOST: u64 = 500;
 
 /// A row for each name that came, in the order in which they first came.
 #[derive(Drop)]
 pub struct Stats {
     rows: Vec<Row>,
-    // How many of them have a name that no table has.
+    // How many of them have a name with a number or bytes.
     own: u64,
     text_end: u64,
     text_length: u64,

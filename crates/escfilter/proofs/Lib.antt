@@ -3,3 +3,4 @@ pub mod Left
 mod Seen
 mod Chosen
 mod OfPieces
+mod Failures

@@ -2,3 +2,4 @@ pub mod Written
 pub mod Adding
 pub mod Choices
 pub mod Fates
+pub mod Failures

@@ -1,5 +1,6 @@
 //! Whoever keeps the account of a stream, where there is one.
 
+use crate::events::Events;
 use crate::judging::Judging;
 use crate::options::Options;
 use crate::rows::Rows;
@@ -18,11 +19,12 @@ pub enum Auditor<'a> {
 }
 
 impl<'a> Auditor<'a> {
-    /// Of no byte yet: of a stream that is filtered by these options. Takes no memory.
-    pub fn new(alloc: Global, options: Options<'a>) -> Auditor<'a> {
-        let rows = Rows::new(alloc, options);
+    /// Of no byte yet: of a stream that is filtered by these options, and of which what did not
+    /// pass is told there, where it is. Takes no memory.
+    pub fn new(alloc: Global, options: Options<'a>, events: Option<Events>) -> Auditor<'a> {
+        let rows = Rows::new(alloc, options, events);
         let judge = Judging::new(alloc, options);
-        if options.report.is_none() && !options.fails {
+        if !options.is_audited() {
             Auditor::Nobody
         } else if options.by_lines {
             Auditor::Lines(LineLedger::new(alloc, judge, rows))
@@ -37,6 +39,17 @@ impl<'a> Auditor<'a> {
             Auditor::Nobody => None,
             Auditor::Lines(ledger) => Some((ledger.account(), ledger.book())),
             Auditor::Whole(ledger) => Some((ledger.account(), ledger.book())),
+        }
+    }
+}
+
+impl<'a> Auditor<'a> {
+    /// Where what did not pass is told.
+    pub fn into_events(self) -> Option<Events> {
+        match self {
+            Auditor::Nobody => None,
+            Auditor::Lines(ledger) => ledger.into_book().into_events(),
+            Auditor::Whole(ledger) => ledger.into_book().into_events(),
         }
     }
 }

@@ -2,11 +2,17 @@
 
 use crate::auditor::Auditor;
 use crate::cast::{CastFault, filter_recording};
+use crate::events::Events;
+use crate::input::Input;
 use crate::json::tell_json;
+use crate::listing::{Names, Passage, write_name};
 use crate::options::{Form, Options};
-use crate::report::{is_less, tell_text};
+use crate::report::tell_text;
+use crate::rows::Rows;
 use crate::stream::{PROGRAM, filter_by};
-use command_line::{Ended, Noting, Place, Work, ended_by};
+use crate::told::Told;
+use command_line::{Ended, Noting, Place, Reason, Work, ended_by, unwritten};
+use esc_account::Account;
 use esc_filter::FilterError;
 use esc_normal::Watched;
 use std::alloc::Global;
@@ -20,28 +26,47 @@ pub struct Filtering<'a, W, E> {
     /// What the output is called.
     pub output_name: &'a str,
     pub output: &'a mut W,
+    /// How names are written to it, where they are.
+    pub names: Names,
     /// Where reports and what hinders go.
     pub faults: E,
-    /// Whether anything is known to be left out.
-    pub is_less: bool,
+    /// What is told of the streams.
+    pub told: &'a mut Told,
 }
 
 impl<'a, W: Write, E: Write> Work for Filtering<'a, W, E> {
     fn take<R: Read + Drop>(&mut self, name: &str, input: R) -> Ended {
-        if self.options.is_cast {
-            self.take_cast(name, input)
+        let events = started(self.told.events.take(), name);
+        let (ended, is_failure, events) = if self.options.is_cast {
+            self.take_cast(name, input, events)
         } else {
-            self.take_stream(name, input)
+            self.take_stream(name, input, events)
+        };
+        self.told.events = stopped(events);
+        if self.options.is_list && is_failure {
+            self.list(name, ended)
+        } else {
+            ended
         }
     }
 }
 
 impl<'a, W: Write, E: Write> Filtering<'a, W, E> {
-    // Filters a stream of this name.
-    fn take_stream<R: Read + Drop>(&mut self, name: &str, input: R) -> Ended {
-        let mut auditor = Auditor::new(self.alloc, self.options);
+    // Filters a stream of this name. It returns how that ended, whether some byte had a fate that
+    // is a failure, and where what did not pass is told.
+    fn take_stream<R: Read + Drop>(
+        &mut self,
+        name: &str,
+        input: R,
+        events: Option<Events>,
+    ) -> (Ended, bool, Option<Events>) {
+        let mut auditor = Auditor::new(self.alloc, self.options, events);
+        let input = Input::new(self.alloc, self.options.order, input);
         let mut reader = Watched::new(Noting::new(input));
-        let mut writer = Watched::new(Noting::new(&mut *self.output));
+        let mut writer = Watched::new(Noting::new(Passage {
+            output: &mut *self.output,
+            is_open: !self.options.is_list,
+        }));
         let outcome = filter_by(
             self.alloc,
             &self.options,
@@ -53,19 +78,29 @@ impl<'a, W: Write, E: Write> Filtering<'a, W, E> {
             .into_inner()
             .reason()
             .or(writer.into_inner().reason());
-        self.report(name, &auditor, outcome.is_ok());
+        let is_failure = self.report(name, &auditor, outcome.is_ok());
         let place = match outcome {
             Err(FilterError::Write) => Place::Output(self.output_name),
             _ => Place::Input(name),
         };
-        ended_by(PROGRAM, outcome, place, reason, &mut self.faults)
+        let ended = ended_by(PROGRAM, outcome, place, reason, &mut self.faults);
+        (ended, is_failure, auditor.into_events())
     }
 
-    // Filters a recording of this name.
-    fn take_cast<R: Read + Drop>(&mut self, name: &str, input: R) -> Ended {
-        let mut auditor = Auditor::new(self.alloc, self.options);
+    // The same of a recording.
+    fn take_cast<R: Read + Drop>(
+        &mut self,
+        name: &str,
+        input: R,
+        events: Option<Events>,
+    ) -> (Ended, bool, Option<Events>) {
+        let mut auditor = Auditor::new(self.alloc, self.options, events);
+        let input = Input::new(self.alloc, self.options.order, input);
         let mut reader = Watched::new(Noting::new(input));
-        let mut writer = Watched::new(Noting::new(&mut *self.output));
+        let mut writer = Watched::new(Noting::new(Passage {
+            output: &mut *self.output,
+            is_open: !self.options.is_list,
+        }));
         let outcome = filter_recording(
             self.alloc,
             &self.options,
@@ -77,24 +112,78 @@ impl<'a, W: Write, E: Write> Filtering<'a, W, E> {
             .into_inner()
             .reason()
             .or(writer.into_inner().reason());
-        self.report(name, &auditor, outcome.is_ok());
+        let is_failure = self.report(name, &auditor, outcome.is_ok());
         let place = match outcome {
             Err(CastFault::Stream(FilterError::Write)) => Place::Output(self.output_name),
             _ => Place::Input(name),
         };
-        ended_by(PROGRAM, outcome, place, reason, &mut self.faults)
+        let ended = ended_by(PROGRAM, outcome, place, reason, &mut self.faults);
+        (ended, is_failure, auditor.into_events())
     }
 
-    // Reports what did not pass of the stream of this name, where the options ask for it.
-    fn report(&mut self, name: &str, auditor: &Auditor<'_>, is_complete: bool) {
-        let Some((account, rows)) = auditor.account() else {
-            return;
-        };
-        match self.options.report {
-            Some(Form::Text) => tell_text(account, rows, name, &mut self.faults),
-            Some(Form::Json) => tell_json(account, rows, name, is_complete, &mut self.faults),
-            None => {}
+    // Writes the name of a stream, which ended so.
+    fn list(&mut self, name: &str, ended: Ended) -> Ended {
+        match write_name(name, self.names, self.output) {
+            Ok(()) => ended,
+            Err(error) => {
+                let reason = Reason::of(&error);
+                unwritten(PROGRAM, self.output_name, reason, &mut self.faults)
+            }
         }
-        self.is_less = self.is_less || is_less(account.sums);
+    }
+
+    // Reports what did not pass of the stream of this name, where the options ask for it. It
+    // returns whether some byte of it had a fate that is a failure.
+    fn report(&mut self, name: &str, auditor: &Auditor<'_>, is_complete: bool) -> bool {
+        let Some((account, rows)) = auditor.account() else {
+            return false;
+        };
+        let form = self.options.report;
+        let mut report = self.told.report.take();
+        match &mut report {
+            Some(aside) => tell(form, account, rows, name, is_complete, aside),
+            None => tell(form, account, rows, name, is_complete, &mut self.faults),
+        }
+        self.told.report = report;
+        self.told.gate.take(account.sums)
+    }
+}
+
+// Writes a report on the stream of this name, where one is asked for.
+fn tell<E: Write>(
+    form: Option<Form>,
+    account: Account,
+    rows: &Rows<'_>,
+    name: &str,
+    is_complete: bool,
+    writer: &mut E,
+) {
+    match form {
+        Some(Form::Text) => tell_text(account, rows, name, writer),
+        Some(Form::Json) => tell_json(account, rows, name, is_complete, writer),
+        None => return,
+    }
+    let _ = writer.flush();
+}
+
+// Where what does not pass is told, at the beginning of the stream of this name.
+fn started(events: Option<Events>, name: &str) -> Option<Events> {
+    match events {
+        Some(mut events) => {
+            events.start(name);
+            Some(events)
+        }
+        None => None,
+    }
+}
+
+// The same at its end.
+fn stopped(events: Option<Events>) -> Option<Events> {
+    match events {
+        Some(mut events) => {
+            events.end();
+            Some(events)
+        }
+        None => None,
     }
 }

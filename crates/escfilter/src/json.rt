@@ -1,7 +1,7 @@
 //! What did not pass of a stream, as JSON (RFC 8259).
 
 use crate::name::Name;
-use crate::report::{bytes_of, each_sum, words_of};
+use crate::report::{bytes_of, words_of};
 use crate::rows::{Open, Place, Row, Rows};
 use crate::saying::{put, put_number};
 use esc_account::{Account, Fate, Sums};
@@ -27,8 +27,8 @@ pub fn tell_json<E: Write>(
     put("}\n", faults);
 }
 
-// Writes a string: what a terminal does not show as itself, a quote and a backslash are escaped.
-fn put_text<E: Write>(text: &str, faults: &mut E) {
+/// Writes a string: what a terminal does not show as itself, a quote and a backslash are escaped.
+pub fn put_text<E: Write>(text: &str, faults: &mut E) {
     put("\"", faults);
     for c in text.chars() {
         put_char(c, faults);
@@ -39,14 +39,30 @@ fn put_text<E: Write>(text: &str, faults: &mut E) {
 // Writes a character of a string.
 fn put_char<E: Write>(c: char, faults: &mut E) {
     if c == '"' || c == '\\' || !command_line::is_shown(c) {
-        let _ = write!(faults, "\\u{:04x}", c as u32);
+        put_escaped(c as u32, faults);
     } else {
         let _ = write!(faults, "{c}");
     }
 }
 
-// Writes a place.
-fn put_place<E: Write>(place: Place, faults: &mut E) {
+// Writes the number of a character as JSON has it: past FFFF as two surrogates.
+fn put_escaped<E: Write>(number: u32, faults: &mut E) {
+    let past = number.saturating_sub(0x1_0000);
+    if number < 0x1_0000 {
+        put_unit(number, faults);
+    } else {
+        put_unit(0xd800 + past / 0x400, faults);
+        put_unit(0xdc00 + past % 0x400, faults);
+    }
+}
+
+// Writes a code unit by its number.
+fn put_unit<E: Write>(unit: u32, faults: &mut E) {
+    let _ = write!(faults, "\\u{unit:04x}");
+}
+
+/// Writes a place, after a comma.
+pub fn put_place<E: Write>(place: Place, faults: &mut E) {
     put_number(",\"line\":", place.line.saturating_add(1), faults);
     put_number(",\"byte\":", place.byte, faults);
 }
@@ -55,17 +71,17 @@ fn put_place<E: Write>(place: Place, faults: &mut E) {
 fn put_sums<E: Write>(sums: Sums, faults: &mut E) {
     put(",\"sums\":{", faults);
     let mut is_first = true;
-    for (fate, count) in &each_sum(sums) {
+    for fate in &Fate::ALL {
         put_comma(is_first, faults);
         put_fate(*fate, faults);
-        put_number(":", *count, faults);
+        put_number(":", sums.of(*fate), faults);
         is_first = false;
     }
     put("}", faults);
 }
 
-// Writes a fate, as a key has it.
-fn put_fate<E: Write>(fate: Fate, faults: &mut E) {
+/// Writes a fate, as a key has it.
+pub fn put_fate<E: Write>(fate: Fate, faults: &mut E) {
     put_text(
         match fate {
             Fate::LeftOut => "left_out",
@@ -106,8 +122,8 @@ fn put_row<E: Write>(row: &Row, faults: &mut E) {
     put("}", faults);
 }
 
-// Writes the words of a name.
-fn put_name<E: Write>(name: Name, faults: &mut E) {
+/// Writes the words of a name.
+pub fn put_name<E: Write>(name: Name, faults: &mut E) {
     put("\"kind\":", faults);
     put_text(name.kind, faults);
     put(",\"name\":", faults);

@@ -3,12 +3,18 @@
 //! come: for a log or a recording of unknown origin that goes to a terminal.
 #![tactic(auto)]
 
+mod aside;
 mod auditor;
 mod cast;
+mod encodings;
+mod events;
+mod failing;
 mod filtering;
+mod input;
 mod json;
 mod judging;
 mod laws;
+mod listing;
 mod name;
 mod named_groups;
 mod options;
@@ -16,34 +22,37 @@ mod report;
 mod rows;
 mod saying;
 mod stream;
+mod told;
+mod values;
 
 use command_line::{
     DONE, Ended, FAULT, OUTPUT, Reason, Wrong, is_text, open_closed, program_words, refused,
     status_after, status_of_text, take_opened, unread, unwritable, work_through, wrong_apart,
 };
 use filtering::Filtering;
+use listing::Names;
 use named_groups::Listed;
 use new_file::{NewFile, Output};
 use options::{Kind, Options, Target, Task};
 use std::fs::File;
 use std::io;
-use std::io::{Stderr, Write};
+use std::io::{IsTerminal, Stderr, Write};
 use std::process::ExitCode;
 use stream::PROGRAM;
-
-const LEFT_OUT: u8 = 3;
+use told::Told;
 
 const USAGE: &str = "\
 usage: escfilter [--allow text|color|screen|all|layout|sgr|hidden|links|controls|cursor|erase|\
 scroll|modes|charsets|palette|titles|clipboard|images|other] [--deny layout|sgr|hidden|links|\
 controls|cursor|erase|scroll|modes|charsets|palette|titles|clipboard|images|other] \
 [--links scheme,..] [--lines|--whole] [--limit size] \
-[--encoding utf-8|latin1|windows-1250|windows-1251|windows-1252|windows-1253|\
-windows-1254|windows-1255|windows-1256|windows-1257|windows-1258] \
+[--encoding utf-8|utf-16|utf-16le|utf-16be|latin1|windows-1250|windows-1251|windows-1252|\
+windows-1253|windows-1254|windows-1255|windows-1256|windows-1257|windows-1258] \
 [--c1 replace|obey] [--unicode keep|show|drop] [--returns keep|show|drop] \
-[--show[=escaped|color]] [--collapse[=rows]] \
-[--cast] [--report[=text|json]] [--fail] [-o|--output file] [-i|--in-place[=suffix]] [-h|--help] \
-[-V|--version] [--] [FILE..]";
+[--show[=escaped|color]] [--collapse[=rows]] [--cast] \
+[--report[=text|json]] [--report-to file] [--events file] \
+[--fail[=respelled|shown|replaced|left-out|swallowed|overwritten,..]] [--list] [-z|--null] \
+[-o|--output file] [-i|--in-place[=suffix]] [-h|--help] [-V|--version] [--] [FILE..]";
 
 const HELP: &str = "\
 Writes what the policy admits of each FILE, or of standard input, as it is read. What that
@@ -61,7 +70,8 @@ leaves on, as colours or a link, is taken back at its end, and at each line's wi
   --whole         takes each FILE as one stream (the default with screen and all)
   --limit size    the most bytes of an unfinished sequence that are kept (1MiB): a number,
                   as 65536, or 64K, 1M or 1G, also as 64KiB, in powers of 1024
-  --encoding name reads utf-8 (the default), latin1, or windows-1250 to windows-1258
+  --encoding name reads utf-8 (the default), utf-16, utf-16le, utf-16be, latin1, or windows-1250
+                  to windows-1258
   --c1 way        of bytes 80 to 9F that are no part of a UTF-8 character: replace writes
                   U+FFFD in their place (the default), obey takes them for controls
   --unicode way   of characters that hide or reorder text: show writes <U+202E> in their place
@@ -77,7 +87,15 @@ leaves on, as colours or a link, is taken back at its end, and at each line's wi
                   events of output, and keeps its times and all other lines
   --report        says on standard error what was left out of each FILE, and where;
                   --report=json as a line of JSON
-  --fail          ends with status 3 where anything was left out
+  --report-to f   writes the report to the file f, in place of standard error
+  --events f      writes to the file f a line of JSON for each thing that did not pass, with
+                  its place and its bytes
+  --fail          ends with status 3 where anything was shown, replaced, left out or swallowed;
+                  --fail=left-out,swallowed where a byte had one of these fates; respelled,
+                  shown, replaced and overwritten are others
+  --list          writes the names of the files in which --fail finds something, a line each,
+                  in place of what passes
+  -z, --null      ends each name with a zero byte, for xargs -0
   -o, --output f  writes the file f, whole or not at all
   -i, --in-place  writes each FILE in its place, whole or not at all; -i.bak, as
                   --in-place=.bak, keeps what was there as FILE.bak
@@ -93,7 +111,7 @@ Groups (text is layout, color is that with sgr, hidden and links, screen is all 
 const VERSION: &str = "escfilter 0.1.0";
 
 // What the name of a new file ends in, until it takes its place.
-const NEW: &str = ".escfilter";
+pub(crate) const NEW: &str = ".escfilter";
 
 fn main(rt: HostRuntime) -> ExitCode {
     open_closed(&rt);
@@ -113,7 +131,7 @@ fn done(rt: &HostRuntime, task: &Task<'_>) -> u8 {
     match task.kind {
         Kind::Filter => match wrong_apart(rt, task.apart) {
             Some(wrong) => refused(PROGRAM, wrong, &mut rt.stderr()),
-            None => filter_to(rt, task.target, task.options, &task.files),
+            None => filter(rt, task),
         },
         Kind::Help => said(rt, println!(rt; "{USAGE}\n\n{HELP}\n{Listed}")),
         Kind::Version => said(rt, println!(rt; "{VERSION}")),
@@ -125,12 +143,33 @@ fn said(rt: &HostRuntime, printed: io::Result<()>) -> u8 {
     status_of_text(PROGRAM, OUTPUT, printed, &mut rt.stderr())
 }
 
+// Filters the files, and tells of them what is asked for.
+fn filter(rt: &HostRuntime, task: &Task<'_>) -> u8 {
+    match Told::of(rt, task) {
+        Ok(mut told) => {
+            let status = filter_to(rt, task.target, task.options, &task.files, &mut told);
+            told.end(rt, task, status)
+        }
+        Err(status) => status,
+    }
+}
+
 // Filters the files to where the output goes.
-fn filter_to(rt: &HostRuntime, target: Target<'_>, options: Options<'_>, files: &[&str]) -> u8 {
+fn filter_to(
+    rt: &HostRuntime,
+    target: Target<'_>,
+    options: Options<'_>,
+    files: &[&str],
+    told: &mut Told,
+) -> u8 {
     match target {
-        Target::Output => filter_all(rt, options, files, OUTPUT, &mut rt.stdout()),
-        Target::File(name) => filter_to_file(rt, options, files, name),
-        Target::InPlace(suffix) => filter_in_place(rt, options, files, suffix),
+        Target::Output => {
+            let output = &mut rt.stdout();
+            let names = Names::of(options, output.is_terminal());
+            filter_all(rt, options, files, told, names, OUTPUT, output)
+        }
+        Target::File(name) => filter_to_file(rt, options, files, told, name),
+        Target::InPlace(suffix) => filter_in_place(rt, options, files, told, suffix),
     }
 }
 
@@ -139,18 +178,21 @@ fn filter_all<W: Write>(
     rt: &HostRuntime,
     options: Options<'_>,
     files: &[&str],
+    told: &mut Told,
+    names: Names,
     output_name: &str,
     output: &mut W,
 ) -> u8 {
-    let mut filtering = filter_of(rt, options, output_name, output);
-    let status = work_through(rt, PROGRAM, files, &mut filtering, &mut rt.stderr());
-    failed_or(options, filtering.is_less, status)
+    let mut filtering = filter_of(rt, options, told, names, output_name, output);
+    work_through(rt, PROGRAM, files, &mut filtering, &mut rt.stderr())
 }
 
 // A filter of streams to an output of this name.
 fn filter_of<'a, W>(
     rt: &HostRuntime,
     options: Options<'a>,
+    told: &'a mut Told,
+    names: Names,
     output_name: &'a str,
     output: &'a mut W,
 ) -> Filtering<'a, W, Stderr> {
@@ -159,46 +201,40 @@ fn filter_of<'a, W>(
         options,
         output_name,
         output,
+        names,
         faults: rt.stderr(),
-        is_less: false,
+        told,
     }
 }
 
-// This status, or the one of what was left out where that is a failure.
-fn failed_or(options: Options<'_>, is_less: bool, status: u8) -> u8 {
-    if status == DONE && options.fails && is_less {
-        LEFT_OUT
-    } else {
-        status
-    }
-}
-
-// Filters the files to that of this name, or to the stream of this name.
-fn filter_to_file(rt: &HostRuntime, options: Options<'_>, files: &[&str], name: &str) -> u8 {
-    match Output::of(rt, name, NEW) {
-        Ok(Output::New(new)) => filter_to_new(rt, options, files, name, new),
-        Ok(Output::Stream(mut stream)) => filter_all(rt, options, files, name, &mut stream),
-        Err(fault) => unwritable(PROGRAM, name, fault, &mut rt.stderr()),
-    }
-}
-
-// Filters the files to this one, which takes the place of that name whole or not at all.
-fn filter_to_new(
+// Filters the files to that of this name, whole or not at all, or to the stream of this name.
+fn filter_to_file(
     rt: &HostRuntime,
     options: Options<'_>,
     files: &[&str],
+    told: &mut Told,
     name: &str,
-    mut new: NewFile<HostRuntime>,
 ) -> u8 {
-    let status = filter_all(rt, options, files, name, &mut new.file);
-    match new.end(rt, "", status == DONE || status == LEFT_OUT) {
+    let mut output = match Output::of(rt, name, NEW) {
+        Ok(output) => output,
+        Err(fault) => return unwritable(PROGRAM, name, fault, &mut rt.stderr()),
+    };
+    let names = Names::of(options, output.is_terminal());
+    let status = filter_all(rt, options, files, told, names, name, &mut output);
+    match output.end(rt, status == DONE) {
         Ok(()) => status,
         Err(fault) => unwritable(PROGRAM, name, fault, &mut rt.stderr()),
     }
 }
 
 // Filters each file in its place.
-fn filter_in_place(rt: &HostRuntime, options: Options<'_>, files: &[&str], suffix: &str) -> u8 {
+fn filter_in_place(
+    rt: &HostRuntime,
+    options: Options<'_>,
+    files: &[&str],
+    told: &mut Told,
+    suffix: &str,
+) -> u8 {
     if files.is_empty() {
         return refused(
             PROGRAM,
@@ -207,29 +243,32 @@ fn filter_in_place(rt: &HostRuntime, options: Options<'_>, files: &[&str], suffi
         );
     }
     let mut status = DONE;
-    let mut is_less = false;
     for file in files {
-        let (ended, left) = replace_file(rt, options, *file, suffix);
-        is_less = is_less || left;
+        let ended = replace_file(rt, options, *file, told, suffix);
         match status_after(ended, status) {
             Ok(next) => status = next,
             Err(last) => return last,
         }
     }
-    failed_or(options, is_less, status)
+    status
 }
 
-// Filters the file of this name in its place. It returns how that ended, and whether anything is
-// known to be left out.
-fn replace_file(rt: &HostRuntime, options: Options<'_>, name: &str, suffix: &str) -> (Ended, bool) {
+// Filters the file of this name in its place. It returns how that ended.
+fn replace_file(
+    rt: &HostRuntime,
+    options: Options<'_>,
+    name: &str,
+    told: &mut Told,
+    suffix: &str,
+) -> Ended {
     let faults = &mut rt.stderr();
     if name == "-" || !is_text(name) {
         let hindrance = "it is changed in place under a name alone";
-        return (unread(PROGRAM, name, hindrance, faults), false);
+        return unread(PROGRAM, name, hindrance, faults);
     }
     match NewFile::in_place_of(rt, name, NEW) {
-        Ok(new) => replace_by(rt, options, name, suffix, new),
-        Err(fault) => (unread(PROGRAM, name, fault, faults), false),
+        Ok(new) => replace_by(rt, options, name, told, suffix, new),
+        Err(fault) => unread(PROGRAM, name, fault, faults),
     }
 }
 
@@ -238,22 +277,20 @@ fn replace_by(
     rt: &HostRuntime,
     options: Options<'_>,
     name: &str,
+    told: &mut Told,
     suffix: &str,
     mut new: NewFile<HostRuntime>,
-) -> (Ended, bool) {
-    let (ended, is_less) = match File::open(rt, name) {
+) -> Ended {
+    let ended = match File::open(rt, name) {
         Ok(input) => {
-            let mut filtering = filter_of(rt, options, name, &mut new.file);
-            let ended = take_opened(PROGRAM, name, input, &mut filtering, &mut rt.stderr());
-            (ended, filtering.is_less)
+            let names = Names::Lines;
+            let mut filtering = filter_of(rt, options, told, names, name, &mut new.file);
+            take_opened(PROGRAM, name, input, &mut filtering, &mut rt.stderr())
         }
-        Err(error) => (
-            unread(PROGRAM, name, Reason::of(&error), &mut rt.stderr()),
-            false,
-        ),
+        Err(error) => unread(PROGRAM, name, Reason::of(&error), &mut rt.stderr()),
     };
     match new.end(rt, suffix, ended == Ended::Whole) {
-        Ok(()) => (ended, is_less),
-        Err(fault) => (unread(PROGRAM, name, fault, &mut rt.stderr()), false),
+        Ok(()) => ended,
+        Err(fault) => unread(PROGRAM, name, fault, &mut rt.stderr()),
     }
 }

@@ -252,8 +252,8 @@ fn policy_of(words: u64) -> Option<Policy>
     }
 }
 
-// Whether the word of this number, from 0, is among those whose bits are set.
-fn has_word(at: u32, words: u64) -> bool
+/// Whether the word of this number, from 0, is among those whose bits are set.
+pub(crate) fn has_word(at: u32, words: u64) -> bool
     requires { at < 64 }
     ensures { result ≡ has_word at words }
 {

@@ -1,9 +1,12 @@
 //! What the program's words ask for.
 
+use crate::encodings::{ENCODINGS, order_of, page_of};
+use crate::failing::{FAILING, Failing};
 use crate::named_groups::{ALLOWED, Choice, DENIED};
+use crate::values::{apart_of, rows_of, wrong_value};
 use command_line::{Apart, Found, Given, Known, Takes, Wrong, read};
-use esc_decode::{CodePage, Encoding};
-use esc_filter::{Guard, Policy, Returns, Unicode, is_scheme};
+use esc_decode::{ByteOrder, CodePage, Encoding};
+use esc_filter::{Guard, Policy, Returns, Unicode};
 use esc_reveal::Marking;
 use std::alloc::Global;
 
@@ -12,6 +15,8 @@ use std::alloc::Global;
 pub struct Options<'a> {
     /// What passes.
     pub choice: Choice<'a>,
+    /// Which byte of a unit comes first, where a stream is in UTF-16; then it is read as UTF-8.
+    pub order: Option<ByteOrder>,
     /// How the bytes of a stream are read.
     pub encoding: Encoding,
     /// How many bytes are kept of an unfinished segment.
@@ -30,8 +35,14 @@ pub struct Options<'a> {
     pub is_cast: bool,
     /// In which form it is reported what was left out.
     pub report: Option<Form>,
-    /// Whether it is a failure that something was left out.
-    pub fails: bool,
+    /// Whether what did not pass is told, one thing after another.
+    pub has_events: bool,
+    /// Whether the names of files are written in place of what passes.
+    pub is_list: bool,
+    /// Whether a zero byte ends each of them, in place of a line feed.
+    pub is_null: bool,
+    /// Which fates are a failure, where some are.
+    pub fails: Option<Failing>,
 }
 
 /// The form of a report.
@@ -75,6 +86,10 @@ pub struct Task<'a> {
     pub target: Target<'a>,
     /// How streams are filtered.
     pub options: Options<'a>,
+    /// Where reports go, where not to standard error.
+    pub report_to: Option<&'a str>,
+    /// Where what did not pass is told, one thing after another.
+    pub events: Option<&'a str>,
     /// The files.
     pub files: Vec<&'a str>,
     /// The first of these that an option before it could take.
@@ -82,6 +97,16 @@ pub struct Task<'a> {
 }
 
 impl<'a> Options<'a> {
+    /// Whether an account of a stream is kept.
+    pub fn is_audited(&self) -> bool {
+        self.has_names() || self.is_list || self.fails.is_some()
+    }
+
+    /// Whether names are asked for of what did not pass.
+    pub fn has_names(&self) -> bool {
+        self.report.is_some() || self.has_events
+    }
+
     // Takes an option more, where it is one of these.
     fn take(&mut self, given: &Given<'a>) {
         match given.name {
@@ -94,32 +119,16 @@ impl<'a> Options<'a> {
             }
             "--collapse" => self.rows = rows_of(given.word),
             "--cast" => self.is_cast = true,
+            "--list" => self.is_list = true,
+            "--null" => self.is_null = true,
             "--report" => self.report = Some(form_of(given.word)),
-            "--fail" => self.fails = true,
+            "--fail" => self.fails = Some(Failing::named(given.some)),
             _ => {}
         }
     }
 }
 
 const DEFAULT_LIMIT: usize = 1_048_576;
-
-const DEFAULT_ROWS: usize = 32;
-
-const MOST_ROWS: usize = 4096;
-
-const ENCODINGS: &[&str] = &[
-    "utf-8",
-    "latin1",
-    "windows-1250",
-    "windows-1251",
-    "windows-1252",
-    "windows-1253",
-    "windows-1254",
-    "windows-1255",
-    "windows-1256",
-    "windows-1257",
-    "windows-1258",
-];
 
 const KNOWN: &[Known] = &[
     Known {
@@ -193,8 +202,28 @@ const KNOWN: &[Known] = &[
         takes: Takes::Maybe("form", &["text", "json"]),
     },
     Known {
+        name: "--report-to",
+        letter: "",
+        takes: Takes::OneOf("file", &[]),
+    },
+    Known {
+        name: "--events",
+        letter: "",
+        takes: Takes::OneOf("file", &[]),
+    },
+    Known {
         name: "--fail",
         letter: "",
+        takes: Takes::MaybeSome("kind", FAILING),
+    },
+    Known {
+        name: "--list",
+        letter: "",
+        takes: Takes::Nothing,
+    },
+    Known {
+        name: "--null",
+        letter: "-z",
         takes: Takes::Nothing,
     },
     Known::OUTPUT,
@@ -228,8 +257,10 @@ impl<'a> Task<'a> {
         }
         Task {
             kind: asked.kind,
-            target: asked.target,
+            target: asked.target(),
             options: asked.settled(),
+            report_to: asked.report_to,
+            events: asked.events,
             files: found.files,
             apart: apart_of(&found.options),
         }
@@ -242,6 +273,8 @@ struct Asked<'a> {
     kind: Kind,
     target: Target<'a>,
     options: Options<'a>,
+    report_to: Option<&'a str>,
+    events: Option<&'a str>,
     by_lines: Option<bool>,
     schemes: Option<&'a str>,
     unicode: Option<Unicode>,
@@ -263,6 +296,7 @@ impl<'a> Asked<'a> {
                     policy: Policy::Color,
                     groups: None,
                 },
+                order: None,
                 encoding: Encoding::Utf8,
                 limit: DEFAULT_LIMIT,
                 by_lines: false,
@@ -272,8 +306,13 @@ impl<'a> Asked<'a> {
                 rows: None,
                 is_cast: false,
                 report: None,
-                fails: false,
+                has_events: false,
+                is_list: false,
+                is_null: false,
+                fails: None,
             },
+            report_to: None,
+            events: None,
             by_lines: None,
             schemes: None,
             unicode: None,
@@ -290,9 +329,14 @@ impl<'a> Asked<'a> {
             "--lines" => self.by_lines = Some(true),
             "--whole" => self.by_lines = Some(false),
             "--c1" => self.obeys = given.word == "obey",
-            "--encoding" => self.page = page_of(given.word),
+            "--encoding" => {
+                self.page = page_of(given.word);
+                self.options.order = order_of(given.word);
+            }
             "--unicode" => self.unicode = Some(unicode_of(given.word)),
             "--returns" => self.returns = Some(returns_of(given.word)),
+            "--report-to" => self.report_to = Some(given.word),
+            "--events" => self.events = Some(given.word),
             "--output" => self.target = Target::File(given.word),
             "--in-place" => self.target = Target::InPlace(given.word),
             "--help" => self.kind = Kind::Help,
@@ -311,8 +355,26 @@ impl<'a> Asked<'a> {
             returns: returns_in(self.returns, options),
         };
         options.encoding = self.encoding();
+        options.report = self.report();
+        options.has_events = self.events.is_some();
         options.choice = settled(options.choice, self.schemes, options.rows);
         options
+    }
+
+    // Where the output goes. A list changes no file that is read.
+    fn target(&self) -> Target<'a> {
+        match self.target {
+            Target::InPlace(_) if self.options.is_list => Target::Output,
+            target => target,
+        }
+    }
+
+    // In which form it is reported what was left out. A file for the report asks for one.
+    fn report(&self) -> Option<Form> {
+        match (self.options.report, self.report_to) {
+            (None, Some(_)) => Some(Form::Text),
+            (report, _) => report,
+        }
     }
 
     // How the bytes of a stream are read. The texts of a recording are characters, and where bytes
@@ -328,23 +390,6 @@ impl<'a> Asked<'a> {
             Some(CodePage::Latin1) if obeys => Encoding::CodePage(CodePage::Latin1WithControls),
             Some(page) => Encoding::CodePage(page),
         }
-    }
-}
-
-// The 8-bit encoding of this name, where it is one.
-fn page_of(name: &str) -> Option<CodePage> {
-    match name {
-        "latin1" => Some(CodePage::Latin1),
-        "windows-1250" => Some(CodePage::Windows1250),
-        "windows-1251" => Some(CodePage::Windows1251),
-        "windows-1252" => Some(CodePage::Windows1252),
-        "windows-1253" => Some(CodePage::Windows1253),
-        "windows-1254" => Some(CodePage::Windows1254),
-        "windows-1255" => Some(CodePage::Windows1255),
-        "windows-1256" => Some(CodePage::Windows1256),
-        "windows-1257" => Some(CodePage::Windows1257),
-        "windows-1258" => Some(CodePage::Windows1258),
-        _ => None,
     }
 }
 
@@ -404,75 +449,6 @@ fn unicode_of(name: &str) -> Unicode {
         "show" => Unicode::Show,
         "drop" => Unicode::Drop,
         _ => Unicode::Keep,
-    }
-}
-
-// What is wrong with the values of which the table does not say what they may be.
-fn wrong_value<'a>(options: &[Given<'a>]) -> Option<Wrong<'a>> {
-    match (wrong_scheme(options), wrong_rows(options)) {
-        (Some(scheme), _) => Some(Wrong::Value("--links", "scheme", scheme, None)),
-        (None, Some(rows)) => Some(Wrong::Value("--collapse", "number of rows", rows, None)),
-        (None, None) => None,
-    }
-}
-
-// The first word that `--links` is given as a scheme and is none.
-fn wrong_scheme<'a>(options: &[Given<'a>]) -> Option<&'a str> {
-    for given in options {
-        if given.name != "--links" {
-            continue;
-        }
-        for scheme in given.word.split(',') {
-            if !is_scheme(scheme) {
-                return Some(scheme);
-            }
-        }
-    }
-    None
-}
-
-// The first word that `--collapse` is given as a number of rows and is none.
-fn wrong_rows<'a>(options: &[Given<'a>]) -> Option<&'a str> {
-    for given in options {
-        if given.name == "--collapse" && rows_of(given.word).is_none() {
-            return Some(given.word);
-        }
-    }
-    None
-}
-
-// The first word after an option that could take it, and takes what follows `=` alone.
-fn apart_of<'a>(options: &[Given<'a>]) -> Option<Apart<'a>> {
-    for given in options {
-        if could_take(given.name, given.next) {
-            return Some(Apart {
-                option: given.name,
-                word: given.next,
-            });
-        }
-    }
-    None
-}
-
-// Whether an option of this name could take this word. A suffix is one that looks so.
-fn could_take(name: &str, word: &str) -> bool {
-    match name {
-        "--report" => word == "text" || word == "json",
-        "--show" => word == "escaped" || word == "color",
-        "--collapse" => !word.is_empty() && rows_of(word).is_some(),
-        "--in-place" => word.starts_with('.'),
-        _ => false,
-    }
-}
-
-// How many rows a word names; where it is empty, the default.
-fn rows_of(word: &str) -> Option<usize> {
-    if word.is_empty() {
-        return Some(DEFAULT_ROWS);
-    }
-    match word.parse::<usize>() {
-        Ok(rows) if 0 < rows && rows <= MOST_ROWS => Some(rows),
-        _ => None,
     }
 }
 

@@ -46,19 +46,6 @@ pub fn words_of(fate: Fate) -> &'static str {
     }
 }
 
-/// The fates, with how many bytes had each.
-pub fn each_sum(sums: Sums) -> [(Fate, u64); 7] {
-    [
-        (Fate::Passed, sums.passed),
-        (Fate::Respelled, sums.respelled),
-        (Fate::Shown, sums.shown),
-        (Fate::Replaced, sums.replaced),
-        (Fate::LeftOut, sums.left_out),
-        (Fate::Swallowed, sums.swallowed),
-        (Fate::Overwritten, sums.overwritten),
-    ]
-}
-
 /// How many bytes there are.
 pub fn bytes_of(sums: Sums) -> u64 {
     match u64::try_from(sums.total()) {
@@ -78,9 +65,10 @@ fn tell_sums<E: Write>(sums: Sums, name: &str, faults: &mut E) {
     put_number("of ", bytes_of(sums), faults);
     put(" bytes", faults);
     let mut before = " ";
-    for (fate, count) in &each_sum(sums) {
-        if *count > 0 {
-            put_number(before, *count, faults);
+    for fate in &Fate::ALL {
+        let count = sums.of(*fate);
+        if count > 0 {
+            put_number(before, count, faults);
             put(" ", faults);
             put(words_of(*fate), faults);
             before = ", ";

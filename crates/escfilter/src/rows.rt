@@ -3,6 +3,7 @@ ghost use Rattle.std.specs.Prelude.{OnErr};
 ghost use Rattle.std.specs.Global.{Global};
 ghost use Rattle.memory.specs.Refusals.{Refused};
 
+use crate::events::Events;
 use crate::judging::Judging;
 use crate::name::{Name, kind_name, name_of};
 use crate::options::Options;
@@ -43,11 +44,13 @@ pub struct Open {
 }
 
 /// What did not pass of a stream: a row for each fate and name, in the order in which the first of
-/// each came.
+/// each came; none where the options ask for no report. Each thing is told as it comes, where that
+/// is asked for.
 #[derive(Drop)]
 pub struct Rows<'a> {
     alloc: Global,
     options: Options<'a>,
+    events: Option<Events>,
     judge: Judging<'a>,
     pub rows: Vec<Row>,
     // the row of the entry that came last
@@ -57,10 +60,11 @@ pub struct Rows<'a> {
 
 impl<'a> Rows<'a> {
     /// None yet. Takes no memory.
-    pub fn new(alloc: Global, options: Options<'a>) -> Rows<'a> {
+    pub fn new(alloc: Global, options: Options<'a>, events: Option<Events>) -> Rows<'a> {
         Rows {
             alloc,
             options,
+            events,
             judge: Judging::new(alloc, options),
             rows: Vec::new(alloc),
             last: 0,
@@ -68,11 +72,48 @@ impl<'a> Rows<'a> {
         }
     }
 
+    /// Where what did not pass is told.
+    pub fn into_events(self) -> Option<Events> {
+        self.events
+    }
+
     /// What the end of the stream, of which this is the account, leaves unfinished.
     pub fn open(&self, account: Account) -> Option<Open> {
         match self.open {
             Some(open) if open.end == bytes_of(account.sums) => Some(open),
             _ => None,
+        }
+    }
+
+    // Tells and notes an entry under this name.
+    fn begin(&mut self, made: Entry<'_>, name: Name) -> Result<(), AllocError>
+        ensures { OnErr result (Refused Global) }
+    {
+        if let Some(events) = &mut self.events {
+            events.begin(made, name)?;
+        }
+        if self.options.report.is_some() {
+            self.note(made, name)?;
+            self.add(made.segment.bytes);
+        }
+        Ok(())
+    }
+
+    // Tells and adds the terminator of the string that came last.
+    fn end(&mut self, bytes: &[u8]) -> Result<(), AllocError>
+        ensures { OnErr result (Refused Global) }
+    {
+        self.add(bytes);
+        match &mut self.events {
+            Some(events) => events.go_on(bytes),
+            None => Ok(()),
+        }
+    }
+
+    // Adds these bytes to the row of the entry that came last.
+    fn add(&mut self, bytes: &[u8]) {
+        if let Some(row) = self.rows.get_mut(self.last) {
+            row.bytes = row.bytes.saturating_add(bytes.len() as u64);
         }
     }
 
@@ -150,16 +191,14 @@ impl<'a> Book<Global> for Rows<'a> {
     ghost was_given = { λ _ _. Unit {0} };
 
     fn enter(&mut self, made: Entry<'_>) -> Result<(), AllocError> {
-        if made.fate == Fate::Respelled {
+        if made.fate == Fate::Respelled || !self.options.has_names() {
             return Ok(());
         }
-        if !made.is_end {
+        if made.is_end {
+            self.end(made.segment.bytes)
+        } else {
             let name = self.name(made.segment, made.fate)?;
-            self.note(made, name)?;
+            self.begin(made, name)
         }
-        if let Some(row) = self.rows.get_mut(self.last) {
-            row.bytes = row.bytes.saturating_add(made.segment.bytes.len() as u64);
-        }
-        Ok(())
     }
 }

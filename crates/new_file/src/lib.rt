@@ -9,6 +9,7 @@ mod stream;
 
 use command_line::Reason;
 pub use fault::FileFault;
+pub use links::are_one;
 use links::{is_descriptor, led_to};
 pub use output::Output;
 use std::fs::{Files, Metadata, OpenFile, OpenOptions, hard_link, metadata, remove_file, rename};

@@ -1,8 +1,9 @@
 //! Where symbolic links lead.
 
-use std::fs::{Files, read_link, symlink_metadata};
+use std::fs::{Files, metadata, read_link, symlink_metadata};
 use std::io;
 use std::io::ErrorKind;
+use std::os::unix::fs::MetadataExt;
 
 // How many links are followed, one after another: as many as Linux follows.
 const LINKS: u32 = 40;
@@ -30,6 +31,17 @@ pub fn led_to<R: Files + AllocGlobal>(rt: &R, name: &str) -> io::Result<String> 
 /// Whether this is the name of an open descriptor.
 pub fn is_descriptor(name: &str) -> bool {
     name.starts_with("/dev/fd/") || name.starts_with("/proc/self/fd/")
+}
+
+/// Whether both are names of one regular file, or the same name of none yet.
+pub fn are_one<R: Files>(files: &R, one: &str, other: &str) -> bool {
+    match (metadata(files, one), metadata(files, other)) {
+        (Ok(one), Ok(other)) => {
+            one.is_file() && one.dev() == other.dev() && one.ino() == other.ino()
+        }
+        (Err(_), Err(_)) => one == other,
+        (Ok(_), Err(_)) | (Err(_), Ok(_)) => false,
+    }
 }
 
 // What the link of this name leads to. None, where it is no link, or there is no file.

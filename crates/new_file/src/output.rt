@@ -6,7 +6,8 @@ use crate::links::{is_descriptor, led_to};
 use crate::stream::Stream;
 use command_line::is_text;
 use std::fs::{OpenOptions, metadata};
-use std::io::ErrorKind;
+use std::io;
+use std::io::{ErrorKind, IsTerminal, Write};
 
 /// Where a program's output goes that is given the name of a file.
 #[derive(Drop)]
@@ -37,6 +38,41 @@ impl Output {
         match standard(rt, place) {
             Some(stream) => Ok(Output::Stream(stream)),
             None => at(rt, place, suffix),
+        }
+    }
+
+    /// Puts a new file in its place where it is whole, as [`NewFile::end`] does; of what is written
+    /// as it comes there is nothing to do.
+    pub fn end(self, rt: &HostRuntime, is_whole: bool) -> Result<(), FileFault<'static>> {
+        match self {
+            Output::New(new) => new.end(rt, "", is_whole),
+            Output::Stream(_) => Ok(()),
+        }
+    }
+
+    /// Whether it is a terminal.
+    pub fn is_terminal(&self) -> bool {
+        match self {
+            Output::New(_) => false,
+            Output::Stream(Stream::Output(output)) => output.is_terminal(),
+            Output::Stream(Stream::Error(error)) => error.is_terminal(),
+            Output::Stream(Stream::Opened(file)) => file.is_terminal(),
+        }
+    }
+}
+
+impl Write for Output {
+    fn write(&mut self, buf: &[u8]) -> io::Result<usize> {
+        match self {
+            Output::New(new) => new.file.write(buf),
+            Output::Stream(stream) => stream.write(buf),
+        }
+    }
+
+    fn flush(&mut self) -> io::Result<()> {
+        match self {
+            Output::New(new) => new.file.flush(),
+            Output::Stream(stream) => stream.flush(),
         }
     }
 }

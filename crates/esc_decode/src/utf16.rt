@@ -1,0 +1,185 @@
+//! A stream of UTF-16 as UTF-8.
+ghost use Rattle.std.specs.Prelude.{◌≡◌, ◌++◌, ◌∷◌, [], OnErr, OnOk, string_bytes, encode_utf8, true};
+ghost use Rattle.std.specs.Str.{encode_utf8_all};
+ghost use Rattle.memory.specs.Refusals.{Refused};
+ghost use Rattle.esc_decode.specs.Units.{added, after, begun, cut_short, given, given_alone, is_high, is_low, left, left_alone, pair, unit};
+ghost use lib.Utf8.{scalar};
+
+use std::alloc::{AllocError, Allocator};
+
+/// Makes UTF-8 of a stream of UTF-16, piece by piece. It keeps the first byte of a unit, and the
+/// first unit of a pair.
+#[derive(Clone, Copy)]
+pub struct Utf16 {
+    is_little: bool,
+    odd: Option<u8>,
+    high: Option<u16>,
+}
+
+impl Utf16 {
+    /// At the beginning of a stream, of whose units the lower byte comes first, or the higher.
+    pub fn new(is_little: bool) -> Utf16
+        ensures { result ≡ begun is_little }
+    {
+        Utf16 {
+            is_little,
+            odd: None,
+            high: None,
+        }
+    }
+
+    /// Appends the characters that these bytes end.
+    pub fn push<A: Allocator>(
+        &mut self,
+        bytes: &[u8],
+        text: &mut String<A>,
+    ) -> Result<(), AllocError>
+        ensures state { OnOk result (self.new ≡ after self.old bytes.now) }
+        ensures text { OnOk result
+            (string_bytes text.new ≡ string_bytes text.old ++ added self.old bytes.now) }
+        ensures refused { OnErr result (Refused A) }
+    {
+        for byte in bytes {
+            self.take(*byte, text)?;
+        }
+        Ok(())
+    }
+
+    /// Appends U+FFFD where the stream ends within a unit or a pair.
+    pub fn end<A: Allocator>(&mut self, text: &mut String<A>) -> Result<(), AllocError>
+        ensures text { OnOk result (string_bytes text.new
+            ≡ string_bytes text.old ++ encode_utf8_all (cut_short self.old.odd self.old.high)) }
+        ensures refused { OnErr result (Refused A) }
+    {
+        match (self.odd, self.high) {
+            (None, None) => Ok(()),
+            _ => {
+                self.odd = None;
+                self.high = None;
+                push_scalar(text, 0xfffd)
+            }
+        }
+    }
+
+    // Takes a byte more.
+    fn take<A: Allocator>(&mut self, byte: u8, text: &mut String<A>) -> Result<(), AllocError>
+        ensures state { self.new ≡ after self.old (byte ∷ []) }
+        ensures text { OnOk result
+            (string_bytes text.new ≡ string_bytes text.old ++ added self.old (byte ∷ [])) }
+        ensures refused { OnErr result (Refused A) }
+    {
+        match self.odd {
+            None => {
+                self.odd = Some(byte);
+                Ok(())
+            }
+            Some(first) => {
+                let unit = unit(self.is_little, first, byte);
+                let high = self.high;
+                self.odd = None;
+                self.high = left(high, unit);
+                push_given(text, high, unit)
+            }
+        }
+    }
+}
+
+// A unit of two bytes.
+fn unit(is_little: bool, first: u8, second: u8) -> u16
+    ensures { result ≡ unit is_little first second }
+{
+    if is_little {
+        first as u16 + 0x100 * (second as u16)
+    } else {
+        second as u16 + 0x100 * (first as u16)
+    }
+}
+
+// Whether it is the first one of a pair.
+fn is_high(unit: u16) -> bool
+    ensures { result ≡ is_high unit }
+{
+    0xd800 <= unit && unit < 0xdc00
+}
+
+// Whether it is the second one of a pair.
+fn is_low(unit: u16) -> bool
+    ensures { result ≡ is_low unit }
+{
+    0xdc00 <= unit && unit < 0xe000
+}
+
+// The character of a pair.
+fn pair(high: u16, low: u16) -> u32
+    ensures { result ≡ pair high low }
+{
+    0x1_0000 + 0x400 * (high as u32 % 0x400) + low as u32 % 0x400
+}
+
+// The first one of a pair that is left after a unit, where this has come before it.
+fn left(high: Option<u16>, unit: u16) -> Option<u16>
+    ensures { result ≡ left high unit }
+{
+    match high {
+        None => left_alone(unit),
+        Some(_) => { if is_low(unit) { None } else { left_alone(unit) } }
+    }
+}
+
+// The same where nothing has.
+fn left_alone(unit: u16) -> Option<u16>
+    ensures { result ≡ left_alone unit }
+{
+    if is_high(unit) { Some(unit) } else { None }
+}
+
+// Appends the characters that a unit ends, where this first one of a pair has come before it.
+fn push_given<A: Allocator>(
+    text: &mut String<A>,
+    high: Option<u16>,
+    unit: u16,
+) -> Result<(), AllocError>
+    ensures text { OnOk result
+        (string_bytes text.new ≡ string_bytes text.old ++ encode_utf8_all (given high unit)) }
+    ensures refused { OnErr result (Refused A) }
+{
+    match high {
+        None => push_alone(text, unit),
+        Some(high) => {
+            if is_low(unit) {
+                push_scalar(text, pair(high, unit))
+            } else {
+                push_scalar(text, 0xfffd)?;
+                push_alone(text, unit)
+            }
+        }
+    }
+}
+
+// The same where nothing has.
+fn push_alone<A: Allocator>(text: &mut String<A>, unit: u16) -> Result<(), AllocError>
+    ensures text { OnOk result
+        (string_bytes text.new ≡ string_bytes text.old ++ encode_utf8_all (given_alone unit)) }
+    ensures refused { OnErr result (Refused A) }
+{
+    if is_high(unit) {
+        Ok(())
+    } else if is_low(unit) {
+        push_scalar(text, 0xfffd)
+    } else {
+        push_scalar(text, unit as u32)
+    }
+}
+
+// Appends the character of this number.
+fn push_scalar<A: Allocator>(text: &mut String<A>, number: u32) -> Result<(), AllocError>
+    requires { scalar number ≡ true }
+    ensures text { OnOk result
+        (string_bytes text.new ≡ string_bytes text.old ++ encode_utf8_all (number ∷ [])) }
+    ensures refused { OnErr result (Refused A) }
+{
+    match char::from_u32(number) {
+        Some(c) => memory::push_char(text, c),
+        None => Ok(()),
+    }
+}

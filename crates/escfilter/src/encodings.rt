@@ -1,0 +1,48 @@
+//! The encodings that the options name.
+
+use esc_decode::{ByteOrder, CodePage};
+
+/// What `--encoding` takes.
+pub const ENCODINGS: &[&str] = &[
+    "utf-8",
+    "utf-16",
+    "utf-16le",
+    "utf-16be",
+    "latin1",
+    "windows-1250",
+    "windows-1251",
+    "windows-1252",
+    "windows-1253",
+    "windows-1254",
+    "windows-1255",
+    "windows-1256",
+    "windows-1257",
+    "windows-1258",
+];
+
+/// The 8-bit encoding of this name, where it is one.
+pub fn page_of(name: &str) -> Option<CodePage> {
+    match name {
+        "latin1" => Some(CodePage::Latin1),
+        "windows-1250" => Some(CodePage::Windows1250),
+        "windows-1251" => Some(CodePage::Windows1251),
+        "windows-1252" => Some(CodePage::Windows1252),
+        "windows-1253" => Some(CodePage::Windows1253),
+        "windows-1254" => Some(CodePage::Windows1254),
+        "windows-1255" => Some(CodePage::Windows1255),
+        "windows-1256" => Some(CodePage::Windows1256),
+        "windows-1257" => Some(CodePage::Windows1257),
+        "windows-1258" => Some(CodePage::Windows1258),
+        _ => None,
+    }
+}
+
+/// Which byte of a unit comes first in the encoding of this name, where it is one of UTF-16.
+pub fn order_of(name: &str) -> Option<ByteOrder> {
+    match name {
+        "utf-16" => Some(ByteOrder::Marked),
+        "utf-16le" => Some(ByteOrder::Little),
+        "utf-16be" => Some(ByteOrder::Big),
+        _ => None,
+    }
+}

@@ -1,0 +1,35 @@
+//! What is read of a stream.
+
+use esc_decode::{ByteOrder, Utf16Reader};
+use std::alloc::Global;
+use std::io;
+use std::io::Read;
+
+/// What is read of a stream: its bytes, or where it is in UTF-16 those of its characters in UTF-8.
+#[derive(Drop)]
+pub enum Input<R> {
+    /// Its bytes.
+    Bytes(R),
+    /// Its characters.
+    Units(Utf16Reader<R>),
+}
+
+impl<R: Read> Input<R> {
+    /// What is read of a stream that this reader reads, by which byte of a unit comes first, where
+    /// it is in UTF-16. Takes no memory.
+    pub fn new(alloc: Global, order: Option<ByteOrder>, inner: R) -> Input<R> {
+        match order {
+            None => Input::Bytes(inner),
+            Some(order) => Input::Units(Utf16Reader::new(alloc, order, inner)),
+        }
+    }
+}
+
+impl<R: Read> Read for Input<R> {
+    fn read(&mut self, buf: &mut [u8]) -> io::Result<usize> {
+        match self {
+            Input::Bytes(reader) => reader.read(buf),
+            Input::Units(reader) => reader.read(buf),
+        }
+    }
+}

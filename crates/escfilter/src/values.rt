@@ -1,0 +1,99 @@
+//! Values of options of which the table of options does not say what they may be.
+
+use crate::failing::FAILING;
+use command_line::{Apart, Given, Wrong};
+use esc_filter::is_scheme;
+
+const DEFAULT_ROWS: usize = 32;
+
+const MOST_ROWS: usize = 4096;
+
+/// What is wrong with the values of which the table does not say what they may be.
+pub fn wrong_value<'a>(options: &[Given<'a>]) -> Option<Wrong<'a>> {
+    match (wrong_scheme(options), wrong_rows(options)) {
+        (Some(scheme), _) => Some(Wrong::Value("--links", "scheme", scheme, None)),
+        (None, Some(rows)) => Some(Wrong::Value("--collapse", "number of rows", rows, None)),
+        (None, None) => None,
+    }
+}
+
+// The first word that `--links` is given as a scheme and is none.
+fn wrong_scheme<'a>(options: &[Given<'a>]) -> Option<&'a str> {
+    for given in options {
+        if given.name != "--links" {
+            continue;
+        }
+        for scheme in given.word.split(',') {
+            if !is_scheme(scheme) {
+                return Some(scheme);
+            }
+        }
+    }
+    None
+}
+
+// The first word that `--collapse` is given as a number of rows and is none.
+fn wrong_rows<'a>(options: &[Given<'a>]) -> Option<&'a str> {
+    for given in options {
+        if given.name == "--collapse" && rows_of(given.word).is_none() {
+            return Some(given.word);
+        }
+    }
+    None
+}
+
+/// The first word after an option that could take it, and takes what follows `=` alone.
+pub fn apart_of<'a>(options: &[Given<'a>]) -> Option<Apart<'a>> {
+    for given in options {
+        if could_take(given.name, given.next) {
+            return Some(Apart {
+                option: given.name,
+                word: given.next,
+            });
+        }
+    }
+    None
+}
+
+// Whether an option of this name could take this word. A suffix is one that looks so.
+fn could_take(name: &str, word: &str) -> bool {
+    match name {
+        "--report" => word == "text" || word == "json",
+        "--show" => word == "escaped" || word == "color",
+        "--fail" => are_kinds(word),
+        "--collapse" => !word.is_empty() && rows_of(word).is_some(),
+        "--in-place" => word.starts_with('.'),
+        _ => false,
+    }
+}
+
+// Whether these are kinds of failures, with `,` between them.
+fn are_kinds(words: &str) -> bool {
+    for word in words.split(',') {
+        if !is_kind(word) {
+            return false;
+        }
+    }
+    true
+}
+
+// Whether it is a kind of failures.
+fn is_kind(word: &str) -> bool {
+    for kind in FAILING {
+        if *kind == word {
+            return true;
+        }
+    }
+    false
+}
+
+/// How many rows a word names; where it is empty, the default.
+pub fn rows_of(word: &str) -> Option<usize> {
+    if word.is_empty() {
+        return Some(DEFAULT_ROWS);
+    }
+    match word.parse::<usize>() {
+        Ok(rows) if 0 < rows && rows <= MOST_ROWS => Some(rows),
+        _ => None,
+    }
+}
