@@ -32,6 +32,14 @@ impl<F: Feeding<A> + Drop, A: Allocator + Copy> Collapsing<F, A> {
         let collapse = Collapse::new(alloc, rows, columns)?;
         Ok(Collapsing { inner, collapse })
     }
+
+    /// The filter.
+    pub fn into_inner(self) -> F
+        ensures { result ≡ self.inner }
+    {
+        let Collapsing { inner, collapse: _ } = self;
+        inner
+    }
 }
 
 impl<F: Feeding<A> + Drop, A: Allocator + Copy> Feeding<A> for Collapsing<F, A> {
