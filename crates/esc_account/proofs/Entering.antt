@@ -1,5 +1,5 @@
 -- A segment is entered after those before it.
-use Rattle.std.proofs.Common.{ℕ, ◌≡◌, ◌≢◌, Bool, true, false, if◌then◌else◌, length, Result, Ok, Err, IfOk, List, [], ◌∷◌, ◌++◌, refl, ap, sym, ◌∙◌, subst, append_assoc}
+use Rattle.std.proofs.Common.{ℕ, ◌≡◌, ◌≢◌, Bool, true, false, if◌then◌else◌, Result, Ok, Err, IfOk, List, [], ◌∷◌, ◌++◌, refl, ap, sym, ◌∙◌, subst, append_assoc}
 use Rattle.esc_frame.specs.Segments.{Segment as Shape, AreSegments, IsCut, is_finished, joined}
 use Rattle.esc_segments.specs.declared.item.Segment.{Segment as Item}
 use Rattle.esc_segments.specs.Items.{IsHead, IsItem}

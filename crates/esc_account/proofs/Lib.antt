@@ -9,3 +9,5 @@ pub mod LineCounts
 pub mod SameBytes
 pub mod LinesRun
 pub mod AtOnce
+pub mod Standing
+pub mod Finishing

@@ -28,9 +28,11 @@ pub mod ledger;
 pub mod line_ledger;
 pub mod policy_judge;
 pub mod reading;
+mod room;
 mod same_lines;
 pub mod sums;
 mod terminator;
+mod whole_lines;
 
 pub use account::Account;
 pub use audience::Audience;

@@ -1,5 +1,4 @@
-use Rattle.std.proofs.Common.{◌++◌, ◌+◌, take, drop, length, ◌-◌, rules, arith, ap, sym, ◌∙◌}
-use Rattle.esc_account.specs.Accounts.{feeds}
+use Rattle.std.proofs.Common.{rules}
 use Rattle.esc_account.proofs.LineCounts.{feeds_in, none_after}
 use Rattle.esc_account.proofs.feeds.feeds.Goals as goal
 

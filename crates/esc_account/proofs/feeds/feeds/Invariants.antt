@@ -1,4 +1,4 @@
-use Rattle.std.proofs.Common.{◌-◌, ◌+◌, ◌≡◌, ◌≤◌, length, take}
+use Rattle.std.proofs.Common.{◌-◌, ◌≡◌, ◌≤◌, length, take}
 use Rattle.esc_account.specs.Accounts.{feeds}
 use Rattle.esc_account.proofs.feeds.feeds.Given as goal
 

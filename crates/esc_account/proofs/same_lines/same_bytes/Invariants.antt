@@ -1,4 +1,4 @@
-use Rattle.std.proofs.Common.{◌-◌, ◌≡◌, ◌≤◌, length, take}
+use Rattle.std.proofs.Common.{◌-◌, ◌≡◌, ◌≤◌, take}
 use Rattle.esc_account.proofs.same_lines.same_bytes.Given as goal
 
 abbrev pub invariant-loop-at : goal.invariant-loop-at
