@@ -3,3 +3,5 @@ pub mod Left
 mod Seen
 mod Chosen
 mod OfPieces
+mod Following
+mod Told

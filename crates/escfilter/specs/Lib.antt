@@ -2,3 +2,6 @@ pub mod Written
 pub mod Adding
 pub mod Choices
 pub mod Fates
+pub mod Judged
+pub mod Hearings
+pub mod Audits

@@ -1,9 +1,8 @@
 //! What becomes of a segment by the program's options.
 ghost use Rattle.std.specs.Prelude.{◌≡◌};
-ghost use Rattle.std.specs.Global.{Global};
-ghost use Rattle.esc_account.specs.Rules.{rule_of};
+ghost use Rattle.esc_account.specs.Judges.{GoesBy};
 ghost use Rattle.escfilter.specs.Fates.{shown_by};
-ghost use Rattle.escfilter.specs.Written.{admits_choice};
+ghost use Rattle.escfilter.specs.Judged.{judged, rule_by};
 
 use crate::named_groups::Choice;
 use crate::options::Options;
@@ -22,18 +21,10 @@ pub struct Judging<'a> {
 
 impl<'a> Judging<'a> {
     /// By these options.
-    pub fn new(alloc: Global, options: Options<'a>) -> Judging<'a> {
-        let Options {
-            limit,
-            choice,
-            unicode,
-            ..
-        } = options;
-        let policy = if options.by_lines {
-            PolicyJudge::by_lines(alloc, limit, choice, unicode)
-        } else {
-            PolicyJudge::new(alloc, limit, choice, unicode)
-        };
+    pub fn new(alloc: Global, options: Options<'a>) -> Judging<'a>
+        ensures { judged result ≡ rule_by options.entry }
+    {
+        let policy = policy_by(alloc, &options);
         Judging {
             policy,
             shows: options.shows,
@@ -47,14 +38,26 @@ impl<'a> Judging<'a> {
 }
 
 impl<'a> Judge<Global> for Judging<'a> {
-    ghost rule = { λ j g finished. shown_by j.shows (rule_of {A = Global} j.policy.by_lines
-        j.policy.unicode j.policy.limit (admits_choice j.policy.policy) g finished) };
+    ghost rule = { λ j. judged j };
 
     fn fate(&self, segment: Segment<'_>) -> Result<Fate, AllocError> {
         match self.policy.fate(segment) {
             Ok(fate) => Ok(shown_by(self.shows, fate)),
             Err(error) => Err(error),
         }
+    }
+}
+
+// What a filter with these options does.
+fn policy_by<'a>(alloc: Global, options: &Options<'a>) -> PolicyJudge<Choice<'a>>
+    ensures { GoesBy result options.now.by_lines options.now.unicode options.now.limit
+        options.now.choice }
+{
+    let by_lines = options.by_lines;
+    if by_lines {
+        PolicyJudge::by_lines(alloc, options.limit, options.choice, options.unicode)
+    } else {
+        PolicyJudge::new(alloc, options.limit, options.choice, options.unicode)
     }
 }
 

@@ -6,6 +6,7 @@
 mod auditor;
 mod cast;
 mod filtering;
+mod hearing;
 mod json;
 mod judging;
 mod laws;

@@ -3,9 +3,10 @@ use Rattle.esc_filter.proofs.Begun.{begun, begun_lines, nothing}
 use Rattle.esc_filter.specs.Lines.{closed_by_lines_as, text_by_lines_as}
 use Rattle.esc_filter.specs.Passing.{closed_text_as, passed_text_as}
 use Rattle.escfilter.specs.Written.{admits_choice, seen_by}
+use Rattle.escfilter.proofs.Following.{passed_is}
 use Rattle.escfilter.proofs.OtherWords.{in_other_words}
 use Rattle.escfilter.proofs.Seen.{lines_add, whole_adds}
-use Rattle.escfilter.proofs.stream.filter_by.Goals as goal
+use Rattle.escfilter.proofs.stream.filter_heard.Goals as goal
 
 pub returns-then-by_lines-clause-holds : goal.returns-then-by_lines-clause-holds
 returns-then-by_lines-clause-holds g c =
@@ -14,11 +15,12 @@ returns-then-by_lines-clause-holds g c =
     let new = begun_lines (admits_choice {A = g.row.A.Denot}) o.unicode o.limit o.choice
     c.with_unicode-filter.result c.with_unicode-filter.ensures.policy
     c.with_unicode-filter.ensures.fed in
+    let told = passed_is g.row.A.Denot o true c.if-by_lines.true in
     let f = in_other_words o.rows o.unicode o.limit p (seen_by g.row.A.Denot o) o.by_lines true
     c.if-by_lines.true (c.written_lines_read_back.ensures true o.unicode o.limit p)
     (c.written_lines_read_back.ensures false o.unicode o.limit p) _ _ _
     (c.filter_shown.ensures.holds (text_by_lines_as {A = g.row.A.Denot} o.unicode o.limit p)
-    (closed_by_lines_as o.unicode o.limit p) new refl (lines_add o.unicode o.limit p)) in
+    (closed_by_lines_as o.unicode o.limit p) new refl (lines_add o.unicode o.limit p) told) in
     record {
       read_all = f.read_all;
       written = f.written;
@@ -37,13 +39,14 @@ returns-else-by_lines-clause-holds g c =
     let filter = c.with_unicode-filter-else-by_lines in
     let new = begun (admits_choice {A = g.row.A.Denot}) o.unicode o.limit o.choice filter.result
     filter.ensures.policy filter.ensures.fed in
+    let told = passed_is g.row.A.Denot o false c.if-by_lines.false in
     let f = in_other_words o.rows o.unicode o.limit p (seen_by g.row.A.Denot o) o.by_lines false
     c.if-by_lines.false (c.written_reads_back.ensures.ended o.unicode (Some o.limit) p)
     (c.written_reads_back.ensures.goes_on o.unicode (Some o.limit) p) _ _ _
     (c.filter_shown-else-by_lines.ensures.holds
     (passed_text_as {A = g.row.A.Denot} o.unicode (Some o.limit) p)
     (closed_text_as o.unicode (Some o.limit) p) new (nothing o.unicode o.limit p)
-    (whole_adds o.unicode o.limit p)) in
+    (whole_adds o.unicode o.limit p) told) in
     record {
       read_all = f.read_all;
       written = f.written;
@@ -62,8 +65,9 @@ returns-then-by_lines-clause-refused g c =
     let new = begun_lines (admits_choice {A = g.row.A.Denot}) o.unicode o.limit o.choice
     c.with_unicode-filter.result c.with_unicode-filter.ensures.policy
     c.with_unicode-filter.ensures.fed in
+    let told = passed_is g.row.A.Denot o true c.if-by_lines.true in
     c.filter_shown.ensures.refused (text_by_lines_as {A = g.row.A.Denot} o.unicode o.limit p)
-    (closed_by_lines_as o.unicode o.limit p) new refl (lines_add o.unicode o.limit p)
+    (closed_by_lines_as o.unicode o.limit p) new refl (lines_add o.unicode o.limit p) told
 
 pub returns-else-by_lines-clause-refused : goal.returns-else-by_lines-clause-refused
 returns-else-by_lines-clause-refused g c =
@@ -72,7 +76,32 @@ returns-else-by_lines-clause-refused g c =
     let filter = c.with_unicode-filter-else-by_lines in
     let new = begun (admits_choice {A = g.row.A.Denot}) o.unicode o.limit o.choice filter.result
     filter.ensures.policy filter.ensures.fed in
+    let told = passed_is g.row.A.Denot o false c.if-by_lines.false in
     c.filter_shown-else-by_lines.ensures.refused
     (passed_text_as {A = g.row.A.Denot} o.unicode (Some o.limit) p)
     (closed_text_as o.unicode (Some o.limit) p) new (nothing o.unicode o.limit p)
-    (whole_adds o.unicode o.limit p)
+    (whole_adds o.unicode o.limit p) told
+
+pub returns-then-by_lines-clause-heard : goal.returns-then-by_lines-clause-heard
+returns-then-by_lines-clause-heard g c =
+    let o = c.args.options.now in
+    let p = admits_choice {A = g.row.A.Denot} o.choice in
+    let new = begun_lines (admits_choice {A = g.row.A.Denot}) o.unicode o.limit o.choice
+    c.with_unicode-filter.result c.with_unicode-filter.ensures.policy
+    c.with_unicode-filter.ensures.fed in
+    let told = passed_is g.row.A.Denot o true c.if-by_lines.true in
+    c.filter_shown.ensures.heard (text_by_lines_as {A = g.row.A.Denot} o.unicode o.limit p)
+    (closed_by_lines_as o.unicode o.limit p) new refl (lines_add o.unicode o.limit p) told
+
+pub returns-else-by_lines-clause-heard : goal.returns-else-by_lines-clause-heard
+returns-else-by_lines-clause-heard g c =
+    let o = c.args.options.now in
+    let p = admits_choice {A = g.row.A.Denot} o.choice in
+    let filter = c.with_unicode-filter-else-by_lines in
+    let new = begun (admits_choice {A = g.row.A.Denot}) o.unicode o.limit o.choice filter.result
+    filter.ensures.policy filter.ensures.fed in
+    let told = passed_is g.row.A.Denot o false c.if-by_lines.false in
+    c.filter_shown-else-by_lines.ensures.heard
+    (passed_text_as {A = g.row.A.Denot} o.unicode (Some o.limit) p)
+    (closed_text_as o.unicode (Some o.limit) p) new (nothing o.unicode o.limit p)
+    (whole_adds o.unicode o.limit p) told
