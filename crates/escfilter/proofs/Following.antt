@@ -1,5 +1,5 @@
 -- A filter of what a stream becomes, and whoever hears of that.
-use Rattle.std.proofs.Common.{ℕ, ◌≡◌, Bool, true, List, [], ◌++◌, Result, Ok, Err, OnErr, refl, sym, ap, ◌∙◌, subst}
+use Rattle.std.proofs.Common.{ℕ, ◌≡◌, Bool, true, List, [], ◌++◌, Result, Ok, Err, OnErr, sym, ap, ◌∙◌, subst}
 use Rattle.esc_account.specs.Ways.{Way}
 use Rattle.esc_account.specs.declared.audience.Audience.{Ghosts as Hearer}
 use Rattle.esc_decode.proofs.Feeding.{decoded_append}

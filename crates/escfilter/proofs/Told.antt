@@ -1,5 +1,5 @@
 -- What an auditor tells of a stream that has ended.
-use Rattle.std.proofs.Common.{ℕ, ◌≡◌, Bool, true, false, if◌then◌else◌, List, Option, Some, None, IfSome, length, refl, sym, ap, ◌∙◌, subst}
+use Rattle.std.proofs.Common.{ℕ, ◌≡◌, Bool, true, false, if◌then◌else◌, List, Option, Some, IfSome, length, sym, ap, ◌∙◌, subst}
 use Rattle.std.specs.Global.{Global}
 use Rattle.esc_account.specs.Accounts.{Rule, total}
 use Rattle.esc_account.specs.Ledgers.{IsCounted}

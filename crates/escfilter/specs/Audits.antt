@@ -1,5 +1,5 @@
 -- The account that an auditor keeps of a stream.
-use Rattle.std.specs.Prelude.{ℕ, ◌≡◌, ◌||◌, Bool, true, false, if◌then◌else◌, List, Option, Some, None, is_some, length}
+use Rattle.std.specs.Prelude.{ℕ, ◌≡◌, ◌||◌, Bool, if◌then◌else◌, List, Option, Some, None, is_some, length}
 use Rattle.std.specs.Global.{Global}
 use Rattle.std.specs.declared.io.traits.Read.{Ghosts as Reader}
 use Rattle.esc_account.specs.Accounts.{total}
