@@ -9,13 +9,13 @@ use Rattle.esc_account.specs.Accounts.{GoesOn, IsAccount, Rule, begun, run, step
 use Rattle.esc_account.specs.declared.account.Account.{Account}
 use Rattle.esc_account.proofs.Entering.{HasCut, OneCut}
 
-joined-append : (gs hs : List Shape) → joined (gs ++ hs) ≡ joined gs ++ joined hs
+pub joined-append : (gs hs : List Shape) → joined (gs ++ hs) ≡ joined gs ++ joined hs
 joined-append [] hs = refl
 joined-append (g ∷ gs) hs = ap (λ x. bytes_of g ++ x) (joined-append gs hs)
     ∙ sym (append_assoc (bytes_of g) (joined gs) (joined hs))
 
 -- segments are finished whatever more follows
-stay_finished : (gs : List Shape) (t b : List ℕ) → AreFinished gs t → AreFinished gs (t ++ b)
+pub stay_finished : (gs : List Shape) (t b : List ℕ) → AreFinished gs t → AreFinished gs (t ++ b)
 stay_finished gs t [] h = subst (AreFinished gs) (sym (append-nil t)) h
 stay_finished gs t (x ∷ b) h =
     subst (AreFinished gs) (append_assoc t (x ∷ []) b)
@@ -26,7 +26,7 @@ one_more : (g : Shape) (gs : List Shape) → HasShape g (joined gs)
 one_more g [] shape finished each = shape
 one_more g (h ∷ gs) shape finished each = (shape, finished, each)
 
-are_joined : (gs hs : List Shape) → AreFinished gs (joined hs) → AreSegments hs
+pub are_joined : (gs hs : List Shape) → AreFinished gs (joined hs) → AreSegments hs
     → AreSegments (gs ++ hs)
 are_joined [] hs f each = each
 are_joined (g ∷ gs) hs (shape, finished, rest) each =

@@ -10,3 +10,5 @@ pub mod LineCounts
 pub mod SameBytes
 pub mod LinesRun
 pub mod AtOnce
+pub mod Standing
+pub mod Finishing

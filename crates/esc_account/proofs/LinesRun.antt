@@ -101,7 +101,7 @@ lines_same r x u (l ∷ ls) e some =
 
 -- ---- of a stream
 
-as_one : (l : List ℕ) → IsLine l → lines l ≡ l ∷ []
+pub as_one : (l : List ℕ) → IsLine l → lines l ≡ l ∷ []
 as_one l (x, none, e) =
     ap lines e ∙ one_line x 0x0a none refl ∙ ap (λ y. y ∷ []) (sym e)
 
@@ -162,7 +162,7 @@ run_same r s t u x es h ends some sum = record {
 
 -- ---- the last line, which no line feed ends
 
-first_open : (w : List ℕ) → has_line_feed w ≡ false → first (lines w) ≡ w
+pub first_open : (w : List ℕ) → has_line_feed w ≡ false → first (lines w) ≡ w
 first_open [] h = refl
 first_open (b ∷ w) h = ap first (open_line b w h)
 

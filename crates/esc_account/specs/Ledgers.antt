@@ -1,11 +1,13 @@
 -- The account of a stream whose lines are streams of their own, with what was written of each.
-use Rattle.std.specs.Prelude.{ℕ, ◌≡◌, ◌≢◌, ◌+◌, ◌<◌, ◌≤◌, ◌^◌, true, List, [], ◌∷◌, ◌++◌, length}
+use Rattle.std.specs.Prelude.{ℕ, ◌≡◌, ◌≢◌, ◌<◌, ◌≤◌, ◌^◌, true, false, List, [], ◌∷◌, ◌++◌, length, take}
 use Rattle.esc_frame.specs.Segments.{Segment as Shape, IsCut}
-use Rattle.esc_filter.specs.Lines.{ends_line, lines}
-use Rattle.esc_account.specs.Accounts.{HasRoom, Rule, all_passed, begun, line_begun, total}
+use Rattle.esc_filter.specs.Lines.{ends_line, has_line_feed, lines}
+use Rattle.esc_account.specs.Accounts.{Rule, all_passed, begun, line_begun, total}
 use Rattle.esc_account.specs.Entries.{Entry, noted}
 use Rattle.esc_account.specs.LineEnds.{ends_so, line_entries, run_line}
 use Rattle.esc_account.specs.declared.account.Account.{Account}
+use Rattle.esc_account.specs.declared.book.Book.{Ghosts as Writer}
+use Rattle.esc_account.specs.declared.judge.Judge.{Ghosts as Ruler}
 use Rattle.esc_account.specs.declared.line_ledger.LineLedger.{LineLedger}
 
 -- A line, of which this was written, makes y of x: where it was written as it came all of it
@@ -56,23 +58,48 @@ pub record HasRun (r : Rule) (s t : List ℕ) (x : Account) (es : List Entry) : 
   pub lines : x.lines ≤ length s
   pub run : IsLineAccount r s t x es
 
--- ---- what a ledger has counted
+-- ---- what a ledger has heard
 
 -- a stream that is not too long to be counted
 abbrev pub IsCounted : List ℕ → Type 0
 IsCounted s = length s < 2 ^ 62
 
--- so many bytes more can be counted
-abbrev pub HasRoomFor : {J B A : Type 0} → LineLedger J B A → ℕ → Type 0
-HasRoomFor k n = HasRoom k.account (length k.line.items + n)
+-- Of the stream s, of which t was written, all is in the account x but `line` and `text`, which
+-- come last: lines that have ended; and P holds of their entries.
+pub record Stands (r : Rule) (P : List Entry → Type 0) (x : Account) (line text s t : List ℕ)
+    : Type 0 where
+  pub ended : List ℕ
+  pub written : List ℕ
+  pub made : List Entry
+  pub whole : s ≡ ended ++ line
+  pub text_whole : t ≡ written ++ text
+  pub run : HasRun r ended written x made
+  pub given : P made
 
--- so many bytes came: all that are not kept are in the account
-abbrev pub HasCounted : {J B A : Type 0} → ℕ → LineLedger J B A → Type 0
-HasCounted n k = (total k.account.sums + length k.line.items ≡ n)
-    × (k.account.lines ≤ total k.account.sums)
+-- the first n bytes are lines that were written as they came, and make y of x
+abbrev pub PassesSame : Account → List ℕ → List ℕ → ℕ → Account → Type 0
+PassesSame x line text n y = (take n line ≡ take n text) × (ends_line true (take n line) ≡ true)
+    × (n ≡ 0 → y ≡ x) × (0 < n → y ≡ all_passed (take n line) x)
 
--- n bytes more came
-abbrev pub Adds : {J B A : Type 0} → ℕ → LineLedger J B A → LineLedger J B A → Type 0
-Adds n old new = (total new.account.sums + length new.line.items
-    ≡ total old.account.sums + length old.line.items + n)
-    × (total old.account.sums + new.account.lines ≤ old.account.lines + total new.account.sums)
+-- neither has a line feed
+abbrev pub AreOpen : List ℕ → List ℕ → Type 0
+AreOpen line text = (has_line_feed line ≡ false) × (has_line_feed text ≡ false)
+
+-- the same of a ledger, of what these are left of
+abbrev pub Leaves : {J B A : Type 0} → Ruler J A → Writer B A → LineLedger J B A → List ℕ → List ℕ
+    → List ℕ → List ℕ → Type 0
+Leaves V W k line text s t =
+    Stands (V.rule k.judge) (W.was_given k.book) k.account line text s t
+
+-- it keeps these, and knows where they have no line feed
+abbrev pub Keeps : {J B A : Type 0} → Ruler J A → Writer B A → LineLedger J B A → List ℕ → List ℕ
+    → Type 0
+Keeps V W k s t = Leaves V W k k.line.items k.text.items s t
+    × (k.is_open ≡ true → AreOpen k.line.items k.text.items)
+
+-- the stream s has ended: the account is that of its lines, with what was written of them, and the
+-- book was given the entries
+abbrev pub Tells : {J B A : Type 0} → Ruler J A → Writer B A → LineLedger J B A → List ℕ → List ℕ
+    → Type 0
+Tells V W k s t = (total k.account.sums ≡ length s) × ((es : List Entry)
+    × IsLineAccount (V.rule k.judge) s t k.account es × W.was_given k.book es)

@@ -1,13 +1,20 @@
--- What a ledger of a stream that is one has counted.
-use Rattle.std.specs.Prelude.{ℕ, ◌≡◌, ◌+◌, ◌≤◌, length}
-use Rattle.esc_account.specs.Accounts.{HasRoom, total}
+-- What a ledger of a stream that is one has heard.
+use Rattle.std.specs.Prelude.{ℕ, ◌≡◌, List, length}
+use Rattle.esc_frame.specs.Segments.{Segment as Shape, IsCut}
+use Rattle.esc_account.specs.Accounts.{begun, run, total}
+use Rattle.esc_account.specs.Entries.{Entry, entries, noted}
+use Rattle.esc_account.specs.Finished.{Finishes}
+use Rattle.esc_account.specs.declared.book.Book.{Ghosts as Writer}
+use Rattle.esc_account.specs.declared.judge.Judge.{Ghosts as Ruler}
 use Rattle.esc_account.specs.declared.ledger.Ledger.{Ledger}
 
--- so many bytes more can be counted
-abbrev pub HasRoomFor : {J B A : Type 0} → Ledger J B A → ℕ → Type 0
-HasRoomFor k n = HasRoom k.account (length k.rest.items + n)
+-- the stream s: the segments that are finished are in the account, and the rest is kept
+abbrev pub Hears : {J B A : Type 0} → Ruler J A → Writer B A → Ledger J B A → List ℕ → Type 0
+Hears V W k s = (es : List Entry)
+    × Finishes (V.rule k.judge) begun s k.rest.items k.account es × W.was_given k.book es
 
--- so many bytes came: all that are not kept are in the account
-abbrev pub HasCounted : {J B A : Type 0} → ℕ → Ledger J B A → Type 0
-HasCounted n k = (total k.account.sums + length k.rest.items ≡ n)
-    × (k.account.lines ≤ total k.account.sums)
+-- the stream s has ended: the account is that of its one cut, and the book was given the entries
+abbrev pub Closes : {J B A : Type 0} → Ruler J A → Writer B A → Ledger J B A → List ℕ → Type 0
+Closes V W k s = (total k.account.sums ≡ length s) × ((gs : List Shape) × IsCut s gs
+    × (k.account ≡ run (V.rule k.judge) begun gs)
+    × W.was_given k.book (noted (entries (V.rule k.judge) begun gs)))

@@ -1,12 +1,13 @@
 //! The account of a stream.
 #![tactic(auto)]
 
-ghost use Rattle.std.specs.Prelude.{◌≡◌, ◌++◌, ◌∷◌, ◌<◌, ◌≤◌, ◌^◌, ◌↔◌, IfOk, IsTrue, List, [], OnErr, OnOk, length};
+ghost use Rattle.std.specs.Prelude.{◌≡◌, ◌++◌, ◌∷◌, ◌<◌, ◌≤◌, ◌^◌, ◌↔◌, IfOk, IsTrue, List, [], OnErr, OnOk, drop, length};
 ghost use Rattle.esc_frame.specs.Segments.{AreSegments, Segment as Shape, IsCut, is_finished, joined};
 ghost use Rattle.esc_segments.specs.Items.{IsItem};
 ghost use Rattle.memory.specs.Refusals.{Refused};
 ghost use Rattle.esc_account.specs.Accounts.{Counts, Enters, HasRoom, all_passed, begun, carried, entered_as, run, total};
 ghost use Rattle.esc_account.specs.Entries.{Entry as Told, ends_string, entries, entry_as, entry_of, is_passed, noted};
+ghost use Rattle.esc_account.specs.Finished.{Finishes};
 ghost use Rattle.esc_account.specs.Ledgers.{LineEnters, LineGives};
 
 use crate::book::Book;
@@ -107,6 +108,9 @@ impl Account {
         bytes: &[u8],
     ) -> Result<(Account, usize), AllocError>
         requires room { HasRoom self (length bytes.now) }
+        ensures finishes { (es : List Told) → B.was_given book.old es
+            → IfOk result (λ r. (fs : List Told) × Finishes (J.rule judge.now) self bytes.now
+            (drop r.1 bytes.now) r.0 fs × B.was_given book.new (es ++ fs)) }
         ensures counts { IfOk result (λ r. (r.1 ≤ length bytes.now) × Counts self r.1 r.0) }
         ensures refused { OnErr result (Refused A) }
     {

@@ -1,16 +1,19 @@
 //! The account of a stream that is one, as it comes.
 #![tactic(auto)]
 
-ghost use Rattle.std.specs.Prelude.{◌≡◌, ◌↔◌, IsTrue, OnErr, OnOk, length, ℕ};
-ghost use Rattle.esc_account.specs.Accounts.{total};
+ghost use Rattle.std.specs.Prelude.{◌≡◌, List, OnErr, OnOk, [], length, ℕ};
+ghost use Rattle.esc_account.specs.Accounts.{HasRoom};
 ghost use Rattle.esc_account.specs.Ledgers.{IsCounted};
-ghost use Rattle.esc_account.specs.Wholes.{HasCounted, HasRoomFor};
+ghost use Rattle.esc_account.specs.Wholes.{Closes, Hears};
+ghost use Rattle.esc_account.specs.Ways.{whole};
 ghost use Rattle.memory.specs.Refusals.{Refused};
 
 use crate::account::Account;
 use crate::audience::Audience;
 use crate::book::Book;
 use crate::judge::Judge;
+use crate::room::has_room;
+use esc_frame::laws;
 use std::alloc::{AllocError, Allocator, Global};
 
 /// Keeps the account of a stream: it hears what comes of it. It keeps what came of the segment that
@@ -30,7 +33,8 @@ impl<J: Judge<A>, B: Book<A>, A: Allocator> Ledger<J, B, A> {
     pub fn new(alloc: A, judge: J, book: B) -> Self
     where
         A: Copy,
-        ensures { HasCounted 0 result }
+        ensures hears { B.was_given book [] → Hears J.Judge B.Book result [] }
+        ensures judge { result.judge ≡ judge }
     {
         Ledger {
             judge,
@@ -64,21 +68,12 @@ impl<J: Judge<A>, B: Book<A>, A: Allocator> Ledger<J, B, A> {
         self.book
     }
 
-    // Whether so many bytes more can be counted.
-    fn has_room(&self, count: usize) -> bool
-        ensures { IsTrue result ↔ HasRoomFor self.now count }
-    {
-        let most = u64::MAX as u128;
-        let total = self.account.sums.total();
-        let lines = self.account.lines as u128;
-        let bytes = self.rest.len() as u128 + count as u128;
-        total <= most && lines + 2 * bytes <= most - total
-    }
-
     // Enters the segments that are finished, and keeps what is not.
     fn enter_finished(&mut self) -> Result<(), AllocError>
-        requires { HasRoomFor self.old 0 }
-        ensures counted { (n : ℕ) → HasCounted n self.old → OnOk result (HasCounted n self.new) }
+        requires { HasRoom self.old.account (length self.old.rest.items) }
+        ensures hears { (s : List ℕ) → Hears J.Judge B.Book self.old s
+            → OnOk result (Hears J.Judge B.Book self.new s) }
+        ensures judge { self.new.judge ≡ self.old.judge }
         ensures refused { OnErr result (Refused A) }
     {
         let (account, count) = self
@@ -91,12 +86,14 @@ impl<J: Judge<A>, B: Book<A>, A: Allocator> Ledger<J, B, A> {
 }
 
 impl<J: Judge<A>, B: Book<A>, A: Allocator> Audience<A> for Ledger<J, B, A> {
-    ghost heard = { λ k s _. IsCounted s → HasCounted (length s) k };
+    ghost heard = { λ k s _. IsCounted s → Hears J.Judge B.Book k s };
 
-    ghost heard_all = { λ k s _. IsCounted s → total k.account.sums ≡ length s };
+    ghost heard_all = { λ k s _. IsCounted s → Closes J.Judge B.Book k s };
+
+    ghost goes_by = { λ k. whole (J.rule k.judge) };
 
     fn hear(&mut self, bytes: &[u8], _text: &str) -> Result<(), AllocError> {
-        if !self.has_room(bytes.len()) {
+        if !has_room(self.account, self.rest.len(), bytes.len()) {
             return Ok(());
         }
         memory::extend(&mut self.rest, bytes)?;
@@ -104,7 +101,8 @@ impl<J: Judge<A>, B: Book<A>, A: Allocator> Audience<A> for Ledger<J, B, A> {
     }
 
     fn hear_end(&mut self, _text: &str) -> Result<(), AllocError> {
-        if !self.has_room(0) {
+        laws::has_cut();
+        if !has_room(self.account, self.rest.len(), 0) {
             return Ok(());
         }
         self.account = self

@@ -29,9 +29,11 @@ pub mod line_ledger;
 mod line_run;
 pub mod policy_judge;
 pub mod reading;
+mod room;
 mod same_lines;
 pub mod sums;
 mod terminator;
+mod whole_lines;
 
 pub use account::Account;
 pub use audience::Audience;

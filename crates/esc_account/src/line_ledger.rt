@@ -1,16 +1,19 @@
 //! The account of a stream whose lines are streams of their own, as the stream comes.
 #![tactic(auto)]
 
-ghost use Rattle.std.specs.Prelude.{◌≡◌, ◌+◌, ◌-◌, ◌<◌, ◌≤◌, ◌↔◌, IfSome, IsTrue, OnErr, OnOk, length, ℕ};
-ghost use Rattle.esc_account.specs.Accounts.{Counts, HasRoom, total};
-ghost use Rattle.esc_account.specs.Ledgers.{Adds, HasCounted, HasRoomFor, IsCounted};
+ghost use Rattle.std.specs.Prelude.{◌≡◌, ◌+◌, ◌++◌, ◌≤◌, List, OnErr, OnOk, [], length, take, true, ℕ};
 ghost use Rattle.memory.specs.Refusals.{Refused};
+ghost use Rattle.esc_filter.specs.Lines.{IsLine};
+ghost use Rattle.esc_account.specs.Accounts.{Counts, HasRoom};
+ghost use Rattle.esc_account.specs.Ways.{by_lines};
+ghost use Rattle.esc_account.specs.Ledgers.{AreOpen, IsCounted, Keeps, Leaves, Tells};
 
 use crate::account::Account;
 use crate::audience::Audience;
 use crate::book::Book;
 use crate::judge::Judge;
-use crate::same_lines::same_lines;
+use crate::room::has_room;
+use crate::whole_lines::{lines_entered, rest_entered};
 use esc_filter::line_length;
 use std::alloc::{AllocError, Allocator, Global};
 
@@ -18,17 +21,18 @@ use std::alloc::{AllocError, Allocator, Global};
 /// stream, each time with the text that was written of that, as by a
 /// [`LineFilter`](esc_filter::LineFilter). The lines of the text are those that were written of the
 /// lines of the stream, one for each. It keeps what came of the last line, and what was written of
-/// it. After 2^62 bytes nothing is said of it.
+/// it: lines that lie in a piece are entered there. After 2^62 bytes nothing is said of it.
 #[derive(Drop)]
 pub struct LineLedger<J, B, A: Allocator = Global> {
     judge: J,
     book: B,
     account: Account,
-    // of the last line, and how much of that is known to have no line feed
+    // of the last line
     line: Vec<u8, A>,
-    seen: usize,
     // what was written of it
     text: Vec<u8, A>,
+    // whether neither is known to have a line feed
+    is_open: bool,
 }
 
 impl<J: Judge<A>, B: Book<A>, A: Allocator> LineLedger<J, B, A> {
@@ -37,15 +41,16 @@ impl<J: Judge<A>, B: Book<A>, A: Allocator> LineLedger<J, B, A> {
     pub fn new(alloc: A, judge: J, book: B) -> Self
     where
         A: Copy,
-        ensures { HasCounted 0 result }
+        ensures keeps { B.was_given book [] → Keeps J.Judge B.Book result [] [] }
+        ensures judge { result.judge ≡ judge }
     {
         LineLedger {
             judge,
             book,
             account: Account::new(),
             line: Vec::new(alloc),
-            seen: 0,
             text: Vec::new(alloc),
+            is_open: true,
         }
     }
 
@@ -72,158 +77,138 @@ impl<J: Judge<A>, B: Book<A>, A: Allocator> LineLedger<J, B, A> {
         self.book
     }
 
-    // Whether so many bytes more can be counted.
-    fn has_room(&self, count: usize) -> bool
-        ensures { IsTrue result ↔ HasRoomFor self.now count }
+    // Takes bytes more, and the text that was written of them.
+    fn take(&mut self, bytes: &[u8], text: &[u8]) -> Result<(), AllocError>
+        requires { HasRoom self.old.account (length self.old.line.items + length bytes.now) }
+        ensures keeps { (s t : List ℕ) → Keeps J.Judge B.Book self.old s t
+            → OnOk result (Keeps J.Judge B.Book self.new (s ++ bytes.now) (t ++ text.now)) }
+        ensures judge { self.new.judge ≡ self.old.judge }
+        ensures refused { OnErr result (Refused A) }
     {
-        let most = u64::MAX as u128;
-        let total = self.account.sums.total();
-        let lines = self.account.lines as u128;
-        let bytes = self.line.len() as u128 + count as u128;
-        total <= most && lines + 2 * bytes <= most - total
+        if !self.is_open {
+            return self.take_more(bytes, text);
+        }
+        match (line_length(bytes), line_length(text)) {
+            (Some(n), Some(m)) => self.take_lines(bytes, n, text, m),
+            _ => self.take_more(bytes, text),
+        }
     }
 
-    // Keeps bytes more, and the text that was written of them.
-    fn keep(&mut self, bytes: &[u8], text: &str) -> Result<(), AllocError>
-        requires { HasRoomFor self.old (length bytes.now) }
-        ensures kept { OnOk result (Adds (length bytes.now) self.old self.new) }
+    // The same, where the line that is kept ends after n of the bytes, and its text after m.
+    fn take_lines(
+        &mut self,
+        bytes: &[u8],
+        n: usize,
+        text: &[u8],
+        m: usize,
+    ) -> Result<(), AllocError>
+        requires { (n ≤ length bytes.now) × (m ≤ length text.now)
+            × HasRoom self.old.account (length self.old.line.items + length bytes.now) }
+        ensures keeps { (s t : List ℕ) → Keeps J.Judge B.Book self.old s t
+            → self.old.is_open ≡ true → IsLine (take n bytes.now) → IsLine (take m text.now)
+            → OnOk result (Keeps J.Judge B.Book self.new (s ++ bytes.now) (t ++ text.now)) }
+        ensures judge { self.new.judge ≡ self.old.judge }
         ensures refused { OnErr result (Refused A) }
+    {
+        self.end_line(&bytes[..n], &text[..m])?;
+        let (line, text) = (&bytes[n..], &text[m..]);
+        let found = lines_entered(self.account, &self.judge, &mut self.book, line, text)?;
+        self.account = found.account;
+        self.keep(&line[found.at..], &text[found.to..])
+    }
+
+    // Enters the line that is kept and ends with these bytes, of which this was written.
+    fn end_line(&mut self, bytes: &[u8], text: &[u8]) -> Result<(), AllocError>
+        requires { HasRoom self.old.account (length self.old.line.items + length bytes.now) }
+        ensures leaves { (b u s t : List ℕ) → AreOpen self.old.line.items self.old.text.items
+            → IsLine bytes.now → IsLine text.now → Leaves J.Judge B.Book self.old
+            (self.old.line.items ++ (bytes.now ++ b)) (self.old.text.items ++ (text.now ++ u)) s t
+            → OnOk result (Leaves J.Judge B.Book self.new b u s t) }
+        ensures after { OnOk result (Counts self.old.account
+            (length self.old.line.items + length bytes.now) self.new.account
+            × (self.new.line.items ≡ []) × (self.new.text.items ≡ [])) }
+        ensures same { (self.new.judge ≡ self.old.judge) × OnErr result (Refused A) }
     {
         memory::extend(&mut self.line, bytes)?;
-        memory::extend(&mut self.text, text.as_bytes())
-    }
-
-    // Enters the lines that came whole, and keeps what comes after them.
-    fn enter_lines(&mut self) -> Result<(), AllocError>
-        requires { HasRoomFor self.old 0 }
-        ensures entered { OnOk result (Adds 0 self.old self.new) }
-        ensures refused { OnErr result (Refused A) }
-    {
-        let mut at = 0;
-        let mut to = 0;
-        while let Some((n, m)) = self.next_line(at, to) {
-            self.enter(at, n, to, m)?;
-            at += n;
-            to += m;
-            let same = self.pass_lines(at, to);
-            at += same;
-            to += same;
-        }
-        self.forget(at, to);
+        memory::extend(&mut self.text, text)?;
+        self.account = self
+            .account
+            .line_entered(&self.judge, &mut self.book, &self.line, &self.text)?;
+        self.line.clear();
+        self.text.clear();
         Ok(())
     }
 
-    // The length of the line that begins there, and of what was written of it, where both came
-    // whole.
-    fn next_line(&self, at: usize, to: usize) -> Option<(usize, usize)>
-        requires line { at ≤ length self.now.line.items }
-        requires text { to ≤ length self.now.text.items }
-        ensures { IfSome result (λ r. (0 < r.0) × (at + r.0 ≤ length self.now.line.items)
-            × (to + r.1 ≤ length self.now.text.items)) }
-    {
-        let known = self.known(at);
-        match line_length(&self.line[at + known..]) {
-            Some(n) => match line_length(&self.text[to..]) {
-                Some(m) => Some((known + n, m)),
-                None => None,
-            },
-            None => None,
-        }
-    }
-
-    // How many bytes there are known to have no line feed.
-    fn known(&self, at: usize) -> usize
-        requires { at ≤ length self.now.line.items }
-        ensures { at + result ≤ length self.now.line.items }
-    {
-        if at == 0 {
-            self.seen.min(self.line.len())
-        } else {
-            0
-        }
-    }
-
-    // Enters the n bytes of a line that are there, of which the m bytes were written.
-    fn enter(&mut self, at: usize, n: usize, to: usize, m: usize) -> Result<(), AllocError>
-        requires there { (at + n ≤ length self.old.line.items)
-            × (to + m ≤ length self.old.text.items) }
-        requires room { HasRoom self.old.account n }
-        ensures counts { OnOk result (Counts self.old.account n self.new.account
-            × (self.new.line ≡ self.old.line) × (self.new.text ≡ self.old.text)) }
+    // Keeps these, after what is kept.
+    fn keep(&mut self, line: &[u8], text: &[u8]) -> Result<(), AllocError>
+        ensures kept { OnOk result ((self.new.line.items ≡ self.old.line.items ++ line.now)
+            × (self.new.text.items ≡ self.old.text.items ++ text.now)
+            × (self.new.is_open ≡ true
+            → (self.old.is_open ≡ true) × AreOpen line.now text.now)) }
+        ensures same { (self.new.account ≡ self.old.account) × (self.new.book ≡ self.old.book)
+            × (self.new.judge ≡ self.old.judge) }
         ensures refused { OnErr result (Refused A) }
     {
-        self.account = self.account.line_entered(
+        memory::extend(&mut self.line, line)?;
+        memory::extend(&mut self.text, text)?;
+        self.is_open = self.is_open && line_length(line).is_none() && line_length(text).is_none();
+        Ok(())
+    }
+
+    // Takes bytes more into what is kept, and enters the lines that come whole there.
+    fn take_more(&mut self, bytes: &[u8], text: &[u8]) -> Result<(), AllocError>
+        requires { HasRoom self.old.account (length self.old.line.items + length bytes.now) }
+        ensures keeps { (s t : List ℕ) → Keeps J.Judge B.Book self.old s t
+            → OnOk result (Keeps J.Judge B.Book self.new (s ++ bytes.now) (t ++ text.now)) }
+        ensures judge { self.new.judge ≡ self.old.judge }
+        ensures refused { OnErr result (Refused A) }
+    {
+        let was_open = self.is_open;
+        self.keep(bytes, text)?;
+        if was_open {
+            return Ok(());
+        }
+        let found = lines_entered(
+            self.account,
             &self.judge,
             &mut self.book,
-            &self.line[at..at + n],
-            &self.text[to..to + m],
+            &self.line,
+            &self.text,
         )?;
+        self.account = found.account;
+        self.line.drain(..found.at);
+        self.text.drain(..found.to);
+        self.is_open = line_length(&self.line).is_none() && line_length(&self.text).is_none();
         Ok(())
-    }
-
-    // Takes the lines there that were written as they came. It returns how many bytes these are.
-    fn pass_lines(&mut self, at: usize, to: usize) -> usize
-        requires line { at ≤ length self.old.line.items }
-        requires text { to ≤ length self.old.text.items }
-        requires room { HasRoom self.old.account (length self.old.line.items - at) }
-        ensures { (at + result ≤ length self.old.line.items)
-            × (to + result ≤ length self.old.text.items)
-            × Counts self.old.account result self.new.account
-            × (self.new.line ≡ self.old.line) × (self.new.text ≡ self.old.text) }
-    {
-        let same = same_lines(&self.line[at..], &self.text[to..]);
-        self.account = self.account.passed(&self.line[at..at + same]);
-        same
-    }
-
-    // Keeps what comes after these bytes.
-    fn forget(&mut self, at: usize, to: usize)
-        requires line { at ≤ length self.old.line.items }
-        requires text { to ≤ length self.old.text.items }
-        ensures account { self.new.account ≡ self.old.account }
-        ensures line { length self.new.line.items ≡ length self.old.line.items - at }
-    {
-        let known = self.known(at);
-        self.line.drain(..at);
-        self.text.drain(..to);
-        self.seen = match line_length(&self.line[known..]) {
-            Some(_) => known,
-            None => self.line.len(),
-        };
-    }
-
-    // Enters what is left of the last line.
-    fn enter_last(&mut self) -> Result<(), AllocError>
-        requires { HasRoomFor self.old 0 }
-        ensures entered { OnOk result
-            (Counts self.old.account (length self.old.line.items) self.new.account) }
-        ensures refused { OnErr result (Refused A) }
-    {
-        let n = self.line.len();
-        let m = self.text.len();
-        self.enter(0, n, 0, m)
     }
 }
 
 impl<J: Judge<A>, B: Book<A>, A: Allocator> Audience<A> for LineLedger<J, B, A> {
-    ghost heard = { λ k s _. IsCounted s → HasCounted (length s) k };
+    ghost heard = { λ k s t. IsCounted s → Keeps J.Judge B.Book k s t };
 
-    ghost heard_all = { λ k s _. IsCounted s → total k.account.sums ≡ length s };
+    ghost heard_all = { λ k s t. IsCounted s → Tells J.Judge B.Book k s t };
+
+    ghost goes_by = { λ k. by_lines (J.rule k.judge) };
 
     fn hear(&mut self, bytes: &[u8], text: &str) -> Result<(), AllocError> {
-        if !self.has_room(bytes.len()) {
+        if !has_room(self.account, self.line.len(), bytes.len()) {
             return Ok(());
         }
-        self.keep(bytes, text)?;
-        self.enter_lines()
+        self.take(bytes, text.as_bytes())
     }
 
     fn hear_end(&mut self, text: &str) -> Result<(), AllocError> {
-        if !self.has_room(0) {
+        if !has_room(self.account, self.line.len(), 0) {
             return Ok(());
         }
-        self.keep(&[], text)?;
-        self.enter_lines()?;
-        self.enter_last()
+        memory::extend(&mut self.text, text.as_bytes())?;
+        self.account = rest_entered(
+            self.account,
+            &self.judge,
+            &mut self.book,
+            &self.line,
+            &self.text,
+        )?;
+        Ok(())
     }
 }

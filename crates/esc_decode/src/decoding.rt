@@ -1,6 +1,8 @@
 //! A filter, of what a stream becomes.
-ghost use Rattle.std.specs.Prelude.{◌≡◌, ℕ, List, []};
-ghost use Rattle.esc_decode.specs.Decodings.{Decodes, OnlyAdds, through};
+ghost use Rattle.std.specs.Prelude.{◌≡◌, ◌++◌, if◌then◌else◌, ℕ, List, OnErr, OnOk, []};
+ghost use Rattle.esc_decode.specs.Decodings.{Decodes, OnlyAdds, decoded_after, through};
+ghost use Rattle.esc_frame.specs.Machine.Prefixes.{prefix_of};
+ghost use Rattle.memory.specs.Refusals.{Refused};
 
 use crate::decode::decode;
 use crate::encoding::Encoding;
@@ -21,13 +23,15 @@ pub struct Decoding<F, A: Allocator = Global> {
     filter: F,
     // what the last piece became that did not stay
     piece: Vec<u8, A>,
+    // whether the last piece stays
+    stays: bool,
 }
 
 impl<F: Feeding<A>, A: Allocator + Copy> Decoding<F, A> {
     /// This filter, of what a stream in this encoding becomes; the filter is at the beginning of a
     /// stream. Takes no memory.
     pub fn new(alloc: A, encoding: Encoding, filter: F) -> Decoding<F, A>
-        ensures filter { result.filter ≡ filter }
+        ensures filter { (result.filter ≡ filter) × (result.encoding ≡ encoding) }
         ensures begins { (m c : List ℕ → List ℕ) → F.gives filter m c [] → OnlyAdds m c
             → Decodes F.Feeding result.encoding result.begun result.filter (through encoding m)
             (through encoding c) [] }
@@ -37,6 +41,44 @@ impl<F: Feeding<A>, A: Allocator + Copy> Decoding<F, A> {
             begun: Pending::Nothing,
             filter,
             piece: Vec::new(alloc),
+            stays: true,
+        }
+    }
+
+    /// Takes bytes more, as `feed_piece` does.
+    pub fn feed(&mut self, bytes: &[u8]) -> Result<(), AllocError>
+        ensures given { (m c : List ℕ → List ℕ) (s : List ℕ)
+            → Decodes F.Feeding self.old.encoding self.old.begun self.old.filter m c s
+            → OnOk result (Decodes F.Feeding self.new.encoding self.new.begun self.new.filter m c
+            (s ++ bytes.now) × (m (s ++ bytes.now) ≡ m s ++ F.added self.new.filter)) }
+        ensures longer { (m c : List ℕ → List ℕ) (s : List ℕ)
+            → Decodes F.Feeding self.old.encoding self.old.begun self.old.filter m c s
+            → (t : List ℕ) × (m (s ++ bytes.now) ≡ m s ++ t) }
+        ensures refused { (m c : List ℕ → List ℕ) (s : List ℕ)
+            → Decodes F.Feeding self.old.encoding self.old.begun self.old.filter m c s
+            → OnErr result (Refused A) }
+        ensures became { OnOk result ((if self.new.stays then bytes.now else self.new.piece.items)
+            ≡ decoded_after self.old.encoding (prefix_of self.old.begun) bytes.now)
+            × (self.new.encoding ≡ self.old.encoding) }
+    {
+        let (begun, stays) = decode(&mut self.piece, self.encoding, self.begun, bytes)?;
+        self.begun = begun;
+        self.stays = stays;
+        if stays {
+            self.filter.feed_piece(bytes)
+        } else {
+            self.filter.feed_piece(&self.piece)
+        }
+    }
+
+    /// What the filter was given for the bytes that were taken last, which are these.
+    pub fn piece<'b>(&'b self, bytes: &'b [u8]) -> &'b [u8]
+        ensures { result.now ≡ (if self.now.stays then bytes.now else self.now.piece.items) }
+    {
+        if self.stays {
+            bytes
+        } else {
+            self.piece.as_slice()
         }
     }
 }
@@ -50,13 +92,7 @@ impl<F: Feeding<A>, A: Allocator + Copy> Feeding<A> for Decoding<F, A> {
         × F.has_ended d.filter c s };
 
     fn feed_piece(&mut self, bytes: &[u8]) -> Result<(), AllocError> {
-        let (begun, stays) = decode(&mut self.piece, self.encoding, self.begun, bytes)?;
-        self.begun = begun;
-        if stays {
-            self.filter.feed_piece(bytes)
-        } else {
-            self.filter.feed_piece(&self.piece)
-        }
+        self.feed(bytes)
     }
 
     fn finish_all(&mut self) -> Result<(), AllocError> {

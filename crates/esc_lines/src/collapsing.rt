@@ -1,6 +1,6 @@
 //! A filter, and what is left of the lines of its text.
 ghost use Rattle.std.specs.Prelude.{ℕ, ◌≡◌, List, [], IfOk, OnErr, max};
-ghost use Rattle.esc_lines.specs.Fed.{IsFed, final_after, left_after};
+ghost use Rattle.esc_lines.specs.Fed.{IsFed, WasFed, final_after, left_after};
 ghost use Rattle.esc_lines.specs.Fed.{added_by as added_by_collapse};
 ghost use Rattle.esc_lines.specs.Windows.{Size, sized};
 ghost use Rattle.memory.specs.Refusals.{Refused};
@@ -31,6 +31,23 @@ impl<F: Feeding<A> + Drop, A: Allocator + Copy> Collapsing<F, A> {
     {
         let collapse = Collapse::new(alloc, rows, columns)?;
         Ok(Collapsing { inner, collapse })
+    }
+
+    /// What this collapse leaves of the lines of this filter; both were fed nothing. Takes no
+    /// memory, so that no filter is lost where there is none for a collapse.
+    pub fn over(inner: F, collapse: Collapse<A>) -> Collapsing<F, A>
+        ensures { (size : Size) (m c : List ℕ → List ℕ) → WasFed size [] collapse
+            → F.gives inner m c [] → m [] ≡ [] → IsFed F.Feeding size m c [] result }
+    {
+        Collapsing { inner, collapse }
+    }
+
+    /// The filter.
+    pub fn into_inner(self) -> F
+        ensures { result ≡ self.inner }
+    {
+        let Collapsing { inner, collapse: _ } = self;
+        inner
     }
 }
 

@@ -4,3 +4,5 @@ mod Seen
 mod Chosen
 mod OfPieces
 mod Failures
+mod Following
+mod Auditing

@@ -69,6 +69,11 @@ abbrev pub closed_by : {A : Type 0} → Guard → Bool → ℕ → (Value A → 
 closed_by {A} u true limit p s = closed_by_lines_as {A = A} u limit p s
 closed_by {A} u false limit p s = closed_text_as {A = A} u (Some limit) p s
 
+-- of a stream that has ended, by the options
+abbrev pub passed_of : (A : Type 0) → Options → List ℕ → List ℕ
+passed_of A o s = closed_by {A = A} o.guard o.by_lines o.limit (admits_choice o.choice)
+    (seen_by A o true s)
+
 -- ---- what is left of the lines of a text
 
 -- so many rows may be written again

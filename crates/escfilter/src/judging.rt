@@ -1,9 +1,7 @@
 //! What becomes of a segment by the program's options.
 ghost use Rattle.std.specs.Prelude.{◌≡◌};
-ghost use Rattle.std.specs.Global.{Global};
-ghost use Rattle.esc_account.specs.Rules.{rule_of};
 ghost use Rattle.escfilter.specs.Fates.{shown_by};
-ghost use Rattle.escfilter.specs.Written.{admits_choice};
+ghost use Rattle.escfilter.specs.Judged.{judged, rule_by};
 
 use crate::named_groups::Choice;
 use crate::options::Options;
@@ -22,7 +20,9 @@ pub struct Judging<'a> {
 
 impl<'a> Judging<'a> {
     /// By these options.
-    pub fn new(alloc: Global, options: Options<'a>) -> Judging<'a> {
+    pub fn new(alloc: Global, options: Options<'a>) -> Judging<'a>
+        ensures { judged result ≡ rule_by options.entry }
+    {
         let Options {
             limit,
             choice,
@@ -43,8 +43,7 @@ impl<'a> Judging<'a> {
 }
 
 impl<'a> Judge<Global> for Judging<'a> {
-    ghost rule = { λ j g finished. shown_by j.shows (rule_of {A = Global} j.policy.by_lines
-        j.policy.guard j.policy.limit (admits_choice j.policy.policy) g finished) };
+    ghost rule = { λ j. judged j };
 
     fn fate(&self, segment: Segment<'_>) -> Result<Fate, AllocError> {
         match self.policy.fate(segment) {

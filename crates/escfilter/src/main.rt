@@ -10,6 +10,7 @@ mod encodings;
 mod events;
 mod failing;
 mod filtering;
+mod hearing;
 mod input;
 mod json;
 mod judging;

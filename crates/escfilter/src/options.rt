@@ -1,4 +1,6 @@
 //! What the program's words ask for.
+ghost use Rattle.std.specs.Prelude.{◌≡◌};
+ghost use Rattle.escfilter.specs.Audits.{has_names, is_audited};
 
 use crate::encodings::{ENCODINGS, order_of, page_of};
 use crate::failing::{FAILING, Failing};
@@ -98,12 +100,16 @@ pub struct Task<'a> {
 
 impl<'a> Options<'a> {
     /// Whether an account of a stream is kept.
-    pub fn is_audited(&self) -> bool {
+    pub fn is_audited(&self) -> bool
+        ensures { result ≡ is_audited self.now }
+    {
         self.has_names() || self.is_list || self.fails.is_some()
     }
 
     /// Whether names are asked for of what did not pass.
-    pub fn has_names(&self) -> bool {
+    pub fn has_names(&self) -> bool
+        ensures { result ≡ has_names self.now }
+    {
         self.report.is_some() || self.has_events
     }
 

@@ -1,5 +1,8 @@
 //! What did not pass of a stream, in lines of text.
 
+ghost use Rattle.std.specs.Prelude.{◌≡◌, ◌↔◌, false};
+ghost use Rattle.escfilter.specs.Fates.{IsComplete};
+
 use crate::name::Name;
 use crate::rows::{Open, Place, Row, Rows};
 use crate::saying::{put, put_number};
@@ -25,7 +28,9 @@ pub fn tell_text<E: Write>(account: Account, rows: &Rows, name: &str, faults: &m
 }
 
 /// Whether some bytes are not in the output, in any spelling.
-pub fn is_less(sums: Sums) -> bool {
+pub fn is_less(sums: Sums) -> bool
+    ensures { result ≡ false ↔ IsComplete sums }
+{
     sums.shown > 0
         || sums.replaced > 0
         || sums.left_out > 0

@@ -1,14 +1,31 @@
-use Rattle.std.proofs.Common.{◌++◌, length, ap, arith, length-append}
+use Rattle.std.proofs.Common.{◌++◌, subst, sym, arith, length-append}
+use Rattle.esc_account.specs.Accounts.{begun}
+use Rattle.esc_account.specs.Finished.{Finishes}
+use Rattle.esc_account.proofs.Entering.{never}
+use Rattle.esc_account.proofs.Finishing.{finishes_more, finishes_room}
 use Rattle.esc_account.proofs.SameBytes.{ok_given}
 use Rattle.esc_account.proofs.ledger.LedgerAudience.hear.Goals as goal
 
+pub returns-then-not-has_room-clause-heard : goal.returns-then-not-has_room-clause-heard
+returns-then-not-has_room-clause-heard g c = λ s t before few.
+    let k = c.args.self.now in
+    let b = c.args.bytes.now in
+    let h = before (omega (arith, few, length-append s b)) in
+    let room = finishes_room (g.J.Judge.rule k.judge) k.account s k.rest.items b h.0 h.1 few in
+    absurd (never c.has_room.result
+    (c.has_room.ensures.1 (omega (arith, room, c.len.ensures))) c.if-not-has_room.true)
+
 pub returns-clause-heard : goal.returns-clause-heard
 returns-clause-heard g c = λ s t before.
-    let joined = length-append s c.args.bytes.now in
-    let kept = ap length c.in_ok-extend.ensures.items in
-    let more = length-append c.args.self.now.rest.items c.args.bytes.now in
+    let k = c.args.self.now in
+    let r = g.J.Judge.rule k.judge in
+    let b = c.args.bytes.now in
     ok_given _ _ c.enter_finished.result
-    (λ small.
-    let h = before (omega (arith, small, joined)) in
-    c.enter_finished.ensures.counted (length (s ++ c.args.bytes.now))
-    (omega (arith, h.0, joined, kept, more), h.1))
+    (λ few.
+    let h = before (omega (arith, few, length-append s b)) in
+    c.enter_finished.ensures.hears (s ++ b) (
+      h.0,
+      subst (λ v. Finishes r begun (s ++ b) v k.account h.0) (sym c.in_ok-extend.ensures.items)
+          (finishes_more r begun k.account s k.rest.items b h.0 h.1),
+      h.2,
+    ))

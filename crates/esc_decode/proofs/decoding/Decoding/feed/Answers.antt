@@ -3,7 +3,7 @@ use Rattle.std.proofs.lemmas.Result.{on_ok_weaker}
 use Rattle.esc_frame.specs.Machine.Prefixes.{prefix_of}
 use Rattle.esc_decode.proofs.Feeding.{feed_longer, feeds}
 use Rattle.esc_decode.specs.Decodings.{decoded, decoded_after}
-use Rattle.esc_decode.proofs.decoding.DecodingFeeding.feed_piece.Goals as goal
+use Rattle.esc_decode.proofs.decoding.Decoding.feed.Goals as goal
 
 pub returns-in_err-begun-clause-longer : goal.returns-in_err-begun-clause-longer
 returns-in_err-begun-clause-longer g c = λ m e s h.

@@ -1,0 +1,209 @@
+-- Segments that are finished are entered, and then what comes after them.
+use Rattle.std.proofs.Common.{ℕ, ◌≡◌, ◌+◌, ◌≤◌, Bool, true, false, if◌then◌else◌, List, [], ◌∷◌, ◌++◌, length, drop, refl, sym, ap, ◌∙◌, subst, append_assoc, append-nil, arith, length-append}
+use Rattle.esc_frame.specs.Leads.{AreFinished}
+use Rattle.esc_frame.specs.Segments.{Segment as Shape, AreSegments, HasShape, IsCut, bytes_of, is_finished, joined}
+use Rattle.esc_segments.specs.declared.item.Segment.{Segment as Item}
+use Rattle.esc_segments.specs.Items.{IsHead, IsItem}
+use Rattle.esc_account.specs.Accounts.{Enters, HasRoom, Rule, begun, run, step, total}
+use Rattle.esc_account.specs.Entries.{Entry, entries, entry_of, is_noted, noted}
+use Rattle.esc_account.specs.Finished.{Finishes, ended, ended_entries}
+use Rattle.esc_account.specs.Ledgers.{IsCounted}
+use Rattle.esc_account.specs.declared.account.Account.{Account}
+use Rattle.esc_account.proofs.Blocks.{are_joined, joined-append, stay_finished}
+use Rattle.esc_account.proofs.Entering.{HasCut}
+use Rattle.esc_account.proofs.LineCounts.{few_feeds}
+use Rattle.esc_account.proofs.Totals.{total_added}
+
+-- ---- one after another
+
+finished_both : (gs hs : List Shape) (t : List ℕ) → AreFinished gs (joined hs ++ t)
+    → AreFinished hs t → AreFinished (gs ++ hs) t
+finished_both [] hs t h k = k
+finished_both (g ∷ gs) hs t (shape, finished, rest) k =
+    let e : joined gs ++ (joined hs ++ t) ≡ joined (gs ++ hs) ++ t =
+    sym (append_assoc (joined gs) (joined hs) t) ∙ ap (λ x. x ++ t) (sym (joined-append gs hs)) in (
+      subst (HasShape g) e shape,
+      subst (λ x. is_finished g x ≡ true) e finished,
+      finished_both gs hs t rest k,
+    )
+
+ended_both : (r : Rule) (x : Account) (gs hs : List Shape)
+    → ended r x (gs ++ hs) ≡ ended r (ended r x gs) hs
+ended_both r x [] hs = refl
+ended_both r x (g ∷ gs) hs = ended_both r (step r x g true) gs hs
+
+made_both : (r : Rule) (x : Account) (gs hs : List Shape)
+    → ended_entries r x (gs ++ hs) ≡ ended_entries r x gs ++ ended_entries r (ended r x gs) hs
+made_both r x [] hs = refl
+made_both r x (g ∷ gs) hs =
+    ap (λ es. entry_of r x g true ∷ es) (made_both r (step r x g true) gs hs)
+
+pub noted-append : (es fs : List Entry) → noted (es ++ fs) ≡ noted es ++ noted fs
+noted-append [] fs = refl
+noted-append (e ∷ es) fs = by (is_noted e) (noted-append es fs)
+  where
+    by : (b : Bool) → noted (es ++ fs) ≡ noted es ++ noted fs
+        → (if b then e ∷ noted (es ++ fs) else noted (es ++ fs))
+        ≡ (if b then e ∷ noted es else noted es) ++ noted fs
+    by true h = ap (λ ks. e ∷ ks) h
+    by false h = h
+
+pub finishes_both : (r : Rule) (x y z : Account) (s t u : List ℕ) (es fs : List Entry)
+    → Finishes r x s t y es → Finishes r y t u z fs → Finishes r x s u z (es ++ fs)
+finishes_both r x y z s t u es fs h k =
+    let gs = h.shapes in
+    let hs = k.shapes in record {
+      shapes = gs ++ hs;
+      whole = h.whole ∙ ap (λ v. joined gs ++ v) k.whole
+          ∙ sym (append_assoc (joined gs) (joined hs) u)
+          ∙ ap (λ v. v ++ u) (sym (joined-append gs hs));
+      finished = finished_both gs hs u (subst (AreFinished gs) k.whole h.finished) k.finished;
+      account = k.account ∙ ap (λ v. ended r v hs) h.account ∙ sym (ended_both r x gs hs);
+      made = ap (λ v. v ++ fs) h.made
+          ∙ ap (λ v. noted (ended_entries r x gs) ++ v)
+          (k.made ∙ ap (λ v. noted (ended_entries r v hs)) h.account)
+          ∙ sym (noted-append (ended_entries r x gs) (ended_entries r (ended r x gs) hs))
+          ∙ ap noted (sym (made_both r x gs hs));
+    }
+
+pub finishes_none : (r : Rule) (x : Account) (s : List ℕ) → Finishes r x s s x []
+finishes_none r x s = record {
+  shapes = [];
+  whole = refl;
+  finished = tt;
+  account = refl;
+  made = refl;
+}
+
+-- one segment that is finished
+pub finishes_one : (r : Rule) (x y : Account) (g : Shape) (t : List ℕ) (es : List Entry)
+    → HasShape g t → is_finished g t ≡ true → y ≡ step r x g true
+    → es ≡ noted (entry_of r x g true ∷ []) → Finishes r x (bytes_of g ++ t) t y es
+finishes_one r x y g t es shape finished e f = record {
+  shapes = g ∷ [];
+  whole = ap (λ v. v ++ t) (sym (append-nil (bytes_of g)));
+  finished = (shape, finished, tt);
+  account = e;
+  made = f;
+}
+
+first_shape : (g : Shape) (gs : List Shape) → AreSegments (g ∷ gs) → HasShape g (joined gs)
+first_shape g [] each = each
+first_shape g (h ∷ gs) each = each.0
+
+-- that of the bytes which an iterator gives
+pub finishes_item : HasCut → (r : Rule) (x y : Account) (s t : List ℕ) (item : Item)
+    → ((gs : List Shape) → IsCut s gs → IsHead s gs item t) → item.finished ≡ true
+    → Enters r x item y → (Q : List Entry → Type 0) (ks : List Entry)
+    → ((g : Shape) (gs : List Shape) → AreSegments (g ∷ gs) → IsItem item g (joined gs)
+    → Q (ks ++ noted (entry_of r x g (is_finished g (joined gs)) ∷ [])))
+    → (fs : List Entry) × Finishes r x s t y fs × Q (ks ++ fs)
+finishes_item has r x y s t item gives finished enters Q ks given =
+    let c = has s in
+    let h = gives c.0 c.1 in
+    let each : AreSegments (h.head ∷ h.others) = subst AreSegments h.first c.1.each in
+    let is : IsItem item h.head (joined h.others) =
+    subst (IsItem item h.head) h.rest.whole h.item in
+    let fin : is_finished h.head (joined h.others) ≡ true = sym is.finished ∙ finished in
+    let fs = noted (entry_of r x h.head true ∷ []) in
+    let one : Finishes r x (bytes_of h.head ++ t) t y fs =
+    finishes_one r x y h.head t fs
+    (subst (HasShape h.head) (sym h.rest.whole) (first_shape h.head h.others each))
+    (sym h.item.finished ∙ finished)
+    (enters h.head h.others each is ∙ ap (step r x h.head) fin) refl in (
+      fs,
+      subst (λ v. Finishes r x v t y fs) (ap (λ v. v ++ t) (sym h.item.bytes) ∙ sym h.place) one,
+      subst (λ b. Q (ks ++ noted (entry_of r x h.head b ∷ []))) fin
+          (given h.head h.others each is),
+    )
+
+-- more follows
+pub finishes_more : (r : Rule) (x y : Account) (s t b : List ℕ) (es : List Entry)
+    → Finishes r x s t y es → Finishes r x (s ++ b) (t ++ b) y es
+finishes_more r x y s t b es h = record {
+  shapes = h.shapes;
+  whole = ap (λ v. v ++ b) h.whole ∙ append_assoc (joined h.shapes) t b;
+  finished = stay_finished h.shapes t b h.finished;
+  account = h.account;
+  made = h.made;
+}
+
+-- ---- the end
+
+run_ended : (r : Rule) (x : Account) (gs hs : List Shape) → AreFinished gs (joined hs)
+    → run r x (gs ++ hs) ≡ run r (ended r x gs) hs
+run_ended r x [] hs f = refl
+run_ended r x (g ∷ gs) hs (shape, finished, rest) =
+    ap (λ b. run r (step r x g b) (gs ++ hs)) (ap (is_finished g) (joined-append gs hs) ∙ finished)
+    ∙ run_ended r (step r x g true) gs hs rest
+
+entries_ended : (r : Rule) (x : Account) (gs hs : List Shape) → AreFinished gs (joined hs)
+    → entries r x (gs ++ hs) ≡ ended_entries r x gs ++ entries r (ended r x gs) hs
+entries_ended r x [] hs f = refl
+entries_ended r x (g ∷ gs) hs (shape, finished, rest) =
+    ap (λ b. entry_of r x g b ∷ entries r (step r x g b) (gs ++ hs))
+    (ap (is_finished g) (joined-append gs hs) ∙ finished)
+    ∙ ap (λ es. entry_of r x g true ∷ es) (entries_ended r (step r x g true) gs hs rest)
+
+-- the account of all, where the rest is entered too
+pub finishes_all : (r : Rule) (x y z : Account) (s t : List ℕ) (es : List Entry)
+    → (h : Finishes r x s t y es) (hs : List Shape) → IsCut t hs → z ≡ run r y hs
+    → (gs : List Shape) × IsCut s gs × (z ≡ run r x gs)
+    × (es ++ noted (entries r y hs) ≡ noted (entries r x gs))
+finishes_all r x y z s t es h hs cut e =
+    let gs = h.shapes in
+    let f : AreFinished gs (joined hs) = subst (AreFinished gs) cut.whole h.finished in (
+      gs ++ hs,
+      record {
+        whole = h.whole ∙ ap (λ v. joined gs ++ v) cut.whole ∙ sym (joined-append gs hs);
+        each = are_joined gs hs f cut.each;
+      },
+      e ∙ ap (λ v. run r v hs) h.account ∙ sym (run_ended r x gs hs f),
+      ap (λ v. v ++ noted (entries r y hs)) h.made
+          ∙ ap (λ v. noted (ended_entries r x gs) ++ noted (entries r v hs)) h.account
+          ∙ sym (noted-append (ended_entries r x gs) (entries r (ended r x gs) hs))
+          ∙ ap noted (sym (entries_ended r x gs hs f)),
+    )
+
+-- ---- how many bytes
+
+counts_ended : (r : Rule) (x : Account) (gs : List Shape)
+    → (total (ended r x gs).sums ≡ total x.sums + length (joined gs))
+    × ((ended r x gs).lines ≤ x.lines + length (joined gs))
+counts_ended r x [] = (omega arith, omega arith)
+counts_ended r x (g ∷ gs) =
+    let y = step r x g true in
+    let i = counts_ended r y gs in
+    let a : total y.sums ≡ total x.sums + length (bytes_of g) =
+    total_added _ (length (bytes_of g)) x.sums in
+    let n = length-append (bytes_of g) (joined gs) in (
+      omega (arith, i.0, a, n),
+      omega (arith, i.1, few_feeds (bytes_of g), n),
+    )
+
+-- there is room for more
+pub finishes_room : (r : Rule) (y : Account) (s t b : List ℕ) (es : List Entry)
+    → Finishes r begun s t y es → IsCounted (s ++ b) → HasRoom y (length t + length b)
+finishes_room r y s t b es h few =
+    let c = counts_ended r begun h.shapes in
+    omega (
+      arith,
+      few,
+      c.0,
+      c.1,
+      ap (λ v. total v.sums) h.account,
+      ap (λ v. v.lines) h.account,
+      ap length h.whole,
+      length-append s b,
+      length-append (joined h.shapes) t,
+    )
+
+-- what comes first, dropped
+drop_joined : (x t : List ℕ) → drop (length x) (x ++ t) ≡ t
+drop_joined [] t = refl
+drop_joined (b ∷ x) t = drop_joined x t
+
+pub dropped : (s x t : List ℕ) (n : ℕ) → s ≡ x ++ t → n + length t ≡ length s → drop n s ≡ t
+dropped s x t n e f =
+    let k : n ≡ length x = omega (arith, f, ap length e, length-append x t) in
+    ap (λ m. drop m s) k ∙ ap (drop (length x)) e ∙ drop_joined x t

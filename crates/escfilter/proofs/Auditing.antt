@@ -1,0 +1,68 @@
+-- What an auditor tells of a stream that has ended.
+use Rattle.std.proofs.Common.{ℕ, ◌≡◌, Bool, true, false, if◌then◌else◌, List, length, sym, ap, ◌∙◌, subst}
+use Rattle.std.specs.Global.{Global}
+use Rattle.esc_account.specs.Accounts.{Rule, total}
+use Rattle.esc_account.specs.Ledgers.{IsCounted}
+use Rattle.esc_account.specs.Judges.{GoesBy}
+use Rattle.esc_account.specs.Rules.{rule_of}
+use Rattle.esc_account.specs.Ways.{IsToldBy, Way, by_lines, silent, whole}
+use Rattle.esc_account.specs.declared.policy_judge.PolicyJudge.{PolicyJudge}
+use Rattle.escfilter.specs.Audits.{HeardAll, Told, account_of, is_audited, way_by, way_of}
+use Rattle.escfilter.specs.Fates.{shown_by}
+use Rattle.escfilter.specs.Judged.{judged, rule_by}
+use Rattle.escfilter.specs.Written.{admits_choice}
+use Rattle.escfilter.specs.declared.named_groups.Choice.{Choice}
+use Rattle.escfilter.specs.declared.options.Options.{Options}
+use Rattle.escfilter.specs.declared.auditor.Auditor.{Auditor}
+use Rattle.escfilter.specs.declared.auditor.Auditor.TheVariants as auditors
+
+pub told : (a : Auditor) (w : Way) (s t : List ℕ) → IsCounted s → HeardAll a s t → way_of a ≡ w
+    → Told w s t (account_of a)
+told auditors.Nobody w s t few heard e = sym e
+told (auditors.Lines k) w s t few heard e =
+    let h = heard few in
+    subst (λ v. (total k.account.sums ≡ length s) × IsToldBy v s t k.account) e
+    (h.0, (h.1.0, h.1.1))
+told (auditors.Whole k) w s t few heard e =
+    let h = heard few in
+    subst (λ v. (total k.account.sums ≡ length s) × IsToldBy v s t k.account) e
+    (h.0, (h.1.0, h.1.1, h.1.2))
+
+-- ---- what the options say
+
+pub judged_is : (p : PolicyJudge Choice Global) (shows : Bool) (o : Options)
+    → GoesBy p o.by_lines o.guard o.limit o.choice → shows ≡ o.shows
+    → judged (record { policy = p; shows = shows }) ≡ rule_by o
+judged_is p shows o (l, u, n, q) e =
+    ap (λ b. judged (record { policy = p; shows = b })) e
+    ∙ ap (λ b. λ g f. shown_by o.shows (rule_of {A = Global} b p.guard p.limit
+    (admits_choice p.policy) g f)) l
+    ∙ ap (λ v. λ g f. shown_by o.shows (rule_of {A = Global} o.by_lines v p.limit
+    (admits_choice p.policy) g f)) u
+    ∙ ap (λ k. λ g f. shown_by o.shows (rule_of {A = Global} o.by_lines o.guard k
+    (admits_choice p.policy) g f)) n
+    ∙ ap (λ c. λ g f. shown_by o.shows (rule_of {A = Global} o.by_lines o.guard o.limit
+    (admits_choice c) g f)) q
+
+pub way_none : (o : Options) (b : Bool) → b ≡ is_audited o → b ≡ false → silent ≡ way_by o
+way_none o b is e =
+    ap (λ t. if t then (if o.by_lines then by_lines (rule_by o) else whole (rule_by o))
+    else silent) (sym (sym is ∙ e))
+
+some_way : (o : Options) (b : Bool) → b ≡ is_audited o → b ≡ true
+    → (if o.by_lines then by_lines (rule_by o) else whole (rule_by o)) ≡ way_by o
+some_way o b is e =
+    ap (λ t. if t then (if o.by_lines then by_lines (rule_by o) else whole (rule_by o))
+    else silent) (sym (sym is ∙ e))
+
+pub way_lines : (o : Options) (b : Bool) (r : Rule) → b ≡ is_audited o → b ≡ true
+    → o.by_lines ≡ true → r ≡ rule_by o → by_lines r ≡ way_by o
+way_lines o b r is e l same =
+    ap by_lines same
+    ∙ ap (λ t. if t then by_lines (rule_by o) else whole (rule_by o)) (sym l) ∙ some_way o b is e
+
+pub way_whole : (o : Options) (b : Bool) (r : Rule) → b ≡ is_audited o → b ≡ true
+    → o.by_lines ≡ false → r ≡ rule_by o → whole r ≡ way_by o
+way_whole o b r is e l same =
+    ap whole same
+    ∙ ap (λ t. if t then by_lines (rule_by o) else whole (rule_by o)) (sym l) ∙ some_way o b is e
