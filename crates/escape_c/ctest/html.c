@@ -82,7 +82,7 @@ static void check_states(void) {
         wants(escape_stream_html_begin(&page, false, false, LIMIT) == ESCAPE_STREAM_DONE, "begun again", "", 0);
         wants(escape_stream_html_text(&page, 0, out, 8) == 0, "a text before the first piece", "", 0);
         wants(escape_stream_html_feed(&page, bytes, 5) == ESCAPE_STREAM_DONE, "fed", "", 0);
-        wants(escape_stream_html_text(&page, 0, out, sizeof out) == 20 && memcmp(out, "<span class=\"es-bold\">a", 20) == 0, "its text", "", 0);
+        wants(escape_stream_html_text(&page, 0, out, sizeof out) == 23 && memcmp(out, "<span class=\"es-bold\">a", 23) == 0, "its text", "", 0);
     }
     wants(escape_stream_html_finish(&page) == ESCAPE_STREAM_DONE, "ended", "", 0);
     wants(escape_stream_html_text(&page, 0, out, sizeof out) == 7 && memcmp(out, "</span>", 7) == 0, "what closes it", "", 0);
