@@ -23,7 +23,7 @@ const POLICIES: [Policy; 4] = [Policy::Text, Policy::Color, Policy::Screen, Poli
 // What can be written of characters that deceive, and the words before what is.
 const CHARACTERS: [(Unicode, &str); 2] = [(Unicode::Show, "shown"), (Unicode::Drop, "dropped")];
 
-// What can be written by lines of carriage returns within one, and the words before what is.
+// How carriage returns within a line may be written, and the word for each way.
 const RETURNS: [(Returns, &str); 3] = [
     (Returns::Keep, "lines-kept"),
     (Returns::Show, "lines-shown"),
@@ -125,7 +125,7 @@ fn written_as<R: Read + Drop>(
     written_by(alloc, reader, filter)
 }
 
-// What is written of all actions by lines, of which this is written of carriage returns.
+// Writes all actions by lines, and carriage returns within a line in this way.
 fn lines_as<R: Read + Drop>(
     alloc: Global,
     reader: R,
