@@ -1,0 +1,5 @@
+use Rattle.esc_screen.proofs.StaysSound.{stays_sound}
+use Rattle.esc_screen.proofs.laws.stays_sound.Goals as goal
+
+pub returns : goal.returns
+returns c = stays_sound

@@ -1,0 +1,10 @@
+use Rattle.std.proofs.Common.{◌≡◌}
+use Rattle.esc_screen.specs.Cursors.{stop_before}
+use Rattle.esc_screen.proofs.tabs.last_stop.Given as goal
+
+-- what is left decides
+abbrev pub invariant-loop-at : goal.invariant-loop-at
+invariant-loop-at l = stop_before l.tabs l.at ≡ stop_before l.tabs l.fn.before
+
+abbrev pub decreases-loop-at : goal.decreases-loop-at
+decreases-loop-at l = l.at

@@ -1,0 +1,130 @@
+-- Rows of cells.
+use Rattle.std.specs.Prelude.{ℕ, zero, suc, ◌+◌, ◌-◌, max, Bool, true, false, if◌then◌else◌, List, [], ◌∷◌, length, replicate, set, get_or, Option, Some, None}
+use Rattle.esc_screen.specs.Lists.{in_part, moved_up, moved_down}
+use Rattle.esc_screen.specs.declared.cell.Cell.{Cell}
+use Rattle.esc_screen.specs.declared.content.Content.{Content}
+use Rattle.esc_screen.specs.declared.content.Content.TheVariants as content
+use Rattle.esc_screen.specs.declared.marks.Marks.{Marks}
+
+-- ---- marks
+
+abbrev pub no_marks : Marks
+no_marks = record {
+  first = None;
+  second = None;
+  others = false;
+}
+
+-- two are kept
+abbrev pub more_marks : ℕ → Marks → Marks
+more_marks c m = by_first m.first
+  where
+    by_second : Option ℕ → Marks
+    by_second None = record m { second = Some c }
+    by_second (Some d) = record m { others = true }
+
+    by_first : Option ℕ → Marks
+    by_first None = record m { first = Some c }
+    by_first (Some d) = by_second m.second
+
+-- ---- cells
+
+abbrev pub cell : Content → ℕ → Cell
+cell c l = record {
+  content = c;
+  look = l;
+}
+
+-- a blank one that looks so
+abbrev pub blank : ℕ → Cell
+blank l = cell content.Blank l
+
+-- a character of one column that looks so
+abbrev pub drawn : ℕ → ℕ → Cell
+drawn l c = cell (content.Narrow c no_marks) l
+
+abbrev pub is_rest_content : Content → Bool
+is_rest_content content.Rest = true
+is_rest_content _ = false
+
+abbrev pub is_rest : Cell → Bool
+is_rest c = is_rest_content c.content
+
+-- with one mark more on its character
+abbrev pub marked_content : ℕ → Content → Content
+marked_content c (content.Narrow d m) = content.Narrow d (more_marks c m)
+marked_content c (content.Wide d m) = content.Wide d (more_marks c m)
+marked_content c x = x
+
+abbrev pub marked_cell : ℕ → Cell → Cell
+marked_cell c x = record x { content = marked_content c x.content }
+
+-- ---- rows
+
+-- a row of so many blank cells
+abbrev pub blank_row : ℕ → ℕ → List Cell
+blank_row l n = replicate n (blank l)
+
+-- cells of which each is this
+abbrev pub filled : Cell → List Cell → List Cell
+filled x xs = replicate (length xs) x
+
+-- cells of which none has a character any more
+abbrev pub cleared : ℕ → List Cell → List Cell
+cleared l xs = filled (blank l) xs
+
+-- the cell at a column has no character any more
+abbrev pub emptied : ℕ → List Cell → List Cell
+emptied n xs = set xs n (blank (get_or xs n (blank 0)).look)
+
+-- a row where no character stands on both sides of the left edge of a column: one that did is gone
+abbrev pub cut : ℕ → List Cell → List Cell
+cut n xs = if is_rest (get_or xs n (blank 0)) then emptied n (emptied (n - 1) xs) else xs
+
+-- with a character of one column at a column
+abbrev pub put : ℕ → ℕ → ℕ → List Cell → List Cell
+put n l c xs = set (cut (n + 1) (cut n xs)) n (drawn l c)
+
+-- with characters of one column each, one after another
+abbrev pub put_all : ℕ → ℕ → List ℕ → List Cell → List Cell
+put_all n l [] xs = xs
+put_all n l (c ∷ cs) xs = put_all (n + 1) l cs (put n l c xs)
+
+-- none of the first so many cells, nor the next one, is the second half of a wide one
+abbrev pub is_free : ℕ → List Cell → Bool
+is_free n [] = true
+is_free zero (x ∷ xs) = if is_rest x then false else true
+is_free (suc n) (x ∷ xs) = if is_rest x then false else is_free n xs
+
+-- with one of two columns
+abbrev pub put_wide : ℕ → ℕ → ℕ → List Cell → List Cell
+put_wide n l c xs = set (set (cut (n + 2) (cut n xs)) n (cell (content.Wide c no_marks) l))
+    (n + 1) (cell content.Rest l)
+
+-- the column of the character of which a column is part
+abbrev pub start_of : ℕ → List Cell → ℕ
+start_of n xs = if is_rest (get_or xs n (blank 0)) then n - 1 else n
+
+-- with a mark on the cell at a column
+abbrev pub mark_at : ℕ → ℕ → List Cell → List Cell
+mark_at n c xs = set xs n (marked_cell c (get_or xs n (blank 0)))
+
+-- with a mark on the character of which a column is part
+abbrev pub marked : ℕ → ℕ → List Cell → List Cell
+marked n c xs = mark_at (start_of n xs) c xs
+
+-- what stands there
+abbrev pub content_at : ℕ → List Cell → Content
+content_at n xs = (get_or xs (start_of n xs) (blank 0)).content
+
+-- with blank cells from one column to before another
+abbrev pub erased : ℕ → ℕ → ℕ → List Cell → List Cell
+erased l m n xs = in_part m n (cleared l) (cut n (cut m xs))
+
+-- so many cells from one column on, and before another, are gone, and blank ones come at the end
+abbrev pub deleted : ℕ → ℕ → ℕ → ℕ → List Cell → List Cell
+deleted l k m n xs = in_part m n (moved_up k (cleared l)) (cut (m + k) (cut m xs))
+
+-- so many blank cells come in at one column, and those that would be past another are gone
+abbrev pub inserted : ℕ → ℕ → ℕ → ℕ → List Cell → List Cell
+inserted l k m n xs = in_part m n (moved_down k (cleared l)) (cut (max m (n - k)) (cut m xs))

@@ -1,0 +1,58 @@
+-- What changes cells, other than printing.
+use Rattle.std.specs.Prelude.{ℕ, ◌+◌, nat_lt, Bool, false, if◌then◌else◌, map}
+use Rattle.esc_screen.specs.Cells.{deleted, drawn, erased, filled, inserted}
+use Rattle.esc_screen.specs.Grids.{Grid, Size, in_row, line_fed, line_fed_back, moved, next_line, rows_down, rows_erased, rows_up, settled, with_margins, with_rows}
+use Rattle.esc_screen.specs.declared.change.Change.{Change}
+use Rattle.esc_screen.specs.declared.change.Change.TheVariants as change
+
+-- changes of the row of the cursor: no wrap is pending after them
+abbrev pub cells_erased : ℕ → ℕ → Grid → Grid
+cells_erased m n g = in_row (erased g.cursor.erased m n) (settled g)
+
+abbrev pub cells_deleted : Size → ℕ → Grid → Grid
+cells_deleted s n g = in_row (deleted g.cursor.erased n g.cursor.column s.columns) (settled g)
+
+abbrev pub cells_inserted : Size → ℕ → Grid → Grid
+cells_inserted s n g = in_row (inserted g.cursor.erased n g.cursor.column s.columns) (settled g)
+
+-- whether the cursor is within the margins
+abbrev pub is_within : Grid → Bool
+is_within g = if nat_lt g.cursor.row g.top then false else nat_lt g.cursor.row g.bottom
+
+-- rows from that of the cursor on move within the margins, where it is within them
+abbrev pub rows_deleted : ℕ → Grid → Grid
+rows_deleted n g = if is_within g
+    then rows_up n g.cursor.row g.bottom (moved g.cursor.row 0 g)
+    else g
+
+abbrev pub rows_inserted : ℕ → Grid → Grid
+rows_inserted n g = if is_within g
+    then rows_down n g.cursor.row g.bottom (moved g.cursor.row 0 g)
+    else g
+
+-- a picture of the letter E
+abbrev pub aligned : Size → Grid → Grid
+aligned s g = moved 0 0 (with_margins 0 s.rows (with_rows (map (filled (drawn 0 0x45)) g.rows) g))
+
+abbrev pub grid_by_change : Size → Grid → Change → Grid
+grid_by_change s g change.Index = line_fed s g
+grid_by_change s g change.ReverseIndex = line_fed_back g
+grid_by_change s g change.LineFeed = if g.modes.new_line then next_line s g else line_fed s g
+grid_by_change s g change.NextLine = next_line s g
+grid_by_change s g change.EraseRight = cells_erased g.cursor.column s.columns g
+grid_by_change s g change.EraseLeft = cells_erased 0 (g.cursor.column + 1) g
+grid_by_change s g change.EraseRow = rows_erased g.cursor.row (g.cursor.row + 1) (settled g)
+grid_by_change s g change.EraseBelow =
+    rows_erased (g.cursor.row + 1) s.rows (cells_erased g.cursor.column s.columns g)
+grid_by_change s g change.EraseAbove =
+    rows_erased 0 g.cursor.row (cells_erased 0 (g.cursor.column + 1) g)
+grid_by_change s g change.EraseAll = rows_erased 0 s.rows (settled g)
+grid_by_change s g (change.EraseCells n) =
+    cells_erased g.cursor.column (g.cursor.column + n) g
+grid_by_change s g (change.InsertCells n) = cells_inserted s n g
+grid_by_change s g (change.DeleteCells n) = cells_deleted s n g
+grid_by_change s g (change.InsertRows n) = rows_inserted n g
+grid_by_change s g (change.DeleteRows n) = rows_deleted n g
+grid_by_change s g (change.ScrollUp n) = rows_up n g.top g.bottom g
+grid_by_change s g (change.ScrollDown n) = rows_down n g.top g.bottom g
+grid_by_change s g change.Align = aligned s g

@@ -1,0 +1,12 @@
+pub mod Lists
+pub mod Cells
+pub mod Cursors
+pub mod Grids
+pub mod Printing
+pub mod Motions
+pub mod Changes
+pub mod Settings
+pub mod Steps
+pub mod Screens
+pub mod Paints
+pub mod Sound

@@ -1,0 +1,44 @@
+//! Changes of cells.
+
+/// A change of the cells of a screen, other than by printing. No wrap is pending after one that
+/// erases, inserts or deletes cells, nor after a line feed.
+#[derive(Clone, Copy)]
+pub enum Change {
+    /// A row down; at the bottom margin the rows within the margins move up: IND.
+    Index,
+    /// A row up; at the top margin the rows within the margins move down: RI.
+    ReverseIndex,
+    /// As [`Change::Index`], and to the first column where [`Mode::NewLine`](crate::Mode::NewLine)
+    /// is set: LF, VT, FF.
+    LineFeed,
+    /// As [`Change::Index`], and to the first column: NEL.
+    NextLine,
+    /// The cell at the cursor and all after it in the row become blank: EL 0.
+    EraseRight,
+    /// The cell at the cursor and all before it in the row become blank: EL 1.
+    EraseLeft,
+    /// The row becomes blank: EL 2.
+    EraseRow,
+    /// The cell at the cursor, all after it and all rows below become blank: ED 0.
+    EraseBelow,
+    /// The cell at the cursor, all before it and all rows above become blank: ED 1.
+    EraseAbove,
+    /// All cells become blank: ED 2.
+    EraseAll,
+    /// So many cells from the cursor on become blank: ECH.
+    EraseCells(u16),
+    /// So many blank cells are put in at the cursor, and the last ones go: ICH.
+    InsertCells(u16),
+    /// So many cells from the cursor on go, and blank ones come at the end: DCH.
+    DeleteCells(u16),
+    /// So many blank rows are put in at the cursor, within the margins: IL.
+    InsertRows(u16),
+    /// So many rows from the cursor on go, within the margins: DL.
+    DeleteRows(u16),
+    /// The rows within the margins move up by so many: SU.
+    ScrollUp(u16),
+    /// The rows within the margins move down by so many: SD.
+    ScrollDown(u16),
+    /// An `E` in every cell, no margins, and the cursor at home: DECALN.
+    Align,
+}

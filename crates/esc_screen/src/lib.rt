@@ -1,0 +1,45 @@
+//! A terminal's screen: rows of cells, a cursor, and what each control function does to them, in
+//! the terms of ECMA-48, of DEC's manual of the VT510 and of xterm's "Control Sequences".
+//!
+//! A [`Screen`] takes [`Step`]s. It asks for memory once, when it is made: no step does, so none of
+//! them has an error. A row has as many [`Cell`]s as the screen has columns. A character takes one
+//! cell or two, and how it looks is a number, which the caller chooses.
+//!
+//! ```text
+//! let mut screen = Screen::new(alloc, 24, 80)?;
+//! screen.print_run(b"50%");
+//! screen.take(Step::Move(Motion::RowStart));
+//! screen.print_run(b"done");
+//! screen.row(0)       // the cells of "done" and 76 blank ones
+//! ```
+#![tactic(auto)]
+
+pub mod cell;
+mod cells;
+pub mod change;
+pub mod content;
+pub mod cursor;
+mod drawing;
+pub mod laws;
+pub mod marks;
+pub mod mode;
+pub mod modes;
+pub mod motion;
+mod row;
+mod rows;
+pub mod screen;
+pub mod setting;
+pub mod step;
+mod tabs;
+
+pub use cell::Cell;
+pub use change::Change;
+pub use content::Content;
+pub use cursor::Cursor;
+pub use marks::Marks;
+pub use mode::Mode;
+pub use modes::Modes;
+pub use motion::Motion;
+pub use screen::Screen;
+pub use setting::Setting;
+pub use step::Step;

@@ -1,0 +1,111 @@
+//! A row of cells.
+ghost use Rattle.std.specs.Prelude.{◌≡◌, ◌+◌, ◌<◌, ◌^◌, IfOk, length};
+ghost use Rattle.esc_screen.specs.Cells.{blank_row, content_at, deleted, erased, filled, inserted, marked, put, put_all, put_wide};
+
+use crate::cell::Cell;
+use crate::cells;
+use crate::content::Content;
+use std::alloc::{AllocError, Allocator, Global};
+use std::marker::Model;
+
+/// A row of cells. Contracts see these.
+#[derive(Drop)]
+pub(crate) struct Row<A: Allocator = Global> {
+    cells: Vec<Cell, A>,
+}
+
+impl<A: Allocator> Model for Row<A> {
+    ghost use Rattle.esc_screen.specs.declared.cell.Cell.{Cell as TheCell};
+    ghost use Rattle.std.specs.Prelude.{List};
+
+    ghost Value = { List TheCell };
+
+    ghost view = { λ r. r.cells.items };
+}
+
+impl<A: Allocator> Row<A> {
+    /// A blank row.
+    pub fn new(alloc: A, columns: usize) -> Result<Row<A>, AllocError>
+        ensures { IfOk result (λ r. r ≡ blank_row 0 columns) }
+    {
+        let mut cells = Vec::new(alloc);
+        for _ in 0..columns {
+            cells.push(Cell::blank(0))?;
+        }
+        Ok(Row { cells })
+    }
+
+    /// Its cells.
+    pub fn cells(&self) -> &[Cell]
+        ensures { result.now ≡ self.now }
+    {
+        &self.cells
+    }
+
+    /// Puts a character of one column.
+    pub fn put_narrow(&mut self, at: usize, c: char, look: u16)
+        requires { at + 1 < 2 ^ 64 }
+        ensures { self.new ≡ put at look c self.old }
+    {
+        cells::put_narrow(&mut self.cells, at, c, look);
+    }
+
+    /// Puts characters of ASCII, one byte each, one after another.
+    pub fn put_text(&mut self, at: usize, text: &[u8], look: u16)
+        requires { at + length text.now < 2 ^ 63 }
+        ensures { self.new ≡ put_all at look text.now self.old }
+    {
+        cells::put_text(&mut self.cells, at, text, look);
+    }
+
+    /// Puts a character of two columns.
+    pub fn put_both(&mut self, at: usize, c: char, look: u16)
+        requires { at + 2 < 2 ^ 64 }
+        ensures { self.new ≡ put_wide at look c self.old }
+    {
+        cells::put_both(&mut self.cells, at, c, look);
+    }
+
+    /// Puts a mark on the character of which a column is part.
+    pub fn mark(&mut self, at: usize, mark: char)
+        ensures { self.new ≡ marked at mark self.old }
+    {
+        cells::mark(&mut self.cells, at, mark);
+    }
+
+    /// What stands in a column.
+    pub fn content_at(&self, at: usize) -> Content
+        ensures { result ≡ content_at at self.now }
+    {
+        cells::content_at(&self.cells, at)
+    }
+
+    /// Erases the cells from one column to before another.
+    pub fn erase(&mut self, from: usize, to: usize, look: u16)
+        ensures { self.new ≡ erased look from to self.old }
+    {
+        cells::erase(&mut self.cells, from, to, look);
+    }
+
+    /// Takes out so many cells from one column on, and before another.
+    pub fn delete(&mut self, count: usize, from: usize, to: usize, look: u16)
+        requires { from + count < 2 ^ 64 }
+        ensures { self.new ≡ deleted look count from to self.old }
+    {
+        cells::delete(&mut self.cells, count, from, to, look);
+    }
+
+    /// Puts in so many blank cells at one column: those that would be past another are gone.
+    pub fn insert(&mut self, count: usize, from: usize, to: usize, look: u16)
+        ensures { self.new ≡ inserted look count from to self.old }
+    {
+        cells::insert(&mut self.cells, count, from, to, look);
+    }
+
+    /// Makes all cells this one.
+    pub fn fill(&mut self, cell: Cell)
+        ensures { self.new ≡ filled cell self.old }
+    {
+        cells::fill(&mut self.cells, cell);
+    }
+}

@@ -1,0 +1,91 @@
+//! The rows of a screen.
+ghost use Rattle.std.specs.Prelude.{◌≡◌, map};
+ghost use Rattle.esc_screen.specs.Cells.{cleared, filled};
+ghost use Rattle.esc_screen.specs.Lists.{in_part, moved_down, moved_up};
+
+use crate::cell::Cell;
+use crate::row::Row;
+use std::alloc::Allocator;
+
+/// Makes all cells of rows this one.
+pub(crate) fn fill<A: Allocator>(rows: &mut [Row<A>], cell: Cell)
+    ensures { rows.new ≡ map (filled cell) rows.old }
+{
+    for i in 0..rows.len() {
+        rows[i].fill(cell);
+    }
+}
+
+// Takes the characters out of all cells of rows.
+fn clear<A: Allocator>(rows: &mut [Row<A>], look: u16)
+    ensures { rows.new ≡ map (cleared look) rows.old }
+{
+    fill(rows, Cell::blank(look));
+}
+
+// Moves rows up by so many: the last ones are blank then.
+fn move_up<A: Allocator>(rows: &mut [Row<A>], count: usize, look: u16)
+    ensures { rows.new ≡ moved_up count (map (cleared look)) rows.old }
+{
+    let len = rows.len();
+    if count < len {
+        rows.rotate_left(count);
+        clear(&mut rows[len - count..], look);
+    } else {
+        clear(rows, look);
+    }
+}
+
+// Moves rows down by so many: the first ones are blank then.
+fn move_down<A: Allocator>(rows: &mut [Row<A>], count: usize, look: u16)
+    ensures { rows.new ≡ moved_down count (map (cleared look)) rows.old }
+{
+    if count < rows.len() {
+        rows.rotate_right(count);
+        clear(&mut rows[..count], look);
+    } else {
+        clear(rows, look);
+    }
+}
+
+/// Moves the rows from one to before another up.
+pub(crate) fn part_up<A: Allocator>(
+    rows: &mut [Row<A>],
+    count: usize,
+    from: usize,
+    to: usize,
+    look: u16,
+)
+    ensures { rows.new ≡ in_part from to (moved_up count (map (cleared look))) rows.old }
+{
+    let end = to.min(rows.len());
+    if from < end {
+        move_up(&mut rows[from..end], count, look);
+    }
+}
+
+/// Moves the rows from one to before another down.
+pub(crate) fn part_down<A: Allocator>(
+    rows: &mut [Row<A>],
+    count: usize,
+    from: usize,
+    to: usize,
+    look: u16,
+)
+    ensures { rows.new ≡ in_part from to (moved_down count (map (cleared look))) rows.old }
+{
+    let end = to.min(rows.len());
+    if from < end {
+        move_down(&mut rows[from..end], count, look);
+    }
+}
+
+/// Takes the characters out of the rows from one to before another.
+pub(crate) fn clear_part<A: Allocator>(rows: &mut [Row<A>], from: usize, to: usize, look: u16)
+    ensures { rows.new ≡ in_part from to (map (cleared look)) rows.old }
+{
+    let end = to.min(rows.len());
+    if from < end {
+        clear(&mut rows[from..end], look);
+    }
+}
