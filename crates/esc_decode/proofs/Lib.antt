@@ -1,3 +1,4 @@
+pub mod Blocks
 pub mod Outcomes
 pub mod Masks
 pub mod Characters

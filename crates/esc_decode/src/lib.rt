@@ -13,6 +13,7 @@
 //! ```
 #![tactic(auto)]
 
+mod ascii;
 mod code_page;
 mod decode;
 mod decoding;

@@ -4,14 +4,15 @@ ghost use Rattle.esc_decode.specs.Masks.{Stay, begun_after, masked_after};
 ghost use Rattle.esc_frame.specs.Machine.Prefixes.{prefix_of};
 ghost use Rattle.memory.specs.Refusals.{Refused};
 
+use crate::ascii::ascii_blocks;
 use crate::mask::step;
 use esc_frame::ascii_run;
 use esc_frame::utf8::sequence::Pending;
 use simdutf8::basic::from_utf8;
 use std::alloc::{AllocError, Allocator};
 
-// The bytes from this place on are not validated as a whole again, so that text in another encoding
-// costs no more than one or two looks.
+// So many bytes after the first blocks of ASCII the rest is not validated as a whole again: text
+// in another encoding costs no more than one or two looks.
 const EARLY: usize = 4;
 
 /// What has begun after these bytes, and whether it is known that each of them stays.
@@ -21,14 +22,28 @@ pub(crate) fn look(begun: Pending, bytes: &[u8]) -> (Pending, bool)
 {
     let mut last = begun;
     let mut stays = true;
-    let mut at = 0;
+    let mut at = first_blocks(begun, bytes);
+    let early = at.saturating_add(EARLY);
     while at < bytes.len() {
-        let (next, n, some) = look_some(last, &bytes[at..], at < EARLY);
+        let (next, n, some) = look_some(last, &bytes[at..], at < early);
         last = next;
         stays &= some;
         at += n;
     }
     (last, stays)
+}
+
+// The length of the blocks of ASCII that come first, where nothing has begun; or 0.
+fn first_blocks(begun: Pending, bytes: &[u8]) -> usize
+    ensures few { result ≤ length bytes.now }
+    ensures begun { begun_after (prefix_of begun) (take result bytes.now) ≡ prefix_of begun }
+    ensures stays { masked_after (prefix_of begun) (take result bytes.now)
+        ≡ take result bytes.now }
+{
+    match begun {
+        Pending::Nothing => ascii_blocks(bytes),
+        Pending::One(_) | Pending::Two(_, _) | Pending::Three(_, _, _) => 0,
+    }
 }
 
 // The same of some of these bytes, one at least, and how many.

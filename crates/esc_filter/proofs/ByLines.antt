@@ -14,7 +14,7 @@ use Rattle.esc_filter.specs.Passing.{in_lines, passes}
 use Rattle.esc_normal.specs.Texts.{ends_in_string}
 use Rattle.esc_parse.proofs.Lists.{on_ok_more}
 use Rattle.esc_filter.proofs.Closers.{closed_more}
-use Rattle.esc_filter.proofs.LineBytes.{before_feed, body_append, body_held, body_more, body_whole, content_is, ended_is, ends_append, feeds_append, last_is, line_ends, lines_append, no_end, one_line, open_line, return_append, split_at_feed, split_open, whole_line}
+use Rattle.esc_filter.proofs.LineBytes.{before_feed, body_after, body_append, body_held, body_more, body_whole, content_is, ended_is, ends_append, feeds_append, last_is, line_ends, lines_append, no_end, one_line, open_line, return_append, split_at_feed, split_open, whole_line}
 use Rattle.esc_filter.proofs.Texts.{added_as, text_longer_as}
 use Rattle.esc_filter.proofs.Characters.{in_none}
 use Rattle.esc_filter.specs.Characters.{in_values}
@@ -313,6 +313,29 @@ module _ {A : Type 0} (u : Guard) (limit : ℕ) (admits : Value A → Bool) wher
       on_ok_more _ _ result (λ g. (
         subst (λ m. GrowsTo u admits limit (body r) m old new) whole g,
         same ∙ none ∙ sym ends,
+      )) (given (body r) fed)
+
+  -- it came with them but for a carriage return before it
+  pub fills_short : {P E : Type 0} (r b y : List ℕ) (old new : LineFilter P A)
+      (result : Result (Unit {0}) E) → IsLine b → WasFedIn u true limit admits (body r) old.filter
+      → old.holds ≡ ends_return false r → old.holds ≡ false
+      → ends_return false (content b) ≡ true → y ≡ body (content b) → new.holds ≡ true
+      → ((l : List ℕ) → WasFedIn u true limit admits l old.filter
+      → OnOk result (GrowsLine u admits limit l (y ++ 0x0a ∷ []) old new))
+      → OnOk result (FillsLine u admits limit r (content b) old new)
+  fills_short r b y old new result line fed holds none ended same held given =
+      let x = content b in
+      let open_ : ends_return false r ≡ false = sym holds ∙ none in
+      let ends : ends_return false (r ++ x) ≡ true =
+      return_append false r x ∙ ap (λ t. ends_return t x) open_ ∙ ended in
+      let whole : body r ++ (y ++ 0x0a ∷ []) ≡ body (r ++ x) ++ 0x0a ∷ [] =
+      ap (λ z. z ++ (y ++ 0x0a ∷ [])) (body_whole r open_)
+      ∙ sym (append_assoc r y (0x0a ∷ []))
+      ∙ ap (λ z. (r ++ z) ++ 0x0a ∷ []) same
+      ∙ ap (λ z. z ++ 0x0a ∷ []) (sym (body_after r x ended)) in
+      on_ok_more _ _ result (λ g. (
+        subst (λ m. GrowsTo u admits limit (body r) m old new) whole g,
+        held ∙ sym ends,
       )) (given (body r) fed)
 
   -- a prefix, and then more

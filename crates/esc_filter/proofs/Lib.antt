@@ -18,6 +18,7 @@ pub mod Images
 pub mod LineBytes
 pub mod ByLines
 pub mod ShortRenditions
+pub mod WideBytes
 pub mod PlainBytes
 pub mod PlainLines
 pub mod LineFeeds

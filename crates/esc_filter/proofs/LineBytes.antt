@@ -134,6 +134,10 @@ body_append (a ∷ x) b y =
     ap (λ e. if e && is_return a then [] else a ∷ body (x ++ b ∷ y)) (some_last x b y)
     ∙ ap (λ z. a ∷ z) (body_append x b y)
 
+pub body_after : (x y : List ℕ) → ends_return false y ≡ true → body (x ++ y) ≡ x ++ body y
+body_after x [] h = absurd cc
+body_after x (b ∷ y) h = body_append x b y
+
 pub return_append : (before : Bool) (x y : List ℕ)
     → ends_return before (x ++ y) ≡ ends_return (ends_return before x) y
 return_append before [] y = refl

@@ -1,9 +1,10 @@
 -- Bytes of lines that are written as they are.
 use Rattle.std.proofs.Common.{ℕ, ◌≡◌, ◌<◌, Bool, true, false, ◌||◌, List, [], ◌∷◌, ◌++◌, arith, refl, ap, ◌∙◌, append-nil}
-use Rattle.std.specs.List.{list_all, list_any}
-use Rattle.std.specs.Str.{IsAscii}
+use Rattle.std.specs.List.{list_all}
+use Rattle.std.specs.Str.{IsAscii, IsUtf8}
 use Rattle.std.proofs.lemmas.Bool.{and_parts}
 use Rattle.std.proofs.lemmas.Bool.Decides.{nat_tests}
+use Rattle.std.proofs.lemmas.Str.{IsUtf8-from_ascii}
 use Rattle.std.proofs.lemmas.Str.Ascii.{IsAscii-cons, IsAscii-nil}
 use Rattle.esc_frame.specs.Classes.{class_of}
 use Rattle.esc_frame.specs.Events.Event.{Print}
@@ -15,6 +16,7 @@ use Rattle.esc_filter.specs.Lines.{body, ends_line, ends_return, has_line_feed, 
 use Rattle.esc_filter.specs.Rules.{is_shown}
 use Rattle.esc_filter.proofs.LineBytes.{body_append, body_whole, ends_append, return_append}
 use Rattle.esc_filter.proofs.ShortRenditions.{is_inner}
+use Rattle.esc_filter.proofs.WideBytes.{AreInner, has_return}
 
 -- ---- bytes
 
@@ -27,20 +29,19 @@ inner_feed b h = grind (arith, nat_tests)
 pub inner_return : (b : ℕ) → is_inner b ≡ true → is_return b ≡ false
 inner_return b h = grind (arith, nat_tests)
 
-abbrev pub has_return : List ℕ → Bool
-has_return s = list_any is_return s
-
--- ASCII, without a line feed and a carriage return
-pub of_inner : (s : List ℕ) → list_all is_inner s ≡ true
+ascii_inner : (s : List ℕ) → list_all is_inner s ≡ true
     → IsAscii s × (has_line_feed s ≡ false) × (has_return s ≡ false)
-of_inner [] h = (IsAscii-nil, refl, refl)
-of_inner (b ∷ s) h =
+ascii_inner [] h = (IsAscii-nil, refl, refl)
+ascii_inner (b ∷ s) h =
     let q = and_parts (is_inner b) (list_all is_inner s) h in
-    let r = of_inner s q.1 in (
+    let r = ascii_inner s q.1 in (
       IsAscii-cons b s (inner_ascii b q.0) r.0,
       rw (inner_feed b q.0, r.1) refl,
       rw (inner_return b q.0, r.2) refl,
     )
+
+pub of_inner : (s : List ℕ) → list_all is_inner s ≡ true → AreInner s
+of_inner s h = let q = ascii_inner s h in (IsUtf8-from_ascii s q.0, q.1, q.2)
 
 -- none comes last
 pub no_return : (before : Bool) (s : List ℕ) → before ≡ false → has_return s ≡ false
@@ -90,7 +91,10 @@ pub end_ends : (x : List ℕ) (r : Bool) → ends_line true (x ++ (held r ++ 0x0
 end_ends x true = ends_append true x (0x0d ∷ 0x0a ∷ [])
 end_ends x false = ends_append true x (0x0a ∷ [])
 
-pub end_ascii : (r : Bool) → IsAscii (held r ++ 0x0a ∷ [])
+end_ascii : (r : Bool) → IsAscii (held r ++ 0x0a ∷ [])
 end_ascii true =
     IsAscii-cons 0x0d (0x0a ∷ []) (omega arith) (IsAscii-cons 0x0a [] (omega arith) IsAscii-nil)
 end_ascii false = IsAscii-cons 0x0a [] (omega arith) IsAscii-nil
+
+pub end_utf8 : (r : Bool) → IsUtf8 (held r ++ 0x0a ∷ [])
+end_utf8 r = IsUtf8-from_ascii (held r ++ 0x0a ∷ []) (end_ascii r)

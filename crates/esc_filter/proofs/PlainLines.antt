@@ -2,13 +2,13 @@
 use Rattle.std.proofs.Common.{ℕ, suc, not, ◌≡◌, ◌<◌, ◌+◌, ◌-◌, length, take, drop, get_or, Bool, true, false, ◌||◌, List, [], ◌∷◌, ◌++◌, map, Some, arith, refl, ap, sym, ◌∙◌, subst, append-nil, append_assoc}
 use Rattle.std.specs.Prelude.{IsTrue}
 use Rattle.std.specs.List.{filter, list_all, prefix_len}
-use Rattle.std.specs.Str.{IsAscii}
+use Rattle.std.specs.Char.{encode_utf8}
+use Rattle.std.specs.Str.{IsUtf8, encode_utf8_all}
 use Rattle.std.proofs.Math.Seq.{take-suc}
 use Rattle.std.proofs.lemmas.Bool.{and_parts}
 use Rattle.std.proofs.lemmas.List.Elements.{filter-append}
 use Rattle.std.proofs.lemmas.List.Folds.{list_any-append}
-use Rattle.std.proofs.lemmas.Str.{IsAscii-append, encode_ascii}
-use Rattle.std.proofs.lemmas.Str.Ascii.{IsAscii-cons, IsAscii-nil}
+use Rattle.std.proofs.lemmas.Str.{IsUtf8-append, IsUtf8-nil, encode_ascii}
 use Rattle.esc_frame.specs.Classes.{class_of}
 use Rattle.esc_frame.specs.Events.{Event}
 use Rattle.esc_frame.specs.Events.Event.{CsiDispatch, Execute, Print}
@@ -18,7 +18,7 @@ use Rattle.esc_frame.specs.Machine.Moves.{after_all, after_by, events_all, event
 use Rattle.esc_frame.specs.Scans.{is_data_byte}
 use Rattle.esc_frame.specs.Stream.{events_within}
 use Rattle.esc_frame.proofs.CsiRuns.{run_joins}
-use Rattle.esc_frame.proofs.ManyBytes.{run_passes}
+use Rattle.esc_frame.proofs.ManyBytes.{character_does, run_passes}
 use Rattle.esc_frame.proofs.Streams.{after_append, events_append}
 use Rattle.esc_actions.proofs.Meanings.{mode_append, values_append}
 use Rattle.esc_actions.specs.ControlCodes.{code_of}
@@ -37,15 +37,16 @@ use Rattle.esc_filter.specs.Terminal.{unchanged}
 use Rattle.esc_filter.specs.declared.terminal.Terminal.{Terminal}
 use Rattle.esc_filter.specs.Fed.{WasFedIn}
 use Rattle.esc_filter.specs.Known.{ArePassedRenditions, IsPassedText}
-use Rattle.esc_filter.specs.Lines.{ArePlainLines, GrowsBy, IsShortRendition, WasFedLines, added_by, body, end_text, ends_line, ends_return, has_line_feed, held, is_line_feed, is_return, passed_of_line, text_by_lines_as}
+use Rattle.esc_filter.specs.Lines.{ArePlainLines, AreWide, GrowsBy, IsShortRendition, WasFedLines, added_by, body, end_text, ends_line, ends_return, has_line_feed, held, is_line_feed, is_return, is_wide, passed_of_line, text_by_lines_as}
 use Rattle.esc_filter.specs.Passing.{in_lines, passes}
 use Rattle.esc_filter.specs.Rules.{is_rendition}
 use Rattle.esc_filter.specs.declared.line_filter.LineFilter.{LineFilter}
 use Rattle.esc_filter.specs.declared.guard.Guard.{Guard}
 use Rattle.esc_filter.proofs.ByLines.{by_append, closed_text}
 use Rattle.esc_filter.proofs.LineBytes.{ends_append, feeds_append, no_end}
-use Rattle.esc_filter.proofs.PlainBytes.{body_held_of, data_ascii, data_inner, data_move, data_shown, data_text, end_ascii, end_ends, has_return, held_feed, no_return, of_inner, with_held}
-use Rattle.esc_filter.proofs.Characters.{in_both, in_more, in_none, text_themselves}
+use Rattle.esc_filter.proofs.PlainBytes.{body_held_of, data_ascii, data_inner, data_move, data_shown, data_text, end_ends, end_utf8, held_feed, no_return, of_inner, with_held}
+use Rattle.esc_filter.proofs.WideBytes.{AreInner, all_utf8, has_return, wide_is}
+use Rattle.esc_filter.proofs.Characters.{in_both, in_more, in_none, plain_one, text_themselves}
 use Rattle.esc_filter.proofs.Runs.{all_more}
 use Rattle.esc_filter.proofs.Sequences.{each_whole}
 use Rattle.esc_filter.proofs.ShortRenditions.{Shade, is_inner, shade_of}
@@ -66,7 +67,7 @@ module _ (A : Type 0) (u : Guard) (limit : ℕ) (admits : Value A → Bool)
     pub pass : filter (passes (in_lines true admits)) vs ≡ vs
     pub kept : in_values u vs ≡ vs
     pub text : (f : Bool) → texts_after f vs ≡ x
-    pub ascii : IsAscii x
+    pub utf8 : IsUtf8 x
     pub one_line : has_line_feed x ≡ false
     pub unreturned : has_return x ≡ false
 
@@ -78,7 +79,7 @@ module _ (A : Type 0) (u : Guard) (limit : ℕ) (admits : Value A → Bool)
     pass = refl;
     kept = in_none u;
     text = λ f. refl;
-    ascii = IsAscii-nil;
+    utf8 = IsUtf8-nil;
     one_line = refl;
     unreturned = refl;
   }
@@ -116,7 +117,7 @@ module _ (A : Type 0) (u : Guard) (limit : ℕ) (admits : Value A → Bool)
             λ f. texts_more f vs ws
             ∙ ap (λ t. t ++ texts_after (ends_in_string f vs) ws) (p.text f)
             ∙ ap (λ t. x ++ t) (q.text (ends_in_string f vs));
-        ascii = IsAscii-append x y p.ascii q.ascii;
+        utf8 = IsUtf8-append x y p.utf8 q.utf8;
         one_line = list_any-append is_line_feed x y ∙ rw (p.one_line, q.one_line) refl;
         unreturned = list_any-append is_return x y ∙ rw (p.unreturned, q.unreturned) refl;
       }
@@ -125,9 +126,8 @@ module _ (A : Type 0) (u : Guard) (limit : ℕ) (admits : Value A → Bool)
   alone : (x : List ℕ) (v : Value A) (e : Event) → after_all Ground x ≡ Ground
       → events_of x ≡ e ∷ [] → given (Some limit) plain e ≡ v ∷ [] → after plain e ≡ plain
       → passes (in_lines true admits) v ≡ true → in_guard u v ≡ v ∷ []
-      → ((f : Bool) → text_after f v ≡ x) → list_all is_inner x ≡ true → Passed x (v ∷ [])
+      → ((f : Bool) → text_after f v ≡ x) → AreInner x → Passed x (v ∷ [])
   alone x v e ground events gives stays pass itself text inner =
-      let bytes = of_inner x inner in
       record {
         ground = ground;
         means =
@@ -139,9 +139,9 @@ module _ (A : Type 0) (u : Guard) (limit : ℕ) (admits : Value A → Bool)
             in_more u v [] ∙ ap (λ zs. zs ++ in_values u []) itself
             ∙ ap (λ zs. v ∷ zs) (in_none u);
         text = λ f. append-nil (text_after f v) ∙ text f;
-        ascii = bytes.0;
-        one_line = bytes.1;
-        unreturned = bytes.2;
+        utf8 = inner.0;
+        one_line = inner.1;
+        unreturned = inner.2;
       }
 
   character : (b : ℕ) → is_data_byte b ≡ true → Passed (b ∷ []) (print b ∷ [])
@@ -149,13 +149,14 @@ module _ (A : Type 0) (u : Guard) (limit : ℕ) (admits : Value A → Bool)
       alone (b ∷ []) (print b) (Print b) (rw (data_move b h, after_by, move) refl)
       (rw (data_move b h, events_by, move) refl) refl refl (texts (print b) (data_shown b h))
       (text_themselves A u (b ∷ []) (rw (data_text b h) refl)).0
-      (λ f. encode_ascii b (data_ascii b h)) (rw (data_inner b h) refl)
+      (λ f. encode_ascii b (data_ascii b h)) (of_inner (b ∷ []) (rw (data_inner b h) refl))
 
   tab : Passed (0x09 ∷ []) (control HorizontalTab ∷ [])
   unfolding class_of code_of
   tab =
       alone (0x09 ∷ []) (control HorizontalTab) (Execute 0x09) refl refl refl refl
-      (texts (control HorizontalTab) refl) refl (λ f. encode_ascii 0x09 (omega arith)) refl
+      (texts (control HorizontalTab) refl) refl (λ f. encode_ascii 0x09 (omega arith))
+      (of_inner (0x09 ∷ []) refl)
 
   run : (s : List ℕ) → list_all is_data_byte s ≡ true → Passed s (map print s)
   run [] h = nothing
@@ -166,6 +167,19 @@ module _ (A : Type 0) (u : Guard) (limit : ℕ) (admits : Value A → Bool)
   run_leaves : (s : List ℕ) (o : Terminal) → after_values {A = A} (map print s) o ≡ o
   run_leaves [] o = refl
   run_leaves (b ∷ s) o = run_leaves s o
+
+  wide : (c : ℕ) → is_wide c ≡ true → Passed (encode_utf8 c) (print c ∷ [])
+  wide c h =
+      let w = wide_is c h in
+      let does = character_does (encode_utf8 c) c w.is in
+      alone (encode_utf8 c) (print c) (Print c) does.0 (does.1 (Some limit)) refl refl
+      (texts (print c) w.shown) (plain_one u c w.plain) (λ f. refl) w.inner
+
+  wides : (cs : List ℕ) → list_all is_wide cs ≡ true → Passed (encode_utf8_all cs) (map print cs)
+  wides [] h = nothing
+  wides (c ∷ cs) h =
+      let q = and_parts (is_wide c) (list_all is_wide cs) h in
+      joined (wide c q.0) (wides cs q.1)
 
   -- a rendition, where all pass
   admitted : (c : CsiValue) → ArePassedRenditions admits → is_rendition c ≡ true
@@ -182,7 +196,7 @@ module _ (A : Type 0) (u : Guard) (limit : ℕ) (admits : Value A → Bool)
   rendition {x} all s =
       alone x (csi s.value) (CsiDispatch s.params false 0x6d) s.ground (s.events (Some limit))
       (ap (map csi) s.one) refl (admitted s.value all s.rendition s.params s.one) refl
-      (λ f. s.text) s.inner
+      (λ f. s.text) (of_inner x s.inner)
 
   -- ---- a line, after which renditions are on, or not
 
@@ -312,7 +326,7 @@ module _ (A : Type 0) (u : Guard) (limit : ℕ) (admits : Value A → Bool)
 
 -- what has been read, after which renditions are on or not
 abbrev pub HasRead : Type 0 → Bool → Bool → List ℕ → Type 0
-HasRead A r on s = IsAscii s
+HasRead A r on s = IsUtf8 s
     × ((u : Guard) (limit : ℕ) (admits : Value A → Bool) (texts : IsPassedText admits)
     → (IsTrue r → ArePassedRenditions admits) → Begun A u limit admits texts on s)
 
@@ -321,13 +335,13 @@ module _ (A : Type 0) (r : Bool) where
   pub read_run : (on : Bool) (s : List ℕ) (i n : ℕ) → HasRead A r on (take i s)
       → n ≡ prefix_len is_data_byte (take (length s - i) (drop i s))
       → HasRead A r on (take (i + n) s)
-  read_run on s i n (ascii, begun) e =
+  read_run on s i n (utf8, begun) e =
       let y = take n (take (length s - i) (drop i s)) in
       let bytes : list_all is_data_byte y ≡ true =
       ap (λ k. list_all is_data_byte (take k (take (length s - i) (drop i s)))) e
       ∙ run_passes is_data_byte (take (length s - i) (drop i s)) in
       subst (HasRead A r on) (run_joins s i n) (
-        IsAscii-append (take i s) y ascii (of_inner y (all_more is_data_byte is_inner data_inner y
+        IsUtf8-append (take i s) y utf8 (of_inner y (all_more is_data_byte is_inner data_inner y
             bytes)).0,
         λ u limit admits texts all.
             begun_more A u limit admits texts (take i s) y (begun u limit admits texts all)
@@ -344,10 +358,9 @@ module _ (A : Type 0) (r : Bool) where
   -- a tab
   pub read_tab : (on : Bool) (s : List ℕ) (i : ℕ) → i < length s
       → get_or s i 0 ≡ 0x09 → HasRead A r on (take i s) → HasRead A r on (take (i + 1) s)
-  read_tab on s i l e (ascii, begun) =
+  read_tab on s i l e (utf8, begun) =
       subst (HasRead A r on) (next s i 0x09 l e) (
-        IsAscii-append (take i s) (0x09 ∷ []) ascii
-            (IsAscii-cons 0x09 [] (omega arith) IsAscii-nil),
+        IsUtf8-append (take i s) (0x09 ∷ []) utf8 (of_inner (0x09 ∷ []) refl).0,
         λ u limit admits texts all.
             begun_more A u limit admits texts (take i s) (0x09 ∷ [])
             (begun u limit admits texts all) (tab A u limit admits texts) refl,
@@ -357,8 +370,8 @@ module _ (A : Type 0) (r : Bool) where
   read_end : (x : List ℕ) (h : Bool) → HasRead A r false x
       → HasRead A r false (x ++ (held h ++ 0x0a ∷ []))
       × ArePlainLines A r (x ++ (held h ++ 0x0a ∷ []))
-  read_end x h (ascii, begun) =
-      let bytes = IsAscii-append x (held h ++ 0x0a ∷ []) ascii (end_ascii h) in (
+  read_end x h (utf8, begun) =
+      let bytes = IsUtf8-append x (held h ++ 0x0a ∷ []) utf8 (end_utf8 h) in (
         (
           bytes,
           λ u limit admits texts all.
@@ -392,15 +405,41 @@ module _ (A : Type 0) (r : Bool) where
       ∙ ap (λ z. z ++ 0x0a ∷ []) first ∙ next s (i + 1) 0x0a l f ∙ ap (λ k. take k s) two)
       (read_end (take i s) true read)
 
+  -- characters from U+00A0 on
+  wide_begun : (on : Bool) (u : Guard) (limit : ℕ) (admits : Value A → Bool)
+      (texts : IsPassedText admits) (x y cs : List ℕ) → list_all is_wide cs ≡ true
+      → encode_utf8_all cs ≡ y → Begun A u limit admits texts on x
+      → Begun A u limit admits texts on (x ++ y)
+  wide_begun on u limit admits texts x y cs wide is begun =
+      begun_more A u limit admits texts x y begun
+      (subst (λ z. Passed A u limit admits texts z (map print cs)) is
+      (wides A u limit admits texts cs wide))
+      (run_leaves A u limit admits texts cs (turned on unchanged))
+
+  wide_utf8 : (y cs : List ℕ) → list_all is_wide cs ≡ true → encode_utf8_all cs ≡ y → IsUtf8 y
+  wide_utf8 y cs wide is = subst IsUtf8 is (all_utf8 cs wide)
+
+  pub read_wide : (on : Bool) (s : List ℕ) (i n : ℕ)
+      → AreWide (take n (take (length s - i) (drop i s)))
+      → HasRead A r on (take i s) → HasRead A r on (take (i + n) s)
+  read_wide on s i n (cs, wide, is) (utf8, begun) =
+      let y = take n (take (length s - i) (drop i s)) in
+      subst (HasRead A r on) (run_joins s i n) (
+        IsUtf8-append (take i s) y utf8 (wide_utf8 y cs wide is),
+        λ u limit admits texts all.
+            wide_begun on u limit admits texts (take i s) y cs wide is
+            (begun u limit admits texts all),
+      )
+
   -- a rendition, where all pass
   pub read_rendition : (on lit : Bool) (s : List ℕ) (i n : ℕ) → r ≡ true
       → IsShortRendition (take n (take (length s - i) (drop i s))) lit
       → HasRead A r on (take i s) → HasRead A r lit (take (i + n) s)
-  read_rendition on lit s i n known is (ascii, begun) =
+  read_rendition on lit s i n known is (utf8, begun) =
       let y = take n (take (length s - i) (drop i s)) in
       let shade = shade_of y lit is in
       subst (HasRead A r lit) (run_joins s i n) (
-        IsAscii-append (take i s) y ascii (of_inner y shade.inner).0,
+        IsUtf8-append (take i s) y utf8 (of_inner y shade.inner).0,
         λ u limit admits texts all.
             begun_more A u limit admits texts (take i s) y (begun u limit admits texts all)
             (rendition A u limit admits texts (all known) shade)

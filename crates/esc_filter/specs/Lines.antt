@@ -1,8 +1,12 @@
 -- What is written of a stream whose lines are streams of their own, where u says what is written of
 -- what deceives.
-use Rattle.std.specs.Prelude.{ℕ, ◌≡◌, ◌<◌, ◌⊎◌, Bool, true, false, not, ◌==◌, ◌&&◌, if◌then◌else◌, List, [], ◌∷◌, ◌++◌, Some, IsTrue, codes, string_bytes}
+use Rattle.std.specs.Prelude.{ℕ, ◌≡◌, ◌<◌, ◌⊎◌, Bool, true, false, not, ◌==◌, ◌&&◌, nat_le, nat_lt, if◌then◌else◌, List, [], ◌∷◌, ◌++◌, Some, IsTrue, codes, string_bytes}
 use Rattle.std.specs.List.{list_any, flat_map}
-use Rattle.std.specs.Str.{IsAscii}
+use Rattle.std.specs.Str.{IsUtf8}
+use lib.Utf8.{scalar}
+use Rattle.esc_values.specs.Clear.{IsTextOf}
+use Rattle.esc_values.specs.Params.{is_from}
+use Rattle.esc_visible.specs.Characters.{is_deceiving}
 use Rattle.esc_actions.specs.Meaning.{meaning, Reads}
 use Rattle.esc_actions.specs.Texts.{list_text, normal}
 use Rattle.esc_actions.specs.Values.{Value, control}
@@ -113,12 +117,31 @@ line_text u limit admits l =
 abbrev pub text_by_lines_as : {A : Type 0} → Guard → ℕ → (Value A → Bool) → List ℕ → List ℕ
 text_by_lines_as {A} u limit admits s = flat_map (line_text {A = A} u limit admits) (lines s)
 
--- Lines that have ended, in ASCII, which are written as they are wherever all text passes, and
+-- Lines that have ended, in UTF-8, which are written as they are wherever all text passes, and
 -- where r also all renditions
 abbrev pub ArePlainLines : Type 0 → Bool → List ℕ → Type 0
-ArePlainLines A r s = IsAscii s × (ends_line true s ≡ true)
+ArePlainLines A r s = IsUtf8 s × (ends_line true s ≡ true)
     × ((u : Guard) (limit : ℕ) (admits : Value A → Bool) → IsPassedText admits
     → (IsTrue r → ArePassedRenditions admits) → text_by_lines_as u limit admits s ≡ s)
+
+-- a character from U+00A0 on that does not deceive
+abbrev pub is_wide : ℕ → Bool
+is_wide c = scalar c && (nat_le 0xa0 c && not (is_deceiving c))
+
+-- the UTF-8 of such characters
+abbrev pub AreWide : List ℕ → Type 0
+AreWide x = IsTextOf is_wide x
+
+-- two bytes, or three, that are such a character as most are
+abbrev pub is_plain_two : ℕ → ℕ → Bool
+is_plain_two a b = is_from 0xc3 0xd7 a && (not (a == 0xcd) && is_from 0x80 0xbf b)
+
+abbrev pub is_plain_three : ℕ → ℕ → ℕ → Bool
+is_plain_three a b c =
+    if nat_lt a 0xe4
+    then (if a == 0xe3 then is_from 0x80 0x84 b && is_from 0x80 0xbf c
+    else (a == 0xe2) && (is_from 0x82 0xbf b && is_from 0x80 0xbf c))
+    else nat_le a 0xec && (is_from 0x80 0xbf b && is_from 0x80 0xbf c)
 
 -- a number below 1000 as it is written, and `m`; it is another than 0, or not
 abbrev pub IsNumber : List ℕ → Bool → Type 0

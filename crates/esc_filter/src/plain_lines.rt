@@ -1,20 +1,23 @@
 //! Lines that are written as they are.
 ghost use Rattle.std.specs.Prelude.{◌≡◌, ◌≤◌, length, take, IfSome};
-ghost use Rattle.esc_filter.specs.Lines.{ArePlainLines, IsNumber, IsShortRendition};
+ghost use Rattle.esc_filter.specs.Lines.{ArePlainLines, AreWide, IsNumber, IsShortRendition, is_plain_three, is_plain_two};
 
 use esc_frame::runs::scans::data_run;
-use esc_values::ascii::as_str;
+use esc_frame::utf8::sequence::{ahead, lies_from};
+use esc_visible::is_deceiving;
 use std::alloc::Allocator;
+use std::str;
 
-/// The lines that come first and have nothing before their ends but bytes 20 to 7E, tabs and, where
-/// `renditions` is true, renditions that are written as they came, of which the last in a line
-/// turns all off.
+/// The lines that come first and have nothing before their ends but bytes 20 to 7E, tabs,
+/// characters from U+00A0 on that do not deceive and, where `renditions` is true, renditions that
+/// are written as they came, of which the last in a line turns all off.
 pub(crate) fn plain_lines<A: Allocator>(bytes: &[u8], renditions: bool) -> &str
     ensures lines { ArePlainLines A renditions result.now }
     ensures first { result.now ≡ take (length result.now) bytes.now }
     ensures few { length result.now ≤ length bytes.now }
 {
-    as_str(&bytes[..plain_length::<A>(bytes, renditions)])
+    let length = plain_length::<A>(bytes, renditions);
+    unsafe { str::from_utf8_unchecked(&bytes[..length]) }
 }
 
 // How long they are.
@@ -53,10 +56,86 @@ fn plain_length<A: Allocator>(bytes: &[u8], renditions: bool) -> usize
                 at += found.0;
                 is_on = found.1;
             }
+            0xc2..=0xf4 => {
+                let run = wide_run(&bytes[at..]);
+                if run == 0 {
+                    return end;
+                }
+                at += run;
+            }
             _ => return end,
         }
     }
     end
+}
+
+// The length of the run of characters from U+00A0 on that do not deceive. It is out of the way of
+// the code for ASCII.
+#[inline(never)]
+fn wide_run(bytes: &[u8]) -> usize
+    ensures few { result ≤ length bytes.now }
+    ensures run { AreWide (take result bytes.now) }
+{
+    let mut end = 0;
+    while end < bytes.len() {
+        let n = wide_ahead(&bytes[end..]);
+        if n == 0 {
+            return end;
+        }
+        end += n;
+    }
+    end
+}
+
+// The length of such a character that comes first; or 0. Of fewer than four bytes none is seen.
+#[inline(always)]
+fn wide_ahead(bytes: &[u8]) -> usize
+    ensures few { result ≤ length bytes.now }
+    ensures character { AreWide (take result bytes.now) }
+{
+    if bytes.len() < 4 || bytes[0] < 0xc2 {
+        0
+    } else if is_plain_two(bytes[0], bytes[1]) {
+        2
+    } else if is_plain_three(bytes[0], bytes[1], bytes[2]) {
+        3
+    } else {
+        other_ahead(bytes)
+    }
+}
+
+// Whether they are a character of U+00C0 to U+033F or U+0380 to U+05FF, of which none deceives.
+#[inline(always)]
+fn is_plain_two(a: u8, b: u8) -> bool
+    ensures { result ≡ is_plain_two a b }
+{
+    lies_from(0xc3, 0xd7, a) && a != 0xcd && lies_from(0x80, 0xbf, b)
+}
+
+// The same of U+2080 to U+313F and U+4000 to U+CFFF.
+#[inline(always)]
+fn is_plain_three(a: u8, b: u8, c: u8) -> bool
+    ensures { result ≡ is_plain_three a b c }
+{
+    if a < 0xe4 {
+        if a == 0xe3 {
+            lies_from(0x80, 0x84, b) && lies_from(0x80, 0xbf, c)
+        } else {
+            a == 0xe2 && lies_from(0x82, 0xbf, b) && lies_from(0x80, 0xbf, c)
+        }
+    } else {
+        a <= 0xec && lies_from(0x80, 0xbf, b) && lies_from(0x80, 0xbf, c)
+    }
+}
+
+// The same of any other character.
+#[inline(never)]
+fn other_ahead(bytes: &[u8]) -> usize
+    ensures few { result ≤ length bytes.now }
+    ensures character { AreWide (take result bytes.now) }
+{
+    let (n, c) = ahead(bytes);
+    if n > 0 && !is_deceiving(c) { n } else { 0 }
 }
 
 // The length of the rendition that comes first, and whether it leaves renditions on. It is one of

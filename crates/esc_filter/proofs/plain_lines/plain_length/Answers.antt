@@ -1,5 +1,5 @@
 use Rattle.std.proofs.Common.{◌+◌, ◌≡◌, rules, sym, subst, false, take}
-use Rattle.esc_filter.proofs.PlainLines.{HasRead, read_feed, read_rendition, read_return, read_run, read_tab}
+use Rattle.esc_filter.proofs.PlainLines.{HasRead, read_feed, read_rendition, read_return, read_run, read_tab, read_wide}
 use Rattle.esc_filter.proofs.plain_lines.plain_length.Goals as goal
 
 pub loop-at-preserved-in-10-1 : goal.loop-at-preserved-in-10-1
@@ -34,8 +34,8 @@ loop-at-preserved-in-9-1 g c =
       lines = c.loop-at.invariant.lines;
     }
 
-pub loop-at-preserved : goal.loop-at-preserved
-loop-at-preserved g c =
+pub loop-at-preserved-then-renditions : goal.loop-at-preserved-then-renditions
+loop-at-preserved-then-renditions g c =
     let A = g.row.A.Denot in
     let bs = c.args.bytes.now in
     let at = c.loop-at.at + c.data_run-at.result in
@@ -66,4 +66,20 @@ loop-at-preserved-in-13-1 g c =
       read =
           subst (λ on. HasRead A c.args.renditions on (take (at + 2) bs)) (sym off) more.0;
       lines = more.1;
+    }
+
+pub loop-at-preserved : goal.loop-at-preserved
+loop-at-preserved g c =
+    let A = g.row.A.Denot in
+    let bs = c.args.bytes.now in
+    let at = c.loop-at.at + c.data_run-at.result in
+    let run = read_run A c.args.renditions c.loop-at.is_on bs c.loop-at.at c.data_run-at.result
+    c.loop-at.invariant.read c.data_run-at.ensures.run in
+    record {
+      within = search rules;
+      last = search rules;
+      read =
+          read_wide A c.args.renditions c.loop-at.is_on bs at c.wide_run-run.result
+          c.wide_run-run.ensures.run run;
+      lines = c.loop-at.invariant.lines;
     }

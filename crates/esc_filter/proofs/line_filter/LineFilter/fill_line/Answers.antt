@@ -1,10 +1,15 @@
-use Rattle.std.proofs.Common.{◌++◌, ◌∷◌, [], OnOk, subst, sym, true, rules}
-use Rattle.esc_filter.specs.Fed.{WasFedIn}
-use Rattle.esc_filter.specs.Lines.{GrowsLine, GrowsRest, body, content, policy_of_lines}
-use Rattle.esc_parse.proofs.Lists.{on_ok_more}
-use Rattle.esc_filter.proofs.ByLines.{fills_after, fills_whole}
-use Rattle.esc_filter.proofs.LineBytes.{before_feed}
+use Rattle.std.proofs.Common.{◌≡◌, ◌-◌, ◌∙◌, OnOk, false, ap, length, rules, subst, sym, take, true}
+use Rattle.esc_filter.specs.Lines.{FillsLine, content, ends_return, policy_of_lines}
+use Rattle.esc_filter.proofs.ByLines.{fills_short, fills_whole}
+use Rattle.esc_filter.proofs.LineBytes.{before_feed, body_taken}
 use Rattle.esc_filter.proofs.line_filter.LineFilter.fill_line.Goals as goal
+
+pub returns-then-self-clause-given : goal.returns-then-self-clause-given
+returns-then-self-clause-given g c = λ u limit r h holds.
+    let admits = g.P.Admit.admits (policy_of_lines c.args.self.now) in
+    subst (λ y. OnOk c.fill_long.result
+    (FillsLine u admits limit r y c.args.self.now c.fill_long.new.self))
+    (before_feed c.args.bytes.now c.requires) (c.fill_long.ensures.given u limit r h holds)
 
 pub returns-then-not-ends_return-clause-given : goal.returns-then-not-ends_return-clause-given
 returns-then-not-ends_return-clause-given g c = λ u limit r h holds.
@@ -13,31 +18,22 @@ returns-then-not-ends_return-clause-given g c = λ u limit r h holds.
     c.requires h holds (search rules) (search rules) c.pass.ensures.kept.2
     (c.pass.ensures.given u limit)
 
-pub returns-in-Ok-clause-given : goal.returns-in-Ok-clause-given
-returns-in-Ok-clause-given g c = λ u limit r h holds.
+pub returns-then-before-gt-SHORT-clause-given : goal.returns-then-before-gt-SHORT-clause-given
+returns-then-before-gt-SHORT-clause-given g c = λ u limit r h holds.
     let admits = g.P.Admit.admits (policy_of_lines c.args.self.now) in
-    let old = c.args.self.now in
-    let mid = c.feed_rest.new.self in
-    let new = c.pass-in-Ok.new.self in
-    let x = content c.args.bytes.now in
-    let rest = subst (λ y. GrowsRest u admits limit r y old mid)
-    (before_feed c.args.bytes.now c.requires) (c.in-Ok.ensures.given u limit r h holds) in
-    let line = body (r ++ x) in
-    on_ok_more _ _ c.pass-in-Ok.result
-    (λ e. fills_after u limit admits r x old mid new rest e c.pass-in-Ok.ensures.kept.2)
-    (subst (λ p. WasFedIn u true limit (g.P.Admit.admits p) line mid.filter
-    → OnOk c.pass-in-Ok.result
-    (GrowsLine u (g.P.Admit.admits p) limit line (0x0a ∷ []) mid new)) c.in-Ok.ensures.kept.0
-    (c.pass-in-Ok.ensures.given u limit line) rest.0.0)
+    subst (λ y. OnOk c.fill_long-then-before-gt-SHORT.result
+    (FillsLine u admits limit r y c.args.self.now c.fill_long-then-before-gt-SHORT.new.self))
+    (before_feed c.args.bytes.now c.requires)
+    (c.fill_long-then-before-gt-SHORT.ensures.given u limit r h holds)
 
-pub returns-in-Ok-clause-refused : goal.returns-in-Ok-clause-refused
-returns-in-Ok-clause-refused g c = λ u limit r h holds.
+pub returns-clause-given : goal.returns-clause-given
+returns-clause-given g c = λ u limit r h holds.
     let admits = g.P.Admit.admits (policy_of_lines c.args.self.now) in
-    let mid = c.feed_rest.new.self in
-    let x = content c.args.bytes.now in
-    let rest = subst (λ y. GrowsRest u admits limit r y c.args.self.now mid)
-    (before_feed c.args.bytes.now c.requires) (c.in-Ok.ensures.given u limit r h holds) in
-    let line = body (r ++ x) in
-    c.pass-in-Ok.ensures.refused u limit line
-    (subst (λ p. WasFedIn u true limit (g.P.Admit.admits p) line mid.filter)
-    (sym c.in-Ok.ensures.kept.0) rest.0.0)
+    let bs = c.args.bytes.now in
+    let before = before_feed bs c.requires in
+    let ended : ends_return false (content bs) ≡ true =
+    ap (ends_return false) (sym before) ∙ search rules in
+    let same = ap (λ z. take (length z - 1) z) before ∙ sym (body_taken (content bs) ended) in
+    fills_short u limit admits r bs _ c.args.self.now c.fill_short.new.self c.fill_short.result
+    c.requires h holds (search rules) ended same c.fill_short.ensures.kept.2
+    (c.fill_short.ensures.given u limit)
