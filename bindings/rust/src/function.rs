@@ -12,8 +12,8 @@ pub enum Effect {
     Answered,
     /// A terminal sends it, as an answer or because of a key, the mouse or the window.
     Report,
-    /// Anything else: what keys, mouse or terminal send, modes, printers, memory, or not known to
-    /// change the screen alone.
+    /// Anything else: what keys, mouse or terminal send, modes, character sets and shifts between
+    /// them, the bell, printers, memory, and what no terminal is known to do.
     Other,
 }
 
@@ -161,6 +161,30 @@ impl EscapeFunction {
             Some(byte) => (0x100 + u32::from(byte)) * 0x100 + u32::from(last),
         };
         EscapeFunction::of_key(key)
+    }
+
+    /// The function of an escape sequence with all of these intermediates and this final byte,
+    /// where it has a name. Of two intermediates both count (ECMA-35, 14.3.2 and 15.4.2).
+    ///
+    /// ```
+    /// use escape_stream::EscapeFunction;
+    ///
+    /// // KS X 1001 as G1, and the national set of Portugal as G0.
+    /// assert_eq!(EscapeFunction::of_intermediates(b"$)", b'C'), Some(EscapeFunction::G1DM4));
+    /// assert_eq!(EscapeFunction::of_intermediates(b"(%", b'6'), Some(EscapeFunction::GZD4));
+    /// ```
+    pub fn of_intermediates(intermediates: &[u8], last: u8) -> Option<EscapeFunction> {
+        match *intermediates {
+            [] => EscapeFunction::of(None, last),
+            [byte] => EscapeFunction::of(Some(byte), last),
+            [first @ (b'$' | b'%'), second, ..] => {
+                EscapeFunction::of_key((0x100 + u32::from(first)) * 0x100 + u32::from(second))
+            }
+            [first @ (b'!' | b'"' | b'&' | b'('..=b'+' | b'-'..=b'/'), ..] => {
+                EscapeFunction::of(Some(first), last)
+            }
+            _ => None,
+        }
     }
 
     /// The function of a C1 control, 80 to 9F (hexadecimal): that of ESC and the byte 40 less

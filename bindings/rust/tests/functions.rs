@@ -146,13 +146,13 @@ fn each_row_of_the_page_is_found() {
             );
             controls += 1;
         } else {
-            let is_pair = bytes.len() == 2 || has_more;
-            let last = if has_more {
-                b'B'
+            let (last, rest) = bytes.split_last().unwrap();
+            let (intermediates, last) = if has_more {
+                (&bytes[..], b'B')
             } else {
-                *bytes.last().unwrap()
+                (rest, *last)
             };
-            let found = EscapeFunction::of(is_pair.then_some(bytes[0]), last).unwrap();
+            let found = EscapeFunction::of_intermediates(intermediates, last).unwrap();
             assert_eq!(
                 (found.name(), found.words(), found.effect()),
                 (&cells[3][..], &cells[4][..], effect(&cells[5]))

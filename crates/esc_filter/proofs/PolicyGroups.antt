@@ -144,14 +144,16 @@ controls policy.All false true s = refl
 controls policy.All false false true = refl
 controls policy.All false false false = refl
 
--- the controls 07 to 0F are those of these groups
+-- BEL, SO, SI and the controls 08 to 0D are those of these groups
 between : (n : ℕ) → (is_layout n || (((n == 0x07) || ((n == 0x08) || ((n == 0x0b)
-    || (n == 0x0c)))) || ((n == 0x0e) || (n == 0x0f)))) ≡ is_from 0x07 0x0f n
+    || (n == 0x0c)))) || ((n == 0x0e) || (n == 0x0f))))
+    ≡ (is_from 0x08 0x0d n || ((n == 0x07) || ((n == 0x0e) || (n == 0x0f))))
 between n = grind (arith, nat_tests)
 
 each_control : (n : ℕ) → (is_layout n || (((n == 0x07) || ((n == 0x08) || ((n == 0x0b)
     || (n == 0x0c)))) || ((n == 0x0e) || (n == 0x0f)))) ≡ is_screen_control n
-each_control n = between n ∙ by_code n
+each_control n =
+    between n ∙ ap (λ b. b || ((n == 0x07) || ((n == 0x0e) || (n == 0x0f)))) (by_code n)
 
 control_ruled : (p : Policy) (n : ℕ)
     → chosen p (of_control n) ≡ rule p (is_layout n) false (is_screen_control n)

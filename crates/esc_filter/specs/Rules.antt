@@ -71,9 +71,10 @@ is_colour _ = false
 
 -- Screen: what moves the cursor, erases, scrolls, and changes what is shown.
 
--- a C0 control that changes the screen alone
+-- a C0 control that changes the screen alone, or BEL, SO or SI
 abbrev pub is_screen_control : ℕ → Bool
 is_screen_control n = is_screen_c0 (control_of n)
+    || ((n == 0x07) || ((n == 0x0e) || (n == 0x0f)))
 
 -- one parameter, which passes the test
 abbrev pub is_lone : (CsiParam → Bool) → List CsiParam → Bool

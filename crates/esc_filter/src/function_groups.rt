@@ -20,7 +20,7 @@ macro_rules! key {
 }
 
 // Of control sequences.
-static CURSOR: [u32; 26] = [
+static CURSOR: [u32; 28] = [
     key!(b'A'),
     key!(b'B'),
     key!(b'C'),
@@ -30,6 +30,8 @@ static CURSOR: [u32; 26] = [
     key!(b'G'),
     key!(b'H'),
     key!(b'I'),
+    key!(b'W'),
+    key!(b'?', b'W'),
     key!(b'Z'),
     key!(b'`'),
     key!(b'a'),
@@ -49,7 +51,7 @@ static CURSOR: [u32; 26] = [
     key!(b'#', b'}'),
 ];
 
-static ERASE: [u32; 16] = [
+static ERASE: [u32; 18] = [
     key!(b'@'),
     key!(b'J'),
     key!(b'?', b'J'),
@@ -60,6 +62,8 @@ static ERASE: [u32; 16] = [
     key!(b'P'),
     key!(b'X'),
     key!(b'b'),
+    key!(b'$', b'r'),
+    key!(b'$', b't'),
     key!(b'$', b'v'),
     key!(b'$', b'x'),
     key!(b'$', b'z'),

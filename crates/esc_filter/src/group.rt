@@ -36,7 +36,8 @@ pub enum Group {
     /// Cursor movement, what is saved and restored with the cursor or as renditions, the cursor's
     /// shape, and tab stops.
     Cursor,
-    /// Erasing, inserting, deleting, copying and filling, and the repeated character.
+    /// Erasing, inserting, deleting, copying and filling, the renditions of a rectangle, and the
+    /// repeated character.
     Erase,
     /// Scrolling, index and next line, and margins.
     Scroll,

@@ -5,7 +5,7 @@ ghost use Rattle.std.specs.List.{list_all};
 ghost use Rattle.esc_sequences.specs.Csis.{csi_value};
 ghost use Rattle.esc_values.specs.Params.{is_from};
 ghost use Rattle.esc_actions.specs.Values.{value_of};
-ghost use Rattle.esc_filter.specs.Rules.{changes_with, escape_changes_with, is_common_set, is_lone, is_mode, is_palette, is_private_mode, is_screen, is_screen_body, is_screen_escape, is_screen_sequence, is_set, is_set_pair, is_shape, is_space};
+ghost use Rattle.esc_filter.specs.Rules.{changes_with, escape_changes_with, is_common_set, is_lone, is_mode, is_palette, is_private_mode, is_screen, is_screen_body, is_screen_control, is_screen_escape, is_screen_sequence, is_set, is_set_pair, is_shape, is_space};
 
 use crate::policy::are_plain;
 use esc_actions::Action;
@@ -20,12 +20,20 @@ pub(crate) fn is_screen<A: Allocator>(action: &Action<A>) -> bool
     ensures { result ≡ is_screen (value_of action.now) }
 {
     match action {
-        Action::Control(code) => C0::is_screen_code(code.as_char() as u32),
+        Action::Control(code) => is_screen_control(code.as_char() as u32),
         Action::Esc(esc) => is_screen_escape(*esc),
         Action::CSI(csi) => is_screen_sequence(csi),
         Action::OperatingSystemCommand(command) => is_palette(command.as_ref()),
         _ => false,
     }
+}
+
+// Whether it is the code of a C0 control that changes the screen alone, or of BEL, SO or SI.
+#[inline]
+fn is_screen_control(code: u32) -> bool
+    ensures { result ≡ is_screen_control code }
+{
+    C0::is_screen_code(code) || code == 0x07 || code == 0x0e || code == 0x0f
 }
 
 fn is_screen_escape(esc: Esc) -> bool

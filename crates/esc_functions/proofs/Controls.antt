@@ -107,12 +107,12 @@ pub no_control : (n : ℕ) → 0x20 ≤ n → (n == 0x7f) ≡ false → None ≡
 no_control n high other = none_found n (control_of n) high other refl
 
 -- the codes of those that change the screen alone
-low_codes : agree_below (is_from 0x07 0x0f) (λ i. is_screen (control_of i)) 32 ≡ true
+low_codes : agree_below (is_from 0x08 0x0d) (λ i. is_screen (control_of i)) 32 ≡ true
 unfolding control_of changes_screen
 low_codes = refl
 
-low_code : (n : ℕ) → n < 32 → is_from 0x07 0x0f n ≡ is_screen (control_of n)
-low_code n lt = agree_below_at (is_from 0x07 0x0f) (λ i. is_screen (control_of i)) 32 n low_codes lt
+low_code : (n : ℕ) → n < 32 → is_from 0x08 0x0d n ≡ is_screen (control_of n)
+low_code n lt = agree_below_at (is_from 0x08 0x0d) (λ i. is_screen (control_of i)) 32 n low_codes lt
 
 delete_is_none : is_screen (control_of 0x7f) ≡ false
 unfolding control_of changes_screen
@@ -125,11 +125,11 @@ high_code n high =
       | inr other ↦ ap is_screen (sym (no_control n high other))
     ]
 
-pub by_code : (n : ℕ) → is_from 0x07 0x0f n ≡ is_screen (control_of n)
+pub by_code : (n : ℕ) → is_from 0x08 0x0d n ≡ is_screen (control_of n)
 by_code n =
     elim (cases_lt n 0x20) [
       | inl low ↦ low_code n low
-      | inr high ↦ let over : 0x0f < n = omega arith in
-          ap (λ b. nat_le 0x07 n && b) (lt-leb n 0x0f over) ∙ and-false (nat_le 0x07 n)
+      | inr high ↦ let over : 0x0d < n = omega arith in
+          ap (λ b. nat_le 0x08 n && b) (lt-leb n 0x0d over) ∙ and-false (nat_le 0x08 n)
           ∙ sym (high_code n high)
     ]

@@ -1,5 +1,5 @@
 -- Escape sequences and their rows.
-use Rattle.std.proofs.Common.{◌≡◌, ℕ, ◌-◌, ◌<◌, true, false, map, Some, refl}
+use Rattle.std.proofs.Common.{◌≡◌, ℕ, ◌<◌, true, false, map, Some, refl}
 use denote.Enum.Bare.{tag_one}
 use denote.Enum.Declared.{variants}
 use denote.Enum.Enum.{tag_below}
@@ -12,7 +12,7 @@ use Rattle.esc_functions.specs.Rows.{Rise}
 use Rattle.esc_functions.proofs.Tables as tables
 use Rattle.esc_functions.proofs.Tables.{AllRise, Answers, rises, some_row}
 
-pub below : (f : EscapeFunction) → place f < 76
+pub below : (f : EscapeFunction) → place f < 85
 unfolding place
 below f = tag_below (variants the_type) (the_type.to f)
 
@@ -41,9 +41,9 @@ pub not_both : (f : EscapeFunction) → is_answered f ≡ true → changes_scree
 not_both = tables.not_both sheet answers
 
 -- the places of the groups rise, up to the number of rows
-all_rise : AllRise STARTS 76
+all_rise : AllRise STARTS 85
 unfolding AllRise rises
 all_rise = refl
 
-pub rise : Rise STARTS 76
-rise = tables.rise STARTS 76 all_rise
+pub rise : Rise STARTS 85
+rise = tables.rise STARTS 85 all_rise

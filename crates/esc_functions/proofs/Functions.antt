@@ -13,7 +13,7 @@ use Rattle.esc_functions.specs.Rows.{Rise}
 use Rattle.esc_functions.proofs.Tables as tables
 use Rattle.esc_functions.proofs.Tables.{AllRise, Answers, rises, some_row}
 
-pub below : (f : ControlFunction) → place f < 221
+pub below : (f : ControlFunction) → place f < 223
 unfolding place
 below f = tag_below (variants the_type) (the_type.to f)
 
@@ -42,12 +42,12 @@ pub not_both : (f : ControlFunction) → is_answered f ≡ true → changes_scre
 not_both = tables.not_both sheet answers
 
 -- the places of the groups rise, up to the number of rows
-all_rise : AllRise STARTS 221
+all_rise : AllRise STARTS 223
 unfolding AllRise rises
 all_rise = refl
 
-pub rise : Rise STARTS 221
-rise = tables.rise STARTS 221 all_rise
+pub rise : Rise STARTS 223
+rise = tables.rise STARTS 223 all_rise
 
 -- no key has more than three bytes
 short_keys : map (λ r. nat_lt r.key 0x1_0000_0000) ROWS ≡ map (λ r. true) ROWS

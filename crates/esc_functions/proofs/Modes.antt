@@ -11,7 +11,7 @@ use Rattle.esc_functions.specs.Modes.{place, number_of, mode_of, changes_screen,
 use Rattle.esc_functions.proofs.Tables as tables
 use Rattle.esc_functions.proofs.Tables.{some_mode}
 
-pub below : (m : Mode) → place m < 22
+pub below : (m : Mode) → place m < 24
 unfolding place
 below m = tag_below (variants the_type) (the_type.to m)
 

@@ -12,7 +12,7 @@ use Rattle.esc_functions.specs.PrivateModes.{place, number_of, mode_of, changes_
 use Rattle.esc_functions.proofs.Tables as tables
 use Rattle.esc_functions.proofs.Tables.{some_mode}
 
-pub below : (m : PrivateMode) → place m < 134
+pub below : (m : PrivateMode) → place m < 138
 unfolding place
 below m = tag_below (variants the_type) (the_type.to m)
 

@@ -31,15 +31,12 @@ control_of n = first_keyed (λ r. r.key) (λ r. r.function) ROWS (256 + n)
 
 -- those that change the screen alone
 unfoldable pub changes_screen : C0 → Bool
-changes_screen variant.BEL = true
 changes_screen variant.BS = true
 changes_screen variant.HT = true
 changes_screen variant.LF = true
 changes_screen variant.VT = true
 changes_screen variant.FF = true
 changes_screen variant.CR = true
-changes_screen variant.SO = true
-changes_screen variant.SI = true
 changes_screen _ = false
 
 -- there is a control, and it changes the screen alone

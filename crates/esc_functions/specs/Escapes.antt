@@ -1,5 +1,5 @@
 -- The control functions of escape sequences and C1 controls, and their keys.
-use Rattle.std.specs.Prelude.{ℕ, ◌+◌, ◌-◌, ◌*◌, Bool, ◌==◌, ◌||◌, if◌then◌else◌, List, [], map, get_or, Option, Some, None}
+use Rattle.std.specs.Prelude.{ℕ, ◌+◌, ◌-◌, ◌*◌, Bool, ◌==◌, ◌||◌, if◌then◌else◌, List, [], ◌∷◌, map, get_or, Option, Some, None}
 use Rattle.esc_values.specs.Params.{is_from}
 use Rattle.esc_functions.specs.Rows.{first_grouped, group}
 use Rattle.esc_functions.specs.declared.row.Row.{Row}
@@ -45,6 +45,22 @@ designates i = (i == 0x21) || ((i == 0x22) || ((i == 0x24) || ((i == 0x26) || (i
 abbrev pub sequence_key : Option ℕ → ℕ → ℕ
 sequence_key None last = 256 + last
 sequence_key (Some i) last = if designates i then 256 + i else (256 + i) * 256 + last
+
+-- after `$` another intermediate says as what a set of several bytes is designated, and after `%`
+-- that a coding system is designated without a return
+abbrev pub leads : ℕ → Bool
+leads i = (i == 0x24) || (i == 0x25)
+
+-- the key of an escape sequence with these two intermediates: where the first designates a set, the
+-- second is a part of the set's name, and of any other sequence nobody knows a function
+abbrev pub two_key : ℕ → ℕ → ℕ
+two_key i j = if leads i then (256 + i) * 256 + j else if designates i then 256 + i else 0
+
+-- the key of an escape sequence with these intermediates and this final byte
+abbrev pub intermediates_key : List ℕ → ℕ → ℕ
+intermediates_key [] last = sequence_key None last
+intermediates_key (i ∷ []) last = sequence_key (Some i) last
+intermediates_key (i ∷ j ∷ more) last = two_key i j
 
 -- the function of an escape sequence
 abbrev pub named : Esc → Option EscapeFunction

@@ -33,15 +33,15 @@ macro_rules! controls {
             EOT, [0x04], Other, Ecma48, "end of transmission";
             ENQ, [0x05], Answered, Ecma48, "enquiry";
             ACK, [0x06], Other, Ecma48, "acknowledge";
-            BEL, [0x07], Screen, Ecma48, "bell";
+            BEL, [0x07], Other, Ecma48, "bell";
             BS, [0x08], Screen, Ecma48, "backspace";
             HT, [0x09], Screen, Ecma48, "tab";
             LF, [0x0a], Screen, Ecma48, "line feed";
             VT, [0x0b], Screen, Ecma48, "line tabulation";
             FF, [0x0c], Screen, Ecma48, "form feed";
             CR, [0x0d], Screen, Ecma48, "carriage return";
-            SO, [0x0e], Screen, Ecma48, "shift out";
-            SI, [0x0f], Screen, Ecma48, "shift in";
+            SO, [0x0e], Other, Ecma48, "shift out";
+            SI, [0x0f], Other, Ecma48, "shift in";
             DLE, [0x10], Other, Ecma48, "data link escape";
             DC1, [0x11], Other, Ecma48, "device control one, XON";
             DC2, [0x12], Other, Ecma48, "device control two";
@@ -114,7 +114,7 @@ impl C0 {
         text_in(&WORDS, place(self))
     }
 
-    /// Whether it changes the screen alone: those from BEL to SI.
+    /// Whether it changes the screen alone: those from BS to CR.
     #[inline]
     pub fn changes_screen(self) -> bool
         ensures { result ≡ changes_screen self }
@@ -130,7 +130,7 @@ impl C0 {
         self.row().effect.is_answered()
     }
 
-    /// Whether this is the code of a control that changes the screen alone: one from BEL to SI.
+    /// Whether this is the code of a control that changes the screen alone: one from BS to CR.
     #[inline]
     pub fn is_screen_code(code: u32) -> bool
         ensures { result ≡ is_screen (control_of code) }
@@ -142,9 +142,9 @@ impl C0 {
 // Whether it is one of these codes, by which they are known without a look at the table.
 #[inline]
 fn is_screen_code(code: u32) -> bool
-    ensures { result ≡ is_from 0x07 0x0f code }
+    ensures { result ≡ is_from 0x08 0x0d code }
 {
-    matches!(code, 0x07..=0x0f)
+    matches!(code, 0x08..=0x0d)
 }
 
 // The place of its row.

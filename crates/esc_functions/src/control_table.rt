@@ -5,8 +5,9 @@
 //! manuals of the VT220, VT420, VT510 (<https://vt100.net/docs/vt510-rm/chapter4.html>) and VT525,
 //! which begin with DEC; of xterm's list of control sequences
 //! (<https://invisible-island.net/xterm/ctlseqs/ctlseqs.html>), which begin with XT or SCO; and, of
-//! what kitty (<https://sw.kovidgoyal.net/kitty/protocol-extensions/>) and mintty
-//! (<https://github.com/mintty/mintty/wiki/CtrlSeqs>) added, of their own words.
+//! what kitty (<https://sw.kovidgoyal.net/kitty/protocol-extensions/>), mintty
+//! (<https://github.com/mintty/mintty/wiki/CtrlSeqs>) and Microsoft's terminal
+//! (<https://github.com/microsoft/terminal>, doc/specs, #4999) added, of their own words.
 ghost use Rattle.std.specs.Prelude.{◌≡◌, ◌<◌, ◌+◌, ◌*◌, []};
 ghost use Rattle.esc_sequences.specs.Csis.{csi_value};
 ghost use Rattle.esc_functions.specs.Effects.{changes_screen, is_answered, is_screen_effect, is_answered_effect};
@@ -39,17 +40,17 @@ macro_rules! functions {
             CUU, [b'A'], Screen, Count, Ecma48, "cursor up";
             SR, [b' ', b'A'], Screen, Count, Ecma48, "scroll right";
             CUD, [b'B'], Screen, Count, Ecma48, "cursor down";
-            GSM, [b' ', b'B'], Other, Numbers, Ecma48, "graphic size modification";
+            GSM, [b' ', b'B'], Other, Percentages, Ecma48, "graphic size modification";
             CUF, [b'C'], Screen, Count, Ecma48, "cursor right";
             GSS, [b' ', b'C'], Other, Number, Ecma48, "graphic size selection";
             CUB, [b'D'], Screen, Count, Ecma48, "cursor left";
-            FNT, [b' ', b'D'], Other, Numbers, Ecma48, "font selection";
+            FNT, [b' ', b'D'], Other, TwoSelectors, Ecma48, "font selection";
             CNL, [b'E'], Screen, Count, Ecma48, "cursor to next line";
             TSS, [b' ', b'E'], Other, Number, Ecma48, "thin space specification";
             CPL, [b'F'], Screen, Count, Ecma48, "cursor to preceding line";
             JFY, [b' ', b'F'], Other, Selectors, Ecma48, "justify";
             CHA, [b'G'], Screen, Column, Ecma48, "cursor to column";
-            SPI, [b' ', b'G'], Other, Numbers, Ecma48, "spacing increment";
+            SPI, [b' ', b'G'], Other, TwoNumbers, Ecma48, "spacing increment";
             CUP, [b'H'], Screen, Place, Ecma48, "cursor position";
             QUAD, [b' ', b'H'], Other, Selectors, Ecma48, "quad: position of the text in the line";
             CHT, [b'I'], Screen, Count, Ecma48, "cursor to tab stop";
@@ -63,11 +64,11 @@ macro_rules! functions {
             IL, [b'L'], Screen, Count, Ecma48, "insert lines";
             SVS, [b' ', b'L'], Other, Selector, Ecma48, "select line spacing";
             DL, [b'M'], Screen, Count, Ecma48, "delete lines";
-            IGS, [b' ', b'M'], Other, Number, Ecma48, "identify graphic subrepertoire";
+            IGS, [b' ', b'M'], Other, Choice, Ecma48, "identify graphic subrepertoire";
             MOUSE, [b'<', b'M'], Report, Mouse, Xterm, "mouse button pressed or pointer moved";
             EF, [b'N'], Other, Selector, Ecma48, "erase in field";
             EA, [b'O'], Other, Selector, Ecma48, "erase in area";
-            IDCS, [b' ', b'O'], Other, Number, Ecma48, "identify device control string";
+            IDCS, [b' ', b'O'], Other, Choice, Ecma48, "identify device control string";
             DCH, [b'P'], Screen, Count, Ecma48, "delete characters";
             PPA, [b' ', b'P'], Other, Page, Ecma48, "page position absolute";
             XTPUSHCOLORS, [b'#', b'P'], Other, Selectors, Xterm, "push colours of the palette";
@@ -80,7 +81,7 @@ macro_rules! functions {
             DECXCPR, [b'?', b'R'], Report, PlaceAndPage, Vt420,
                 "report of the cursor position and page";
             SU, [b'S'], Screen, Count, Ecma48, "scroll up";
-            SPD, [b' ', b'S'], Other, Selectors, Ecma48, "select presentation directions";
+            SPD, [b' ', b'S'], Other, TwoSelectors, Ecma48, "select presentation directions";
             XTTITLEPOS, [b'#', b'S'], Answered, Nothing, Xterm,
                 "ask for the place in the stack of titles";
             XTSMGRAPHICS, [b'?', b'S'], Answered, Graphics, Xterm,
@@ -88,34 +89,35 @@ macro_rules! functions {
             SD, [b'T'], Screen, Count, Ecma48, "scroll down";
             XTHIMOUSE, [long b'T'], Other, Highlight, Xterm,
                 "start tracking of a highlight by the mouse";
-            DTA, [b' ', b'T'], Other, Numbers, Ecma48, "dimension text area";
+            DTA, [b' ', b'T'], Other, TwoNumbers, Ecma48, "dimension text area";
             KITTYUNSCROLL, [b'+', b'T'], Screen, Count, Kitty,
                 "scroll down, filled from what was scrolled off";
-            XTRMTITLE, [b'>', b'T'], Other, Selectors, Xterm, "reset title modes";
+            XTRMTITLE, [b'>', b'T'], Other, Choices, Xterm, "reset title modes";
             NP, [b'U'], Other, Count, Ecma48, "next page";
             SLH, [b' ', b'U'], Other, Number, Ecma48, "set line home";
             PP, [b'V'], Other, Count, Ecma48, "preceding page";
             SLL, [b' ', b'V'], Other, Number, Ecma48, "set line limit";
-            CTC, [b'W'], Other, Selectors, Ecma48, "cursor tabulation control";
+            CTC, [b'W'], Screen, Selectors, Ecma48, "cursor tabulation control";
             FNK, [b' ', b'W'], Report, Number, Ecma48, "function key";
-            DECST8C, [b'?', b'W'], Other, Selector, Vt510, "set a tab stop every 8 columns";
+            DECST8C, [b'?', b'W'], Screen, Choice, Vt510, "set a tab stop every 8 columns";
             ECH, [b'X'], Screen, Count, Ecma48, "erase characters";
             SPQR, [b' ', b'X'], Other, Selector, Ecma48, "select print quality and rapidity";
             CVT, [b'Y'], Other, Count, Ecma48, "cursor line tabulation";
-            SEF, [b' ', b'Y'], Other, Selectors, Ecma48, "sheet eject and feed";
+            SEF, [b' ', b'Y'], Other, TwoSelectors, Ecma48, "sheet eject and feed";
             CBT, [b'Z'], Screen, Count, Ecma48, "cursor back to tab stop";
             PEC, [b' ', b'Z'], Other, Selector, Ecma48, "presentation expand or contract";
             SRS, [b'['], Other, Selector, Ecma48, "start reversed string";
             SSW, [b' ', b'['], Other, Number, Ecma48, "set space width";
             PTX, [b'\\'], Other, Selector, Ecma48, "parallel texts";
-            SACS, [b' ', b'\\'], Other, Number, Ecma48, "set additional character separation";
+            SACS, [b' ', b'\\'], Other, Amount, Ecma48, "set additional character separation";
             SDS, [b']'], Other, Selector, Ecma48,
                 "start directed string; on the Linux console its own settings";
             SAPV, [b' ', b']'], Other, Selectors, Ecma48,
                 "select alternative presentation variants";
             SIMD, [b'^'], Other, Selector, Ecma48,
                 "select implicit movement direction; in xterm scroll down";
-            STAB, [b' ', b'^'], Other, Number, Ecma48, "selective tabulation";
+            STAB, [b' ', b'^'], Other, Choice, Ecma48, "selective tabulation";
+            WIN32KEY, [b'_'], Report, Win32Key, Microsoft, "key pressed or released";
             GCC, [b' ', b'_'], Other, Selector, Ecma48, "graphic character combination";
             HPA, [b'`'], Screen, Column, Ecma48, "column position";
             TATE, [b' ', b'`'], Other, Number, Ecma48, "tabulation aligned trailing edge";
@@ -124,7 +126,7 @@ macro_rules! functions {
             REP, [b'b'], Screen, Count, Ecma48, "repeat the character";
             TAC, [b' ', b'b'], Other, Number, Ecma48, "tabulation aligned centred";
             DA1 = "DA", [b'c'], Answered, Selector, Ecma48, "device attributes";
-            TCC, [b' ', b'c'], Other, Numbers, Ecma48, "tabulation centred on character";
+            TCC, [b' ', b'c'], Other, CenteredStop, Ecma48, "tabulation centred on character";
             DA3, [b'=', b'c'], Answered, Selector, Vt420, "tertiary device attributes";
             DA2, [b'>', b'c'], Answered, Selector, Vt220,
                 "secondary device attributes, and their report";
@@ -135,101 +137,102 @@ macro_rules! functions {
             VPR, [b'e'], Screen, Count, Ecma48, "line position forward";
             SCO, [b' ', b'e'], Other, Selector, Ecma48, "select character orientation";
             HVP, [b'f'], Screen, Place, Ecma48, "character and line position";
-            SRCS, [b' ', b'f'], Other, Number, Ecma48, "set reduced character separation";
-            XTFMTKEYS, [b'>', b'f'], Other, Selectors, Xterm, "format of modified keys";
-            TBC, [b'g'], Screen, Selectors, Ecma48, "clear tab stops";
+            SRCS, [b' ', b'f'], Other, Amount, Ecma48, "set reduced character separation";
+            XTFMTKEYS, [b'>', b'f'], Other, ChoiceAndNumber, Xterm, "format of modified keys";
+            TBC, [b'g'], Screen, Selector, Ecma48, "clear tab stops";
             SCS, [b' ', b'g'], Other, Number, Ecma48, "set character spacing";
-            XTQFMTKEYS, [b'?', b'g'], Answered, Selector, Xterm,
+            XTQFMTKEYS, [b'?', b'g'], Answered, Choice, Xterm,
                 "ask for the format of modified keys";
             SM, [b'h'], Other, Modes, Ecma48, "set modes";
             SLS, [b' ', b'h'], Other, Number, Ecma48, "set line spacing";
             DECSET, [b'?', b'h'], Other, PrivateModes, Vt100, "set private modes";
             MC, [b'i'], Other, Selector, Ecma48, "media copy";
             SPH, [b' ', b'i'], Other, Number, Ecma48, "set page home";
-            DECMC = "MC", [b'?', b'i'], Other, Selector, Vt100, "media copy, private";
+            DECMC = "MC", [b'?', b'i'], Other, Choice, Vt100, "media copy, private";
             HPB, [b'j'], Screen, Count, Ecma48, "column position backward";
             SPL, [b' ', b'j'], Other, Number, Ecma48, "set page limit";
             VPB, [b'k'], Screen, Count, Ecma48, "line position backward";
-            SCP, [b' ', b'k'], Other, Selectors, Ecma48, "select character path";
+            SCP, [b' ', b'k'], Other, TwoChoices, Ecma48, "select character path";
             RM, [b'l'], Other, Modes, Ecma48, "reset modes";
             DECRST, [b'?', b'l'], Other, PrivateModes, Vt100, "reset private modes";
             SGR, [b'm'], Screen, Renditions, Ecma48, "select graphic rendition";
             MOUSEUP, [b'<', b'm'], Report, Mouse, Xterm, "mouse button released";
-            XTMODKEYS, [b'>', b'm'], Other, Selectors, Xterm, "modifier keys";
-            XTQMODKEYS, [b'?', b'm'], Answered, Selector, Xterm, "ask for modifier keys";
+            XTMODKEYS, [b'>', b'm'], Other, ChoiceAndNumber, Xterm, "modifier keys";
+            XTQMODKEYS, [b'?', b'm'], Answered, Choice, Xterm, "ask for modifier keys";
             DSR, [b'n'], Answered, Selector, Ecma48, "device status report";
-            XTDISMODKEYS, [b'>', b'n'], Other, Selector, Xterm, "switch modifier keys off";
-            DECDSR = "DSR", [b'?', b'n'], Answered, Selectors, Vt220,
+            XTDISMODKEYS, [b'>', b'n'], Other, SelectorOrTwo, Xterm, "switch modifier keys off";
+            DECDSR = "DSR", [b'?', b'n'], Answered, Choices, Vt220,
                 "private device status report";
             DAQ, [b'o'], Other, Selectors, Ecma48, "define area qualification";
             DECSSL, [b'p'], Other, Selector, Vt510, "select the language of the setup";
             DECSSCLS, [b' ', b'p'], Other, Selector, Vt510, "set scroll speed";
             DECSTR, [b'!', b'p'], Other, Nothing, Vt220, "soft terminal reset";
-            DECSCL, [b'"', b'p'], Other, Selectors, Vt220, "conformance level";
-            XTPUSHSGR, [b'#', b'p'], Screen, Selectors, Xterm, "push renditions";
+            DECSCL, [b'"', b'p'], Other, Conformance, Vt220, "conformance level";
+            XTPUSHSGR, [b'#', b'p'], Screen, Choices, Xterm, "push renditions";
             DECRQM_ANSI = "DECRQM", [b'$', b'p'], Answered, Mode, Vt320, "ask for a mode";
             DECSDPT, [b'(', b'p'], Other, Selector, Vt510, "select digital printed data type";
             DECSPPCS, [b'*', b'p'], Other, Selector, Vt510, "select ProPrinter character set";
             DECSR, [b'+', b'p'], Answered, Number, Vt420, "secure reset";
-            DECLTOD, [b',', b'p'], Other, Numbers, Vt510, "load time of day";
+            DECLTOD, [b',', b'p'], Other, TwoNumbers, Vt510, "load time of day";
             DECARR, [b'-', b'p'], Other, Selector, Vt510, "auto-repeat rate of keys";
-            XTSMPOINTER, [b'>', b'p'], Other, Selector, Xterm, "hiding of the pointer";
+            XTSMPOINTER, [b'>', b'p'], Other, SelectorOrOne, Xterm, "hiding of the pointer";
             DECRQM, [b'?', b'$', b'p'], Answered, PrivateMode, Vt320, "ask for a private mode";
             DECLL, [b'q'], Other, Selectors, Vt100, "load LEDs";
             DECSCUSR, [b' ', b'q'], Screen, Selector, Vt510, "cursor style";
             DECSCA, [b'"', b'q'], Other, Selector, Vt220, "character protection";
             XTPOPSGR, [b'#', b'q'], Screen, Nothing, Xterm, "pop renditions";
             DECSDDT, [b'$', b'q'], Other, Selector, Vt510, "select disconnect delay time";
-            MINTTYPROGRESS, [b'%', b'q'], Other, Selectors, Mintty, "progress of a task";
+            MINTTYPROGRESS, [b'%', b'q'], Other, ChoiceAndNumber, Mintty, "progress of a task";
             DECSRC, [b'*', b'q'], Report, Number, Vt420, "secure reset confirmation";
             DECELF, [b'+', b'q'], Other, Selectors, Vt420, "enable local functions";
             DECTID, [b',', b'q'], Other, Selector, Vt510, "select terminal identification";
             DECCRTST, [b'-', b'q'], Other, Selector, Vt510, "time until the screen is saved";
-            XTVERSION, [b'>', b'q'], Answered, Selector, Xterm, "ask for name and version";
+            XTVERSION, [b'>', b'q'], Answered, Choice, Xterm, "ask for name and version";
             KITTYCURSORS, [b'>', b' ', b'q'], Answered, ExtraCursors, Kitty, "extra cursors";
             DECSTBM, [b'r'], Screen, LineMargins, Vt100, "top and bottom margins";
             DECSKCV, [b' ', b'r'], Other, Selector, Vt510, "set key click volume";
-            DECCARA, [b'$', b'r'], Other, RectangleRenditions, Vt420,
+            DECCARA, [b'$', b'r'], Screen, RectangleRenditions, Vt420,
                 "change attributes in a rectangle";
-            DECSCS, [b'*', b'r'], Other, Selectors, Vt510, "select communication speed";
+            DECSCS, [b'*', b'r'], Other, TwoSelectors, Vt510, "select communication speed";
             DECSMKR, [b'+', b'r'], Other, Selectors, Vt420, "select modifier key reporting";
             DECSEST, [b'-', b'r'], Other, Selector, Vt510, "time until energy is saved";
             XTRESTORE, [b'?', b'r'], Other, PrivateModes, Xterm, "restore private modes";
             SCOSC, [b's'], Screen, Nothing, Sco, "save cursor position";
             DECSLRM, [long b's'], Screen, ColumnMargins, Vt420, "left and right margins";
             DECSPRTT, [b'$', b's'], Other, Selector, Vt510, "select printer type";
-            DECSFC, [b'*', b's'], Other, Selectors, Vt510, "select flow control";
+            DECSFC, [b'*', b's'], Other, ThreeSelectors, Vt510, "select flow control";
             XTSHIFTESCAPE, [b'>', b's'], Other, Selector, Xterm, "use of Shift with the mouse";
             XTSAVE, [b'?', b's'], Other, PrivateModes, Xterm, "save private modes";
             XTWINOPS, [b't'], Answered, Window, Xterm, "window";
             DECSWBV, [b' ', b't'], Other, Selector, Vt510, "warning bell volume";
             DECSRFR, [b'"', b't'], Other, Selector, Vt510, "select refresh rate";
-            DECRARA, [b'$', b't'], Other, RectangleRenditions, Vt420,
+            DECRARA, [b'$', b't'], Screen, RectangleRenditions, Vt420,
                 "reverse attributes in a rectangle";
-            XTSMTITLE, [b'>', b't'], Other, Selectors, Xterm, "set title modes";
+            XTSMTITLE, [b'>', b't'], Other, Choices, Xterm, "set title modes";
             SCORC, [b'u'], Screen, Nothing, Sco, "restore cursor position";
             KITTYKEY, [long b'u'], Report, KeyEvent, Kitty, "key pressed, repeated or released";
             DECSMBV, [b' ', b'u'], Other, Selector, Vt510, "margin bell volume";
             DECSTRL, [b'"', b'u'], Other, Selector, Vt510, "set transmit rate limit";
-            DECRQTSR, [b'$', b'u'], Answered, Selectors, Vt320, "ask for terminal state";
+            DECRQTSR, [b'$', b'u'], Answered, TwoSelectors, Vt320, "ask for terminal state";
             DECRQUPSS, [b'&', b'u'], Answered, Nothing, Vt320,
                 "ask for user-preferred supplemental set";
             DECSCP, [b'*', b'u'], Other, Selector, Vt510, "select communication port";
             DECRQKT, [b',', b'u'], Answered, Number, Vt510, "ask for key type";
             KITTYPOP, [b'<', b'u'], Other, Count, Kitty, "pop flags of the keyboard";
             KITTYSET, [b'=', b'u'], Other, KeyboardFlags, Kitty, "set flags of the keyboard";
-            KITTYPUSH, [b'>', b'u'], Other, Number, Kitty, "push flags of the keyboard";
+            KITTYPUSH, [b'>', b'u'], Other, Amount, Kitty, "push flags of the keyboard";
             KITTYQUERY, [b'?', b'u'], Answered, Number, Kitty,
                 "ask for flags of the keyboard, and their report";
             DECSLCK, [b' ', b'v'], Other, Selector, Vt510, "set lock key style";
             DECRQDE, [b'"', b'v'], Answered, Nothing, Vt320, "ask for displayed extent";
             DECCRA, [b'$', b'v'], Screen, Copy, Vt420, "copy a rectangle";
-            DECRPKT, [b',', b'v'], Report, Numbers, Vt510, "report of key type";
-            DECRPDE, [b'"', b'w'], Report, Numbers, Vt320, "report of displayed extent";
+            DECRPKT, [b',', b'v'], Report, TwoNumbers, Vt510, "report of key type";
+            DECRPDE, [b'"', b'w'], Report, Extent, Vt320, "report of displayed extent";
             DECRQPSR, [b'$', b'w'], Answered, Selector, Vt320, "ask for presentation state";
-            DECLRP, [b'&', b'w'], Report, Numbers, Vt220, "report of the locator";
-            DECEFR, [b'\'', b'w'], Other, Rectangle, Vt220, "filter rectangle of the locator";
+            DECLRP, [b'&', b'w'], Report, Locator, Vt420, "report of the locator";
+            DECEFR, [b'\'', b'w'], Other, Area, Vt420, "filter rectangle of the locator";
             DECSPP, [b'+', b'w'], Other, Selectors, Vt510, "set port parameter";
+            DECRQKD, [b',', b'w'], Answered, TwoNumbers, Vt510, "ask for the definition of a key";
             DECREQTPARM, [b'x'], Answered, Selector, Vt100,
                 "ask for terminal parameters, and their report";
             DECFRA, [b'$', b'x'], Screen, Fill, Vt420, "fill a rectangle";
@@ -238,33 +241,33 @@ macro_rules! functions {
             DECRQPKFM, [b'+', b'x'], Answered, Nothing, Vt510, "ask for free memory for keys";
             DECSPMA, [b',', b'x'], Other, Numbers, Vt420, "session page memory allocation";
             DECTST, [b'y'], Other, Selectors, Vt100, "confidence test";
-            XTCHECKSUM, [b'#', b'y'], Other, Selector, Xterm, "select checksum extension";
+            XTCHECKSUM, [b'#', b'y'], Other, Number, Xterm, "select checksum extension";
             DECRPM_ANSI = "DECRPM", [b'$', b'y'], Report, ModeState, Vt320, "report of a mode";
             DECRQCRA, [b'*', b'y'], Answered, Checksum, Vt420, "ask for a rectangle's checksum";
-            DECPKFMR, [b'+', b'y'], Report, Numbers, Vt510, "report of free memory for keys";
+            DECPKFMR, [b'+', b'y'], Report, TwoNumbers, Vt510, "report of free memory for keys";
             DECUS, [b',', b'y'], Other, Selector, Vt420, "update session";
             DECRPM, [b'?', b'$', b'y'], Report, PrivateModeState, Vt320, "report of a private mode";
             DECERA, [b'$', b'z'], Screen, Rectangle, Vt420, "erase a rectangle";
-            DECELR, [b'\'', b'z'], Answered, Selectors, Vt220, "locator reports";
+            DECELR, [b'\'', b'z'], Answered, TwoSelectors, Vt420, "locator reports";
             DECINVM, [b'*', b'z'], Other, Number, Vt420, "invoke macro";
             DECPKA, [b'+', b'z'], Other, Selectors, Vt510, "program key action";
             DECDLDA, [b',', b'z'], Other, Selector, Vt510,
                 "allocate memory of loaded character sets";
-            XTPUSHSGR_2 = "XTPUSHSGR", [b'#', b'{'], Screen, Selectors, Xterm, "push renditions";
+            XTPUSHSGR_2 = "XTPUSHSGR", [b'#', b'{'], Screen, Choices, Xterm, "push renditions";
             DECSERA, [b'$', b'{'], Screen, Rectangle, Vt420,
                 "erase in a rectangle what is not protected";
-            DECSLE, [b'\'', b'{'], Other, Selectors, Vt220, "locator events";
+            DECSLE, [b'\'', b'{'], Other, Selectors, Vt420, "locator events";
             DECSTGLT, [b')', b'{'], Other, Selector, Vt525, "select colour look-up table";
             DECMSR, [b'*', b'{'], Report, Number, Vt420, "report of space for macros";
             DECSZS, [b',', b'{'], Other, Selector, Vt525, "select zero symbol";
-            DECTTC, [b'|'], Other, Selector, Vt220, "select transmit termination character";
-            XTREPORTSGR, [b'#', b'|'], Answered, Rectangle, Xterm,
+            DECTTC, [b'|'], Other, Selector, Vt100, "select transmit termination character";
+            XTREPORTSGR, [b'#', b'|'], Answered, Area, Xterm,
                 "ask for renditions of a rectangle";
-            DECSCPP, [b'$', b'|'], Other, Number, Vt340, "columns a page";
-            DECRQLP, [b'\'', b'|'], Answered, Selector, Vt220, "ask for the locator's position";
+            DECSCPP, [b'$', b'|'], Other, Selector, Vt340, "columns a page";
+            DECRQLP, [b'\'', b'|'], Answered, Selector, Vt420, "ask for the locator's position";
             DECSNLS, [b'*', b'|'], Other, Number, Vt420, "lines a screen";
             DECAC, [b',', b'|'], Other, Colors, Vt525, "assign colours";
-            DECKBD, [b' ', b'}'], Other, Selectors, Vt510, "language of the keyboard";
+            DECKBD, [b' ', b'}'], Other, TwoSelectors, Vt510, "language of the keyboard";
             XTPOPSGR_2 = "XTPOPSGR", [b'#', b'}'], Screen, Nothing, Xterm, "pop renditions";
             DECSASD, [b'$', b'}'], Other, Selector, Vt320, "select active status display";
             DECIC, [b'\'', b'}'], Screen, Count, Vt420, "insert columns";
@@ -274,23 +277,23 @@ macro_rules! functions {
             DECTME, [b' ', b'~'], Other, Selector, Vt510, "terminal mode emulation";
             DECSSDT, [b'$', b'~'], Other, Selector, Vt320, "select status line type";
             DECDC, [b'\'', b'~'], Screen, Count, Vt420, "delete columns";
-            DECPS, [b',', b'~'], Other, Numbers, Vt510, "play sound";
+            DECPS, [b',', b'~'], Other, Sound, Vt510, "play sound";
         ]
     };
 }
 
-static ROWS: [Row<ControlFunction>; 221] = functions!(rows);
+static ROWS: [Row<ControlFunction>; 223] = functions!(rows);
 
-static NAMES: [&str; 221] = functions!(names);
+static NAMES: [&str; 223] = functions!(names);
 
-static WORDS: [&str; 221] = functions!(words);
+static WORDS: [&str; 223] = functions!(words);
 
 // The place of the first row of each final byte, `@` to `~`, and how many rows there are.
 static STARTS: [u16; 64] = starts![ControlFunction;
     ICH, CUU, CUD, CUF, CUB, CNL, CPL, CHA, CUP, CHT, ED, EL, IL, DL, EF, EA, DCH, SEE, CPR, SU,
-    SD, NP, PP, CTC, ECH, CVT, CBT, SRS, PTX, SDS, SIMD, GCC, HPA, HPR, REP, DA1, VPA, VPR, HVP,
-    TBC, SM, MC, HPB, VPB, RM, SGR, DSR, DAQ, DECSSL, DECLL, DECSTBM, SCOSC, XTWINOPS, SCORC,
-    DECSLCK, DECRPDE, DECREQTPARM, DECTST, DECERA, XTPUSHSGR_2, DECTTC, DECKBD, DECFNK; 221
+    SD, NP, PP, CTC, ECH, CVT, CBT, SRS, PTX, SDS, SIMD, WIN32KEY, HPA, HPR, REP, DA1, VPA, VPR,
+    HVP, TBC, SM, MC, HPB, VPB, RM, SGR, DSR, DAQ, DECSSL, DECLL, DECSTBM, SCOSC, XTWINOPS, SCORC,
+    DECSLCK, DECRPDE, DECREQTPARM, DECTST, DECERA, XTPUSHSGR_2, DECTTC, DECKBD, DECFNK; 223
 ];
 
 impl ControlFunction {
@@ -401,7 +404,7 @@ impl ControlFunction {
 #[inline(always)]
 fn place(function: ControlFunction) -> usize
     ensures place { result ≡ place function }
-    ensures below { result < 221 }
+    ensures below { result < 223 }
 {
     function as usize
 }

@@ -11,8 +11,8 @@ pub enum Effect {
     Answered,
     /// A terminal sends it, as an answer or because of a key, the mouse or the window.
     Report,
-    /// Anything else: what keys, mouse or terminal send, modes, printers, memory, or not known to
-    /// change the screen alone.
+    /// Anything else: what keys, mouse or terminal send, modes, character sets and shifts between
+    /// them, the bell, printers, memory, and what no terminal is known to do.
     Other,
 }
 

@@ -9,7 +9,7 @@
 ghost use Rattle.std.specs.Prelude.{◌≡◌, ◌<◌};
 ghost use Rattle.esc_functions.specs.Effects.{is_answered_effect, is_screen_effect};
 ghost use Rattle.esc_functions.specs.EscapeEffects.{changes_screen, is_answered};
-ghost use Rattle.esc_functions.specs.Escapes.{designates, function_of, key_of, name_of, named, named_c1, place, sequence_key, words_of};
+ghost use Rattle.esc_functions.specs.Escapes.{designates, function_of, intermediates_key, key_of, name_of, named, named_c1, place, sequence_key, two_key, words_of};
 
 use crate::effect::Effect;
 use crate::escape_function::EscapeFunction;
@@ -21,8 +21,8 @@ use crate::table_macros::{key, name, names, row, rows, starts, words};
 use esc_sequences::{Esc, EscCode};
 
 // A row a line: the function, and its name where that is another; the bytes of its sequence after
-// ESC; what it changes; which standard has it; what it does. One with an intermediate alone
-// designates a set, which its final byte names.
+// ESC; what it changes; which standard has it; what it does. One with intermediates alone
+// designates a set or a coding system, which the bytes after them name.
 //
 // The rows are in the order of their last bytes, and in that of `EscapeFunction`.
 macro_rules! functions {
@@ -30,15 +30,25 @@ macro_rules! functions {
         $each![EscapeFunction;
             CZD, [b'!'], Other, Ecma35, "designate the C0 set";
             C1D, [b'"'], Other, Ecma35, "designate the C1 set";
-            GZDM4, [b'$'], Other, Ecma35, "designate a set of several bytes as G0";
+            GZDM4, [b'$'], Other, Ecma35, "designate G0, a set of several bytes";
             IRR, [b'&'], Other, Ecma35, "identify revised registration";
             GZD4, [b'('], Other, Ecma35, "designate G0";
+            GZDM4_LONG = "GZDM4", [b'$', b'('], Other, Ecma35,
+                "designate G0, a set of several bytes";
             G1D4, [b')'], Other, Ecma35, "designate G1";
+            G1DM4, [b'$', b')'], Other, Ecma35, "designate G1, a set of several bytes";
             G2D4, [b'*'], Other, Ecma35, "designate G2";
+            G2DM4, [b'$', b'*'], Other, Ecma35, "designate G2, a set of several bytes";
             G3D4, [b'+'], Other, Ecma35, "designate G3";
+            G3DM4, [b'$', b'+'], Other, Ecma35, "designate G3, a set of several bytes";
             G1D6, [b'-'], Other, Ecma35, "designate G1, a set of 96";
+            G1DM6, [b'$', b'-'], Other, Ecma35, "designate G1, a set of 96 of several bytes";
             G2D6, [b'.'], Other, Ecma35, "designate G2, a set of 96";
+            G2DM6, [b'$', b'.'], Other, Ecma35, "designate G2, a set of 96 of several bytes";
             G3D6, [b'/'], Other, Ecma35, "designate G3, a set of 96";
+            G3DM6, [b'$', b'/'], Other, Ecma35, "designate G3, a set of 96 of several bytes";
+            DOCS_OTHER = "DOCS", [b'%', b'/'], Other, Ecma35,
+                "another coding system, without a return";
             DECDHLT = "DECDHL", [b'#', b'3'], Screen, Vt100, "line of double height, top half";
             DECDHLB = "DECDHL", [b'#', b'4'], Screen, Vt100, "line of double height, bottom half";
             DECSWL, [b'#', b'5'], Screen, Vt100, "line of single width";
@@ -47,13 +57,14 @@ macro_rules! functions {
             DECSC, [b'7'], Screen, Vt100, "save cursor";
             DECRC, [b'8'], Screen, Vt100, "restore cursor";
             DECALN, [b'#', b'8'], Screen, Vt100, "screen alignment pattern";
+            DOCS_LINUX = "DOCS", [b'%', b'8'], Other, Linux, "UTF-8, obsolete";
             DECFI, [b'9'], Screen, Vt420, "forward index";
             VT52EXIT, [b'<'], Other, Vt100, "leave VT52 mode";
             DECKPAM, [b'='], Other, Vt100, "application keypad";
             DECKPNM, [b'>'], Other, Vt100, "numeric keypad";
-            PAD, [b'@'], Other, Ecma48, "padding character";
+            PAD, [b'@'], Other, Rfc1345, "padding character";
             DOCS_DEFAULT = "DOCS", [b'%', b'@'], Other, Ecma35, "default character set";
-            HOP, [b'A'], Other, Ecma48, "high octet preset";
+            HOP, [b'A'], Other, Rfc1345, "high octet preset";
             BPH, [b'B'], Other, Ecma48, "break permitted here";
             NBH, [b'C'], Other, Ecma48, "no break here";
             IND, [b'D'], Screen, Ecma48, "index";
@@ -68,11 +79,11 @@ macro_rules! functions {
             VTS, [b'J'], Other, Ecma48, "set line tab stop";
             PLD, [b'K'], Other, Ecma48, "partial line forward";
             PLU, [b'L'], Other, Ecma48, "partial line backward";
-            ACS1 = "ACS", [b' ', b'L'], Other, Ecma48, "conformance level one";
+            ACS1 = "ACS", [b' ', b'L'], Other, Ecma43, "conformance level one";
             RI, [b'M'], Screen, Ecma48, "reverse line feed";
-            ACS2 = "ACS", [b' ', b'M'], Other, Ecma48, "conformance level two";
+            ACS2 = "ACS", [b' ', b'M'], Other, Ecma43, "conformance level two";
             SS2, [b'N'], Other, Ecma48, "single shift two";
-            ACS3 = "ACS", [b' ', b'N'], Other, Ecma48, "conformance level three";
+            ACS3 = "ACS", [b' ', b'N'], Other, Ecma43, "conformance level three";
             SS3, [b'O'], Other, Ecma48, "single shift three";
             DCS, [b'P'], Other, Ecma48, "device control string";
             PU1, [b'Q'], Other, Ecma48, "private use one";
@@ -83,7 +94,7 @@ macro_rules! functions {
             SPA, [b'V'], Other, Ecma48, "start of guarded area";
             EPA, [b'W'], Other, Ecma48, "end of guarded area";
             SOS, [b'X'], Other, Ecma48, "start of string";
-            SGC, [b'Y'], Other, Ecma48, "single graphic character introducer";
+            SGC, [b'Y'], Other, Rfc1345, "single graphic character introducer";
             DECID, [b'Z'], Answered, Vt100,
                 "identify terminal; in ECMA-48 SCI, single character introducer";
             CSI, [b'['], Other, Ecma48, "control sequence introducer";
@@ -109,11 +120,11 @@ macro_rules! functions {
     };
 }
 
-static ROWS: [Row<EscapeFunction>; 76] = functions!(rows);
+static ROWS: [Row<EscapeFunction>; 85] = functions!(rows);
 
-static NAMES: [&str; 76] = functions!(names);
+static NAMES: [&str; 85] = functions!(names);
 
-static WORDS: [&str; 76] = functions!(words);
+static WORDS: [&str; 85] = functions!(words);
 
 // The place of the first row of each last byte, space to `~`, and how many rows there are.
 static STARTS: [u16; 96] = starts![EscapeFunction;
@@ -123,7 +134,7 @@ static STARTS: [u16; 96] = starts![EscapeFunction;
     VTS, PLD, PLU, RI, SS2, SS3, DCS, PU1, PU2, STS, CCH, MW, SPA, EPA, SOS, SGC, DECID, CSI, ST,
     OSC, PM, APC, DMI, INT, EMI, RIS, CMD, VISIBLEBELL, VISIBLEBELL, VISIBLEBELL, TITLE, TITLE,
     TITLE, TITLE, MEMORYLOCK, MEMORYUNLOCK, LS2, LS3, LS3R, LS3R, LS3R, LS3R, LS3R, LS3R, LS3R,
-    LS3R, LS3R, LS3R, LS3R, LS3R, LS3R, LS2R, LS1R; 76
+    LS3R, LS3R, LS3R, LS3R, LS3R, LS3R, LS2R, LS1R; 85
 ];
 
 impl EscapeFunction {
@@ -156,6 +167,22 @@ impl EscapeFunction {
                     with_key((0x100 + byte as u32) * 0x100 + last as u32)
                 }
             }
+        }
+    }
+
+    /// The function of an escape sequence with all of these intermediates and this final byte,
+    /// where it has a name (ECMA-35, 14.3.2 and 15.4.2): of two intermediates both count, as in
+    /// `ESC $ ) C`, which designates a set of several bytes as G1, and `ESC ( % 6`, which
+    /// designates one of the sets of 94 characters as G0. An [`Esc`] keeps no second intermediate.
+    pub fn of_intermediates(intermediates: &[u8], last: u8) -> Option<EscapeFunction>
+        ensures { result ≡ function_of (intermediates_key intermediates.now last) }
+    {
+        let Some((first, rest)) = intermediates.split_first() else {
+            return EscapeFunction::of_bytes(None, last);
+        };
+        match rest.first() {
+            None => EscapeFunction::of_bytes(Some(*first), last),
+            Some(second) => with_key(two_key(*first, *second)),
         }
     }
 
@@ -222,7 +249,7 @@ impl EscapeFunction {
 #[inline(always)]
 fn place(function: EscapeFunction) -> usize
     ensures place { result ≡ place function }
-    ensures below { result < 76 }
+    ensures below { result < 85 }
 {
     function as usize
 }
@@ -232,6 +259,19 @@ fn designates(byte: u8) -> bool
     ensures { result ≡ designates byte }
 {
     matches!(byte, b'!' | b'"' | b'$' | b'&' | b'('..=b'+' | b'-'..=b'/')
+}
+
+// The key of two intermediates.
+fn two_key(first: u8, second: u8) -> u32
+    ensures { result ≡ two_key first second }
+{
+    if first == b'$' || first == b'%' {
+        (0x100 + first as u32) * 0x100 + second as u32
+    } else if designates(first) {
+        0x100 + first as u32
+    } else {
+        0
+    }
 }
 
 // The function that has this key.

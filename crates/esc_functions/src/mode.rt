@@ -28,4 +28,6 @@ pub enum Mode {
     LNM,
     GRCM,
     ZDM,
+    WYSTCURM,
+    WYULCURM,
 }

@@ -1,7 +1,8 @@
 //! The table of modes of ECMA-48.
 //!
-//! The names are those of ECMA-48, fifth edition, 7.2, of its fourth edition (EBM, LNM) and of the
-//! VT510's manual (CRM, <https://vt100.net/docs/vt510-rm/chapter4.html>).
+//! The names are those of ECMA-48, fifth edition, 7.2, of its fourth edition (EBM, LNM), of the
+//! VT510's manual (CRM, <https://vt100.net/docs/vt510-rm/chapter4.html>), and of VTE's list of modes
+//! (WYSTCURM and WYULCURM, which are Wyse's).
 ghost use Rattle.std.specs.Prelude.{◌≡◌, ◌<◌};
 ghost use Rattle.esc_functions.specs.Modes.{changes_screen, is_screen, mode_of, name_of, number_of, place, words_of};
 
@@ -38,15 +39,17 @@ macro_rules! modes {
             LNM, 20, Other, "line feed as new line";
             GRCM, 21, Other, "rendition that adds up";
             ZDM, 22, Other, "zero as a default";
+            WYSTCURM, 33, Other, "steady cursor, of Wyse";
+            WYULCURM, 34, Other, "underline cursor, of Wyse, or in screen normal cursor";
         ]
     };
 }
 
-static ROWS: [ModeRow<Mode>; 22] = modes!(mode_rows);
+static ROWS: [ModeRow<Mode>; 24] = modes!(mode_rows);
 
-static NAMES: [&str; 22] = modes!(names);
+static NAMES: [&str; 24] = modes!(names);
 
-static WORDS: [&str; 22] = modes!(words);
+static WORDS: [&str; 24] = modes!(words);
 
 impl Mode {
     /// The mode of this number, where it has a name.
@@ -103,7 +106,7 @@ impl Mode {
 #[inline(always)]
 fn place(mode: Mode) -> usize
     ensures place { result ≡ place mode }
-    ensures below { result < 22 }
+    ensures below { result < 24 }
 {
     mode as usize
 }

@@ -4,7 +4,8 @@ ghost use Rattle.esc_functions.specs.Parameters.{each_of, have_colons, last_repe
 
 use crate::parameter::Parameter;
 use crate::parameter::Parameter::{
-    Column, Count, LastColumn, LastLine, Line, Mode, Number, Page, PrivateMode, Rendition, Selector,
+    Amount, Choice, Column, Count, GivenColumn, GivenLine, GivenPage, LastColumn, LastLine, Line,
+    Mode, Number, Page, PrivateMode, Rendition, Selector,
 };
 
 /// Which parameters a control function has, in order.
@@ -22,16 +23,43 @@ pub enum Parameters {
     Place,
     /// A page.
     Page,
-    /// A line, a column and a page.
+    /// A line, a column and a page, as a terminal reports them.
     PlaceAndPage,
     /// A number.
     Number,
+    /// Two numbers.
+    TwoNumbers,
     /// Numbers.
     Numbers,
-    /// A choice.
+    /// A number, and 0 where it is left out.
+    Amount,
+    /// Two sizes in percent, and 100 where they are left out.
+    Percentages,
+    /// The place of a tab stop, and the number of a character, which is a space where it is left
+    /// out.
+    CenteredStop,
+    /// A choice, and 0 where it is left out.
     Selector,
-    /// Choices.
+    /// A choice, and 1 where it is left out.
+    SelectorOrOne,
+    /// A choice, and 2 where it is left out.
+    SelectorOrTwo,
+    /// Two choices, and 0 where they are left out.
+    TwoSelectors,
+    /// Three choices, and 0 where they are left out.
+    ThreeSelectors,
+    /// Choices, and 0 where one is left out.
     Selectors,
+    /// A choice without a default.
+    Choice,
+    /// Two choices without a default.
+    TwoChoices,
+    /// Choices without a default.
+    Choices,
+    /// What is set, and its number.
+    ChoiceAndNumber,
+    /// A level, and whether controls have seven bits or eight.
+    Conformance,
     /// The number of a mode.
     Mode,
     /// The numbers of modes.
@@ -52,6 +80,8 @@ pub enum Parameters {
     ColumnMargins,
     /// The lines and columns of two corners.
     Rectangle,
+    /// The lines and columns of two corners, without a default.
+    Area,
     /// A rectangle and renditions.
     RectangleRenditions,
     /// A rectangle and its page, and the line, column and page that it is copied to.
@@ -68,6 +98,10 @@ pub enum Parameters {
     Highlight,
     /// A button with its modifiers, a column and a line.
     Mouse,
+    /// An event, the buttons that are down, a line, a column and a page.
+    Locator,
+    /// Lines and columns that are shown, the first column and the first line, and their page.
+    Extent,
     /// A key and its modifiers.
     Key,
     /// A key, its modifiers with the event, and its text, in each of which there may be colons.
@@ -78,6 +112,10 @@ pub enum Parameters {
     ExtraCursors,
     /// What is coloured, and two colours.
     Colors,
+    /// A volume, a duration, and notes.
+    Sound,
+    /// A key by two numbers, its character, whether it is down, modifiers, and how often.
+    Win32Key,
 }
 
 impl Parameters {
@@ -92,34 +130,61 @@ impl Parameters {
             Parameters::Column => &[Column],
             Parameters::Place => &[Line, Column],
             Parameters::Page => &[Page],
-            Parameters::PlaceAndPage => &[Line, Column, Page],
+            Parameters::PlaceAndPage => &[GivenLine, GivenColumn, GivenPage],
             Parameters::Number => &[Number],
+            Parameters::TwoNumbers => &[Number, Number],
             Parameters::Numbers => &[Number],
+            Parameters::Amount => &[Amount(0)],
+            Parameters::Percentages => &[Amount(100), Amount(100)],
+            Parameters::CenteredStop => &[Number, Amount(32)],
             Parameters::Selector => &[Selector(0)],
+            Parameters::SelectorOrOne => &[Selector(1)],
+            Parameters::SelectorOrTwo => &[Selector(2)],
+            Parameters::TwoSelectors => &[Selector(0), Selector(0)],
+            Parameters::ThreeSelectors => &[Selector(0), Selector(0), Selector(0)],
             Parameters::Selectors => &[Selector(0)],
+            Parameters::Choice => &[Choice],
+            Parameters::TwoChoices => &[Choice, Choice],
+            Parameters::Choices => &[Choice],
+            Parameters::ChoiceAndNumber => &[Choice, Number],
+            Parameters::Conformance => &[Choice, Selector(0)],
             Parameters::Mode => &[Mode],
             Parameters::Modes => &[Mode],
-            Parameters::ModeState => &[Mode, Selector(0)],
+            Parameters::ModeState => &[Mode, Choice],
             Parameters::PrivateMode => &[PrivateMode],
             Parameters::PrivateModes => &[PrivateMode],
-            Parameters::PrivateModeState => &[PrivateMode, Selector(0)],
+            Parameters::PrivateModeState => &[PrivateMode, Choice],
             Parameters::Renditions => &[Rendition],
             Parameters::LineMargins => &[Line, LastLine],
             Parameters::ColumnMargins => &[Column, LastColumn],
             Parameters::Rectangle => &[Line, Column, LastLine, LastColumn],
+            Parameters::Area => &[GivenLine, GivenColumn, GivenLine, GivenColumn],
             Parameters::RectangleRenditions => &[Line, Column, LastLine, LastColumn, Rendition],
             Parameters::Copy => &[Line, Column, LastLine, LastColumn, Page, Line, Column, Page],
             Parameters::Fill => &[Number, Line, Column, LastLine, LastColumn],
-            Parameters::Checksum => &[Number, Page, Line, Column, LastLine, LastColumn],
-            Parameters::Window => &[Selector(0), Number, Number],
-            Parameters::Graphics => &[Selector(0), Selector(0), Number],
-            Parameters::Highlight => &[Selector(0), Column, Line, Line, LastLine],
-            Parameters::Mouse => &[Number, Column, Line],
+            Parameters::Checksum => &[Number, GivenPage, Line, Column, LastLine, LastColumn],
+            Parameters::Window => &[Choice, Number, Number],
+            Parameters::Graphics => &[Choice, Choice, Number, Number],
+            Parameters::Highlight => &[Choice, GivenColumn, GivenLine, GivenLine, GivenLine],
+            Parameters::Mouse => &[Number, GivenColumn, GivenLine],
+            Parameters::Locator => &[Choice, Number, GivenLine, GivenColumn, GivenPage],
+            Parameters::Extent => &[Number, Number, GivenColumn, GivenLine, GivenPage],
             Parameters::Key => &[Number, Selector(1), Number],
             Parameters::KeyEvent => &[Number, Selector(1), Number],
             Parameters::KeyboardFlags => &[Number, Selector(1)],
-            Parameters::ExtraCursors => &[Selector(0), Number],
-            Parameters::Colors => &[Selector(0), Number, Number],
+            Parameters::ExtraCursors => &[Choice, Number],
+            Parameters::Colors => &[Choice, Number, Number],
+            Parameters::Sound => &[Number, Number, Number],
+            Parameters::Win32Key => {
+                &[
+                    Amount(0),
+                    Amount(0),
+                    Amount(0),
+                    Amount(0),
+                    Amount(0),
+                    Amount(1),
+                ]
+            }
         }
     }
 
@@ -131,13 +196,13 @@ impl Parameters {
             self,
             Parameters::Numbers
                 | Parameters::Selectors
+                | Parameters::Choices
                 | Parameters::Modes
                 | Parameters::PrivateModes
                 | Parameters::Renditions
                 | Parameters::RectangleRenditions
-                | Parameters::Window
-                | Parameters::Graphics
                 | Parameters::ExtraCursors
+                | Parameters::Sound
         )
     }
 

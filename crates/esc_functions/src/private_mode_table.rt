@@ -3,8 +3,8 @@
 //! The names that begin with DEC are those of the manuals of the VT131, VT340, VT510
 //! (<https://vt100.net/docs/vt510-rm/chapter4.html>) and VT525. From 1000 on the modes are those of
 //! xterm (<https://invisible-island.net/xterm/ctlseqs/ctlseqs.html>, "DEC Private Mode Set"), rxvt,
-//! readline, VTE, contour (<https://contour-terminal.org/vt-extensions/>), kitty and, from 7700 on,
-//! mintty (<https://github.com/mintty/mintty/wiki/CtrlSeqs>), TeraTerm and Windows.
+//! readline, iTerm2, VTE, contour (<https://contour-terminal.org/vt-extensions/>), kitty and, from
+//! 7700 on, mintty (<https://github.com/mintty/mintty/wiki/CtrlSeqs>), TeraTerm and Windows.
 ghost use Rattle.std.specs.Prelude.{◌≡◌, ◌<◌};
 ghost use Rattle.esc_functions.specs.PrivateModes.{changes_screen, is_listed, is_screen, mode_of, name_of, number_of, place, words_of};
 
@@ -31,8 +31,10 @@ macro_rules! modes {
             DECEDM, 10, Other, "editing, or in rxvt toolbar";
             DECLTM, 11, Other, "line transmission";
             BlinkingCursor, 12, Screen, "blinking cursor";
-            DECSCFDM, 13, Other, "space compression and field delimiting";
-            DECTEM, 14, Other, "execution of the transmit key";
+            DECSCFDM, 13, Other,
+                "space compression and field delimiting, or in xterm blinking cursor";
+            DECTEM, 14, Other,
+                "execution of the transmit key, or in xterm blink of sequence or menu";
             DECEKEM, 16, Other, "execution of edit keys";
             DECPFF, 18, Other, "print form feed";
             DECPEX, 19, Other, "print full screen";
@@ -52,6 +54,7 @@ macro_rules! modes {
             DECGRPM, 47, Screen, "rotated print of graphics, or in xterm alternate screen";
             DECNAKB, 57, Other, "Greek and North American keyboard";
             DECIPEM, 58, Other, "emulation of the IBM ProPrinter";
+            DECKKDM, 59, Other, "display of kanji or katakana";
             DECHCCM, 60, Other, "horizontal coupling of the cursor";
             DECVCCM, 61, Other, "vertical coupling of the cursor";
             DECPCCM, 64, Other, "page coupling of the cursor";
@@ -97,6 +100,7 @@ macro_rules! modes {
             FastScroll, 1014, Other, "fast scroll";
             MouseUrxvt, 1015, Other, "mouse as urxvt";
             MouseSgrPixels, 1016, Other, "mouse as SGR in pixels";
+            BoldIsBright, 1021, Other, "bright colours for bold and blinking characters";
             EighthBitMeta, 1034, Other, "eighth bit for Meta";
             AltAndNumLock, 1035, Other, "special modifiers for Alt and NumLock";
             MetaSendsEsc, 1036, Other, "ESC for Meta";
@@ -120,6 +124,7 @@ macro_rules! modes {
             Vt220Keyboard, 1061, Other, "keyboard of the VT220";
             SixelRegisters, 1070, Other, "colour registers of its own for each sixel image";
             SwappedArrowKeys, 1243, Other, "arrow keys swapped in text from right to left";
+            KeyReleases, 1337, Other, "reports of released keys of iTerm2";
             ReadlineMouse1, 2001, Other, "readline's mouse button one";
             ReadlineMouse2, 2002, Other, "readline's mouse button two";
             ReadlineMouse3, 2003, Other, "readline's mouse button three";
@@ -130,6 +135,7 @@ macro_rules! modes {
             GraphemeClusters, 2027, Other, "grapheme clusters";
             TextReflow, 2028, Other, "reflow of text";
             PassiveMouse, 2029, Other, "passive tracking of the mouse";
+            CellSelection, 2030, Other, "reports of the selection by cells";
             ColorSchemeReports, 2031, Other, "reports of the colour scheme";
             SizeReports, 2048, Other, "reports of the size";
             MirroredBoxDrawing, 2500, Other, "mirrored box drawing in text from right to left";
@@ -157,11 +163,11 @@ macro_rules! modes {
     };
 }
 
-static ROWS: [ModeRow<PrivateMode>; 134] = modes!(mode_rows);
+static ROWS: [ModeRow<PrivateMode>; 138] = modes!(mode_rows);
 
-static NAMES: [&str; 134] = modes!(names);
+static NAMES: [&str; 138] = modes!(names);
 
-static WORDS: [&str; 134] = modes!(words);
+static WORDS: [&str; 138] = modes!(words);
 
 impl PrivateMode {
     /// The mode of this number, where it has a name.
@@ -229,7 +235,7 @@ fn is_listed(number: u64) -> bool
 #[inline(always)]
 fn place(mode: PrivateMode) -> usize
     ensures place { result ≡ place mode }
-    ensures below { result < 134 }
+    ensures below { result < 138 }
 {
     mode as usize
 }

@@ -5,8 +5,12 @@
 pub enum Standard {
     /// ECMA-35, character code structure, sixth edition.
     Ecma35,
+    /// ECMA-43, 8-bit coded character set, third edition.
+    Ecma43,
     /// ECMA-48, control functions, fifth edition; where it left some out, the fourth.
     Ecma48,
+    /// RFC 1345, which has the names of a draft of ISO 10646 that no edition of ECMA-48 took over.
+    Rfc1345,
     /// DEC's VT100 to VT132.
     Vt100,
     /// DEC's VT220 and VT240.
@@ -25,6 +29,10 @@ pub enum Standard {
     Sco,
     /// Hewlett-Packard's terminals.
     Hp,
+    /// The console of Linux.
+    Linux,
+    /// Microsoft's terminal and its console.
+    Microsoft,
     /// xterm.
     Xterm,
     /// kitty.

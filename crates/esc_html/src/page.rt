@@ -26,7 +26,7 @@ use esc_osc::OperatingSystemCommand;
 use esc_parse::Sink;
 use esc_sequences::Sgr;
 use esc_sequences::csi::{is_unspecified, short_rendition};
-use esc_typed::{Function, Rendition, Renditions, Unfit};
+use esc_typed::{Function, Rendition, Renditions};
 use esc_values::{CsiParam, Text};
 use memchr::memchr;
 use std::alloc::{AllocError, Allocator, Global};
@@ -436,7 +436,7 @@ fn function_of(params: &[CsiParam], parameters_truncated: bool, control: u8) -> 
     ensures { value_of result ≡ of_csi (unspecified params.now parameters_truncated control) }
 {
     if parameters_truncated {
-        return Function::Other(Unfit::Truncated);
+        return Function::of_kept(params, control);
     }
     Function::of_params(params, control)
 }

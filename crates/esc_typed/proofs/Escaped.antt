@@ -1,5 +1,5 @@
 -- What is written of an escape sequence's typed value reads back, and no two sequences have one.
-use Rattle.std.proofs.Common.{ℕ, ◌≡◌, ◌≢◌, ◌+◌, ◌-◌, ◌*◌, ◌/◌, ◌%◌, ◌<◌, ◌==◌, Bool, true, false, nat_le, zero, suc, List, [], ◌∷◌, length, map, get_or, Option, Some, None, Result, Ok, Err}
+use Rattle.std.proofs.Common.{ℕ, ◌≡◌, ◌≢◌, ◌+◌, ◌-◌, ◌*◌, ◌/◌, ◌%◌, ◌<◌, ◌==◌, Bool, true, false, nat_le, zero, suc, if◌then◌else◌, List, [], ◌∷◌, length, map, get_or, Option, Some, None, Result, Ok, Err}
 use Rattle.std.proofs.Common.{refl, ap, sym, ◌∙◌, arith, zero-add}
 use Rattle.std.specs.List.{range_with_len}
 use Rattle.std.proofs.lemmas.List.{get_or-map}
@@ -11,7 +11,7 @@ use denote.Enum.Enum.{tag_below}
 use Rattle.esc_functions.specs.declared.escape_function.EscapeFunction.{EscapeFunction}
 use Rattle.esc_functions.specs.declared.escape_function.EscapeFunction.TheVariants as functions
 use Rattle.esc_functions.specs.contracts.escape_function.EscapeFunction.{the_type as function_type}
-use Rattle.esc_functions.specs.Escapes.{designates, function_of, key_of, rows_of, sequence_key, place as function_place}
+use Rattle.esc_functions.specs.Escapes.{designates, function_of, key_of, rows_of, sequence_key, two_key, place as function_place}
 use Rattle.esc_functions.proofs.Escapes.{found_by_key, has_its_key, below as function_below}
 use Rattle.esc_typed.specs.declared.escape.Escape.{Escape}
 use Rattle.esc_typed.specs.declared.escape_table.TheConstants.{ESCAPES, FUNCTIONS}
@@ -24,11 +24,13 @@ use Rattle.esc_typed.specs.declared.charset96.Charset96.{Charset96}
 use Rattle.esc_typed.specs.declared.charset96.Charset96.TheVariants as of96
 use Rattle.esc_typed.specs.declared.multibyte_charset.MultibyteCharset.{MultibyteCharset}
 use Rattle.esc_typed.specs.declared.multibyte_charset.MultibyteCharset.TheVariants as multibyte
+use Rattle.esc_typed.specs.declared.pair_charset.PairCharset.{PairCharset}
+use Rattle.esc_typed.specs.declared.pair_charset.PairCharset.TheVariants as pair
 use Rattle.esc_typed.specs.declared.unfit.Unfit.{Unfit}
 use Rattle.std.specs.Option.{option_map}
 use Rattle.esc_typed.specs.Arguments.{in_range}
-use Rattle.esc_typed.specs.Charsets.{charset94_at, charset94_byte, charset96_at, charset96_byte, charset_bytes, multibyte_at, multibyte_byte}
-use Rattle.esc_typed.specs.Escapes.{AreBytes, bytes_of_key, designated, escape_bytes, escape_of, function_for, of_bytes, of_function, place, set_of, valued}
+use Rattle.esc_typed.specs.Charsets.{charset94_at, charset94_byte, charset96_at, charset96_byte, charset_bytes, is_short, multibyte_at, multibyte_byte, pair_at, pair_first, pair_last}
+use Rattle.esc_typed.specs.Escapes.{AreBytes, bytes_of_key, designated, designated_by_two, escape_bytes, escape_of, function_for, of_bytes, of_function, of_intermediates, of_two, place, set_of, valued}
 use Rattle.esc_typed.specs.Functions.{charset, escape}
 
 pub below : (e : Escape) → place e < 59
@@ -89,17 +91,17 @@ is_at : ℕ → Option Escape → Bool
 is_at i None = true
 is_at i (Some e) = function_place (function_for e) == i
 
-all_at : map (λ i. is_at i (get_or ESCAPES i None)) (range_with_len 0 76)
-    ≡ map (λ i. true) (range_with_len 0 76)
+all_at : map (λ i. is_at i (get_or ESCAPES i None)) (range_with_len 0 85)
+    ≡ map (λ i. true) (range_with_len 0 85)
 unfolding is_at function_place function_for place
 all_at = refl
 
-at : (i : ℕ) → i < 76 → is_at i (get_or ESCAPES i None) ≡ true
+at : (i : ℕ) → i < 85 → is_at i (get_or ESCAPES i None) ≡ true
 at i lt =
-    sym (get_or-map-range_with_len (λ j. is_at j (get_or ESCAPES j None)) 0 76 i i false lt
+    sym (get_or-map-range_with_len (λ j. is_at j (get_or ESCAPES j None)) 0 85 i i false lt
     (omega arith))
     ∙ ap (λ t. get_or t i false) all_at
-    ∙ get_or-map-range_with_len (λ j. true) 0 76 i i false lt (omega arith)
+    ∙ get_or-map-range_with_len (λ j. true) 0 85 i i false lt (omega arith)
 
 of_itself : (f : EscapeFunction) (e : Escape) → escape_of f ≡ Some e → function_for e ≡ f
 unfolding escape_of is_at function_place
@@ -220,6 +222,32 @@ multibyte_back : (c : MultibyteCharset) → multibyte_at (multibyte_byte c) ≡ 
 multibyte_back multibyte.Jis1978 = refl
 multibyte_back multibyte.Gb2312 = refl
 multibyte_back multibyte.Jis1983 = refl
+multibyte_back multibyte.KsX1001 = refl
+multibyte_back multibyte.JisX0212 = refl
+multibyte_back multibyte.IsoIr165 = refl
+multibyte_back multibyte.Cns1 = refl
+multibyte_back multibyte.Cns2 = refl
+multibyte_back multibyte.Cns3 = refl
+multibyte_back multibyte.Cns4 = refl
+multibyte_back multibyte.Cns5 = refl
+multibyte_back multibyte.Cns6 = refl
+multibyte_back multibyte.Cns7 = refl
+multibyte_back multibyte.JisX0213Plane1 = refl
+multibyte_back multibyte.JisX0213Plane2 = refl
+multibyte_back multibyte.JisX0213Of2004 = refl
+
+pair_back : (c : PairCharset) → pair_at (pair_first c) (pair_last c) ≡ Some c
+pair_back pair.Greek = refl
+pair_back pair.DecHebrew = refl
+pair_back pair.DecGreek = refl
+pair_back pair.DecTurkish = refl
+pair_back pair.Turkish = refl
+pair_back pair.Scs = refl
+pair_back pair.DecSupplementalGraphics = refl
+pair_back pair.Portuguese = refl
+pair_back pair.Hebrew = refl
+pair_back pair.DecCyrillic = refl
+pair_back pair.DecRussian = refl
 
 -- a designation is found, and has no other value
 set_back : (f : EscapeFunction) (i b : ℕ) (c : Charset)
@@ -228,7 +256,25 @@ set_back : (f : EscapeFunction) (i b : ℕ) (c : Charset)
 set_back f i b c found none set =
     ap (λ o. of_function o b) found ∙ ap (λ o. valued o f b) none ∙ ap set_of set
 
-pub charset_back : (c : Charset) → of_bytes (charset_bytes c).0 (charset_bytes c).1 ≡ charset c
+two_back : (f : EscapeFunction) (i j b : ℕ) (c : Charset) → function_of (two_key i j) ≡ Some f
+    → designated_by_two f j b ≡ Ok c → of_intermediates (i ∷ j ∷ []) b ≡ charset c
+two_back f i j b c found set = ap (λ o. of_two o j b) found ∙ ap set_of set
+
+as_g0 : (c : MultibyteCharset) (short : Bool) → is_short c ≡ short
+    → of_intermediates (0x24 ∷ (if short then [] else 0x28 ∷ [])) (multibyte_byte c)
+    ≡ charset (charsets.G0Multibyte c)
+unfolding escape_of function_place function_of rows_of
+as_g0 c true h =
+    set_back functions.GZDM4 0x24 (multibyte_byte c) (charsets.G0Multibyte c) refl refl
+    (ap (λ s. in_range (option_map charsets.G0Multibyte
+    (if s then multibyte_at (multibyte_byte c) else None))) h
+    ∙ ap (λ o. in_range (option_map charsets.G0Multibyte o)) (multibyte_back c))
+as_g0 c false h =
+    two_back functions.GZDM4_LONG 0x24 0x28 (multibyte_byte c) (charsets.G0Multibyte c) refl
+    (ap (λ o. in_range (option_map charsets.G0Multibyte o)) (multibyte_back c))
+
+pub charset_back : (c : Charset)
+    → of_intermediates (charset_bytes c).0 (charset_bytes c).1 ≡ charset c
 unfolding escape_of function_place function_of rows_of
 charset_back (charsets.G0 c) =
     set_back functions.GZD4 0x28 (charset94_byte c) (charsets.G0 c) refl refl
@@ -251,6 +297,25 @@ charset_back (charsets.G2Of96 c) =
 charset_back (charsets.G3Of96 c) =
     set_back functions.G3D6 0x2f (charset96_byte c) (charsets.G3Of96 c) refl refl
     (ap (λ o. in_range (option_map charsets.G3Of96 o)) (charset96_back c))
-charset_back (charsets.G0Multibyte c) =
-    set_back functions.GZDM4 0x24 (multibyte_byte c) (charsets.G0Multibyte c) refl refl
-    (ap (λ o. in_range (option_map charsets.G0Multibyte o)) (multibyte_back c))
+charset_back (charsets.G0Pair c) =
+    two_back functions.GZD4 0x28 (pair_first c) (pair_last c) (charsets.G0Pair c) refl
+    (ap (λ o. in_range (option_map charsets.G0Pair o)) (pair_back c))
+charset_back (charsets.G1Pair c) =
+    two_back functions.G1D4 0x29 (pair_first c) (pair_last c) (charsets.G1Pair c) refl
+    (ap (λ o. in_range (option_map charsets.G1Pair o)) (pair_back c))
+charset_back (charsets.G2Pair c) =
+    two_back functions.G2D4 0x2a (pair_first c) (pair_last c) (charsets.G2Pair c) refl
+    (ap (λ o. in_range (option_map charsets.G2Pair o)) (pair_back c))
+charset_back (charsets.G3Pair c) =
+    two_back functions.G3D4 0x2b (pair_first c) (pair_last c) (charsets.G3Pair c) refl
+    (ap (λ o. in_range (option_map charsets.G3Pair o)) (pair_back c))
+charset_back (charsets.G0Multibyte c) = as_g0 c (is_short c) refl
+charset_back (charsets.G1Multibyte c) =
+    two_back functions.G1DM4 0x24 0x29 (multibyte_byte c) (charsets.G1Multibyte c) refl
+    (ap (λ o. in_range (option_map charsets.G1Multibyte o)) (multibyte_back c))
+charset_back (charsets.G2Multibyte c) =
+    two_back functions.G2DM4 0x24 0x2a (multibyte_byte c) (charsets.G2Multibyte c) refl
+    (ap (λ o. in_range (option_map charsets.G2Multibyte o)) (multibyte_back c))
+charset_back (charsets.G3Multibyte c) =
+    two_back functions.G3DM4 0x24 0x2b (multibyte_byte c) (charsets.G3Multibyte c) refl
+    (ap (λ o. in_range (option_map charsets.G3Multibyte o)) (multibyte_back c))

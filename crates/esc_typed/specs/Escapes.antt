@@ -1,5 +1,5 @@
 -- The typed values of escape sequences.
-use Rattle.std.specs.Prelude.{ℕ, ◌-◌, ◌/◌, ◌%◌, ◌<◌, nat_le, if◌then◌else◌, get_or, Option, Some, None, Result, Ok, Err}
+use Rattle.std.specs.Prelude.{ℕ, ◌-◌, ◌/◌, ◌%◌, ◌<◌, nat_le, if◌then◌else◌, List, [], ◌∷◌, get_or, Option, Some, None, Result, Ok, Err}
 use Rattle.std.specs.Option.{option_map}
 use Rattle.esc_values.specs.Params.{is_from}
 use Rattle.esc_sequences.specs.Escs.{esc_of}
@@ -8,7 +8,7 @@ use Rattle.esc_sequences.specs.declared.esc.Esc.TheVariants as esc
 use Rattle.esc_sequences.specs.declared.esc_code.EscCode.TheVariants as code
 use Rattle.esc_functions.specs.declared.escape_function.EscapeFunction.{EscapeFunction}
 use Rattle.esc_functions.specs.declared.escape_function.EscapeFunction.TheVariants as functions
-use Rattle.esc_functions.specs.Escapes.{function_of, key_of, sequence_key, place as function_place}
+use Rattle.esc_functions.specs.Escapes.{function_of, key_of, sequence_key, two_key, place as function_place}
 use Rattle.esc_typed.specs.declared.escape.Escape.{Escape}
 use Rattle.esc_typed.specs.declared.escape_table.TheConstants.{ESCAPES, FUNCTIONS}
 use Rattle.esc_typed.specs.contracts.escape.Escape.{the_type}
@@ -17,7 +17,7 @@ use Rattle.esc_typed.specs.declared.charset.Charset.TheVariants as charsets
 use Rattle.esc_typed.specs.declared.unfit.Unfit.{Unfit}
 use Rattle.esc_typed.specs.declared.unfit.Unfit.TheVariants as unfit
 use Rattle.esc_typed.specs.Arguments.{in_range}
-use Rattle.esc_typed.specs.Charsets.{charset94_at, charset96_at, multibyte_at}
+use Rattle.esc_typed.specs.Charsets.{charset94_at, charset96_at, multibyte_at, pair_at, short_at}
 use Rattle.esc_typed.specs.Functions.{Value, charset, escape, other}
 use denote.Enum.Declared.{tag_of}
 
@@ -53,8 +53,27 @@ designated functions.G3D4 b = in_range (option_map charsets.G3 (charset94_at b))
 designated functions.G1D6 b = in_range (option_map charsets.G1Of96 (charset96_at b))
 designated functions.G2D6 b = in_range (option_map charsets.G2Of96 (charset96_at b))
 designated functions.G3D6 b = in_range (option_map charsets.G3Of96 (charset96_at b))
-designated functions.GZDM4 b = in_range (option_map charsets.G0Multibyte (multibyte_at b))
+designated functions.GZDM4 b = in_range (option_map charsets.G0Multibyte (short_at b))
 designated _ b = Err unfit.Untyped
+
+-- what one of two intermediates designates by its second intermediate and this final byte
+abbrev pub multibyte_designated : EscapeFunction → ℕ → Result Charset Unfit
+multibyte_designated functions.GZDM4_LONG b =
+    in_range (option_map charsets.G0Multibyte (multibyte_at b))
+multibyte_designated functions.G1DM4 b =
+    in_range (option_map charsets.G1Multibyte (multibyte_at b))
+multibyte_designated functions.G2DM4 b =
+    in_range (option_map charsets.G2Multibyte (multibyte_at b))
+multibyte_designated functions.G3DM4 b =
+    in_range (option_map charsets.G3Multibyte (multibyte_at b))
+multibyte_designated _ b = Err unfit.Untyped
+
+abbrev pub designated_by_two : EscapeFunction → ℕ → ℕ → Result Charset Unfit
+designated_by_two functions.GZD4 j b = in_range (option_map charsets.G0Pair (pair_at j b))
+designated_by_two functions.G1D4 j b = in_range (option_map charsets.G1Pair (pair_at j b))
+designated_by_two functions.G2D4 j b = in_range (option_map charsets.G2Pair (pair_at j b))
+designated_by_two functions.G3D4 j b = in_range (option_map charsets.G3Pair (pair_at j b))
+designated_by_two f j b = multibyte_designated f b
 
 abbrev pub set_of : Result Charset Unfit → Value
 set_of (Ok c) = charset c
@@ -71,6 +90,18 @@ of_function (Some f) b = valued (escape_of f) f b
 -- the value of an escape sequence of this intermediate, if there is one, and this final byte
 abbrev pub of_bytes : Option ℕ → ℕ → Value
 of_bytes i b = of_function (function_of (sequence_key i b)) b
+
+-- the value of a function of two intermediates
+abbrev pub of_two : Option EscapeFunction → ℕ → ℕ → Value
+of_two None j b = other unfit.Unnamed
+of_two (Some f) j b = set_of (designated_by_two f j b)
+
+-- the value of an escape sequence of these intermediates and this final byte: of two intermediates
+-- it is not that of the second alone
+abbrev pub of_intermediates : List ℕ → ℕ → Value
+of_intermediates [] b = of_bytes None b
+of_intermediates (i ∷ []) b = of_bytes (Some i) b
+of_intermediates (i ∷ j ∷ more) b = of_two (function_of (two_key i j)) j b
 
 -- the value of an escape sequence
 abbrev pub of_escape : Esc → Value

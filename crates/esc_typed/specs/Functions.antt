@@ -43,7 +43,7 @@ use Rattle.esc_typed.specs.declared.unfit.Unfit.TheVariants as unfit
 use Rattle.esc_typed.specs.Arguments.{after_prefix, arguments, in_range}
 use Rattle.esc_typed.specs.Choices.{cursor_style_at, cursor_tabulation_control_at, erase_in_display_at, erase_in_line_at, kitty_flags_change_at, mode_state_at, tabulation_clear_at}
 use Rattle.esc_typed.specs.Renditions.{number}
-use Rattle.esc_typed.specs.Selections.{left, modes_left, mode_numbers, selections}
+use Rattle.esc_typed.specs.Selections.{left, modes_left, mode_numbers, selections, whole_entries}
 use Rattle.esc_typed.specs.Windows.{operation}
 
 -- a typed value, without where its parameters lie in memory
@@ -327,8 +327,17 @@ known_entries (known.Underline underline.Curly) = number 4 ∷ P 0x3a ∷ number
 known_entries (known.Underline underline.Dotted) = number 4 ∷ P 0x3a ∷ number 4 ∷ []
 known_entries (known.Underline underline.Dashed) = number 4 ∷ P 0x3a ∷ number 5 ∷ []
 
+abbrev pub of_whole : Option (List CsiParam) → ℕ → Value
+of_whole None last = other unfit.Truncated
+of_whole (Some es) last = of_params es last
+
+-- The value of a control sequence of which more entries were left out than these: nobody knows it,
+-- since an intermediate may be among them, but for renditions, of which those that are whole are
+-- read.
+abbrev pub of_kept : List CsiParam → ℕ → Value
+of_kept es last = if last == 0x6d then of_whole (whole_entries es) last else other unfit.Truncated
+
 -- the value of a control sequence
 abbrev pub of_csi : CsiValue → Value
 of_csi (sgr s) = renditions (selections (known_entries s))
-of_csi (unspecified es truncated last) =
-    if truncated then other unfit.Truncated else of_params es last
+of_csi (unspecified es truncated last) = if truncated then of_kept es last else of_params es last

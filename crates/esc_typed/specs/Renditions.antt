@@ -39,33 +39,50 @@ at_end (e ∷ es) x = None
 abbrev pub indexed : ℕ → List CsiParam → Option ColorSpec
 indexed s es = and_then (byte_after s es) (λ n. at_end n.1 (color.PaletteIndex n.0))
 
--- `r;g;b`
-abbrev pub direct : ℕ → List CsiParam → Option ColorSpec
-direct s es =
+-- `r;g;b`, and what follows
+abbrev pub three : ℕ → List CsiParam → Option ((ℕ × ℕ × ℕ) × List CsiParam)
+three s es =
     and_then (byte_after s es) (λ r.
     and_then (byte_after s r.1) (λ g.
-    and_then (byte_after s g.1) (λ b.
-    at_end b.1 (color.TrueColor (r.0, g.0, b.0)))))
+    and_then (byte_after s g.1) (λ b. Some ((r.0, g.0, b.0), b.1))))
 
-abbrev pub after_colon : CsiParam → List CsiParam → List CsiParam
-after_colon m [] = m ∷ []
-after_colon m (n ∷ es) = if is_byte 0x3a n then n ∷ es else m ∷ n ∷ es
+abbrev pub after_number : List CsiParam → List CsiParam
+after_number [] = []
+after_number (Integer n ∷ es) = es
+after_number (P b ∷ es) = P b ∷ es
 
--- what follows the number of a colour space that is left out, as in `2::r:g:b`
-abbrev pub after_space : ℕ → List CsiParam → List CsiParam
-after_space s [] = []
-after_space s (m ∷ es) = if s == 0x3a then after_colon m es else m ∷ es
+-- what follows a field, where one comes: a colon, and a number or nothing
+abbrev pub after_field : List CsiParam → List CsiParam
+after_field [] = []
+after_field (m ∷ es) = if is_byte 0x3a m then after_number es else m ∷ es
 
--- the colour of what follows 38, 48 or 58, with this separator: `5;n` or `2;r;g;b`
-abbrev pub color_with : ℕ → List CsiParam → Option ColorSpec
-color_with s es =
-    and_then (byte_after s es) (λ k. if k.0 == 5 then indexed s k.1
-    else if k.0 == 2 then direct s (after_space s k.1) else None)
+-- `r;g;b` alone
+abbrev pub bare_direct : ℕ → List CsiParam → Option ColorSpec
+bare_direct s es = and_then (three s es) (λ c. at_end c.1 (color.TrueColor c.0))
+
+-- The same after the field of a colour space, which may be empty, and before at most three fields,
+-- of which the second is a tolerance and the third that one's colour space (ITU-T T.416, 13.1.8):
+-- they say nothing of the colour.
+abbrev pub direct_in_space : List CsiParam → Option ColorSpec
+direct_in_space es =
+    and_then (three 0x3a (after_field es)) (λ c.
+    at_end (after_field (after_field (after_field c.1))) (color.TrueColor c.0))
 
 -- the first, or else the second
 abbrev pub or_else : {X : Type 0} → Option X → Option X → Option X
 or_else None y = y
 or_else (Some x) y = Some x
+
+-- `r;g;b`, or with colons as T.416 has it
+abbrev pub direct : ℕ → List CsiParam → Option ColorSpec
+direct s es =
+    or_else (bare_direct s es) (if s == 0x3a then direct_in_space es else None)
+
+-- the colour of what follows 38, 48 or 58, with this separator: `5;n` or `2;r;g;b`
+abbrev pub color_with : ℕ → List CsiParam → Option ColorSpec
+color_with s es =
+    and_then (byte_after s es) (λ k. if k.0 == 5 then indexed s k.1
+    else if k.0 == 2 then direct s k.1 else None)
 
 -- the same, with `;` or with `:`
 abbrev pub color_of : List CsiParam → Option ColorSpec

@@ -1,5 +1,5 @@
 -- Parameters one after another: the renditions of a control sequence SGR, and the numbers of modes.
-use Rattle.std.specs.Prelude.{ℕ, zero, suc, pos, ◌+◌, ◌==◌, if◌then◌else◌, List, [], ◌∷◌, ◌++◌, length, map, take, Option, Some, None}
+use Rattle.std.specs.Prelude.{ℕ, zero, suc, pos, ◌+◌, ◌-◌, ◌==◌, if◌then◌else◌, List, [], ◌∷◌, ◌++◌, length, map, take, Option, Some, None}
 use Rattle.std.specs.Option.{option_map}
 use Rattle.esc_values.specs.declared.csi_param.CsiParam.{CsiParam}
 use Rattle.esc_values.specs.declared.csi_param.CsiParam.TheVariants.{Integer, P}
@@ -17,6 +17,17 @@ len_before n [] = 0
 len_before zero (e ∷ es) = if is_separator e then 0 else suc (len_before zero es)
 len_before (suc n) (e ∷ es) =
     suc (if is_separator e then len_before n es else len_before (suc n) es)
+
+-- how many `;` there are
+abbrev pub separator_count : List CsiParam → ℕ
+separator_count [] = 0
+separator_count (e ∷ es) = if is_separator e then suc (separator_count es) else separator_count es
+
+-- the entries before the last `;`, where there is one: those of items that are whole, where more
+-- entries came after these
+abbrev pub whole_entries : List CsiParam → Option (List CsiParam)
+whole_entries es = if separator_count es == 0 then None
+    else Some (take (len_before (separator_count es - 1) es) es)
 
 -- how many `;` a colour has after its target: two before an entry of the palette, four before three
 -- intensities, and all where its kind is another, since nobody can say where that ends

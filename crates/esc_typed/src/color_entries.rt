@@ -1,8 +1,8 @@
 //! Colours that are more than one number: how they are read and written.
-ghost use Rattle.std.specs.Prelude.{◌≡◌, Some, None};
+ghost use Rattle.std.specs.Prelude.{◌≡◌, Some, None, IfNone, IfSome};
 ghost use Rattle.std.specs.Fmt.{DisplaysOnOk};
 ghost use Rattle.esc_values.specs.Params.{csi_params_text};
-ghost use Rattle.esc_typed.specs.Renditions.{after_space, color_entries, color_of, color_with, direct, indexed};
+ghost use Rattle.esc_typed.specs.Renditions.{after_field, after_number, at_end, bare_direct, color_entries, color_of, color_with, direct, direct_in_space, indexed, three};
 
 use crate::color_spec::ColorSpec;
 use crate::entries::{byte_after, is_byte, write_entries};
@@ -26,7 +26,7 @@ fn color_with(separator: u8, entries: &[CsiParam]) -> Option<ColorSpec>
 {
     match byte_after(separator, entries) {
         Some((5, rest)) => indexed(separator, rest),
-        Some((2, rest)) => direct(separator, after_space(separator, rest)),
+        Some((2, rest)) => direct(separator, rest),
         Some(_) => None,
         None => None,
     }
@@ -46,9 +46,57 @@ fn indexed(separator: u8, entries: &[CsiParam]) -> Option<ColorSpec>
     }
 }
 
-// Three intensities.
+// Three intensities, with `:` also after a colour space and before a tolerance.
 fn direct(separator: u8, entries: &[CsiParam]) -> Option<ColorSpec>
     ensures { result ≡ direct separator entries.now }
+{
+    match bare_direct(separator, entries) {
+        Some(color) => Some(color),
+        None => {
+            if separator == b':' {
+                direct_in_space(entries)
+            } else {
+                None
+            }
+        }
+    }
+}
+
+// Three intensities alone.
+fn bare_direct(separator: u8, entries: &[CsiParam]) -> Option<ColorSpec>
+    ensures { result ≡ bare_direct separator entries.now }
+{
+    match three(separator, entries) {
+        Some((color, rest)) => at_end(rest, color),
+        None => None,
+    }
+}
+
+// Three intensities after a colour space, and before at most three fields of a tolerance.
+fn direct_in_space(entries: &[CsiParam]) -> Option<ColorSpec>
+    ensures { result ≡ direct_in_space entries.now }
+{
+    match three(b':', after_field(entries)) {
+        Some((color, rest)) => at_end(after_field(after_field(after_field(rest))), color),
+        None => None,
+    }
+}
+
+// The colour, where nothing follows.
+fn at_end(entries: &[CsiParam], color: RgbColor) -> Option<ColorSpec>
+    ensures { result ≡ at_end entries.now (ColorSpec.TrueColor color) }
+{
+    if entries.is_empty() {
+        Some(ColorSpec::TrueColor(color))
+    } else {
+        None
+    }
+}
+
+// Three intensities, and what follows.
+fn three(separator: u8, entries: &[CsiParam]) -> Option<(RgbColor, &[CsiParam])>
+    ensures some { IfSome result (λ p. three separator entries.now ≡ Some (p.0, p.1.now)) }
+    ensures none { IfNone result (three separator entries.now ≡ None) }
 {
     let Some((red, rest)) = byte_after(separator, entries) else {
         return None;
@@ -59,26 +107,30 @@ fn direct(separator: u8, entries: &[CsiParam]) -> Option<ColorSpec>
     let Some((blue, rest)) = byte_after(separator, rest) else {
         return None;
     };
-    if rest.is_empty() {
-        Some(ColorSpec::TrueColor(RgbColor::new_8bpc(red, green, blue)))
+    Some((RgbColor::new_8bpc(red, green, blue), rest))
+}
+
+// What follows a field, where one comes.
+fn after_field(entries: &[CsiParam]) -> &[CsiParam]
+    ensures { result.now ≡ after_field entries.now }
+{
+    let Some((mark, rest)) = entries.split_first() else {
+        return entries;
+    };
+    if is_byte(b':', *mark) {
+        after_number(rest)
     } else {
-        None
+        entries
     }
 }
 
-// What follows the number of a colour space that is left out.
-fn after_space(separator: u8, entries: &[CsiParam]) -> &[CsiParam]
-    ensures { result.now ≡ after_space separator entries.now }
+// What follows a number, where one comes.
+fn after_number(entries: &[CsiParam]) -> &[CsiParam]
+    ensures { result.now ≡ after_number entries.now }
 {
-    if separator != b':' {
-        return entries;
-    }
-    let Some((_, rest)) = entries.split_first() else {
-        return entries;
-    };
-    match rest.first() {
-        Some(entry) => { if is_byte(b':', *entry) { rest } else { entries } }
-        None => entries,
+    match entries.split_first() {
+        Some((Integer(_), rest)) => rest,
+        _ => entries,
     }
 }
 

@@ -16,12 +16,20 @@ macro_rules! escapes {
             GZDM4;
             IRR;
             GZD4;
+            GZDM4_LONG;
             G1D4;
+            G1DM4;
             G2D4;
+            G2DM4;
             G3D4;
+            G3DM4;
             G1D6;
+            G1DM6;
             G2D6;
+            G2DM6;
             G3D6;
+            G3DM6;
+            DOCS_OTHER;
             DECDHLT = DecDoubleHeightTopHalfLine;
             DECDHLB = DecDoubleHeightBottomHalfLine;
             DECSWL = DecSingleWidthLine;
@@ -30,6 +38,7 @@ macro_rules! escapes {
             DECSC = DecSaveCursorPosition;
             DECRC = DecRestoreCursorPosition;
             DECALN = DecScreenAlignmentDisplay;
+            DOCS_LINUX;
             DECFI = DecForwardIndex;
             VT52EXIT = ExitVt52Mode;
             DECKPAM = DecApplicationKeyPad;
@@ -124,7 +133,7 @@ macro_rules! names {
     };
 }
 
-static ESCAPES: [Option<Escape>; 76] = escapes!(values);
+static ESCAPES: [Option<Escape>; 85] = escapes!(values);
 
 static FUNCTIONS: [EscapeFunction; 59] = escapes!(functions);
 
@@ -155,7 +164,7 @@ impl Escape {
 #[inline(always)]
 fn function_place(function: EscapeFunction) -> usize
     ensures place { result ≡ function_place function }
-    ensures below { result < 76 }
+    ensures below { result < 85 }
 {
     function as usize
 }

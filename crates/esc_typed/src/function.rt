@@ -2,16 +2,17 @@
 ghost use Rattle.std.specs.Prelude.{◌≡◌, Some};
 ghost use Rattle.esc_sequences.specs.Csis.{csi_value};
 ghost use Rattle.esc_typed.specs.Arguments.{arguments};
-ghost use Rattle.esc_typed.specs.Escapes.{of_bytes, of_c1, of_escape};
-ghost use Rattle.esc_typed.specs.Functions.{known_entries, made, of_csi, of_named, of_params, several, value_of};
+ghost use Rattle.esc_typed.specs.Escapes.{of_bytes, of_c1, of_escape, of_intermediates};
+ghost use Rattle.esc_typed.specs.Functions.{known_entries, made, of_csi, of_kept, of_named, of_params, several, value_of};
 
 use crate::arguments::{Arguments, Kind};
 use crate::charset::Charset;
 use crate::cursor::Cursor;
-use crate::designated::of_function as of_escape_function;
+use crate::designated::{of_function as of_escape_function, of_two};
 use crate::device::Device;
 use crate::edit::Edit;
 use crate::escape::Escape;
+use crate::kept::whole_entries;
 use crate::keyboard::Keyboard;
 use crate::mode_change::ModeChange;
 use crate::mode_status::ModeStatus;
@@ -65,7 +66,8 @@ pub enum Function<'a> {
 }
 
 impl<'a> Function<'a> {
-    /// What this control sequence asks for.
+    /// What this control sequence asks for. Where entries of it were left out, since it had more
+    /// than are kept, it is what [`of_kept`](Function::of_kept) returns.
     pub fn of<A: Allocator>(csi: &'a CSI<A>) -> Function<'a>
         ensures { value_of result ≡ of_csi (csi_value csi.now) }
     {
@@ -73,10 +75,11 @@ impl<'a> Function<'a> {
             CSI::Sgr(sgr) => Function::Sgr(Renditions::new(known_entries(*sgr))),
             CSI::Unspecified(sequence) => {
                 let sequence = sequence.as_ref();
+                let params = sequence.params.as_slice();
                 if sequence.parameters_truncated {
-                    return Function::Other(Unfit::Truncated);
+                    return Function::of_kept(params, sequence.control);
                 }
-                Function::of_params(sequence.params.as_slice(), sequence.control)
+                Function::of_params(params, sequence.control)
             }
         }
     }
@@ -88,6 +91,22 @@ impl<'a> Function<'a> {
         match ControlFunction::of_csi_params(params, last) {
             Some(function) => of_function(function, params),
             None => Function::Other(Unfit::Unnamed),
+        }
+    }
+
+    /// What a control sequence asks for that has more parameters than these, which were kept, and
+    /// this final byte. An intermediate may be among those that were left out, so its function is
+    /// not known; but with the final byte `m` the renditions are read that are whole, those before
+    /// the last `;`, as terminals read the first ones.
+    pub fn of_kept(params: &'a [CsiParam], last: u8) -> Function<'a>
+        ensures { value_of result ≡ of_kept params.now last }
+    {
+        if last != b'm' {
+            return Function::Other(Unfit::Truncated);
+        }
+        match whole_entries(params) {
+            Some(entries) => Function::of_params(entries, last),
+            None => Function::Other(Unfit::Truncated),
         }
     }
 
@@ -113,6 +132,23 @@ impl<'a> Function<'a> {
     {
         match EscapeFunction::of_bytes(intermediate, last) {
             Some(function) => of_escape_function(function, last),
+            None => Function::Other(Unfit::Unnamed),
+        }
+    }
+
+    /// What an escape sequence with all of these intermediates and this final byte asks for. Of two
+    /// intermediates both count, as in `ESC $ ) C` and `ESC ( % 6`.
+    pub fn of_intermediates(intermediates: &[u8], last: u8) -> Function<'a>
+        ensures { value_of result ≡ of_intermediates intermediates.now last }
+    {
+        let Some((first, rest)) = intermediates.split_first() else {
+            return Function::of_escape_bytes(None, last);
+        };
+        let Some(second) = rest.first() else {
+            return Function::of_escape_bytes(Some(*first), last);
+        };
+        match EscapeFunction::of_intermediates(intermediates, last) {
+            Some(function) => of_two(function, *second, last),
             None => Function::Other(Unfit::Unnamed),
         }
     }

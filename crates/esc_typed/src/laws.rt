@@ -13,7 +13,7 @@ ghost use Rattle.esc_typed.specs.declared.mode_status.ModeStatus.{ModeStatus};
 ghost use Rattle.esc_typed.specs.declared.window.Window.{Window};
 ghost use Rattle.esc_typed.specs.Arguments.{AreArguments};
 ghost use Rattle.esc_typed.specs.Charsets.{charset_bytes};
-ghost use Rattle.esc_typed.specs.Escapes.{AreBytes, escape_bytes, of_bytes};
+ghost use Rattle.esc_typed.specs.Escapes.{AreBytes, escape_bytes, of_bytes, of_intermediates};
 ghost use Rattle.esc_typed.specs.Functions.{charset, cursor, device, edit, escape, keyboard, mode_status, mouse, of_params, window};
 ghost use Rattle.esc_typed.specs.Renditions.{AreRenditions, IsRendition, normal, rendition_of};
 ghost use Rattle.esc_typed.specs.Selections.{cut, joined, parameters, selections, spelled};
@@ -112,5 +112,6 @@ pub fn escape_is_its_own()
 /// The escape sequence that designates a character set is read as this designation.
 #[tactic(auto, using(crate::proofs::Escaped::charset_back))]
 pub fn charset_reads_back()
-    ensures { (c : Charset) → of_bytes (charset_bytes c).0 (charset_bytes c).1 ≡ charset c }
+    ensures { (c : Charset) → of_intermediates (charset_bytes c).0 (charset_bytes c).1
+        ≡ charset c }
 {}

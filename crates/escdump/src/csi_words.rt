@@ -148,19 +148,32 @@ fn add_function(function: ControlFunction, params: &[CsiParam], to: &mut Phrase)
         Parameters::Key => add_function_key(params, to),
         Parameters::KeyEvent => add_key(params, to),
         Parameters::KeyboardFlags => add_flags(function, params, to),
-        Parameters::Number => add_number(function, params, to),
+        Parameters::Number | Parameters::Amount => add_number(function, params, to),
         Parameters::Line | Parameters::Column => add_one(params, to),
         Parameters::Nothing
         | Parameters::Count
         | Parameters::Place
         | Parameters::Page
         | Parameters::PlaceAndPage
+        | Parameters::TwoNumbers
         | Parameters::Numbers
+        | Parameters::Percentages
+        | Parameters::CenteredStop
         | Parameters::Selector
+        | Parameters::SelectorOrOne
+        | Parameters::SelectorOrTwo
+        | Parameters::TwoSelectors
+        | Parameters::ThreeSelectors
         | Parameters::Selectors
+        | Parameters::Choice
+        | Parameters::TwoChoices
+        | Parameters::Choices
+        | Parameters::ChoiceAndNumber
+        | Parameters::Conformance
         | Parameters::LineMargins
         | Parameters::ColumnMargins
         | Parameters::Rectangle
+        | Parameters::Area
         | Parameters::RectangleRenditions
         | Parameters::Copy
         | Parameters::Fill
@@ -168,8 +181,12 @@ fn add_function(function: ControlFunction, params: &[CsiParam], to: &mut Phrase)
         | Parameters::Window
         | Parameters::Graphics
         | Parameters::Highlight
+        | Parameters::Locator
+        | Parameters::Extent
         | Parameters::ExtraCursors
-        | Parameters::Colors => add_parameters(function, parameters.each(), params, to),
+        | Parameters::Colors
+        | Parameters::Sound
+        | Parameters::Win32Key => add_parameters(function, parameters.each(), params, to),
     }
 }
 
@@ -302,9 +319,9 @@ fn add_parameter(
 // What comes before a parameter.
 fn label_of(parameter: Parameter) -> &'static str {
     match parameter {
-        Parameter::Line => "line ",
-        Parameter::Column => "column ",
-        Parameter::Page => "page ",
+        Parameter::Line | Parameter::GivenLine => "line ",
+        Parameter::Column | Parameter::GivenColumn => "column ",
+        Parameter::Page | Parameter::GivenPage => "page ",
         Parameter::LastLine => "to line ",
         Parameter::LastColumn => "to column ",
         _ => "",
@@ -337,10 +354,15 @@ fn counts_from_one(parameter: Parameter) -> bool {
         | Parameter::LastLine
         | Parameter::LastColumn
         | Parameter::Page => true,
-        Parameter::Selector(_)
+        Parameter::GivenLine
+        | Parameter::GivenColumn
+        | Parameter::GivenPage
+        | Parameter::Selector(_)
+        | Parameter::Choice
         | Parameter::Mode
         | Parameter::PrivateMode
         | Parameter::Rendition
+        | Parameter::Amount(_)
         | Parameter::Number => false,
     }
 }

@@ -17,9 +17,9 @@ use std::alloc::{AllocError, Global};
 pub fn function(call: &str, alloc: Global, text: &[u8]) -> Result<String, AllocError> {
     match call {
         "csi" => control_sequence(alloc, text),
-        "esc" => escape_sequence(alloc, parts(text)),
-        "c1" => control(alloc, parts(text).1),
-        _ => String::from_str(alloc, control_name(C0::of(parts(text).1))),
+        "esc" => escape_sequence(alloc, text),
+        "c1" => control(alloc, code_of(text)),
+        _ => String::from_str(alloc, control_name(C0::of(code_of(text)))),
     }
 }
 
@@ -65,12 +65,15 @@ fn param_of(params: &mut Vec<CsiParam>, byte: u8) -> CsiParam {
     }
 }
 
-fn escape_sequence(
-    alloc: Global,
-    (intermediate, last): (Option<u8>, u8),
-) -> Result<String, AllocError> {
-    let name = escape_name(EscapeFunction::of_bytes(intermediate, last));
-    shown(alloc, Function::of_escape_bytes(intermediate, last), name)
+// An escape sequence of these bytes after ESC: intermediates and the final byte.
+fn escape_sequence(alloc: Global, bytes: &[u8]) -> Result<String, AllocError> {
+    let (last, intermediates) = bytes.split_last().unwrap_or((&0, b""));
+    let name = escape_name(EscapeFunction::of_intermediates(intermediates, *last));
+    shown(
+        alloc,
+        Function::of_intermediates(intermediates, *last),
+        name,
+    )
 }
 
 fn control(alloc: Global, code: u8) -> Result<String, AllocError> {
@@ -78,20 +81,19 @@ fn control(alloc: Global, code: u8) -> Result<String, AllocError> {
     shown(alloc, Function::of_c1(code), name)
 }
 
+// The code of a control: the only byte of these.
+fn code_of(bytes: &[u8]) -> u8 {
+    match bytes {
+        [code] => *code,
+        _ => 0,
+    }
+}
+
 // The name of a C0 control.
 fn control_name(control: Option<C0>) -> &'static str {
     match control {
         Some(control) => control.name(),
         None => "none",
-    }
-}
-
-// The intermediate of an escape sequence of these bytes after ESC, and its final byte.
-fn parts(bytes: &[u8]) -> (Option<u8>, u8) {
-    match bytes {
-        [last] => (None, *last),
-        [intermediate, last] => (Some(*intermediate), *last),
-        _ => (None, 0),
     }
 }
 
