@@ -1,6 +1,9 @@
-//! Characters that deceive: those that have no width, break lines, or change the direction of text.
+//! Characters that deceive: those that have no width, break lines, change the direction of text,
+//! look like a space, or sit on nothing.
 
+use crate::columns::{is_noncharacter, is_space};
 use crate::phrase::Phrase;
+use esc_visible::is_deceiving;
 use std::alloc::Global;
 
 // A line for each row of what is counted: what the characters of it are, by Unicode's names or, of
@@ -35,7 +38,12 @@ variation selector
 zero width no-break space
 interlinear annotation
 tag
-character without a width";
+character without a width
+no-break space
+Braille pattern without dots
+space
+noncharacter
+mark";
 
 // How often the characters of a row came, and the first of them.
 #[derive(Clone, Copy)]
@@ -62,6 +70,12 @@ impl Hidden {
         }
     }
 
+    /// Forgets all.
+    pub fn clear(&mut self) {
+        self.counts.clear();
+        self.is_refused = false;
+    }
+
     /// Whether memory was refused, and one is not counted.
     pub fn is_refused(&self) -> bool {
         self.is_refused
@@ -77,7 +91,7 @@ impl Hidden {
         let code = c as u32;
         if code >= 0xa0 {
             self.add(Count {
-                row: row_of(code),
+                row: row_of(c),
                 first: code,
                 count: 1,
             });
@@ -134,8 +148,8 @@ impl Hidden {
 }
 
 // The row of a character.
-fn row_of(code: u32) -> usize {
-    match code {
+fn row_of(c: char) -> usize {
+    match c as u32 {
         0xad => 0,
         0x34f => 1,
         0x61c => 2,
@@ -165,6 +179,11 @@ fn row_of(code: u32) -> usize {
         0xfeff => 26,
         0xfff9..=0xfffb => 27,
         0xe0000..=0xe007f => 28,
-        _ => 29,
+        0xa0 => 30,
+        0x2800 => 31,
+        code if is_space(code) => 32,
+        code if is_noncharacter(code) => 33,
+        _ if is_deceiving(c) => 29,
+        _ => 34,
     }
 }

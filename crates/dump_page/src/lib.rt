@@ -13,16 +13,20 @@
 //! ```
 #![tactic(auto)]
 
+mod columns;
 mod hidden;
 mod laws;
+mod member;
 mod name;
 mod page;
 mod phrase;
 mod plain;
 mod quote;
 mod quoted;
+mod room;
 
 pub use laws::quotes_are_found;
+pub use member::Member;
 pub use name::{Key, Name};
 pub use page::{Color, Page};
 pub use phrase::Phrase;

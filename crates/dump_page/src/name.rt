@@ -1,5 +1,7 @@
 //! Names of segments.
 
+use crate::phrase::Phrase;
+
 /// What a segment is, by name: its kind, as `CSI`; its own name, as `CUP`, which may be empty; and
 /// what it is told apart by where no table has it.
 #[derive(Clone, Copy, PartialEq, Eq)]
@@ -14,4 +16,28 @@ pub enum Key {
     Number(u64),
     /// Some bytes, as the intermediates and the final byte of a device control string; 0 is none.
     Bytes([u8; 3]),
+}
+
+impl Name {
+    /// Adds it to words.
+    pub(crate) fn add_to(self, words: &mut Phrase) {
+        let Name(kind, word, key) = self;
+        words.add(kind);
+        words.add_word(word);
+        match key {
+            Key::Nothing => {}
+            Key::Number(number) => {
+                words.add(" ");
+                words.add_digits(number);
+            }
+            Key::Bytes(bytes) => {
+                words.add(" ");
+                for byte in bytes {
+                    if byte != 0 {
+                        words.add_char(char::from(byte));
+                    }
+                }
+            }
+        }
+    }
 }

@@ -45,7 +45,7 @@ impl Page {
     /// Drops the lines.
     pub fn clear(&mut self) {
         let is_refused = self.words.is_refused();
-        self.words = self.words.empty();
+        self.words.restart(usize::MAX);
         self.note(is_refused);
     }
 

@@ -1,16 +1,22 @@
 //! Words, one after another.
-ghost use Rattle.std.specs.Prelude.{◌≡◌, ◌∷◌, ◌++◌, [], OnOk, true};
+ghost use Rattle.std.specs.Prelude.{◌≡◌, IfSome, true};
 ghost use Rattle.std.specs.List.{list_all};
 ghost use Rattle.dump_page.specs.Pages.{IsPage, IsPiece, is_word};
 ghost use Rattle.dump_page.specs.Quoted.{IsQuote, is_plain};
+ghost use Rattle.esc_visible.specs.Characters.{is_shown};
 
+use crate::columns::Columns;
 use crate::hidden::Hidden;
+use crate::member::Member;
 use crate::name::{Key, Name};
-use crate::plain::{is_plain, plain_text};
+use crate::plain::{boundary, digit, is_plain, plain_text};
 use crate::quote::Quote;
+use crate::quoted::push_between;
+use crate::room::Room;
 use esc_values::Text;
+use esc_values::base64_text::Encoded;
 use esc_visible::is_shown;
-use std::alloc::{AllocError, Global};
+use std::alloc::Global;
 use std::mem;
 
 /// The words of a line, to which more are added: static texts, numbers, and bytes of the stream
@@ -24,6 +30,7 @@ pub struct Phrase {
     hidden: Hidden,
     columns: usize,
     named: usize,
+    room: Room,
     is_refused: bool,
     ghost safe: { ∥ IsPage text ∥₁ },
 }
@@ -39,7 +46,38 @@ impl Phrase {
             hidden: Hidden::new(alloc),
             columns: 0,
             named: 0,
+            room: Room::ANY,
             is_refused: false,
+        }
+    }
+
+    /// Drops the words, and keeps the memory that they had; from now on no words are added after so
+    /// many bytes, and of a text of the stream its first bytes alone.
+    #[tactic(auto, using(crate::proofs::PagesMore::no_page))]
+    pub fn restart(&mut self, room: usize) {
+        let text = mem::replace(&mut self.text, Text::new(self.alloc));
+        let mut string = text.into_string();
+        string.clear();
+        self.text = Text::from_string(string);
+        self.name = Name("", "", Key::Nothing);
+        self.hidden.clear();
+        self.columns = 0;
+        self.named = 0;
+        self.room = Room::of(room);
+        self.is_refused = false;
+    }
+
+    /// Says how many bytes of texts of the stream were left out, where any were, or that words
+    /// were. What is added from now on is whole.
+    pub fn add_left_out(&mut self) {
+        let room = self.room;
+        self.room = Room::ANY;
+        if room.left_out() > 0 {
+            self.add(", and ");
+            self.add_digits(room.left_out());
+            self.add(" bytes more");
+        } else if room.is_short() {
+            self.add(", and more words");
         }
     }
 
@@ -98,27 +136,7 @@ impl Phrase {
 
     /// Adds a name.
     pub fn add_name(&mut self, name: Name) {
-        let Name(kind, word, key) = name;
-        self.add(kind);
-        self.add_word(word);
-        match key {
-            Key::Nothing => {}
-            Key::Number(number) => {
-                self.add(" ");
-                self.add_digits(number);
-            }
-            Key::Bytes(bytes) => self.add_key_bytes(bytes),
-        }
-    }
-
-    // Adds the bytes of a key that are not 0.
-    fn add_key_bytes(&mut self, bytes: [u8; 3]) {
-        self.add(" ");
-        for byte in bytes {
-            if byte != 0 {
-                self.add_char(char::from(byte));
-            }
-        }
+        name.add_to(self);
     }
 
     /// Adds a space and a word, where it is not empty.
@@ -198,8 +216,12 @@ impl Phrase {
         Quote::new(self.alloc)
     }
 
-    /// Adds words and, between quotes, bytes of the stream.
+    /// Adds words and, between quotes, bytes of the stream, as far as there is room.
     pub fn add_quoted(&mut self, before: &'static str, bytes: &[u8]) {
+        let room = self.room.left(self.text.len());
+        if room < bytes.len() {
+            return self.add_beginning(before, bytes, room);
+        }
         if let Some(text) = plain_text(bytes) {
             self.add(before);
             return self.push_quote(text);
@@ -207,6 +229,17 @@ impl Phrase {
         let mut quote = self.quote();
         quote.add(bytes);
         self.add_quote(before, &quote);
+    }
+
+    // Adds words and, between quotes, the characters that are whole in so many bytes.
+    fn add_beginning(&mut self, before: &'static str, bytes: &[u8], room: usize) {
+        let (first, rest) = bytes.split_at(boundary(bytes, room));
+        self.room.leave_out(rest.len());
+        if !first.is_empty() {
+            let mut quote = self.quote();
+            quote.add(first);
+            self.add_quote(before, &quote);
+        }
     }
 
     /// Adds words and, between quotes, what is quoted.
@@ -217,9 +250,18 @@ impl Phrase {
         self.push_quote(quote.as_str());
     }
 
+    // Adds what is quoted, between quotes, where there is room.
+    fn push_quote(&mut self, quoted: &str)
+        requires { ∥ IsQuote quoted.now ∥₁ }
+    {
+        if self.room.has_more(self.text.len()) {
+            self.append_quote(quoted);
+        }
+    }
+
     // Adds what is quoted, between quotes.
     #[tactic(auto, using(crate::proofs::PagesMore::no_page))]
-    fn push_quote(&mut self, quoted: &str)
+    fn append_quote(&mut self, quoted: &str)
         requires { ∥ IsQuote quoted.now ∥₁ }
     {
         if self.is_refused {
@@ -245,10 +287,22 @@ impl Phrase {
         self.add_quote(before, &quote);
     }
 
-    /// Adds words and the name of a member of a JSON object, with its colon.
-    pub fn add_key(&mut self, before: &'static str, name: &'static str) {
-        self.add_string(before, name);
-        self.add(":");
+    /// Adds a string of JSON that is the base64 (RFC 4648, 4) of these bytes.
+    pub fn add_base64(&mut self, bytes: &[u8]) {
+        let mut text = Text::new(self.alloc);
+        if text.push_display(&Encoded(bytes)).is_err() {
+            return self.refuse();
+        }
+        if let Some(plain) = plain_text(text.as_bytes()) {
+            self.push_quote(plain);
+        }
+    }
+
+    /// Adds what comes before the value of a member of a JSON object.
+    pub fn add_member(&mut self, member: Member) {
+        if !self.is_refused {
+            self.is_refused = self.text.push_str(member.text()).is_err();
+        }
     }
 
     /// Adds the first bytes, as far as there are fewer columns than this, and `..` where these are
@@ -287,11 +341,13 @@ impl Phrase {
 
     // Adds the first characters in this way, and returns whether they are all.
     fn add_text(&mut self, text: &str, end: usize) -> bool {
+        let mut columns = Columns::new();
         for c in text.chars() {
-            if self.columns >= end {
+            let width = columns.of(c);
+            if self.columns >= end && width != Some(0) {
                 return false;
             }
-            self.add_char(c);
+            self.add_as(c, width);
         }
         true
     }
@@ -309,12 +365,18 @@ impl Phrase {
 
     /// Adds a character in this way.
     pub fn add_char(&mut self, c: char) {
-        if c == '\\' {
-            self.add("\\\\");
-        } else if is_shown(c) && c != '"' {
-            self.push_word(c);
-        } else {
-            self.add_hidden(c);
+        let width = Columns::new().of(c);
+        self.add_as(c, width);
+    }
+
+    // Adds a character in this way, which takes so many columns where it is shown as itself.
+    fn add_as(&mut self, c: char, width: Option<usize>)
+        requires { IfSome width (λ _. is_shown c ≡ true) }
+    {
+        match width {
+            Some(_) if c == '\\' => self.add("\\\\"),
+            Some(width) if c != '"' => self.push_word(c, width),
+            _ => self.add_hidden(c),
         }
     }
 
@@ -382,7 +444,7 @@ impl Phrase {
         requires { list_all is_plain words.now ≡ true }
     {
         self.columns = self.columns.saturating_add(words.len());
-        if !self.is_refused {
+        if self.room.has_more(self.text.len()) && !self.is_refused {
             self.is_refused = self.text.push_str(words).is_err();
         }
     }
@@ -418,37 +480,19 @@ impl Phrase {
     // Adds a character of words, or U+FFFD for one that is none.
     fn push(&mut self, c: char) {
         if is_shown(c) && c != '"' {
-            self.push_word(c);
+            self.push_word(c, 1);
         } else {
-            self.push_word('\u{fffd}');
+            self.push_word('\u{fffd}', 1);
         }
     }
 
-    // Adds a character of words.
-    fn push_word(&mut self, c: char)
+    // Adds a character of words, which takes so many columns.
+    fn push_word(&mut self, c: char, width: usize)
         requires { is_word c ≡ true }
     {
-        self.columns = self.columns.saturating_add(1);
-        if !self.is_refused {
+        self.columns = self.columns.saturating_add(width);
+        if self.room.has_more(self.text.len()) && !self.is_refused {
             self.is_refused = self.text.push(c).is_err();
         }
-    }
-}
-
-// Appends what is quoted, between quotes.
-fn push_between(quoted: &str, to: &mut Text) -> Result<(), AllocError>
-    ensures { OnOk result (to.new ≡ to.old ++ 0x22 ∷ (quoted.now ++ 0x22 ∷ [])) }
-{
-    to.push('"')?;
-    to.push_str(quoted)?;
-    to.push('"')
-}
-
-// The hexadecimal digit of a number below 16, of which the letter of 10 is this one.
-fn digit(number: u8, ten: u8) -> char {
-    if number < 10 {
-        char::from(b'0'.saturating_add(number))
-    } else {
-        char::from(ten.saturating_add(number - 10))
     }
 }

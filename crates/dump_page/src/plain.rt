@@ -1,19 +1,20 @@
 //! Bytes that are written as they are.
-ghost use Rattle.std.specs.Prelude.{◌≡◌, IfSome, true};
+ghost use Rattle.std.specs.Prelude.{◌≡◌, ◌≤◌, IfSome, length, true};
 ghost use Rattle.std.specs.List.{list_all};
 ghost use Rattle.dump_page.specs.Quoted.{is_plain};
+
+use esc_values::ascii::as_str;
 
 /// Whether all bytes are characters that come as they are, in words and between quotes: 20 to 7E
 /// (hexadecimal), but `"` and `\`.
 pub fn is_plain(bytes: &[u8]) -> bool
     ensures { result ≡ list_all is_plain bytes.now }
 {
+    let mut all = true;
     for byte in bytes {
-        if !is_plain_byte(*byte) {
-            return false;
-        }
+        all = is_plain_byte(*byte) & all;
     }
-    true
+    all
 }
 
 // Whether a byte is such a character.
@@ -28,12 +29,32 @@ fn is_plain_byte(byte: u8) -> bool
 pub fn plain_text(bytes: &[u8]) -> Option<&str>
     ensures { IfSome result (λ t. (list_all is_plain t.now ≡ true) × (t.now ≡ bytes.now)) }
 {
-    if !is_plain(bytes) {
-        return None;
+    if is_plain(bytes) {
+        Some(as_str(bytes))
+    } else {
+        None
     }
-    match str::from_utf8(bytes) {
-        Ok(text) => Some(text),
-        Err(_) => None,
+}
+
+/// The most bytes, of at most so many, that end no character early, where they are UTF-8.
+pub fn boundary(bytes: &[u8], most: usize) -> usize
+    ensures { result ≤ length bytes.now }
+{
+    let mut end = most.min(bytes.len());
+    for _ in 0..3 {
+        if let Some(0x80..=0xbf) = bytes.get(end) {
+            end = end.saturating_sub(1);
+        }
+    }
+    end
+}
+
+/// The hexadecimal digit of a number below 16, of which the letter of 10 is this one.
+pub fn digit(number: u8, ten: u8) -> char {
+    if number < 10 {
+        char::from(b'0'.saturating_add(number))
+    } else {
+        char::from(ten.saturating_add(number - 10))
     }
 }
 

@@ -5,6 +5,7 @@ ghost use Rattle.std.specs.Char.{digit_value, encode_utf8};
 ghost use Rattle.esc_visible.specs.Characters.{is_shown};
 ghost use Rattle.dump_page.specs.Quoted.{Quotes, QuotesSome};
 
+use crate::columns::Columns;
 use crate::hidden::Hidden;
 use crate::plain::is_plain;
 use esc_values::Text;
@@ -13,9 +14,10 @@ use std::alloc::AllocError;
 use std::str::Utf8Chunk;
 
 /// Appends bytes of a stream as they come between quotes: a character that is shown as itself, but
-/// `"` as `\"` and `\` as `\\`, and each other byte as `\x` with two hexadecimal digits. So they
-/// read as the bytes, and end at the first `"` that is not escaped. Characters that deceive are
-/// counted. The error is that memory was refused.
+/// `"` as `\"` and `\` as `\\`, and each other byte as `\x` with two hexadecimal digits, also of a
+/// character that looks like a space, and of a mark with no character to sit on. So they read as
+/// the bytes, and end at the first `"` that is not escaped. Characters that deceive are counted.
+/// The error is that memory was refused.
 pub fn push_quoted(bytes: &[u8], to: &mut Text, hidden: &mut Hidden) -> Result<(), AllocError>
     ensures { OnOk result (Quotes to.old to.new bytes.now) }
 {
@@ -41,17 +43,23 @@ fn push_text(text: &str, to: &mut Text, hidden: &mut Hidden) -> Result<(), Alloc
     if is_plain(text.as_bytes()) {
         return to.push_str(text);
     }
+    let mut columns = Columns::new();
     for c in text.chars() {
-        push_char(c, to, hidden)?;
+        push_char(c, &mut columns, to, hidden)?;
     }
     Ok(())
 }
 
-// Appends a character in this way.
-fn push_char(c: char, to: &mut Text, hidden: &mut Hidden) -> Result<(), AllocError>
+// Appends a character in this way, which comes next.
+fn push_char(
+    c: char,
+    columns: &mut Columns,
+    to: &mut Text,
+    hidden: &mut Hidden,
+) -> Result<(), AllocError>
     ensures { OnOk result (Quotes to.old to.new (encode_utf8 c)) }
 {
-    if is_shown(c) {
+    if let Some(_) = columns.of(c) {
         return push_shown(c, to);
     }
     hidden.note(c);
@@ -59,10 +67,45 @@ fn push_char(c: char, to: &mut Text, hidden: &mut Hidden) -> Result<(), AllocErr
     push_bytes(c.encode_utf8(&mut bytes).as_bytes(), to)
 }
 
+/// Appends what is quoted, between quotes.
+pub fn push_between(quoted: &str, to: &mut Text) -> Result<(), AllocError>
+    ensures { OnOk result (to.new ≡ to.old ++ 0x22 ∷ (quoted.now ++ 0x22 ∷ [])) }
+{
+    to.push('"')?;
+    to.push_str(quoted)?;
+    to.push('"')
+}
+
 /// Appends a text as characters that are shown: each that is not as U+FFFD.
 pub fn push_string(text: &str, to: &mut Text) -> Result<(), AllocError>
     ensures { OnOk result (QuotesSome to.old to.new) }
 {
+    let mut is_next = false;
+    for part in text.split('\\') {
+        push_separator(is_next, to)?;
+        push_part(part, to)?;
+        is_next = true;
+    }
+    Ok(())
+}
+
+// Appends a `\` in this way, before each part but the first.
+fn push_separator(is_next: bool, to: &mut Text) -> Result<(), AllocError>
+    ensures { OnOk result (QuotesSome to.old to.new) }
+{
+    if is_next {
+        return push_marked('\\', to);
+    }
+    Ok(())
+}
+
+// Appends a part of it in this way.
+fn push_part(text: &str, to: &mut Text) -> Result<(), AllocError>
+    ensures { OnOk result (QuotesSome to.old to.new) }
+{
+    if is_plain(text.as_bytes()) {
+        return to.push_str(text);
+    }
     for c in text.chars() {
         push_shown(shown_for(c), to)?;
     }

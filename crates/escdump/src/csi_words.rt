@@ -4,8 +4,9 @@ use crate::choices::chosen_words;
 use crate::csi_table::table_of;
 use crate::entries::{after_first, is_mark, number_at};
 use crate::fields::add_fields;
-use crate::key_words::{add_flags, add_function_key, add_key, add_mouse};
+use crate::key_words::{add_code, add_flags, add_function_key, add_key, add_mouse};
 use crate::mode_words::{add_modes, add_private_modes, add_state};
+use crate::named::words_of;
 use crate::renditions::add_renditions;
 use crate::rows::{Row, find_row};
 use dump_page::Phrase;
@@ -150,6 +151,9 @@ fn add_function(function: ControlFunction, params: &[CsiParam], to: &mut Phrase)
         Parameters::KeyboardFlags => add_flags(function, params, to),
         Parameters::Number | Parameters::Amount => add_number(function, params, to),
         Parameters::Line | Parameters::Column => add_one(params, to),
+        Parameters::RectangleRenditions => add_rendered(function, params, to),
+        Parameters::Copy => add_copy(parameters.each(), params, to),
+        Parameters::Fill => add_fill(parameters.each(), params, to),
         Parameters::Nothing
         | Parameters::Count
         | Parameters::Place
@@ -174,9 +178,6 @@ fn add_function(function: ControlFunction, params: &[CsiParam], to: &mut Phrase)
         | Parameters::ColumnMargins
         | Parameters::Rectangle
         | Parameters::Area
-        | Parameters::RectangleRenditions
-        | Parameters::Copy
-        | Parameters::Fill
         | Parameters::Checksum
         | Parameters::Window
         | Parameters::Graphics
@@ -279,20 +280,92 @@ fn add_parameters(
     to: &mut Phrase,
 ) {
     let is_report = function.row().effect == Effect::Report;
-    let mut separator = " ";
-    for (place, parameter) in each.iter().enumerate() {
-        let number = match number_at(params, place) {
-            Some(0) if !is_report && counts_from_one(*parameter) => None,
-            number => number,
-        };
-        separator = add_parameter(*parameter, number, separator, to);
-    }
+    add_each(each, 0, is_report, params, " ", to);
     add_entries(after_first(params, each.len()), to);
     to.add_note(chosen_words(function, number_at(params, 0).unwrap_or(0)));
     if params.contains(&CsiParam::P(b':')) {
         to.add(", with sub-parameters");
         add_entries(params, to);
     }
+}
+
+// Adds the parameters from this place on, each by what it is.
+fn add_each(
+    each: &[Parameter],
+    first: usize,
+    is_report: bool,
+    params: &[CsiParam],
+    before: &'static str,
+    to: &mut Phrase,
+) {
+    let mut separator = before;
+    let mut place = first;
+    for parameter in each {
+        let number = match number_at(params, place) {
+            Some(0) if !is_report && counts_from_one(*parameter) => None,
+            number => number,
+        };
+        separator = add_parameter(*parameter, number, separator, to);
+        place = place.saturating_add(1);
+    }
+}
+
+// Adds a rectangle and the page that it is copied from, and where it is put.
+fn add_copy(each: &[Parameter], params: &[CsiParam], to: &mut Phrase) {
+    let (from, put) = each.split_at(each.len().min(5));
+    add_each(from, 0, false, params, " ", to);
+    to.add(", put at");
+    add_each(put, 5, false, params, " ", to);
+    add_entries(after_first(params, each.len()), to);
+}
+
+// Adds the character that a rectangle is filled with, and the rectangle.
+fn add_fill(each: &[Parameter], params: &[CsiParam], to: &mut Phrase) {
+    let mut before = " ";
+    if let Some(code) = number_at(params, 0) {
+        to.add(" with ");
+        add_code(code, to);
+        before = ", ";
+    }
+    let (_, rectangle) = each.split_at(each.len().min(1));
+    add_each(rectangle, 1, false, params, before, to);
+    add_entries(after_first(params, each.len()), to);
+}
+
+// The renditions that DECRARA turns round (the VT510's manual).
+static TURNED: &str = "\
+0 bold, underlined, blinking and reversed
+1 bold
+4 underlined
+5 blinking
+7 reversed";
+
+// Adds a rectangle and the renditions that it gets, or that are turned round in it.
+fn add_rendered(function: ControlFunction, params: &[CsiParam], to: &mut Phrase) {
+    add_each(Parameters::Rectangle.each(), 0, false, params, " ", to);
+    let mut rest = without_marks(after_first(params, 4));
+    for _ in 0..u64::MAX {
+        let [CsiParam::P(b';'), after @ ..] = rest else {
+            break;
+        };
+        to.add(",");
+        if function == ControlFunction::DECCARA {
+            return add_renditions(after, to);
+        }
+        let number = number_at(after, 0).unwrap_or(0);
+        to.add_word(words_of(TURNED, number, "not known"));
+        rest = after_first(after, 1);
+    }
+}
+
+// The parameters up to their intermediates.
+fn without_marks(params: &[CsiParam]) -> &[CsiParam] {
+    for at in 0..params.len() {
+        if is_mark(params[at]) {
+            return &params[..at];
+        }
+    }
+    params
 }
 
 // Adds a parameter after a separator; returns what separates the next from it.

@@ -1,7 +1,9 @@
 //! From bytes to lines.
 ghost use Rattle.std.specs.Prelude.{◌≤◌, length};
 
+use crate::carried::Carried;
 use crate::item::Item;
+use crate::json::add_object;
 use crate::line::{add_line, add_said};
 use crate::options::{Form, Options};
 use crate::resume::{held_back, resumed};
@@ -16,31 +18,59 @@ use std::mem;
 /// Makes lines of a stream, in whatever chunks it comes. Once memory is refused no more lines are
 /// made, and the page says so.
 #[derive(Drop)]
-pub struct Dump {
+pub struct Dump<'n> {
     alloc: Global,
-    options: Options,
+    options: Options<'n>,
+    // The name of the stream, where it is named.
+    name: Option<&'n str>,
     parser: Parser,
     words: Words,
     item: Item,
+    // Whether the item is a string that is finished, and waits for the string terminator that ends
+    // it.
+    is_closing: bool,
+    carried: Carried,
     begun: Vec<u8>,
     known: usize,
+    // The kind of what is begun.
+    unfinished: SegmentKind,
     stats: Stats,
     page: Page,
 }
 
-impl Dump {
-    /// Nothing came yet. Takes no memory.
-    pub fn new(alloc: Global, options: Options) -> Dump {
-        Dump {
+impl<'n> Dump<'n> {
+    /// Nothing came yet of the stream of this name.
+    pub fn new(alloc: Global, options: Options<'n>, name: &'n str) -> Dump<'n> {
+        let mut dump = Dump {
             alloc,
             options,
+            name: if options.is_named { Some(name) } else { None },
             parser: Parser::with_limit(alloc, options.limit),
-            words: Words::new(alloc),
+            words: Words::new(alloc, room_of(options)),
             item: Item::new(alloc),
+            is_closing: false,
+            carried: Carried::new(),
             begun: Vec::new(alloc),
             known: 0,
+            unfinished: SegmentKind::Control,
             stats: Stats::new(alloc),
             page: Page::new(alloc, options.is_colored),
+        };
+        dump.add_head();
+        dump
+    }
+
+    // Adds the line of the stream's name, where it is named. Objects have it each.
+    fn add_head(&mut self) {
+        match (self.name, self.options.form) {
+            (None, _) | (_, Form::Json) => {}
+            (Some(name), _) => {
+                self.page.words().add("==> ");
+                self.page.words().add_bytes(name.as_bytes(), usize::MAX);
+                self.page.words().forget_hidden();
+                self.page.words().add(" <==");
+                self.page.end_line();
+            }
         }
     }
 
@@ -49,12 +79,16 @@ impl Dump {
         &mut self.page
     }
 
-    /// Adds the lines of a chunk: of each run of text in it, and of each segment that is finished
-    /// by it.
-    pub fn take(&mut self, chunk: &[u8]) {
+    /// Adds the lines of a chunk: of each segment that is finished by it, and of each run of text
+    /// in it, but of one at its end not while more is there, and the run has fewer bytes than the
+    /// limit.
+    pub fn take(&mut self, chunk: &[u8], has_more: bool) {
         let mut bytes = mem::replace(&mut self.begun, Vec::new(self.alloc));
         self.page.note(bytes.extend_from_slice(chunk).is_err());
         self.take_segments(&bytes);
+        if !has_more || self.item.length >= self.options.limit as u64 {
+            self.end_text();
+        }
     }
 
     // Takes the segments of these bytes, of which the first ones are known already.
@@ -74,7 +108,6 @@ impl Dump {
             rest = &rest[length..];
             known = 0;
         }
-        self.end_text();
     }
 
     // Takes the characters of one byte that come first, and returns what is after them.
@@ -93,13 +126,30 @@ impl Dump {
         if segment.finished {
             return self.take_last(segment.kind, fresh);
         }
-        let (taken, held) = fresh.split_at(fresh.len().saturating_sub(held_back(segment)));
-        self.take_piece(segment.kind, taken);
+        let (taken, held) = fresh.split_at(fresh.len().saturating_sub(self.held_of(segment)));
+        if !taken.is_empty() {
+            self.take_piece(segment.kind, taken);
+        }
+        self.unfinished = segment.kind;
         self.begun.clear();
-        let opener = resumed(segment);
+        let opener = if taken.is_empty() && known == 0 {
+            b""
+        } else {
+            resumed(segment)
+        };
         self.known = opener.len();
         self.keep(opener);
         self.keep(held);
+    }
+
+    // How many bytes of an unfinished segment are held back: also an ESC that may begin the string
+    // terminator which a string waits for.
+    fn held_of(&self, segment: Segment<'_>) -> usize {
+        if self.is_closing && segment.bytes == b"\x1b".as_slice() {
+            1
+        } else {
+            held_back(segment)
+        }
     }
 
     // Keeps some bytes for the next chunk.
@@ -111,7 +161,12 @@ impl Dump {
     /// are asked for.
     pub fn finish(&mut self) {
         let begun = mem::replace(&mut self.begun, Vec::new(self.alloc));
-        self.take_piece(self.item.segment, &begun[self.known.min(begun.len())..]);
+        let rest = &begun[self.known.min(begun.len())..];
+        if !rest.is_empty() {
+            self.take_piece(self.unfinished, rest);
+        }
+        self.end_text();
+        self.end_string();
         if !self.item.is_empty() {
             self.end_line(false);
         }
@@ -123,6 +178,7 @@ impl Dump {
 
     // Takes some bytes of a segment.
     fn take_piece(&mut self, kind: SegmentKind, bytes: &[u8]) {
+        self.end_string();
         if kind != SegmentKind::Character {
             self.end_text();
         }
@@ -136,12 +192,44 @@ impl Dump {
     // Takes the last bytes of a segment. A cancel, which cannot be part of any segment but its own,
     // ends what it means where its last byte does not.
     fn take_last(&mut self, kind: SegmentKind, bytes: &[u8]) {
+        if self.is_closing && is_terminator(bytes) {
+            self.page.note(!self.item.close(bytes));
+            return self.end_string();
+        }
         self.take_piece(kind, bytes);
         if is_left_open(kind) {
             self.words.is_ending = true;
             self.feed(b"\x18");
         }
-        if kind != SegmentKind::Character {
+        if self.may_close(kind, bytes) {
+            self.is_closing = true;
+        } else if kind != SegmentKind::Character {
+            self.end_line(true);
+        }
+    }
+
+    // Whether a string terminator may come after these last bytes of a segment: they end a string,
+    // and no BEL does.
+    fn may_close(&self, kind: SegmentKind, bytes: &[u8]) -> bool {
+        match kind {
+            SegmentKind::Dcs | SegmentKind::Apc | SegmentKind::Ignored => self.joins_terminators(),
+            SegmentKind::Osc => self.joins_terminators() && bytes.last() != Some(&0x07),
+            _ => false,
+        }
+    }
+
+    // Whether a string and the string terminator that ends it are one line.
+    fn joins_terminators(&self) -> bool {
+        match self.options.form {
+            Form::Segments => false,
+            Form::Words | Form::Bytes | Form::Json | Form::Stats => true,
+        }
+    }
+
+    // Ends a string that waits for its terminator.
+    fn end_string(&mut self) {
+        if self.is_closing {
+            self.is_closing = false;
             self.end_line(true);
         }
     }
@@ -155,7 +243,7 @@ impl Dump {
 
     // Adds the words of the actions of these bytes.
     fn feed(&mut self, bytes: &[u8]) {
-        let words = mem::replace(&mut self.words, Words::new(self.alloc));
+        let words = mem::replace(&mut self.words, Words::new(self.alloc, usize::MAX));
         let (result, words) = self.parser.parse_into(bytes, words);
         self.words = words;
         self.page.note(result.is_err());
@@ -163,11 +251,26 @@ impl Dump {
 
     // Adds the line of a run of text or a segment, after which nothing is unfinished.
     fn end_line(&mut self, is_finished: bool) {
-        if self.options.has(self.item.kind()) {
+        self.words.is_carried = self.carried.has(&self.item);
+        if self.is_selected() {
             self.add_selected(is_finished);
         }
         self.item.end();
         self.words.clear();
+    }
+
+    // Whether a line is printed of the item: by its kind, or where names are asked for, by its name
+    // too.
+    fn is_selected(&mut self) -> bool {
+        let only = self.options.only;
+        let skip = self.options.skip;
+        let kind = self.item.kind();
+        if !only.has_names() && !skip.has_names() {
+            return only.has_kind(kind) && !skip.has_kind(kind);
+        }
+        add_said(&self.item, &mut self.words);
+        let name = self.words.phrase.name();
+        only.has(&self.item, name) && !skip.has(&self.item, name)
     }
 
     // Adds the line of what is selected, or counts it.
@@ -179,14 +282,38 @@ impl Dump {
                 let name = self.words.phrase.name();
                 self.page.note(!self.stats.add(&self.item, name));
             }
+            Form::Json => {
+                add_said(&self.item, &mut self.words);
+                self.page.note(self.words.phrase.is_refused());
+                let page = &mut self.page;
+                add_object(&self.item, &mut self.words, is_finished, self.name, page);
+                page.end_line();
+            }
             form => add_line(
                 form,
+                self.options.width,
                 &self.item,
                 &mut self.words,
                 is_finished,
                 &mut self.page,
             ),
         }
+    }
+}
+
+// How many bytes the words of a line may have: in objects any.
+fn room_of(options: Options<'_>) -> usize {
+    match options.form {
+        Form::Json => usize::MAX,
+        Form::Words | Form::Segments | Form::Bytes | Form::Stats => options.width,
+    }
+}
+
+// Whether these are the bytes of a string terminator.
+fn is_terminator(bytes: &[u8]) -> bool {
+    match bytes {
+        b"\x1b\\" | b"\x9c" | b"\xc2\x9c" => true,
+        _ => false,
     }
 }
 

@@ -17,6 +17,8 @@ pub struct Item {
     letter: u8,
     // How many of its bytes come up to that letter.
     opened: usize,
+    // How many of its bytes are the string terminator that ends it.
+    closed: usize,
     bytes: Vec<u8>,
 }
 
@@ -29,6 +31,7 @@ impl Item {
             segment: SegmentKind::Control,
             letter: 0,
             opened: 0,
+            closed: 0,
             bytes: Vec::new(alloc),
         }
     }
@@ -63,6 +66,17 @@ impl Item {
         self.bytes.extend_from_slice(&bytes[..room]).is_ok()
     }
 
+    /// Adds the string terminator that ends it, and returns whether memory was there for it.
+    pub fn close(&mut self, bytes: &[u8]) -> bool {
+        let is_cut = self.is_cut();
+        self.length = self.length.saturating_add(bytes.len() as u64);
+        if is_cut {
+            return true;
+        }
+        self.closed = bytes.len();
+        self.bytes.extend_from_slice(bytes).is_ok()
+    }
+
     // Looks for the letter that opens it: the first byte 20 to 7E, where it begins with ESC, with
     // controls and bytes past 7F before it; or that which a control of C1 has after ESC.
     fn open(&mut self, bytes: &[u8]) {
@@ -90,7 +104,8 @@ impl Item {
         if self.letter == 0 || self.opened > self.bytes.len() {
             return &[];
         }
-        let body = &self.bytes[self.opened..];
+        let (_, after) = self.bytes.split_at(self.opened);
+        let (body, _) = after.split_at(after.len().saturating_sub(self.closed));
         match (self.segment, body) {
             (SegmentKind::Osc, [rest @ .., 0x07]) => rest,
             (SegmentKind::Csi, [rest @ .., 0x40..=0x7e]) => rest,
@@ -104,6 +119,11 @@ impl Item {
         (self.letter, self.body())
     }
 
+    /// Whether it has the string terminator that ends it.
+    pub fn is_closed(&self) -> bool {
+        self.closed > 0
+    }
+
     /// Whether not all of its bytes are kept.
     pub fn is_cut(&self) -> bool {
         self.length > self.bytes.len() as u64
@@ -115,6 +135,7 @@ impl Item {
         self.length = 0;
         self.letter = 0;
         self.opened = 0;
+        self.closed = 0;
         self.bytes.clear();
     }
 }

@@ -3,42 +3,63 @@
 use crate::item::Item;
 use crate::kind::Kind;
 use crate::words::Words;
-use dump_page::{Name, Page, Phrase};
+use dump_page::{Member, Name, Page, Phrase};
 
-/// Adds the object of an item with these words.
-pub fn add_object(item: &Item, words: &Words, is_finished: bool, page: &mut Page) {
+/// Adds the object of an item with these words, of the file of this name, where it is named.
+pub fn add_object(
+    item: &Item,
+    words: &mut Words,
+    is_finished: bool,
+    file: Option<&str>,
+    page: &mut Page,
+) {
     let kind = item.kind();
-    add_head(item, kind, is_finished, page.words());
-    add_name(words.phrase.name(), page.words());
+    let object = page.words();
+    match file {
+        Some(file) => {
+            object.add_member(Member::File);
+            object.add_string("", file);
+            object.add_member(Member::NextPlace);
+        }
+        None => object.add_member(Member::Place),
+    }
+    add_head(item, kind, is_finished, object);
+    add_name(words.phrase.name(), &mut words.scratch, object);
     if kind != Kind::Text {
-        page.words().add_key(",", "words");
-        page.words().add_string("", words.phrase.as_str());
+        object.add_member(Member::Words);
+        object.add_string("", words.phrase.as_str());
     }
     if kind == Kind::Csi || kind.is_string() {
-        add_fields(kind, item.body(), page.words());
+        add_fields(kind, item.body(), &mut words.scratch, object);
     }
-    add_bytes(item, page.words());
-    page.words().add("}");
+    add_bytes(item, &mut words.scratch, object);
+    object.add("}");
 }
 
-// Adds the place and the length, the kind, and whether it is finished.
+// Adds the place and the length, the kind, whether it is finished, and whether it is cut.
 fn add_head(item: &Item, kind: Kind, is_finished: bool, object: &mut Phrase) {
-    object.add_key("{", "offset");
     object.add_digits(item.place);
-    object.add_key(",", "length");
+    object.add_member(Member::Length);
     object.add_digits(item.length);
-    object.add_key(",", "kind");
+    object.add_member(Member::Kind);
     object.add_string("", kind.word());
-    object.add_key(",", "finished");
-    object.add(if is_finished { "true" } else { "false" });
+    object.add_member(Member::Finished);
+    object.add(bool_words(is_finished));
+    object.add_member(Member::Cut);
+    object.add(bool_words(item.is_cut()));
+}
+
+// Whether something is so, in JSON.
+fn bool_words(is_so: bool) -> &'static str {
+    if is_so { "true" } else { "false" }
 }
 
 // Adds the name.
-fn add_name(name: Name, object: &mut Phrase) {
-    let mut phrase = object.empty();
-    phrase.add_name(name);
-    object.add_key(",", "name");
-    add_text(&phrase, object);
+fn add_name(name: Name, scratch: &mut Phrase, object: &mut Phrase) {
+    scratch.restart(usize::MAX);
+    scratch.add_name(name);
+    object.add_member(Member::Name);
+    add_text(scratch, object);
 }
 
 // Adds the text of a phrase as a string.
@@ -51,17 +72,17 @@ fn add_text(phrase: &Phrase, object: &mut Phrase) {
 
 // Adds the fields of a control sequence, of which they have digits and colons alone, or of a
 // string: what has `;` between.
-fn add_fields(kind: Kind, body: &[u8], object: &mut Phrase) {
-    let mut phrase = object.empty();
+fn add_fields(kind: Kind, body: &[u8], phrase: &mut Phrase, object: &mut Phrase) {
+    phrase.restart(usize::MAX);
     if kind == Kind::Csi {
-        add_digits(body, &mut phrase);
+        add_digits(body, phrase);
     } else {
         phrase.add_bytes(body, usize::MAX);
     }
     if phrase.is_refused() {
         object.refuse();
     }
-    object.add_key(",", "fields");
+    object.add_member(Member::Fields);
     let mut is_next = false;
     for field in phrase.as_str().split(';') {
         object.add_string(if is_next { "," } else { "[" }, field);
@@ -79,10 +100,12 @@ fn add_digits(bytes: &[u8], phrase: &mut Phrase) {
     }
 }
 
-// Adds the bytes that are kept.
-fn add_bytes(item: &Item, object: &mut Phrase) {
-    let mut phrase = object.empty();
-    phrase.add_bytes(item.bytes(), usize::MAX);
-    object.add_key(",", "bytes");
-    add_text(&phrase, object);
+// Adds the bytes that are kept, escaped and in base64.
+fn add_bytes(item: &Item, scratch: &mut Phrase, object: &mut Phrase) {
+    scratch.restart(usize::MAX);
+    scratch.add_bytes(item.bytes(), usize::MAX);
+    object.add_member(Member::Bytes);
+    add_text(scratch, object);
+    object.add_member(Member::Base64);
+    object.add_base64(item.bytes());
 }

@@ -5,7 +5,6 @@ use crate::controls::{add_control, known_words};
 use crate::device_words::add_device;
 use crate::escapes::add_escape;
 use crate::item::Item;
-use crate::json::add_object;
 use crate::kind::Kind;
 use crate::options::Form;
 use crate::osc_words::add_command;
@@ -26,22 +25,24 @@ const SEGMENT: usize = 56;
 // How many columns of bytes come before words; the last character may go past them.
 const ROOM: usize = 18;
 
-// The most bytes of a character.
-const WIDEST: usize = 4;
+// The most bytes of a column: a character and three marks on it.
+const WIDEST: usize = 16;
 
-/// Adds the line of an item with these words, in this form.
-pub fn add_line(form: Form, item: &Item, words: &mut Words, is_finished: bool, page: &mut Page) {
+/// Adds the line of an item with these words, in this form. Its bytes have at most so many columns.
+pub fn add_line(
+    form: Form,
+    width: usize,
+    item: &Item,
+    words: &mut Words,
+    is_finished: bool,
+    page: &mut Page,
+) {
     match form {
-        Form::Json => {
-            add_said(item, words);
-            page.note(words.phrase.is_refused());
-            add_object(item, words, is_finished, page);
-        }
-        Form::Words => add_words(item, words, is_finished, page),
-        Form::Segments => add_segment(item, is_finished, page),
+        Form::Words | Form::Json => add_words(item, words, is_finished, page),
+        Form::Segments => add_segment(item, is_finished, width, page),
         Form::Bytes | Form::Stats => {
             add_place(item.place, page);
-            push_bytes(item, page);
+            push_bytes(item, width, page);
         }
     }
     page.end_line();
@@ -60,7 +61,7 @@ fn add_place(place: u64, page: &mut Page) {
 }
 
 // The place and the length of a segment, its kind, and its bytes.
-fn add_segment(item: &Item, is_finished: bool, page: &mut Page) {
+fn add_segment(item: &Item, is_finished: bool, width: usize, page: &mut Page) {
     add_place(item.place, page);
     page.words().add_number(item.length, 6, 0);
     page.pad(KIND);
@@ -72,7 +73,7 @@ fn add_segment(item: &Item, is_finished: bool, page: &mut Page) {
         "unfinished"
     });
     page.pad(SEGMENT);
-    push_bytes(item, page);
+    push_bytes(item, width, page);
 }
 
 // What a kind is, in words.
@@ -81,10 +82,10 @@ fn full_name(kind: Kind) -> &'static str {
     if words.is_empty() { kind.name() } else { words }
 }
 
-// The bytes that are kept, and `..` where not all are.
-fn push_bytes(item: &Item, page: &mut Page) {
+// The bytes that are kept, in so many columns, and `..` where not all are.
+fn push_bytes(item: &Item, width: usize, page: &mut Page) {
     page.color(Color::Bytes);
-    page.words().add_bytes(item.bytes(), usize::MAX);
+    page.words().add_bytes(item.bytes(), width);
     page.words().forget_hidden();
     if item.is_cut() {
         page.words().add("..");
@@ -97,20 +98,47 @@ fn add_words(item: &Item, words: &mut Words, is_finished: bool, page: &mut Page)
     add_place(item.place, page);
     add_first(item.bytes(), page);
     if item.is_text() {
-        page.words().add_quoted("text ", item.bytes());
-        return page.words().add_hidden_names();
+        return add_text(item, words, page);
     }
     let known = known_words(item.bytes());
-    if !known.is_empty() && item.kind() == Kind::Control {
+    if !known.is_empty() && item.kind() == Kind::Control && !words.is_carried {
         return page.words().add(known);
     }
     add_said(item, words);
+    words.phrase.add_left_out();
     words.phrase.add_hidden_names();
     add_state(item, is_finished, &mut words.phrase);
     page.push(&words.phrase);
 }
 
-// The first bytes. Each character takes a column at least, so what is past the column is not read.
+// Says whether tmux passes an item on.
+fn add_carried(item: &Item, words: &mut Words) {
+    if words.is_carried {
+        words.phrase.add(match item.bytes() {
+            b"\x1b" => ", since tmux passes on an ESC that comes twice",
+            _ => ", passed on by tmux",
+        });
+    }
+}
+
+// A run of text, as far as there is room.
+fn add_text(item: &Item, words: &mut Words, page: &mut Page) {
+    let bytes = item.bytes();
+    if bytes.len() <= words.room() && !words.is_carried {
+        page.words().add_quoted("text ", bytes);
+        return page.words().add_hidden_names();
+    }
+    let is_carried = words.is_carried;
+    words.clear();
+    words.is_carried = is_carried;
+    words.phrase.add_quoted("text ", bytes);
+    words.phrase.add_left_out();
+    add_carried(item, words);
+    words.phrase.add_hidden_names();
+    page.push(&words.phrase);
+}
+
+// The first bytes. What is past the column is not read.
 fn add_first(bytes: &[u8], page: &mut Page) {
     let most = bytes.len().min(WIDEST * ROOM + WIDEST);
     page.color(Color::Bytes);
@@ -120,8 +148,12 @@ fn add_first(bytes: &[u8], page: &mut Page) {
     page.pad(WORDS);
 }
 
-/// Adds the words of a segment, as far as its actions did not say them.
+/// Adds the words of a segment, as far as they are not there yet.
 pub fn add_said(item: &Item, words: &mut Words) {
+    if words.is_whole {
+        return;
+    }
+    words.is_whole = true;
     let kind = item.kind();
     words.add_counted();
     let phrase = &mut words.phrase;
@@ -146,6 +178,9 @@ pub fn add_said(item: &Item, words: &mut Words) {
             phrase.add(cut_words(item));
         }
         Kind::St | Kind::Broken | Kind::Stray => phrase.begin(kind.name(), "", kind.words()),
+    }
+    if kind != Kind::Text {
+        add_carried(item, words);
     }
 }
 

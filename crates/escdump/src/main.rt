@@ -3,6 +3,7 @@
 #![tactic(auto)]
 
 mod apc_words;
+mod carried;
 mod charsets;
 mod choices;
 mod color_words;
@@ -23,6 +24,7 @@ mod kind;
 mod line;
 mod mode_words;
 mod named;
+mod notation;
 mod options;
 mod osc_table;
 mod osc_words;
@@ -30,35 +32,45 @@ mod renditions;
 mod resume;
 mod rows;
 mod run;
+mod selection;
 mod stats;
 mod values;
 mod words;
 
-use command_line::{FAULT, OUTPUT, last_status, open_closed, program_words, refused, work_through};
+use command_line::{
+    Ended, FAULT, OUTPUT, Work, last_status, open_closed, program_words, refused, work_through,
+};
+use notation::bytes_of;
 use options::{Kind, Options, Task, When};
-use run::{Dumping, PROGRAM, ended, say};
+use run::{Dumping, Fault, PROGRAM, ended, say};
 use std::env;
 use std::env::VarError;
-use std::io::IsTerminal;
+use std::io::{IsTerminal, Write};
 use std::process::ExitCode;
 
 const USAGE: &str = "\
-usage: escdump [--segments] [--escape] [--json] [--stats] [--only kind,..] [--skip kind,..] \
-[--limit size] [--color auto|always|never] [-h|--help] [-V|--version] [--] [FILE..]";
+usage: escdump [-e|--explain text] [--segments] [--escape] [--json] [--stats] [--only kind,..] \
+[--skip kind,..] [--limit size] [--width size] [--color auto|always|never] [-h|--help] \
+[-V|--version] [--] [FILE..]";
 
 const HELP: &str = "\n\
 Prints each FILE, or standard input, as a readable line for each sequence and run of text.
 
+  -e, --explain text
+                  prints what this stream is, in place of standard input and before each FILE: ESC
+                  is \\e, \\033, \\x1b, \\u001b or ^[ there
   --segments      a line has the place, the length, the kind and the bytes of a segment
   --escape        a line has the place and the bytes, in place of the words
   --json          a line is an object of JSON
   --stats         a line for each name that came: how often, with how many bytes, how many
                   the longest has, and where the first is
-  --only kind,..  prints lines of these kinds alone: text control escape csi dcs osc apc sos
-                  pm st cut broken stray
-  --skip kind,..  prints no lines of these kinds
+  --only kind,..  prints lines of these names alone, as 'OSC 52', SGR or 'DECSET 1049', or of
+                  these kinds: text control escape csi dcs osc apc sos pm st cut broken stray
+  --skip kind,..  prints no lines of these names or kinds
   --limit size    the most bytes of a sequence or string that are kept (1MiB): a number,
                   as 65536, or 64K, 1M or 1G, also as 64KiB, in powers of 1024
+  --width size    the most bytes of the words of a line, or of its bytes, after which it says how
+                  many more there are; on a terminal 4K where none are named
   --color time    prints the place and the bytes in colours: always, never, or auto, which
                   is on a terminal where NO_COLOR is not set; --colour is the same
   -h, --help      prints this
@@ -80,7 +92,8 @@ fn main(rt: HostRuntime) -> ExitCode {
         Ok(task) => {
             let mut options = task.options;
             options.is_colored = is_colored(&rt, task.colors);
-            done(&rt, task.kind, options, &task.files)
+            options.width = width_of(&rt, task.width);
+            done(&rt, &task, options)
         }
         Err(wrong) => refused(PROGRAM, wrong, &mut rt.stderr()),
     };
@@ -105,10 +118,20 @@ fn has_no_color(rt: &HostRuntime) -> bool {
     }
 }
 
+// How many bytes the words of a line may have: on a terminal 4 KiB, and any elsewhere, where it is
+// not given.
+fn width_of(rt: &HostRuntime, width: Option<usize>) -> usize {
+    match width {
+        Some(width) => width,
+        None if rt.stdout().is_terminal() => 4096,
+        None => usize::MAX,
+    }
+}
+
 // Does what the words ask for.
-fn done(rt: &HostRuntime, kind: Kind, options: Options, files: &[&str]) -> u8 {
-    match kind {
-        Kind::Dump => dump_all(rt, options, files),
+fn done(rt: &HostRuntime, task: &Task<'_>, options: Options<'_>) -> u8 {
+    match task.kind {
+        Kind::Dump => dump_all(rt, options, task.explained, &task.files),
         Kind::Help => said(rt, &[USAGE, HELP]),
         Kind::Version => said(rt, &[VERSION]),
     }
@@ -120,13 +143,27 @@ fn said(rt: &HostRuntime, texts: &[&'static str]) -> u8 {
     last_status(ended(done, OUTPUT, &mut rt.stderr()))
 }
 
-// Prints one file after another.
-fn dump_all(rt: &HostRuntime, options: Options, files: &[&str]) -> u8 {
+// Prints what is to be explained, and one file after another.
+fn dump_all(rt: &HostRuntime, options: Options<'_>, explained: Option<&str>, files: &[&str]) -> u8 {
     let mut dumping = Dumping {
         alloc: rt.alloc(),
         options,
         output: rt.stdout(),
         faults: rt.stderr(),
     };
+    if let Some(text) = explained {
+        let ended = explain(text, &mut dumping);
+        if files.is_empty() || ended != Ended::Whole {
+            return last_status(ended);
+        }
+    }
     work_through(rt, PROGRAM, files, &mut dumping, &mut rt.stderr())
+}
+
+// Prints what a stream is that stands in the program's words.
+fn explain<W: Write, E: Write>(text: &str, dumping: &mut Dumping<'_, W, E>) -> Ended {
+    match bytes_of(dumping.alloc, text) {
+        Ok(bytes) => dumping.take("--explain", bytes.as_slice()),
+        Err(_) => ended(Err(Fault::Memory), "--explain", &mut dumping.faults),
+    }
 }

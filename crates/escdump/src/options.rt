@@ -1,7 +1,7 @@
 //! What the program's words ask for.
 
-use crate::kind::{KINDS, Kind as LineKind};
-use command_line::{Found, Known, Takes, Wrong, read};
+use crate::selection::{Listed, near_kind};
+use command_line::{Found, Given, Known, Takes, Wrong, read};
 use std::alloc::Global;
 
 /// What a line is printed of.
@@ -32,22 +32,21 @@ pub enum When {
 
 /// How streams are printed.
 #[derive(Clone, Copy)]
-pub struct Options {
+pub struct Options<'a> {
     /// What a line is printed of.
     pub form: Form,
     /// How many bytes are kept of a segment.
     pub limit: usize,
+    /// How many bytes the words of a line may have, and its bytes.
+    pub width: usize,
     /// Whether the lines have colours.
     pub is_colored: bool,
-    /// The bits of the kinds of which lines are printed.
-    pub kinds: u64,
-}
-
-impl Options {
-    /// Whether lines of this kind are printed.
-    pub fn has(self, kind: LineKind) -> bool {
-        self.kinds & kind.bit() != 0
-    }
+    /// Whether each stream is named.
+    pub is_named: bool,
+    /// The lines that are printed.
+    pub only: Listed<'a>,
+    /// Those that are not.
+    pub skip: Listed<'a>,
 }
 
 /// What the program does.
@@ -67,9 +66,13 @@ pub struct Task<'a> {
     /// What the program does.
     pub kind: Kind,
     /// How streams are printed.
-    pub options: Options,
+    pub options: Options<'a>,
     /// When lines have colours.
     pub colors: When,
+    /// How many bytes the words of a line may have, where that is given.
+    pub width: Option<usize>,
+    /// A stream as people write it, which comes before the files.
+    pub explained: Option<&'a str>,
     /// The files.
     pub files: Vec<&'a str>,
 }
@@ -78,9 +81,16 @@ const DEFAULT_LIMIT: usize = 1_048_576;
 
 const WHEN: Takes = Takes::OneOf("time", &["auto", "always", "never"]);
 
-const SOME_KINDS: Takes = Takes::SomeOf("kind", KINDS);
+const SOME_KINDS: Takes = Takes::OneOf("kind", &[]);
+
+const EXPLAIN: Known = Known {
+    name: "--explain",
+    letter: "-e",
+    takes: Takes::OneOf("text", &[]),
+};
 
 const KNOWN: &[Known] = &[
+    EXPLAIN,
     Known {
         name: "--segments",
         letter: "",
@@ -117,6 +127,11 @@ const KNOWN: &[Known] = &[
         takes: Takes::Size,
     },
     Known {
+        name: "--width",
+        letter: "",
+        takes: Takes::Size,
+    },
+    Known {
         name: "--color",
         letter: "",
         takes: WHEN,
@@ -135,44 +150,67 @@ impl<'a> Task<'a> {
     /// and of the forms, the last counts.
     pub fn of(alloc: Global, words: &'a [String]) -> Result<Task<'a>, Wrong<'a>> {
         match read(alloc, KNOWN, words) {
-            Ok(found) => Ok(Task::from_found(found)),
+            Ok(found) => Task::from_found(found),
             Err(wrong) => Err(wrong),
         }
     }
 
     // The task that these options and files name.
-    fn from_found(found: Found<'a>) -> Task<'a> {
-        let mut kind = Kind::Dump;
-        let mut colors = When::Auto;
-        let mut options = Options {
-            form: Form::Words,
-            limit: DEFAULT_LIMIT,
-            is_colored: false,
-            kinds: u64::MAX,
-        };
-        let mut skipped = 0;
-        for given in &found.options {
-            match given.name {
-                "--segments" => options.form = Form::Segments,
-                "--escape" => options.form = Form::Bytes,
-                "--json" => options.form = Form::Json,
-                "--stats" => options.form = Form::Stats,
-                "--only" => options.kinds = given.some,
-                "--skip" => skipped = given.some,
-                "--limit" => options.limit = given.size,
-                "--color" | "--colour" => colors = when_named(given.word),
-                "--help" => kind = Kind::Help,
-                "--version" => kind = Kind::Version,
-                _ => {}
-            }
-        }
-        options.kinds &= !skipped;
-        Task {
-            kind,
-            options,
-            colors,
+    fn from_found(found: Found<'a>) -> Result<Task<'a>, Wrong<'a>> {
+        let mut task = Task {
+            kind: Kind::Dump,
+            options: DEFAULT,
+            colors: When::Auto,
+            width: None,
+            explained: None,
             files: found.files,
+        };
+        for given in &found.options {
+            task.take(*given)?;
         }
+        let streams = task.files.len();
+        task.options.is_named = streams > 1 || (streams == 1 && task.explained.is_some());
+        Ok(task)
+    }
+
+    // Takes an option.
+    fn take(&mut self, given: Given<'a>) -> Result<(), Wrong<'a>> {
+        let options = &mut self.options;
+        match given.name {
+            "--segments" => options.form = Form::Segments,
+            "--escape" => options.form = Form::Bytes,
+            "--json" => options.form = Form::Json,
+            "--stats" => options.form = Form::Stats,
+            "--only" => options.only = listed("--only", given.word)?,
+            "--skip" => options.skip = listed("--skip", given.word)?,
+            "--limit" => options.limit = given.size,
+            "--width" => self.width = Some(given.size),
+            "--explain" => self.explained = Some(given.word),
+            "--color" | "--colour" => self.colors = when_named(given.word),
+            "--help" => self.kind = Kind::Help,
+            "--version" => self.kind = Kind::Version,
+            _ => {}
+        }
+        Ok(())
+    }
+}
+
+// How streams are printed where the words do not say.
+const DEFAULT: Options<'static> = Options {
+    form: Form::Words,
+    limit: DEFAULT_LIMIT,
+    width: usize::MAX,
+    is_colored: false,
+    is_named: false,
+    only: Listed::ALL,
+    skip: Listed::NONE,
+};
+
+// The list that this option has.
+fn listed<'a>(option: &'static str, list: &'a str) -> Result<Listed<'a>, Wrong<'a>> {
+    match Listed::of(list) {
+        Ok(listed) => Ok(listed),
+        Err(part) => Err(Wrong::Value(option, "kind", part, near_kind(part))),
     }
 }
 

@@ -29,15 +29,15 @@ const CHUNK: usize = 4096;
 
 /// What prints streams to one output.
 #[derive(Drop)]
-pub struct Dumping<W, E> {
+pub struct Dumping<'a, W, E> {
     pub alloc: Global,
-    pub options: Options,
+    pub options: Options<'a>,
     pub output: W,
     /// Where what hinders goes.
     pub faults: E,
 }
 
-impl<W: Write, E: Write> Work for Dumping<W, E> {
+impl<'a, W: Write, E: Write> Work for Dumping<'a, W, E> {
     fn take<R: Read + Drop>(&mut self, name: &str, mut input: R) -> Ended {
         dump_named(
             self.alloc,
@@ -58,7 +58,7 @@ impl<W: Write, E: Write> Work for Dumping<W, E> {
 /// the output any more, none is written. The lines before it are printed.
 pub fn dump_named<R: Read, W: Write, E: Write>(
     alloc: Global,
-    options: Options,
+    options: Options<'_>,
     name: &str,
     input: &mut R,
     output: &mut W,
@@ -67,7 +67,7 @@ pub fn dump_named<R: Read, W: Write, E: Write>(
     ensures safe { result ≡ Ended.Whole
         → AppendsPage (W.contents output.old) (W.contents output.new) }
 {
-    let done = dump(alloc, options, input, output);
+    let done = dump(alloc, options, name, input, output);
     ended(done, name, faults)
 }
 
@@ -108,22 +108,28 @@ pub fn ended<E: Write>(done: Result<(), Fault>, name: &str, faults: &mut E) -> E
     }
 }
 
-// Reads the stream to its end, and prints its lines, those of a chunk before the next is read.
+// Reads the stream to its end, and prints its lines, those of a chunk before the next is read. A
+// read that fills the chunk has most likely left something.
 fn dump<R: Read, W: Write>(
     alloc: Global,
-    options: Options,
+    options: Options<'_>,
+    name: &str,
     input: &mut R,
     output: &mut W,
 ) -> Result<(), Fault>
     ensures { OnOk result (AppendsPage (W.contents output.old) (W.contents output.new)) }
 {
-    let mut dump = Dump::new(alloc, options);
+    let mut dump = Dump::new(alloc, options, name);
     dump_all(&mut dump, input, output)
 }
 
 // The same, by way of this dump, to which nothing came yet.
 #[tactic(auto, using(dump_page::proofs::PagesMore::no_pages))]
-fn dump_all<R: Read, W: Write>(dump: &mut Dump, input: &mut R, output: &mut W) -> Result<(), Fault>
+fn dump_all<R: Read, W: Write>(
+    dump: &mut Dump<'_>,
+    input: &mut R,
+    output: &mut W,
+) -> Result<(), Fault>
     ensures { OnOk result (AppendsPage (W.contents output.old) (W.contents output.new)) }
 {
     let mut chunk = [0u8; CHUNK];
@@ -132,7 +138,7 @@ fn dump_all<R: Read, W: Write>(dump: &mut Dump, input: &mut R, output: &mut W) -
         if count == 0 {
             break;
         }
-        dump.take(&chunk[..count]);
+        dump.take(&chunk[..count], count == CHUNK);
         print(dump.page(), output)?;
     }
     dump.finish();

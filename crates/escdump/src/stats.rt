@@ -1,6 +1,8 @@
 //! What a stream holds.
 
 use crate::item::Item;
+use crate::selection::numbers_of;
+use crate::values::{cut, number_in};
 use dump_page::{Key, Name, Page};
 use std::alloc::Global;
 
@@ -17,6 +19,18 @@ struct Row {
 
 // The most rows of names with a number or bytes. What has another such name is counted by its kind.
 const MOST: u64 = 500;
+
+// Whether what has this name sets or resets modes, or saves or restores them.
+fn has_modes(name: Name) -> bool {
+    let Name(kind, word, _) = name;
+    if kind != "CSI" {
+        return false;
+    }
+    match word {
+        "SM" | "RM" | "DECSET" | "DECRST" | "XTSAVE" | "XTRESTORE" | "DECRQM" => true,
+        _ => false,
+    }
+}
 
 /// A row for each name that came, in the order in which they first came.
 #[derive(Drop)]
@@ -40,8 +54,42 @@ impl Stats {
     }
 
     /// Counts an item of this name, and returns whether memory was there for it. A run of text goes
-    /// on with one that ended where it begins.
+    /// on with one that ended where it begins. Of modes that are set or reset each has a row.
     pub fn add(&mut self, item: &Item, name: Name) -> bool {
+        if has_modes(name) {
+            self.add_modes(item, name)
+        } else {
+            self.add_item(item, name)
+        }
+    }
+
+    // Counts an item by each of its modes that is a number, or where none is, by its name.
+    fn add_modes(&mut self, item: &Item, name: Name) -> bool {
+        let Name(kind, word, _) = name;
+        let mut rest = Some(numbers_of(item));
+        let mut is_counted = false;
+        let mut is_right = true;
+        for _ in 0..u64::MAX {
+            let Some(text) = rest else {
+                break;
+            };
+            let (part, more) = cut(text, b';');
+            if let Some(number) = number_in(part) {
+                let key = Key::Number(number.unsigned_abs());
+                is_right = self.add_item(item, Name(kind, word, key)) && is_right;
+                is_counted = true;
+            }
+            rest = more;
+        }
+        if is_counted {
+            is_right
+        } else {
+            self.add_item(item, name)
+        }
+    }
+
+    // Counts an item of this name.
+    fn add_item(&mut self, item: &Item, name: Name) -> bool {
         let mut row = Row {
             name,
             count: 1,
@@ -95,9 +143,11 @@ impl Stats {
         false
     }
 
-    /// Adds a line for each name, under a line that says what its numbers are.
-    pub fn add_lines(&self, page: &mut Page) {
+    /// Adds a line for each name, under a line that says what its numbers are: the commonest first,
+    /// and of those that came equally often that which came first.
+    pub fn add_lines(&mut self, page: &mut Page) {
         page.push_line("   count       bytes     largest       first  name");
+        page.note(self.rows.sort_by_key(|row| u64::MAX - row.count).is_err());
         for row in &self.rows {
             add_line(*row, page);
         }

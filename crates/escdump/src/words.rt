@@ -15,34 +15,53 @@ use std::alloc::{AllocError, Global};
 /// it, of a control sequence, and of a sixel image. Those of anything else are made of its bytes.
 #[derive(Drop)]
 pub struct Words {
-    alloc: Global,
     /// The words.
     pub phrase: Phrase,
+    /// Room for a text that is written into another.
+    pub scratch: Phrase,
     /// Whether a cancel comes now that is not the stream's, and has no words.
     pub is_ending: bool,
-    /// Whether the words of the segment are said.
+    /// Whether the words of the segment are said, as far as its actions say them.
     pub has_said: bool,
+    /// Whether all of them are.
+    pub is_whole: bool,
+    /// Whether tmux passes on what they are of.
+    pub is_carried: bool,
+    // How many bytes the words may have.
+    room: usize,
     controls: Vec<Count>,
 }
 
 impl Words {
-    /// None. Takes no memory.
-    pub fn new(alloc: Global) -> Words {
+    /// None, that may have so many bytes. Takes no memory.
+    pub fn new(alloc: Global, room: usize) -> Words {
+        let mut phrase = Phrase::new(alloc);
+        phrase.restart(room);
         Words {
-            alloc,
-            phrase: Phrase::new(alloc),
+            phrase,
+            scratch: Phrase::new(alloc),
             is_ending: false,
             has_said: false,
+            is_whole: false,
+            is_carried: false,
+            room,
             controls: Vec::new(alloc),
         }
     }
 
     /// None, of the next segment.
     pub fn clear(&mut self) {
-        self.phrase = Phrase::new(self.alloc);
+        self.phrase.restart(self.room);
         self.is_ending = false;
         self.has_said = false;
+        self.is_whole = false;
+        self.is_carried = false;
         self.controls.clear();
+    }
+
+    /// How many bytes the words may have.
+    pub fn room(&self) -> usize {
+        self.room
     }
 
     /// Adds the words of the controls that were counted.

@@ -1,5 +1,5 @@
 use Rattle.dump_page.proofs.PagesMore.{page_quoted}
-use Rattle.dump_page.proofs.phrase.Phrase.push_quote.Goals as goal
+use Rattle.dump_page.proofs.phrase.Phrase.append_quote.Goals as goal
 
 pub invariant_of-self : goal.invariant_of-self
 invariant_of-self c = record {

@@ -1,0 +1,8 @@
+use Rattle.dump_page.proofs.PagesMore.{page_more}
+use Rattle.dump_page.proofs.phrase.Phrase.add_member.Goals as goal
+
+pub invariant_of-self : goal.invariant_of-self
+invariant_of-self c = record {
+  safe = page_more c.push_str.result c.args.self.now.text c.push_str.new.self c.text.result.now
+      c.text.ensures c.args.self.now.safe c.push_str.ensures.ok c.push_str.ensures.err;
+}
