@@ -19,8 +19,10 @@ mod decode;
 mod decoding;
 mod eight_bit;
 mod encoding;
+mod input;
 mod laws;
 mod mask;
+mod names;
 mod runs;
 mod tables;
 mod utf16;
@@ -29,11 +31,13 @@ mod utf16_reader;
 pub use code_page::CodePage;
 pub use decoding::Decoding;
 pub use encoding::Encoding;
+pub use input::Input;
 pub use laws::{
     ascii_stays, characters_stay, code_page_is_text, code_page_keeps_ascii,
     each_byte_stays_or_is_masked, length_stays, masks_piece_by_piece, no_raw_control_begins,
     raw_bytes_go_on,
 };
 pub use mask::Mask;
+pub use names::{ENCODINGS, encoding_of, order_of, page_of};
 pub use utf16::Utf16;
 pub use utf16_reader::{ByteOrder, Utf16Reader};

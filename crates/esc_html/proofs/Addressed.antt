@@ -7,7 +7,7 @@ use Rattle.std.specs.Str.Lossy.{utf8_lossy}
 use Rattle.std.proofs.lemmas.Bool.{and_parts, leb-true}
 use Rattle.esc_html.specs.Addresses.{has_scheme, is_address_char, is_safe_address, is_short}
 use Rattle.esc_html.specs.Marks.{address_if, address_of, is_page_address}
-use Rattle.esc_html.specs.Pieces.{is_kept}
+use Rattle.esc_html.specs.Pieces.{is_unbroken}
 use Rattle.esc_html.proofs.Costs.{address_size}
 use Rattle.esc_html.proofs.Sizes.{value_added, value_size, value_small}
 use Rattle.esc_links.specs.Hyperlinks.{link_in, link_of, link_to, params_of}
@@ -77,7 +77,7 @@ parts_within t =
 
 pub short_size : (a : List ℕ) → is_page_address a ≡ true → value_size a ≤ 12498
 short_size a h =
-    let safe = (and_parts (is_safe_address a) (list_all is_kept a) h).0 in
+    let safe = (and_parts (is_safe_address a) (list_all is_unbroken a) h).0 in
     let form = (and_parts (is_short a && (has_scheme (codes "http://") a
     || has_scheme (codes "https://") a || has_scheme (codes "mailto:") a))
     (list_all is_address_char (chars a)) safe).0 in

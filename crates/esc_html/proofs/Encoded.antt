@@ -19,7 +19,7 @@ use Rattle.esc_looks.specs.declared.style.Style.{Style}
 use Rattle.esc_html.specs.Inline.{inline_text}
 use Rattle.esc_html.specs.Pieces.{Piece, text, span, span_end, link, link_end, encoded, escape, escape_text, escape_value, needs_reference, html_text, piece_text, reference_text, is_kept, attribute_text, attributes_text, class_attribute, style_attribute}
 use Rattle.esc_html.proofs.EscapedRuns.{escape_none, mark_small}
-use Rattle.esc_html.proofs.Reading.{code_plain, inline_plain, is_name_char, names_plain, styles_plain}
+use Rattle.esc_html.proofs.Reading.{code_plain, inline_plain, is_low, is_name_char, names_plain, styles_plain}
 
 literal : (t : List ℕ) → list_all is_small t ≡ true → encode_utf8_all t ≡ t
 literal [] h = refl
@@ -81,9 +81,10 @@ pub name_small : (x : List ℕ) → list_all is_name_char x ≡ true → list_al
 name_small [] h = refl
 name_small (c ∷ x) h =
     let q = and_parts (is_name_char c) (list_all is_name_char x) h in
-    let k = and_parts (is_kept c) (not (c == 0x22) && (not (c == 0x26) && nat_le c 127)) q.0 in
-    let o = and_parts (not (c == 0x22)) (not (c == 0x26) && nat_le c 127) k.1 in
-    rw ((and_parts (not (c == 0x26)) (nat_le c 127) o.1).1, name_small x q.1) refl
+    let k = and_parts (is_kept c) (not (c == 0x22) && (not (c == 0x26) && is_low c)) q.0 in
+    let o = and_parts (not (c == 0x22)) (not (c == 0x26) && is_low c) k.1 in
+    let l = and_parts (not (c == 0x26)) (is_low c) o.1 in
+    rw ((and_parts (nat_le c 127) (not (c == 0x0a)) l.1).0, name_small x q.1) refl
 
 pub code_small : (c : ℕ × ℕ × ℕ) → list_all is_small (color_code c) ≡ true
 code_small c = name_small (color_code c) (code_plain c)

@@ -15,3 +15,7 @@ pub mod Costs
 pub mod Addressed
 pub mod Weights
 pub mod Bounded
+pub mod Lined
+pub mod LinedReading
+pub mod LinedPages
+pub mod Lining

@@ -81,19 +81,22 @@ value_chars t n v (c ∷ a) r h =
 
 -- ---- names of classes
 
-abbrev pub is_name_char : ℕ → Bool
-is_name_char c = is_kept c && (not (c == 0x22) && (not (c == 0x26) && nat_le c 127))
+abbrev pub is_low : ℕ → Bool
+is_low c = nat_le c 127 && not (c == 0x0a)
 
-name_chars : (t : Tag) (n v x r : List ℕ) → list_all is_name_char x ≡ true
+abbrev pub is_name_char : ℕ → Bool
+is_name_char c = is_kept c && (not (c == 0x22) && (not (c == 0x26) && is_low c))
+
+pub name_chars : (t : Tag) (n v x r : List ℕ) → list_all is_name_char x ≡ true
     → tokens_from (value t n v) (x ++ r) ≡ tokens_from (value t n (v ++ x)) r
 name_chars t n v [] r h = ap (λ w. tokens_from (value t n w) r) (sym (append-nil v))
 name_chars t n v (c ∷ x) r h =
     let q = and_parts (is_name_char c) (list_all is_name_char x) h in
-    let k = and_parts (is_kept c) (not (c == 0x22) && (not (c == 0x26) && nat_le c 127)) q.0 in
-    let o = and_parts (not (c == 0x22)) (not (c == 0x26) && nat_le c 127) k.1 in
+    let k = and_parts (is_kept c) (not (c == 0x22) && (not (c == 0x26) && is_low c)) q.0 in
+    let o = and_parts (not (c == 0x22)) (not (c == 0x26) && is_low c) k.1 in
     let nul = not-true (c == 0) (and_parts (not (c == 0)) (not (c == 0x0d)) k.0).0 in
     let quote = not-true (c == 0x22) o.0 in
-    let amp = not-true (c == 0x26) (and_parts (not (c == 0x26)) (nat_le c 127) o.1).0 in
+    let amp = not-true (c == 0x26) (and_parts (not (c == 0x26)) (is_low c) o.1).0 in
     rw (quote, amp, nul) (name_chars t n (v ++ c ∷ []) x r q.1
     ∙ ap (λ w. tokens_from (value t n w) r) (append_assoc v (c ∷ []) x))
 
@@ -330,7 +333,7 @@ span_reads (c ∷ cs) (s ∷ ss) r =
 
 -- ---- pieces
 
-piece_reads : (p : Piece) (r : List ℕ) → is_kept_piece p ≡ true
+pub piece_reads : (p : Piece) (r : List ℕ) → is_kept_piece p ≡ true
     → tokens_from data_state (piece_text p ++ r) ≡ piece_tokens p ++ tokens_from data_state r
 piece_reads (text t) r h = text_chars t r
 piece_reads (span true l) r h =
@@ -354,14 +357,14 @@ all_read (p ∷ ps) h =
 
 -- ---- newlines
 
-kept_same : (s : List ℕ) → list_all is_kept s ≡ true → normalized false s ≡ s
+pub kept_same : (s : List ℕ) → list_all is_kept s ≡ true → normalized false s ≡ s
 kept_same [] h = refl
 kept_same (c ∷ s) h =
     let q = and_parts (is_kept c) (list_all is_kept s) h in
     let other = not-true (c == 0x0d) (and_parts (not (c == 0)) (not (c == 0x0d)) q.0).1 in
     rw other (ap (λ x. c ∷ x) (kept_same s q.1))
 
-all_joined : {X : Type 0} (f : X → List ℕ) (test : X → Bool)
+pub all_joined : {X : Type 0} (f : X → List ℕ) (test : X → Bool)
     → ((x : X) → test x ≡ true → list_all is_kept (f x) ≡ true) → (xs : List X)
     → list_all test xs ≡ true → list_all is_kept (flat_map f xs) ≡ true
 all_joined f test k [] h = refl
@@ -381,11 +384,11 @@ kept_escaped mark c h = by (c == 0x26 || c == 0x3c || c == mark) (c == 0x26) (c 
     by true false false false = refl
     by false x y z = rw h refl
 
-name_kept : (x : List ℕ) → list_all is_name_char x ≡ true → list_all is_kept x ≡ true
+pub name_kept : (x : List ℕ) → list_all is_name_char x ≡ true → list_all is_kept x ≡ true
 name_kept [] h = refl
 name_kept (c ∷ x) h =
     let q = and_parts (is_name_char c) (list_all is_name_char x) h in
-    let k = and_parts (is_kept c) (not (c == 0x22) && (not (c == 0x26) && nat_le c 127)) q.0 in
+    let k = and_parts (is_kept c) (not (c == 0x22) && (not (c == 0x26) && is_low c)) q.0 in
     rw (k.0, name_kept x q.1) refl
 
 quoted_kept : (v : List ℕ) → list_all is_name_char v ≡ true
@@ -432,7 +435,7 @@ inline_kept l =
       quoted_kept (inline_text l) (inline_plain l),
     ) refl
 
-piece_kept : (p : Piece) → is_kept_piece p ≡ true → list_all is_kept (piece_text p) ≡ true
+pub piece_kept : (p : Piece) → is_kept_piece p ≡ true → list_all is_kept (piece_text p) ≡ true
 piece_kept (text t) h = all_joined escape_text is_kept (kept_escaped 0x3e) t h
 piece_kept (span true l) h = inline_kept l
 piece_kept (span false l) h = span_kept (present (look_classes l)) (present (look_styles l))

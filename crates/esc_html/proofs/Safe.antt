@@ -1,5 +1,5 @@
 -- The pieces of a stream are kept and safe.
-use Rattle.std.proofs.Common.{ℕ, suc, ◌≡◌, ◌<◌, ◌-◌, ◌==◌, Bool, true, false, ◌&&◌, ◌||◌, if◌then◌else◌, inl, inr, List, [], ◌∷◌, ◌++◌, length, get_or, Option, Some, None, is_some, chars, refl, ap, sym, subst, ◌∙◌, append_assoc, arith}
+use Rattle.std.proofs.Common.{ℕ, suc, ◌≡◌, ◌<◌, ◌-◌, ◌==◌, Bool, true, false, not, ◌&&◌, ◌||◌, if◌then◌else◌, inl, inr, List, [], ◌∷◌, ◌++◌, length, get_or, Option, Some, None, is_some, chars, refl, ap, sym, subst, ◌∙◌, append_assoc, arith}
 use Rattle.std.specs.Char.{encode_utf8}
 use Rattle.std.specs.List.{list_all}
 use Rattle.std.specs.Str.{IsUtf8, encode_utf8_all}
@@ -20,48 +20,56 @@ use Rattle.esc_html.specs.Addresses.{is_address_char, is_safe_address}
 use Rattle.esc_looks.specs.Looks.{is_plain}
 use Rattle.esc_html.specs.Marks.{Pen, Step, restyles, redirects, shows, nothing, address_if, address_of, command_step, control_step, ends_line, function_step, is_page_address, print_step, step_of}
 use Rattle.esc_html.specs.Pages.{State, after_character, before_character, closed, closing, link_end_if, link_opening, opening, pieces_by, pieces_from, span_closing, span_end_unless, span_unless, state_by, state_from}
-use Rattle.esc_html.specs.Pieces.{Piece, text, span, span_end, link, link_end, is_kept}
+use Rattle.esc_html.specs.Pieces.{Piece, text, span, span_end, link, link_end, is_kept, is_unbroken}
 use Rattle.esc_looks.specs.declared.look.Look.{Look}
 use Rattle.esc_html.specs.declared.tags.Tags.{Tags}
 use Rattle.esc_html.specs.declared.tags.Tags.TheVariants.{Closed, Link, Open}
 
 -- ---- characters that are kept
 
-kept_by : (x : List ℕ) → ((k : ℕ) → k < length x → is_kept (get_or x k 0) ≡ true)
-    → list_all is_kept x ≡ true
-kept_by [] h = refl
-kept_by (b ∷ x) h =
-    rw (h 0 (omega arith), kept_by x (λ k l. h (suc k) (omega (arith, l)))) refl
+all_by : (T : ℕ → Bool) (x : List ℕ) → ((k : ℕ) → k < length x → T (get_or x k 0) ≡ true)
+    → list_all T x ≡ true
+all_by T [] h = refl
+all_by T (b ∷ x) h =
+    rw (h 0 (omega arith), all_by T x (λ k l. h (suc k) (omega (arith, l)))) refl
+
+-- a test that bytes fail only which are characters by themselves
+pub char_passes : (T : ℕ → Bool) → ((b : ℕ) → T b ≡ false → b < 128) → (c : ℕ) → T c ≡ true
+    → list_all T (encode_utf8 c) ≡ true
+char_passes T low c h = all_by T (encode_utf8 c) (λ k l.
+    let b = get_or (encode_utf8 c) k 0 in
+    elim (cases_Bool (T b)) [
+      | inl passes ↦ passes
+      | inr fails ↦
+          let same = inside_one c [] (encode_utf8 c) k (sym (append-nil (encode_utf8 c))) l
+          (low b fails) in
+          absurd (true≢false (sym h ∙ ap T same ∙ fails))
+    ])
 
 low_byte : (b : ℕ) → is_kept b ≡ false → b < 128
 low_byte b h = grind (arith, nat_tests)
 
+low_unbroken : (b : ℕ) → is_unbroken b ≡ false → b < 128
+low_unbroken b h = grind (arith, nat_tests)
+
 kept_char : (c : ℕ) → is_kept c ≡ true → list_all is_kept (encode_utf8 c) ≡ true
-kept_char c h = kept_by (encode_utf8 c) (λ k l.
-    let b = get_or (encode_utf8 c) k 0 in
-    elim (cases_Bool (is_kept b)) [
-      | inl kept ↦ kept
-      | inr lost ↦
-          let same = inside_one c [] (encode_utf8 c) k (sym (append-nil (encode_utf8 c))) l
-          (low_byte b lost) in
-          absurd (true≢false (sym h ∙ ap is_kept same ∙ lost))
-    ])
+kept_char c h = char_passes is_kept low_byte c h
 
 clear_kept : (c : ℕ) → is_clear c ≡ true → is_kept c ≡ true
 clear_kept c h = grind (arith, nat_tests)
 
-address_kept : (c : ℕ) → is_address_char c ≡ true → is_kept c ≡ true
-address_kept c h = grind (arith, nat_tests)
+address_unbroken : (c : ℕ) → is_address_char c ≡ true → is_unbroken c ≡ true
+address_unbroken c h = grind (arith, nat_tests)
 
-chars_kept : (cs : List ℕ) → list_all is_address_char cs ≡ true
-    → list_all is_kept (encode_utf8_all cs) ≡ true
-chars_kept [] h = refl
-chars_kept (c ∷ cs) h =
+chars_unbroken : (cs : List ℕ) → list_all is_address_char cs ≡ true
+    → list_all is_unbroken (encode_utf8_all cs) ≡ true
+chars_unbroken [] h = refl
+chars_unbroken (c ∷ cs) h =
     let q = and_parts (is_address_char c) (list_all is_address_char cs) h in
     rw (
-      list_all-append is_kept (encode_utf8 c) (encode_utf8_all cs),
-      kept_char c (address_kept c q.0),
-      chars_kept cs q.1,
+      list_all-append is_unbroken (encode_utf8 c) (encode_utf8_all cs),
+      char_passes is_unbroken low_unbroken c (address_unbroken c q.0),
+      chars_unbroken cs q.1,
     ) refl
 
 -- a safe address that is UTF-8 is kept
@@ -69,11 +77,17 @@ pub page_address : (a : List ℕ) → IsUtf8 a → is_safe_address a ≡ is_page
 page_address a u =
     elim (cases_Bool (is_safe_address a)) [
       | inl safe ↦ let q = (and_parts _ (list_all is_address_char (chars a)) safe).1 in
-          let kept = subst (λ x. list_all is_kept x ≡ true) (encodes-chars a u)
-          (chars_kept (chars a) q) in
-          safe ∙ sym (ap (λ b. b && list_all is_kept a) safe ∙ kept)
-      | inr unsafe ↦ unsafe ∙ sym (ap (λ b. b && list_all is_kept a) unsafe)
+          let kept = subst (λ x. list_all is_unbroken x ≡ true) (encodes-chars a u)
+          (chars_unbroken (chars a) q) in
+          safe ∙ sym (ap (λ b. b && list_all is_unbroken a) safe ∙ kept)
+      | inr unsafe ↦ unsafe ∙ sym (ap (λ b. b && list_all is_unbroken a) unsafe)
     ]
+
+pub unbroken_kept : (a : List ℕ) → list_all is_unbroken a ≡ true → list_all is_kept a ≡ true
+unbroken_kept [] h = refl
+unbroken_kept (c ∷ a) h =
+    let q = and_parts (is_unbroken c) (list_all is_unbroken a) h in
+    rw ((and_parts (is_kept c) (not (c == 0x0a)) q.0).0, unbroken_kept a q.1) refl
 
 -- ---- steps
 

@@ -8,7 +8,7 @@ use Rattle.esc_actions.specs.Writable.{AreHandedOut}
 use Rattle.esc_html.specs.Addresses.{is_safe_address}
 use Rattle.esc_html.specs.Listed.{IsListed, closes, is_safe_piece}
 use Rattle.esc_html.specs.Pages.{closed, closing_text, first_state, page_text, pieces_of, state_of_stream}
-use Rattle.esc_html.specs.Pieces.{is_kept, is_kept_piece, piece_text}
+use Rattle.esc_html.specs.Pieces.{is_kept_piece, is_unbroken, piece_text}
 use Rattle.esc_html.specs.Shown.{IsPage, shown}
 use Rattle.esc_html.specs.Tokens.{tokens}
 use Rattle.esc_html.specs.declared.layout.Layout.{Layout}
@@ -16,7 +16,7 @@ use Rattle.esc_html.proofs.Bounded.{page_bounded}
 use Rattle.esc_html.proofs.Listing.{pieces_are_listed, pieces_close}
 use Rattle.esc_html.proofs.Pages.{pages_nest, pages_show}
 use Rattle.esc_html.proofs.Reading.{pieces_read_back}
-use Rattle.esc_html.proofs.Safe.{page_passes}
+use Rattle.esc_html.proofs.Safe.{page_passes, unbroken_kept}
 
 pub page_is : {A : Type 0} (limit : Option ℕ) (y : Layout) (s : List ℕ)
     → AreHandedOut {A = A} (meaning_within limit s)
@@ -28,9 +28,11 @@ page_is {A} limit y s h =
     let ps = pieces_of A limit y s ++ last in
     let same = flat_map-append piece_text (pieces_of A limit y s) last in
     let kept = page_passes is_kept_piece (λ b l. refl) refl refl (λ t k. k)
-    (λ a k. (and_parts (is_safe_address a) (list_all is_kept a) k).1) y.per_line first vs tt h in
+    (λ a k. unbroken_kept a (and_parts (is_safe_address a) (list_all is_unbroken a) k).1)
+    y.per_line first vs tt h in
     let safe = page_passes is_safe_piece (λ b l. refl) refl refl (λ t k. refl)
-    (λ a k. (and_parts (is_safe_address a) (list_all is_kept a) k).0) y.per_line first vs tt h in
+    (λ a k. (and_parts (is_safe_address a) (list_all is_unbroken a) k).0) y.per_line first vs tt h
+    in
     record {
       text = refl;
       listed = subst (λ x. All IsListed (tokens x)) same (pieces_are_listed ps kept safe);

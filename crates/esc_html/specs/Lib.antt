@@ -13,3 +13,6 @@ pub mod Pages
 pub mod Shown
 pub mod Fed
 pub mod Bounds
+pub mod Lines
+pub mod Lining
+pub mod LinedPages

@@ -9,7 +9,7 @@ use Rattle.esc_osc.specs.declared.command.OperatingSystemCommand.TheVariants.{Se
 use Rattle.esc_typed.specs.Functions.{Value as Function, renditions, of_csi}
 use Rattle.esc_html.specs.Addresses.{is_safe_address}
 use Rattle.esc_looks.specs.Looks.{look_by_all, plain_look}
-use Rattle.esc_html.specs.Pieces.{is_kept}
+use Rattle.esc_html.specs.Pieces.{is_unbroken}
 use Rattle.esc_looks.specs.declared.look.Look.{Look}
 
 -- what holds for the characters that come: their look, the address that they lead to, on how many
@@ -32,7 +32,7 @@ plain_pen b = record {
 
 -- an address that a page may lead to
 abbrev pub is_page_address : List ℕ → Bool
-is_page_address a = is_safe_address a && list_all is_kept a
+is_page_address a = is_safe_address a && list_all is_unbroken a
 
 abbrev pub address_if : Bool → List ℕ → Option (List ℕ)
 address_if true a = Some a

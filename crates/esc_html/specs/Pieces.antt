@@ -96,6 +96,10 @@ tokens_of ps = flat_map piece_tokens ps
 abbrev pub is_kept : ℕ → Bool
 is_kept c = not (c == 0) && not (c == 0x0d)
 
+-- and one that ends no line
+abbrev pub is_unbroken : ℕ → Bool
+is_unbroken c = is_kept c && not (c == 0x0a)
+
 -- the characters of a piece are kept
 abbrev pub is_kept_piece : Piece → Bool
 is_kept_piece (text t) = list_all is_kept t

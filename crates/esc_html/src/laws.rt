@@ -5,6 +5,8 @@ ghost use Rattle.std.specs.Str.{encode_utf8_all};
 ghost use Rattle.esc_html.specs.Listed.{IsListed, closes, is_safe_piece};
 ghost use Rattle.esc_html.specs.Pieces.{Piece, encoded, html_text, is_kept_piece, nests, tokens_of};
 ghost use Rattle.esc_html.specs.Pages.{closing_text, page_text};
+ghost use Rattle.esc_html.specs.LinedPages.{IsLinedPage};
+ghost use Rattle.esc_html.specs.Lines.{in_lines};
 ghost use Rattle.esc_html.specs.Shown.{IsPage};
 ghost use Rattle.esc_html.specs.Tokens.{tokens};
 ghost use Rattle.esc_html.specs.declared.layout.Layout.{Layout};
@@ -50,4 +52,17 @@ pub fn streams_are_pages<A: Allocator>()
         (page_text A limit y s ++ closing_text A limit y s) }
 {
     handed_out::<A>();
+}
+
+/// The same of a page in a layout with `per_line`, of which a [`LineWriter`](crate::LineWriter) has
+/// made an element of each line: the tags of lines are on the list too, and close; each character
+/// is in the element of its line, of which the first has the number `n`; and a line is at most 126
+/// bytes longer.
+pub fn lines_are_elements<A: Allocator>()
+    ensures { (limit : Option ℕ) (n : ℕ) (y : Layout) (s : List ℕ) → y.per_line ≡ true
+        → IsLinedPage A limit n y s
+        (in_lines n (page_text A limit y s ++ closing_text A limit y s)) }
+{
+    handed_out::<A>();
+    streams_are_pages::<A>();
 }

@@ -3,7 +3,6 @@
 use crate::auditor::Auditor;
 use crate::cast::{CastFault, filter_recording};
 use crate::events::Events;
-use crate::input::Input;
 use crate::json::tell_json;
 use crate::listing::{Names, Passage, write_name};
 use crate::options::{Form, Options};
@@ -13,6 +12,7 @@ use crate::stream::{PROGRAM, filter_by};
 use crate::told::Told;
 use command_line::{Ended, Noting, Place, Reason, Work, ended_by, unwritten};
 use esc_account::Account;
+use esc_decode::Input;
 use esc_filter::FilterError;
 use esc_normal::Watched;
 use std::alloc::Global;

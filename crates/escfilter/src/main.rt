@@ -6,12 +6,10 @@
 mod aside;
 mod auditor;
 mod cast;
-mod encodings;
 mod events;
 mod failing;
 mod filtering;
 mod hearing;
-mod input;
 mod json;
 mod judging;
 mod laws;

@@ -2,12 +2,11 @@
 ghost use Rattle.std.specs.Prelude.{◌≡◌};
 ghost use Rattle.escfilter.specs.Audits.{has_names, is_audited};
 
-use crate::encodings::{ENCODINGS, order_of, page_of};
 use crate::failing::{FAILING, Failing};
 use crate::named_groups::{ALLOWED, Choice, DENIED};
 use crate::values::{apart_of, rows_of, wrong_value};
 use command_line::{Apart, Found, Given, Known, Takes, Wrong, read};
-use esc_decode::{ByteOrder, CodePage, Encoding};
+use esc_decode::{ByteOrder, CodePage, ENCODINGS, Encoding, encoding_of, order_of, page_of};
 use esc_filter::{Guard, Policy, Returns, Unicode};
 use esc_reveal::Marking;
 use std::alloc::Global;
@@ -386,16 +385,10 @@ impl<'a> Asked<'a> {
     // How the bytes of a stream are read. The texts of a recording are characters, and where bytes
     // are shown none is replaced.
     fn encoding(&self) -> Encoding {
-        let obeys = self.obeys || self.options.shows;
         if self.options.is_cast {
             return Encoding::EightBit;
         }
-        match self.page {
-            None if obeys => Encoding::EightBit,
-            None => Encoding::Utf8,
-            Some(CodePage::Latin1) if obeys => Encoding::CodePage(CodePage::Latin1WithControls),
-            Some(page) => Encoding::CodePage(page),
-        }
+        encoding_of(self.page, self.obeys || self.options.shows)
     }
 }
 

@@ -15,8 +15,9 @@ use Rattle.esc_html.specs.declared.layout.Layout.{Layout}
 use Rattle.esc_lines.proofs.Streams.{final_after_longer, final_after_nil, left_after_more}
 use Rattle.esc_lines.specs.Fed.{final_after, left_after}
 use Rattle.esc_lines.specs.Windows.{Size}
-use Rattle.eschtml.specs.Piped.{OnlyAdds, after}
-use Rattle.eschtml.specs.Written.{IsHtmlWith, html_of, html_with, screen_text, whole_screen}
+use Rattle.esc_decode.specs.Decodings.{OnlyAdds}
+use Rattle.eschtml.specs.Piped.{after}
+use Rattle.eschtml.specs.Written.{IsHtmlWith, html_with, page_of, screen_text, whole_screen}
 use Rattle.eschtml.specs.declared.options.Options.{Options}
 use Rattle.std.specs.declared.io.traits.Read.{Ghosts as Reader}
 use Rattle.std.specs.declared.io.traits.Write.{Ghosts as Writer}
@@ -27,7 +28,7 @@ use Rattle.eschtml.proofs.Longer.{page_longer, page_of_nothing, text_more}
 
 -- a page only grows
 pub pages_add : (A : Type 0) (limit : ℕ) (y : Layout)
-    → OnlyAdds (page_text A (Some limit) y) (html_of A limit y)
+    → OnlyAdds (page_text A (Some limit) y) (page_of A limit y)
 pages_add A limit y = record {
   more = λ s b. (text_more A (Some limit) y s b, page_longer A (Some limit) y s b);
   end = λ s. (closing_text A (Some limit) y s, refl);
@@ -73,7 +74,7 @@ module _ (A : Type 0) (limit : ℕ) (y : Layout) (z : Size) where
 
   html_longer : (s : List ℕ)
       → (t : List ℕ)
-      × (after (html_of A limit y) (left_after A z (whole_screen A limit)) s
+      × (after (page_of A limit y) (left_after A z (whole_screen A limit)) s
       ≡ after (page_text A (Some limit) y) (final_after A z (screen_text A limit)) s ++ t)
   html_longer s =
       let (a, e) = left_after_more A z (screen_text A limit) (whole_screen A limit)
@@ -82,14 +83,14 @@ module _ (A : Type 0) (limit : ℕ) (y : Layout) (z : Size) where
       let t = text_more A (Some limit) y f a in
       let u = closing_text A (Some limit) y (f ++ a) in (
         t ++ u,
-        ap (html_of A limit y) e
+        ap (page_of A limit y) e
             ∙ ap (λ x. x ++ u) (page_longer A (Some limit) y f a)
             ∙ append_assoc (page_text A (Some limit) y f) t u,
       )
 
   pub html_adds : OnlyAdds (after (page_text A (Some limit) y)
       (final_after A z (screen_text A limit)))
-      (after (html_of A limit y) (left_after A z (whole_screen A limit)))
+      (after (page_of A limit y) (left_after A z (whole_screen A limit)))
   html_adds = record { more = html_more; end = html_longer }
 
 -- where these rows may be written again

@@ -3,3 +3,4 @@ mod Piping
 mod Left
 mod Same
 mod Seen
+mod Lining

@@ -4,10 +4,16 @@ use Rattle.std.specs.List.{list_all}
 use Rattle.std.proofs.lemmas.Bool.{false_from_ne_true}
 use Rattle.memchr.specs.Find.{is_byte}
 use Rattle.esc_actions.specs.Values.{print}
+use Rattle.esc_decode.specs.Decodings.{OnlyAdds, decoded}
+use Rattle.esc_decode.specs.declared.encoding.Encoding.{Encoding}
+use Rattle.esc_decode.specs.declared.encoding.Encoding.TheVariants.{CodePage, EightBit, Utf8}
 use Rattle.esc_filter.specs.declared.admit.Admit.{Ghosts as Admitter}
+use Rattle.esc_reveal.proofs.Begins.{through_longer}
 use Rattle.esc_reveal.proofs.Cutting.{rest_none}
+use Rattle.esc_reveal.proofs.Longer.{revealed_longer}
 use Rattle.esc_reveal.specs.Fed.{text_by, whole_by}
 use Rattle.esc_reveal.specs.Revealed.{revealed_as, revealed_whole_as}
+use Rattle.esc_reveal.specs.Through.{through, through_whole}
 use Rattle.esc_reveal.specs.declared.marking.Marking.TheVariants as marking
 use Rattle.esc_reveal.specs.declared.reveal.Rule.{Rule}
 use Rattle.eschtml.specs.Written.{going_in, is_kept, whole_in}
@@ -45,6 +51,17 @@ module _ {P A : Type 0} (V : Admitter P A) (rule : Rule P) (limit : ℕ) (moves 
       ∙ ap (λ a. revealed_as marking.Plain false limit a s) admits
   going_shown false e s = absurd cc
 
+-- what is revealed of a stream, and then becomes HTML
+pub through_adds : {P A : Type 0} (V : Admitter P A) (rule : Rule P) (m e : List ℕ → List ℕ)
+    → OnlyAdds m e → OnlyAdds (through V rule m) (through_whole V rule e)
+through_adds V rule m e only = record {
+  more = λ s b.
+      let (x, q) =
+      revealed_longer rule.marking rule.limit rule.by_lines (V.admits rule.policy) s b in
+      let (t, f) = only.more (text_by V rule s) x in (t, ap m q ∙ f);
+  end = through_longer V rule m e only.more only.end;
+}
+
 -- ---- characters
 
 -- without DEL each stays
@@ -58,8 +75,20 @@ all_stay A moves (b ∷ x) h =
 
 -- ---- nothing
 
+-- nothing becomes nothing
+pub nothing_decoded : (e : Encoding) → decoded e [] ≡ []
+nothing_decoded Utf8 = refl
+nothing_decoded EightBit = refl
+nothing_decoded (CodePage p) = refl
+
 -- what has no text of nothing has none of what is seen of it
-pub no_sight : (m : List ℕ → List ℕ) (A : Type 0) (shows : Bool) (limit : ℕ) (moves : Bool)
+no_sight_of : (m : List ℕ → List ℕ) (A : Type 0) (shows : Bool) (limit : ℕ) (moves : Bool)
     → m [] ≡ [] → m (going_in A shows limit moves []) ≡ []
-no_sight m A true limit moves h = ap m (rest_none marking.Plain limit) ∙ h
-no_sight m A false limit moves h = h
+no_sight_of m A true limit moves h = ap m (rest_none marking.Plain limit) ∙ h
+no_sight_of m A false limit moves h = h
+
+pub no_sight : (m : List ℕ → List ℕ) (A : Type 0) (e : Encoding) (shows : Bool) (limit : ℕ)
+    (moves : Bool) → m [] ≡ [] → m (going_in A shows limit moves (decoded e [])) ≡ []
+no_sight m A e shows limit moves h =
+    ap (λ s. m (going_in A shows limit moves s)) (nothing_decoded e)
+    ∙ no_sight_of m A shows limit moves h

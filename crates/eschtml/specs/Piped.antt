@@ -1,11 +1,7 @@
 -- A filter of the text of another.
-use Rattle.std.specs.Prelude.{ℕ, ◌≡◌, List, [], ◌++◌}
+use Rattle.std.specs.Prelude.{ℕ, ◌≡◌, List, []}
+use Rattle.esc_decode.specs.Decodings.{OnlyAdds}
 use Rattle.esc_normal.specs.declared.feeding.Feeding.{Ghosts as Feeder}
-
--- more of a stream adds to its text, and so does its end
-pub record OnlyAdds (m c : List ℕ → List ℕ) : Type 0 where
-  pub more : (s b : List ℕ) → (t : List ℕ) × (m (s ++ b) ≡ m s ++ t)
-  pub end : (s : List ℕ) → (t : List ℕ) × (c s ≡ m s ++ t)
 
 -- this holds of the texts that a filter gives, which was fed nothing; nothing has no text, and more
 -- of a stream only adds to its text

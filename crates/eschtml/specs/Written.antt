@@ -1,9 +1,12 @@
 -- What is written of a stream.
 use Rattle.std.specs.Prelude.{ℕ, ◌≡◌, Bool, true, false, ◌&&◌, ◌||◌, if◌then◌else◌, List, ◌++◌, Option, None, Some, is_some, max}
 use Rattle.esc_actions.specs.Values.{Value}
+use Rattle.esc_decode.specs.Decodings.{decoded}
 use Rattle.esc_filter.specs.Passing.{closed_text, passed_text}
 use Rattle.esc_filter.specs.Rules.{admits}
 use Rattle.esc_filter.specs.declared.policy.Policy.TheVariants.{Screen}
+use Rattle.esc_html.specs.LinedPages.{IsLinedPage}
+use Rattle.esc_html.specs.Lines.{in_lines, lined}
 use Rattle.esc_html.specs.Marks.{is_shown}
 use Rattle.esc_html.specs.Pages.{closing_text, page_text}
 use Rattle.esc_html.specs.Shown.{IsPage}
@@ -14,15 +17,41 @@ use Rattle.esc_reveal.specs.Revealed.{revealed, revealed_whole}
 use Rattle.eschtml.specs.declared.options.Options.{Options}
 use Rattle.eschtml.specs.declared.stream.TheConstants.{COLUMNS}
 
--- the HTML of a stream that has ended
-abbrev pub html_of : Type 0 → ℕ → Layout → List ℕ → List ℕ
-html_of A limit y s = page_text A (Some limit) y s ++ closing_text A (Some limit) y s
+-- ---- pages
 
--- The text t is the HTML of the stream s: where it has ended, a page, and where it goes on, what
--- comes first in one.
-abbrev pub IsHtml : Type 0 → ℕ → Layout → Bool → List ℕ → List ℕ → Type 0
-IsHtml A limit y true s t = IsPage A (Some limit) y s t
-IsHtml A limit y false s t = t ≡ page_text A (Some limit) y s
+-- where lines are elements, no tag goes on over lines
+abbrev pub layout_by : Option ℕ → Layout → Layout
+layout_by None y = y
+layout_by (Some n) y = record y { per_line = true }
+
+-- the text of a page that goes on, and of one that has ended, with its lines in elements, where
+-- this is the number of the first
+abbrev pub going_by : Option ℕ → List ℕ → List ℕ
+going_by None t = t
+going_by (Some n) t = lined n false t
+
+abbrev pub ended_by : Option ℕ → List ℕ → List ℕ
+ended_by None t = t
+ended_by (Some n) t = in_lines n t
+
+-- the HTML of a stream that has ended
+abbrev pub page_of : Type 0 → ℕ → Layout → List ℕ → List ℕ
+page_of A limit y s = page_text A (Some limit) y s ++ closing_text A (Some limit) y s
+
+abbrev pub html_of : Type 0 → Options → List ℕ → List ℕ
+html_of A o s = ended_by o.first (page_of A o.limit (layout_by o.first o.layout) s)
+
+-- The text t is the HTML of the stream s: where it has ended, a page, with its lines in elements or
+-- not.
+abbrev pub IsPageBy : Type 0 → Option ℕ → ℕ → Layout → List ℕ → List ℕ → Type 0
+IsPageBy A None limit y s t = IsPage A (Some limit) y s t
+IsPageBy A (Some n) limit y s t = IsLinedPage A (Some limit) n y s t
+
+-- And where it goes on, what comes first in one.
+abbrev pub IsHtml : Type 0 → Options → Bool → List ℕ → List ℕ → Type 0
+IsHtml A o true s t = IsPageBy A o.first o.limit (layout_by o.first o.layout) s t
+IsHtml A o false s t =
+    t ≡ going_by o.first (page_text A (Some o.limit) (layout_by o.first o.layout) s)
 
 -- ---- what is shown of what is left out
 
@@ -41,9 +70,10 @@ abbrev pub whole_in : Type 0 → Bool → ℕ → Bool → List ℕ → List ℕ
 whole_in A shows limit moves s =
     if shows then revealed_whole {A = A} false limit (is_kept moves) s else s
 
+-- of what the stream becomes by its encoding
 abbrev pub seen_by : Type 0 → Options → Bool → Bool → List ℕ → List ℕ
-seen_by A o moves true s = whole_in A o.shows o.limit moves s
-seen_by A o moves false s = going_in A o.shows o.limit moves s
+seen_by A o moves true s = whole_in A o.shows o.limit moves (decoded o.encoding s)
+seen_by A o moves false s = going_in A o.shows o.limit moves (decoded o.encoding s)
 
 -- ---- what is left of lines
 
@@ -73,14 +103,14 @@ content_by A o rows b s = shown_of A o.limit rows b (seen_by A o (is_some rows) 
 
 -- the text of a stream that has ended
 abbrev pub html_with : Type 0 → Options → Option ℕ → List ℕ → List ℕ
-html_with A o rows s = html_of A o.limit o.layout (content_by A o rows true s)
+html_with A o rows s = html_of A o (content_by A o rows true s)
 
 abbrev pub html_by : Type 0 → Options → List ℕ → List ℕ
 html_by A o s = html_with A o o.rows s
 
 -- the text t is the HTML of the stream s, by these options
 abbrev pub IsHtmlWith : Type 0 → Options → Option ℕ → Bool → List ℕ → List ℕ → Type 0
-IsHtmlWith A o rows b s t = IsHtml A o.limit o.layout b (content_by A o rows b s) t
+IsHtmlWith A o rows b s t = IsHtml A o b (content_by A o rows b s) t
 
 abbrev pub IsHtmlBy : Type 0 → Options → Bool → List ℕ → List ℕ → Type 0
 IsHtmlBy A o b s t = IsHtmlWith A o o.rows b s t

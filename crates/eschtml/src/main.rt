@@ -4,12 +4,15 @@
 #![tactic(auto)]
 
 mod converting;
+mod heeding;
 mod kept;
+mod lined;
 mod lines;
 mod options;
 mod page;
 mod piped;
 mod stream;
+mod strings;
 mod style;
 
 use command_line::{
@@ -30,8 +33,11 @@ use style::push_style;
 
 const USAGE: &str = "\
 usage: eschtml [--page] [--title text] [--css address] [--lang language] \
-[--theme auto|light|dark] [--wrap] [--lines] [--inline] [--show] [--final-lines[=rows]] [--style] \
-[--limit size] [-o|--output file] [-h|--help] [-V|--version] [--] [FILE..]";
+[--theme auto|light|dark] [--numbers] [--wrap] [--lines] [--inline] [--show] \
+[--final-lines[=rows]] [--style] \
+[--encoding utf-8|utf-16|utf-16le|utf-16be|latin1|windows-1250|windows-1251|windows-1252|\
+windows-1253|windows-1254|windows-1255|windows-1256|windows-1257|windows-1258] \
+[--c1 replace|obey] [--limit size] [-o|--output file] [-h|--help] [-V|--version] [--] [FILE..]";
 
 const HELP: &str = "\
 Writes each FILE, or standard input, as HTML, as it is read: characters, with colours and
@@ -44,7 +50,9 @@ renditions as spans, and links to http, https and mailto. Nothing of it becomes 
   --theme auto    follows the setting of the page's reader, as it does unless told otherwise
   --theme light   is light, also where it is printed by --style
   --theme dark    is dark, also there
-  --wrap          breaks long lines, and has no line numbers
+  --numbers       makes an element of each line, with an id, as L13, and its number, as --page
+                  does
+  --wrap          breaks long lines of the page
   --lines         closes the tags that are open at the end of each line, and opens them again
                   after it, so that each line is HTML by itself
   --inline        writes colours and renditions as styles, and not as classes, so that the
@@ -53,6 +61,10 @@ renditions as spans, and links to http, https and mailto. Nothing of it becomes 
   --final-lines   writes what a terminal leaves of lines that are written again, as by
                   progress bars; --final-lines=rows where these go back over more rows than 32
   --style         prints the style sheet, for a page around a fragment
+  --encoding name reads utf-8 (the default), utf-16, utf-16le, utf-16be, latin1, or windows-1250
+                  to windows-1258
+  --c1 way        of bytes 80 to 9F that are no part of a UTF-8 character: replace writes
+                  U+FFFD in their place (the default), obey takes them for controls
   --limit size    the most bytes of an unfinished sequence that are kept (1MiB): a number,
                   as 65536, or 64K, 1M or 1G, also as 64KiB, in powers of 1024
   -o, --output f  writes the file f, whole or not at all
@@ -200,6 +212,7 @@ fn convert_all<W: Write>(
         output_name,
         output,
         faults: rt.stderr(),
+        is_headed: files.len() > 1,
         line: 0,
     };
     work_through(rt, PROGRAM, files, &mut converting, &mut rt.stderr())

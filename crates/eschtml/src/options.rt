@@ -1,6 +1,7 @@
 //! What the program's words ask for.
 
 use command_line::{Apart, Found, Given, Known, Takes, Wrong, read};
+use esc_decode::{ByteOrder, ENCODINGS, Encoding, encoding_of, order_of, page_of};
 use esc_html::Layout;
 use std::alloc::Global;
 
@@ -17,14 +18,20 @@ pub struct Options<'a> {
     pub lang: &'a str,
     /// Whether the page is light or dark.
     pub theme: Theme,
-    /// Whether long lines of the page go on in the next one, without numbers.
+    /// Whether long lines of the page are broken.
     pub wraps: bool,
+    /// The number of the first line, where each line is an element.
+    pub first: Option<u64>,
     /// How the HTML is laid out.
     pub layout: Layout,
     /// Whether what is left out is shown in place.
     pub shows: bool,
     /// How many rows may be written again, where what is left of them is written.
     pub rows: Option<usize>,
+    /// Which byte of a unit comes first, where a stream is in UTF-16; then it is read as UTF-8.
+    pub order: Option<ByteOrder>,
+    /// How the bytes of a stream are read.
+    pub encoding: Encoding,
     /// How many bytes are kept of an unfinished segment.
     pub limit: usize,
 }
@@ -112,6 +119,11 @@ const KNOWN: &[Known] = &[
         takes: Takes::OneOf("theme", &["auto", "light", "dark"]),
     },
     Known {
+        name: "--numbers",
+        letter: "",
+        takes: Takes::Nothing,
+    },
+    Known {
         name: "--wrap",
         letter: "",
         takes: Takes::Nothing,
@@ -140,6 +152,16 @@ const KNOWN: &[Known] = &[
         name: "--style",
         letter: "",
         takes: Takes::Nothing,
+    },
+    Known {
+        name: "--c1",
+        letter: "",
+        takes: Takes::OneOf("way", &["replace", "obey"]),
+    },
+    Known {
+        name: "--encoding",
+        letter: "",
+        takes: Takes::OneOf("name", ENCODINGS),
     },
     Known {
         name: "--limit",
@@ -175,6 +197,8 @@ impl<'a> Task<'a> {
         let mut kind = Kind::Convert;
         let mut output = None;
         let mut apart = None;
+        let mut page = None;
+        let mut obeys = false;
         let mut options = Options {
             is_page: false,
             title: None,
@@ -182,17 +206,24 @@ impl<'a> Task<'a> {
             lang: "en",
             theme: Theme::Auto,
             wraps: false,
+            first: None,
             layout: Layout {
                 per_line: false,
                 inline: false,
             },
             shows: false,
             rows: None,
+            order: None,
+            encoding: Encoding::Utf8,
             limit: DEFAULT_LIMIT,
         };
         for given in &found.options {
             match given.name {
-                "--page" => options.is_page = true,
+                "--page" => {
+                    options.is_page = true;
+                    options.first = Some(1);
+                }
+                "--numbers" => options.first = Some(1),
                 "--title" => options.title = Some(given.word),
                 "--css" => options.css = Some(given.word),
                 "--lang" => options.lang = given.word,
@@ -205,6 +236,11 @@ impl<'a> Task<'a> {
                     options.rows = rows_of(given.word);
                     apart = apart_of(given);
                 }
+                "--c1" => obeys = given.word == "obey",
+                "--encoding" => {
+                    page = page_of(given.word);
+                    options.order = order_of(given.word);
+                }
                 "--limit" => options.limit = given.size,
                 "--output" => output = Some(given.word),
                 "--style" => kind = Kind::Style,
@@ -213,6 +249,7 @@ impl<'a> Task<'a> {
                 _ => {}
             }
         }
+        options.encoding = encoding_of(page, obeys);
         Task {
             kind,
             options,

@@ -4,11 +4,6 @@ use crate::options::{Options, Theme};
 use crate::style::{push_page_style, push_style};
 use esc_html::push_text;
 use std::alloc::{AllocError, Global};
-use std::io;
-use std::io::{ErrorKind, Write};
-
-// How long a text of line numbers becomes before it is written.
-const PART: usize = 32_768;
 
 // What is allowed to a page: its own styles, and nothing that a browser would load or run.
 const OWN_STYLES: &str = "default-src 'none'; style-src 'unsafe-inline'; base-uri 'none'; \
@@ -37,23 +32,37 @@ pub fn head(alloc: Global, title: &str, options: Options<'_>) -> Result<String, 
     push_title(&mut text, title)?;
     memory::push_str(&mut text, "</title>\n")?;
     push_sheet(&mut text, options.css, theme_of(options))?;
-    memory::push_str(&mut text, "</head>\n<body>\n")?;
+    memory::push_str(&mut text, "</head>\n<body>\n<main>\n<h1>")?;
+    push_title(&mut text, title)?;
+    memory::push_str(&mut text, "</h1>\n")?;
     Ok(text)
 }
 
-// Appends a title, with U+FFFD in the place of controls: some are no HTML, and all are obeyed where
-// the page is printed on a terminal.
+// Appends a title, with U+FFFD in the place of controls and noncharacters: some are no HTML, and
+// controls are obeyed where the page is printed on a terminal.
 fn push_title(text: &mut String, title: &str) -> Result<(), AllocError> {
-    let mut shown = String::new(*text.allocator());
-    for c in title.chars() {
-        memory::push_char(&mut shown, if is_control(c) { '\u{fffd}' } else { c })?;
-    }
+    let shown = as_characters(*text.allocator(), title)?;
     push_text(text, shown.as_str())
+}
+
+// A title, or the name of a stream, with U+FFFD in the place of controls and noncharacters.
+fn as_characters(alloc: Global, title: &str) -> Result<String, AllocError> {
+    let mut shown = String::new(alloc);
+    for c in title.chars() {
+        let stays = !is_control(c) && !is_noncharacter(c);
+        memory::push_char(&mut shown, if stays { c } else { '\u{fffd}' })?;
+    }
+    Ok(shown)
 }
 
 // Whether it is a control of C0 or C1, or DEL.
 fn is_control(c: char) -> bool {
     c < '\u{20}' || ('\u{7f}' <= c && c <= '\u{9f}')
+}
+
+// Whether it is a noncharacter (Unicode, 23.7), which is an error in HTML.
+fn is_noncharacter(c: char) -> bool {
+    ('\u{fdd0}' <= c && c <= '\u{fdef}') || c as u32 & 0xfffe == 0xfffe
 }
 
 // What is allowed to a page with the style sheet of this address, or with its own.
@@ -104,55 +113,37 @@ fn push_value(text: &mut String, value: &str) -> Result<(), AllocError> {
 }
 
 /// What a page ends with.
-pub const END: &str = "</body>\n</html>\n";
+pub const END: &str = "</main>\n</body>\n</html>\n";
 
-/// What comes before a stream. A browser leaves out the line feed after `<pre>`.
-pub fn before(wraps: bool) -> &'static str {
-    if wraps {
-        "<div class=\"es-stream es-wrap\"><pre>\n"
-    } else {
-        "<div class=\"es-stream\"><pre>\n"
-    }
-}
-
-/// What comes after a stream whose lines have no numbers.
-pub const UNNUMBERED: &str = "</pre></div>\n";
-
-/// What comes after it, and before the numbers of its lines.
-const AFTER: &str = "</pre><div class=\"es-lines\">\n";
-
-/// What comes after these.
-const LAST: &str = "</div></div>\n";
-
-/// Writes what comes after a stream: the numbers of its lines, which come after the first ones, as
-/// anchors without text; the style sheet counts them, so they are not copied.
-pub fn write_numbers<W: Write>(
+/// What comes before a stream of this name, and whether that is a heading too. A browser leaves out
+/// the line feed after `<pre>`. The error is that memory was refused.
+pub fn before(
     alloc: Global,
-    output: &mut W,
-    first: u64,
-    last: u64,
-) -> io::Result<()> {
-    output.write_all(AFTER.as_bytes())?;
+    name: &str,
+    is_headed: bool,
+    wraps: bool,
+) -> Result<String, AllocError> {
     let mut text = String::new(alloc);
-    for number in first..last {
-        if push_anchor(&mut text, number.saturating_add(1)).is_err() {
-            return Err(io::Error::from(ErrorKind::OutOfMemory));
-        }
-        if text.as_str().len() > PART {
-            output.write_all(text.as_bytes())?;
-            text.clear();
-        }
+    if is_headed {
+        memory::push_str(&mut text, "<h2>")?;
+        push_title(&mut text, name)?;
+        memory::push_str(&mut text, "</h2>\n")?;
     }
-    output.write_all(text.as_bytes())?;
-    output.write_all(LAST.as_bytes())?;
-    output.flush()
+    memory::push_str(&mut text, opening(wraps))?;
+    let name = as_characters(alloc, name)?;
+    push_value(&mut text, name.as_str())?;
+    memory::push_str(&mut text, "\">\n")?;
+    Ok(text)
 }
 
-// Appends the anchor of a line.
-fn push_anchor(text: &mut String, line: u64) -> Result<(), AllocError> {
-    memory::push_str(text, "<a id=\"L")?;
-    memory::push_display(text, &line)?;
-    memory::push_str(text, "\" href=\"#L")?;
-    memory::push_display(text, &line)?;
-    memory::push_str(text, "\"></a>\n")
+// What it begins with, up to the name.
+fn opening(wraps: bool) -> &'static str {
+    if wraps {
+        "<div class=\"es-stream es-wrap\"><pre tabindex=\"0\" role=\"region\" aria-label=\""
+    } else {
+        "<div class=\"es-stream\"><pre tabindex=\"0\" role=\"region\" aria-label=\""
+    }
 }
+
+/// What comes after a stream.
+pub const AFTER: &str = "</pre></div>\n";

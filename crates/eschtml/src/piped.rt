@@ -1,6 +1,7 @@
 //! A filter of the text of another.
 ghost use Rattle.std.specs.Prelude.{ℕ, ◌≡◌, List, [], string_bytes};
-ghost use Rattle.eschtml.specs.Piped.{OnlyAdds, Pipes, after};
+ghost use Rattle.esc_decode.specs.Decodings.{OnlyAdds};
+ghost use Rattle.eschtml.specs.Piped.{Pipes, after};
 
 use esc_filter::Feeding;
 use std::alloc::{AllocError, Allocator, Global};

@@ -6,11 +6,13 @@ ghost use Rattle.esc_html.specs.Pages.{page_text};
 ghost use Rattle.esc_html.specs.declared.layout.Layout.{Layout as LayoutValue};
 ghost use Rattle.memory.specs.Refusals.{Refused};
 ghost use Rattle.eschtml.specs.Piped.{NewAdding};
-ghost use Rattle.eschtml.specs.Written.{IsHtml, IsHtmlBy, html_by, html_of, seen_by, shown_of};
+ghost use Rattle.eschtml.specs.Written.{IsHtml, IsHtmlBy, ended_by, going_by, html_by, html_of, layout_by, page_of, seen_by, shown_of};
 
 use crate::kept::Kept;
+use crate::lined::Lined;
 use crate::options::Options;
 use crate::piped::Piped;
+use esc_decode::Decoding;
 use esc_filter::{Feeding, Filter, FilterError, Policy, filter_from};
 use esc_html::{HtmlWriter, Layout, laws};
 use esc_lines::Collapsing;
@@ -45,7 +47,7 @@ impl<A: Allocator + Copy> Marked<A> {
 
 impl<A: Allocator + Copy> Feeding<A> for Marked<A> {
     ghost gives = { λ f m c s. (limit : ℕ) × (y : LayoutValue) × WasFed limit y s f.writer
-        × (m ≡ page_text A (Some limit) y) × (c ≡ html_of A limit y) };
+        × (m ≡ page_text A (Some limit) y) × (c ≡ page_of A limit y) };
 
     ghost added = { λ f. if f.has_ended then f.closing.now else added_by f.writer };
 
@@ -77,9 +79,10 @@ impl<A: Allocator + Copy> Feeding<A> for Marked<A> {
 // How many columns a row has at most of which what is left is written.
 pub(crate) const COLUMNS: usize = 16_384;
 
-/// Writes on `writer` the HTML of what `reader` reads, as it comes, and at its end what closes the
-/// tags that are open; by the options, what is left out of it is shown in place, and of the lines
-/// that is written which is left of them. It returns what [`filter_from`] does.
+/// Writes on `writer` the HTML of what the stream that `reader` reads becomes by its encoding, as
+/// it comes, and at its end what closes the tags that are open; by the options, what is left out of
+/// it is shown in place, and of the lines that is written which is left of them. It returns what
+/// [`filter_from`] does.
 pub fn write_html<A: Allocator + Copy, R: Read, W: Write>(
     alloc: A,
     options: &Options<'_>,
@@ -105,14 +108,15 @@ fn write_whole<A: Allocator + Copy, R: Read, W: Write>(
     writer: &mut Watched<W>,
 ) -> Result<(), FilterError>
     ensures holds { Filters R.Read W.Write
-        (λ s. html_of A options.now.limit options.now.layout (seen_by A options.now false true s))
-        (λ b s t. IsHtml A options.now.limit options.now.layout b (seen_by A options.now false b s)
-        t) result reader writer }
+        (λ s. html_of A options.now (seen_by A options.now false true s))
+        (λ b s t. IsHtml A options.now b (seen_by A options.now false b s) t) result reader
+        writer }
     ensures refused { IsErrOf result FilterError.Memory → Refused A }
 {
     laws::streams_are_pages::<A>();
-    let marked = Marked::new(alloc, options.limit, options.layout);
-    write_seen(alloc, options, false, marked, reader, writer)
+    laws::lines_are_elements::<A>();
+    let marked = Marked::new(alloc, options.limit, layout_by(options));
+    write_lined(alloc, options, false, marked, reader, writer)
 }
 
 // Of what is left of the lines, of which so many may be written again.
@@ -124,25 +128,67 @@ fn write_left<A: Allocator + Copy, R: Read, W: Write>(
     writer: &mut Watched<W>,
 ) -> Result<(), FilterError>
     ensures holds { Filters R.Read W.Write
-        (λ s. html_of A options.now.limit options.now.layout
+        (λ s. html_of A options.now
         (shown_of A options.now.limit (Some rows) true (seen_by A options.now true true s)))
-        (λ b s t. IsHtml A options.now.limit options.now.layout b
+        (λ b s t. IsHtml A options.now b
         (shown_of A options.now.limit (Some rows) b (seen_by A options.now true b s)) t) result
         reader writer }
     ensures refused { IsErrOf result FilterError.Memory → Refused A }
 {
     laws::streams_are_pages::<A>();
+    laws::lines_are_elements::<A>();
     let filter = Filter::new(alloc, options.limit, Policy::Screen);
     let Ok(collapsing) = Collapsing::new(alloc, filter, rows, COLUMNS) else {
         return Err(FilterError::Memory);
     };
-    let marked = Marked::new(alloc, options.limit, options.layout);
+    let marked = Marked::new(alloc, options.limit, layout_by(options));
     let piped = Piped::new(alloc, collapsing, marked);
-    write_seen(alloc, options, true, piped, reader, writer)
+    write_lined(alloc, options, true, piped, reader, writer)
 }
 
-// Writes on `writer` by this filter, which was fed nothing, what is written of what `reader` reads,
-// or where what is left out is shown, of that; `moves` says that what changes the screen is not.
+// The layout of the page: where lines are elements, no tag of it goes on over lines.
+fn layout_by(options: &Options<'_>) -> Layout
+    ensures { result ≡ layout_by options.now.first options.now.layout }
+{
+    match options.first {
+        None => options.layout,
+        Some(_) => Layout {
+            per_line: true,
+            inline: options.layout.inline,
+        },
+    }
+}
+
+// The same as `write_seen`, where this filter has the text of a page, of which each line is made an
+// element, where the options ask for that.
+fn write_lined<A: Allocator + Copy, R: Read, W: Write, F: Feeding<A> + Drop>(
+    alloc: A,
+    options: &Options<'_>,
+    moves: bool,
+    filter: F,
+    reader: &mut Watched<R>,
+    writer: &mut Watched<W>,
+) -> Result<(), FilterError>
+    ensures holds { NewAdding F.Feeding filter (λ m c. Filters R.Read W.Write
+        (λ s. ended_by options.now.first (c (seen_by A options.now moves true s)))
+        (IsEither (λ s. ended_by options.now.first (c (seen_by A options.now moves true s)))
+        (λ s. going_by options.now.first (m (seen_by A options.now moves false s)))) result
+        reader writer) }
+    ensures refused { NewAdding F.Feeding filter (λ m c.
+        IsErrOf result FilterError.Memory → Refused A) }
+{
+    match options.first {
+        None => write_seen(alloc, options, moves, filter, reader, writer),
+        Some(first) => {
+            let lined = Lined::new(alloc, first, filter);
+            write_seen(alloc, options, moves, lined, reader, writer)
+        }
+    }
+}
+
+// Writes on `writer` by this filter, which was fed nothing, what is written of what that becomes by
+// its encoding that `reader` reads, or where what is left out is shown, of that; `moves` says that
+// what changes the screen is not.
 fn write_seen<A: Allocator + Copy, R: Read, W: Write, F: Feeding<A> + Drop>(
     alloc: A,
     options: &Options<'_>,
@@ -161,10 +207,11 @@ fn write_seen<A: Allocator + Copy, R: Read, W: Write, F: Feeding<A> + Drop>(
     let shows = options.shows;
     if shows {
         let reveal = Reveal::new(alloc, options.limit, Kept { moves }, false);
-        let mut filter = Revealing::new(alloc, reveal, filter);
+        let shown = Revealing::new(alloc, reveal, filter);
+        let mut filter = Decoding::new(alloc, options.encoding, shown);
         filter_from(alloc, &mut filter, reader, writer)
     } else {
-        let mut filter = filter;
+        let mut filter = Decoding::new(alloc, options.encoding, filter);
         filter_from(alloc, &mut filter, reader, writer)
     }
 }

@@ -5,7 +5,7 @@ use std::alloc::AllocError;
 
 // The colours of a light page, and of looks that are exchanged on it.
 const LIGHT: &str = "\
-.es-stream { --es-text: #1f2328; --es-page: #ffffff; --es-dim: #6e7781;
+.es-stream { --es-text: #1f2328; --es-page: #ffffff; --es-dim: #6e7781; --es-mark: #fff8c5;
   --es-black: #24292f; --es-red: #b3261e; --es-green: #116329; --es-yellow: #7d4e00;
   --es-blue: #0550ae; --es-magenta: #8250df; --es-cyan: #0b6b75; --es-white: #6e7781;
   --es-bright-black: #57606a; --es-bright-red: #cf222e; --es-bright-green: #1a7f37;
@@ -20,7 +20,7 @@ const LIGHT: &str = "\
 
 // Those of a dark page.
 const DARK: &str = "\
-.es-stream { --es-text: #e6edf3; --es-page: #0d1117; --es-dim: #7d8590;
+.es-stream { --es-text: #e6edf3; --es-page: #0d1117; --es-dim: #7d8590; --es-mark: #2d2a1c;
   --es-black: #7d8590; --es-red: #ff7b72; --es-green: #3fb950; --es-yellow: #d29922;
   --es-blue: #58a6ff; --es-magenta: #bc8cff; --es-cyan: #39c5cf; --es-white: #b1bac4;
   --es-bright-black: #8b949e; --es-bright-red: #ffa198; --es-bright-green: #56d364;
@@ -45,17 +45,19 @@ const RULES: &str = "\
   --es-on-bright-black: #6e7680; --es-on-bright-red: #eb060b; --es-on-bright-green: #178817;
   --es-on-bright-yellow: #986e1d; --es-on-bright-blue: #2672e0; --es-on-bright-magenta: #c64191;
   --es-on-bright-cyan: #098194; --es-on-bright-white: #eaeef2; }
-.es-stream { display: flex; flex-direction: row-reverse; justify-content: flex-end;
-  color: var(--es-text); background-color: var(--es-page);
+.es-stream { color: var(--es-text); background-color: var(--es-page);
   font: 0.875rem/1.45 ui-monospace, SFMono-Regular, Menlo, Consolas, monospace; }
-.es-stream pre { margin: 0; padding: 0.5rem 1rem; font: inherit; overflow-x: auto; min-width: 0;
-  flex: 1; tab-size: 8; }
-.es-stream .es-lines { padding: 0.5rem 0 0.5rem 1rem; text-align: right; user-select: none;
-  -webkit-user-select: none; }
-.es-stream .es-lines a { display: block; color: var(--es-dim); text-decoration: none;
-  counter-increment: es-line; }
-.es-stream .es-lines a::before { content: counter(es-line); }
-.es-stream .es-lines a:target { color: var(--es-text); font-weight: bold; }
+.es-stream pre { margin: 0; padding: 0.5rem 1rem; font: inherit; overflow-x: auto; tab-size: 8; }
+.es-stream .es-line { display: block; width: max-content; min-width: 100%; box-sizing: border-box;
+  padding-left: 8ch; text-indent: -8ch; counter-increment: es-line; }
+.es-stream .es-line > [tabindex] { position: sticky; left: 0; display: inline-block; width: 6ch;
+  padding-right: 2ch; text-indent: 0; text-align: right; color: var(--es-dim);
+  text-decoration: none; user-select: none; -webkit-user-select: none; }
+.es-stream .es-line > [tabindex]::before { content: counter(es-line); }
+.es-stream .es-line > [tabindex]:hover { color: var(--es-text); }
+.es-stream .es-line:target { background-color: var(--es-mark);
+  box-shadow: inset 3px 0 var(--es-dim); }
+.es-stream .es-line:target > [tabindex] { color: var(--es-text); font-weight: bold; }
 .es-stream pre a { color: inherit; }
 .es-stream pre span { text-decoration-line: var(--es-under,) var(--es-through,) var(--es-over,);
   text-decoration-style: var(--es-kind, solid); }
@@ -142,31 +144,39 @@ const RULES: &str = "\
 .es-stream .es-ul-bright-white { text-decoration-color: var(--es-bright-white); }
 .es-stream .es-concealed { color: transparent !important; }
 .es-stream [class*=\"es-bg-\"], .es-stream .es-inverse, .es-stream [style*=\"background-color\"] {
-  padding-block: 0.15em; }
+  padding-block: 0.2em; }
 .es-stream.es-wrap pre { white-space: pre-wrap; overflow-wrap: anywhere; }
+.es-stream.es-wrap .es-line { width: auto; content-visibility: auto;
+  contain-intrinsic-block-size: auto 1.45em; }
 @media print {
-  .es-stream pre { white-space: pre-wrap; overflow-wrap: anywhere; }
-  .es-stream .es-lines { display: none; }
+  .es-stream pre { white-space: pre-wrap; overflow-wrap: anywhere; overflow: visible; }
+  .es-stream .es-line { width: auto; content-visibility: visible; }
 }
 ";
 
 // What a whole page has beside it, where it is light or dark as its reader's setting.
 const AUTO_PAGE: &str = "\
-:root { color-scheme: light dark; background: #ffffff; }
-@media (prefers-color-scheme: dark) { :root { background: #0d1117; } }
+:root { color-scheme: light dark; background: #ffffff; color: #1f2328; }
+@media (prefers-color-scheme: dark) { :root { background: #0d1117; color: #e6edf3; } }
 body { margin: 0; }
+main { counter-reset: es-line; }
+h1, h2 { margin: 0.5rem 1rem; font: bold 1rem/1.45 system-ui, sans-serif; }
 ";
 
 // What a light one has.
 const LIGHT_PAGE: &str = "\
-:root { color-scheme: light; background: #ffffff; }
+:root { color-scheme: light; background: #ffffff; color: #1f2328; }
 body { margin: 0; }
+main { counter-reset: es-line; }
+h1, h2 { margin: 0.5rem 1rem; font: bold 1rem/1.45 system-ui, sans-serif; }
 ";
 
 // What a dark one has.
 const DARK_PAGE: &str = "\
-:root { color-scheme: dark; background: #0d1117; }
+:root { color-scheme: dark; background: #0d1117; color: #e6edf3; }
 body { margin: 0; }
+main { counter-reset: es-line; }
+h1, h2 { margin: 0.5rem 1rem; font: bold 1rem/1.45 system-ui, sans-serif; }
 ";
 
 /// Appends the style sheet: light or dark, for a `div` of class `es-stream` and what is in it.

@@ -1,10 +1,12 @@
-use Rattle.std.proofs.Common.{◌++◌, true, false, ap}
+use Rattle.std.proofs.Common.{◌++◌, true, false, ap, ◌∙◌}
+use Rattle.esc_decode.specs.Decodings.{decoded, through}
 use Rattle.esc_filter.specs.declared.admit.Admit.{Ghosts as Admitter}
-use Rattle.esc_reveal.proofs.Begins.{through_longer, through_nothing}
+use Rattle.esc_reveal.proofs.Begins.{through_nothing}
+use Rattle.esc_reveal.specs.Through.{through as revealed_through, through_whole}
 use Rattle.eschtml.specs.Written.{is_kept, seen_by}
 use Rattle.eschtml.specs.declared.kept.Kept.{Kept}
 use Rattle.eschtml.proofs.Same.{same_texts}
-use Rattle.eschtml.proofs.Seen.{going_same, going_shown, whole_same, whole_shown}
+use Rattle.eschtml.proofs.Seen.{going_same, going_shown, nothing_decoded, through_adds, whole_same, whole_shown}
 use Rattle.eschtml.proofs.stream.write_seen.Goals as goal
 
 pub returns-then-shows-clause-holds : goal.returns-then-shows-clause-holds
@@ -16,17 +18,22 @@ returns-then-shows-clause-holds g c = λ m e fresh none only.
     let V : Admitter Kept a = record {
       admits = λ k v. is_kept {A = a} k.moves v;
     } in
-    let new = c.new-filter.ensures.begins m e fresh
+    let shown = c.new-shown.ensures.begins m e fresh
     (record { more = λ f s b k. only.more s b; end = λ f s b k. only.end (s ++ b) })
     c.new-reveal.ensures.fed in
+    let adds = through_adds V rule m e only in
+    let new = c.new-filter.ensures.begins _ _ shown adds in
     let admits = ap (λ p. is_kept {A = a} p.moves) c.new-reveal.ensures.policy in
-    let f = same_texts _ _ (λ s. e (seen_by a o moves true s)) (λ s. m (seen_by a o moves false s))
+    let f = same_texts (through o.encoding (through_whole V rule e))
+    (through o.encoding (revealed_through V rule m)) (λ s. e (seen_by a o moves true s))
+    (λ s. m (seen_by a o moves false s))
     (λ s. ap e (whole_shown V rule o.limit moves c.new-reveal.ensures.limit
-    c.new-reveal.ensures.lines admits o.shows c.if-shows.true s))
+    c.new-reveal.ensures.lines admits o.shows c.if-shows.true (decoded o.encoding s)))
     (λ s. ap m (going_shown V rule o.limit moves c.new-reveal.ensures.limit
-    c.new-reveal.ensures.lines admits o.shows c.if-shows.true s)) _ _ _
-    (c.filter_from.ensures.holds _ _ new (through_nothing V rule m e none)
-    (through_longer V rule m e only.more only.end)) in
+    c.new-reveal.ensures.lines admits o.shows c.if-shows.true (decoded o.encoding s))) _ _ _
+    (c.filter_from.ensures.holds _ _ new
+    (ap (revealed_through V rule m) (nothing_decoded o.encoding)
+    ∙ through_nothing V rule m e none) (λ s. adds.end (decoded o.encoding s))) in
     record {
       read_all = f.read_all;
       written = f.written;
@@ -40,25 +47,33 @@ returns-then-shows-clause-holds g c = λ m e fresh none only.
 
 pub returns-then-shows-clause-refused : goal.returns-then-shows-clause-refused
 returns-then-shows-clause-refused g c = λ m e fresh none only.
+    let o = c.args.options.now in
     let rule = c.new-reveal.result.rule in
     let V : Admitter Kept g.row.A.Denot = record {
       admits = λ k v. is_kept {A = g.row.A.Denot} k.moves v;
     } in
-    let new = c.new-filter.ensures.begins m e fresh
+    let shown = c.new-shown.ensures.begins m e fresh
     (record { more = λ f s b k. only.more s b; end = λ f s b k. only.end (s ++ b) })
     c.new-reveal.ensures.fed in
-    c.filter_from.ensures.refused _ _ new (through_nothing V rule m e none)
-    (through_longer V rule m e only.more only.end)
+    let adds = through_adds V rule m e only in
+    let new = c.new-filter.ensures.begins _ _ shown adds in
+    c.filter_from.ensures.refused _ _ new
+    (ap (revealed_through V rule m) (nothing_decoded o.encoding)
+    ∙ through_nothing V rule m e none) (λ s. adds.end (decoded o.encoding s))
 
 pub returns-else-shows-clause-holds : goal.returns-else-shows-clause-holds
 returns-else-shows-clause-holds g c = λ m e fresh none only.
     let a = g.row.A.Denot in
     let o = c.args.options.now in
     let moves = c.args.moves in
-    let f = same_texts e m (λ s. e (seen_by a o moves true s)) (λ s. m (seen_by a o moves false s))
-    (λ s. ap e (whole_same a o.shows o.limit moves c.if-shows.false s))
-    (λ s. ap m (going_same a o.shows o.limit moves c.if-shows.false s)) _ _ _
-    (c.filter_from-else-shows.ensures.holds m e fresh none only.end) in
+    let new = c.new-filter-else-shows.ensures.begins m e fresh only in
+    let f = same_texts (through o.encoding e) (through o.encoding m)
+    (λ s. e (seen_by a o moves true s)) (λ s. m (seen_by a o moves false s))
+    (λ s. ap e (whole_same a o.shows o.limit moves c.if-shows.false (decoded o.encoding s)))
+    (λ s. ap m (going_same a o.shows o.limit moves c.if-shows.false (decoded o.encoding s)))
+    _ _ _
+    (c.filter_from-else-shows.ensures.holds _ _ new (ap m (nothing_decoded o.encoding) ∙ none)
+    (λ s. only.end (decoded o.encoding s))) in
     record {
       read_all = f.read_all;
       written = f.written;
@@ -72,4 +87,7 @@ returns-else-shows-clause-holds g c = λ m e fresh none only.
 
 pub returns-else-shows-clause-refused : goal.returns-else-shows-clause-refused
 returns-else-shows-clause-refused g c = λ m e fresh none only.
-    c.filter_from-else-shows.ensures.refused m e fresh none only.end
+    let o = c.args.options.now in
+    let new = c.new-filter-else-shows.ensures.begins m e fresh only in
+    c.filter_from-else-shows.ensures.refused _ _ new (ap m (nothing_decoded o.encoding) ∙ none)
+    (λ s. only.end (decoded o.encoding s))

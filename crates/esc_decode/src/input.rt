@@ -1,6 +1,6 @@
 //! What is read of a stream.
 
-use esc_decode::{ByteOrder, Utf16Reader};
+use crate::utf16_reader::{ByteOrder, Utf16Reader};
 use std::alloc::Global;
 use std::io;
 use std::io::Read;

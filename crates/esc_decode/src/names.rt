@@ -1,8 +1,11 @@
-//! The encodings that the options name.
+//! The names of encodings.
 
-use esc_decode::{ByteOrder, CodePage};
+use crate::code_page::CodePage;
+use crate::encoding::Encoding;
+use crate::utf16_reader::ByteOrder;
 
-/// What `--encoding` takes.
+/// The names that [`page_of`] and [`order_of`] know, and `utf-8`: those of the Encoding Standard
+/// (<https://encoding.spec.whatwg.org/>), and `latin1`.
 pub const ENCODINGS: &[&str] = &[
     "utf-8",
     "utf-16",
@@ -44,5 +47,16 @@ pub fn order_of(name: &str) -> Option<ByteOrder> {
         "utf-16le" => Some(ByteOrder::Little),
         "utf-16be" => Some(ByteOrder::Big),
         _ => None,
+    }
+}
+
+/// How bytes are read in this 8-bit encoding, or in UTF-8, where it is none; `obeys` says that the
+/// bytes 80 to 9F that are part of no character are controls of C1.
+pub fn encoding_of(page: Option<CodePage>, obeys: bool) -> Encoding {
+    match page {
+        None if obeys => Encoding::EightBit,
+        None => Encoding::Utf8,
+        Some(CodePage::Latin1) if obeys => Encoding::CodePage(CodePage::Latin1WithControls),
+        Some(page) => Encoding::CodePage(page),
     }
 }

@@ -1,0 +1,23 @@
+use Rattle.std.proofs.Common.{codes, string_bytes, ap, ◌∙◌, ◌++◌}
+use Rattle.std.specs.Fmt.{decimal}
+use Rattle.esc_html.specs.Lines.{line_begin}
+use Rattle.esc_html.proofs.EscapedRuns.{grown_ok}
+use Rattle.esc_html.proofs.Lining.{begun_text, number_text}
+use Rattle.esc_html.proofs.line_writer.push_begin.Goals as goal
+
+pub returns-clause-ok : goal.returns-clause-ok
+returns-clause-ok g c =
+    let old = string_bytes c.args.text.now in
+    let d = decimal c.args.number in
+    let a = codes "<span class=\"es-line\" id=\"L" in
+    let b = codes "\"><a href=\"#L" in
+    let last = codes "\" tabindex=\"-1\" aria-hidden=\"true\"></a>" in
+    let four = string_bytes c.push_display-2.new.text in
+    grown_ok c.push_str-3.result four (string_bytes c.push_str-3.new.text) last
+    (old ++ line_begin c.args.number) c.push_str-3.ensures.bytes
+    (begun_text old (string_bytes c.push_str.new.text) (string_bytes c.push_display.new.text)
+    (string_bytes c.push_str-2.new.text) four a d b last c.in_ok-push_str.ensures.bytes
+    c.in_ok-push_display.ensures.text c.in_ok-push_str-2.ensures.bytes
+    c.in_ok-push_display-2.ensures.text
+    ∙ ap (λ x. old ++ (a ++ (x ++ (b ++ (x ++ last)))))
+    (number_text c.args.number c.ranges.number.fits))

@@ -1,0 +1,244 @@
+//! Strings of a stream that do not end, and so take what follows them from a page.
+
+use esc_decode::{CodePage, Encoding, Mask};
+use esc_frame::{VTActor, VTParser};
+use esc_values::CsiParam;
+use memchr::{memchr, memchr2};
+use std::alloc::{AllocError, Global};
+
+const ESC: u8 = 0x1b;
+
+/// What is unfinished at the end of a stream.
+#[derive(Clone, Copy)]
+pub struct Lost {
+    /// The line that it begins in, from 1.
+    pub line: u64,
+    /// How many bytes it has.
+    pub bytes: u64,
+}
+
+/// Follows the strings of a stream by its framing, in the stream's encoding; what comes between
+/// them is looked through for what opens one.
+#[derive(Drop)]
+pub struct Strings {
+    encoding: Encoding,
+    framer: VTParser,
+    mask: Mask,
+    // how many line feeds came
+    feeds: u64,
+    // the segment that is unfinished
+    open: Lost,
+}
+
+impl Strings {
+    /// Of a stream in this encoding, at its beginning. Takes no memory.
+    pub fn new(alloc: Global, encoding: Encoding) -> Strings {
+        Strings {
+            encoding,
+            framer: VTParser::with_limit(alloc, 0),
+            mask: Mask::new(),
+            feeds: 0,
+            open: Lost { line: 1, bytes: 0 },
+        }
+    }
+
+    /// Takes bytes more.
+    pub fn take(&mut self, bytes: &[u8]) {
+        let mut rest = bytes;
+        while !rest.is_empty() {
+            let n = if self.framer.is_ground() {
+                self.pass(rest)
+            } else {
+                self.follow(rest)
+            };
+            rest = &rest[n.max(1).min(rest.len())..];
+        }
+    }
+
+    /// The string that is unfinished now, at the end of the stream: in one, two letters more are
+    /// no text.
+    pub fn lost(mut self) -> Option<Lost> {
+        if self.framer.is_ground() || self.framer.has_failed() {
+            return None;
+        }
+        let mut seen = Seen { any: false };
+        match self.framer.parse(b"xx", &mut seen) {
+            Ok(()) if !seen.any => Some(self.open),
+            _ => None,
+        }
+    }
+
+    // Passes text up to what may open a string, which it begins with; how many bytes that are.
+    fn pass(&mut self, bytes: &[u8]) -> usize {
+        let Some(at) = self.candidate(bytes) else {
+            self.count_lines(bytes);
+            return bytes.len();
+        };
+        self.count_lines(bytes.get(..at).unwrap_or(bytes));
+        let here = bytes.get(at..).unwrap_or(bytes);
+        if is_other(here) {
+            return at.saturating_add(2);
+        }
+        self.mask = Mask::new();
+        self.begin();
+        at.saturating_add(self.follow(here))
+    }
+
+    // Where the first byte is that may open a string.
+    fn candidate(&self, bytes: &[u8]) -> Option<usize> {
+        match self.encoding {
+            Encoding::Utf8 => memchr2(ESC, 0xc2, bytes),
+            Encoding::EightBit | Encoding::CodePage(CodePage::Latin1WithControls) => {
+                first_of_any(bytes)
+            }
+            Encoding::CodePage(_) => memchr(ESC, bytes),
+        }
+    }
+
+    // Follows the segment that is unfinished to its end, as far as it is there; how many bytes that
+    // are. Where memory is refused, nothing more is followed.
+    fn follow(&mut self, bytes: &[u8]) -> usize {
+        let mut n = 0usize;
+        for byte in bytes {
+            if *byte == ESC && self.open.bytes > 0 {
+                self.begin();
+            }
+            n = n.saturating_add(1);
+            self.open.bytes = self.open.bytes.saturating_add(1);
+            self.count_lines(&[*byte]);
+            if !self.frame(*byte) {
+                return bytes.len();
+            }
+            if self.framer.is_ground() {
+                return n;
+            }
+        }
+        n
+    }
+
+    // Something begins here.
+    fn begin(&mut self) {
+        self.open = Lost {
+            line: self.feeds.saturating_add(1),
+            bytes: 0,
+        };
+    }
+
+    // Frames what a byte becomes; whether memory was there.
+    fn frame(&mut self, byte: u8) -> bool {
+        let mut seen = Seen { any: false };
+        let framed = match self.encoding {
+            Encoding::Utf8 => self.framer.parse(&[self.mask.take(byte)], &mut seen),
+            Encoding::CodePage(CodePage::Latin1WithControls) if is_control(byte) => {
+                self.framer.parse(&[0xc2, byte], &mut seen)
+            }
+            Encoding::CodePage(_) if byte >= 0x80 => self.framer.parse(&[0xff], &mut seen),
+            _ => self.framer.parse(&[byte], &mut seen),
+        };
+        framed.is_ok()
+    }
+
+    fn count_lines(&mut self, bytes: &[u8]) {
+        let mut rest = bytes;
+        while let Some(at) = memchr(b'\n', rest) {
+            self.feeds = self.feeds.saturating_add(1);
+            rest = &rest[at + 1..];
+        }
+    }
+}
+
+// Where the first byte is that is ESC or no ASCII.
+fn first_of_any(bytes: &[u8]) -> Option<usize> {
+    for (at, byte) in bytes.iter().enumerate() {
+        if *byte == ESC || 0x80 <= *byte {
+            return Some(at);
+        }
+    }
+    None
+}
+
+// Whether these bytes begin with two that open no string, and of which the second is not looked at
+// again: a control sequence, an escape sequence or, in UTF-8, another character.
+fn is_other(bytes: &[u8]) -> bool {
+    match bytes {
+        [ESC, b'P' | b'X' | b']' | b'^' | b'_', ..] => false,
+        [ESC, second, ..] => 0x30 <= *second && *second < 0x7f,
+        [0xc2, second, ..] => 0xa0 <= *second && *second <= 0xbf,
+        _ => false,
+    }
+}
+
+// Whether a byte is a control of C1.
+fn is_control(byte: u8) -> bool {
+    0x80 <= byte && byte <= 0x9f
+}
+
+// Whether any character was printed.
+#[derive(Drop)]
+struct Seen {
+    any: bool,
+}
+
+impl VTActor for Seen {
+    ghost takes = { λ _ _ _. Unit {0} };
+
+    ghost refuses = { λ _ _ _. ⊥ };
+
+    ghost is_ready = { λ _. Unit {0} };
+
+    ghost may = { λ _ _. Unit {0} };
+
+    fn print(&mut self, _c: char) -> Result<(), AllocError> {
+        self.any = true;
+        Ok(())
+    }
+
+    fn execute_c0_or_c1(&mut self, _control: u8) -> Result<(), AllocError> {
+        Ok(())
+    }
+
+    fn dcs_hook(
+        &mut self,
+        _byte: u8,
+        _params: &[i64],
+        _intermediates: &[u8],
+        _ignored_extra_intermediates: bool,
+    ) -> Result<(), AllocError> {
+        Ok(())
+    }
+
+    fn dcs_put(&mut self, _byte: u8) -> Result<(), AllocError> {
+        Ok(())
+    }
+
+    fn dcs_unhook(&mut self) -> Result<(), AllocError> {
+        Ok(())
+    }
+
+    fn esc_dispatch(
+        &mut self,
+        _params: &[i64],
+        _intermediates: &[u8],
+        _ignored_extra_intermediates: bool,
+        _byte: u8,
+    ) -> Result<(), AllocError> {
+        Ok(())
+    }
+
+    fn csi_dispatch(
+        &mut self,
+        _params: &[CsiParam],
+        _parameters_truncated: bool,
+        _byte: u8,
+    ) -> Result<(), AllocError> {
+        Ok(())
+    }
+
+    fn osc_dispatch(&mut self, _params: &[&[u8]]) -> Result<(), AllocError> {
+        Ok(())
+    }
+
+    fn apc_dispatch(&mut self, _text: &[u8]) -> Result<(), AllocError> {
+        Ok(())
+    }
+}
