@@ -21,7 +21,11 @@ const MOST_REQUESTS: u64 = 10_000;
 const POLICIES: [Policy; 4] = [Policy::Text, Policy::Color, Policy::Screen, Policy::All];
 
 // What can be written of characters that deceive, and the words before what is.
-const CHARACTERS: [(Unicode, &str); 2] = [(Unicode::Show, "shown"), (Unicode::Drop, "dropped")];
+const CHARACTERS: [(Unicode, &str); 3] = [
+    (Unicode::Join, "joined"),
+    (Unicode::Show, "shown"),
+    (Unicode::Drop, "dropped"),
+];
 
 // How carriage returns within a line may be written, and the word for each way.
 const RETURNS: [(Returns, &str); 3] = [

@@ -1,10 +1,11 @@
 -- What passes a policy that admits no more than `Text` or `Color` does, and what gives back what it
 -- leaves changed, is what these admit.
-use Rattle.std.proofs.Common.{ℕ, ◌≡◌, ◌⊎◌, inl, inr, Bool, true, false, not, ◌&&◌, ◌||◌, ◌==◌, if◌then◌else◌, List, [], ◌∷◌, ◌++◌, map, Option, Some, refl, sym, ap, ◌∙◌, subst, lit<}
+use Rattle.std.proofs.Common.{ℕ, ◌≡◌, ◌⊎◌, inl, inr, Bool, true, false, not, ◌&&◌, ◌||◌, ◌==◌, if◌then◌else◌, List, [], ◌∷◌, ◌++◌, map, Option, None, Some, refl, sym, ap, ◌∙◌, subst, lit<}
 use Rattle.std.specs.List.{filter, list_all}
 use Rattle.std.proofs.lemmas.Bool.{and_parts, eqb-true, true≢false}
 use Rattle.std.proofs.lemmas.Str.{encode_ascii}
 use Rattle.esc_visible.specs.Characters.{is_deceiving, number_text}
+use Rattle.esc_visible.specs.Following.{may_follow}
 use Rattle.esc_sequences.specs.Csis.{CsiValue, sgr, unspecified}
 use Rattle.esc_osc.specs.declared.command.OperatingSystemCommand.{OperatingSystemCommand}
 use Rattle.esc_osc.specs.declared.command.OperatingSystemCommand.TheVariants as command
@@ -16,7 +17,7 @@ use Rattle.esc_actions.specs.Writable.{AreWritable}
 use Rattle.esc_actions.specs.declared.control_code.ControlCode.{ControlCode}
 use Rattle.esc_actions.specs.declared.control_code.ControlCode.TheVariants as code
 use Rattle.esc_actions.specs.declared.control_code.ControlCode.TheVariants.{CarriageReturn}
-use Rattle.esc_filter.specs.Characters.{in_guard, in_return, in_values, instead, is_return}
+use Rattle.esc_filter.specs.Characters.{in_guard, in_return, in_values_after, instead, is_return, last_after}
 use Rattle.esc_filter.specs.Closing.{after_body, after_command, after_control, after_sequence, after_value, after_values, closed, closing, given_back, is_reset, keeps_cursor, opens, turned}
 use Rattle.esc_filter.specs.Lines.{body, closed_by_lines_as, content, end_text, ended_lines, ends_line, ends_return, last_line, last_values, line_text, lines, passed_of_line, text_by_lines_as}
 use Rattle.esc_filter.specs.Passing.{closed_text_as, in_lines, is_line_feed, is_whole, passed, passed_as, passed_text_as, passes}
@@ -29,7 +30,7 @@ use Rattle.esc_filter.specs.declared.guard.Guard.{Guard}
 use Rattle.esc_filter.specs.declared.returns.Returns.{Returns}
 use Rattle.esc_filter.specs.declared.returns.Returns.TheVariants as way
 use Rattle.esc_filter.specs.declared.unicode.Unicode.{Unicode}
-use Rattle.esc_filter.specs.declared.unicode.Unicode.TheVariants.{Drop, Keep, Show}
+use Rattle.esc_filter.specs.declared.unicode.Unicode.TheVariants.{Drop, Join, Keep, Show}
 use Rattle.esc_filter.proofs.Characters.{in_more, in_none, kinds, number_shown}
 use Rattle.esc_filter.proofs.Lights.{plain_lit}
 use Rattle.esc_filter.proofs.LineData.{both}
@@ -65,12 +66,18 @@ module _ (A : Type 0) (k : Bool) where
       let q = and_parts (is_shown x) (list_all is_shown xs) h in
       rw (text_least {A = A} k (print x) q.0, prints xs q.1) refl
 
-  shown_instead : (u : Unicode) (c : ℕ) (t : Bool) → is_least (print c) ≡ true
-      → AreLeast (if t then instead u c else print c ∷ [])
-  shown_instead u c false h = rw h refl
-  shown_instead Keep c true h = rw h refl
-  shown_instead Show c true h = prints (number_text c) (number_shown c)
-  shown_instead Drop c true h = refl
+  shown_joined : (c : ℕ) (f : Bool) → is_least (print c) ≡ true
+      → AreLeast (if f then print c ∷ [] else map print (number_text c))
+  shown_joined c true h = rw h refl
+  shown_joined c false h = prints (number_text c) (number_shown c)
+
+  shown_instead : (u : Unicode) (b : Option ℕ) (c : ℕ) (t : Bool) → is_least (print c) ≡ true
+      → AreLeast (if t then instead u b c else print c ∷ [])
+  shown_instead u b c false h = rw h refl
+  shown_instead Keep b c true h = rw h refl
+  shown_instead Join b c true h = shown_joined c (may_follow b c) h
+  shown_instead Show b c true h = prints (number_text c) (number_shown c)
+  shown_instead Drop b c true h = refl
 
   shown_return : (r : Returns) (c : ControlCode) (t : Bool) → is_least (control c) ≡ true
       → AreLeast (if t then in_return r else control c ∷ [])
@@ -79,26 +86,29 @@ module _ (A : Type 0) (k : Bool) where
   shown_return way.Show c true h = prints (0x5e ∷ 0x4d ∷ []) refl
   shown_return way.Drop c true h = refl
 
-  shown_value : (u : Guard) (v : Value A) → is_least v ≡ true → AreLeast (in_guard u v)
-  shown_value u v h = by (kinds v)
+  shown_value : (u : Guard) (b : Option ℕ) (v : Value A) → is_least v ≡ true
+      → AreLeast (in_guard u b v)
+  shown_value u b v h = by (kinds v)
     where
       by : ((c : ℕ) × (v ≡ print c)) ⊎ (((c : ControlCode) × (v ≡ control c))
-          ⊎ ((w : Guard) → in_guard w v ≡ v ∷ [])) → AreLeast (in_guard u v)
+          ⊎ ((w : Guard) (l : Option ℕ) → in_guard w l v ≡ v ∷ [])) → AreLeast (in_guard u b v)
       by (inl (c, e)) =
-          ap (λ x. list_all is_least (in_guard u x)) e
-          ∙ shown_instead u.characters c (is_deceiving c) (ap is_least (sym e) ∙ h)
+          ap (λ x. list_all is_least (in_guard u b x)) e
+          ∙ shown_instead u.characters b c (is_deceiving c) (ap is_least (sym e) ∙ h)
       by (inr (inl (c, e))) =
-          ap (λ x. list_all is_least (in_guard u x)) e
+          ap (λ x. list_all is_least (in_guard u b x)) e
           ∙ shown_return u.returns c (is_return c) (ap is_least (sym e) ∙ h)
-      by (inr (inr f)) = ap (list_all is_least) (f u) ∙ rw h refl
+      by (inr (inr f)) = ap (list_all is_least) (f u b) ∙ rw h refl
 
-  shown_values : (u : Guard) (vs : List (Value A)) → AreLeast vs → AreLeast (in_values u vs)
-  shown_values u [] h = ap (list_all is_least) (in_none {A = A} u)
-  shown_values u (v ∷ vs) h =
+  shown_values : (u : Guard) (b : Option ℕ) (vs : List (Value A)) → AreLeast vs
+      → AreLeast (in_values_after u b vs)
+  shown_values u b [] h = ap (list_all is_least) (in_none {A = A} u b)
+  shown_values u b (v ∷ vs) h =
       let q = and_parts (is_least v) (list_all is_least vs) h in
-      ap (list_all is_least) (in_more u v vs)
-      ∙ both is_least (in_guard u v) (in_values u vs) (shown_value u v q.0)
-      (shown_values u vs q.1)
+      let l = last_after b (in_guard u b v) in
+      ap (list_all is_least) (in_more u b v vs)
+      ∙ both is_least (in_guard u b v) (in_values_after u l vs) (shown_value u b v q.0)
+      (shown_values u l vs q.1)
 
 -- ---- what it leaves changed
 
@@ -224,7 +234,7 @@ module _ {A : Type 0}
   passed_least : (limit : Option ℕ) (f : Value A → Bool) → AdmitsAtMost (least k) f
       → (s : List ℕ) → list_all (admits (least k)) (passed_as u limit f s) ≡ true
   passed_least limit f most s =
-      shown_values A k u (passed limit f s) (filtered A k f most (meaning_within limit s))
+      shown_values A k u None (passed limit f s) (filtered A k f most (meaning_within limit s))
 
   pub passed_pieces : (limit : Option ℕ) (f : Value A → Bool) → AdmitsAtMost (least k) f
       → (s : List ℕ) → IsOfPieces k (passed_text_as u limit f s)

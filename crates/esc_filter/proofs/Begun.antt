@@ -1,6 +1,6 @@
 -- A filter that was fed nothing, as what takes a stream, and what holds of the texts that it
 -- writes.
-use Rattle.std.proofs.Common.{ℕ, ◌≡◌, Bool, true, false, List, [], Result, Some, refl, sym, subst, ap, ◌∙◌}
+use Rattle.std.proofs.Common.{ℕ, ◌≡◌, Bool, true, false, List, [], Result, None, Some, refl, sym, subst, ap, ◌∙◌}
 use Rattle.std.specs.List.{filter}
 use Rattle.esc_actions.proofs.Meanings.{meaning_nil}
 use Rattle.esc_actions.specs.Texts.{list_text}
@@ -56,7 +56,7 @@ pub nothing : {A : Type 0} (u : Guard) (limit : ℕ) (admits : Value A → Bool)
     → passed_text_as {A = A} u (Some limit) admits [] ≡ []
 nothing u limit admits =
     ap (λ vs. list_text (in_values u (filter (passes admits) vs))) (meaning_nil (Some limit))
-    ∙ ap list_text (in_none u)
+    ∙ ap list_text (in_none u None)
 
 -- What holds of each stream and its text holds of what was written. (A contract cannot say so of
 -- whatever holds.)

@@ -1,5 +1,5 @@
 -- The text of a stream whose lines are streams of their own, as it grows.
-use Rattle.std.proofs.Common.{ℕ, ◌≡◌, ◌<◌, ◌-◌, length, take, OnOk, Result, arith, Bool, true, false, if◌then◌else◌, List, [], ◌∷◌, ◌++◌, Some, ◌⊎◌, inl, inr, refl, ap, sym, ◌∙◌, subst, append_assoc}
+use Rattle.std.proofs.Common.{ℕ, ◌≡◌, ◌<◌, ◌-◌, length, take, OnOk, Result, arith, Bool, true, false, if◌then◌else◌, List, [], ◌∷◌, ◌++◌, None, Some, ◌⊎◌, inl, inr, refl, ap, sym, ◌∙◌, subst, append_assoc}
 use Rattle.std.specs.List.{flat_map, filter}
 use Rattle.std.proofs.lemmas.Grind.{flat_map-append}
 use Rattle.std.proofs.lemmas.List.{append-nil}
@@ -40,7 +40,7 @@ module _ {A : Type 0} (u : Guard) (limit : ℕ) (admits : Value A → Bool) wher
   nothing : T [] ≡ []
   nothing =
       ap (λ vs. list_text (in_values u (filter (passes (in_lines true admits)) vs)))
-      (meaning_nil (Some limit)) ∙ ap list_text (in_none u)
+      (meaning_nil (Some limit)) ∙ ap list_text (in_none u None)
 
   pub by_append : (d x : List ℕ) → ends_line true d ≡ true → By (d ++ x) ≡ By d ++ By x
   by_append d x h =

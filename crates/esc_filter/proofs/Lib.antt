@@ -12,6 +12,7 @@ pub mod Backs
 pub mod Closers
 pub mod Sinks
 pub mod Characters
+pub mod Strays
 pub mod Texts
 pub mod Writable
 pub mod Images

@@ -1,5 +1,5 @@
 -- What writes actions and notes what they leave changed, of runs, sequences and commands.
-use Rattle.std.proofs.Common.{◌≡◌, ℕ, Bool, true, false, ◌&&◌, List, [], ◌∷◌, ◌++◌, map, if◌then◌else◌, append-nil, refl, sym, subst, ap, ◌∙◌, inl, inr, IfOk, MatchResult, OnErr, OnOk, Ok, Err, Result}
+use Rattle.std.proofs.Common.{◌≡◌, ℕ, Bool, true, false, ◌&&◌, List, [], ◌∷◌, ◌++◌, map, if◌then◌else◌, append-nil, Option, None, Some, refl, sym, subst, ap, ◌∙◌, inl, inr, IfOk, MatchResult, OnErr, OnOk, Ok, Err, Result}
 use Rattle.std.specs.Prelude.{IsTrue}
 use Rattle.std.specs.List.{FoldsTo}
 use Rattle.std.proofs.lemmas.Result.{on_err_weaker}
@@ -13,7 +13,8 @@ use Rattle.esc_actions.specs.Values.{Value, control, csi, osc, print, value_of}
 use Rattle.esc_actions.specs.declared.control_code.ControlCode.{ControlCode}
 use Rattle.esc_filter.proofs.Characters.{AreThemselves}
 use Rattle.esc_visible.specs.Characters.{is_deceiving}
-use Rattle.esc_filter.specs.Characters.{in_guard, in_return, instead, is_return}
+use Rattle.esc_visible.specs.Following.{last_of}
+use Rattle.esc_filter.specs.Characters.{character_of, in_guard, in_return, instead, is_return}
 use Rattle.esc_filter.specs.declared.guard.Guard.{Guard}
 use Rattle.esc_filter.specs.declared.returns.Returns.TheVariants as way
 use Rattle.esc_filter.specs.declared.unicode.Unicode.TheVariants.{Drop}
@@ -36,15 +37,16 @@ module _ {A : Type 0} where
   abbrev with_spell : Written A → Spell A → Written A
   with_spell p s = record p { spell = s }
 
+  -- a control, a sequence or a command was written
   abbrev with_both : Written A → Terminal → Spell A → Written A
-  with_both p o s = record p { spell = s; left = o }
+  with_both p o s = record p { spell = s; left = o; before = None }
 
   -- ---- one value
 
   pub writes_one : (p q : Written A) (a : Action A) (v : Value A) → value_of a ≡ v
       → Adds p.spell a q.spell → q.left ≡ after_value v p.left → q.by_lines ≡ p.by_lines
-      → q.guard ≡ p.guard → Writes p (v ∷ []) q
-  writes_one p q a v is t o b u =
+      → q.guard ≡ p.guard → q.before ≡ character_of v → Writes p (v ∷ []) q
+  writes_one p q a v is t o b u l =
       let f = p.spell.follows_string in (
         t.0
             ∙ ap (λ x. p.spell.text ++ x)
@@ -53,22 +55,24 @@ module _ {A : Type 0} where
         o,
         b,
         u,
+        l,
       )
 
   -- it is written as it is
   notes_one : (p q : Written A) (a : Action A) (v : Value A) → value_of a ≡ v
-      → written_of p.by_lines p.guard v ≡ v ∷ []
+      → written_of p.by_lines p.guard p.before v ≡ v ∷ []
       → Adds p.spell a q.spell → q.left ≡ after_value v p.left → q.by_lines ≡ p.by_lines
-      → q.guard ≡ p.guard → Notes p a q
-  notes_one p q a v is itself t o b u =
-      subst (λ x. Writes p (written_of p.by_lines p.guard x) q) (sym is)
-      (subst (λ ws. Writes p ws q) (sym itself) (writes_one p q a v is t o b u))
+      → q.guard ≡ p.guard → q.before ≡ character_of v → Notes p a q
+  notes_one p q a v is itself t o b u l =
+      subst (λ x. Writes p (written_of p.by_lines p.guard p.before x) q) (sym is)
+      (subst (λ ws. Writes p ws q) (sym itself) (writes_one p q a v is t o b u l))
 
   -- what is written of a control that is no line feed, or is none that is dropped
-  in_control : (b : Bool) (u : Guard) (c : ControlCode)
+  in_control : (b : Bool) (u : Guard) (l : Option ℕ) (c : ControlCode)
       → (b && is_line_feed {A = A} (control c)) ≡ false
-      → written_of {A = A} b u (control c) ≡ in_guard u (control c)
-  in_control b u c h = either b (is_line_feed {A = A} (control c)) (in_guard u (control c)) h
+      → written_of {A = A} b u l (control c) ≡ in_guard u l (control c)
+  in_control b u l c h =
+      either b (is_line_feed {A = A} (control c)) (in_guard u l (control c)) h
     where
       either : (x y : Bool) (vs : List (Value A)) → (x && y) ≡ false
           → (if y && x then [] else vs) ≡ vs
@@ -78,13 +82,13 @@ module _ {A : Type 0} where
       either false false vs h = refl
 
   -- of a carriage return, and of any other control
-  of_return : (u : Guard) (c : ControlCode) → is_return c ≡ true
-      → in_guard {A = A} u (control c) ≡ in_return u.returns
-  of_return u c r = ap (λ t. if t then in_return {A = A} u.returns else control c ∷ []) r
+  of_return : (u : Guard) (l : Option ℕ) (c : ControlCode) → is_return c ≡ true
+      → in_guard {A = A} u l (control c) ≡ in_return u.returns
+  of_return u l c r = ap (λ t. if t then in_return {A = A} u.returns else control c ∷ []) r
 
-  of_other : (u : Guard) (c : ControlCode) → is_return c ≡ false
-      → in_guard {A = A} u (control c) ≡ control c ∷ []
-  of_other u c r = ap (λ t. if t then in_return {A = A} u.returns else control c ∷ []) r
+  of_other : (u : Guard) (l : Option ℕ) (c : ControlCode) → is_return c ≡ false
+      → in_guard {A = A} u l (control c) ≡ control c ∷ []
+  of_other u l c r = ap (λ t. if t then in_return {A = A} u.returns else control c ∷ []) r
 
   -- one that is no carriage return either
   pub notes_control : (p : Written A) (s : Spell A) (c : ControlCode)
@@ -93,7 +97,8 @@ module _ {A : Type 0} where
       → Notes p (action.Control c) (with_both p (after_control c p.left) s)
   notes_control p s c h r t =
       notes_one p (with_both p (after_control c p.left) s) (action.Control c) (control c) refl
-      (in_control p.by_lines p.guard c h ∙ of_other p.guard c r) t refl refl refl
+      (in_control p.by_lines p.guard p.before c h ∙ of_other p.guard p.before c r) t refl refl
+      refl refl
 
   -- a carriage return
   pub notes_return : (p q : Written A) (c : ControlCode)
@@ -101,20 +106,22 @@ module _ {A : Type 0} where
       → Writes p (in_return p.guard.returns) q → Notes p (action.Control c) q
   notes_return p q c h r w =
       subst (λ ws. Writes p ws q)
-      (sym (in_control p.by_lines p.guard c h ∙ of_return p.guard c r)) w
+      (sym (in_control p.by_lines p.guard p.before c h ∙ of_return p.guard p.before c r)) w
 
   -- a line feed that is
   pub notes_feed : (p q : Written A) (c : ControlCode) → p.by_lines ≡ true
       → is_line_feed {A = A} (control c) ≡ true → q.spell ≡ p.spell → q.left ≡ p.left
-      → q.by_lines ≡ p.by_lines → q.guard ≡ p.guard → Notes p (action.Control c) q
-  notes_feed p q c l f s o b u =
+      → q.by_lines ≡ p.by_lines → q.guard ≡ p.guard → q.before ≡ p.before
+      → Notes p (action.Control c) q
+  notes_feed p q c l f s o b u k =
       subst (λ ws. Writes p ws q)
-      (sym (none p.by_lines (is_line_feed ctl) (in_guard p.guard ctl) l f)) (
+      (sym (none p.by_lines (is_line_feed ctl) (in_guard p.guard p.before ctl) l f)) (
         ap (λ x. x.text) s ∙ sym (append-nil p.spell.text),
         ap (λ x. x.follows_string) s,
         o,
         b,
         u,
+        k,
       )
     where
       ctl : Value A
@@ -128,42 +135,52 @@ module _ {A : Type 0} where
 
   -- nothing is written of it
   pub notes_nothing : (p : Written A) (a : Action A)
-      → written_of p.by_lines p.guard (value_of a) ≡ [] → Notes p a p
+      → written_of p.by_lines p.guard p.before (value_of a) ≡ [] → Notes p a p
   notes_nothing p a e =
       subst (λ ws. Writes p ws p) (sym e)
-      (sym (append-nil p.spell.text), refl, refl, refl, refl)
+      (sym (append-nil p.spell.text), refl, refl, refl, refl, refl)
 
   -- a character is left out where it deceives
-  pub dropped : (b : Bool) (u : Guard) (c : ℕ) → (u.characters ≡ Drop) × (is_deceiving c ≡ true)
-      → written_of {A = A} b u (print c) ≡ []
-  dropped b u c (e, d) =
-      ap (λ t. if t then instead u.characters c else print c ∷ []) d
-      ∙ ap (λ k. instead k c) e
+  pub dropped : (b : Bool) (u : Guard) (l : Option ℕ) (c : ℕ)
+      → (u.characters ≡ Drop) × (is_deceiving c ≡ true) → written_of {A = A} b u l (print c) ≡ []
+  dropped b u l c (e, d) =
+      ap (λ t. if t then instead u.characters l c else print c ∷ []) d
+      ∙ ap (λ k. instead k l c) e
 
   -- and a carriage return where these are
-  pub return_dropped : (b : Bool) (u : Guard) (c : ControlCode)
-      → (u.returns ≡ way.Drop) × (is_return c ≡ true) → written_of {A = A} b u (control c) ≡ []
-  return_dropped b u c (e, r) = by (is_line_feed {A = A} (control c)) b
+  pub return_dropped : (b : Bool) (u : Guard) (l : Option ℕ) (c : ControlCode)
+      → (u.returns ≡ way.Drop) × (is_return c ≡ true)
+      → written_of {A = A} b u l (control c) ≡ []
+  return_dropped b u l c (e, r) = by (is_line_feed {A = A} (control c)) b
     where
-      none : in_guard {A = A} u (control c) ≡ []
-      none = of_return u c r ∙ ap in_return e
+      none : in_guard {A = A} u l (control c) ≡ []
+      none = of_return u l c r ∙ ap in_return e
 
-      by : (x y : Bool) → (if x && y then [] else in_guard {A = A} u (control c)) ≡ []
+      by : (x y : Bool) → (if x && y then [] else in_guard {A = A} u l (control c)) ≡ []
       by true true = refl
       by true false = none
       by false y = none
 
   -- ---- a run
 
-  pub run_noted : (xs : List ℕ) (p : Written A) (s : Spell A) → AreThemselves A p.guard xs
-      → FoldsTo Adds p.spell (map action.Print xs) s
-      → FoldsTo Notes p (map action.Print xs) (record p { spell = s })
+  run_noted : (xs : List ℕ) (p : Written A) (s : Spell A)
+      → AreThemselves A p.guard p.before xs → FoldsTo Adds p.spell (map action.Print xs) s
+      → FoldsTo Notes p (map action.Print xs) (record p { spell = s; before = last_of p.before xs })
   run_noted [] p s h e = ap (with_spell p) e
   run_noted (x ∷ xs) p s (i, h) (j, t, rest) = (
-    record p { spell = j },
-    notes_one p (record p { spell = j }) (action.Print x) (print x) refl i t refl refl refl,
-    run_noted xs (record p { spell = j }) s h rest,
+    record p { spell = j; before = Some x },
+    notes_one p (record p { spell = j; before = Some x }) (action.Print x) (print x) refl i t refl
+        refl refl refl,
+    run_noted xs (record p { spell = j; before = Some x }) s h rest,
   )
+
+  pub run_written : (xs : List ℕ) (p : Written A) (s : Spell A) (l : Option ℕ)
+      → l ≡ last_of p.before xs → AreThemselves A p.guard p.before xs
+      → FoldsTo Adds p.spell (map action.Print xs) s
+      → FoldsTo Notes p (map action.Print xs) (record p { spell = s; before = l })
+  run_written xs p s l e h t =
+      subst (λ k. FoldsTo Notes p (map action.Print xs) (record p { spell = s; before = k }))
+      (sym e) (run_noted xs p s h t)
 
   run_why : (xs : List ℕ) (p q : Spell A) → StopsAt ⊥ Adds Denies p (map action.Print xs) q
       → Refused A
@@ -172,11 +189,11 @@ module _ {A : Type 0} where
   run_why (x ∷ xs) p q (inr (inl denied)) = denied refl
   run_why (x ∷ xs) p q (inr (inr (mid, t, rest))) = run_why xs mid q rest
 
-  pub run_denied : (xs : List ℕ) (p : Written A) (s : Spell A)
+  pub run_denied : (xs : List ℕ) (p q : Written A) (s : Spell A)
       → StopsAt ⊥ Adds Denies p.spell (map action.Print xs) s
-      → StopsAt ⊥ Notes WriteDenies p (map action.Print xs) (record p { spell = s })
-  run_denied [] p s e = absurd e.0
-  run_denied (x ∷ xs) p s e = inr (inl (λ _. run_why (x ∷ xs) p.spell s e))
+      → StopsAt ⊥ Notes WriteDenies p (map action.Print xs) q
+  run_denied [] p q s e = absurd e.0
+  run_denied (x ∷ xs) p q s e = inr (inl (λ _. run_why (x ∷ xs) p.spell s e))
 
   -- ---- a sequence
 
@@ -191,7 +208,7 @@ module _ {A : Type 0} where
           → FoldsTo (By IsSequence Notes) p (v ∷ []) (with_both p o s)
       by (j, (a, is, w), same) = (
         with_both p o j,
-        (a, is, notes_one p (with_both p o j) a (csi v) is refl w h refl refl),
+        (a, is, notes_one p (with_both p o j) a (csi v) is refl w h refl refl refl),
         ap (with_both p o) same,
       )
 
@@ -212,7 +229,7 @@ module _ {A : Type 0} where
       by : FoldsTo (By IsSequence Adds) p.spell (v ∷ []) s → Writes p (csi v ∷ []) (with_both p o s)
       by (j, (a, is, w), same) =
           subst (λ k. Writes p (csi v ∷ []) (with_both p o k)) same
-          (writes_one p (with_both p o j) a (csi v) is w h refl refl)
+          (writes_one p (with_both p o j) a (csi v) is w h refl refl refl)
 
   -- a link that was
   pub link_written : (ps : List (List ℕ)) (p : Written A) (o : Terminal) (s : Spell A)
@@ -222,7 +239,7 @@ module _ {A : Type 0} where
       → Writes p (osc (command_meant ps) ∷ []) (with_both p o s)
   link_written ps p o s h t =
       writes_one p (with_both p o s) (action.OperatingSystemCommand (command_meant ps))
-      (osc (command_meant ps)) refl t h refl refl
+      (osc (command_meant ps)) refl t h refl refl refl
 
   sequence_why : (p : Spell A) (v : CsiValue) (q : Spell A) → By IsSequence Denies p v q → Refused A
   sequence_why p v q (a, is, denied) = denied (ap has_text is)
@@ -268,7 +285,11 @@ module _ {A : Type 0} where
           → FoldsTo (By IsCommand Notes) p (ps ∷ []) (with_both p o s)
       by (j, (a, is, w), same) = (
         with_both p o j,
-        (a, is, notes_one p (with_both p o j) a (osc (command_meant ps)) is refl w h refl refl),
+        (
+          a,
+          is,
+          notes_one p (with_both p o j) a (osc (command_meant ps)) is refl w h refl refl refl,
+        ),
         ap (with_both p o) same,
       )
 
@@ -292,7 +313,7 @@ module _ {A : Type 0} where
   -- ---- results
 
   pub print_given : {E : Type 0} (r : Result (Unit {0}) E) (p q : Written A) (c : ℕ)
-      → OnOk r (Writes p (in_guard p.guard (print c)) q) → OnErr r (Refused A)
+      → OnOk r (Writes p (in_guard p.guard p.before (print c)) q) → OnErr r (Refused A)
       → MatchResult r (λ _. Notes p (action.Print c) q) (λ _. WriteDenies p (action.Print c) q)
   print_given (Ok t) p q c h k = h
   print_given (Err e) p q c h k = λ _. k

@@ -1,8 +1,9 @@
 -- What is written of a line has no line feed but its own.
-use Rattle.std.proofs.Common.{ℕ, ◌≡◌, Bool, true, false, not, ◌&&◌, if◌then◌else◌, List, [], ◌∷◌, ◌++◌, map, Option, Some, ◌⊎◌, inl, inr, refl, sym, ap, ◌∙◌, subst, append-nil, append_assoc}
+use Rattle.std.proofs.Common.{ℕ, ◌≡◌, Bool, true, false, not, ◌&&◌, if◌then◌else◌, List, [], ◌∷◌, ◌++◌, map, Option, None, Some, ◌⊎◌, inl, inr, refl, sym, ap, ◌∙◌, subst, append-nil, append_assoc}
 use Rattle.std.specs.List.{filter, flat_map, list_all}
 use Rattle.std.proofs.lemmas.Bool.{and_parts}
 use Rattle.esc_visible.specs.Characters.{is_deceiving, number_text}
+use Rattle.esc_visible.specs.Following.{may_follow}
 use Rattle.esc_values.specs.Clear.{IsClearText}
 use Rattle.esc_kitty.specs.Writable.{IsWritableImage, ReadsBack as ReadsBackImage}
 use Rattle.esc_kitty.specs.declared.image.KittyImage.{KittyImage}
@@ -20,14 +21,14 @@ use Rattle.esc_actions.specs.Values.{Value, control, print}
 use Rattle.esc_actions.specs.declared.control_code.ControlCode.{ControlCode}
 use Rattle.esc_actions.specs.declared.control_code.ControlCode.TheVariants.{CarriageReturn}
 use Rattle.esc_actions.specs.Writable.{AreWritable, is_exception}
-use Rattle.esc_filter.specs.Characters.{in_guard, in_return, in_values, instead, is_return}
+use Rattle.esc_filter.specs.Characters.{in_guard, in_return, in_values_after, instead, is_return, last_after}
 use Rattle.esc_filter.specs.Lines.{IsLine, begin_with, body, closed_by_lines_as, content, end_text, ends_return, has_line_feed, is_line_feed, last_line, line_text, lines, passed_of_line, text_by_lines_as}
 use Rattle.esc_filter.specs.Passing.{in_lines, is_line_feed as is_feed, is_mode_step, passed, passed_as, passes}
 use Rattle.esc_filter.specs.declared.guard.Guard.{Guard}
 use Rattle.esc_filter.specs.declared.returns.Returns.{Returns}
 use Rattle.esc_filter.specs.declared.returns.Returns.TheVariants as way
 use Rattle.esc_filter.specs.declared.unicode.Unicode.{Unicode}
-use Rattle.esc_filter.specs.declared.unicode.Unicode.TheVariants.{Drop, Keep, Show}
+use Rattle.esc_filter.specs.declared.unicode.Unicode.TheVariants.{Drop, Join, Keep, Show}
 use Rattle.esc_filter.specs.Closing.{after_values, closed, closing, give, given_back, keeps_cursor, main_by, margins_back, saved_by, screen_back, states_back, without_margins}
 use Rattle.esc_filter.specs.Terminal.{is_changed_saved, unchanged}
 use Rattle.esc_filter.specs.declared.terminal.Screen.{Screen}
@@ -68,12 +69,18 @@ module _ (A : Type 0) where
   prints_fine [] = refl
   prints_fine (x ∷ xs) = prints_fine xs
 
-  instead_fine : (u : Unicode) (c : ℕ) (t : Bool)
-      → list_all is_fine (if t then instead {A = A} u c else print c ∷ []) ≡ true
-  instead_fine u c false = refl
-  instead_fine Keep c true = refl
-  instead_fine Show c true = prints_fine (number_text c)
-  instead_fine Drop c true = refl
+  joined_fine : (c : ℕ) (f : Bool)
+      → list_all (is_fine {A = A}) (if f then print c ∷ [] else map print (number_text c)) ≡ true
+  joined_fine c true = refl
+  joined_fine c false = prints_fine (number_text c)
+
+  instead_fine : (u : Unicode) (b : Option ℕ) (c : ℕ) (t : Bool)
+      → list_all is_fine (if t then instead {A = A} u b c else print c ∷ []) ≡ true
+  instead_fine u b c false = refl
+  instead_fine Keep b c true = refl
+  instead_fine Join b c true = joined_fine c (may_follow b c)
+  instead_fine Show b c true = prints_fine (number_text c)
+  instead_fine Drop b c true = refl
 
   return_fine : (r : Returns) (c : ControlCode) (t : Bool) → is_fine {A = A} (control c) ≡ true
       → list_all is_fine (if t then in_return {A = A} r else control c ∷ []) ≡ true
@@ -82,29 +89,30 @@ module _ (A : Type 0) where
   return_fine way.Show c true h = refl
   return_fine way.Drop c true h = refl
 
-  guard_fine : (u : Guard) (v : Value A) → is_fine v ≡ true
-      → list_all is_fine (in_guard u v) ≡ true
-  guard_fine u v h = by (kinds v)
+  guard_fine : (u : Guard) (b : Option ℕ) (v : Value A) → is_fine v ≡ true
+      → list_all is_fine (in_guard u b v) ≡ true
+  guard_fine u b v h = by (kinds v)
     where
       by : ((c : ℕ) × (v ≡ print c)) ⊎ (((c : ControlCode) × (v ≡ control c))
-          ⊎ ((w : Guard) → in_guard w v ≡ v ∷ []))
-          → list_all is_fine (in_guard u v) ≡ true
+          ⊎ ((w : Guard) (l : Option ℕ) → in_guard w l v ≡ v ∷ []))
+          → list_all is_fine (in_guard u b v) ≡ true
       by (inl (c, e)) =
-          ap (λ x. list_all is_fine (in_guard u x)) e
-          ∙ instead_fine u.characters c (is_deceiving c)
+          ap (λ x. list_all is_fine (in_guard u b x)) e
+          ∙ instead_fine u.characters b c (is_deceiving c)
       by (inr (inl (c, e))) =
-          ap (λ x. list_all is_fine (in_guard u x)) e
+          ap (λ x. list_all is_fine (in_guard u b x)) e
           ∙ return_fine u.returns c (is_return c) (ap is_fine (sym e) ∙ h)
-      by (inr (inr f)) = ap (list_all is_fine) (f u) ∙ rw h refl
+      by (inr (inr f)) = ap (list_all is_fine) (f u b) ∙ rw h refl
 
-  written_fine : (u : Guard) (vs : List (Value A)) → list_all is_fine vs ≡ true
-      → list_all is_fine (in_values u vs) ≡ true
-  written_fine u [] h = ap (list_all is_fine) (in_none {A = A} u)
-  written_fine u (v ∷ vs) h =
+  written_fine : (u : Guard) (b : Option ℕ) (vs : List (Value A)) → list_all is_fine vs ≡ true
+      → list_all is_fine (in_values_after u b vs) ≡ true
+  written_fine u b [] h = ap (list_all is_fine) (in_none {A = A} u b)
+  written_fine u b (v ∷ vs) h =
       let q = and_parts (is_fine v) (list_all is_fine vs) h in
-      ap (list_all is_fine) (in_more u v vs)
-      ∙ both is_fine (in_guard u v) (in_values u vs) (guard_fine u v q.0)
-      (written_fine u vs q.1)
+      let l = last_after b (in_guard u b v) in
+      ap (list_all is_fine) (in_more u b v vs)
+      ∙ both is_fine (in_guard u b v) (in_values_after u l vs) (guard_fine u b v q.0)
+      (written_fine u l vs q.1)
 
   give_fine : (b : Bool) (v : Value A) (vs : List (Value A)) → is_fine v ≡ true
       → list_all is_fine vs ≡ true → list_all is_fine (give b v ++ vs) ≡ true
@@ -216,7 +224,7 @@ module _ {A : Type 0} (means : MeansItsCut A)
 
   line_fine : (l : List ℕ) → IsAnyLine l
       → list_all is_fine (passed_of_line {A = A} u limit admits l) ≡ true
-  line_fine l line = written_fine A u (passed (Some limit) (in_lines true admits) l)
+  line_fine l line = written_fine A u None (passed (Some limit) (in_lines true admits) l)
       (passed_fine A admits (meaning_within (Some limit) l)
       (line_free means has (Some limit) l line))
 

@@ -1,5 +1,5 @@
 -- Lines that are written as they are.
-use Rattle.std.proofs.Common.{ℕ, suc, not, ◌≡◌, ◌<◌, ◌+◌, ◌-◌, length, take, drop, get_or, Bool, true, false, ◌||◌, List, [], ◌∷◌, ◌++◌, map, Some, arith, refl, ap, sym, ◌∙◌, subst, append-nil, append_assoc}
+use Rattle.std.proofs.Common.{ℕ, suc, not, ◌≡◌, ◌<◌, ◌+◌, ◌-◌, length, take, drop, get_or, Bool, true, false, ◌||◌, List, [], ◌∷◌, ◌++◌, map, Option, None, Some, arith, refl, ap, sym, ◌∙◌, subst, append-nil, append_assoc}
 use Rattle.std.specs.Prelude.{IsTrue}
 use Rattle.std.specs.List.{filter, list_all, prefix_len}
 use Rattle.std.specs.Char.{encode_utf8}
@@ -31,7 +31,7 @@ use Rattle.esc_normal.proofs.Texts.{texts_more}
 use Rattle.esc_normal.specs.Texts.{ends_in_string}
 use Rattle.esc_values.specs.declared.csi_param.CsiParam.{CsiParam}
 use Rattle.esc_sequences.specs.Csis.{CsiValue, csi_of, sgr, unspecified}
-use Rattle.esc_filter.specs.Characters.{in_values, in_guard}
+use Rattle.esc_filter.specs.Characters.{character_of, in_guard, in_values, in_values_after, last_after}
 use Rattle.esc_filter.specs.Closing.{after_values, closing, given_back, keeps_cursor, turned}
 use Rattle.esc_filter.specs.Terminal.{unchanged}
 use Rattle.esc_filter.specs.declared.terminal.Terminal.{Terminal}
@@ -65,7 +65,7 @@ module _ (A : Type 0) (u : Guard) (limit : ℕ) (admits : Value A → Bool)
     pub means : values_from (Some limit) plain (events_of x) ≡ vs
     pub mode : mode_from plain (events_of x) ≡ plain
     pub pass : filter (passes (in_lines true admits)) vs ≡ vs
-    pub kept : in_values u vs ≡ vs
+    pub kept : (b : Option ℕ) → in_values_after u b vs ≡ vs
     pub text : (f : Bool) → texts_after f vs ≡ x
     pub utf8 : IsUtf8 x
     pub one_line : has_line_feed x ≡ false
@@ -111,8 +111,9 @@ module _ (A : Type 0) (u : Guard) (limit : ℕ) (admits : Value A → Bool)
             ∙ ap (λ zs. zs ++ filter (passes (in_lines true admits)) ws) p.pass
             ∙ ap (λ zs. vs ++ zs) q.pass;
         kept =
-            in_both u vs ws ∙ ap (λ zs. zs ++ in_values u ws) p.kept
-            ∙ ap (λ zs. vs ++ zs) q.kept;
+            λ b. in_both u b vs ws
+            ∙ ap (λ zs. zs ++ in_values_after u (last_after b zs) ws) (p.kept b)
+            ∙ ap (λ zs. vs ++ zs) (q.kept (last_after b vs));
         text =
             λ f. texts_more f vs ws
             ∙ ap (λ t. t ++ texts_after (ends_in_string f vs) ws) (p.text f)
@@ -125,7 +126,7 @@ module _ (A : Type 0) (u : Guard) (limit : ℕ) (admits : Value A → Bool)
   -- one value
   alone : (x : List ℕ) (v : Value A) (e : Event) → after_all Ground x ≡ Ground
       → events_of x ≡ e ∷ [] → given (Some limit) plain e ≡ v ∷ [] → after plain e ≡ plain
-      → passes (in_lines true admits) v ≡ true → in_guard u v ≡ v ∷ []
+      → passes (in_lines true admits) v ≡ true → ((l : Option ℕ) → in_guard u l v ≡ v ∷ [])
       → ((f : Bool) → text_after f v ≡ x) → AreInner x → Passed x (v ∷ [])
   alone x v e ground events gives stays pass itself text inner =
       record {
@@ -136,8 +137,9 @@ module _ (A : Type 0) (u : Guard) (limit : ℕ) (admits : Value A → Bool)
         mode = ap (mode_from plain) events ∙ stays;
         pass = rw pass refl;
         kept =
-            in_more u v [] ∙ ap (λ zs. zs ++ in_values u []) itself
-            ∙ ap (λ zs. v ∷ zs) (in_none u);
+            λ b. in_more u b v []
+            ∙ ap (λ zs. zs ++ in_values_after u (last_after b zs) []) (itself b)
+            ∙ ap (λ zs. v ∷ zs) (in_none u (character_of v));
         text = λ f. append-nil (text_after f v) ∙ text f;
         utf8 = inner.0;
         one_line = inner.1;
@@ -148,14 +150,14 @@ module _ (A : Type 0) (u : Guard) (limit : ℕ) (admits : Value A → Bool)
   character b h =
       alone (b ∷ []) (print b) (Print b) (rw (data_move b h, after_by, move) refl)
       (rw (data_move b h, events_by, move) refl) refl refl (texts (print b) (data_shown b h))
-      (text_themselves A u (b ∷ []) (rw (data_text b h) refl)).0
+      (λ l. (text_themselves A u l (b ∷ []) (rw (data_text b h) refl)).0)
       (λ f. encode_ascii b (data_ascii b h)) (of_inner (b ∷ []) (rw (data_inner b h) refl))
 
   tab : Passed (0x09 ∷ []) (control HorizontalTab ∷ [])
   unfolding class_of code_of
   tab =
       alone (0x09 ∷ []) (control HorizontalTab) (Execute 0x09) refl refl refl refl
-      (texts (control HorizontalTab) refl) refl (λ f. encode_ascii 0x09 (omega arith))
+      (texts (control HorizontalTab) refl) (λ l. refl) (λ f. encode_ascii 0x09 (omega arith))
       (of_inner (0x09 ∷ []) refl)
 
   run : (s : List ℕ) → list_all is_data_byte s ≡ true → Passed s (map print s)
@@ -173,7 +175,7 @@ module _ (A : Type 0) (u : Guard) (limit : ℕ) (admits : Value A → Bool)
       let w = wide_is c h in
       let does = character_does (encode_utf8 c) c w.is in
       alone (encode_utf8 c) (print c) (Print c) does.0 (does.1 (Some limit)) refl refl
-      (texts (print c) w.shown) (plain_one u c w.plain) (λ f. refl) w.inner
+      (texts (print c) w.shown) (λ l. plain_one u l c w.plain) (λ f. refl) w.inner
 
   wides : (cs : List ℕ) → list_all is_wide cs ≡ true → Passed (encode_utf8_all cs) (map print cs)
   wides [] h = nothing
@@ -195,7 +197,8 @@ module _ (A : Type 0) (u : Guard) (limit : ℕ) (admits : Value A → Bool)
       → Passed x (csi s.value ∷ [])
   rendition {x} all s =
       alone x (csi s.value) (CsiDispatch s.params false 0x6d) s.ground (s.events (Some limit))
-      (ap (map csi) s.one) refl (admitted s.value all s.rendition s.params s.one) refl
+      (ap (map csi) s.one) refl (admitted s.value all s.rendition s.params s.one)
+      (λ l. refl)
       (λ f. s.text) (of_inner x s.inner)
 
   -- ---- a line, after which renditions are on, or not
@@ -252,7 +255,7 @@ module _ (A : Type 0) (u : Guard) (limit : ℕ) (admits : Value A → Bool)
       ap (λ zs. in_values u (filter pass zs)) (feed_means x vs p)
       ∙ ap (in_values u)
       (filter-append pass vs (control LineFeed ∷ []) ∙ append-nil (filter pass vs) ∙ p.pass)
-      ∙ p.kept in
+      ∙ p.kept None in
       let same : list_text (closing admits vs) ≡ [] =
       ap (λ o. list_text {A = A} (given_back (keeps_cursor admits) o)) left in
       let none = no_return false x refl p.unreturned in

@@ -91,8 +91,16 @@ module _ {A : Type 0} where
       → FoldsTo (By IsSequence Notes) p (csi_of es false 0x6d) q
   one_taken p q es (plain, (v, one, w)) =
       let a = sequence_action v in
-      subst (λ vs. FoldsTo (By IsSequence Notes) p vs q) (sym one)
-      (q, (a.0, a.1, subst (λ x. Writes p (written_of p.by_lines p.guard x) q) (sym a.1) w), refl)
+      subst (λ vs. FoldsTo (By IsSequence Notes) p vs q) (sym one) (
+        q,
+        (
+          a.0,
+          a.1,
+          subst (λ x. Writes p (written_of p.by_lines p.guard p.before x) q) (sym a.1)
+              w,
+        ),
+        refl,
+      )
 
   -- a link that was
   pub link_taken : (p q : Written A) (ps : List (List ℕ)) → WritesLink p ps q

@@ -1,5 +1,5 @@
 -- Texts that grow by one value after another.
-use Rattle.std.proofs.Common.{◌≡◌, ℕ, Bool, false, List, [], ◌∷◌, ◌++◌, Option, refl, sym, ap, ◌∙◌}
+use Rattle.std.proofs.Common.{◌≡◌, ℕ, Bool, false, List, [], ◌∷◌, ◌++◌, Option, None, refl, sym, ap, ◌∙◌}
 use Rattle.std.proofs.lemmas.List.Elements.{filter-append}
 use Rattle.std.specs.List.{filter}
 use Rattle.esc_actions.proofs.Meanings.{meaning_more}
@@ -10,9 +10,9 @@ use Rattle.esc_filter.specs.Closing.{after_value, after_values}
 use Rattle.esc_filter.specs.Terminal.{unchanged}
 use Rattle.esc_filter.specs.declared.terminal.Terminal.{Terminal}
 use Rattle.esc_filter.specs.Passing.{passed, passed_as, passed_text, passed_text_as, passes}
-use Rattle.esc_filter.specs.Characters.{in_values, kept}
+use Rattle.esc_filter.specs.Characters.{in_values, in_values_after, kept, last_after}
 use Rattle.esc_filter.specs.declared.guard.Guard.{Guard}
-use Rattle.esc_filter.proofs.Characters.{in_both}
+use Rattle.esc_filter.proofs.Characters.{in_both, last_more}
 use Rattle.esc_normal.proofs.Texts.{ends_more, texts_more}
 use Rattle.esc_normal.specs.Texts.{ends_in_string}
 
@@ -27,14 +27,15 @@ passed_longer limit admits s b =
 -- what is written of a longer stream
 abbrev pub added_as : {A : Type 0} → Guard → Option ℕ → (Value A → Bool) → List ℕ → List ℕ
     → List (Value A)
-added_as u limit admits s b = in_values u (filter (passes admits) (yield_within limit s b))
+added_as u limit admits s b = in_values_after u (last_after None (passed_as u limit admits s))
+    (filter (passes admits) (yield_within limit s b))
 
 pub written_longer : {A : Type 0} (u : Guard) (limit : Option ℕ) (admits : Value A → Bool)
     (s b : List ℕ)
     → passed_as u limit admits (s ++ b) ≡ passed_as u limit admits s ++ added_as u limit admits s b
 written_longer u limit admits s b =
     ap (in_values u) (passed_longer limit admits s b)
-    ∙ in_both u (passed limit admits s) (filter (passes admits) (yield_within limit s b))
+    ∙ in_both u None (passed limit admits s) (filter (passes admits) (yield_within limit s b))
 
 pub text_longer_as : {A : Type 0} (u : Guard) (limit : Option ℕ) (admits : Value A → Bool)
     (s b : List ℕ)
@@ -72,3 +73,12 @@ pub left_longer : {A : Type 0} (u : Guard) (limit : Option ℕ) (admits : Value 
 left_longer u limit admits s b =
     ap (λ vs. after_values vs unchanged) (written_longer u limit admits s b)
     ∙ after_more (passed_as u limit admits s) (added_as u limit admits s b) unchanged
+
+-- the character written last
+pub last_longer : {A : Type 0} (u : Guard) (limit : Option ℕ) (admits : Value A → Bool)
+    (s b : List ℕ)
+    → last_after None (passed_as u limit admits (s ++ b))
+    ≡ last_after (last_after None (passed_as u limit admits s)) (added_as u limit admits s b)
+last_longer u limit admits s b =
+    ap (last_after None) (written_longer u limit admits s b)
+    ∙ last_more None (passed_as u limit admits s) (added_as u limit admits s b)

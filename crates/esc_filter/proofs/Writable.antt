@@ -1,7 +1,7 @@
 -- What passes is writable.
-use Rattle.std.proofs.Common.{◌≡◌, ◌⊎◌, inl, inr, ℕ, Bool, true, false, cond, not, if◌then◌else◌, List, [], ◌∷◌, ◌++◌, map, Option, refl, sym, subst}
+use Rattle.std.proofs.Common.{◌≡◌, ◌⊎◌, inl, inr, ℕ, Bool, true, false, cond, not, if◌then◌else◌, List, [], ◌∷◌, ◌++◌, map, Option, None, refl, sym, subst}
 use Rattle.std.proofs.lemmas.Bool.{and_parts, not-true, true≢false}
-use Rattle.std.specs.List.{filter, flat_map, list_all}
+use Rattle.std.specs.List.{filter, list_all}
 use Rattle.esc_actions.specs.Meaning.{meaning, meaning_within, Reads}
 use Rattle.esc_actions.specs.Texts.{list_text, normal}
 use Rattle.esc_actions.specs.Values.{Value, print, string, control, esc, csi, osc, kitty, sixel, termcap, short, enter, datum, exit}
@@ -10,12 +10,13 @@ use Rattle.esc_actions.specs.declared.control_code.ControlCode.{ControlCode}
 use Rattle.esc_filter.proofs.Closers.{closed_writable}
 use Rattle.esc_filter.specs.Passing.{IsFilteredAs, is_mode_step, is_whole, passed, passed_as, passes, when_ended}
 use Rattle.esc_visible.specs.Characters.{is_deceiving, number_text}
-use Rattle.esc_filter.specs.Characters.{in_guard, in_return, in_values, instead, is_return, keeps_all}
+use Rattle.esc_visible.specs.Following.{may_follow}
+use Rattle.esc_filter.specs.Characters.{each_in_guard, in_guard, in_return, in_values, instead, is_return, keeps_all, last_after}
 use Rattle.esc_filter.specs.declared.guard.Guard.{Guard}
 use Rattle.esc_filter.specs.declared.returns.Returns.{Returns}
 use Rattle.esc_filter.specs.declared.returns.Returns.TheVariants as way
 use Rattle.esc_filter.specs.declared.unicode.Unicode.{Unicode}
-use Rattle.esc_filter.specs.declared.unicode.Unicode.TheVariants.{Drop, Keep, Show}
+use Rattle.esc_filter.specs.declared.unicode.Unicode.TheVariants.{Drop, Join, Keep, Show}
 use Rattle.esc_filter.proofs.Characters.{kinds, number_clear}
 use Rattle.esc_values.specs.Clear.{is_clear}
 
@@ -65,15 +66,23 @@ prints_writable (x ∷ xs) ws h k =
     (refl, p.0, prints_writable xs ws p.1 k)
 
 -- of a character
-char_writable : {A : Type 0} (u : Unicode) (t w : Bool) (c : ℕ) (ws : List (Value A))
+char_writable : {A : Type 0} (u : Unicode) (b : Option ℕ) (t w : Bool) (c : ℕ)
+    (ws : List (Value A))
     → (is_within {A = A} (print c) ≡ w) × IsWritable {A = A} (print c) × AreWritable ws
-    → AreWritableFrom w ((if t then instead u c else print c ∷ []) ++ ws)
-char_writable Keep true w c ws h = h
-char_writable Show true true c ws h = absurd cc
-char_writable Show true false c ws h = prints_writable (number_text c) ws (number_clear c) h.2
-char_writable Drop true true c ws h = absurd cc
-char_writable Drop true false c ws h = h.2
-char_writable u false w c ws h = h
+    → AreWritableFrom w ((if t then instead u b c else print c ∷ []) ++ ws)
+char_writable Keep b true w c ws h = h
+char_writable Show b true true c ws h = absurd cc
+char_writable Show b true false c ws h = prints_writable (number_text c) ws (number_clear c) h.2
+char_writable Drop b true true c ws h = absurd cc
+char_writable Drop b true false c ws h = h.2
+char_writable Join b true true c ws h = absurd cc
+char_writable {A} Join b true false c ws h = by (may_follow b c)
+  where
+    by : (f : Bool)
+        → AreWritable ((if f then print c ∷ [] else map print (number_text c)) ++ ws)
+    by true = h
+    by false = prints_writable (number_text c) ws (number_clear c) h.2
+char_writable u b false w c ws h = h
 
 -- of a control
 control_writable : {A : Type 0} (r : Returns) (t w : Bool) (c : ControlCode) (ws : List (Value A))
@@ -85,42 +94,42 @@ control_writable way.Keep true false c ws h = (refl, refl, h.2)
 control_writable way.Show true false c ws h = (refl, refl, (refl, refl, h.2))
 control_writable way.Drop true false c ws h = h.2
 
-all_writable : {A : Type 0} (u : Guard) (w : Bool) (vs : List (Value A))
-    → AreWritableFrom w vs → AreWritableFrom w (flat_map (in_guard u) vs)
-all_writable u w [] h = h
-all_writable {A} u w (v ∷ vs) (i, k, h) =
-    by (kinds v) (all_writable u (stays_within v) vs h)
+all_writable : {A : Type 0} (u : Guard) (b : Option ℕ) (w : Bool) (vs : List (Value A))
+    → AreWritableFrom w vs → AreWritableFrom w (each_in_guard u b vs)
+all_writable u b w [] h = h
+all_writable {A} u b w (v ∷ vs) (i, k, h) =
+    by (kinds v) (all_writable u (last_after b (in_guard u b v)) (stays_within v) vs h)
   where
     ws : List (Value A)
-    ws = flat_map (in_guard u) vs
+    ws = each_in_guard u (last_after b (in_guard u b v)) vs
 
     by : ((c : ℕ) × (v ≡ print c)) ⊎ (((c : ControlCode) × (v ≡ control c))
-        ⊎ ((u : Guard) → in_guard u v ≡ v ∷ []))
-        → AreWritableFrom (stays_within v) ws → AreWritableFrom w (in_guard u v ++ ws)
+        ⊎ ((u : Guard) (l : Option ℕ) → in_guard u l v ≡ v ∷ []))
+        → AreWritableFrom (stays_within v) ws → AreWritableFrom w (in_guard u b v ++ ws)
     by (inl (c, e)) rest =
-        subst (λ x. AreWritableFrom w (in_guard u x ++ ws)) (sym e)
-        (char_writable u.characters (is_deceiving c) w c ws (
+        subst (λ x. AreWritableFrom w (in_guard u b x ++ ws)) (sym e)
+        (char_writable u.characters b (is_deceiving c) w c ws (
           subst (λ x. is_within x ≡ w) e i,
           subst IsWritable e k,
           subst (λ x. AreWritableFrom (stays_within x) ws) e rest,
         ))
     by (inr (inl (c, e))) rest =
-        subst (λ x. AreWritableFrom w (in_guard u x ++ ws)) (sym e)
+        subst (λ x. AreWritableFrom w (in_guard u b x ++ ws)) (sym e)
         (control_writable u.returns (is_return c) w c ws (
           subst (λ x. is_within x ≡ w) e i,
           subst IsWritable e k,
           subst (λ x. AreWritableFrom (stays_within x) ws) e rest,
         ))
     by (inr (inr same)) rest =
-        subst (λ xs. AreWritableFrom w (xs ++ ws)) (sym (same u)) (i, k, rest)
+        subst (λ xs. AreWritableFrom w (xs ++ ws)) (sym (same u b)) (i, k, rest)
 
 in_writable : {A : Type 0} (u : Guard) (vs : List (Value A)) → AreWritable vs
     → AreWritable (in_values u vs)
 in_writable u vs h = by (keeps_all u)
   where
-    by : (t : Bool) → AreWritable (if t then vs else flat_map (in_guard u) vs)
+    by : (t : Bool) → AreWritable (if t then vs else each_in_guard u None vs)
     by true = h
-    by false = all_writable u false vs h
+    by false = all_writable u None false vs h
 
 writable_when : {A : Type 0} (b : Bool) (admits : Value A → Bool) (vs : List (Value A))
     → AreWritable vs → AreWritable (when_ended b admits vs)

@@ -1,7 +1,7 @@
 -- What is written of characters that deceive, and of carriage returns.
-use Rattle.std.specs.Prelude.{ℕ, Bool, true, false, ◌&&◌, if◌then◌else◌, List, [], ◌∷◌, map}
-use Rattle.std.specs.List.{flat_map}
+use Rattle.std.specs.Prelude.{ℕ, Bool, true, false, ◌&&◌, ◌||◌, if◌then◌else◌, List, [], ◌∷◌, ◌++◌, map, Option, None, Some}
 use Rattle.esc_visible.specs.Characters.{is_deceiving, number_text}
+use Rattle.esc_visible.specs.Following.{is_stray, may_follow}
 use Rattle.esc_actions.specs.Values.{Value, control, print}
 use Rattle.esc_actions.specs.declared.control_code.ControlCode.{ControlCode}
 use Rattle.esc_actions.specs.declared.control_code.ControlCode.TheVariants.{CarriageReturn}
@@ -9,7 +9,7 @@ use Rattle.esc_filter.specs.declared.guard.Guard.{Guard}
 use Rattle.esc_filter.specs.declared.returns.Returns.{Returns}
 use Rattle.esc_filter.specs.declared.returns.Returns.TheVariants as way
 use Rattle.esc_filter.specs.declared.unicode.Unicode.{Unicode}
-use Rattle.esc_filter.specs.declared.unicode.Unicode.TheVariants.{Drop, Keep, Show}
+use Rattle.esc_filter.specs.declared.unicode.Unicode.TheVariants.{Drop, Join, Keep, Show}
 
 -- this is written of characters that deceive, and carriage returns are kept
 abbrev pub of_unicode : Unicode → Guard
@@ -34,11 +34,12 @@ abbrev pub is_return : ControlCode → Bool
 is_return CarriageReturn = true
 is_return _ = false
 
--- what is written of a character that deceives
-abbrev pub instead : {A : Type 0} → Unicode → ℕ → List (Value A)
-instead Keep c = print c ∷ []
-instead Show c = map print (number_text c)
-instead Drop c = []
+-- what is written of a character that deceives, where this one was written before it
+abbrev pub instead : {A : Type 0} → Unicode → Option ℕ → ℕ → List (Value A)
+instead Keep b c = print c ∷ []
+instead Join b c = if may_follow b c then print c ∷ [] else map print (number_text c)
+instead Show b c = map print (number_text c)
+instead Drop b c = []
 
 -- what is written of a carriage return: `^M` where it is shown
 abbrev pub in_return : {A : Type 0} → Returns → List (Value A)
@@ -46,12 +47,43 @@ in_return way.Keep = control CarriageReturn ∷ []
 in_return way.Show = map print (0x5e ∷ 0x4d ∷ [])
 in_return way.Drop = []
 
--- what is written of a value
-abbrev pub in_guard : {A : Type 0} → Guard → Value A → List (Value A)
-in_guard g (print c) = if is_deceiving c then instead g.characters c else print c ∷ []
-in_guard g (control c) = if is_return c then in_return g.returns else control c ∷ []
-in_guard g v = v ∷ []
+-- what is written of a value, where this character was written before it, or none was
+abbrev pub in_guard : {A : Type 0} → Guard → Option ℕ → Value A → List (Value A)
+in_guard g b (print c) = if is_deceiving c then instead g.characters b c else print c ∷ []
+in_guard g b (control c) = if is_return c then in_return g.returns else control c ∷ []
+in_guard g b v = v ∷ []
 
--- what is written of values, one after another: they themselves where all is kept
+-- the character that comes before what comes after these: of a control, a sequence or a string
+-- there is none
+abbrev pub character_of : {A : Type 0} → Value A → Option ℕ
+character_of (print c) = Some c
+character_of _ = None
+
+abbrev pub last_after : {A : Type 0} → Option ℕ → List (Value A) → Option ℕ
+last_after b [] = b
+last_after b (v ∷ vs) = last_after (character_of v) vs
+
+-- what is written of values, one after another, of each by what was written before it
+abbrev pub each_in_guard : {A : Type 0} → Guard → Option ℕ → List (Value A) → List (Value A)
+each_in_guard g b [] = []
+each_in_guard g b (v ∷ vs) =
+    in_guard g b v ++ each_in_guard g (last_after b (in_guard g b v)) vs
+
+-- they themselves where all is kept
+abbrev pub in_values_after : {A : Type 0} → Guard → Option ℕ → List (Value A) → List (Value A)
+in_values_after g b vs = if keeps_all g then vs else each_in_guard g b vs
+
+-- what is written of those of a stream
 abbrev pub in_values : {A : Type 0} → Guard → List (Value A) → List (Value A)
-in_values g vs = if keeps_all g then vs else flat_map (in_guard g) vs
+in_values g vs = in_values_after g None vs
+
+-- it is a character that deceives, and does not belong to this one, which was written directly
+-- before it
+abbrev pub strays : {A : Type 0} → Option ℕ → Value A → Bool
+strays b (print c) = is_stray b c
+strays b _ = false
+
+-- one of them is
+abbrev pub some_strays : {A : Type 0} → Option ℕ → List (Value A) → Bool
+some_strays b [] = false
+some_strays b (v ∷ vs) = strays b v || some_strays (character_of v) vs

@@ -1,5 +1,5 @@
 -- What an action makes of what writes it.
-use Rattle.std.specs.Prelude.{ℕ, ◌≡◌, ◌⊎◌, Bool, false, true, ◌&&◌, if◌then◌else◌, List, [], ◌∷◌, ◌++◌}
+use Rattle.std.specs.Prelude.{ℕ, ◌≡◌, ◌⊎◌, Bool, false, true, ◌&&◌, if◌then◌else◌, List, [], ◌∷◌, ◌++◌, Option, None}
 use Rattle.std.specs.List.{list_all, list_any}
 use Rattle.esc_values.specs.declared.csi_param.CsiParam.{CsiParam}
 use Rattle.esc_sequences.specs.Csis.{CsiValue, csi_of}
@@ -9,14 +9,15 @@ use Rattle.esc_actions.specs.Values.{Value, csi, osc, value_of}
 use Rattle.esc_actions.specs.declared.action.Action.{Action}
 use Rattle.esc_normal.specs.Spelled.{Denies}
 use Rattle.esc_visible.specs.Characters.{is_deceiving}
-use Rattle.esc_filter.specs.Characters.{in_guard}
+use Rattle.esc_visible.specs.Following.{has_stray}
+use Rattle.esc_filter.specs.Characters.{in_guard, last_after}
 use Rattle.esc_filter.specs.Closing.{after_values}
 use Rattle.esc_filter.specs.Terminal.{unchanged}
 use Rattle.esc_filter.specs.Passing.{is_line_feed}
 use Rattle.esc_filter.specs.Rules.{is_link, is_plain_param}
 use Rattle.esc_normal.specs.Texts.{ends_in_string}
 use Rattle.esc_filter.specs.declared.guard.Guard.{Guard}
-use Rattle.esc_filter.specs.declared.unicode.Unicode.TheVariants.{Keep}
+use Rattle.esc_filter.specs.declared.unicode.Unicode.TheVariants.{Join, Keep}
 use Rattle.esc_filter.specs.declared.written.Written.{Written}
 
 -- the same without its text
@@ -28,18 +29,21 @@ abbrev pub Writes : {A : Type 0} → Written A → List (Value A) → Written A 
 Writes p vs q = (q.spell.text ≡ p.spell.text ++ texts_after p.spell.follows_string vs)
     × (q.spell.follows_string ≡ ends_in_string p.spell.follows_string vs)
     × (q.left ≡ after_values vs p.left) × (q.by_lines ≡ p.by_lines) × (q.guard ≡ p.guard)
+    × (q.before ≡ last_after p.before vs)
 
--- what is written of a value: nothing of a line feed where lines are streams of their own
-abbrev pub written_of : {A : Type 0} → Bool → Guard → Value A → List (Value A)
-written_of b u v = if is_line_feed v && b then [] else in_guard u v
+-- what is written of a value, where this character was written before it: nothing of a line feed
+-- where lines are streams of their own
+abbrev pub written_of : {A : Type 0} → Bool → Guard → Option ℕ → Value A → List (Value A)
+written_of b u before v = if is_line_feed v && b then [] else in_guard u before v
 
 -- that was done for what is written of the action
 abbrev pub Notes : {A : Type 0} → Written A → Action A → Written A → Type 0
-Notes p a q = Writes p (written_of p.by_lines p.guard (value_of a)) q
+Notes p a q = Writes p (written_of p.by_lines p.guard p.before (value_of a)) q
 
--- each of these characters is written as it is
-abbrev pub AreKept : Guard → List ℕ → Type 0
-AreKept u xs = (u.characters ≡ Keep) ⊎ (list_any is_deceiving xs ≡ false)
+-- each of these characters is written as it is, where this one was written before them
+abbrev pub AreKept : Guard → Option ℕ → List ℕ → Type 0
+AreKept u b xs = (u.characters ≡ Keep) ⊎ ((list_any is_deceiving xs ≡ false)
+    ⊎ ((u.characters ≡ Join) × (has_stray b xs ≡ false)))
 
 -- an action that has a text is refused where memory is
 abbrev pub WriteDenies : {A : Type 0} → Written A → Action A → Written A → Type 0
@@ -49,6 +53,7 @@ WriteDenies p a q = Denies p.spell a q.spell
 abbrev pub HasNoted : {A : Type 0} → Bool → Guard → List (Value A) → Written A → Type 0
 HasNoted b u vs w = (w.spell.follows_string ≡ ends_in_string false vs)
     × (w.left ≡ after_values vs unchanged) × (w.by_lines ≡ b) × (w.guard ≡ u)
+    × (w.before ≡ last_after None vs)
 
 -- ---- sequences and commands that are written from their parameters or their text
 

@@ -1,11 +1,12 @@
 //! Laws of what passes a filter. Each holds for every allocator `A`, which the type of the actions
 //! names.
-ghost use Rattle.std.specs.Prelude.{◌≡◌, ◌++◌, [], ℕ, Bool, List, Option, Some, false, map, not, true};
+ghost use Rattle.std.specs.Prelude.{◌≡◌, ◌++◌, [], ℕ, Bool, List, None, Option, Some, false, map, not, true};
 ghost use Rattle.std.specs.List.{filter};
 ghost use Rattle.esc_actions.specs.Meaning.{yield_within};
 ghost use Rattle.esc_actions.specs.Texts.{list_text};
 ghost use Rattle.esc_actions.specs.Values.{Value};
 ghost use Rattle.esc_frame.specs.Segments.{is_empty};
+ghost use Rattle.esc_filter.specs.Characters.{in_values, keeps_characters, some_strays};
 ghost use Rattle.esc_filter.specs.Closing.{IsAtStart, after_values, closed, closing};
 ghost use Rattle.esc_filter.specs.Terminal.{unchanged};
 ghost use Rattle.esc_filter.specs.Lines.{IsFilteredByLines, IsFilteredByLinesAs, IsLine, closed_by_lines_as, has_line_feed, line_text, lines, lines_text, lines_text_as, text_by_lines_as};
@@ -52,6 +53,14 @@ pub fn written_reads_back<A: Allocator>()
     laws::reads_back::<A>();
     laws::reads_by_itself::<A>();
 }
+
+/// Where characters that deceive are not kept, none of them is written but where it belongs to the
+/// character that is written directly before it: so none that changes the direction of text, and
+/// no tag.
+pub fn nothing_strays<A: Allocator>()
+    ensures { (u : Guard) (vs : List (Value A)) → keeps_characters u.characters ≡ false
+        → some_strays None (in_values u vs) ≡ false }
+{}
 
 /// What passes of a stream passes of each longer one, and comes first in it.
 pub fn passed_more<A: Allocator>()

@@ -46,7 +46,7 @@ mod written;
 pub use admit::{Admit, passes};
 pub use encoder::Encoder;
 pub use esc_normal::{Feeding, FilterError, MOST_READS, filter_from};
-pub use esc_visible::is_deceiving;
+pub use esc_visible::{is_deceiving, may_follow};
 pub use filter::Filter;
 pub use filtering::{filter_lines, filter_stream};
 pub use group::Group;
@@ -54,8 +54,8 @@ pub use groups::Groups;
 pub use guard::Guard;
 pub use known::Known;
 pub use laws::{
-    closing_comes_last, lines_read_back, lines_written, nothing_given_back_twice, passed_more,
-    passed_reads_back, policies_are_groups, rest_is_whole, screen_is_not_answered,
+    closing_comes_last, lines_read_back, lines_written, nothing_given_back_twice, nothing_strays,
+    passed_more, passed_reads_back, policies_are_groups, rest_is_whole, screen_is_not_answered,
     some_groups_admit_less, terminal_as_at_the_start, writes_color_text, writes_plain_text,
     written_lines_read_back, written_reads_back,
 };

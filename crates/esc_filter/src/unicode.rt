@@ -10,6 +10,10 @@ use esc_visible::is_deceiving;
 pub enum Unicode {
     /// The character itself.
     Keep,
+    /// The character itself where it belongs to the character that was written before it
+    /// ([`may_follow`](esc_visible::may_follow)), as variation selectors and joiners in emoji and
+    /// within words do; and where it does not, its number, as by `Show`.
+    Join,
     /// Its number, as `<U+202E>`: in hexadecimal, upper case, with at least four digits.
     Show,
     /// Nothing.

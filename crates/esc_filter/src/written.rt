@@ -1,15 +1,16 @@
 //! What writes the actions that pass, and notes what they leave changed.
-ghost use Rattle.std.specs.Prelude.{◌≡◌, ◌∷◌, ◌<◌, [], false, true, length, map, IfOk, IsTrue, MatchResult, OnErr, OnOk};
+ghost use Rattle.std.specs.Prelude.{◌≡◌, ◌∷◌, ◌<◌, [], false, true, length, map, IfOk, IsTrue, MatchResult, None, OnErr, OnOk, Some};
 ghost use Rattle.std.specs.List.{list_all};
 ghost use Rattle.std.specs.Str.{chars};
 ghost use Rattle.esc_values.specs.Clear.{is_clear, parts_of};
 ghost use Rattle.esc_visible.specs.Characters.{number_text};
+ghost use Rattle.esc_visible.specs.Following.{last_of};
 ghost use Rattle.esc_actions.specs.declared.action.Action.TheVariants as action;
 ghost use Rattle.esc_parse.specs.Given.{Receives};
 ghost use Rattle.memory.specs.Refusals.{Refused};
 ghost use Rattle.esc_write.specs.Plain.{IsPlain};
 ghost use Rattle.esc_actions.specs.Values.{control, print, value_of};
-ghost use Rattle.esc_filter.specs.Characters.{in_guard, in_return, instead};
+ghost use Rattle.esc_filter.specs.Characters.{character_of, in_guard, in_return, instead};
 ghost use Rattle.esc_filter.specs.Noted.{AreKept, HasNoted, Notes, WriteDenies, Writes, WritesLink, WritesRendition, without_text, written_of};
 ghost use Rattle.esc_filter.specs.Passing.{is_line_feed};
 
@@ -23,7 +24,7 @@ use esc_actions::{Action, ControlCode};
 use esc_normal::Spell;
 use esc_parse::Sink;
 use esc_values::CsiParam;
-use esc_visible::{has_deceiving, is_deceiving, number_text};
+use esc_visible::{has_deceiving, has_stray, is_deceiving, last_char, may_follow, number_text};
 use esc_write::plain_link;
 use esc_write::short_numbers::ShortNumbers;
 use std::alloc::{AllocError, Allocator, Global};
@@ -39,6 +40,8 @@ pub(crate) struct Written<A: Allocator = Global> {
     pub guard: Guard,
     /// Whether line feeds are dropped.
     pub by_lines: bool,
+    /// The character that was written last, where a character was.
+    pub before: Option<char>,
 }
 
 impl<A: Allocator> Written<A> {
@@ -52,6 +55,7 @@ impl<A: Allocator> Written<A> {
             left: Terminal::unchanged(),
             guard,
             by_lines,
+            before: None,
         }
     }
 
@@ -65,6 +69,7 @@ impl<A: Allocator> Written<A> {
             left,
             guard,
             by_lines,
+            before,
         } = self;
         let Spell {
             text,
@@ -78,6 +83,7 @@ impl<A: Allocator> Written<A> {
             left,
             guard,
             by_lines,
+            before,
         }
     }
 
@@ -88,6 +94,7 @@ impl<A: Allocator> Written<A> {
     {
         self.spell.follows_string = false;
         self.left = Terminal::unchanged();
+        self.before = None;
     }
 }
 
@@ -96,7 +103,8 @@ impl<A: Allocator> Written<A> {
     #[inline]
     pub fn drops(&self, action: &Action<A>) -> bool
         ensures { IsTrue result
-            → written_of self.now.by_lines self.now.guard (value_of action.now) ≡ [] }
+            → written_of self.now.by_lines self.now.guard self.now.before
+            (value_of action.now) ≡ [] }
     {
         match action {
             Action::Print(c) => self.guard.characters.drops(*c),
@@ -109,7 +117,8 @@ impl<A: Allocator> Written<A> {
     #[inline]
     pub fn drops_control(&self, code: ControlCode) -> bool
         ensures { IsTrue result
-            → written_of {A = A} self.now.by_lines self.now.guard (control code) ≡ [] }
+            → written_of {A = A} self.now.by_lines self.now.guard self.now.before
+            (control code) ≡ [] }
     {
         self.guard.returns.drops(code)
     }
@@ -117,31 +126,38 @@ impl<A: Allocator> Written<A> {
     /// Whether each of the characters is written as it is, where it is seen at once.
     #[inline]
     pub fn keeps(&self, text: &str) -> bool
-        ensures { IsTrue result → AreKept self.now.guard (chars text.now) }
+        ensures { IsTrue result → AreKept self.now.guard self.now.before (chars text.now) }
     {
-        if self.guard.keeps_characters() {
-            return true;
+        match self.guard.characters {
+            Unicode::Keep => true,
+            Unicode::Join => !has_stray(self.before, text),
+            Unicode::Show | Unicode::Drop => !has_deceiving(text),
         }
-        !has_deceiving(text)
     }
 
     /// Appends a run of characters that are written as they are.
     #[inline]
     pub fn append_str(&mut self, text: &str) -> Result<(), AllocError>
-        requires kept { AreKept self.old.guard (chars text.now) }
+        requires kept { AreKept self.old.guard self.old.before (chars text.now) }
         requires some { 0 < length text.now }
         requires clear { list_all is_clear (chars text.now) ≡ true }
         ensures { Receives ⊥ Notes WriteDenies result self.old
             (map action.Print (chars text.now)) self.new }
     {
-        self.spell.receive_str(text)
+        match self.spell.receive_str(text) {
+            Ok(()) => {
+                self.before = last_char(self.before, text);
+                Ok(())
+            }
+            Err(error) => Err(error),
+        }
     }
 
     // Appends what is written of a character.
     #[inline]
     fn append_char(&mut self, c: char) -> Result<(), AllocError>
         ensures ok { OnOk result
-            (Writes self.old (in_guard self.old.guard (print c)) self.new) }
+            (Writes self.old (in_guard self.old.guard self.old.before (print c)) self.new) }
         ensures refused { OnErr result (Refused A) }
     {
         if self.guard.keeps_characters() {
@@ -155,13 +171,28 @@ impl<A: Allocator> Written<A> {
 
     // Appends what is written in place of a character that deceives.
     fn append_instead(&mut self, c: char) -> Result<(), AllocError>
-        ensures ok { OnOk result (Writes self.old (instead self.old.guard.characters c) self.new) }
+        ensures ok { OnOk result (Writes self.old
+            (instead self.old.guard.characters self.old.before c) self.new) }
         ensures refused { OnErr result (Refused A) }
     {
         match self.guard.characters {
             Unicode::Keep => self.append_kept(c),
+            Unicode::Join => self.append_joined(c),
             Unicode::Show => self.append_number(c),
             Unicode::Drop => Ok(()),
+        }
+    }
+
+    // Appends a character that deceives where it belongs to the one before it, or else its number.
+    fn append_joined(&mut self, c: char) -> Result<(), AllocError>
+        ensures ok { OnOk result
+            (Writes self.old (instead Unicode.Join self.old.before c) self.new) }
+        ensures refused { OnErr result (Refused A) }
+    {
+        if may_follow(self.before, c) {
+            self.append_kept(c)
+        } else {
+            self.append_number(c)
         }
     }
 
@@ -174,6 +205,7 @@ impl<A: Allocator> Written<A> {
         match self.spell.text.push(c) {
             Ok(()) => {
                 self.spell.follows_string = false;
+                self.before = Some(c);
                 Ok(())
             }
             Err(error) => Err(error),
@@ -188,6 +220,7 @@ impl<A: Allocator> Written<A> {
         match self.spell.text.push_str(number_text(c).as_str()) {
             Ok(()) => {
                 self.spell.follows_string = false;
+                self.before = Some('>');
                 Ok(())
             }
             Err(error) => Err(error),
@@ -209,6 +242,7 @@ impl<A: Allocator> Written<A> {
         match self.spell.write_short(numbers, b'm') {
             Ok(()) => {
                 self.left.note_short(numbers, params, b'm');
+                self.before = None;
                 Ok(true)
             }
             Err(error) => Err(error),
@@ -233,6 +267,7 @@ impl<A: Allocator> Written<A> {
         match self.spell.write_verbatim(link) {
             Ok(()) => {
                 self.left.note_link::<A>(link);
+                self.before = None;
                 Ok(true)
             }
             Err(error) => Err(error),
@@ -255,6 +290,7 @@ impl<A: Allocator> Written<A> {
             Ok(()) => {
                 self.spell.follows_string = false;
                 self.left.note_control(code);
+                self.before = None;
                 Ok(())
             }
             Err(error) => Err(error),
@@ -268,9 +304,24 @@ impl<A: Allocator> Written<A> {
         ensures refused { OnErr result (Refused A) }
     {
         match self.guard.returns {
-            Returns::Keep => self.append_kept('\r'),
+            Returns::Keep => self.append_kept_return(),
             Returns::Show => self.append_shown_return(),
             Returns::Drop => Ok(()),
+        }
+    }
+
+    // Appends a carriage return.
+    fn append_kept_return(&mut self) -> Result<(), AllocError>
+        ensures ok { OnOk result (Writes self.old (in_return Returns.Keep) self.new) }
+        ensures refused { OnErr result (Refused A) }
+    {
+        match self.spell.text.push('\r') {
+            Ok(()) => {
+                self.spell.follows_string = false;
+                self.before = None;
+                Ok(())
+            }
+            Err(error) => Err(error),
         }
     }
 
@@ -282,6 +333,7 @@ impl<A: Allocator> Written<A> {
         match self.spell.text.push_str("^M") {
             Ok(()) => {
                 self.spell.follows_string = false;
+                self.before = Some('M');
                 Ok(())
             }
             Err(error) => Err(error),
@@ -296,6 +348,7 @@ impl<A: Allocator> Written<A> {
             (λ _. WriteDenies self.old action self.new) }
     {
         self.left.note(&action);
+        self.before = character_of(&action);
         self.spell.receive(action)
     }
 }
@@ -327,7 +380,13 @@ impl<A: Allocator> Sink<Action<A>> for Written<A> {
 
     #[inline]
     fn receive_text(&mut self, text: &[u8]) -> Result<(), AllocError> {
-        self.spell.receive_text(text)
+        match self.spell.receive_text(text) {
+            Ok(()) => {
+                self.before = last_byte(self.before, text);
+                Ok(())
+            }
+            Err(error) => Err(error),
+        }
     }
 
     #[inline]
@@ -344,6 +403,7 @@ impl<A: Allocator> Sink<Action<A>> for Written<A> {
             return match self.spell.write_short(numbers, control) {
                 Ok(()) => {
                     self.left.note_short(numbers, params, control);
+                    self.before = None;
                     Ok(true)
                 }
                 Err(error) => Err(error),
@@ -358,6 +418,7 @@ impl<A: Allocator> Sink<Action<A>> for Written<A> {
         {
             Ok(true) => {
                 self.left.note_sequence(is_on, params, control);
+                self.before = None;
                 Ok(true)
             }
             Ok(false) => Ok(false),
@@ -368,7 +429,14 @@ impl<A: Allocator> Sink<Action<A>> for Written<A> {
     #[inline]
     fn receive_command(&mut self, text: &[u8]) -> Result<bool, AllocError> {
         if leaves_all::<A>(text) {
-            return self.spell.receive_command(text);
+            return match self.spell.receive_command(text) {
+                Ok(true) => {
+                    self.before = None;
+                    Ok(true)
+                }
+                Ok(false) => Ok(false),
+                Err(error) => Err(error),
+            };
         }
         self.append_link(text)
     }
@@ -383,6 +451,29 @@ impl<A: Allocator> Sink<Action<A>> for Written<A> {
     #[inline]
     fn drops_images(&self) -> bool {
         false
+    }
+}
+
+// The character that it is, where it is one.
+#[inline]
+fn character_of<A: Allocator>(action: &Action<A>) -> Option<char>
+    ensures { result ≡ character_of (value_of action.now) }
+{
+    match action {
+        Action::Print(c) => Some(*c),
+        _ => None,
+    }
+}
+
+// The last of these characters of ASCII, or the one before them where there are none.
+#[inline]
+fn last_byte(before: Option<char>, text: &[u8]) -> Option<char>
+    ensures { result ≡ last_of before text.now }
+{
+    if text.is_empty() {
+        before
+    } else {
+        Some(text[text.len() - 1] as char)
     }
 }
 

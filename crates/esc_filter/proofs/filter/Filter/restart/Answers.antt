@@ -1,7 +1,8 @@
-use Rattle.std.proofs.Common.{Some, false, sym, ap, ◌∙◌}
+use Rattle.std.proofs.Common.{None, Some, false, sym, ap, ◌∙◌}
 use Rattle.esc_filter.proofs.Characters.{of_nothing}
 use Rattle.esc_actions.proofs.Meanings.{meaning_nil}
 use Rattle.esc_filter.proofs.filter.Filter.restart.Goals as goal
+use Rattle.esc_filter.specs.Characters.{last_after}
 use Rattle.esc_filter.specs.Closing.{after_values}
 use Rattle.esc_filter.specs.Terminal.{unchanged}
 use Rattle.esc_filter.specs.Fed.{policy_of}
@@ -19,5 +20,6 @@ returns-clause-fed g c = λ b u limit s h.
         n.1 ∙ ap (λ vs. after_values vs unchanged) (of_nothing u admits nil),
         n.2 ∙ h.1.2,
         n.3 ∙ h.1.3,
+        n.4 ∙ ap (last_after None) (of_nothing u admits nil),
       ),
     )

@@ -1,4 +1,4 @@
-use Rattle.std.proofs.Common.{◌++◌, refl, false, ap, ◌∙◌}
+use Rattle.std.proofs.Common.{◌++◌, Some, refl, false, ap, ◌∙◌}
 use Rattle.esc_filter.proofs.Characters.{writes_number}
 use Rattle.esc_filter.proofs.written.Written.append_number.Goals as goal
 
@@ -10,8 +10,9 @@ returns-in-Ok-clause-ok g c =
         text = c.push_str.new.self;
         follows_string = false;
       };
+      before = Some 0x3e;
     })
     c.args.c
     (c.in-Ok.ensures.ok ∙ ap (λ x. c.args.self.now.spell.text ++ x)
     (c.as_str.ensures.value ∙ c.number_text.ensures))
-    refl refl refl refl
+    refl refl refl refl refl
