@@ -1,5 +1,5 @@
 -- A character that passes at once.
-use Rattle.std.proofs.Common.{ℕ, ◌≡◌, ◌<◌, Bool, true, false, ◌&&◌, List, [], ◌∷◌, length, bytes_eq, get_or, refl, sym, ap, ◌∙◌, subst, append-nil, true≢false, arith}
+use Rattle.std.proofs.Common.{Option, Some, ℕ, ◌≡◌, ◌<◌, Bool, true, false, ◌&&◌, List, [], ◌∷◌, length, bytes_eq, get_or, refl, sym, ap, ◌∙◌, subst, append-nil, true≢false, arith}
 use Rattle.std.specs.List.{list_all}
 use Rattle.std.proofs.lemmas.Bool.Decides.{nat_tests}
 use Rattle.std.proofs.lemmas.Slice.Eq.{bytes_eq-Decides}
@@ -18,22 +18,24 @@ use Rattle.esc_segments.specs.Items.{kind_of}
 use Rattle.esc_actions.specs.Texts.{list_text}
 use Rattle.esc_actions.specs.Values.{Value, print}
 use Rattle.esc_filter.specs.declared.guard.Guard.{Guard}
-use Rattle.esc_account.specs.Rules.{drops, rule_of, shows}
+use Rattle.esc_account.specs.Rules.{drops, rule_of}
 use Rattle.esc_account.specs.declared.fate.Fate.TheVariants as fates
+use Rattle.esc_account.specs.declared.verdict.Verdict.{Verdict}
 
 module _ {A : Type 0} (limit : ℕ) (admits : Value A → Bool) where
   no : (x : Bool) → (x && false) ≡ false
   no true = refl
   no false = refl
 
-  one : (by_lines : Bool) (u : Guard) (b : ℕ) (finished : Bool) → is_deceiving b ≡ false
-      → admits (print b) ≡ true → list_text {A = A} (print b ∷ []) ≡ b ∷ []
-      → bytes_eq (b ∷ []) (b ∷ []) ≡ true
-      → rule_of by_lines u limit admits (Character b) finished ≡ fates.Passed
-  one true u b finished d h t e =
-      rw (d, h, t, e, no (drops u.characters), no (shows u.characters)) refl
-  one false u b finished d h t e =
-      rw (d, h, t, e, no (drops u.characters), no (shows u.characters)) refl
+  abbrev passed : ℕ → Verdict
+  passed b = record { fate = fates.Passed; before = Some b }
+
+  one : (by_lines : Bool) (u : Guard) (l : Option ℕ) (b : ℕ) (finished : Bool)
+      → is_deceiving b ≡ false → admits (print b) ≡ true
+      → list_text {A = A} (print b ∷ []) ≡ b ∷ [] → bytes_eq (b ∷ []) (b ∷ []) ≡ true
+      → rule_of by_lines u limit admits l (Character b) finished ≡ passed b
+  one true u l b finished d h t e = rw (d, h, t, e, no (drops u.characters)) refl
+  one false u l b finished d h t e = rw (d, h, t, e, no (drops u.characters)) refl
 
   -- the same of a segment of one byte
   abbrev is_character : SegmentKind → Bool
@@ -54,31 +56,32 @@ module _ {A : Type 0} (limit : ℕ) (admits : Value A → Bool) where
   head_same : (a b : ℕ) → a ∷ [] ≡ b ∷ [] → a ≡ b
   head_same a b e = ap (λ x. get_or x 0 0) e
 
-  pub at_once : (by_lines : Bool) (u : Guard) (g : Shape) (after : List ℕ) (finished : Bool)
-      (b : ℕ) → HasShape g after → kind_of g ≡ kinds.Character → bytes_of g ≡ b ∷ []
+  pub at_once : (by_lines : Bool) (u : Guard) (l : Option ℕ) (g : Shape) (after : List ℕ)
+      (finished : Bool) (b : ℕ) → HasShape g after → kind_of g ≡ kinds.Character
+      → bytes_of g ≡ b ∷ []
       → is_data_byte b ≡ true → admits (print b) ≡ true
-      → rule_of by_lines u limit admits g finished ≡ fates.Passed
-  at_once by_lines u (Character c) after finished b shape k e plain h =
+      → rule_of by_lines u limit admits l g finished ≡ passed b
+  at_once by_lines u l (Character c) after finished b shape k e plain h =
       let same = head_same c b e in
-      subst (λ x. rule_of by_lines u limit admits (Character x) finished ≡ fates.Passed) (sym same)
-      (one by_lines u b finished (low_plain b (omega (arith, data_low b plain))) h
+      subst (λ x. rule_of by_lines u limit admits l (Character x) finished ≡ passed b) (sym same)
+      (one by_lines u l b finished (low_plain b (omega (arith, data_low b plain))) h
       (append-nil (encode_utf8 b) ∙ encode_ascii b (data_low b plain))
       ((bytes_eq-Decides (b ∷ []) (b ∷ [])).1 refl))
-  at_once by_lines u (Wide x) after finished b shape k e plain h = absurd (short x b shape.0 e)
-  at_once by_lines u (Broken x) after finished b shape k e plain h = not_character _ refl k
-  at_once by_lines u (Stray c) after finished b shape k e plain h = not_character _ refl k
-  at_once by_lines u (Control c) after finished b shape k e plain h = not_character _ refl k
-  at_once by_lines u (HighControl p c) after finished b shape k e plain h = not_character _ refl k
-  at_once by_lines u (Terminator p c) after finished b shape k e plain h = not_character _ refl k
-  at_once by_lines u (Escape x f) after finished b shape k e plain h = not_character _ refl k
-  at_once by_lines u (Csi o x f) after finished b shape k e plain h = not_character _ refl k
-  at_once by_lines u (Osc o ps d) after finished b shape k e plain h = not_character _ refl k
-  at_once by_lines u (Dcs o x f d) after finished b shape k e plain h = not_character _ refl k
-  at_once by_lines u (Apc o d) after finished b shape k e plain h = not_character _ refl k
-  at_once by_lines u (Ignored i o d) after finished b shape k e plain h = not_character _ refl k
-  at_once by_lines u (CutEscape x) after finished b shape k e plain h = not_character _ refl k
-  at_once by_lines u (CutCsi o x) after finished b shape k e plain h = not_character _ refl k
-  at_once by_lines u (CutDcs o x) after finished b shape k e plain h = not_character _ refl k
+  at_once by_lines u l (Wide x) after finished b shape k e plain h = absurd (short x b shape.0 e)
+  at_once by_lines u l (Broken x) after finished b shape k e plain h = not_character _ refl k
+  at_once by_lines u l (Stray c) after finished b shape k e plain h = not_character _ refl k
+  at_once by_lines u l (Control c) after finished b shape k e plain h = not_character _ refl k
+  at_once by_lines u l (HighControl p c) after finished b shape k e plain h = not_character _ refl k
+  at_once by_lines u l (Terminator p c) after finished b shape k e plain h = not_character _ refl k
+  at_once by_lines u l (Escape x f) after finished b shape k e plain h = not_character _ refl k
+  at_once by_lines u l (Csi o x f) after finished b shape k e plain h = not_character _ refl k
+  at_once by_lines u l (Osc o ps d) after finished b shape k e plain h = not_character _ refl k
+  at_once by_lines u l (Dcs o x f d) after finished b shape k e plain h = not_character _ refl k
+  at_once by_lines u l (Apc o d) after finished b shape k e plain h = not_character _ refl k
+  at_once by_lines u l (Ignored i o d) after finished b shape k e plain h = not_character _ refl k
+  at_once by_lines u l (CutEscape x) after finished b shape k e plain h = not_character _ refl k
+  at_once by_lines u l (CutCsi o x) after finished b shape k e plain h = not_character _ refl k
+  at_once by_lines u l (CutDcs o x) after finished b shape k e plain h = not_character _ refl k
 
 pub one_byte : (x : List ℕ) → length x ≡ 1 → x ≡ get_or x 0 0 ∷ []
 one_byte [] e = absurd (omega (arith, e))

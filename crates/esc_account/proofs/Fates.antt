@@ -1,5 +1,5 @@
 -- Which fate the rule of a policy gives.
-use Rattle.std.proofs.Common.{ℕ, ◌≡◌, ◌-◌, inl, inr, Bool, true, false, not, ◌&&◌, ◌||◌, ◌==◌, if◌then◌else◌, List, [], ◌∷◌, ◌++◌, length, take, drop, map, bytes_eq, refl, ap, sym, ◌∙◌}
+use Rattle.std.proofs.Common.{Option, ℕ, ◌≡◌, ◌-◌, inl, inr, Bool, true, false, not, ◌&&◌, ◌||◌, ◌==◌, if◌then◌else◌, List, [], ◌∷◌, ◌++◌, length, take, drop, map, bytes_eq, refl, ap, sym, ◌∙◌}
 use Rattle.std.proofs.lemmas.Bool.{and_parts, eqb-true}
 use Rattle.std.proofs.lemmas.List.{take-append-drop}
 use Rattle.std.proofs.lemmas.Slice.Eq.{bytes_eq-Decides}
@@ -10,13 +10,14 @@ use Rattle.esc_actions.specs.Values.{Value, value_of}
 use Rattle.esc_actions.specs.declared.action.Action.{Action}
 use Rattle.esc_filter.specs.declared.guard.Guard.{Guard}
 use Rattle.esc_account.specs.Accounts.{is_end}
-use Rattle.esc_account.specs.Rules.{IsAsItCame, fate_of, is_own, is_replaced, is_shown, is_spelled, is_written, spelling_of}
+use Rattle.esc_account.specs.Rules.{IsAsItCame, before_after, fate_of, is_own, is_replaced, is_shown, is_spelled, is_written, spelling_of}
 use Rattle.esc_account.specs.declared.fate.Fate.{Fate}
 use Rattle.esc_account.specs.declared.fate.Fate.TheVariants as fates
+use Rattle.esc_account.specs.declared.verdict.Verdict.{Verdict}
 use Rattle.esc_account.proofs.Values.{all_map, any_map}
 
-module _ {A : Type 0} (by_lines : Bool) (u : Guard) (admits : Value A → Bool) (k : SegmentKind)
-    (bytes : List ℕ) (actions : List (Action A)) where
+module _ {A : Type 0} (by_lines : Bool) (u : Guard) (admits : Value A → Bool) (b : Option ℕ)
+    (k : SegmentKind) (bytes : List ℕ) (actions : List (Action A)) where
   abbrev Vs : List (Value A)
   Vs = map (value_of {A = A}) actions
 
@@ -31,7 +32,7 @@ module _ {A : Type 0} (by_lines : Bool) (u : Guard) (admits : Value A → Bool) 
   Replaced r t = (r ≡ is_replaced k) × (r ≡ t)
 
   abbrev Shown : Bool → Bool → Type 0
-  Shown r t = (r ≡ list_any (λ a. is_shown u (value_of a)) actions) × (r ≡ t)
+  Shown r t = (r ≡ list_any (λ a. is_shown u b (value_of a)) actions) × (r ≡ t)
 
   own_is : (r t : Bool) → Own r t → list_any (is_own k) Vs ≡ t
   own_is r t h = any_map (is_own k) value_of actions ∙ sym h.0 ∙ h.1
@@ -42,11 +43,11 @@ module _ {A : Type 0} (by_lines : Bool) (u : Guard) (admits : Value A → Bool) 
   replaced_is : (r t : Bool) → Replaced r t → is_replaced k ≡ t
   replaced_is r t h = sym h.0 ∙ h.1
 
-  shown_is : (r t : Bool) → Shown r t → list_any (is_shown u) Vs ≡ t
-  shown_is r t h = any_map (is_shown u) value_of actions ∙ sym h.0 ∙ h.1
+  shown_is : (r t : Bool) → Shown r t → list_any (is_shown u b) Vs ≡ t
+  shown_is r t h = any_map (is_shown u b) value_of actions ∙ sym h.0 ∙ h.1
 
   abbrev Is : Fate → Type 0
-  Is f = f ≡ fate_of by_lines u admits k bytes Vs
+  Is f = f ≡ fate_of by_lines u admits b k bytes Vs
 
   pub swallowed : (o : Bool) → Own o false → Is fates.Swallowed
   swallowed o own = rw (own_is o false own) refl
@@ -71,20 +72,33 @@ module _ {A : Type 0} (by_lines : Bool) (u : Guard) (admits : Value A → Bool) 
       rw (own_is o true own, written_is w true all, replaced_is r false rep, shown_is s false sh)
       refl
 
+abbrev verdict_of : Fate → Option ℕ → Verdict
+verdict_of f b = record { fate = f; before = b }
+
 -- of the same kind, bytes and values
 pub same_fate : {A : Type 0} (by_lines : Bool) (u : Guard) (admits : Value A → Bool)
-    (k l : SegmentKind) (x y : List ℕ) (vs ws : List (Value A)) → k ≡ l → x ≡ y → vs ≡ ws
-    → fate_of by_lines u admits k x vs ≡ fate_of by_lines u admits l y ws
-same_fate by_lines u admits k l x y vs ws e f h =
-    ap (λ z. fate_of by_lines u admits z x vs) e ∙ ap (λ z. fate_of by_lines u admits l z vs) f
-    ∙ ap (fate_of by_lines u admits l y) h
+    (b : Option ℕ) (k l : SegmentKind) (x y : List ℕ) (vs ws : List (Value A)) → k ≡ l → x ≡ y
+    → vs ≡ ws → fate_of by_lines u admits b k x vs ≡ fate_of by_lines u admits b l y ws
+same_fate by_lines u admits b k l x y vs ws e f h =
+    ap (λ z. fate_of by_lines u admits b z x vs) e
+    ∙ ap (λ z. fate_of by_lines u admits b l z vs) f ∙ ap (fate_of by_lines u admits b l y) h
+
+pub same_verdict : {A : Type 0} (by_lines : Bool) (u : Guard) (admits : Value A → Bool)
+    (b : Option ℕ) (k l : SegmentKind) (x y : List ℕ) (vs ws : List (Value A)) → k ≡ l → x ≡ y
+    → vs ≡ ws
+    → verdict_of (fate_of by_lines u admits b k x vs) (before_after u admits b vs)
+    ≡ verdict_of (fate_of by_lines u admits b l y ws) (before_after u admits b ws)
+same_verdict by_lines u admits b k l x y vs ws e f h =
+    ap (λ z. verdict_of z (before_after u admits b vs))
+    (same_fate by_lines u admits b k l x y vs ws e f h)
+    ∙ ap (λ z. verdict_of (fate_of by_lines u admits b l y ws) (before_after u admits b z)) h
 
 -- ---- what a fate says
 
 pub nothing_told : {A : Type 0} (by_lines : Bool) (u : Guard) (admits : Value A → Bool)
-    (k : SegmentKind) (bytes : List ℕ) (vs : List (Value A)) → vs ≡ []
-    → fate_of by_lines u admits k bytes vs ≡ fates.Swallowed
-nothing_told by_lines u admits k bytes vs e = ap (fate_of by_lines u admits k bytes) e
+    (b : Option ℕ) (k : SegmentKind) (bytes : List ℕ) (vs : List (Value A)) → vs ≡ []
+    → fate_of by_lines u admits b k bytes vs ≡ fates.Swallowed
+nothing_told by_lines u admits b k bytes vs e = ap (fate_of by_lines u admits b k bytes) e
 
 passed_by : (own all rep some as_came : Bool)
     → (if not own then fates.Swallowed else if not all then fates.LeftOut
@@ -99,13 +113,13 @@ passed_by true true false false false h = absurd cc
 passed_by true true false false true h = (refl, refl)
 
 pub passed_is : {A : Type 0} (by_lines : Bool) (u : Guard) (admits : Value A → Bool)
-    (k : SegmentKind) (bytes : List ℕ) (vs : List (Value A))
-    → fate_of by_lines u admits k bytes vs ≡ fates.Passed
+    (b : Option ℕ) (k : SegmentKind) (bytes : List ℕ) (vs : List (Value A))
+    → fate_of by_lines u admits b k bytes vs ≡ fates.Passed
     → (list_all (is_written by_lines u admits) vs ≡ true)
     × (is_spelled bytes (list_text vs) ≡ true)
-passed_is by_lines u admits k bytes vs h =
+passed_is by_lines u admits b k bytes vs h =
     passed_by (list_any (is_own k) vs) (list_all (is_written by_lines u admits) vs)
-    (is_replaced k) (list_any (is_shown u) vs) (is_spelled bytes (list_text vs)) h
+    (is_replaced k) (list_any (is_shown u b) vs) (is_spelled bytes (list_text vs)) h
 
 end_is : (x : List ℕ) → is_end x ≡ true → x ≡ 0x1b ∷ 0x5c ∷ []
 end_is [] h = absurd cc

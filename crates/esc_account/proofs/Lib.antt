@@ -12,3 +12,4 @@ pub mod LinesRun
 pub mod AtOnce
 pub mod Standing
 pub mod Finishing
+pub mod LastWritten

@@ -62,12 +62,14 @@ passed_twice u v x =
     ap (λ k. record {
       sums = record x.sums { passed = k };
       string = None;
+      before = None;
       lines = x.lines + feeds u + feeds v;
     }) (more_passed x.sums.passed (length u) (length v)
     ∙ ap (λ n. x.sums.passed + n) (sym (length-append u v)))
     ∙ ap (λ k. record {
       sums = record x.sums { passed = x.sums.passed + length (u ++ v) };
       string = None;
+      before = None;
       lines = k;
     }) (more_passed x.lines (feeds u) (feeds v)
     ∙ ap (λ n. x.lines + n) (sym (feeds_more u v)))

@@ -10,10 +10,12 @@ use Rattle.esc_account.specs.declared.account.Account.{Account}
 use Rattle.esc_account.specs.declared.fate.Fate.{Fate}
 use Rattle.esc_account.specs.declared.fate.Fate.TheVariants as fates
 use Rattle.esc_account.specs.declared.sums.Sums.{Sums}
+use Rattle.esc_account.specs.declared.verdict.Verdict.{Verdict}
 
--- what becomes of a segment by itself, finished or not
+-- what becomes of a segment by itself, finished or not, after this character, where one was written
+-- last
 abbrev pub Rule : Type 0
-Rule = Shape → Bool → Fate
+Rule = Option ℕ → Shape → Bool → Verdict
 
 -- ---- sums
 
@@ -101,19 +103,20 @@ feeds (b ∷ s) = if is_line_feed b then 1 + feeds s else feeds s
 
 -- of no byte
 abbrev pub begun : Account
-begun = record { sums = nothing; string = None; lines = 0 }
+begun = record { sums = nothing; string = None; before = None; lines = 0 }
 
 -- after a segment of this kind and these bytes, which by itself becomes this
-abbrev pub entered_as : Account → SegmentKind → List ℕ → Fate → Account
+abbrev pub entered_as : Account → SegmentKind → List ℕ → Verdict → Account
 entered_as x k bytes own = record {
-  sums = added (fate_after x.string k bytes own) (length bytes) x.sums;
-  string = carried k bytes (fate_after x.string k bytes own);
+  sums = added (fate_after x.string k bytes own.fate) (length bytes) x.sums;
+  string = carried k bytes (fate_after x.string k bytes own.fate);
+  before = own.before;
   lines = x.lines + feeds bytes;
 }
 
 -- after a segment, finished or not
 abbrev pub step : Rule → Account → Shape → Bool → Account
-step r x g finished = entered_as x (kind_of g) (bytes_of g) (r g finished)
+step r x g finished = entered_as x (kind_of g) (bytes_of g) (r x.before g finished)
 
 -- after segments, one after another: each is finished where what comes after it finishes it
 abbrev pub run : Rule → Account → List Shape → Account
@@ -148,9 +151,10 @@ abbrev pub all_passed : List ℕ → Account → Account
 all_passed bytes x = record {
   sums = added fates.Passed (length bytes) x.sums;
   string = None;
+  before = None;
   lines = x.lines + feeds bytes;
 }
 
--- where a line begins, no string came before
+-- where a line begins, no string came before, and no character
 abbrev pub line_begun : Account → Account
-line_begun x = record x { string = None }
+line_begun x = record x { string = None; before = None }

@@ -41,7 +41,8 @@ entry_as x k bytes finished own = record {
 
 -- that of a segment after x
 abbrev pub entry_of : Rule → Account → Shape → Bool → Entry
-entry_of r x g finished = entry_as x (kind_of g) (bytes_of g) finished (r g finished)
+entry_of r x g finished =
+    entry_as x (kind_of g) (bytes_of g) finished (r x.before g finished).fate
 
 -- those of segments after x
 abbrev pub entries : Rule → Account → List Shape → List Entry

@@ -1,7 +1,8 @@
 -- What becomes of a segment where a policy says which values pass: its own values tell it.
-use Rattle.std.specs.Prelude.{ℕ, ◌≡◌, ◌⊎◌, ◌-◌, Bool, true, false, not, ◌&&◌, ◌||◌, if◌then◌else◌, List, [], ◌∷◌, ◌++◌, length, take, drop, bytes_eq, Some}
+use Rattle.std.specs.Prelude.{ℕ, ◌≡◌, ◌⊎◌, ◌-◌, Bool, true, false, not, ◌&&◌, ◌||◌, if◌then◌else◌, List, [], ◌∷◌, ◌++◌, length, take, drop, bytes_eq, Option, None, Some}
 use Rattle.std.specs.List.{list_all, list_any}
 use Rattle.esc_visible.specs.Characters.{is_deceiving}
+use Rattle.esc_visible.specs.Following.{may_follow}
 use Rattle.esc_frame.specs.Segments.{Segment as Shape, bytes_of}
 use Rattle.esc_segments.specs.declared.kind.SegmentKind.{SegmentKind}
 use Rattle.esc_segments.specs.declared.kind.SegmentKind.TheVariants as kinds
@@ -15,10 +16,11 @@ use Rattle.esc_filter.specs.declared.guard.Guard.{Guard}
 use Rattle.esc_filter.specs.declared.returns.Returns.{Returns}
 use Rattle.esc_filter.specs.declared.returns.Returns.TheVariants as way
 use Rattle.esc_filter.specs.declared.unicode.Unicode.{Unicode}
-use Rattle.esc_filter.specs.declared.unicode.Unicode.TheVariants.{Drop, Show}
+use Rattle.esc_filter.specs.declared.unicode.Unicode.TheVariants.{Drop, Join, Keep, Show}
 use Rattle.esc_account.specs.Accounts.{is_end}
 use Rattle.esc_account.specs.declared.fate.Fate.{Fate}
 use Rattle.esc_account.specs.declared.fate.Fate.TheVariants as fates
+use Rattle.esc_account.specs.declared.verdict.Verdict.{Verdict}
 
 abbrev pub drops : Unicode → Bool
 drops Drop = true
@@ -28,9 +30,11 @@ abbrev pub drops_returns : Returns → Bool
 drops_returns way.Drop = true
 drops_returns _ = false
 
-abbrev pub shows : Unicode → Bool
-shows Show = true
-shows _ = false
+-- the number of a character that deceives is written in its place, after this character
+abbrev pub shows : Unicode → Option ℕ → ℕ → Bool
+shows Show b c = true
+shows Join b c = not (may_follow b c)
+shows _ b c = false
 
 abbrev pub shows_returns : Returns → Bool
 shows_returns way.Show = true
@@ -42,11 +46,40 @@ is_dropped u (print c) = drops u.characters && is_deceiving c
 is_dropped u (control c) = drops_returns u.returns && is_return c
 is_dropped u _ = false
 
--- visible text is written in its place
-abbrev pub is_shown : {A : Type 0} → Guard → Value A → Bool
-is_shown u (print c) = shows u.characters && is_deceiving c
-is_shown u (control c) = shows_returns u.returns && is_return c
-is_shown u _ = false
+-- visible text is written in its place, after this character
+abbrev pub is_shown : {A : Type 0} → Guard → Option ℕ → Value A → Bool
+is_shown u b (print c) = is_deceiving c && shows u.characters b c
+is_shown u b (control c) = shows_returns u.returns && is_return c
+is_shown u b _ = false
+
+-- the character that is written last of one that deceives, after this one: `>` of a number
+abbrev pub last_instead : Unicode → Option ℕ → ℕ → Option ℕ
+last_instead Keep b c = Some c
+last_instead Join b c = if may_follow b c then Some c else Some 0x3e
+last_instead Show b c = Some 0x3e
+last_instead Drop b c = b
+
+-- of a carriage return: none of it itself, and `M` where it is shown
+abbrev pub last_return : Returns → Option ℕ → Option ℕ
+last_return way.Keep b = None
+last_return way.Show b = Some 0x4d
+last_return way.Drop b = b
+
+-- of what is written of a value
+abbrev pub last_written : {A : Type 0} → Guard → Option ℕ → Value A → Option ℕ
+last_written u b (print c) = if is_deceiving c then last_instead u.characters b c else Some c
+last_written u b (control c) = if is_return c then last_return u.returns b else None
+last_written u b _ = None
+
+-- the character that comes before what is written next, after this one and what is written of these
+-- values
+abbrev pub before_next : {A : Type 0} → Guard → (Value A → Bool) → Option ℕ → Value A → Option ℕ
+before_next u admits b v = if passes admits v then last_written u b v else b
+
+abbrev pub before_after : {A : Type 0} → Guard → (Value A → Bool) → Option ℕ → List (Value A)
+    → Option ℕ
+before_after u admits b [] = b
+before_after u admits b (v ∷ vs) = before_after u admits (before_next u admits b v) vs
 
 -- Something is written of it. Where lines are streams of their own, each is written with its line
 -- feed, whatever the policy says.
@@ -89,18 +122,23 @@ IsAsItCame bytes text = (text ≡ bytes) ⊎ (text ≡ bytes ++ 0x1b ∷ 0x5c �
 abbrev pub spelling_of : List ℕ → List ℕ → Fate
 spelling_of bytes text = if is_spelled bytes text then fates.Passed else fates.Respelled
 
--- What becomes of a segment of this kind, these bytes and these values. One that means nothing of
--- its own is swallowed; and one of which any value is not written is left out whole.
-abbrev pub fate_of : {A : Type 0} → Bool → Guard → (Value A → Bool) → SegmentKind → List ℕ
-    → List (Value A) → Fate
-fate_of by_lines u admits k bytes vs =
+-- What becomes of a segment of this kind, these bytes and these values, after this character. One
+-- that means nothing of its own is swallowed; and one of which any value is not written is left out
+-- whole.
+abbrev pub fate_of : {A : Type 0} → Bool → Guard → (Value A → Bool) → Option ℕ → SegmentKind
+    → List ℕ → List (Value A) → Fate
+fate_of by_lines u admits b k bytes vs =
     if not (list_any (is_own k) vs) then fates.Swallowed
     else if not (list_all (is_written by_lines u admits) vs) then fates.LeftOut
     else if is_replaced k then fates.Replaced
-    else if list_any (is_shown u) vs then fates.Shown
+    else if list_any (is_shown u b) vs then fates.Shown
     else spelling_of bytes (list_text vs)
 
 -- what becomes of a segment: by its reading under the limit
-abbrev pub rule_of : {A : Type 0} → Bool → Guard → ℕ → (Value A → Bool) → Shape → Bool → Fate
-rule_of by_lines u limit admits g finished =
-    fate_of by_lines u admits (kind_of g) (bytes_of g) (reading_within (Some limit) g finished)
+abbrev pub rule_of : {A : Type 0} → Bool → Guard → ℕ → (Value A → Bool) → Option ℕ → Shape
+    → Bool → Verdict
+rule_of by_lines u limit admits b g finished = record {
+  fate = fate_of by_lines u admits b (kind_of g) (bytes_of g)
+      (reading_within (Some limit) g finished);
+  before = before_after u admits b (reading_within (Some limit) g finished);
+}

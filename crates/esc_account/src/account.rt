@@ -18,6 +18,7 @@ use crate::judge::Judge;
 use crate::line_run::ends_so;
 use crate::sums::Sums;
 use crate::terminator::{awaits_terminator, fate_after, is_terminator};
+use crate::verdict::Verdict;
 use esc_frame::laws;
 use esc_segments::{Segment, SegmentKind, Segments};
 use std::alloc::{AllocError, Allocator};
@@ -37,6 +38,8 @@ pub struct Account {
     /// The fate of the string that came last, where nothing came after it: the terminator that ends
     /// it goes the same way.
     pub string: Option<Fate>,
+    /// The character that was written last, where it comes before what is written next.
+    pub before: Option<char>,
     /// How many line feeds they have.
     pub lines: u64,
 }
@@ -49,6 +52,7 @@ impl Account {
         Account {
             sums: Sums::new(),
             string: None,
+            before: None,
             lines: 0,
         }
     }
@@ -64,6 +68,7 @@ impl Account {
         Account {
             sums: self.sums.with(Fate::Passed, bytes.len() as u64),
             string: None,
+            before: None,
             lines: self.lines + feeds(bytes),
         }
     }
@@ -159,6 +164,7 @@ impl Account {
             let begun = Account {
                 sums: self.sums,
                 string: None,
+                before: None,
                 lines: self.lines,
             };
             begun.line_run(judge, book, line, ends_so(written))
@@ -181,19 +187,19 @@ impl Account {
             → OnOk result (B.was_given book.new (es ++ noted
             (entry_of (J.rule judge.now) self g (is_finished g (joined gs)) ∷ []))) }
     {
-        match judge.fate(segment) {
+        match judge.verdict(self.before, segment) {
             Ok(own) => self.written(book, segment, own),
             Err(error) => Err(error),
         }
     }
 
-    // The account of a segment too, which by itself has this fate: it is written into the book,
+    // The account of a segment too, of which by itself this becomes: it is written into the book,
     // unless it passed.
     fn written<A: Allocator, B: Book<A>>(
         self,
         book: &mut B,
         segment: Segment<'_>,
-        own: Fate,
+        own: Verdict,
     ) -> Result<Account, AllocError>
         requires room { HasRoom self (length segment.bytes.now) }
         ensures entered { IfOk result (λ x. x ≡ entered_as self segment.entry.kind
@@ -202,9 +208,9 @@ impl Account {
             × OnErr result (Refused A) }
         ensures given { (es : List Told) → B.was_given book.old es
             → OnOk result (B.was_given book.new (es ++ noted (entry_as self segment.entry.kind
-            segment.entry.bytes.now segment.entry.finished own ∷ []))) }
+            segment.entry.bytes.now segment.entry.finished own.fate ∷ []))) }
     {
-        match self.note(book, segment, own) {
+        match self.note(book, segment, own.fate) {
             Ok(()) => Ok(self.after(segment.kind, segment.bytes, own)),
             Err(error) => Err(error),
         }
@@ -244,18 +250,19 @@ impl Account {
         self.sums.total() as u64
     }
 
-    // After a segment of this kind and these bytes, which by itself has this fate.
+    // After a segment of this kind and these bytes, of which by itself this becomes.
     #[tactic(auto, using(crate::proofs::Totals::total_added, crate::proofs::LineCounts::few_feeds))]
-    fn after(self, kind: SegmentKind, bytes: &[u8], own: Fate) -> Account
+    fn after(self, kind: SegmentKind, bytes: &[u8], own: Verdict) -> Account
         requires room { HasRoom self (length bytes.now) }
         ensures entered { result ≡ entered_as self kind bytes.now own }
         ensures counts { Counts self (length bytes.now) result }
     {
-        let fate = fate_after(self.string, kind, bytes, own);
+        let fate = fate_after(self.string, kind, bytes, own.fate);
         let sums = self.sums.with(fate, bytes.len() as u64);
         Account {
             sums,
             string: carried(kind, bytes, fate),
+            before: own.before,
             lines: self.lines + feeds(bytes),
         }
     }

@@ -2,7 +2,7 @@
 //! policy.
 #![tactic(auto)]
 
-ghost use Rattle.std.specs.Prelude.{◌≡◌, ◌++◌, ◌∷◌, ◌<◌, ℕ, Bool, List, Some, [], false, length, true};
+ghost use Rattle.std.specs.Prelude.{◌≡◌, ◌++◌, ◌∷◌, ◌<◌, ℕ, Bool, List, Option, Some, [], false, length, true};
 ghost use Rattle.std.specs.List.{list_all};
 ghost use Rattle.esc_frame.specs.Segments.{Segment as Shape, bytes_of, joined};
 ghost use Rattle.esc_frame.specs.Stream.{IsAtGround};
@@ -14,7 +14,8 @@ ghost use Rattle.esc_account.specs.Accounts.{Counts, GoesOn, IsAccount, Rule, al
 ghost use Rattle.esc_account.specs.Entries.{AllLie, Entry, entries};
 ghost use Rattle.esc_account.specs.Ledgers.{HasRun, IsLineAccount, LineRuns};
 ghost use Rattle.esc_filter.specs.Lines.{IsLine, ends_line, has_line_feed};
-ghost use Rattle.esc_account.specs.Rules.{IsAsItCame, is_written, rule_of};
+ghost use Rattle.esc_account.specs.Rules.{IsAsItCame, is_written, last_written, rule_of};
+ghost use Rattle.esc_filter.specs.Characters.{in_guard, last_after};
 ghost use Rattle.esc_account.specs.declared.account.Account.{Account};
 
 use crate::fate::Fate;
@@ -59,20 +60,29 @@ pub fn each_lies_at_its_place()
 /// By the rule of a policy what means nothing is swallowed, so that nothing vanishes from the
 /// account.
 pub fn nothing_vanishes<A: Allocator>()
-    ensures { (by_lines : Bool) (u : Guard) (limit : ℕ) (admits : Value A → Bool) (g : Shape)
-        (finished : Bool) → reading_within {A = A} (Some limit) g finished ≡ []
-        → rule_of by_lines u limit admits g finished ≡ Fate.Swallowed }
+    ensures { (by_lines : Bool) (u : Guard) (limit : ℕ) (admits : Value A → Bool) (b : Option ℕ)
+        (g : Shape) (finished : Bool) → reading_within {A = A} (Some limit) g finished ≡ []
+        → (rule_of by_lines u limit admits b g finished).fate ≡ Fate.Swallowed }
 {}
 
 /// By the rule of a policy all that a segment means is written where the segment passed, and the
 /// text of that is its bytes, as they came, but for the `ESC \` that ends a string.
 pub fn passed_as_it_came<A: Allocator>()
     ensures written { (by_lines : Bool) (u : Guard) (limit : ℕ) (admits : Value A → Bool)
-        (g : Shape) (finished : Bool) → rule_of by_lines u limit admits g finished ≡ Fate.Passed
+        (b : Option ℕ) (g : Shape) (finished : Bool)
+        → (rule_of by_lines u limit admits b g finished).fate ≡ Fate.Passed
         → list_all (is_written by_lines u admits)
         (reading_within {A = A} (Some limit) g finished) ≡ true }
     ensures text { (by_lines : Bool) (u : Guard) (limit : ℕ) (admits : Value A → Bool)
-        (g : Shape) (finished : Bool) → rule_of by_lines u limit admits g finished ≡ Fate.Passed
+        (b : Option ℕ) (g : Shape) (finished : Bool)
+        → (rule_of by_lines u limit admits b g finished).fate ≡ Fate.Passed
         → IsAsItCame (bytes_of g)
         (list_text (reading_within {A = A} (Some limit) g finished)) }
+{}
+
+/// The character that the rule of a policy says comes before what is written next is that which a
+/// filter writes last of a value, after the same character.
+pub fn before_as_written<A: Allocator>()
+    ensures { (u : Guard) (b : Option ℕ) (v : Value A)
+        → last_written u b v ≡ last_after b (in_guard u b v) }
 {}

@@ -33,6 +33,7 @@ mod room;
 mod same_lines;
 pub mod sums;
 mod terminator;
+pub mod verdict;
 mod whole_lines;
 
 pub use account::Account;
@@ -47,3 +48,4 @@ pub use line_ledger::LineLedger;
 pub use policy_judge::PolicyJudge;
 pub use reading::read_segment;
 pub use sums::Sums;
+pub use verdict::Verdict;

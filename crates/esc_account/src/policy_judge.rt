@@ -1,7 +1,7 @@
 //! What becomes of a segment where a policy says which actions pass.
 #![tactic(auto)]
 
-ghost use Rattle.std.specs.Prelude.{◌≡◌, ℕ, Bool, IfOk, IsTrue, List, OnErr, false, map, true};
+ghost use Rattle.std.specs.Prelude.{◌≡◌, ◌<◌, ℕ, Bool, if◌then◌else◌, IfOk, IsTrue, List, None, OnErr, Option, Some, false, get_or, length, map, true};
 ghost use Rattle.esc_frame.specs.Scans.{is_data_byte};
 ghost use Rattle.esc_frame.specs.Segments.{HasShape, Segment as Shape};
 ghost use Rattle.esc_segments.specs.Items.{IsItem};
@@ -11,16 +11,19 @@ ghost use Rattle.esc_actions.specs.Values.{value_of};
 ghost use Rattle.esc_actions.specs.Writable.{AreHandedOut};
 ghost use Rattle.memory.specs.Refusals.{Refused};
 ghost use Rattle.esc_filter.specs.Characters.{is_return, of_unicode};
+ghost use Rattle.esc_visible.specs.Characters.{is_deceiving};
 ghost use Rattle.esc_filter.specs.Passing.{is_line_feed};
-ghost use Rattle.esc_account.specs.Rules.{drops, drops_returns, fate_of, is_control, is_dropped, is_lone, is_own, is_replaced, is_shown, is_written, rule_of, shows, shows_returns, spelling_of};
+ghost use Rattle.esc_account.specs.Rules.{before_after, before_next, drops, drops_returns, fate_of, is_control, is_dropped, is_lone, is_own, is_replaced, is_shown, is_written, last_instead, last_return, rule_of, shows, shows_returns, spelling_of};
 
 use crate::fate::Fate;
 use crate::judge::Judge;
 use crate::reading::read_segment;
 use crate::terminator::is_end;
+use crate::verdict::Verdict;
 use esc_actions::{Action, ControlCode};
 use esc_filter::{Admit, Guard, Returns, Unicode, is_deceiving, passes};
 use esc_segments::{Segment, SegmentKind};
+use esc_visible::may_follow;
 use esc_write::encode;
 use std::alloc::{AllocError, Allocator, Global};
 
@@ -75,12 +78,15 @@ impl<P, A: Allocator> PolicyJudge<P, A> {
 impl<P: Admit<A>, A: Allocator + Copy> Judge<A> for PolicyJudge<P, A> {
     ghost rule = { λ j. rule_of j.by_lines j.guard j.limit (P.admits j.policy) };
 
-    fn fate(&self, segment: Segment<'_>) -> Result<Fate, AllocError> {
+    fn verdict(&self, before: Option<char>, segment: Segment<'_>) -> Result<Verdict, AllocError> {
         if self.passes_at_once(segment) {
-            return Ok(Fate::Passed);
+            return Ok(Verdict {
+                fate: Fate::Passed,
+                before: Some(segment.bytes[0] as char),
+            });
         }
         match read_segment(self.alloc, self.limit, segment) {
-            Ok(actions) => self.fate_of(segment.kind, segment.bytes, actions.as_slice()),
+            Ok(actions) => self.verdict_of(before, segment.kind, segment.bytes, actions.as_slice()),
             Err(error) => Err(error),
         }
     }
@@ -90,9 +96,14 @@ impl<P: Admit<A>, A: Allocator + Copy> PolicyJudge<P, A> {
     // Whether the segment is a character 20 to 7E and the policy admits such text: then it passes,
     // and need not be read.
     fn passes_at_once(&self, segment: Segment<'_>) -> bool
-        ensures { IsTrue result → (g : Shape) (after : List ℕ) (finished : Bool) → HasShape g after
-            → IsItem segment.entry g after → rule_of self.now.by_lines self.now.guard
-            self.now.limit (P.admits self.now.policy) g finished ≡ Fate.Passed }
+        ensures one { IsTrue result → 0 < length segment.entry.bytes.now }
+        ensures passes { IsTrue result → (b : Option ℕ) (g : Shape) (after : List ℕ)
+            (finished : Bool) → HasShape g after → IsItem segment.entry g after
+            → rule_of self.now.by_lines self.now.guard self.now.limit (P.admits self.now.policy) b
+            g finished ≡ record {
+              fate = Fate.Passed;
+              before = Some (get_or segment.entry.bytes.now 0 0);
+            } }
     {
         if !is_character(segment.kind) || segment.bytes.len() != 1 {
             return false;
@@ -103,16 +114,72 @@ impl<P: Admit<A>, A: Allocator + Copy> PolicyJudge<P, A> {
         self.policy.admits_text(segment.bytes)
     }
 
-    // What becomes of a segment of this kind, these bytes and these actions.
+    // What becomes of a segment of this kind, these bytes and these actions, after this character.
+    fn verdict_of(
+        &self,
+        before: Option<char>,
+        kind: SegmentKind,
+        bytes: &[u8],
+        actions: &[Action<A>],
+    ) -> Result<Verdict, AllocError>
+        requires { AreHandedOut (map value_of actions.now) }
+        ensures given { IfOk result (λ v. v ≡ record {
+          fate = fate_of self.now.by_lines self.now.guard (P.admits self.now.policy) before kind
+              bytes.now (map value_of actions.now);
+          before = before_after self.now.guard (P.admits self.now.policy) before
+              (map value_of actions.now);
+        }) }
+        ensures refused { OnErr result (Refused A) }
+    {
+        match self.fate_of(before, kind, bytes, actions) {
+            Ok(fate) => Ok(Verdict {
+                fate,
+                before: self.before_after(before, actions),
+            }),
+            Err(error) => Err(error),
+        }
+    }
+
+    // The character that comes before what is written next, after this one and these actions.
+    fn before_after(&self, before: Option<char>, actions: &[Action<A>]) -> Option<char>
+        ensures { result ≡ before_after self.now.guard (P.admits self.now.policy) before
+            (map value_of actions.now) }
+    {
+        let mut last = before;
+        let mut rest = actions;
+        while let Some((first, after)) = rest.split_first() {
+            last = self.before_next(last, first);
+            rest = after;
+        }
+        last
+    }
+
+    // The same of an action.
+    fn before_next(&self, before: Option<char>, action: &Action<A>) -> Option<char>
+        ensures { result ≡ before_next self.now.guard (P.admits self.now.policy) before
+            (value_of action.now) }
+    {
+        if !passes(&self.policy, action) {
+            return before;
+        }
+        match action {
+            Action::Print(c) => last_character(self.guard.characters, before, *c),
+            Action::Control(code) => last_control(self.guard.returns, before, *code),
+            _ => None,
+        }
+    }
+
+    // What becomes of the bytes.
     fn fate_of(
         &self,
+        before: Option<char>,
         kind: SegmentKind,
         bytes: &[u8],
         actions: &[Action<A>],
     ) -> Result<Fate, AllocError>
         requires { AreHandedOut (map value_of actions.now) }
         ensures given { IfOk result (λ f. f ≡ fate_of self.now.by_lines self.now.guard
-            (P.admits self.now.policy) kind bytes.now (map value_of actions.now)) }
+            (P.admits self.now.policy) before kind bytes.now (map value_of actions.now)) }
         ensures refused { OnErr result (Refused A) }
     {
         if !has_own(kind, actions) {
@@ -121,7 +188,7 @@ impl<P: Admit<A>, A: Allocator + Copy> PolicyJudge<P, A> {
             Ok(Fate::LeftOut)
         } else if is_replaced(kind) {
             Ok(Fate::Replaced)
-        } else if self.shows_some(actions) {
+        } else if self.shows_some(before, actions) {
             Ok(Fate::Shown)
         } else {
             spelling(self.alloc, bytes, actions)
@@ -155,18 +222,18 @@ impl<P: Admit<A>, A: Allocator + Copy> PolicyJudge<P, A> {
         }
     }
 
-    // Whether of one of the actions visible text is written.
-    fn shows_some(&self, actions: &[Action<A>]) -> bool
-        ensures { result ≡ list_any (λ a. is_shown self.now.guard (value_of a)) actions.now }
+    // Whether of one of the actions, after this character, visible text is written.
+    fn shows_some(&self, before: Option<char>, actions: &[Action<A>]) -> bool
+        ensures { result ≡ list_any (λ a. is_shown self.now.guard before (value_of a)) actions.now }
     {
-        actions.iter().any(|action| self.shows(action))
+        actions.iter().any(|action| self.shows(before, action))
     }
 
-    fn shows(&self, action: &Action<A>) -> bool
-        ensures { result ≡ is_shown self.now.guard (value_of action.now) }
+    fn shows(&self, before: Option<char>, action: &Action<A>) -> bool
+        ensures { result ≡ is_shown self.now.guard before (value_of action.now) }
     {
         match action {
-            Action::Print(c) => shows(self.guard.characters) && is_deceiving(*c),
+            Action::Print(c) => is_deceiving(*c) && shows(self.guard.characters, before, *c),
             Action::Control(code) => shows_returns(self.guard.returns) && is_return(*code),
             _ => false,
         }
@@ -185,10 +252,44 @@ fn drops_returns(returns: Returns) -> bool
     matches!(returns, Returns::Drop)
 }
 
-fn shows(unicode: Unicode) -> bool
-    ensures { result ≡ shows unicode }
+// Whether a character that deceives is shown by its number, after this one.
+fn shows(unicode: Unicode, before: Option<char>, c: char) -> bool
+    ensures { result ≡ shows unicode before c }
 {
-    matches!(unicode, Unicode::Show)
+    match unicode {
+        Unicode::Show => true,
+        Unicode::Join => !may_follow(before, c),
+        Unicode::Keep | Unicode::Drop => false,
+    }
+}
+
+// The character that is written last of this one, after that before it.
+fn last_character(unicode: Unicode, before: Option<char>, c: char) -> Option<char>
+    ensures { result ≡ (if is_deceiving c then last_instead unicode before c else Some c) }
+{
+    if !is_deceiving(c) {
+        return Some(c);
+    }
+    match unicode {
+        Unicode::Keep => Some(c),
+        Unicode::Join => Some(if may_follow(before, c) { c } else { '>' }),
+        Unicode::Show => Some('>'),
+        Unicode::Drop => before,
+    }
+}
+
+// The same of a control.
+fn last_control(returns: Returns, before: Option<char>, code: ControlCode) -> Option<char>
+    ensures { result ≡ (if is_return code then last_return returns before else None) }
+{
+    if !is_return(code) {
+        return None;
+    }
+    match returns {
+        Returns::Keep => None,
+        Returns::Show => Some('M'),
+        Returns::Drop => before,
+    }
 }
 
 fn shows_returns(returns: Returns) -> bool

@@ -8,7 +8,7 @@ use Rattle.esc_account.specs.Rules.{rule_of}
 use Rattle.esc_account.specs.Ways.{IsToldBy, Way, by_lines, silent, whole}
 use Rattle.esc_account.specs.declared.policy_judge.PolicyJudge.{PolicyJudge}
 use Rattle.escfilter.specs.Audits.{HeardAll, Told, account_of, is_audited, way_by, way_of}
-use Rattle.escfilter.specs.Fates.{shown_by}
+use Rattle.escfilter.specs.Fates.{shown_as}
 use Rattle.escfilter.specs.Judged.{judged, rule_by}
 use Rattle.escfilter.specs.Written.{admits_choice}
 use Rattle.escfilter.specs.declared.named_groups.Choice.{Choice}
@@ -35,14 +35,14 @@ pub judged_is : (p : PolicyJudge Choice Global) (shows : Bool) (o : Options)
     → judged (record { policy = p; shows = shows }) ≡ rule_by o
 judged_is p shows o (l, u, n, q) e =
     ap (λ b. judged (record { policy = p; shows = b })) e
-    ∙ ap (λ b. λ g f. shown_by o.shows (rule_of {A = Global} b p.guard p.limit
-    (admits_choice p.policy) g f)) l
-    ∙ ap (λ v. λ g f. shown_by o.shows (rule_of {A = Global} o.by_lines v p.limit
-    (admits_choice p.policy) g f)) u
-    ∙ ap (λ k. λ g f. shown_by o.shows (rule_of {A = Global} o.by_lines o.guard k
-    (admits_choice p.policy) g f)) n
-    ∙ ap (λ c. λ g f. shown_by o.shows (rule_of {A = Global} o.by_lines o.guard o.limit
-    (admits_choice c) g f)) q
+    ∙ ap (λ b. λ x g f. shown_as o.shows (rule_of {A = Global} b p.guard p.limit
+    (admits_choice p.policy) x g f)) l
+    ∙ ap (λ v. λ x g f. shown_as o.shows (rule_of {A = Global} o.by_lines v p.limit
+    (admits_choice p.policy) x g f)) u
+    ∙ ap (λ k. λ x g f. shown_as o.shows (rule_of {A = Global} o.by_lines o.guard k
+    (admits_choice p.policy) x g f)) n
+    ∙ ap (λ c. λ x g f. shown_as o.shows (rule_of {A = Global} o.by_lines o.guard o.limit
+    (admits_choice c) x g f)) q
 
 pub way_none : (o : Options) (b : Bool) → b ≡ is_audited o → b ≡ false → silent ≡ way_by o
 way_none o b is e =

@@ -1,11 +1,11 @@
 //! What becomes of a segment by the program's options.
 ghost use Rattle.std.specs.Prelude.{◌≡◌};
-ghost use Rattle.escfilter.specs.Fates.{shown_by};
+ghost use Rattle.escfilter.specs.Fates.{is_seen, shown_as, shown_by};
 ghost use Rattle.escfilter.specs.Judged.{judged, rule_by};
 
 use crate::named_groups::Choice;
 use crate::options::Options;
-use esc_account::{Fate, Judge, PolicyJudge};
+use esc_account::{Fate, Judge, PolicyJudge, Verdict};
 use esc_actions::Action;
 use esc_segments::Segment;
 use std::alloc::{AllocError, Global};
@@ -45,12 +45,33 @@ impl<'a> Judging<'a> {
 impl<'a> Judge<Global> for Judging<'a> {
     ghost rule = { λ j. judged j };
 
-    fn fate(&self, segment: Segment<'_>) -> Result<Fate, AllocError> {
-        match self.policy.fate(segment) {
-            Ok(fate) => Ok(shown_by(self.shows, fate)),
+    fn verdict(&self, before: Option<char>, segment: Segment<'_>) -> Result<Verdict, AllocError> {
+        match self.policy.verdict(before, segment) {
+            Ok(verdict) => Ok(shown_as(self.shows, verdict)),
             Err(error) => Err(error),
         }
     }
+}
+
+// What becomes of a segment, where what is not in the output may be shown.
+fn shown_as(shows: bool, verdict: Verdict) -> Verdict
+    ensures { result ≡ shown_as shows verdict }
+{
+    Verdict {
+        fate: shown_by(shows, verdict.fate),
+        before: if is_seen(shows, verdict.fate) {
+            None
+        } else {
+            verdict.before
+        },
+    }
+}
+
+// Whether what has this fate is shown, though it is not in the output.
+fn is_seen(shows: bool, fate: Fate) -> bool
+    ensures { result ≡ is_seen shows fate }
+{
+    shows && matches!(fate, Fate::LeftOut | Fate::Swallowed | Fate::Replaced)
 }
 
 // What becomes of what has this fate, where what is not in the output may be shown.

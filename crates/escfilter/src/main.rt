@@ -47,7 +47,7 @@ controls|cursor|erase|scroll|modes|charsets|palette|titles|clipboard|images|othe
 [--links scheme,..] [--lines|--whole] [--limit size] \
 [--encoding utf-8|utf-16|utf-16le|utf-16be|latin1|windows-1250|windows-1251|windows-1252|\
 windows-1253|windows-1254|windows-1255|windows-1256|windows-1257|windows-1258] \
-[--c1 replace|obey] [--unicode keep|show|drop] [--returns keep|show|drop] \
+[--c1 replace|obey] [--unicode keep|join|show|drop] [--returns keep|show|drop] \
 [--show[=escaped|color]] [--collapse[=rows]] [--cast] \
 [--report[=text|json]] [--report-to file] [--events file] \
 [--fail[=respelled|shown|replaced|left-out|swallowed|overwritten,..]] [--list] [-z|--null] \
@@ -73,10 +73,11 @@ leaves on, as colours or a link, is taken back at its end, and at each line's wi
                   to windows-1258
   --c1 way        of bytes 80 to 9F that are no part of a UTF-8 character: replace writes
                   U+FFFD in their place (the default), obey takes them for controls
-  --unicode way   of characters that hide or reorder text: show writes <U+202E> in their place
-                  (the default with text and color), drop nothing, keep themselves
-  --returns way   of carriage returns within a line, which hide the text before them: the same,
-                  show writes ^M; kept also with --whole, --collapse and --cast
+  --unicode way   of characters that hide or reorder text: show writes <U+202E> in their place,
+                  drop nothing, keep themselves; join, the default with text and color, is
+                  show, but keeps those that belong to the character before them, as in emoji
+  --returns way   of carriage returns within a line, which hide the text before them: keep,
+                  drop, or show, which writes ^M; kept also with --whole, --collapse and --cast
   --show          writes what does not pass in its place, as text: ^[]0;title^G;
                   --show=escaped a ^ and < of other text too, as <5E> and <3C>, so that the
                   input can be read back; --show=color in reverse video, where that passes

@@ -179,7 +179,7 @@ const KNOWN: &[Known] = &[
     Known {
         name: "--unicode",
         letter: "",
-        takes: Takes::OneOf("way", &["keep", "show", "drop"]),
+        takes: Takes::OneOf("way", &["keep", "join", "show", "drop"]),
     },
     Known {
         name: "--returns",
@@ -353,10 +353,9 @@ impl<'a> Asked<'a> {
     // How streams are filtered.
     fn settled(&self) -> Options<'a> {
         let mut options = self.options;
-        let policy = options.choice.policy;
-        options.by_lines = self.by_lines.unwrap_or(is_by_lines(policy));
+        options.by_lines = self.by_lines.unwrap_or(is_by_lines(options.choice.policy));
         options.guard = Guard {
-            characters: self.unicode.unwrap_or(unicode_under(policy)),
+            characters: self.unicode.unwrap_or(unicode_in(options)),
             returns: returns_in(self.returns, options),
         };
         options.encoding = self.encoding();
@@ -413,11 +412,13 @@ fn is_by_lines(policy: Policy) -> bool {
     }
 }
 
-// What is written of characters that hide or reorder text under this policy, where the words do not
-// say so: one that passes text and its colours alone is for people who read it.
-fn unicode_under(policy: Policy) -> Unicode {
-    match policy {
-        Policy::Text | Policy::Color => Unicode::Show,
+// What is written of characters that hide or reorder text, where the words do not say so: a policy
+// that passes text and its colours alone is for people who read it. Where text is written over
+// other text, the character before one may become another.
+fn unicode_in(options: Options<'_>) -> Unicode {
+    match options.choice.policy {
+        Policy::Text | Policy::Color if options.rows.is_some() => Unicode::Show,
+        Policy::Text | Policy::Color => Unicode::Join,
         Policy::Screen | Policy::All => Unicode::Keep,
     }
 }
@@ -445,6 +446,7 @@ fn returns_of(name: &str) -> Returns {
 // The way of this name, which is one of those in the table.
 fn unicode_of(name: &str) -> Unicode {
     match name {
+        "join" => Unicode::Join,
         "show" => Unicode::Show,
         "drop" => Unicode::Drop,
         _ => Unicode::Keep,

@@ -6,6 +6,6 @@ use Rattle.esc_account.proofs.Fates.{nothing_told}
 use Rattle.esc_account.proofs.laws.nothing_vanishes.Goals as goal
 
 pub returns : goal.returns
-returns g c = λ by_lines u limit admits s finished e.
-    nothing_told by_lines u admits (kind_of s) (bytes_of s)
+returns g c = λ by_lines u limit admits b s finished e.
+    nothing_told by_lines u admits b (kind_of s) (bytes_of s)
     (reading_within (Some limit) s finished) e

@@ -1,0 +1,13 @@
+//! What becomes of a segment, and what is written last after it.
+
+use crate::fate::Fate;
+
+/// What becomes of a segment.
+#[derive(Clone, Copy, PartialEq, Eq, Debug)]
+pub struct Verdict {
+    /// What becomes of its bytes.
+    pub fate: Fate,
+    /// The character that comes before what is written next, where a character does: a variation
+    /// selector or a joiner may belong to it.
+    pub before: Option<char>,
+}
