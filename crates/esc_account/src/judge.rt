@@ -1,9 +1,10 @@
 //! Whoever says what becomes of a segment.
 #![tactic(auto)]
 
-ghost use Rattle.std.specs.Prelude.{◌≡◌, Bool, IfOk, List, OnErr, ◌∷◌};
+ghost use Rattle.std.specs.Prelude.{◌≡◌, ◌≤◌, Bool, IfOk, List, OnErr, ◌∷◌, length, take};
 ghost use Rattle.esc_frame.specs.Segments.{AreSegments, Segment as Shape, is_finished, joined};
 ghost use Rattle.esc_segments.specs.Items.{IsItem};
+ghost use Rattle.esc_account.specs.Passing.{IsPassing};
 ghost use Rattle.esc_account.specs.declared.fate.Fate.{Fate};
 ghost use Rattle.memory.specs.Refusals.{Refused};
 
@@ -25,4 +26,15 @@ pub trait Judge<A: Allocator> {
             → IsItem segment.entry g (joined gs)
             → IfOk result (λ f. f ≡ rule self.now g (is_finished g (joined gs))) }
         ensures refused { OnErr result (Refused A) };
+
+    /// How many bytes come first that are characters of text, 20 to 7F or well-formed UTF-8, and
+    /// controls of C0 but carriage return and ESC, of which each passes by itself. These are
+    /// entered at once, and none of them is asked of. It may be fewer than there are, and is 0 by
+    /// default, where each is asked of.
+    fn passing(&self, _bytes: &[u8]) -> usize
+        ensures few { result ≤ length _bytes.now }
+        ensures pass { IsPassing (rule self.now) (take result _bytes.now) }
+    {
+        0
+    }
 }
