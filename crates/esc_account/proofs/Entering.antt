@@ -1,10 +1,8 @@
--- A segment is entered after those before it.
-use Rattle.std.proofs.Common.{ℕ, ◌≡◌, ◌≢◌, Bool, true, false, if◌then◌else◌, Result, Ok, Err, IfOk, List, [], ◌∷◌, ◌++◌, refl, ap, sym, ◌∙◌, subst, append_assoc}
-use Rattle.esc_frame.specs.Segments.{Segment as Shape, AreSegments, IsCut, is_finished, joined}
-use Rattle.esc_segments.specs.declared.item.Segment.{Segment as Item}
-use Rattle.esc_segments.specs.Items.{IsHead, IsItem}
-use Rattle.esc_account.specs.Accounts.{Enters, Rule, all_passed, line_begun, run, step}
-use Rattle.esc_account.specs.Entries.{Entry, entries, entry_of, is_noted, noted}
+-- What is entered, and what is noted of it.
+use Rattle.std.proofs.Common.{ℕ, ◌≡◌, ◌≢◌, Bool, true, false, if◌then◌else◌, Result, Ok, Err, IfOk, List, [], ◌∷◌, ◌++◌, refl, ap}
+use Rattle.esc_frame.specs.Segments.{Segment as Shape, IsCut}
+use Rattle.esc_account.specs.Accounts.{Rule, all_passed, line_begun}
+use Rattle.esc_account.specs.Entries.{Entry, is_noted, noted}
 use Rattle.esc_account.specs.Ledgers.{LineEnters, LineGives}
 use Rattle.esc_account.specs.LineEnds.{ends_so, line_entries, run_line}
 use Rattle.esc_account.specs.declared.account.Account.{Account}
@@ -16,23 +14,6 @@ HasCut = (stream : List ℕ) → (gs : List Shape) × IsCut stream gs
 abbrev pub OneCut : Type 0
 OneCut = (stream : List ℕ) (gs hs : List Shape) → IsCut stream gs → IsCut stream hs → gs ≡ hs
 
--- what is left, entered after now, is all entered after the start
-pub one_more : HasCut → OneCut → (r : Rule) (x y all : Account) (s t : List ℕ) (item : Item)
-    → ((gs : List Shape) → IsCut s gs → IsHead s gs item t) → Enters r x item y
-    → ((ks : List Shape) → IsCut s ks → run r x ks ≡ all)
-    → (ks : List Shape) → IsCut t ks → run r y ks ≡ all
-one_more has once r x y all s t item gives enters before ks cut =
-    let c = has s in
-    let h = gives c.0 c.1 in
-    let o = once t h.others ks h.rest cut in
-    let each : AreSegments (h.head ∷ h.others) = subst AreSegments h.first c.1.each in
-    let is : IsItem item h.head (joined h.others) =
-    subst (IsItem item h.head) h.rest.whole h.item in
-    let st : y ≡ step r x h.head (is_finished h.head (joined h.others)) =
-    enters h.head h.others each is in
-    ap (run r y) (sym o) ∙ ap (λ z. run r z h.others) st ∙ sym (ap (run r x) h.first)
-    ∙ before c.0 c.1
-
 -- ---- what is written into a book
 
 pub noted_more : (e : Entry) (es : List Entry) → noted (e ∷ es) ≡ noted (e ∷ []) ++ noted es
@@ -42,35 +23,6 @@ noted_more e es = by (is_noted e)
         ≡ (if b then e ∷ [] else []) ++ noted es
     by true = refl
     by false = refl
-
--- the same of the entries: that of the first segment, and those of what is left
-pub one_noted : HasCut → OneCut → (r : Rule) (x y : Account) (s t : List ℕ) (item : Item)
-    → ((gs : List Shape) → IsCut s gs → IsHead s gs item t) → Enters r x item y
-    → {P : List Entry → Type 0} (es fs : List Entry)
-    → ((g : Shape) (gs : List Shape) → AreSegments (g ∷ gs) → IsItem item g (joined gs)
-    → P (fs ++ noted (entry_of r x g (is_finished g (joined gs)) ∷ [])))
-    → ((ks : List Shape) → IsCut s ks → fs ++ noted (entries r x ks) ≡ es)
-    → (ks : List Shape) → IsCut t ks
-    → (hs : List Entry) × P hs × (hs ++ noted (entries r y ks) ≡ es)
-one_noted has once r x y s t item gives enters es fs given before ks cut =
-    let c = has s in
-    let h = gives c.0 c.1 in
-    let o = once t h.others ks h.rest cut in
-    let each : AreSegments (h.head ∷ h.others) = subst AreSegments h.first c.1.each in
-    let is : IsItem item h.head (joined h.others) =
-    subst (IsItem item h.head) h.rest.whole h.item in
-    let fin = is_finished h.head (joined h.others) in
-    let e = entry_of r x h.head fin in
-    let st : y ≡ step r x h.head fin = enters h.head h.others each is in (
-      fs ++ noted (e ∷ []),
-      given h.head h.others each is,
-      append_assoc fs (noted (e ∷ [])) (noted (entries r y ks))
-          ∙ ap (λ z. fs ++ (noted (e ∷ []) ++ noted (entries r y z))) (sym o)
-          ∙ ap (λ z. fs ++ (noted (e ∷ []) ++ noted (entries r z h.others))) st
-          ∙ ap (λ z. fs ++ z) (sym (noted_more e (entries r (step r x h.head fin) h.others)))
-          ∙ ap (λ z. fs ++ noted (entries r x z)) (sym h.first)
-          ∙ before c.0 c.1,
-    )
 
 -- ---- lines
 

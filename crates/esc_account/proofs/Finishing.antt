@@ -1,12 +1,13 @@
 -- Segments that are finished are entered, and then what comes after them.
-use Rattle.std.proofs.Common.{ℕ, ◌≡◌, ◌+◌, ◌≤◌, Bool, true, false, if◌then◌else◌, List, [], ◌∷◌, ◌++◌, length, drop, refl, sym, ap, ◌∙◌, subst, append_assoc, append-nil, arith, length-append}
+use Rattle.std.proofs.Common.{ℕ, ◌≡◌, ◌+◌, ◌≤◌, Bool, true, false, ◌&&◌, if◌then◌else◌, List, [], ◌∷◌, ◌++◌, length, drop, refl, sym, ap, ◌∙◌, subst, append_assoc, append-nil, arith, length-append}
 use Rattle.esc_frame.specs.Leads.{AreFinished}
 use Rattle.esc_frame.specs.Segments.{Segment as Shape, AreSegments, HasShape, IsCut, bytes_of, is_finished, joined}
 use Rattle.esc_segments.specs.declared.item.Segment.{Segment as Item}
 use Rattle.esc_segments.specs.Items.{IsHead, IsItem}
 use Rattle.esc_account.specs.Accounts.{Enters, HasRoom, Rule, begun, run, step, total}
 use Rattle.esc_account.specs.Entries.{Entry, entries, entry_of, is_noted, noted}
-use Rattle.esc_account.specs.Finished.{Finishes, ended, ended_entries}
+use Rattle.esc_account.specs.Finished.{Finishes, HasNoEnd, ended, ended_entries}
+use Rattle.esc_account.specs.LineEnds.{is_return_feed}
 use Rattle.esc_account.specs.Ledgers.{IsCounted}
 use Rattle.esc_account.specs.declared.account.Account.{Account}
 use Rattle.esc_account.proofs.Blocks.{are_joined, joined-append, stay_finished}
@@ -48,9 +49,21 @@ noted-append (e ∷ es) fs = by (is_noted e) (noted-append es fs)
     by true h = ap (λ ks. e ∷ ks) h
     by false h = h
 
-pub finishes_both : (r : Rule) (x y z : Account) (s t u : List ℕ) (es fs : List Entry)
-    → Finishes r x s t y es → Finishes r y t u z fs → Finishes r x s u z (es ++ fs)
-finishes_both r x y z s t u es fs h k =
+no_end_both : (ends : Bool) (gs hs : List Shape) (t : List ℕ)
+    → HasNoEnd ends gs (joined hs ++ t) → HasNoEnd ends hs t → HasNoEnd ends (gs ++ hs) t
+no_end_both ends [] hs t h k = k
+no_end_both ends (g ∷ gs) hs t (none, more) k =
+    let e : joined (g ∷ gs) ++ (joined hs ++ t) ≡ joined (g ∷ (gs ++ hs)) ++ t =
+    sym (append_assoc (joined (g ∷ gs)) (joined hs) t)
+    ∙ ap (λ x. x ++ t) (sym (joined-append (g ∷ gs) hs)) in (
+      ap (λ x. ends && is_return_feed x) (sym e) ∙ none,
+      no_end_both ends gs hs t more k,
+    )
+
+pub finishes_both : (ends : Bool) (r : Rule) (x y z : Account) (s t u : List ℕ)
+    (es fs : List Entry) → Finishes ends r x s t y es → Finishes ends r y t u z fs
+    → Finishes ends r x s u z (es ++ fs)
+finishes_both ends r x y z s t u es fs h k =
     let gs = h.shapes in
     let hs = k.shapes in record {
       shapes = gs ++ hs;
@@ -58,6 +71,7 @@ finishes_both r x y z s t u es fs h k =
           ∙ sym (append_assoc (joined gs) (joined hs) u)
           ∙ ap (λ v. v ++ u) (sym (joined-append gs hs));
       finished = finished_both gs hs u (subst (AreFinished gs) k.whole h.finished) k.finished;
+      before = no_end_both ends gs hs u (subst (HasNoEnd ends gs) k.whole h.before) k.before;
       account = k.account ∙ ap (λ v. ended r v hs) h.account ∙ sym (ended_both r x gs hs);
       made = ap (λ v. v ++ fs) h.made
           ∙ ap (λ v. noted (ended_entries r x gs) ++ v)
@@ -66,39 +80,44 @@ finishes_both r x y z s t u es fs h k =
           ∙ ap noted (sym (made_both r x gs hs));
     }
 
-pub finishes_none : (r : Rule) (x : Account) (s : List ℕ) → Finishes r x s s x []
-finishes_none r x s = record {
+pub finishes_none : (ends : Bool) (r : Rule) (x : Account) (s : List ℕ)
+    → Finishes ends r x s s x []
+finishes_none ends r x s = record {
   shapes = [];
   whole = refl;
   finished = tt;
+  before = tt;
   account = refl;
   made = refl;
 }
 
 -- one segment that is finished
-pub finishes_one : (r : Rule) (x y : Account) (g : Shape) (t : List ℕ) (es : List Entry)
-    → HasShape g t → is_finished g t ≡ true → y ≡ step r x g true
-    → es ≡ noted (entry_of r x g true ∷ []) → Finishes r x (bytes_of g ++ t) t y es
-finishes_one r x y g t es shape finished e f = record {
-  shapes = g ∷ [];
-  whole = ap (λ v. v ++ t) (sym (append-nil (bytes_of g)));
-  finished = (shape, finished, tt);
-  account = e;
-  made = f;
-}
+finishes_one : (ends : Bool) (r : Rule) (x y : Account) (g : Shape) (t : List ℕ) (es : List Entry)
+    → HasShape g t → is_finished g t ≡ true
+    → (ends && is_return_feed (bytes_of g ++ t)) ≡ false → y ≡ step r x g true
+    → es ≡ noted (entry_of r x g true ∷ []) → Finishes ends r x (bytes_of g ++ t) t y es
+finishes_one ends r x y g t es shape finished none e f =
+    let same = ap (λ v. v ++ t) (sym (append-nil (bytes_of g))) in record {
+      shapes = g ∷ [];
+      whole = same;
+      finished = (shape, finished, tt);
+      before = (ap (λ v. ends && is_return_feed v) (sym same) ∙ none, tt);
+      account = e;
+      made = f;
+    }
 
 first_shape : (g : Shape) (gs : List Shape) → AreSegments (g ∷ gs) → HasShape g (joined gs)
 first_shape g [] each = each
 first_shape g (h ∷ gs) each = each.0
 
--- that of the bytes which an iterator gives
-pub finishes_item : HasCut → (r : Rule) (x y : Account) (s t : List ℕ) (item : Item)
+-- that of the bytes which come first
+pub finishes_item : HasCut → (ends : Bool) (r : Rule) (x y : Account) (s t : List ℕ) (item : Item)
     → ((gs : List Shape) → IsCut s gs → IsHead s gs item t) → item.finished ≡ true
-    → Enters r x item y → (Q : List Entry → Type 0) (ks : List Entry)
+    → (ends && is_return_feed s) ≡ false → Enters r x item y → (Q : List Entry → Type 0)
     → ((g : Shape) (gs : List Shape) → AreSegments (g ∷ gs) → IsItem item g (joined gs)
-    → Q (ks ++ noted (entry_of r x g (is_finished g (joined gs)) ∷ [])))
-    → (fs : List Entry) × Finishes r x s t y fs × Q (ks ++ fs)
-finishes_item has r x y s t item gives finished enters Q ks given =
+    → Q (noted (entry_of r x g (is_finished g (joined gs)) ∷ [])))
+    → (fs : List Entry) × Finishes ends r x s t y fs × Q fs
+finishes_item has ends r x y s t item gives finished none enters Q given =
     let c = has s in
     let h = gives c.0 c.1 in
     let each : AreSegments (h.head ∷ h.others) = subst AreSegments h.first c.1.each in
@@ -106,27 +125,43 @@ finishes_item has r x y s t item gives finished enters Q ks given =
     subst (IsItem item h.head) h.rest.whole h.item in
     let fin : is_finished h.head (joined h.others) ≡ true = sym is.finished ∙ finished in
     let fs = noted (entry_of r x h.head true ∷ []) in
-    let one : Finishes r x (bytes_of h.head ++ t) t y fs =
-    finishes_one r x y h.head t fs
+    let same : bytes_of h.head ++ t ≡ s =
+    ap (λ v. v ++ t) (sym h.item.bytes) ∙ sym h.place in
+    let one : Finishes ends r x (bytes_of h.head ++ t) t y fs =
+    finishes_one ends r x y h.head t fs
     (subst (HasShape h.head) (sym h.rest.whole) (first_shape h.head h.others each))
     (sym h.item.finished ∙ finished)
+    (ap (λ v. ends && is_return_feed v) same ∙ none)
     (enters h.head h.others each is ∙ ap (step r x h.head) fin) refl in (
       fs,
-      subst (λ v. Finishes r x v t y fs) (ap (λ v. v ++ t) (sym h.item.bytes) ∙ sym h.place) one,
-      subst (λ b. Q (ks ++ noted (entry_of r x h.head b ∷ []))) fin
-          (given h.head h.others each is),
+      subst (λ v. Finishes ends r x v t y fs) same one,
+      subst (λ b. Q (noted (entry_of r x h.head b ∷ []))) fin (given h.head h.others each is),
     )
 
 -- more follows
+no_end_whole : (gs : List Shape) (t : List ℕ) → HasNoEnd false gs t
+no_end_whole [] t = tt
+no_end_whole (g ∷ gs) t = (refl, no_end_whole gs t)
+
 pub finishes_more : (r : Rule) (x y : Account) (s t b : List ℕ) (es : List Entry)
-    → Finishes r x s t y es → Finishes r x (s ++ b) (t ++ b) y es
+    → Finishes false r x s t y es → Finishes false r x (s ++ b) (t ++ b) y es
 finishes_more r x y s t b es h = record {
   shapes = h.shapes;
   whole = ap (λ v. v ++ b) h.whole ∙ append_assoc (joined h.shapes) t b;
   finished = stay_finished h.shapes t b h.finished;
+  before = no_end_whole h.shapes (t ++ b);
   account = h.account;
   made = h.made;
 }
+
+-- ---- a book that was given the entries
+
+pub takes_none : (P : List Entry → Type 0) (es : List Entry) → P es → P (es ++ [])
+takes_none P es h = subst P (sym (append-nil es)) h
+
+pub takes_both : (P : List Entry → Type 0) (es fs gs : List Entry) → P ((es ++ fs) ++ gs)
+    → P (es ++ (fs ++ gs))
+takes_both P es fs gs h = subst P (append_assoc es fs gs) h
 
 -- ---- the end
 
@@ -147,7 +182,7 @@ entries_ended r x (g ∷ gs) hs (shape, finished, rest) =
 
 -- the account of all, where the rest is entered too
 pub finishes_all : (r : Rule) (x y z : Account) (s t : List ℕ) (es : List Entry)
-    → (h : Finishes r x s t y es) (hs : List Shape) → IsCut t hs → z ≡ run r y hs
+    → (h : Finishes false r x s t y es) (hs : List Shape) → IsCut t hs → z ≡ run r y hs
     → (gs : List Shape) × IsCut s gs × (z ≡ run r x gs)
     × (es ++ noted (entries r y hs) ≡ noted (entries r x gs))
 finishes_all r x y z s t es h hs cut e =
@@ -183,7 +218,7 @@ counts_ended r x (g ∷ gs) =
 
 -- there is room for more
 pub finishes_room : (r : Rule) (y : Account) (s t b : List ℕ) (es : List Entry)
-    → Finishes r begun s t y es → IsCounted (s ++ b) → HasRoom y (length t + length b)
+    → Finishes false r begun s t y es → IsCounted (s ++ b) → HasRoom y (length t + length b)
 finishes_room r y s t b es h few =
     let c = counts_ended r begun h.shapes in
     omega (

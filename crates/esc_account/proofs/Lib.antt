@@ -9,7 +9,9 @@ pub mod Fates
 pub mod LineCounts
 pub mod SameBytes
 pub mod LinesRun
-pub mod AtOnce
+pub mod Texts
 pub mod Standing
 pub mod Finishing
 pub mod LastWritten
+pub mod Running
+pub mod AddUp

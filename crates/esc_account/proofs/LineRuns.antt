@@ -1,18 +1,66 @@
--- A segment of a line is entered after those before it, and the line's end after all.
-use Rattle.std.proofs.Common.{ℕ, ◌≡◌, length, drop, Bool, true, false, ◌&&◌, if◌then◌else◌, List, [], ◌∷◌, ◌++◌, refl, ap, sym, ◌∙◌, subst, append_assoc}
+-- The segments of a line are entered, those that are finished and then the last, or the line's end.
+use Rattle.std.proofs.Common.{ℕ, ◌≡◌, ◌+◌, ◌<◌, ◌≤◌, Bool, true, false, ◌&&◌, if◌then◌else◌, Option, None, Some, IfSome, MatchOption, OnSome, List, [], ◌∷◌, ◌++◌, length, length-append, arith, refl, ap, sym, ◌∙◌, subst, append-nil}
+use Rattle.esc_frame.specs.Leads.{AreFinished}
 use Rattle.esc_frame.specs.Segments.{Segment as Shape, AreSegments, IsCut, is_finished, joined}
 use Rattle.esc_segments.specs.declared.item.Segment.{Segment as Item}
 use Rattle.esc_segments.specs.Items.{IsHead, IsItem}
-use Rattle.esc_account.specs.Accounts.{Enters, Rule, all_passed, step}
-use Rattle.esc_account.specs.Entries.{Entry, entry_of, noted}
+use Rattle.esc_account.specs.Accounts.{Enters, Rule, all_passed, run, step}
+use Rattle.esc_account.specs.Entries.{Entry, entries, entry_of, noted}
+use Rattle.esc_account.specs.Finished.{Finishes, HasNoEnd, IsLast, ended, ended_entries}
 use Rattle.esc_account.specs.LineEnds.{is_return_feed, line_entries, run_line}
 use Rattle.esc_account.specs.declared.account.Account.{Account}
-use Rattle.esc_account.proofs.Entering.{HasCut, OneCut, noted_more}
+use Rattle.esc_account.proofs.Blocks.{are_joined, joined-append}
+use Rattle.esc_account.proofs.Finishing.{noted-append}
 
--- what is left after the first bytes
-pub drop_first : (x y : List ℕ) → drop (length x) (x ++ y) ≡ y
-drop_first [] y = refl
-drop_first (b ∷ x) y = drop_first x y
+-- ---- at most one segment
+
+abbrev is_first_finished : List Shape → Bool
+is_first_finished [] = true
+is_first_finished (g ∷ gs) = is_finished g (joined gs)
+
+abbrev IsOne : List ℕ → List Shape → Item → Type 0
+IsOne s gs item = (g : Shape) × (gs ≡ g ∷ []) × IsItem item g [] × (item.bytes.now ≡ s)
+
+-- the first has bytes, where fewer are left after it
+pub first_some : (X Y : Type 0) (s t : List ℕ) (gs : List Shape) (r : Option Item)
+    → MatchOption r ((gs ≡ []) × (t ≡ [])) (λ x. IsHead s gs x t)
+    → OnSome r (X × Y × (length t < length s))
+    → IfSome r (λ x. (0 < length x.bytes.now) × (length x.bytes.now ≤ length s))
+first_some X Y s t gs None h less = tt
+first_some X Y s t gs (Some x) h less =
+    let place = ap length h.place in
+    let both = length-append x.bytes.now t in
+    (omega (arith, less.2, place, both), omega (arith, place, both))
+
+module _ (ends : Bool) where
+  -- one that is unfinished is the last
+  pub last_open : (s t : List ℕ) (item : Item)
+      → ((gs : List Shape) → IsCut s gs → IsHead s gs item t) → item.finished ≡ false
+      → IsLast ends s
+  last_open s t item gives waits g [] cut some = refl
+  last_open s t item gives waits g (k ∷ gs) cut some =
+      let h = gives (g ∷ k ∷ gs) cut in
+      let done : is_finished g (joined (k ∷ gs)) ≡ true = cut.each.1 in
+      let same : is_finished g (joined (k ∷ gs)) ≡ is_finished h.head (joined h.others) =
+      ap is_first_finished h.first in
+      let item_is : item.finished ≡ is_finished h.head t = h.item.finished in
+      absurd (apart (sym done ∙ same ∙ ap (is_finished h.head) (sym h.rest.whole) ∙ sym item_is
+      ∙ waits))
+    where
+      apart : true ≡ false → ⊥
+      apart e = cc
+
+  -- the first, where it is the last
+  pub one_left : (s t : List ℕ) (item : Item) (gs : List Shape) → IsLast ends s
+      → (ends && is_return_feed s) ≡ false → IsCut s gs → IsHead s gs item t → IsOne s gs item
+  one_left s t item gs last some cut h =
+      let none : h.others ≡ [] = last h.head h.others (subst (IsCut s) h.first cut) some in
+      let rest : t ≡ [] = h.rest.whole ∙ ap joined none in (
+        h.head,
+        h.first ∙ ap (λ v. h.head ∷ v) none,
+        subst (IsItem item h.head) rest h.item,
+        sym (append-nil item.bytes.now) ∙ ap (λ v. item.bytes.now ++ v) (sym rest) ∙ sym h.place,
+      )
 
 module _ (ends : Bool) (r : Rule) where
   abbrev is_end : List ℕ → Bool
@@ -50,58 +98,85 @@ module _ (ends : Bool) (r : Rule) where
       ∷ line_entries ends r (step r x g (is_finished g (joined gs))) gs)
       (sym (ap is_end cut.whole) ∙ h)
 
-  -- what is left, entered after now, is all entered after the start
-  pub line_more : HasCut → OneCut → (x y all : Account) (s t : List ℕ) (item : Item)
-      → is_end s ≡ false
-      → ((gs : List Shape) → IsCut s gs → IsHead s gs item t) → Enters r x item y
-      → ((ks : List Shape) → IsCut s ks → run_line ends r x ks ≡ all)
-      → (ks : List Shape) → IsCut t ks → run_line ends r y ks ≡ all
-  line_more has once x y all s t item some gives enters before ks cut =
-      let c = has s in
-      let h = gives c.0 c.1 in
-      let o = once t h.others ks h.rest cut in
-      let each : AreSegments (h.head ∷ h.others) = subst AreSegments h.first c.1.each in
-      let is : IsItem item h.head (joined h.others) =
-      subst (IsItem item h.head) h.rest.whole h.item in
-      let st : y ≡ step r x h.head (is_finished h.head (joined h.others)) =
-      enters h.head h.others each is in
-      let begins : is_end (joined (h.head ∷ h.others)) ≡ false =
-      ap is_end (sym (c.1.whole ∙ ap joined h.first)) ∙ some in
-      ap (run_line ends r y) (sym o) ∙ ap (λ z. run_line ends r z h.others) st
-      ∙ sym (run_one x h.head h.others begins) ∙ sym (ap (run_line ends r x) h.first)
-      ∙ before c.0 c.1
+  -- ---- segments that are finished come first
 
-  -- the same of the entries: that of the first segment, and those of what is left
-  pub line_noted : HasCut → OneCut → (x y : Account) (s t : List ℕ) (item : Item)
-      → is_end s ≡ false
-      → ((gs : List Shape) → IsCut s gs → IsHead s gs item t) → Enters r x item y
-      → {P : List Entry → Type 0} (es fs : List Entry)
-      → ((g : Shape) (gs : List Shape) → AreSegments (g ∷ gs) → IsItem item g (joined gs)
-      → P (fs ++ noted (entry_of r x g (is_finished g (joined gs)) ∷ [])))
-      → ((ks : List Shape) → IsCut s ks → fs ++ noted (line_entries ends r x ks) ≡ es)
-      → (hs : List Entry) × P hs
-      × ((ks : List Shape) → IsCut t ks → hs ++ noted (line_entries ends r y ks) ≡ es)
-  line_noted has once x y s t item some gives enters es fs given before =
-      let c = has s in
-      let h = gives c.0 c.1 in
-      let each : AreSegments (h.head ∷ h.others) = subst AreSegments h.first c.1.each in
-      let is : IsItem item h.head (joined h.others) =
-      subst (IsItem item h.head) h.rest.whole h.item in
-      let fin = is_finished h.head (joined h.others) in
-      let e = entry_of r x h.head fin in
-      let st : y ≡ step r x h.head fin = enters h.head h.others each is in
-      let begins : is_end (joined (h.head ∷ h.others)) ≡ false =
-      ap is_end (sym (c.1.whole ∙ ap joined h.first)) ∙ some in (
-        fs ++ noted (e ∷ []),
-        given h.head h.others each is,
-        λ ks cut.
-            append_assoc fs (noted (e ∷ [])) (noted (line_entries ends r y ks))
-            ∙ ap (λ z. fs ++ (noted (e ∷ []) ++ noted (line_entries ends r y z)))
-            (sym (once t h.others ks h.rest cut))
-            ∙ ap (λ z. fs ++ (noted (e ∷ []) ++ noted (line_entries ends r z h.others))) st
-            ∙ ap (λ z. fs ++ z)
-            (sym (noted_more e (line_entries ends r (step r x h.head fin) h.others)))
-            ∙ ap (λ z. fs ++ noted z) (sym (entries_one x h.head h.others begins))
-            ∙ ap (λ z. fs ++ noted (line_entries ends r x z)) (sym h.first)
-            ∙ before c.0 c.1,
+  same_bytes : (g : Shape) (gs hs : List Shape)
+      → joined (g ∷ gs) ++ joined hs ≡ joined (g ∷ (gs ++ hs))
+  same_bytes g gs hs = sym (joined-append (g ∷ gs) hs)
+
+  line_ended : (x : Account) (gs hs : List Shape) → AreFinished gs (joined hs)
+      → HasNoEnd ends gs (joined hs)
+      → run_line ends r x (gs ++ hs) ≡ run_line ends r (ended r x gs) hs
+  line_ended x [] hs f n = refl
+  line_ended x (g ∷ gs) hs (shape, finished, rest) (none, more) =
+      run_one x g (gs ++ hs) (sym (ap is_end (same_bytes g gs hs)) ∙ none)
+      ∙ ap (λ b. run_line ends r (step r x g b) (gs ++ hs))
+      (ap (is_finished g) (joined-append gs hs) ∙ finished)
+      ∙ line_ended (step r x g true) gs hs rest more
+
+  made_ended : (x : Account) (gs hs : List Shape) → AreFinished gs (joined hs)
+      → HasNoEnd ends gs (joined hs)
+      → line_entries ends r x (gs ++ hs)
+      ≡ ended_entries r x gs ++ line_entries ends r (ended r x gs) hs
+  made_ended x [] hs f n = refl
+  made_ended x (g ∷ gs) hs (shape, finished, rest) (none, more) =
+      entries_one x g (gs ++ hs) (sym (ap is_end (same_bytes g gs hs)) ∙ none)
+      ∙ ap (λ b. entry_of r x g b ∷ line_entries ends r (step r x g b) (gs ++ hs))
+      (ap (is_finished g) (joined-append gs hs) ∙ finished)
+      ∙ ap (λ es. entry_of r x g true ∷ es) (made_ended (step r x g true) gs hs rest more)
+
+  -- the account of all, where the rest is entered too
+  pub line_all : (x y : Account) (s t : List ℕ) (es : List Entry) → Finishes ends r x s t y es
+      → (hs : List Shape) → IsCut t hs → (gs : List Shape) × IsCut s gs
+      × (run_line ends r x gs ≡ run_line ends r y hs)
+      × (noted (line_entries ends r x gs) ≡ es ++ noted (line_entries ends r y hs))
+  line_all x y s t es h hs cut =
+      let gs = h.shapes in
+      let f : AreFinished gs (joined hs) = subst (AreFinished gs) cut.whole h.finished in
+      let n : HasNoEnd ends gs (joined hs) = subst (HasNoEnd ends gs) cut.whole h.before in (
+        gs ++ hs,
+        record {
+          whole = h.whole ∙ ap (λ v. joined gs ++ v) cut.whole ∙ sym (joined-append gs hs);
+          each = are_joined gs hs f cut.each;
+        },
+        line_ended x gs hs f n ∙ ap (λ v. run_line ends r v hs) (sym h.account),
+        ap noted (made_ended x gs hs f n)
+            ∙ noted-append (ended_entries r x gs) (line_entries ends r (ended r x gs) hs)
+            ∙ ap (λ v. noted (ended_entries r x gs) ++ noted (line_entries ends r v hs))
+            (sym h.account)
+            ∙ ap (λ v. v ++ noted (line_entries ends r y hs)) (sym h.made),
       )
+
+  -- ---- the last segment
+
+  pub run_last : (x y : Account) (s : List ℕ) (item : Item) (gs : List Shape) → IsCut s gs
+      → is_end s ≡ false → IsOne s gs item → Enters r x item y → y ≡ run_line ends r x gs
+  run_last x y s item gs cut some (g, e, is, same) enters =
+      let each : AreSegments (g ∷ []) = subst AreSegments e cut.each in
+      enters g [] each is
+      ∙ sym (run_one x g [] (ap is_end (sym (cut.whole ∙ ap joined e)) ∙ some))
+      ∙ ap (run_line ends r x) (sym e)
+
+  pub noted_last : (x : Account) (s : List ℕ) (item : Item) (gs : List Shape) → IsCut s gs
+      → is_end s ≡ false → IsOne s gs item → (P : List Entry → Type 0) (es : List Entry)
+      → ((g : Shape) (ks : List Shape) → AreSegments (g ∷ ks) → IsItem item g (joined ks)
+      → P (es ++ noted (entry_of r x g (is_finished g (joined ks)) ∷ [])))
+      → P (es ++ noted (line_entries ends r x gs))
+  noted_last x s item gs cut some (g, e, is, same) P es given =
+      let each : AreSegments (g ∷ []) = subst AreSegments e cut.each in
+      subst (λ v. P (es ++ noted v))
+      (sym (entries_one x g [] (ap is_end (sym (cut.whole ∙ ap joined e)) ∙ some))
+      ∙ ap (line_entries ends r x) (sym e)) (given g [] each is)
+
+-- ---- no end is apart
+
+pub run_whole : (r : Rule) (x : Account) (gs : List Shape) → run_line false r x gs ≡ run r x gs
+run_whole r x [] = refl
+run_whole r x (g ∷ gs) = run_whole r (step r x g (is_finished g (joined gs))) gs
+
+pub entries_whole : (r : Rule) (x : Account) (gs : List Shape)
+    → line_entries false r x gs ≡ entries r x gs
+entries_whole r x [] = refl
+entries_whole r x (g ∷ gs) =
+    ap (λ es. entry_of r x g (is_finished g (joined gs)) ∷ es)
+    (entries_whole r (step r x g (is_finished g (joined gs))) gs)

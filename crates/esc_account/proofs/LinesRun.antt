@@ -57,7 +57,8 @@ lines_joined (b ∷ u) = by (is_line_feed b) (lines_joined u)
 more_passed : (p m n : ℕ) → p + m + n ≡ p + (m + n)
 more_passed p m n = omega arith
 
-passed_twice : (u v : List ℕ) (x : Account) → all_passed v (all_passed u x) ≡ all_passed (u ++ v) x
+pub passed_twice : (u v : List ℕ) (x : Account)
+    → all_passed v (all_passed u x) ≡ all_passed (u ++ v) x
 passed_twice u v x =
     ap (λ k. record {
       sums = record x.sums { passed = k };

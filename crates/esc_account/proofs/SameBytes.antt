@@ -9,7 +9,7 @@ take_none (suc n) = refl
 plus_suc : (i n : ℕ) → suc i + n ≡ suc (i + n)
 plus_suc i n = omega arith
 
-take_plus : (i n : ℕ) (x : List ℕ) → take (i + n) x ≡ take i x ++ take n (drop i x)
+pub take_plus : (i n : ℕ) (x : List ℕ) → take (i + n) x ≡ take i x ++ take n (drop i x)
 take_plus zero n x = ap (λ k. take k x) (none n)
   where
     none : (n : ℕ) → 0 + n ≡ n

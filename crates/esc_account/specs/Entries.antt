@@ -1,5 +1,5 @@
 -- The entries of an account: one for each segment, with its place.
-use Rattle.std.specs.Prelude.{ℕ, ◌≡◌, Bool, true, false, not, List, [], ◌∷◌, ◌++◌, length, Option, None, Some}
+use Rattle.std.specs.Prelude.{ℕ, ◌≡◌, ◌+◌, ◌==◌, Bool, true, false, not, if◌then◌else◌, List, [], ◌∷◌, ◌++◌, length, Option, None, Some}
 use Rattle.std.specs.List.{filter}
 use Rattle.esc_frame.specs.Segments.{Segment as Shape, bytes_of, is_finished, joined}
 use Rattle.esc_segments.specs.declared.kind.SegmentKind.{SegmentKind}
@@ -73,6 +73,27 @@ is_noted e = not (is_passed e.fate)
 
 abbrev pub noted : List Entry → List Entry
 noted es = filter is_noted es
+
+-- ---- how many bytes had each fate
+
+-- the order of the fates in reports
+abbrev pub order : Fate → ℕ
+order fates.Passed = 0
+order fates.Respelled = 1
+order fates.Shown = 2
+order fates.Replaced = 3
+order fates.LeftOut = 4
+order fates.Swallowed = 5
+order fates.Overwritten = 6
+
+-- of n bytes of the fate g so many have the fate f
+abbrev pub part : Fate → Fate → ℕ → ℕ
+part f g n = if order f == order g then n else 0
+
+-- and of those of entries
+abbrev pub bytes_with : Fate → List Entry → ℕ
+bytes_with f [] = 0
+bytes_with f (e ∷ es) = part f e.fate (length e.bytes) + bytes_with f es
 
 -- ---- places
 

@@ -4,6 +4,7 @@ pub mod LineEnds
 pub mod Ways
 pub mod Ledgers
 pub mod Finished
+pub mod Passing
 pub mod Wholes
 pub mod Rules
 pub mod Judges

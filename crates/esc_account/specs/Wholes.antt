@@ -1,5 +1,5 @@
 -- What a ledger of a stream that is one has heard.
-use Rattle.std.specs.Prelude.{ℕ, ◌≡◌, List, length}
+use Rattle.std.specs.Prelude.{ℕ, ◌≡◌, false, List, length}
 use Rattle.esc_frame.specs.Segments.{Segment as Shape, IsCut}
 use Rattle.esc_account.specs.Accounts.{begun, run, total}
 use Rattle.esc_account.specs.Entries.{Entry, entries, noted}
@@ -11,7 +11,7 @@ use Rattle.esc_account.specs.declared.ledger.Ledger.{Ledger}
 -- the stream s: the segments that are finished are in the account, and the rest is kept
 abbrev pub Hears : {J B A : Type 0} → Ruler J A → Writer B A → Ledger J B A → List ℕ → Type 0
 Hears V W k s = (es : List Entry)
-    × Finishes (V.rule k.judge) begun s k.rest.items k.account es × W.was_given k.book es
+    × Finishes false (V.rule k.judge) begun s k.rest.items k.account es × W.was_given k.book es
 
 -- the stream s has ended: the account is that of its one cut, and the book was given the entries
 abbrev pub Closes : {J B A : Type 0} → Ruler J A → Writer B A → Ledger J B A → List ℕ → Type 0

@@ -1,26 +1,25 @@
 //! The account of a stream.
 #![tactic(auto)]
 
-ghost use Rattle.std.specs.Prelude.{◌≡◌, ◌++◌, ◌∷◌, ◌<◌, ◌≤◌, ◌^◌, ◌↔◌, IfOk, IsTrue, List, [], OnErr, OnOk, drop, length};
+ghost use Rattle.std.specs.Prelude.{◌≡◌, ◌++◌, ◌∷◌, ◌<◌, ◌^◌, ◌↔◌, IfOk, IsTrue, List, [], OnErr, OnOk, length};
 ghost use Rattle.esc_frame.specs.Segments.{AreSegments, Segment as Shape, IsCut, is_finished, joined};
 ghost use Rattle.esc_segments.specs.Items.{IsItem};
 ghost use Rattle.memory.specs.Refusals.{Refused};
 ghost use Rattle.esc_account.specs.Accounts.{Counts, Enters, HasRoom, all_passed, begun, carried, entered_as, run, total};
 ghost use Rattle.esc_account.specs.Entries.{Entry as Told, ends_string, entries, entry_as, entry_of, is_passed, noted};
-ghost use Rattle.esc_account.specs.Finished.{Finishes};
 ghost use Rattle.esc_account.specs.Ledgers.{LineEnters, LineGives};
 
 use crate::book::Book;
 use crate::entry::Entry;
 use crate::fate::Fate;
 use crate::feeds::feeds;
+use crate::first::ends_so;
 use crate::judge::Judge;
-use crate::line_run::ends_so;
 use crate::sums::Sums;
 use crate::terminator::{awaits_terminator, fate_after, is_terminator};
 use crate::verdict::Verdict;
 use esc_frame::laws;
-use esc_segments::{Segment, SegmentKind, Segments};
+use esc_segments::{Segment, SegmentKind};
 use std::alloc::{AllocError, Allocator};
 
 /// What became of the bytes of a stream so far.
@@ -90,51 +89,7 @@ impl Account {
             → B.was_given book.old es → OnOk result (B.was_given book.new
             (es ++ noted (entries (J.rule judge.now) self gs))) }
     {
-        laws::one_cut();
-        laws::has_cut();
-        let mut account = self;
-        let mut segments = Segments::new(bytes);
-        loop {
-            match segments.next() {
-                None => return Ok(account),
-                Some(segment) => match account.segment_entered(judge, book, segment) {
-                    Ok(longer) => account = longer,
-                    Err(error) => return Err(error),
-                },
-            }
-        }
-    }
-
-    // The account of the segments of these bytes that are finished, and how many bytes these are.
-    pub(crate) fn finished_entered<A: Allocator, J: Judge<A>, B: Book<A>>(
-        self,
-        judge: &J,
-        book: &mut B,
-        bytes: &[u8],
-    ) -> Result<(Account, usize), AllocError>
-        requires room { HasRoom self (length bytes.now) }
-        ensures finishes { (es : List Told) → B.was_given book.old es
-            → IfOk result (λ r. (fs : List Told) × Finishes (J.rule judge.now) self bytes.now
-            (drop r.1 bytes.now) r.0 fs × B.was_given book.new (es ++ fs)) }
-        ensures counts { IfOk result (λ r. (r.1 ≤ length bytes.now) × Counts self r.1 r.0) }
-        ensures refused { OnErr result (Refused A) }
-    {
-        laws::has_cut();
-        let mut account = self;
-        let mut count = 0;
-        let mut segments = Segments::new(bytes);
-        loop {
-            match segments.next() {
-                None => return Ok((account, count)),
-                Some(segment) => {
-                    if !segment.finished {
-                        return Ok((account, count));
-                    }
-                    account = account.segment_entered(judge, book, segment)?;
-                    count += segment.bytes.len();
-                }
-            }
-        }
+        self.line_run(judge, book, bytes, false)
     }
 
     /// The account of a line too, which is a stream of its own: where it was written as it came,

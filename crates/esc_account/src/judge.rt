@@ -1,9 +1,10 @@
 //! Whoever says what becomes of a segment.
 #![tactic(auto)]
 
-ghost use Rattle.std.specs.Prelude.{◌≡◌, ℕ, Bool, IfOk, List, OnErr, Option, ◌∷◌};
+ghost use Rattle.std.specs.Prelude.{◌≡◌, ◌≤◌, ℕ, Bool, IfOk, List, OnErr, Option, ◌∷◌, length, take};
 ghost use Rattle.esc_frame.specs.Segments.{AreSegments, Segment as Shape, is_finished, joined};
 ghost use Rattle.esc_segments.specs.Items.{IsItem};
+ghost use Rattle.esc_account.specs.Passing.{IsPassing};
 ghost use Rattle.esc_account.specs.declared.verdict.Verdict.{Verdict};
 ghost use Rattle.memory.specs.Refusals.{Refused};
 
@@ -26,4 +27,16 @@ pub trait Judge<A: Allocator> {
             → IsItem segment.entry g (joined gs)
             → IfOk result (λ v. v ≡ rule self.now before g (is_finished g (joined gs))) }
         ensures refused { OnErr result (Refused A) };
+
+    /// How many bytes come first that are characters of text, 20 to 7F or well-formed UTF-8, and
+    /// controls of C0 but carriage return and ESC, of which each passes by itself; and the
+    /// character that comes before what is written next after them, where `before` comes before
+    /// them. These are entered at once, and none of them is asked of. It may be fewer than there
+    /// are, and is 0 by default, where each is asked of.
+    fn passing(&self, before: Option<char>, _bytes: &[u8]) -> (usize, Option<char>)
+        ensures few { result.0 ≤ length _bytes.now }
+        ensures pass { IsPassing (rule self.now) before (take result.0 _bytes.now) result.1 }
+    {
+        (0, before)
+    }
 }

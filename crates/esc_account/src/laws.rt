@@ -10,13 +10,14 @@ ghost use Rattle.esc_actions.specs.Readings.{reading_within};
 ghost use Rattle.esc_actions.specs.Texts.{list_text};
 ghost use Rattle.esc_actions.specs.Values.{Value};
 ghost use Rattle.esc_filter.specs.declared.guard.Guard.{Guard};
-ghost use Rattle.esc_account.specs.Accounts.{Counts, GoesOn, IsAccount, Rule, all_passed, begun, run, total};
-ghost use Rattle.esc_account.specs.Entries.{AllLie, Entry, entries};
+ghost use Rattle.esc_account.specs.Accounts.{Counts, GoesOn, IsAccount, Rule, all_passed, begun, count_of, run, total};
+ghost use Rattle.esc_account.specs.Entries.{AllLie, Entry, bytes_with, entries, is_passed, noted};
 ghost use Rattle.esc_account.specs.Ledgers.{HasRun, IsLineAccount, LineRuns};
 ghost use Rattle.esc_filter.specs.Lines.{IsLine, ends_line, has_line_feed};
 ghost use Rattle.esc_account.specs.Rules.{IsAsItCame, is_written, last_written, rule_of};
 ghost use Rattle.esc_filter.specs.Characters.{in_guard, last_after};
 ghost use Rattle.esc_account.specs.declared.account.Account.{Account};
+ghost use Rattle.esc_account.specs.declared.fate.Fate.{Fate as End};
 
 use crate::fate::Fate;
 use std::alloc::Allocator;
@@ -56,6 +57,17 @@ pub fn lines_go_on()
 pub fn each_lies_at_its_place()
     ensures { (r : Rule) (gs : List Shape) → AllLie (joined gs) (entries r begun gs) }
 {}
+
+/// What did not pass adds up: of each other fate a stream has so many bytes as its entries have.
+pub fn entries_add_up()
+    ensures whole { (f : End) (r : Rule) (gs : List Shape) → is_passed f ≡ false
+        → count_of f (run r begun gs).sums ≡ bytes_with f (noted (entries r begun gs)) }
+    ensures lines { (f : End) (r : Rule) (s t : List ℕ) (x : Account) (es : List Entry)
+        → is_passed f ≡ false → IsLineAccount r s t x es
+        → count_of f x.sums ≡ bytes_with f es }
+{
+    esc_frame::laws::has_cut();
+}
 
 /// By the rule of a policy what means nothing is swallowed, so that nothing vanishes from the
 /// account.

@@ -78,7 +78,7 @@ impl<J: Judge<A>, B: Book<A>, A: Allocator> Ledger<J, B, A> {
     {
         let (account, count) = self
             .account
-            .finished_entered(&self.judge, &mut self.book, &self.rest)?;
+            .finished_entered(&self.judge, &mut self.book, &self.rest, false)?;
         self.account = account;
         self.rest.drain(..count);
         Ok(())

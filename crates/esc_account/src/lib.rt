@@ -22,6 +22,7 @@ pub mod book;
 pub mod entry;
 pub mod fate;
 mod feeds;
+mod first;
 pub mod judge;
 pub mod laws;
 pub mod ledger;
@@ -33,6 +34,7 @@ mod room;
 mod same_lines;
 pub mod sums;
 mod terminator;
+mod text;
 pub mod verdict;
 mod whole_lines;
 

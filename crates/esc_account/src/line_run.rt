@@ -1,18 +1,20 @@
 //! The account of a line, whose end is apart from its segments.
 #![tactic(auto)]
 
-ghost use Rattle.std.specs.Prelude.{◌≡◌, ◌&&◌, ◌≤◌, ◌++◌, IfOk, List, OnErr, OnOk, drop, length};
+ghost use Rattle.std.specs.Prelude.{◌≡◌, ◌≤◌, ◌++◌, IfOk, List, OnErr, OnOk, drop, length};
 ghost use Rattle.esc_frame.specs.Segments.{Segment as Shape, IsCut};
 ghost use Rattle.memory.specs.Refusals.{Refused};
 ghost use Rattle.esc_account.specs.Accounts.{Counts, HasRoom};
 ghost use Rattle.esc_account.specs.Entries.{Entry as Told, noted};
-ghost use Rattle.esc_account.specs.LineEnds.{ends_so, is_return_feed, line_entries, run_line};
+ghost use Rattle.esc_account.specs.Finished.{Finishes, IsLast, Takes};
+ghost use Rattle.esc_account.specs.LineEnds.{line_entries, run_line};
+ghost use Rattle.esc_account.specs.Passing.{Passes};
 
 use crate::account::Account;
 use crate::book::Book;
+use crate::first::{after, first_segment, is_end, segment_ahead};
 use crate::judge::Judge;
 use esc_frame::laws;
-use esc_segments::Segments;
 use std::alloc::{AllocError, Allocator};
 
 impl Account {
@@ -36,53 +38,112 @@ impl Account {
     {
         laws::one_cut();
         laws::has_cut();
+        match self.finished_entered(judge, book, line, ends) {
+            Ok((account, count)) => account.last_run(judge, book, after(line, count), ends),
+            Err(error) => Err(error),
+        }
+    }
+
+    // The same of the end, or of the one segment that is left.
+    fn last_run<A: Allocator, J: Judge<A>, B: Book<A>>(
+        self,
+        judge: &J,
+        book: &mut B,
+        rest: &[u8],
+        ends: bool,
+    ) -> Result<Account, AllocError>
+        requires room { HasRoom self (length rest.now) × IsLast ends rest.now }
+        ensures entered { (gs : List Shape) → IsCut rest.now gs
+            → IfOk result (λ x. x ≡ run_line ends (J.rule judge.now) self gs) }
+        ensures counts { IfOk result (Counts self (length rest.now)) × OnErr result (Refused A) }
+        ensures given { (gs : List Shape) (es : List Told) → IsCut rest.now gs
+            → B.was_given book.old es → OnOk result (B.was_given book.new
+            (es ++ noted (line_entries ends (J.rule judge.now) self gs))) }
+    {
+        laws::has_cut();
+        if is_end(ends, rest) {
+            return Ok(self.passed(rest));
+        }
+        match first_segment(rest) {
+            None => Ok(self),
+            Some(segment) => self.segment_entered(judge, book, segment),
+        }
+    }
+
+    /// The account of the segments of these bytes that are finished, and how many bytes these are.
+    /// Where `ends`, a carriage return and a line feed that end the bytes are not entered.
+    pub(crate) fn finished_entered<A: Allocator, J: Judge<A>, B: Book<A>>(
+        self,
+        judge: &J,
+        book: &mut B,
+        bytes: &[u8],
+        ends: bool,
+    ) -> Result<(Account, usize), AllocError>
+        requires room { HasRoom self (length bytes.now) }
+        ensures finishes { IfOk result (λ r. (fs : List Told)
+            × Finishes ends (J.rule judge.now) self bytes.now (drop r.1 bytes.now) r.0 fs
+            × Takes B.Book book.old fs book.new) }
+        ensures counts { IfOk result (λ r. (r.1 ≤ length bytes.now) × Counts self r.1 r.0)
+            × OnErr result (Refused A) }
+        ensures last { IfOk result (λ r. IsLast ends (drop r.1 bytes.now)) }
+    {
         let mut account = self;
-        let mut rest = line;
-        let mut segments = Segments::new(line);
+        let mut rest = bytes;
         loop {
-            match segments.next() {
-                None => return Ok(account),
-                Some(segment) => {
-                    if is_end(ends, rest) {
-                        return Ok(account.passed(rest));
-                    }
-                    match account.segment_entered(judge, book, segment) {
-                        Ok(longer) => account = longer,
-                        Err(error) => return Err(error),
-                    }
-                    rest = after(rest, segment.bytes.len());
-                }
+            let (longer, count) = account.next_entered(judge, book, rest, ends)?;
+            account = longer;
+            rest = after(rest, count);
+            if count == 0 {
+                return Ok((account, bytes.len() - rest.len()));
             }
         }
     }
-}
 
-// Whether the bytes are the end of a line, where that is one with a carriage return.
-fn is_end(ends: bool, bytes: &[u8]) -> bool
-    ensures { result ≡ (ends && is_return_feed bytes.now) }
-{
-    ends && is_return_feed(bytes)
-}
+    // The account of what comes first too, characters that pass and a segment that is finished, and
+    // how many bytes these are.
+    fn next_entered<A: Allocator, J: Judge<A>, B: Book<A>>(
+        self,
+        judge: &J,
+        book: &mut B,
+        bytes: &[u8],
+        ends: bool,
+    ) -> Result<(Account, usize), AllocError>
+        requires room { HasRoom self (length bytes.now) }
+        ensures finishes { IfOk result (λ r. (fs : List Told)
+            × Finishes ends (J.rule judge.now) self bytes.now (drop r.1 bytes.now) r.0 fs
+            × Takes B.Book book.old fs book.new) }
+        ensures counts { IfOk result (λ r. (r.1 ≤ length bytes.now) × Counts self r.1 r.0)
+            × OnErr result (Refused A) }
+        ensures last { IfOk result (λ r. r.1 ≡ 0 → IsLast ends bytes.now) }
+    {
+        laws::has_cut();
+        let (account, run) = self.text_passed(judge, bytes);
+        let rest = after(bytes, run);
+        match segment_ahead(rest, ends) {
+            None => Ok((account, run)),
+            Some(segment) => match account.segment_entered(judge, book, segment) {
+                Ok(longer) => Ok((longer, run + segment.bytes.len())),
+                Err(error) => Err(error),
+            },
+        }
+    }
 
-// What comes after so many of the bytes.
-fn after(bytes: &[u8], count: usize) -> &[u8]
-    requires { count ≤ length bytes.now }
-    ensures { result.now ≡ drop count bytes.now }
-{
-    &bytes[count..]
-}
-
-/// Whether the bytes end in a carriage return and a line feed.
-pub(crate) fn ends_so(bytes: &[u8]) -> bool
-    ensures { result ≡ ends_so bytes.now }
-{
-    let end = bytes.len().saturating_sub(2);
-    is_return_feed(&bytes[end..])
-}
-
-// Whether the bytes are a carriage return and a line feed.
-fn is_return_feed(bytes: &[u8]) -> bool
-    ensures { result ≡ is_return_feed bytes.now }
-{
-    bytes.len() == 2 && bytes[0] == 0x0d && bytes[1] == 0x0a
+    // The account of the characters too that come first, of which the judge says at once that they
+    // pass; and how many bytes these are.
+    fn text_passed<A: Allocator, J: Judge<A>>(self, judge: &J, bytes: &[u8]) -> (Account, usize)
+        requires room { HasRoom self (length bytes.now) }
+        ensures passes { Passes (J.rule judge.now) self bytes.now (drop result.1 bytes.now)
+            result.0 }
+        ensures counts { (result.1 ≤ length bytes.now) × Counts self result.1 result.0 }
+    {
+        let (count, before) = judge.passing(self.before, bytes);
+        if count == 0 {
+            return (self, 0);
+        }
+        let account = Account {
+            before,
+            ..self.passed(&bytes[..count])
+        };
+        (account, count)
+    }
 }

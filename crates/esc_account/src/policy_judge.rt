@@ -1,10 +1,7 @@
 //! What becomes of a segment where a policy says which actions pass.
 #![tactic(auto)]
 
-ghost use Rattle.std.specs.Prelude.{◌≡◌, ◌<◌, ℕ, Bool, if◌then◌else◌, IfOk, IsTrue, List, None, OnErr, Option, Some, false, get_or, length, map, true};
-ghost use Rattle.esc_frame.specs.Scans.{is_data_byte};
-ghost use Rattle.esc_frame.specs.Segments.{HasShape, Segment as Shape};
-ghost use Rattle.esc_segments.specs.Items.{IsItem};
+ghost use Rattle.std.specs.Prelude.{◌≡◌, ℕ, if◌then◌else◌, IfOk, None, OnErr, Option, Some, false, map, true};
 ghost use Rattle.std.specs.List.{list_all, list_any};
 ghost use Rattle.esc_actions.specs.Texts.{list_text};
 ghost use Rattle.esc_actions.specs.Values.{value_of};
@@ -19,6 +16,7 @@ use crate::fate::Fate;
 use crate::judge::Judge;
 use crate::reading::read_segment;
 use crate::terminator::is_end;
+use crate::text::text_run;
 use crate::verdict::Verdict;
 use esc_actions::{Action, ControlCode};
 use esc_filter::{Admit, Guard, Returns, Unicode, is_deceiving, passes};
@@ -79,41 +77,18 @@ impl<P: Admit<A>, A: Allocator + Copy> Judge<A> for PolicyJudge<P, A> {
     ghost rule = { λ j. rule_of j.by_lines j.guard j.limit (P.admits j.policy) };
 
     fn verdict(&self, before: Option<char>, segment: Segment<'_>) -> Result<Verdict, AllocError> {
-        if self.passes_at_once(segment) {
-            return Ok(Verdict {
-                fate: Fate::Passed,
-                before: Some(segment.bytes[0] as char),
-            });
-        }
         match read_segment(self.alloc, self.limit, segment) {
             Ok(actions) => self.verdict_of(before, segment.kind, segment.bytes, actions.as_slice()),
             Err(error) => Err(error),
         }
     }
+
+    fn passing(&self, before: Option<char>, bytes: &[u8]) -> (usize, Option<char>) {
+        text_run(&self.policy, before, bytes)
+    }
 }
 
 impl<P: Admit<A>, A: Allocator + Copy> PolicyJudge<P, A> {
-    // Whether the segment is a character 20 to 7E and the policy admits such text: then it passes,
-    // and need not be read.
-    fn passes_at_once(&self, segment: Segment<'_>) -> bool
-        ensures one { IsTrue result → 0 < length segment.entry.bytes.now }
-        ensures passes { IsTrue result → (b : Option ℕ) (g : Shape) (after : List ℕ)
-            (finished : Bool) → HasShape g after → IsItem segment.entry g after
-            → rule_of self.now.by_lines self.now.guard self.now.limit (P.admits self.now.policy) b
-            g finished ≡ record {
-              fate = Fate.Passed;
-              before = Some (get_or segment.entry.bytes.now 0 0);
-            } }
-    {
-        if !is_character(segment.kind) || segment.bytes.len() != 1 {
-            return false;
-        }
-        if !is_plain(segment.bytes[0]) {
-            return false;
-        }
-        self.policy.admits_text(segment.bytes)
-    }
-
     // What becomes of a segment of this kind, these bytes and these actions, after this character.
     fn verdict_of(
         &self,
@@ -302,19 +277,6 @@ fn is_return(code: ControlCode) -> bool
     ensures { result ≡ is_return code }
 {
     matches!(code, ControlCode::CarriageReturn)
-}
-
-fn is_character(kind: SegmentKind) -> bool
-    ensures { IsTrue result → kind ≡ SegmentKind.Character }
-{
-    matches!(kind, SegmentKind::Character)
-}
-
-// Whether it is a byte 20 to 7E.
-fn is_plain(byte: u8) -> bool
-    ensures { result ≡ is_data_byte byte }
-{
-    0x20 <= byte && byte <= 0x7e
 }
 
 fn is_line_feed<A: Allocator>(action: &Action<A>) -> bool

@@ -1,9 +1,11 @@
 -- What an auditor tells of a stream that has ended.
-use Rattle.std.proofs.Common.{ℕ, ◌≡◌, Bool, true, false, if◌then◌else◌, List, length, sym, ap, ◌∙◌, subst}
+use Rattle.std.proofs.Common.{ℕ, ◌≡◌, Bool, true, false, if◌then◌else◌, Option, List, [], ◌∷◌, length, refl, sym, ap, ◌∙◌, subst}
 use Rattle.std.specs.Global.{Global}
+use Rattle.esc_frame.specs.Segments.{Segment as Shape}
 use Rattle.esc_account.specs.Accounts.{Rule, total}
 use Rattle.esc_account.specs.Ledgers.{IsCounted}
 use Rattle.esc_account.specs.Judges.{GoesBy}
+use Rattle.esc_account.specs.Passing.{AllPass, IsPassing, passed_as, says}
 use Rattle.esc_account.specs.Rules.{rule_of}
 use Rattle.esc_account.specs.Ways.{IsToldBy, Way, by_lines, silent, whole}
 use Rattle.esc_account.specs.declared.policy_judge.PolicyJudge.{PolicyJudge}
@@ -27,6 +29,26 @@ told (auditors.Whole k) w s t few heard e =
     let h = heard few in
     subst (λ v. (total k.account.sums ≡ length s) × IsToldBy v s t k.account) e
     (h.0, (h.1.0, h.1.1, h.1.2))
+
+-- ---- what passes at once
+
+all_shown : (b : Bool) (r : Rule) (o n : Option ℕ) (gs : List Shape) → AllPass r o gs n
+    → AllPass (λ m g f. shown_as b (r m g f)) o gs n
+all_shown b r o n [] h = h
+all_shown b r o n (g ∷ gs) h = (
+  h.0,
+  ap (shown_as b) h.1 ∙ same b (says g),
+  all_shown b r (says g) n gs h.2,
+)
+  where
+    same : (b : Bool) (o : Option ℕ) → shown_as b (passed_as o) ≡ passed_as o
+    same true o = refl
+    same false o = refl
+
+-- it passes also where what does not pass is shown
+pub shown_pass : (b : Bool) (r : Rule) (o n : Option ℕ) (x : List ℕ) → IsPassing r o x n
+    → IsPassing (λ m g f. shown_as b (r m g f)) o x n
+shown_pass b r o n x h = (h.0, h.1, all_shown b r o n h.0 h.2)
 
 -- ---- what the options say
 

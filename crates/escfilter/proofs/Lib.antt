@@ -6,3 +6,4 @@ mod OfPieces
 mod Failures
 mod Following
 mod Auditing
+mod Tallying

@@ -5,4 +5,5 @@ pub mod Fates
 pub mod Failures
 pub mod Judged
 pub mod Hearings
+pub mod Tables
 pub mod Audits

@@ -51,6 +51,10 @@ impl<'a> Judge<Global> for Judging<'a> {
             Err(error) => Err(error),
         }
     }
+
+    fn passing(&self, before: Option<char>, bytes: &[u8]) -> (usize, Option<char>) {
+        self.policy.passing(before, bytes)
+    }
 }
 
 // What becomes of a segment, where what is not in the output may be shown.

@@ -1,90 +1,65 @@
-use Rattle.std.proofs.Common.{[], ◌++◌, arith, ap, append_assoc, append-nil, length, length-append, subst, sym}
+use Rattle.std.proofs.Common.{◌≡◌, ◌++◌, ◌-◌, length, drop, length-drop, ap, sym, ◌∙◌, subst, arith}
 use Rattle.esc_frame.specs.Segments.{joined}
-use Rattle.esc_segments.specs.Items.{left}
-use Rattle.esc_account.specs.Finished.{Finishes}
-use Rattle.esc_account.proofs.Finishing.{dropped, finishes_both, finishes_item, finishes_none}
+use Rattle.esc_account.specs.Finished.{Finishes, IsLast}
+use Rattle.esc_account.proofs.Finishing.{dropped, finishes_both, takes_both}
 use Rattle.esc_account.proofs.account.Account.finished_entered.Goals as goal
 
-pub segment_entered-requires : goal.segment_entered-requires
-segment_entered-requires g c =
-    let k = c.has_cut.ensures (left c.loop-segment.segments) in
-    let h = c.in-Some.ensures.steps k.0 k.1 in
-    omega (
-      arith,
-      c.loop-segment.invariant.whole,
-      c.loop-segment.invariant.sums,
-      c.loop-segment.invariant.lines,
-      c.requires.room,
-      ap length h.place,
-      length-append c.in-Some.segment.bytes.now (left c.next.new.self),
-    )
-
-pub loop-segment-preserved : goal.loop-segment-preserved
-loop-segment-preserved g c =
-    let k = c.has_cut.ensures (left c.loop-segment.segments) in
-    let h = c.in-Some.ensures.steps k.0 k.1 in
-    let counts = c.in_ok-account-in-Some.ensures.counts.0 in
-    let e = ap length h.place in
-    let f = length-append c.in-Some.segment.bytes.now (left c.next.new.self) in record {
-      next = tt;
-      finite = tt;
-      whole = omega (arith, c.loop-segment.invariant.whole, e, f);
-      sums = omega (arith, c.loop-segment.invariant.sums, counts.0);
-      lines = omega (arith, c.loop-segment.invariant.lines, counts.1);
-      finishes = λ es old.
-          let r = g.J.Judge.rule c.args.judge.now in
-          let s = left c.loop-segment.segments in
-          let t = left c.next.new.self in
-          let y = c.in_ok-account-in-Some.account in
-          let before = c.loop-segment.invariant.finishes es old in
-          let one = finishes_item c.has_cut.ensures r c.loop-segment.account y s t
-          c.in-Some.segment c.in-Some.ensures.steps c.if-not-segment.false
-          c.in_ok-account-in-Some.ensures.entered (g.B.Book.was_given c.segment_entered.new.book)
-          (es ++ before.0)
-          (λ h hs each is. c.in_ok-account-in-Some.ensures.given h hs (es ++ before.0) each is
-          before.2) in (
-            before.0 ++ one.0,
-            finishes_both r c.args.self c.loop-segment.account y c.args.bytes.now s t before.0 one.0
-                before.1 one.1,
-            subst (g.B.Book.was_given c.segment_entered.new.book)
-                (append_assoc es before.0 one.0) one.2,
-          );
+pub loop-longer-preserved : goal.loop-longer-preserved
+loop-longer-preserved g c =
+    let ends = c.args.ends in
+    let r = g.J.Judge.rule c.args.judge.now in
+    let at = c.loop-longer in
+    let t = at.rest.now in
+    let u = c.after-rest.result.now in
+    let y = c.in_ok-longer.longer in
+    let next = c.in_ok-longer.ensures.finishes in
+    let counts = c.in_ok-longer.ensures.counts.0 in
+    let long = ap length c.after-rest.ensures ∙ length-drop c.in_ok-longer.count t in
+    let before = at.invariant.finishes in record {
+      sums = omega (arith, at.invariant.sums, counts, long);
+      lines = omega (arith, at.invariant.lines, counts, long);
+      few = omega (arith, at.invariant.few, long);
+      finishes = (
+        before.0 ++ next.0,
+        finishes_both ends r c.args.self at.account y c.args.bytes.now t u before.0 next.0 before.1
+            (subst (λ v. Finishes ends r at.account t v y next.0) (sym c.after-rest.ensures)
+            next.1),
+        λ es old. takes_both (g.B.Book.was_given c.next_entered.new.book) es before.0 next.0
+            (next.2 (es ++ before.0) (before.2 es old)),
+      );
     }
 
-pub loop-segment-init : goal.loop-segment-init
-loop-segment-init g c = record {
-  next = tt;
-  finite = tt;
-  whole = omega (arith, ap length c.new-segments.ensures);
-  sums = omega arith;
-  lines = omega arith;
-  finishes = λ es old. (
-    [],
-    subst (λ v. Finishes (g.J.Judge.rule c.args.judge.now) c.args.self c.args.bytes.now v
-        c.args.self []) (sym c.new-segments.ensures)
-        (finishes_none (g.J.Judge.rule c.args.judge.now) c.args.self c.args.bytes.now),
-    subst (g.B.Book.was_given c.args.book.now) (sym (append-nil es)) old,
-  );
-}
-
-pub returns-in-None-clause-finishes : goal.returns-in-None-clause-finishes
-returns-in-None-clause-finishes g c = λ es old.
-    let before = c.loop-segment.invariant.finishes es old in (
-      before.0,
-      subst (λ v. Finishes (g.J.Judge.rule c.args.judge.now) c.args.self c.args.bytes.now v
-          c.loop-segment.account before.0)
-          (sym (dropped c.args.bytes.now (joined before.1.shapes) (left c.loop-segment.segments)
-          c.loop-segment.count before.1.whole c.loop-segment.invariant.whole)) before.1,
-      before.2,
+pub returns-then-count-eq0-clause-finishes : goal.returns-then-count-eq0-clause-finishes
+returns-then-count-eq0-clause-finishes g c =
+    let ends = c.args.ends in
+    let r = g.J.Judge.rule c.args.judge.now in
+    let at = c.loop-longer in
+    let s = c.args.bytes.now in
+    let t = at.rest.now in
+    let u = c.after-rest.result.now in
+    let y = c.in_ok-longer.longer in
+    let next = c.in_ok-longer.ensures.finishes in
+    let long = ap length c.after-rest.ensures ∙ length-drop c.in_ok-longer.count t in
+    let before = at.invariant.finishes in
+    let both = finishes_both ends r c.args.self at.account y s t u before.0 next.0 before.1
+    (subst (λ v. Finishes ends r at.account t v y next.0) (sym c.after-rest.ensures) next.1) in (
+      before.0 ++ next.0,
+      subst (λ v. Finishes ends r c.args.self s v y (before.0 ++ next.0))
+          (sym (dropped s (joined both.shapes) u (length s - length u) both.whole
+          (omega (arith, at.invariant.few, long)))) both,
+      λ es old. takes_both (g.B.Book.was_given c.next_entered.new.book) es before.0 next.0
+          (next.2 (es ++ before.0) (before.2 es old)),
     )
 
-pub returns-then-not-segment-clause-finishes : goal.returns-then-not-segment-clause-finishes
-returns-then-not-segment-clause-finishes g c = λ es old.
-    let before = c.loop-segment.invariant.finishes es old in (
-      before.0,
-      subst (λ v. Finishes (g.J.Judge.rule c.args.judge.now) c.args.self c.args.bytes.now v
-          c.loop-segment.account before.0)
-          (sym (dropped c.args.bytes.now (joined before.1.shapes) (left c.loop-segment.segments)
-          c.loop-segment.count before.1.whole c.loop-segment.invariant.whole)) before.1,
-      before.2,
-    )
+pub returns-then-count-eq0-clause-last : goal.returns-then-count-eq0-clause-last
+returns-then-count-eq0-clause-last g c =
+    let at = c.loop-longer in
+    let s = c.args.bytes.now in
+    let t = at.rest.now in
+    let u = c.after-rest.result.now in
+    let none : c.in_ok-longer.count ≡ 0 = omega (arith, c.if-count-eq0.true) in
+    let same : u ≡ t = c.after-rest.ensures ∙ ap (λ n. drop n t) none in
+    let before = at.invariant.finishes.1 in
+    let place = dropped s (joined before.shapes) t (length s - length u) before.whole
+    (omega (arith, at.invariant.few, ap length same)) in
+    subst (IsLast c.args.ends) (sym place) (c.in_ok-longer.ensures.last none)

@@ -1,4 +1,4 @@
-use Rattle.std.proofs.Common.{rules, ◌≡◌, ◌++◌, drop, subst, sym}
+use Rattle.std.proofs.Common.{rules, ◌≡◌, false, ◌++◌, drop, subst, sym}
 use Rattle.esc_account.specs.Accounts.{begun}
 use Rattle.esc_account.specs.Finished.{Finishes}
 use Rattle.esc_account.proofs.Finishing.{finishes_both}
@@ -10,11 +10,12 @@ returns-clause-hears g c = λ s h.
     let r = g.J.Judge.rule k.judge in
     let n = c.in_ok-account.count in
     let y = c.in_ok-account.account in
-    let one = c.in_ok-account.ensures.finishes h.0 h.2 in
+    let one = c.in_ok-account.ensures.finishes in
     let e : c.drop-drain.new.self.0.items ≡ drop n k.rest.items = search rules in (
       h.0 ++ one.0,
-      subst (λ v. Finishes r begun s v y (h.0 ++ one.0)) (sym e)
-          (finishes_both r begun k.account y s k.rest.items (drop n k.rest.items) h.0 one.0 h.1
-          (subst (λ v. Finishes r k.account v (drop n v) y one.0) c.deref.ensures.value one.1)),
-      one.2,
+      subst (λ v. Finishes false r begun s v y (h.0 ++ one.0)) (sym e)
+          (finishes_both false r begun k.account y s k.rest.items (drop n k.rest.items) h.0 one.0
+          h.1 (subst (λ v. Finishes false r k.account v (drop n v) y one.0) c.deref.ensures.value
+          one.1)),
+      one.2 h.0 h.2,
     )

@@ -1,4 +1,4 @@
-use Rattle.std.proofs.Common.{◌++◌, subst, sym, arith, length-append}
+use Rattle.std.proofs.Common.{◌++◌, false, subst, sym, arith, length-append}
 use Rattle.esc_account.specs.Accounts.{begun}
 use Rattle.esc_account.specs.Finished.{Finishes}
 use Rattle.esc_account.proofs.Entering.{never}
@@ -25,7 +25,8 @@ returns-clause-heard g c = λ s t before.
     let h = before (omega (arith, few, length-append s b)) in
     c.enter_finished.ensures.hears (s ++ b) (
       h.0,
-      subst (λ v. Finishes r begun (s ++ b) v k.account h.0) (sym c.in_ok-extend.ensures.items)
+      subst (λ v. Finishes false r begun (s ++ b) v k.account h.0)
+          (sym c.in_ok-extend.ensures.items)
           (finishes_more r begun k.account s k.rest.items b h.0 h.1),
       h.2,
     ))

@@ -1,4 +1,4 @@
-use Rattle.std.proofs.Common.{[], length, subst, sym, ap, ◌∙◌, arith, length-append}
+use Rattle.std.proofs.Common.{[], false, length, subst, sym, ap, ◌∙◌, arith, length-append}
 use Rattle.esc_account.specs.Accounts.{begun, total}
 use Rattle.esc_account.specs.Finished.{Finishes}
 use Rattle.esc_account.proofs.Entering.{never}
@@ -24,7 +24,8 @@ returns-clause-ended g c = λ s t before few.
     let rest = c.deref.result.now in
     let cut = c.has_cut.ensures rest in
     let all = finishes_all r begun k.account x s rest h.0
-    (subst (λ v. Finishes r begun s v k.account h.0) (sym c.deref.ensures.value) h.1) cut.0 cut.1
+    (subst (λ v. Finishes false r begun s v k.account h.0) (sym c.deref.ensures.value) h.1) cut.0
+    cut.1
     (c.in_ok-self.ensures.entered cut.0 cut.1) in (
       ap (λ v. total v.sums) all.2 ∙ total_all r all.0 ∙ ap length (sym all.1.whole),
       (

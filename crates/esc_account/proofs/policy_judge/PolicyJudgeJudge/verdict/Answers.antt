@@ -1,5 +1,4 @@
-use Rattle.std.proofs.Common.{Some, map, refl, sym, ap, ◌∙◌}
-use Rattle.esc_frame.proofs.OneCut.{head_of}
+use Rattle.std.proofs.Common.{Some, map, ap, ◌∙◌}
 use Rattle.esc_frame.specs.Segments.{bytes_of, is_finished, joined}
 use Rattle.esc_segments.specs.Items.{kind_of}
 use Rattle.esc_actions.specs.Readings.{reading_within}
@@ -8,11 +7,6 @@ use Rattle.esc_account.specs.Rules.{before_after, fate_of, rule_of}
 use Rattle.esc_account.proofs.Fates.{same_verdict}
 use Rattle.esc_account.proofs.Values.{spelled_ok}
 use Rattle.esc_account.proofs.policy_judge.PolicyJudgeJudge.verdict.Goals as goal
-
-pub returns-then-passes_at_once-clause-given : goal.returns-then-passes_at_once-clause-given
-returns-then-passes_at_once-clause-given g c = λ s gs each item.
-    sym (c.if-passes_at_once.ensures.passes refl c.args.before s (joined gs)
-    (is_finished s (joined gs)) (head_of s gs each).0 item)
 
 pub returns-in-Ok-clause-given : goal.returns-in-Ok-clause-given
 returns-in-Ok-clause-given g c = λ s gs each item.
