@@ -76,7 +76,8 @@ all_pass r x g [] c h =
 all_pass r x g (k ∷ gs) c h =
     ap (λ y. ended r y (k ∷ gs)) (one_passes r x g h.0 h.1)
     ∙ all_pass r (passed_to (says g) (bytes_of g) x) k gs c h.2
-    ∙ ap (λ y. record y { before = c }) (passed_twice (bytes_of g) (joined (k ∷ gs)) x)
+    ∙ ap {A = Account} (λ y. record y { before = c })
+    (passed_twice (bytes_of g) (joined (k ∷ gs)) x)
 
 not_noted : (e : Entry) → is_noted e ≡ false → noted (e ∷ []) ≡ []
 not_noted e h = ap (λ b. if b then e ∷ [] else []) h

@@ -36,17 +36,15 @@ ascii_text : (b : ℕ) → b < 128 → encode_utf8 b ++ [] ≡ b ∷ []
 ascii_text b l = append-nil (encode_utf8 b) ∙ encode_ascii b l
 
 -- the last of the bytes, or this one where there is none
-pub last_byte : Option ℕ → List ℕ → Option ℕ
+abbrev pub last_byte : Option ℕ → List ℕ → Option ℕ
 last_byte o [] = o
 last_byte o (b ∷ x) = last_byte (Some b) x
 
-pub last_taken : (o : Option ℕ) (n : ℕ) (x : List ℕ) → 0 < n → n ≤ length x
-    → last_byte o (take n x) ≡ Some (get_or x (n - 1) 0)
-last_taken o zero x some few = absurd (omega (arith, some))
-last_taken o (suc n) [] some few = absurd (omega (arith, few))
-last_taken o (suc zero) (b ∷ x) some few = refl
-last_taken o (suc (suc n)) (b ∷ x) some few =
-    last_taken (Some b) (suc n) x (omega arith) (omega (arith, few))
+pub last_taken : (o : Option ℕ) (n : ℕ) (x : List ℕ) → n < length x
+    → last_byte o (take (suc n) x) ≡ Some (get_or x n 0)
+last_taken o n [] few = absurd (omega (arith, few))
+last_taken o zero (b ∷ x) few = refl
+last_taken o (suc n) (b ∷ x) few = last_taken (Some b) n x (omega (arith, few))
 
 -- ---- one
 

@@ -6,4 +6,3 @@ mod OfPieces
 mod Failures
 mod Following
 mod Auditing
-mod Tallying

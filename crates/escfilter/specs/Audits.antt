@@ -18,13 +18,12 @@ use Rattle.escfilter.specs.declared.auditor.Auditor.TheVariants as auditors
 use Rattle.escfilter.specs.declared.judging.Judging.{Judging}
 use Rattle.escfilter.specs.declared.options.Options.{Options}
 use Rattle.escfilter.specs.declared.rows.Rows.{Rows}
-use Rattle.escfilter.specs.Tables.{AddsUp, Tallies}
 
 abbrev pub ruler : Ruler Judging Global
 ruler = record { rule = judged }
 
 abbrev pub writer : Writer Rows Global
-writer = record { was_given = Tallies }
+writer = record { was_given = λ _ _. Unit {0} }
 
 -- it heard this stream, of which this text was written
 abbrev pub Heard : Auditor → List ℕ → List ℕ → Type 0
@@ -64,12 +63,6 @@ account_of auditors.Nobody = None
 account_of (auditors.Lines k) = Some k.account
 account_of (auditors.Whole k) = Some k.account
 
--- its rows add up to it, where a report is asked for
-abbrev pub HasAllRows : Auditor → Type 0
-HasAllRows auditors.Nobody = Unit {0}
-HasAllRows (auditors.Lines k) = AddsUp k.account k.book
-HasAllRows (auditors.Whole k) = AddsUp k.account k.book
-
 -- the account of the stream s, of which t was written, by this; there is one, but where none is
 -- kept
 abbrev pub Told : Way → List ℕ → List ℕ → Option Account → Type 0
@@ -77,9 +70,8 @@ Told w s t None = w ≡ silent
 Told w s t (Some x) = (total x.sums ≡ length s) × IsToldBy w s t x
 
 -- After the reader gave some bytes, which under these options became a stream that is not too long
--- to be counted, the auditor has the account of that, by what it went by before, and its rows.
+-- to be counted, the auditor has the account of that, by what it went by before.
 abbrev pub HasAccount : {R : Type 0} → Reader R → Options → Auditor → Auditor → Borrowed R → Type 0
 HasAccount R o old new reader = (s : List ℕ) × Reads R s reader
     × (IsCounted (decoded o.encoding s)
-    → Told (way_of old) (decoded o.encoding s) (passed_of Global o s) (account_of new)
-    × HasAllRows new)
+    → Told (way_of old) (decoded o.encoding s) (passed_of Global o s) (account_of new))

@@ -5,5 +5,4 @@ pub mod Fates
 pub mod Failures
 pub mod Judged
 pub mod Hearings
-pub mod Tables
 pub mod Audits

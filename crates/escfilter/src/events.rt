@@ -6,7 +6,7 @@ ghost use Rattle.memory.specs.Refusals.{Refused};
 use crate::aside::Aside;
 use crate::json::{put_fate, put_name, put_place, put_text};
 use crate::name::Name;
-use crate::row::Place;
+use crate::rows::Place;
 use crate::saying::{put, put_number};
 use base64::engine::general_purpose::STANDARD;
 use esc_account::{Entry, Fate};

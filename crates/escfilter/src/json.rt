@@ -2,8 +2,7 @@
 
 use crate::name::Name;
 use crate::report::{bytes_of, words_of};
-use crate::row::{Place, Row};
-use crate::rows::{Open, Rows};
+use crate::rows::{Open, Place, Row, Rows};
 use crate::saying::{put, put_number};
 use esc_account::{Account, Fate, Sums};
 use std::io::Write;
@@ -21,7 +20,7 @@ pub fn tell_json<E: Write>(
     put_text(name, faults);
     put_number(",\"bytes\":", bytes_of(account.sums), faults);
     put_sums(account.sums, faults);
-    put_rows(rows.rows(), faults);
+    put_rows(&rows.rows, faults);
     put_open(rows.open(account), faults);
     put(",\"complete\":", faults);
     put(if is_complete { "true" } else { "false" }, faults);

@@ -18,11 +18,9 @@ mod name;
 mod named_groups;
 mod options;
 mod report;
-mod row;
 mod rows;
 mod saying;
 mod stream;
-mod table;
 mod told;
 mod values;
 

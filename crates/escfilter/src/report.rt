@@ -4,8 +4,7 @@ ghost use Rattle.std.specs.Prelude.{◌≡◌, ◌↔◌, false};
 ghost use Rattle.escfilter.specs.Fates.{IsComplete};
 
 use crate::name::Name;
-use crate::row::{Place, Row};
-use crate::rows::{Open, Rows};
+use crate::rows::{Open, Place, Row, Rows};
 use crate::saying::{put, put_number};
 use crate::stream::PROGRAM;
 use command_line::Shown;
@@ -20,7 +19,7 @@ pub fn tell_text<E: Write>(account: Account, rows: &Rows, name: &str, faults: &m
         return;
     }
     tell_sums(account.sums, name, faults);
-    for row in rows.rows() {
+    for row in &rows.rows {
         tell_row(row, name, faults);
     }
     if let Some(open) = rows.open(account) {

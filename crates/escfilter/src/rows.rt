@@ -1,19 +1,37 @@
 //! What did not pass of a stream, by name.
-ghost use Rattle.std.specs.Prelude.{◌≡◌, OnErr, OnOk, []};
+ghost use Rattle.std.specs.Prelude.{OnErr};
 ghost use Rattle.std.specs.Global.{Global};
 ghost use Rattle.memory.specs.Refusals.{Refused};
-ghost use Rattle.escfilter.specs.Tables.{is_kept};
 
 use crate::events::Events;
 use crate::judging::Judging;
 use crate::name::{Name, kind_name, name_of};
 use crate::options::Options;
 use crate::report::bytes_of;
-use crate::row::{Place, Row};
-use crate::table::Table;
 use esc_account::{Account, Book, Entry, Fate, read_segment};
 use esc_segments::Segment;
 use std::alloc::{AllocError, Global};
+
+/// What of a stream has one fate and one name.
+#[derive(Clone, Copy)]
+pub struct Row {
+    pub fate: Fate,
+    pub name: Name,
+    /// How many segments there are, and of how many bytes with the terminators of strings.
+    pub count: u64,
+    pub bytes: u64,
+    /// Where the first of them is.
+    pub first: Place,
+}
+
+/// A place in a stream.
+#[derive(Clone, Copy)]
+pub struct Place {
+    /// How many bytes come before it.
+    pub byte: u64,
+    /// How many line feeds are among these.
+    pub line: u64,
+}
 
 /// What the end of a stream leaves unfinished.
 #[derive(Clone, Copy)]
@@ -34,32 +52,24 @@ pub struct Rows<'a> {
     options: Options<'a>,
     events: Option<Events>,
     judge: Judging<'a>,
-    table: Table,
+    pub rows: Vec<Row>,
+    // the row of the entry that came last
+    last: usize,
     open: Option<Open>,
 }
 
 impl<'a> Rows<'a> {
-    ghost use Rattle.escfilter.specs.Tables.{Counts, Tallies};
-
     /// None yet. Takes no memory.
-    pub fn new(alloc: Global, options: Options<'a>, events: Option<Events>) -> Rows<'a>
-        ensures { Tallies result [] }
-    {
+    pub fn new(alloc: Global, options: Options<'a>, events: Option<Events>) -> Rows<'a> {
         Rows {
             alloc,
             options,
             events,
             judge: Judging::new(alloc, options),
-            table: Table::new(alloc),
+            rows: Vec::new(alloc),
+            last: 0,
             open: None,
         }
-    }
-
-    /// The rows.
-    pub fn rows(&self) -> &[Row]
-        ensures { result.now ≡ self.now.table.rows.items }
-    {
-        self.table.rows()
     }
 
     /// Where what did not pass is told.
@@ -75,40 +85,52 @@ impl<'a> Rows<'a> {
         }
     }
 
-    // Tells and counts an entry under this name.
+    // Tells and notes an entry under this name.
     fn begin(&mut self, made: Entry<'_>, name: Name) -> Result<(), AllocError>
-        ensures counts { OnOk result (Counts made.entry self.old self.new) }
-        ensures refused { OnErr result (Refused Global) }
+        ensures { OnErr result (Refused Global) }
     {
         if let Some(events) = &mut self.events {
             events.begin(made, name)?;
         }
-        if self.options.report.is_none() {
-            return Ok(());
+        if self.options.report.is_some() {
+            self.note(made, name)?;
+            self.add(made.segment.bytes);
         }
-        let first = place_of(made);
-        self.open = self.open_of(made.segment, name, first);
-        self.table
-            .begin(made.fate, name, first, made.segment.bytes.len() as u64)
+        Ok(())
     }
 
-    // Tells and counts the terminator of the string that came last.
-    fn end(&mut self, made: Entry<'_>) -> Result<(), AllocError>
-        ensures counts { OnOk result (Counts made.entry self.old self.new) }
-        ensures refused { OnErr result (Refused Global) }
+    // Tells and adds the terminator of the string that came last.
+    fn end(&mut self, bytes: &[u8]) -> Result<(), AllocError>
+        ensures { OnErr result (Refused Global) }
     {
-        if let Some(events) = &mut self.events {
-            events.go_on(made.segment.bytes)?;
+        self.add(bytes);
+        match &mut self.events {
+            Some(events) => events.go_on(bytes),
+            None => Ok(()),
         }
-        if self.options.report.is_none() {
-            return Ok(());
+    }
+
+    // Adds these bytes to the row of the entry that came last.
+    fn add(&mut self, bytes: &[u8]) {
+        if let Some(row) = self.rows.get_mut(self.last) {
+            row.bytes = row.bytes.saturating_add(bytes.len() as u64);
         }
-        let bytes = made.segment.bytes.len() as u64;
-        if self.table.go_on(made.fate, bytes) {
-            return Ok(());
+    }
+
+    // Notes an entry under this name.
+    fn note(&mut self, entry: Entry<'_>, name: Name) -> Result<(), AllocError>
+        ensures { OnErr result (Refused Global) }
+    {
+        let first = Place {
+            byte: entry.place,
+            line: entry.line,
+        };
+        self.last = self.row_of(entry.fate, name, first)?;
+        if let Some(row) = self.rows.get_mut(self.last) {
+            row.count = row.count.saturating_add(1);
         }
-        let name = kind_name(made.segment.kind, made.segment.bytes);
-        self.table.begin(made.fate, name, place_of(made), bytes)
+        self.open = self.open_of(entry.segment, name, first);
+        Ok(())
     }
 
     // What the segment, which has this name and place, would leave unfinished at the end of the
@@ -125,6 +147,27 @@ impl<'a> Rows<'a> {
             first,
             end: first.byte.saturating_add(bytes),
         })
+    }
+
+    // The row of this fate and name, which is new where there is none.
+    fn row_of(&mut self, fate: Fate, name: Name, first: Place) -> Result<usize, AllocError>
+        ensures { OnErr result (Refused Global) }
+    {
+        for (at, row) in self.rows.iter().enumerate() {
+            if row.fate == fate && row.name == name {
+                return Ok(at);
+            }
+        }
+        let at = self.rows.len();
+        let row = Row {
+            fate,
+            name,
+            count: 0,
+            bytes: 0,
+            first,
+        };
+        memory::push(&mut self.rows, row)?;
+        Ok(at)
     }
 
     // The name of what did not pass of a segment: of the first action of which nothing is written,
@@ -145,36 +188,17 @@ impl<'a> Rows<'a> {
 }
 
 impl<'a> Book<Global> for Rows<'a> {
-    ghost use Rattle.escfilter.specs.Tables.{Tallies};
-
-    ghost was_given = { λ r es. Tallies r es };
+    ghost was_given = { λ _ _. Unit {0} };
 
     fn enter(&mut self, made: Entry<'_>) -> Result<(), AllocError> {
-        if is_kept(made.fate) {
-            return Ok(());
-        }
-        if !self.options.has_names() {
+        if made.fate == Fate::Respelled || !self.options.has_names() {
             return Ok(());
         }
         if made.is_end {
-            return self.end(made);
+            self.end(made.segment.bytes)
+        } else {
+            let name = self.name(made.segment, made.fate)?;
+            self.begin(made, name)
         }
-        let name = self.name(made.segment, made.fate)?;
-        self.begin(made, name)
-    }
-}
-
-// Whether what has this fate is in the output, as it came or in another spelling.
-fn is_kept(fate: Fate) -> bool
-    ensures { result ≡ is_kept fate }
-{
-    matches!(fate, Fate::Passed | Fate::Respelled)
-}
-
-// Where the entry is.
-fn place_of(made: Entry<'_>) -> Place {
-    Place {
-        byte: made.place,
-        line: made.line,
     }
 }

@@ -33,4 +33,5 @@ returns-then-bytes-eq10-clause-pass g c = λ by_lines u limit.
     let n = c.control_ahead-then-bytes-eq10.result.0 in
     subst (IsPassing r b (take n s)) (sym c.control_ahead-then-bytes-eq10.ensures.last)
     (one_ahead r b n s 0x0a c.control_ahead-then-bytes-eq10.ensures.few (grind (arith, some)) first
-    (λ is. feed_passes by_lines u limit admits (c.control_ahead-then-bytes-eq10.ensures.admits is) b))
+    (λ is. feed_passes by_lines u limit admits
+    (c.control_ahead-then-bytes-eq10.ensures.admits is) b))

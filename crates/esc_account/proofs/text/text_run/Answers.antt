@@ -23,7 +23,8 @@ loop-at-preserved g c =
       pass = λ by_lines u limit.
           let r = rule_of by_lines u limit (g.P.Admit.admits c.args.policy.now) in
           subst (λ v. IsPassing r b v next) (sym (take_plus at n s))
-          (both_pass r b last next (take at s) (take n (drop at s)) (c.loop-at.invariant.pass by_lines u limit)
+          (both_pass r b last next (take at s) (take n (drop at s))
+          (c.loop-at.invariant.pass by_lines u limit)
           (subst (λ v. IsPassing r last (take n v) next) c.after.ensures
           (c.run_ahead-run.ensures.pass by_lines u limit)));
     }

@@ -8,7 +8,7 @@ abbrev pub invariant-loop-at : goal.invariant-loop-at
 invariant-loop-at g l = record {
   few : l.at ≤ length l.bytes;
   pass : (by_lines : Bool) (u : Guard) (limit : ℕ)
-      → IsPassing (rule_of by_lines u limit (g.P.Admit.admits l.policy)) l.before
+      → IsPassing (rule_of by_lines u limit (g.P.Admit.admits l.policy)) l.fn.before
       (take l.at l.bytes) l.last;
 }
 

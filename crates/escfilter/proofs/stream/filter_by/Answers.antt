@@ -5,7 +5,6 @@ use Rattle.esc_parse.proofs.Lists.{on_ok_more}
 use Rattle.escfilter.specs.Audits.{way_of}
 use Rattle.escfilter.specs.Written.{passed_of}
 use Rattle.escfilter.proofs.Auditing.{told}
-use Rattle.escfilter.proofs.Tallying.{all_rows}
 use Rattle.escfilter.proofs.stream.filter_by.Goals as goal
 
 pub returns-clause-account : goal.returns-clause-account
@@ -17,9 +16,7 @@ returns-clause-account g c =
     (λ k. (
       k.1.0,
       k.1.2,
-      λ few. (
-        told now (way_of c.args.auditor.now) (decoded o.encoding k.1.0) (passed_of Global o k.1.0)
-            few k.1.1 (k.0 ∙ ap way_of same),
-        all_rows now (decoded o.encoding k.1.0) (passed_of Global o k.1.0) few k.1.1,
-      ),
+      λ few.
+          told now (way_of c.args.auditor.now) (decoded o.encoding k.1.0) (passed_of Global o k.1.0)
+          few k.1.1 (k.0 ∙ ap way_of same),
     )) c.filter_heard-filtered.ensures.heard
