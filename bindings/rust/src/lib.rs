@@ -19,8 +19,8 @@
 //! Without the feature `std`, a default, it is `no_std`, over `alloc`, and has [`PieceFilter`] and
 //! [`Normalizer`] in the place of the readers and writers.
 //!
-//! Without the feature `oneshot`, a default, there are the parsers alone, and of the archives
-//! `libstream_c.a` is enough.
+//! Without the feature `oneshot`, a default, there are the parsers alone, and of the archive
+//! nothing else is linked.
 //!
 //! ```
 //! use escape_stream::{Policy, filter, is_normal, normal};

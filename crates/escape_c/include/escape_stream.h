@@ -8,7 +8,10 @@
  * so do a page, escape_stream_html_begin and the calls after it, and a normalizer, escape_stream_normal_begin and the calls after
  * it. The calls escape_stream_read_.. take the text of one command, query or image, and the calls escape_stream_write_.. write one.
  *
- *     cc -I crates/escape_c/include program.c libescape_c.a liblibc_c.a
+ *     cc program.c $(pkg-config --cflags --libs escape_stream)
+ *
+ * That links libescape_stream.so.0, or with -static libescape_stream.a. Both run on Linux, on every x86-64 or, built for it,
+ * on every aarch64, with the C library of GNU of any version, or musl.
  *
  * What each call writes is proved, for every stream and every capacity; docs/EMBEDDING.md says what the proof covers and what
  * it takes for granted. Nothing checks the caller, who owes this at every call:
@@ -38,11 +41,14 @@
 extern "C" {
 #endif
 
-/* The version of this library: that of the header and of the archive beside it. */
+/* The version of this header, and of the library beside it. */
 #define ESCAPE_STREAM_VERSION "0.1.0"
 #define ESCAPE_STREAM_VERSION_MAJOR 0
 #define ESCAPE_STREAM_VERSION_MINOR 1
 #define ESCAPE_STREAM_VERSION_PATCH 0
+
+/* The version of the library that a program runs with, as ESCAPE_STREAM_VERSION has that of the header. Nobody frees the text. */
+const char *escape_stream_version(void);
 
 /*
  * The statuses. After each but ESCAPE_STREAM_DONE nothing was written: `out`, `fields`, `items`, `*needed`, `*answer`, `*osc`,

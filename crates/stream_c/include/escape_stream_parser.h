@@ -5,9 +5,12 @@
  * A stream is bytes as a program writes them to a terminal: UTF-8 text, control characters, and the control functions of
  * ECMA-48 and xterm, such as colours, cursor movements and titles. Any bytes are a stream, and it may be cut anywhere.
  *
- *     cc -I crates/stream_c/include program.c libstream_c.a
+ *     cc program.c $(pkg-config --cflags --libs escape_stream_parser)
  *
- * The archive needs nothing but memcpy, memmove and memset. What the calls do is proved, for every stream, in any pieces;
+ * That links libescape_stream.so.0, or with -static libescape_stream.a. Both run on Linux, on every x86-64 or, built for it,
+ * on every aarch64, with the C library of GNU of any version, or musl.
+ *
+ * The calls need nothing but memcpy, memmove and memset. What the calls do is proved, for every stream, in any pieces;
  * docs/EMBEDDING.md says what the proof covers and what it takes for granted. Nothing checks the caller, who owes this:
  *
  *   - No pointer is NULL, also where its length is 0, and nothing that a call is given overlaps anything else that it is given.
@@ -31,11 +34,14 @@
 extern "C" {
 #endif
 
-/* The version of this library: that of the header and of the archive beside it. */
+/* The version of this header, and of the library beside it. */
 #define ESCAPE_STREAM_VERSION "0.1.0"
 #define ESCAPE_STREAM_VERSION_MAJOR 0
 #define ESCAPE_STREAM_VERSION_MINOR 1
 #define ESCAPE_STREAM_VERSION_PATCH 0
+
+/* The version of the library that a program runs with, as ESCAPE_STREAM_VERSION has that of the header. Nobody frees the text. */
+const char *escape_stream_version(void);
 
 /*
  * The kinds of events, and what goes with them. `byte` is a number, `text` the bytes of escape_stream_text.
