@@ -15,3 +15,4 @@ pub mod Finishing
 pub mod LastWritten
 pub mod Running
 pub mod AddUp
+pub mod Tables

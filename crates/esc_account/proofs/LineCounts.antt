@@ -1,8 +1,8 @@
 -- How many line feeds there are.
-use Rattle.std.proofs.Common.{ℕ, ◌≡◌, ◌≤◌, ◌+◌, ◌-◌, take, drop, take-append-drop, Bool, true, false, if◌then◌else◌, ◌||◌, List, [], ◌∷◌, ◌++◌, length, refl, ap, ◌∙◌, arith}
-use Rattle.esc_filter.specs.Lines.{is_line_feed, has_line_feed, IsLine}
-use Rattle.std.proofs.lemmas.List.{take_rest}
-use Rattle.esc_frame.proofs.CsiRuns.{run_joins}
+use Rattle.std.proofs.Common.{ℕ, zero, suc, ◌≡◌, ◌≤◌, ◌<◌, ◌+◌, ◌-◌, take, drop, take-append-drop, Bool, true, false, if◌then◌else◌, List, [], ◌∷◌, ◌++◌, length, get_or, refl, ap, ◌∙◌, arith}
+use Rattle.esc_filter.specs.Lines.{is_line_feed}
+use Rattle.std.proofs.lemmas.List.{take_more, take_rest}
+use Rattle.std.proofs.Math.Seq.{take-add}
 use Rattle.esc_account.specs.Accounts.{feeds}
 
 pub feeds_more : (x y : List ℕ) → feeds (x ++ y) ≡ feeds x + feeds y
@@ -24,52 +24,53 @@ few_feeds (b ∷ x) = by (is_line_feed b) (few_feeds x)
     by true h = omega (arith, h)
     by false h = omega (arith, h)
 
-pub no_feed : (x : List ℕ) → has_line_feed x ≡ false → feeds x ≡ 0
-no_feed [] h = refl
-no_feed (b ∷ x) h = by (is_line_feed b) h (no_feed x)
+-- a byte more
+pub byte_counted : (x : List ℕ) (i count d : ℕ) → i < length x → count ≡ feeds (take i x)
+    → feeds (take (i + 1) x) ≡ count + (if is_line_feed (get_or x i d) then 1 else 0)
+byte_counted x i count d few h =
+    ap feeds (take_more x i d few) ∙ feeds_more (take i x) (get_or x i d ∷ [])
+    ∙ one (is_line_feed (get_or x i d)) (feeds (take i x)) count h
   where
-    by : (t : Bool) → (t || has_line_feed x) ≡ false
-        → (has_line_feed x ≡ false → feeds x ≡ 0)
-        → (if t then 1 + feeds x else feeds x) ≡ 0
-    by true h more = absurd cc
-    by false h more = more h
+    one : (t : Bool) (n count : ℕ) → count ≡ n
+        → n + (if t then 1 + 0 else 0) ≡ count + (if t then 1 else 0)
+    one true n count h = omega (arith, h)
+    one false n count h = omega (arith, h)
 
-pub one_feed : (l : List ℕ) → IsLine l → feeds l ≡ 1
-one_feed l (x, none, e) =
-    ap feeds e ∙ feeds_more x (0x0a ∷ []) ∙ ap (λ n. n + 1) (no_feed x none)
-
--- a line more
-pub feeds_in : (x : List ℕ) (i n count : ℕ) → count ≡ feeds (take i x)
-    → IsLine (take n (take (length x - i) (drop i x))) → count + 1 ≡ feeds (take (i + n) x)
-feeds_in x i n count h line =
-    let piece = take n (take (length x - i) (drop i x)) in
+-- a block more
+pub block_counted : (x : List ℕ) (i n count more : ℕ) → count ≡ feeds (take i x)
+    → more ≡ feeds (take (i + n - i) (drop i x)) → count + more ≡ feeds (take (i + n) x)
+block_counted x i n count more h k =
     omega (
       arith,
       h,
-      one_feed piece line,
-      feeds_more (take i x) piece,
-      ap feeds (run_joins x i n),
+      k,
+      ap (λ m. feeds (take m (drop i x))) (back i n),
+      feeds_more (take i x) (take n (drop i x)),
+      ap feeds (take-add i n x),
     )
+  where
+    back : (i n : ℕ) → i + n - i ≡ n
+    back i n = omega arith
 
--- none more
-pub none_after : (x : List ℕ) (i count : ℕ) → count ≡ feeds (take i x)
-    → has_line_feed (take (length x - i) (drop i x)) ≡ false → count ≡ feeds x
-none_after x i count h none =
-    let piece = take (length x - i) (drop i x) in
+-- all that are left
+pub rest_counted : (x : List ℕ) (i count more : ℕ) → count ≡ feeds (take i x)
+    → more ≡ feeds (take (length x - i) (drop i x)) → count + more ≡ feeds x
+rest_counted x i count more h k =
     omega (
       arith,
       h,
-      no_feed piece none,
-      feeds_more (take i x) piece,
-      ap feeds (ap (λ y. take i x ++ y) (take_rest x i) ∙ take-append-drop i x),
+      k,
+      ap feeds (take_rest x i),
+      feeds_more (take i x) (drop i x),
+      ap feeds (take-append-drop i x),
     )
 
--- a text without line feeds
-pub feedless : (x : List ℕ) → feeds x ≡ 0 → has_line_feed x ≡ false
-feedless [] h = refl
-feedless (b ∷ x) h = by (is_line_feed b) h (feedless x)
-  where
-    by : (t : Bool) → (if t then 1 + feeds x else feeds x) ≡ 0
-        → (feeds x ≡ 0 → has_line_feed x ≡ false) → (t || has_line_feed x) ≡ false
-    by true h more = absurd (omega (arith, h))
-    by false h more = more h
+take_few : (n : ℕ) (x : List ℕ) → length (take n x) ≤ n
+take_few zero x = omega arith
+take_few (suc n) [] = omega arith
+take_few (suc n) (b ∷ x) = omega (arith, take_few n x)
+
+pub rest_few : (x : List ℕ) (i count more : ℕ) → i ≤ length x → count ≤ i
+    → more ≤ length (take (length x - i) (drop i x)) → count + more ≤ length x
+rest_few x i count more within few h =
+    omega (arith, within, few, h, take_few (length x - i) (drop i x))

@@ -8,3 +8,4 @@ pub mod Passing
 pub mod Wholes
 pub mod Rules
 pub mod Judges
+pub mod Tables

@@ -17,7 +17,8 @@ use esc_frame::laws;
 use std::alloc::{AllocError, Allocator, Global};
 
 /// Keeps the account of a stream: it hears what comes of it. It keeps what came of the segment that
-/// is unfinished. After 2^62 bytes nothing is said of it.
+/// is unfinished, and cuts it again once it has twice as many bytes, so that a long one costs no
+/// more for each of its bytes. After 2^62 bytes nothing is said of it.
 #[derive(Drop)]
 pub struct Ledger<J, B, A: Allocator = Global> {
     judge: J,
@@ -25,6 +26,8 @@ pub struct Ledger<J, B, A: Allocator = Global> {
     account: Account,
     // what is unfinished
     rest: Vec<u8, A>,
+    // how many bytes are kept before these are cut again
+    next: usize,
 }
 
 impl<J: Judge<A>, B: Book<A>, A: Allocator> Ledger<J, B, A> {
@@ -41,6 +44,7 @@ impl<J: Judge<A>, B: Book<A>, A: Allocator> Ledger<J, B, A> {
             book,
             account: Account::new(),
             rest: Vec::new(alloc),
+            next: 0,
         }
     }
 
@@ -66,6 +70,24 @@ impl<J: Judge<A>, B: Book<A>, A: Allocator> Ledger<J, B, A> {
         ensures { result ≡ self.book }
     {
         self.book
+    }
+
+    // Whether what is kept is to be cut later.
+    fn waits(&self) -> bool {
+        self.rest.len() < self.next
+    }
+
+    // Enters the segments that are finished, and says when to look again.
+    fn look(&mut self) -> Result<(), AllocError>
+        requires { HasRoom self.old.account (length self.old.rest.items) }
+        ensures hears { (s : List ℕ) → Hears J.Judge B.Book self.old s
+            → OnOk result (Hears J.Judge B.Book self.new s) }
+        ensures judge { self.new.judge ≡ self.old.judge }
+        ensures refused { OnErr result (Refused A) }
+    {
+        self.enter_finished()?;
+        self.next = self.rest.len().saturating_mul(2);
+        Ok(())
     }
 
     // Enters the segments that are finished, and keeps what is not.
@@ -97,7 +119,10 @@ impl<J: Judge<A>, B: Book<A>, A: Allocator> Audience<A> for Ledger<J, B, A> {
             return Ok(());
         }
         memory::extend(&mut self.rest, bytes)?;
-        self.enter_finished()
+        if self.waits() {
+            return Ok(());
+        }
+        self.look()
     }
 
     fn hear_end(&mut self, _text: &str) -> Result<(), AllocError> {

@@ -1,17 +1,22 @@
-use Rattle.std.proofs.Common.{rules}
-use Rattle.esc_account.proofs.LineCounts.{feeds_in, none_after}
+use Rattle.std.proofs.Common.{arith}
+use Rattle.esc_account.proofs.LineCounts.{block_counted, rest_counted, rest_few}
 use Rattle.esc_account.proofs.feeds.feeds.Goals as goal
 
-pub loop-n-preserved : goal.loop-n-preserved
-loop-n-preserved c =
-    let s = c.loop-n in record {
-      within = search rules;
-      few = search rules;
-      counted = feeds_in c.args.bytes.now s.at c.in-Some.n s.count s.invariant.counted
-          c.in-Some.ensures.2;
+pub loop-at-preserved : goal.loop-at-preserved
+loop-at-preserved c =
+    let s = c.loop-at in record {
+      within = omega (arith, c.loop-at-test.true);
+      few = omega (arith, s.invariant.few, c.feeds_of_few-more.ensures.few.1);
+      counted = block_counted c.args.bytes.now s.at 192 s.count c.feeds_of_few-more.result
+          s.invariant.counted c.feeds_of_few-more.ensures.count;
     }
 
 pub returns-clause-count : goal.returns-clause-count
 returns-clause-count c =
-    none_after c.args.bytes.now c.loop-n.at c.loop-n.count c.loop-n.invariant.counted
-    c.in_default.ensures
+    rest_counted c.args.bytes.now c.loop-at.at c.loop-at.count c.feeds_of_few-last.result
+    c.loop-at.invariant.counted c.feeds_of_few-last.ensures.count
+
+pub returns-clause-few : goal.returns-clause-few
+returns-clause-few c =
+    rest_few c.args.bytes.now c.loop-at.at c.loop-at.count c.feeds_of_few-last.result
+    c.loop-at.invariant.within c.loop-at.invariant.few c.feeds_of_few-last.ensures.few.0
