@@ -17,8 +17,6 @@ use Rattle.esc_looks.specs.declared.color.Color.{Color}
 use Rattle.esc_looks.specs.declared.look.Look.{Look}
 use Rattle.esc_looks.specs.declared.style.Style.{Style}
 use Rattle.esc_looks.specs.declared.style.Style.TheVariants as style
-use Rattle.esc_sequences.specs.declared.intensity.Intensity.{Intensity}
-use Rattle.esc_sequences.specs.declared.intensity.Intensity.TheVariants as intensity
 use Rattle.esc_sequences.specs.declared.underline.Underline.{Underline as UnderlineKind}
 use Rattle.esc_sequences.specs.declared.underline.Underline.TheVariants as underline
 use Rattle.esc_html.specs.Inline.{background_style, background_text, color_style, colors_text, declared_as, decoration_style, decoration_text, foreground_text, inline_text, is_underlined, keywords_text, kind_text, lines_text, rgb_of, slant_text, weight_text}
@@ -210,10 +208,11 @@ if_plain : (b : Bool) (x : List ℕ) → list_all is_name_char x ≡ true
 if_plain true x h = h
 if_plain false x h = refl
 
-weight_plain : (i : Intensity) → list_all is_name_char (weight_text i) ≡ true
-weight_plain intensity.Normal = refl
-weight_plain intensity.Bold = refl
-weight_plain intensity.Half = refl
+weight_plain : (h i : Bool) → list_all is_name_char (weight_text h i) ≡ true
+weight_plain true true = refl
+weight_plain true false = refl
+weight_plain false true = refl
+weight_plain false false = refl
 
 kind_plain : (u : UnderlineKind) → list_all is_name_char (kind_text u) ≡ true
 kind_plain underline.None = refl
@@ -244,8 +243,8 @@ lines_plain false false false false = refl
 keywords_plain : (l : Look) → list_all is_name_char (keywords_text l) ≡ true
 keywords_plain l =
     let lines = lines_text (is_underlined l.underline) l.strikethrough l.overline l.blink in
-    both_plain (weight_text l.intensity) (slant_text l.italic ++ (lines ++ kind_text l.underline))
-    (weight_plain l.intensity)
+    both_plain (weight_text l.bold l.faint) (slant_text l.italic ++ (lines ++ kind_text l.underline))
+    (weight_plain l.bold l.faint)
     (both_plain (slant_text l.italic) (lines ++ kind_text l.underline)
     (if_plain l.italic (codes "font-style:italic;") refl)
     (both_plain lines (kind_text l.underline)

@@ -11,7 +11,7 @@ use Rattle.esc_html.specs.Pieces.{attribute_text, attributes_text, class_attribu
 use Rattle.esc_html.proofs.Encoded.{referenced, unreferenced}
 use Rattle.esc_html.specs.Names.{more_span_names, span_name, span_names}
 use Rattle.esc_looks.specs.Classes.{color_name}
-use Rattle.esc_looks.specs.Looks.{background_class, background_style, class_if, foreground_class, foreground_style, intensity_class, look_classes, look_styles, present, shown_background, shown_foreground, underline_class, underline_color_class, underline_color_style}
+use Rattle.esc_looks.specs.Looks.{background_class, background_style, class_if, foreground_class, foreground_style, look_classes, look_styles, present, seen_foreground, shown_background, shown_foreground, underline_class, underline_color_class, underline_color_style}
 use Rattle.esc_looks.specs.Styles.{style_text, styles_text}
 use Rattle.esc_looks.specs.declared.class.Class.{Class}
 use Rattle.esc_looks.specs.declared.class.Class.TheVariants as class
@@ -19,8 +19,6 @@ use Rattle.esc_looks.specs.declared.color.Color.{Color}
 use Rattle.esc_looks.specs.declared.color.Color.TheVariants.{Default, Named, Direct}
 use Rattle.esc_looks.specs.declared.look.Look.{Look}
 use Rattle.esc_looks.specs.declared.style.Style.{Style}
-use Rattle.esc_sequences.specs.declared.intensity.Intensity.{Intensity}
-use Rattle.esc_sequences.specs.declared.intensity.Intensity.TheVariants as intensity
 use Rattle.esc_sequences.specs.declared.underline.Underline.{Underline}
 use Rattle.esc_sequences.specs.declared.underline.Underline.TheVariants as underline
 use Rattle.esc_typed.specs.declared.ansi_color.AnsiColor.{AnsiColor}
@@ -161,11 +159,6 @@ styles_size (s ∷ ss) =
 
 -- ---- the slots of a look
 
-intensity_size : (i : Intensity) → name_size (intensity_class i) ≤ 9
-intensity_size intensity.Normal = leb-true 0 9 refl
-intensity_size intensity.Bold = leb-true 8 9 refl
-intensity_size intensity.Half = leb-true 9 9 refl
-
 underline_size : (u : Underline) → name_size (underline_class u) ≤ 20
 underline_size underline.None = leb-true 0 20 refl
 underline_size underline.Single = leb-true 13 20 refl
@@ -202,12 +195,13 @@ line_size (Named n) = omega (arith, named_size (codes "es-ul-") n refl)
 line_size (Direct d) = leb-true 30 30 refl
 
 -- the classes of a look but those of its colours
-marks_size : (i : Intensity) (u : Underline) (a b c d e f : Bool) (rest : List (Option Class))
-    → names_size (present (intensity_class i ∷ class_if a class.Italic ∷ underline_class u
+marks_size : (h i : Bool) (u : Underline) (a b c d e f : Bool) (rest : List (Option Class))
+    → names_size (present (class_if h class.Bold ∷ class_if i class.Faint
+    ∷ class_if a class.Italic ∷ underline_class u
     ∷ class_if b class.Blink ∷ class_if c class.Inverse ∷ class_if d class.Concealed
     ∷ class_if e class.Strikethrough ∷ class_if f class.Overline ∷ rest))
-    ≤ 101 + names_size (present rest)
-marks_size i u a b c d e f rest =
+    ≤ 109 + names_size (present rest)
+marks_size h i u a b c d e f rest =
     let x0 = class_if f class.Overline ∷ rest in
     let x1 = class_if e class.Strikethrough ∷ x0 in
     let x2 = class_if d class.Concealed ∷ x1 in
@@ -215,9 +209,11 @@ marks_size i u a b c d e f rest =
     let x4 = class_if b class.Blink ∷ x3 in
     let x5 = underline_class u ∷ x4 in
     let x6 = class_if a class.Italic ∷ x5 in
+    let x7 = class_if i class.Faint ∷ x6 in
     omega (
       arith,
-      names_next (intensity_class i) x6,
+      names_next (class_if h class.Bold) x7,
+      names_next (class_if i class.Faint) x6,
       names_next (class_if a class.Italic) x5,
       names_next (underline_class u) x4,
       names_next (class_if b class.Blink) x3,
@@ -225,7 +221,8 @@ marks_size i u a b c d e f rest =
       names_next (class_if d class.Concealed) x1,
       names_next (class_if e class.Strikethrough) x0,
       names_next (class_if f class.Overline) rest,
-      intensity_size i,
+      if_size h class.Bold 8 (leb-true 8 8 refl),
+      if_size i class.Faint 9 (leb-true 9 9 refl),
       underline_size u,
       if_size a class.Italic 10 (leb-true 10 10 refl),
       if_size b class.Blink 9 (leb-true 9 9 refl),
@@ -274,24 +271,25 @@ class_span_size : (l : Look) → length (piece_text (span false l)) ≤ 231
 class_span_size l =
     let cs = present (look_classes l) in
     let ss = present (look_styles l) in
-    let rest = foreground_class (shown_foreground l) ∷ background_class (shown_background l)
+    let rest = foreground_class (seen_foreground l) ∷ background_class (shown_background l)
     ∷ underline_color_class l.underline_color ∷ [] in
     omega (
       arith,
       tag_size (class_attribute cs) (style_attribute ss),
       classes_size cs,
       styles_size ss,
-      marks_size l.intensity l.underline l.italic l.blink l.inverse l.concealed l.strikethrough
-          l.overline rest,
-      colors_size (shown_foreground l) (shown_background l) l.underline_color,
+      marks_size l.bold l.faint l.underline l.italic l.blink l.inverse l.concealed
+          l.strikethrough l.overline rest,
+      colors_size (seen_foreground l) (shown_background l) l.underline_color,
     )
 
 -- ---- declarations alone
 
-weight_size : (i : Intensity) → length (weight_text i) ≤ 17
-weight_size intensity.Normal = leb-true 0 17 refl
-weight_size intensity.Bold = leb-true 17 17 refl
-weight_size intensity.Half = leb-true 12 17 refl
+weight_size : (h i : Bool) → length (weight_text h i) ≤ 29
+weight_size true true = leb-true 29 29 refl
+weight_size true false = leb-true 17 29 refl
+weight_size false true = leb-true 12 29 refl
+weight_size false false = leb-true 0 29 refl
 
 slant_size : (b : Bool) → length (slant_text b) ≤ 18
 slant_size true = leb-true 18 18 refl
@@ -323,9 +321,9 @@ kind_size underline.Curly = leb-true 27 29 refl
 kind_size underline.Dotted = leb-true 29 29 refl
 kind_size underline.Dashed = leb-true 29 29 refl
 
-keywords_size : (l : Look) → length (keywords_text l) ≤ 124
+keywords_size : (l : Look) → length (keywords_text l) ≤ 136
 keywords_size l =
-    let w = weight_text l.intensity in
+    let w = weight_text l.bold l.faint in
     let s = slant_text l.italic in
     let n = lines_text (is_underlined l.underline) l.strikethrough l.overline l.blink in
     let k = kind_text l.underline in
@@ -334,7 +332,7 @@ keywords_size l =
       length-append w (s ++ (n ++ k)),
       length-append s (n ++ k),
       length-append n k,
-      weight_size l.intensity,
+      weight_size l.bold l.faint,
       slant_size l.italic,
       lines_size (is_underlined l.underline) l.strikethrough l.overline l.blink,
       kind_size l.underline,

@@ -8,8 +8,6 @@ use Rattle.esc_looks.specs.declared.color.Color.TheVariants.{Default, Named, Dir
 use Rattle.esc_looks.specs.declared.look.Look.{Look}
 use Rattle.esc_looks.specs.declared.style.Style.{Style}
 use Rattle.esc_looks.specs.declared.style.Style.TheVariants as style
-use Rattle.esc_sequences.specs.declared.intensity.Intensity.{Intensity}
-use Rattle.esc_sequences.specs.declared.intensity.Intensity.TheVariants as intensity
 use Rattle.esc_sequences.specs.declared.underline.Underline.{Underline}
 use Rattle.esc_sequences.specs.declared.underline.Underline.TheVariants as underline
 use Rattle.esc_typed.specs.declared.ansi_color.AnsiColor.{AnsiColor}
@@ -36,11 +34,15 @@ ansi_rgb ansi.BrightMagenta = (0xa4, 0x75, 0xf9)
 ansi_rgb ansi.BrightCyan = (0x1b, 0x7c, 0x83)
 ansi_rgb ansi.BrightWhite = (0x8c, 0x95, 0x9f)
 
--- how bright characters are
-abbrev pub weight_text : Intensity → List ℕ
-weight_text intensity.Normal = []
-weight_text intensity.Bold = codes "font-weight:bold;"
-weight_text intensity.Half = codes "opacity:0.8;"
+-- how bright characters are: bold ones may be faint too
+abbrev pub bold_text : Bool → List ℕ
+bold_text b = if b then codes "font-weight:bold;" else []
+
+abbrev pub faint_text : Bool → List ℕ
+faint_text b = if b then codes "opacity:0.8;" else []
+
+abbrev pub weight_text : Bool → Bool → List ℕ
+weight_text bold faint = bold_text bold ++ faint_text faint
 
 -- whether they are slanted
 abbrev pub slant_text : Bool → List ℕ
@@ -117,7 +119,7 @@ declared_text (Numbers s) = style_text s
 -- ---- all of them
 
 abbrev pub keywords_text : Look → List ℕ
-keywords_text l = weight_text l.intensity
+keywords_text l = weight_text l.bold l.faint
     ++ (slant_text l.italic
     ++ (lines_text (is_underlined l.underline) l.strikethrough l.overline l.blink
     ++ kind_text l.underline))

@@ -7,7 +7,7 @@ ghost use Rattle.memory.specs.Refusals.{Refused};
 
 use crate::tag::push_style;
 use esc_looks::{Color, Look, Style};
-use esc_sequences::{Intensity, Underline};
+use esc_sequences::Underline;
 use esc_typed::AnsiColor;
 use esc_values::RgbColor;
 use std::alloc::{AllocError, Allocator};
@@ -44,7 +44,7 @@ fn push_keywords<A: Allocator>(html: &mut String<A>, look: &Look) -> Result<(), 
     ensures refused { OnErr result (Refused A) }
 {
     let underlined = is_underlined(look.underline);
-    memory::push_str(html, weight(look.intensity))?;
+    memory::push_str(html, weight(look.bold, look.faint))?;
     memory::push_str(html, slant(look.italic))?;
     memory::push_str(
         html,
@@ -82,13 +82,14 @@ fn push_declared<A: Allocator>(html: &mut String<A>, declared: Declared) -> Resu
 }
 
 // How bright characters are.
-fn weight(intensity: Intensity) -> &'static str
-    ensures { result.now ≡ weight_text intensity }
+fn weight(bold: bool, faint: bool) -> &'static str
+    ensures { result.now ≡ weight_text bold faint }
 {
-    match intensity {
-        Intensity::Normal => "",
-        Intensity::Bold => "font-weight:bold;",
-        Intensity::Half => "opacity:0.8;",
+    match (bold, faint) {
+        (false, false) => "",
+        (true, false) => "font-weight:bold;",
+        (false, true) => "opacity:0.8;",
+        (true, true) => "font-weight:bold;opacity:0.8;",
     }
 }
 
