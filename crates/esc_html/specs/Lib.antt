@@ -4,6 +4,7 @@ pub mod Tokens
 pub mod Names
 pub mod Pieces
 pub mod Growing
+pub mod Characters
 pub mod Addresses
 pub mod Listed
 pub mod Marks

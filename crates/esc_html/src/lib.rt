@@ -18,6 +18,7 @@
 #![tactic(auto)]
 
 mod address;
+mod character;
 mod escaping;
 pub mod html_writer;
 mod inline;
