@@ -1,4 +1,6 @@
 pub mod Attributes
+pub mod Plain
+pub mod Shades
 pub mod Inline
 pub mod Tokens
 pub mod Names
@@ -8,7 +10,6 @@ pub mod Characters
 pub mod Addresses
 pub mod Listed
 pub mod Marks
-pub mod Plain
 pub mod Renditions
 pub mod Pages
 pub mod Shown

@@ -2,7 +2,7 @@
 use Rattle.std.specs.Prelude.{Bool, true, false, not, ◌&&◌, is_none}
 use Rattle.esc_looks.specs.Looks.{underline_class}
 use Rattle.esc_looks.specs.declared.color.Color.{Color}
-use Rattle.esc_looks.specs.declared.color.Color.TheVariants.{Default, Named, Direct}
+use Rattle.esc_looks.specs.declared.color.Color.TheVariants.{Default, Named, Palette, Direct}
 use Rattle.esc_looks.specs.declared.look.Look.{Look}
 
 -- none of the renditions but colours holds
@@ -18,6 +18,7 @@ is_markless l = not l.bold
 abbrev pub is_own : Color → Bool
 is_own Default = true
 is_own (Named c) = false
+is_own (Palette n) = false
 is_own (Direct c) = false
 
 abbrev pub is_colorless : Look → Bool

@@ -10,10 +10,10 @@ use crate::character::is_noncharacter;
 const LONGEST_ADDRESS: usize = 2083;
 
 /// Whether a link may lead to this address: its scheme is `http` or `https` with `//`, or `mailto`,
-/// in letters of either case (RFC 3986, 3.1), and it has no control, no space and no noncharacter. A browser leaves
-/// out tabs, line ends and what comes before the scheme, and takes what has no `//` for an address
-/// of the page's own host (WHATWG URL, 4.4): so such an address is refused. So is one of more than
-/// 2,083 bytes, as in VTE and iTerm2.
+/// in letters of either case (RFC 3986, 3.1), and it has no control, no space and no noncharacter.
+/// A browser leaves out tabs, line ends and what comes before the scheme, and takes what has no
+/// `//` for an address of the page's own host (WHATWG URL, 4.4): so such an address is refused. So
+/// is one of more than 2,083 bytes, as in VTE and iTerm2.
 pub fn is_safe_address(address: &str) -> bool
     ensures { result ≡ is_safe_address address.now }
 {

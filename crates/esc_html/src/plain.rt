@@ -54,6 +54,6 @@ fn is_own(color: Color) -> bool
 {
     match color {
         Color::Default => true,
-        Color::Named(_) | Color::Direct(_) => false,
+        Color::Named(_) | Color::Palette(_) | Color::Direct(_) => false,
     }
 }

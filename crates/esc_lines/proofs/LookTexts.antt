@@ -55,25 +55,29 @@ rgb_digits c =
     two (number_text c.0) (number_text c.1 ++ number_text c.2) (number_digits c.0)
     (two (number_text c.1) (number_text c.2) (number_digits c.1) (number_digits c.2))
 
-color_digits : (base : ℕ) (t : List ℕ) (c : Color) → AreDigits t
-    → AreDigits (color_text base t c)
-color_digits base t color.Default h = refl
-color_digits base t (color.Named c) h = number_digits (named_number base (ansi_color_number c))
-color_digits base t (color.Direct c) h = two t (rgb_text c) h (rgb_digits c)
+color_digits : (base : ℕ) (s t : List ℕ) (c : Color) → AreDigits s → AreDigits t
+    → AreDigits (color_text base s t c)
+color_digits base s t color.Default h k = refl
+color_digits base s t (color.Named c) h k =
+    number_digits (named_number base (ansi_color_number c))
+color_digits base s t (color.Palette n) h k = two s (number_text n) h (number_digits n)
+color_digits base s t (color.Direct c) h k = two t (rgb_text c) k (rgb_digits c)
 
 underline_color_digits : (c : Color) → AreDigits (underline_color_text c)
 underline_color_digits color.Default = refl
 underline_color_digits (color.Named c) =
     two (codes ";58;5") (number_text (ansi_color_number c)) refl
     (number_digits (ansi_color_number c))
+underline_color_digits (color.Palette n) =
+    two (codes ";58;5") (number_text n) refl (number_digits n)
 underline_color_digits (color.Direct c) = two (codes ";58;2") (rgb_text c) refl (rgb_digits c)
 
 colors_digits : (l : Look) → AreDigits (colors_text l)
 colors_digits l =
-    two (color_text 30 (codes ";38;2") l.foreground) _
-    (color_digits 30 (codes ";38;2") l.foreground refl)
-    (two (color_text 40 (codes ";48;2") l.background) _
-    (color_digits 40 (codes ";48;2") l.background refl)
+    two (color_text 30 (codes ";38;5") (codes ";38;2") l.foreground) _
+    (color_digits 30 (codes ";38;5") (codes ";38;2") l.foreground refl refl)
+    (two (color_text 40 (codes ";48;5") (codes ";48;2") l.background) _
+    (color_digits 40 (codes ";48;5") (codes ";48;2") l.background refl refl)
     (underline_color_digits l.underline_color))
 
 rejoined : (a b c d m : List ℕ)

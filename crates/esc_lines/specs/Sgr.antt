@@ -45,19 +45,23 @@ named_number base n = if nat_lt n 8 then base + n else base + 52 + n
 abbrev pub rgb_text : ℕ × ℕ × ℕ → List ℕ
 rgb_text c = number_text c.0 ++ (number_text c.1 ++ number_text c.2)
 
-abbrev pub color_text : ℕ → List ℕ → Color → List ℕ
-color_text base direct color.Default = []
-color_text base direct (color.Named c) = number_text (named_number base (ansi_color_number c))
-color_text base direct (color.Direct c) = direct ++ rgb_text c
+abbrev pub color_text : ℕ → List ℕ → List ℕ → Color → List ℕ
+color_text base entry direct color.Default = []
+color_text base entry direct (color.Named c) =
+    number_text (named_number base (ansi_color_number c))
+color_text base entry direct (color.Palette n) = entry ++ number_text n
+color_text base entry direct (color.Direct c) = direct ++ rgb_text c
 
 abbrev pub underline_color_text : Color → List ℕ
 underline_color_text color.Default = []
 underline_color_text (color.Named c) = codes ";58;5" ++ number_text (ansi_color_number c)
+underline_color_text (color.Palette n) = codes ";58;5" ++ number_text n
 underline_color_text (color.Direct c) = codes ";58;2" ++ rgb_text c
 
 abbrev pub colors_text : Look → List ℕ
-colors_text l = color_text 30 (codes ";38;2") l.foreground
-    ++ (color_text 40 (codes ";48;2") l.background ++ underline_color_text l.underline_color)
+colors_text l = color_text 30 (codes ";38;5") (codes ";38;2") l.foreground
+    ++ (color_text 40 (codes ";48;5") (codes ";48;2") l.background
+    ++ underline_color_text l.underline_color)
 
 -- what makes the look, whatever held before
 abbrev pub look_text : Look → List ℕ
@@ -88,6 +92,10 @@ abbrev pub is_named : ℕ → Color → Bool
 is_named n (color.Named c) = n == ansi_color_number c
 is_named n _ = false
 
+abbrev pub is_entry : ℕ → Color → Bool
+is_entry n (color.Palette m) = n == m
+is_entry n _ = false
+
 abbrev pub is_direct : ℕ × ℕ × ℕ → Color → Bool
 is_direct a (color.Direct c) = a.0 == c.0 && a.1 == c.1 && a.2 == c.2
 is_direct a _ = false
@@ -95,6 +103,7 @@ is_direct a _ = false
 abbrev pub same_color : Color → Color → Bool
 same_color color.Default c = is_default c
 same_color (color.Named a) c = is_named (ansi_color_number a) c
+same_color (color.Palette n) c = is_entry n c
 same_color (color.Direct a) c = is_direct a c
 
 abbrev pub same_look : Look → Look → Bool

@@ -100,14 +100,17 @@ underline_class underline.Dashed = Some class.DashedUnderline
 
 abbrev pub foreground_class : Color → Option Class
 foreground_class (color.Named c) = Some (class.Foreground c)
+foreground_class (color.Palette n) = Some (class.PaletteForeground n)
 foreground_class _ = None
 
 abbrev pub background_class : Color → Option Class
 background_class (color.Named c) = Some (class.Background c)
+background_class (color.Palette n) = Some (class.PaletteBackground n)
 background_class _ = None
 
 abbrev pub underline_color_class : Color → Option Class
 underline_color_class (color.Named c) = Some (class.UnderlineColor c)
+underline_color_class (color.Palette n) = Some (class.PaletteUnderline n)
 underline_color_class _ = None
 
 abbrev pub foreground_style : Color → Option Style

@@ -152,8 +152,8 @@ impl Look {
         }
     }
 
-    // The same, but for that of concealed ones, which are not seen in any.
-    fn seen_foreground(&self) -> Color
+    /// The colour in which characters are shown, but for concealed ones, which are seen in none.
+    pub fn seen_foreground(&self) -> Color
         ensures { result ≡ seen_foreground self.now }
     {
         if self.concealed {
@@ -163,8 +163,8 @@ impl Look {
         }
     }
 
-    // The colour that is shown around them.
-    fn shown_background(&self) -> Color
+    /// The colour that is shown around them.
+    pub fn shown_background(&self) -> Color
         ensures { result ≡ shown_background self.now }
     {
         if self.inverse {
@@ -254,6 +254,7 @@ fn foreground_class(color: Color) -> Option<Class>
 {
     match color {
         Color::Named(color) => Some(Class::Foreground(color)),
+        Color::Palette(index) => Some(Class::PaletteForeground(index)),
         Color::Default | Color::Direct(_) => None,
     }
 }
@@ -263,6 +264,7 @@ fn background_class(color: Color) -> Option<Class>
 {
     match color {
         Color::Named(color) => Some(Class::Background(color)),
+        Color::Palette(index) => Some(Class::PaletteBackground(index)),
         Color::Default | Color::Direct(_) => None,
     }
 }
@@ -272,6 +274,7 @@ fn underline_color_class(color: Color) -> Option<Class>
 {
     match color {
         Color::Named(color) => Some(Class::UnderlineColor(color)),
+        Color::Palette(index) => Some(Class::PaletteUnderline(index)),
         Color::Default | Color::Direct(_) => None,
     }
 }
@@ -284,7 +287,7 @@ fn foreground_style(color: Color) -> Option<Style>
             let (red, green, blue) = color.to_tuple_rgb8();
             Some(Style::Color(red, green, blue))
         }
-        Color::Default | Color::Named(_) => None,
+        Color::Default | Color::Named(_) | Color::Palette(_) => None,
     }
 }
 
@@ -296,7 +299,7 @@ fn background_style(color: Color) -> Option<Style>
             let (red, green, blue) = color.to_tuple_rgb8();
             Some(Style::BackgroundColor(red, green, blue))
         }
-        Color::Default | Color::Named(_) => None,
+        Color::Default | Color::Named(_) | Color::Palette(_) => None,
     }
 }
 
@@ -308,6 +311,6 @@ fn underline_color_style(color: Color) -> Option<Style>
             let (red, green, blue) = color.to_tuple_rgb8();
             Some(Style::TextDecorationColor(red, green, blue))
         }
-        Color::Default | Color::Named(_) => None,
+        Color::Default | Color::Named(_) | Color::Palette(_) => None,
     }
 }
