@@ -270,7 +270,8 @@ lines_plain false false false false = refl
 keywords_plain : (l : Look) → list_all is_name_char (keywords_text l) ≡ true
 keywords_plain l =
     let lines = lines_text (is_underlined l.underline) l.strikethrough l.overline l.blink in
-    both_plain (weight_text l.bold l.faint) (slant_text l.italic ++ (lines ++ kind_text l.underline))
+    both_plain (weight_text l.bold l.faint)
+    (slant_text l.italic ++ (lines ++ kind_text l.underline))
     (weight_plain l.bold l.faint)
     (both_plain (slant_text l.italic) (lines ++ kind_text l.underline)
     (if_plain l.italic (codes "font-style:italic;") refl)

@@ -157,7 +157,8 @@ run_added (c ∷ cs) p h s =
 -- ---- runs
 
 run_is : {A : Type 0} (cs t : List ℕ) (p q : Page A) → list_all is_clear cs ≡ true
-    → list_all is_character cs ≡ true → encode_utf8_all cs ≡ t → q ≡ with_text p (filter is_visible t)
+    → list_all is_character cs ≡ true → encode_utf8_all cs ≡ t
+    → q ≡ with_text p (filter is_visible t)
     → FoldsTo Takes p (map action.Print cs) q
 run_is cs t p q h s e i =
     subst (λ x. FoldsTo Takes p (map action.Print cs) x)

@@ -45,7 +45,8 @@ const DARK: &str = "\
 // line through, over or under characters adds to the others; what blinks does not.
 //
 // Grounds have colours of their own: black and white can be read on each, and any other colour on a
-// deeper one, or on one that is nearly white. What stands on the ground of a line touches the one of the next.
+// deeper one, or on one that is nearly white. What stands on the ground of a line touches the one of
+// the next.
 const RULES: &str = "\
 .es-stream {
   --es-on-black: #24292f; --es-on-red: #dd313d; --es-on-green: #258640; --es-on-yellow: #927100;
@@ -88,7 +89,7 @@ const RULES: &str = "\
   --es-bright-magenta: #d2a8ff; --es-bright-cyan: #56d4dd; }
 ";
 
-// What grounds on which black can be read better than white have, after their names: darker colours.
+// What grounds on which black can be read better have, after their names: darker colours.
 const ON_LIGHT: &str = " {
   --es-red: #b3261e; --es-green: #116329; --es-yellow: #7d4e00; --es-blue: #0550ae;
   --es-magenta: #8250df; --es-cyan: #0b6b75; --es-bright-black: #57606a; --es-bright-red: #cf222e;

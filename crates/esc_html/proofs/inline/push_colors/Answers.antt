@@ -12,7 +12,8 @@ returns-clause-ok g c =
     let old = string_bytes c.args.html.now in
     three_added old one two (string_bytes c.push_declared-3.new.html)
     (foreground_text l.concealed l.inverse (seen_foreground l) (shown_background l))
-    (background_text l.inverse (seen_foreground l) (shown_background l)) (decoration_text l.underline_color)
+    (background_text l.inverse (seen_foreground l) (shown_background l))
+    (decoration_text l.underline_color)
     (c.in_ok-push_declared.ensures.ok ∙ ap (λ x. old ++ x) c.foreground.ensures)
     (c.in_ok-push_declared-2.ensures.ok ∙ ap (λ x. one ++ x) c.background.ensures)
     (c.in_ok-push_declared-3.ensures.ok ∙ ap (λ x. two ++ x) c.decoration.ensures)
