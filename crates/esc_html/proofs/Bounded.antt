@@ -20,6 +20,7 @@ use Rattle.esc_frame.specs.Machine.Moves.{after_all, events_all}
 use Rattle.esc_frame.specs.Stream.{added_within, events_within}
 use Rattle.esc_frame.proofs.Streams.{added_is}
 use Rattle.esc_html.specs.Bounds.{IsBounded, IsBoundedPiece}
+use Rattle.esc_html.specs.Characters.{shown_as}
 use Rattle.esc_html.specs.Marks.{Pen, Step, redirects, restyles, shows, nothing, address_of, command_step, ends_line, step_of}
 use Rattle.esc_html.specs.Pages.{State, after_character, closing_text, first_state, page_text, pieces_by, pieces_from, state_by, state_from, state_of_stream}
 use Rattle.esc_html.specs.Pieces.{html_text, piece_text}
@@ -227,7 +228,7 @@ module _ (A : Type 0) where
   shows_if false c = tt
 
   good_redirect : (p : Pen) (v : Value A) → IsGoodRedirect (step_of p v)
-  good_redirect p (print c) = if_shows (c == 0x7f) c
+  good_redirect p (print c) = if_shows (c == 0x7f) (shown_as c)
   good_redirect p (control c) =
       shows_if (code_number c == 0x09 || code_number c == 0x0a) (code_number c)
   good_redirect p (csi c) = redirect_of _ (good_function p (of_csi c))

@@ -8,6 +8,7 @@ use Rattle.std.proofs.lemmas.Bool.{leb-true}
 use Rattle.std.proofs.lemmas.Grind.{flat_map-append}
 use Rattle.std.proofs.lemmas.List.{append-nil, length-append}
 use Rattle.esc_actions.specs.Values.{csi}
+use Rattle.esc_html.specs.Characters.{shown_as}
 use Rattle.esc_html.specs.Marks.{Pen, Step, redirects, shows, nothing, control_step, ends_line, function_step, next_line, print_step, with_look}
 use Rattle.esc_html.specs.Pages.{State, after_character, before_character, closing, link_end_if, link_opening, opening, pieces_by, pieces_from, span_closing, span_end_unless, span_unless, state_by, state_from, without_span}
 use Rattle.esc_html.specs.Pieces.{Piece, escape_text, escape_value, html_text, link, piece_text, span, text}
@@ -303,9 +304,9 @@ csis_keep A pl g (c ∷ cs) =
 pub print_pays : (pl : Bool) (g : State) (c : ℕ) → Pays pl g (print_step c) 150
 print_pays pl g c = by (c == 0x7f)
   where
-    by : (b : Bool) → Pays pl g (if b then nothing else shows c) 150
+    by : (b : Bool) → Pays pl g (if b then nothing else shows (shown_as c)) 150
     by true = nothing_pays pl g 150
-    by false = shows_pays pl g c
+    by false = shows_pays pl g (shown_as c)
 
 pub control_pays : (pl : Bool) (g : State) (n : ℕ) → Pays pl g (control_step n) 150
 control_pays pl g n = by (n == 0x09 || n == 0x0a)

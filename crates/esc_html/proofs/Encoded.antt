@@ -10,6 +10,7 @@ use Rattle.std.proofs.lemmas.List.{append-nil}
 use Rattle.std.proofs.lemmas.Str.{encode_ascii, encodes-append, inside_one}
 use Rattle.memchr.specs.Find.{is_byte3}
 use Rattle.esc_html.specs.Names.{span_names}
+use Rattle.esc_looks.specs.Classes.{index_digits}
 use Rattle.esc_looks.specs.Colors.{color_code, is_small}
 use Rattle.esc_looks.specs.Looks.{look_classes, look_styles, present}
 use Rattle.esc_looks.specs.Styles.{styles_text}
@@ -19,7 +20,7 @@ use Rattle.esc_looks.specs.declared.style.Style.{Style}
 use Rattle.esc_html.specs.Inline.{inline_text}
 use Rattle.esc_html.specs.Pieces.{Piece, text, span, span_end, link, link_end, encoded, escape, escape_text, escape_value, needs_reference, html_text, piece_text, reference_text, is_kept, attribute_text, attributes_text, class_attribute, style_attribute}
 use Rattle.esc_html.proofs.EscapedRuns.{escape_none, mark_small}
-use Rattle.esc_html.proofs.Reading.{code_plain, inline_plain, is_low, is_name_char, names_plain, styles_plain}
+use Rattle.esc_html.proofs.Reading.{code_plain, digits_plain, inline_plain, is_low, is_name_char, names_plain, styles_plain}
 
 literal : (t : List ℕ) → list_all is_small t ≡ true → encode_utf8_all t ≡ t
 literal [] h = refl
@@ -88,6 +89,9 @@ name_small (c ∷ x) h =
 
 pub code_small : (c : ℕ × ℕ × ℕ) → list_all is_small (color_code c) ≡ true
 code_small c = name_small (color_code c) (code_plain c)
+
+pub digits_small : (n : ℕ) → list_all is_small (index_digits n) ≡ true
+digits_small n = name_small (index_digits n) (digits_plain n)
 
 -- a tag around a value
 around : (l x y t : List ℕ) → list_all is_small l ≡ true → list_all is_small t ≡ true

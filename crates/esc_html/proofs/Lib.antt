@@ -1,4 +1,5 @@
 pub mod Attributes
+pub mod Characters
 pub mod Encoded
 pub mod EscapedRuns
 pub mod Fed

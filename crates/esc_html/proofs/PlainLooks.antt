@@ -1,19 +1,18 @@
 -- A look without renditions, field by field, has neither a class nor a style.
-use Rattle.std.proofs.Common.{◌≡◌, Bool, true, false, ◌&&◌, refl}
+use Rattle.std.proofs.Common.{ℕ, ◌≡◌, Bool, true, false, ◌&&◌, refl}
 use Rattle.esc_html.specs.Plain.{is_colorless, is_markless}
 use Rattle.esc_looks.specs.Looks.{is_plain}
 use Rattle.esc_looks.specs.declared.color.Color.{Color}
-use Rattle.esc_looks.specs.declared.color.Color.TheVariants.{Default, Named, Direct}
+use Rattle.esc_looks.specs.declared.color.Color.TheVariants.{Default, Named, Palette, Direct}
 use Rattle.esc_looks.specs.declared.look.Look.{Look}
-use Rattle.esc_sequences.specs.declared.intensity.Intensity.{Intensity}
-use Rattle.esc_sequences.specs.declared.intensity.Intensity.TheVariants as intensity
 use Rattle.esc_sequences.specs.declared.underline.Underline.{Underline}
 use Rattle.esc_sequences.specs.declared.underline.Underline.TheVariants as underline
 
-abbrev look : Intensity → Bool → Underline → Bool → Bool → Bool → Bool → Bool → Color → Color
+abbrev look : Bool → Bool → Bool → Underline → Bool → Bool → Bool → Bool → Bool → Color → Color
     → Color → Look
-look i s u b v c t o f g d = record {
-  intensity = i;
+look h i s u b v c t o f g d = record {
+  bold = h;
+  faint = i;
   italic = s;
   underline = u;
   blink = b;
@@ -29,26 +28,42 @@ look i s u b v c t o f g d = record {
 abbrev IsSame : Look → Type 0
 IsSame l = is_markless l && is_colorless l ≡ is_plain l
 
+direct_around : (x : ℕ × ℕ × ℕ) (d : Color)
+    → IsSame (look false false false underline.None false false false false false Default
+    (Direct x) d)
+direct_around x Default = refl
+direct_around x (Named y) = refl
+direct_around x (Palette y) = refl
+direct_around x (Direct y) = refl
+
+direct_text : (x : ℕ × ℕ × ℕ) (g d : Color)
+    → IsSame (look false false false underline.None false false false false false (Direct x) g d)
+direct_text x Default Default = refl
+direct_text x Default (Named y) = refl
+direct_text x Default (Palette y) = refl
+direct_text x Default (Direct y) = refl
+direct_text x (Named y) d = refl
+direct_text x (Palette y) d = refl
+direct_text x (Direct y) Default = refl
+direct_text x (Direct y) (Named z) = refl
+direct_text x (Direct y) (Palette z) = refl
+direct_text x (Direct y) (Direct z) = refl
+
 colors : (f g d : Color)
-    → IsSame (look intensity.Normal false underline.None false false false false false f g d)
+    → IsSame (look false false false underline.None false false false false false f g d)
 colors Default Default Default = refl
 colors Default Default (Named x) = refl
+colors Default Default (Palette x) = refl
 colors Default Default (Direct x) = refl
 colors Default (Named x) d = refl
-colors Default (Direct x) Default = refl
-colors Default (Direct x) (Named y) = refl
-colors Default (Direct x) (Direct y) = refl
+colors Default (Palette x) d = refl
+colors Default (Direct x) d = direct_around x d
 colors (Named x) g d = refl
-colors (Direct x) Default Default = refl
-colors (Direct x) Default (Named y) = refl
-colors (Direct x) Default (Direct y) = refl
-colors (Direct x) (Named y) d = refl
-colors (Direct x) (Direct y) Default = refl
-colors (Direct x) (Direct y) (Named z) = refl
-colors (Direct x) (Direct y) (Direct z) = refl
+colors (Palette x) g d = refl
+colors (Direct x) g d = direct_text x g d
 
 lines : (b v c t o : Bool) (f g d : Color)
-    → IsSame (look intensity.Normal false underline.None b v c t o f g d)
+    → IsSame (look false false false underline.None b v c t o f g d)
 lines true v c t o f g d = refl
 lines false true c t o f g d = refl
 lines false false true t o f g d = refl
@@ -56,18 +71,18 @@ lines false false false true o f g d = refl
 lines false false false false true f g d = refl
 lines false false false false false f g d = colors f g d
 
-marks : (i : Intensity) (s : Bool) (u : Underline) (b v c t o : Bool) (f g d : Color)
-    → IsSame (look i s u b v c t o f g d)
-marks intensity.Bold s u b v c t o f g d = refl
-marks intensity.Half s u b v c t o f g d = refl
-marks intensity.Normal true u b v c t o f g d = refl
-marks intensity.Normal false underline.None b v c t o f g d = lines b v c t o f g d
-marks intensity.Normal false underline.Single b v c t o f g d = refl
-marks intensity.Normal false underline.Double b v c t o f g d = refl
-marks intensity.Normal false underline.Curly b v c t o f g d = refl
-marks intensity.Normal false underline.Dotted b v c t o f g d = refl
-marks intensity.Normal false underline.Dashed b v c t o f g d = refl
+marks : (h i s : Bool) (u : Underline) (b v c t o : Bool) (f g d : Color)
+    → IsSame (look h i s u b v c t o f g d)
+marks true i s u b v c t o f g d = refl
+marks false true s u b v c t o f g d = refl
+marks false false true u b v c t o f g d = refl
+marks false false false underline.None b v c t o f g d = lines b v c t o f g d
+marks false false false underline.Single b v c t o f g d = refl
+marks false false false underline.Double b v c t o f g d = refl
+marks false false false underline.Curly b v c t o f g d = refl
+marks false false false underline.Dotted b v c t o f g d = refl
+marks false false false underline.Dashed b v c t o f g d = refl
 
 pub plain_same : (l : Look) → IsSame l
-plain_same l = marks l.intensity l.italic l.underline l.blink l.inverse l.concealed
+plain_same l = marks l.bold l.faint l.italic l.underline l.blink l.inverse l.concealed
     l.strikethrough l.overline l.foreground l.background l.underline_color

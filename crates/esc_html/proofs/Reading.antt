@@ -1,5 +1,5 @@
 -- The tokenizer reads the text of pieces as their tokens.
-use Rattle.std.proofs.Common.{ℕ, ◌≡◌, ◌<◌, ◌/◌, ◌%◌, Bool, true, false, not, nat_le, ◌&&◌, ◌||◌, ◌==◌, if◌then◌else◌, inl, inr, List, [], ◌∷◌, ◌++◌, codes, map, Option, Some, None, refl, ap, sym, ◌∙◌, append_assoc, arith}
+use Rattle.std.proofs.Common.{ℕ, ◌≡◌, ◌<◌, ◌+◌, ◌/◌, ◌%◌, Bool, true, false, not, nat_le, nat_lt, ◌&&◌, ◌||◌, ◌==◌, if◌then◌else◌, inl, inr, List, [], ◌∷◌, ◌++◌, codes, map, Option, Some, None, refl, ap, sym, ◌∙◌, append_assoc, arith}
 use Rattle.std.specs.List.{flat_map, list_all}
 use Rattle.std.proofs.lemmas.Bool.Decides.{nat_tests}
 use Rattle.std.proofs.lemmas.Grind.{flat_map-append}
@@ -9,23 +9,22 @@ use Rattle.std.proofs.lemmas.List.{append-nil}
 use Rattle.esc_typed.specs.declared.ansi_color.AnsiColor.{AnsiColor}
 use Rattle.esc_typed.specs.declared.ansi_color.AnsiColor.TheVariants as ansi
 use Rattle.esc_html.specs.Names.{more_span_names, span_name, span_names}
-use Rattle.esc_looks.specs.Classes.{class_name, color_name}
+use Rattle.esc_looks.specs.Classes.{class_name, color_name, index_digits, index_of, index_text, stem, two_digits}
 use Rattle.esc_looks.specs.Colors.{color_code, hex_byte, hex_digit}
-use Rattle.esc_looks.specs.Looks.{look_classes, look_styles, present, shown_background, shown_foreground}
+use Rattle.esc_looks.specs.Looks.{look_classes, look_styles, present, seen_foreground, shown_background}
 use Rattle.esc_looks.specs.Styles.{style_color, style_property, style_text, styles_text}
 use Rattle.esc_looks.specs.declared.color.Color.{Color}
 use Rattle.esc_looks.specs.declared.look.Look.{Look}
 use Rattle.esc_looks.specs.declared.style.Style.{Style}
 use Rattle.esc_looks.specs.declared.style.Style.TheVariants as style
-use Rattle.esc_sequences.specs.declared.intensity.Intensity.{Intensity}
-use Rattle.esc_sequences.specs.declared.intensity.Intensity.TheVariants as intensity
 use Rattle.esc_sequences.specs.declared.underline.Underline.{Underline as UnderlineKind}
 use Rattle.esc_sequences.specs.declared.underline.Underline.TheVariants as underline
 use Rattle.esc_html.specs.Inline.{background_style, background_text, color_style, colors_text, declared_as, decoration_style, decoration_text, foreground_text, inline_text, is_underlined, keywords_text, kind_text, lines_text, rgb_of, slant_text, weight_text}
+use Rattle.esc_html.specs.Shades.{around_rgb, text_rgb}
 use Rattle.esc_html.specs.Pieces.{Piece, text, span, span_end, link, link_end, escape, escape_text, escape_value, piece_text, html_text, piece_tokens, tokens_of, is_kept, is_kept_piece, attribute_text, attributes_text, class_attribute, style_attribute}
 use Rattle.esc_html.specs.Tokens.{Tag, character, start_tag, data_state, value, after_value, with_attribute, tokens_from, normalized, tokens}
 use Rattle.esc_looks.specs.declared.class.Class.{Class}
-use Rattle.esc_looks.specs.declared.class.Class.TheVariants.{Background, Blink, Bold, Concealed, CurlyUnderline, DashedUnderline, DottedUnderline, DoubleUnderline, Faint, Foreground, Inverse, Italic, Overline, Strikethrough, Underline, UnderlineColor}
+use Rattle.esc_looks.specs.declared.class.Class.TheVariants.{Background, Blink, Bold, Concealed, CurlyUnderline, DashedUnderline, DottedUnderline, DoubleUnderline, Faint, Foreground, Inverse, Italic, Overline, PaletteBackground, PaletteForeground, PaletteUnderline, Strikethrough, Underline, UnderlineColor}
 
 -- ---- text
 
@@ -118,23 +117,53 @@ color_plain ansi.BrightMagenta = refl
 color_plain ansi.BrightCyan = refl
 color_plain ansi.BrightWhite = refl
 
+both_plain : (x y : List ℕ) → list_all is_name_char x ≡ true → list_all is_name_char y ≡ true
+    → list_all is_name_char (x ++ y) ≡ true
+both_plain x y h k = rw (list_all-append is_name_char x y, h, k) refl
+
+stem_plain : (c : Class) → list_all is_name_char (stem c) ≡ true
+stem_plain Bold = refl
+stem_plain Faint = refl
+stem_plain Italic = refl
+stem_plain Underline = refl
+stem_plain DoubleUnderline = refl
+stem_plain CurlyUnderline = refl
+stem_plain DottedUnderline = refl
+stem_plain DashedUnderline = refl
+stem_plain Blink = refl
+stem_plain Inverse = refl
+stem_plain Concealed = refl
+stem_plain Strikethrough = refl
+stem_plain Overline = refl
+stem_plain (Foreground c) = color_plain c
+stem_plain (Background c) = color_plain c
+stem_plain (UnderlineColor c) = color_plain c
+stem_plain (PaletteForeground n) = refl
+stem_plain (PaletteBackground n) = refl
+stem_plain (PaletteUnderline n) = refl
+
+digit_plain : (n : ℕ) → n < 10 → is_name_char (0x30 + n) ≡ true
+digit_plain n h = grind (arith, nat_tests)
+
+pub digits_plain : (n : ℕ) → list_all is_name_char (index_digits n) ≡ true
+digits_plain n =
+    by (nat_lt n 100) (digit_plain (n / 100 % 10) (omega arith))
+    (digit_plain (n / 10 % 10) (omega arith)) (digit_plain (n % 10) (omega arith))
+  where
+    by : (b : Bool) → is_name_char (0x30 + n / 100 % 10) ≡ true
+        → is_name_char (0x30 + n / 10 % 10) ≡ true → is_name_char (0x30 + n % 10) ≡ true
+        → list_all is_name_char (if b then two_digits n
+        else (0x30 + n / 100 % 10) ∷ two_digits n) ≡ true
+    by true h k l = rw (k, l) refl
+    by false h k l = rw (h, k, l) refl
+
+index_plain : (o : Option ℕ) → list_all is_name_char (index_text o) ≡ true
+index_plain None = refl
+index_plain (Some n) = digits_plain n
+
 name_plain : (c : Class) → list_all is_name_char (class_name c) ≡ true
-name_plain Bold = refl
-name_plain Faint = refl
-name_plain Italic = refl
-name_plain Underline = refl
-name_plain DoubleUnderline = refl
-name_plain CurlyUnderline = refl
-name_plain DottedUnderline = refl
-name_plain DashedUnderline = refl
-name_plain Blink = refl
-name_plain Inverse = refl
-name_plain Concealed = refl
-name_plain Strikethrough = refl
-name_plain Overline = refl
-name_plain (Foreground c) = color_plain c
-name_plain (Background c) = color_plain c
-name_plain (UnderlineColor c) = color_plain c
+name_plain c =
+    both_plain (stem c) (index_text (index_of c)) (stem_plain c) (index_plain (index_of c))
 
 span_plain : (c : Class) → list_all is_name_char (span_name c) ≡ true
 span_plain c = name_plain c
@@ -201,19 +230,16 @@ styles_plain (s ∷ ss) =
 
 -- ---- declarations alone
 
-both_plain : (x y : List ℕ) → list_all is_name_char x ≡ true → list_all is_name_char y ≡ true
-    → list_all is_name_char (x ++ y) ≡ true
-both_plain x y h k = rw (list_all-append is_name_char x y, h, k) refl
-
 if_plain : (b : Bool) (x : List ℕ) → list_all is_name_char x ≡ true
     → list_all is_name_char (if b then x else []) ≡ true
 if_plain true x h = h
 if_plain false x h = refl
 
-weight_plain : (i : Intensity) → list_all is_name_char (weight_text i) ≡ true
-weight_plain intensity.Normal = refl
-weight_plain intensity.Bold = refl
-weight_plain intensity.Half = refl
+weight_plain : (h i : Bool) → list_all is_name_char (weight_text h i) ≡ true
+weight_plain true true = refl
+weight_plain true false = refl
+weight_plain false true = refl
+weight_plain false false = refl
 
 kind_plain : (u : UnderlineKind) → list_all is_name_char (kind_text u) ≡ true
 kind_plain underline.None = refl
@@ -244,8 +270,9 @@ lines_plain false false false false = refl
 keywords_plain : (l : Look) → list_all is_name_char (keywords_text l) ≡ true
 keywords_plain l =
     let lines = lines_text (is_underlined l.underline) l.strikethrough l.overline l.blink in
-    both_plain (weight_text l.intensity) (slant_text l.italic ++ (lines ++ kind_text l.underline))
-    (weight_plain l.intensity)
+    both_plain (weight_text l.bold l.faint)
+    (slant_text l.italic ++ (lines ++ kind_text l.underline))
+    (weight_plain l.bold l.faint)
     (both_plain (slant_text l.italic) (lines ++ kind_text l.underline)
     (if_plain l.italic (codes "font-style:italic;") refl)
     (both_plain lines (kind_text l.underline)
@@ -257,25 +284,28 @@ declared_plain : (f : ℕ × ℕ × ℕ → Style) (t : List ℕ) (c : Option (�
 declared_plain f t None h = h
 declared_plain f t (Some c) h = style_plain (f c)
 
-foreground_plain : (b i : Bool) (c : Color)
-    → list_all is_name_char (foreground_text b i c) ≡ true
-foreground_plain true i c = refl
-foreground_plain false i c =
-    declared_plain color_style (if i then codes "color:Canvas;" else []) (rgb_of c)
+foreground_plain : (b i : Bool) (t g : Color)
+    → list_all is_name_char (foreground_text b i t g) ≡ true
+foreground_plain true i t g = refl
+foreground_plain false i t g =
+    declared_plain color_style (if i then codes "color:Canvas;" else []) (text_rgb i t g)
     (if_plain i (codes "color:Canvas;") refl)
 
-background_plain : (i : Bool) (c : Color) → list_all is_name_char (background_text i c) ≡ true
-background_plain i c =
+background_plain : (i : Bool) (t g : Color)
+    → list_all is_name_char (background_text i t g) ≡ true
+background_plain i t g =
     declared_plain background_style (if i then codes "background-color:CanvasText;" else [])
-    (rgb_of c) (if_plain i (codes "background-color:CanvasText;") refl)
+    (around_rgb t g) (if_plain i (codes "background-color:CanvasText;") refl)
 
 colors_plain : (l : Look) → list_all is_name_char (colors_text l) ≡ true
 colors_plain l =
-    let fore = foreground_text l.concealed l.inverse (shown_foreground l) in
-    let back = background_text l.inverse (shown_background l) in
+    let t = seen_foreground l in
+    let g = shown_background l in
+    let fore = foreground_text l.concealed l.inverse t g in
+    let back = background_text l.inverse t g in
     let line = decoration_text l.underline_color in
-    both_plain fore (back ++ line) (foreground_plain l.concealed l.inverse (shown_foreground l))
-    (both_plain back line (background_plain l.inverse (shown_background l))
+    both_plain fore (back ++ line) (foreground_plain l.concealed l.inverse t g)
+    (both_plain back line (background_plain l.inverse t g)
     (declared_plain decoration_style [] (rgb_of l.underline_color) refl))
 
 pub inline_plain : (l : Look) → list_all is_name_char (inline_text l) ≡ true

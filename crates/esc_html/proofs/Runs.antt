@@ -14,12 +14,14 @@ use Rattle.memchr.specs.Find.{is_byte, IsFirstByte}
 use Rattle.esc_actions.specs.declared.action.Action.TheVariants as action
 use Rattle.esc_frame.specs.Scans.{is_text_byte}
 use Rattle.esc_values.specs.Clear.{is_clear}
+use Rattle.esc_html.specs.Characters.{is_character}
 use Rattle.esc_html.specs.Fed.{Adds, Takes, is_visible, state_of, text_of, with_text}
 use Rattle.esc_html.specs.Marks.{ends_line, print_step, shows}
 use Rattle.esc_html.specs.Pages.{after_character, before_character, opened, with_tags}
 use Rattle.esc_html.specs.Pieces.{escape_text, html_text, piece_text, text}
 use Rattle.esc_html.specs.declared.page.Page.{Page}
 use Rattle.esc_html.specs.declared.tags.Tags.TheVariants.{Open}
+use Rattle.esc_html.proofs.Characters.{low_character, stays}
 use Rattle.esc_html.proofs.Fed.{adds_nothing}
 
 -- ---- DEL in a run
@@ -125,43 +127,48 @@ deleted c h =
     let low : c < 128 = grind (arith, nat_tests) in
     ap (filter is_visible) (encode_ascii c low) ∙ rw h refl
 
-char_added : {A : Type 0} (p : Page A) (c : ℕ) → is_clear c ≡ true
+char_added : {A : Type 0} (p : Page A) (c : ℕ) → is_clear c ≡ true → is_character c ≡ true
     → Adds p (print_step c) (with_text p (filter is_visible (encode_utf8 c)))
-char_added p c h =
+char_added p c h k =
     elim (cases_Bool (is_byte 0x7f c)) [
       | inl held ↦ rw (held, deleted c held) (adds_nothing p)
       | inr failed ↦ rw (failed, visible_char c failed)
-          (shown_added p c (some_bytes c) (clear_stays p.layout.per_line c h))
+          (subst (λ d. Adds p (shows d) (with_text p (encode_utf8 c))) (sym (stays c k))
+          (shown_added p c (some_bytes c) (clear_stays p.layout.per_line c h)))
     ]
 
 run_added : {A : Type 0} (cs : List ℕ) (p : Page A) → list_all is_clear cs ≡ true
+    → list_all is_character cs ≡ true
     → FoldsTo Takes p (map action.Print cs) (with_text p (filter is_visible (encode_utf8_all cs)))
-run_added [] p h = refl
-run_added (c ∷ cs) p h =
+run_added [] p h s = refl
+run_added (c ∷ cs) p h s =
     let k = and_parts (is_clear c) (list_all is_clear cs) h in
+    let m = and_parts (is_character c) (list_all is_character cs) s in
     let one = filter is_visible (encode_utf8 c) in
     let j = with_text p one in (
       j,
-      char_added p c k.0,
+      char_added p c k.0 m.0,
       subst (λ q. FoldsTo Takes j (map action.Print cs) q)
           (text_more p one (filter is_visible (encode_utf8_all cs))
           ∙ ap (with_text p) (sym (filter-append is_visible (encode_utf8 c) (encode_utf8_all cs))))
-          (run_added cs j k.1),
+          (run_added cs j k.1 m.1),
     )
 
 -- ---- runs
 
 run_is : {A : Type 0} (cs t : List ℕ) (p q : Page A) → list_all is_clear cs ≡ true
-    → encode_utf8_all cs ≡ t → q ≡ with_text p (filter is_visible t)
+    → list_all is_character cs ≡ true → encode_utf8_all cs ≡ t
+    → q ≡ with_text p (filter is_visible t)
     → FoldsTo Takes p (map action.Print cs) q
-run_is cs t p q h e i =
+run_is cs t p q h s e i =
     subst (λ x. FoldsTo Takes p (map action.Print cs) x)
-    (ap (λ x. with_text p (filter is_visible x)) e ∙ sym i) (run_added cs p h)
+    (ap (λ x. with_text p (filter is_visible x)) e ∙ sym i) (run_added cs p h s)
 
 pub chars_taken : {A : Type 0} (t : List ℕ) (p q : Page A) → IsUtf8 t
-    → list_all is_clear (chars t) ≡ true → q ≡ with_text p (filter is_visible t)
+    → list_all is_clear (chars t) ≡ true → list_all is_character (chars t) ≡ true
+    → q ≡ with_text p (filter is_visible t)
     → FoldsTo Takes p (map action.Print (chars t)) q
-chars_taken t p q u h i = run_is (chars t) t p q h (encodes-chars t u) i
+chars_taken t p q u h s i = run_is (chars t) t p q h s (encodes-chars t u) i
 
 byte_clear : (b : ℕ) → is_text_byte b ≡ true → is_clear b ≡ true
 byte_clear b h = grind (arith, nat_tests)
@@ -175,6 +182,14 @@ bytes_clear (b ∷ x) h =
     let k = and_parts (is_text_byte b) (list_all is_text_byte x) h in
     rw (byte_clear b k.0, bytes_clear x k.1) refl
 
+bytes_characters : (x : List ℕ) → list_all is_text_byte x ≡ true
+    → list_all is_character x ≡ true
+bytes_characters [] h = refl
+bytes_characters (b ∷ x) h =
+    let k = and_parts (is_text_byte b) (list_all is_text_byte x) h in
+    let small = byte_small b k.0 in
+    rw (low_character b (omega (arith, small)), bytes_characters x k.1) refl
+
 bytes_encoded : (x : List ℕ) → list_all is_text_byte x ≡ true → encode_utf8_all x ≡ x
 bytes_encoded [] h = refl
 bytes_encoded (b ∷ x) h =
@@ -183,7 +198,8 @@ bytes_encoded (b ∷ x) h =
 
 pub bytes_taken : {A : Type 0} (x : List ℕ) (p q : Page A) → list_all is_text_byte x ≡ true
     → q ≡ with_text p (filter is_visible x) → FoldsTo Takes p (map action.Print x) q
-bytes_taken x p q h i = run_is x x p q (bytes_clear x h) (bytes_encoded x h) i
+bytes_taken x p q h i =
+    run_is x x p q (bytes_clear x h) (bytes_characters x h) (bytes_encoded x h) i
 
 bytes_ascii : (x : List ℕ) → list_all is_text_byte x ≡ true → IsAscii x
 bytes_ascii [] h = IsAscii-nil

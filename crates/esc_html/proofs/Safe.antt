@@ -17,6 +17,7 @@ use Rattle.esc_osc.specs.declared.command.OperatingSystemCommand.TheVariants as 
 use Rattle.esc_typed.specs.Functions.{Value as Function, of_csi, cursor, edit, device, keyboard, mouse, window, mode_status, charset, escape, modes, tabs, renditions, other}
 use Rattle.esc_values.specs.Clear.{is_clear}
 use Rattle.esc_html.specs.Addresses.{is_address_char, is_safe_address}
+use Rattle.esc_html.specs.Characters.{is_noncharacter, shown_as}
 use Rattle.esc_looks.specs.Looks.{is_plain}
 use Rattle.esc_html.specs.Marks.{Pen, Step, restyles, redirects, shows, nothing, address_if, address_of, command_step, control_step, ends_line, function_step, is_page_address, print_step, step_of}
 use Rattle.esc_html.specs.Pages.{State, after_character, before_character, closed, closing, link_end_if, link_opening, opening, pieces_by, pieces_from, span_closing, span_end_unless, span_unless, state_by, state_from}
@@ -101,12 +102,19 @@ IsGoodStep (redirects k) = IsGoodLink k
 IsGoodStep (shows c) = list_all is_kept (encode_utf8 c) ≡ true
 IsGoodStep nothing = Unit {0}
 
+shown_kept : (c : ℕ) → is_kept c ≡ true → is_kept (shown_as c) ≡ true
+shown_kept c h = by (is_noncharacter c)
+  where
+    by : (b : Bool) → is_kept (if b then 0xfffd else c) ≡ true
+    by true = refl
+    by false = h
+
 good_print : (c : ℕ) → is_clear c ≡ true → IsGoodStep (print_step c)
 good_print c h = by (c == 0x7f)
   where
-    by : (b : Bool) → IsGoodStep (if b then nothing else shows c)
+    by : (b : Bool) → IsGoodStep (if b then nothing else shows (shown_as c))
     by true = tt
-    by false = kept_char c (clear_kept c h)
+    by false = kept_char (shown_as c) (shown_kept c (clear_kept c h))
 
 good_control : (n : ℕ) → IsGoodStep (control_step n)
 good_control n = by (n == 0x09 || n == 0x0a) refl

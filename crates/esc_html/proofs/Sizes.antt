@@ -1,26 +1,25 @@
 -- How long pieces are.
-use Rattle.std.proofs.Common.{ℕ, ◌≡◌, ◌≤◌, ◌+◌, ◌*◌, Bool, true, false, ◌||◌, ◌==◌, if◌then◌else◌, inl, inr, List, [], ◌∷◌, ◌++◌, codes, length, Option, Some, None, refl, ap, ◌∙◌, subst, arith}
+use Rattle.std.proofs.Common.{ℕ, ◌≡◌, ◌≤◌, ◌+◌, ◌*◌, ◌/◌, ◌%◌, nat_lt, Bool, true, false, ◌||◌, ◌==◌, if◌then◌else◌, inl, inr, List, [], ◌∷◌, ◌++◌, codes, length, Option, Some, None, refl, ap, ◌∙◌, subst, arith}
 use Rattle.std.specs.Char.{encode_utf8}
 use Rattle.std.specs.List.{flat_map}
 use Rattle.std.proofs.lemmas.Bool.{cases_Bool, leb-true}
 use Rattle.std.proofs.lemmas.Grind.{flat_map-append}
 use Rattle.std.proofs.lemmas.List.{append-nil, length-append}
 use Rattle.std.proofs.lemmas.Str.{len_utf8_bounds, length-encode}
-use Rattle.esc_html.specs.Inline.{background_text, colors_text, decoration_text, foreground_text, inline_text, is_underlined, keywords_text, kind_text, lines_text, slant_text, weight_text}
+use Rattle.esc_html.specs.Inline.{background_style as around_style, background_text, color_style, colors_text, declared_as, decoration_style, decoration_text, foreground_text, inline_text, is_underlined, keywords_text, kind_text, lines_text, rgb_of, slant_text, weight_text}
+use Rattle.esc_html.specs.Shades.{around_rgb, text_rgb}
 use Rattle.esc_html.specs.Pieces.{attribute_text, attributes_text, class_attribute, escape, escape_text, escape_value, needs_reference, piece_text, reference_text, span, style_attribute}
 use Rattle.esc_html.proofs.Encoded.{referenced, unreferenced}
 use Rattle.esc_html.specs.Names.{more_span_names, span_name, span_names}
-use Rattle.esc_looks.specs.Classes.{color_name}
-use Rattle.esc_looks.specs.Looks.{background_class, background_style, class_if, foreground_class, foreground_style, intensity_class, look_classes, look_styles, present, shown_background, shown_foreground, underline_class, underline_color_class, underline_color_style}
+use Rattle.esc_looks.specs.Classes.{color_name, index_digits, two_digits}
+use Rattle.esc_looks.specs.Looks.{background_class, background_style, class_if, foreground_class, foreground_style, look_classes, look_styles, present, seen_foreground, shown_background, underline_class, underline_color_class, underline_color_style}
 use Rattle.esc_looks.specs.Styles.{style_text, styles_text}
 use Rattle.esc_looks.specs.declared.class.Class.{Class}
 use Rattle.esc_looks.specs.declared.class.Class.TheVariants as class
 use Rattle.esc_looks.specs.declared.color.Color.{Color}
-use Rattle.esc_looks.specs.declared.color.Color.TheVariants.{Default, Named, Direct}
+use Rattle.esc_looks.specs.declared.color.Color.TheVariants.{Default, Named, Palette, Direct}
 use Rattle.esc_looks.specs.declared.look.Look.{Look}
 use Rattle.esc_looks.specs.declared.style.Style.{Style}
-use Rattle.esc_sequences.specs.declared.intensity.Intensity.{Intensity}
-use Rattle.esc_sequences.specs.declared.intensity.Intensity.TheVariants as intensity
 use Rattle.esc_sequences.specs.declared.underline.Underline.{Underline}
 use Rattle.esc_sequences.specs.declared.underline.Underline.TheVariants as underline
 use Rattle.esc_typed.specs.declared.ansi_color.AnsiColor.{AnsiColor}
@@ -161,11 +160,6 @@ styles_size (s ∷ ss) =
 
 -- ---- the slots of a look
 
-intensity_size : (i : Intensity) → name_size (intensity_class i) ≤ 9
-intensity_size intensity.Normal = leb-true 0 9 refl
-intensity_size intensity.Bold = leb-true 8 9 refl
-intensity_size intensity.Half = leb-true 9 9 refl
-
 underline_size : (u : Underline) → name_size (underline_class u) ≤ 20
 underline_size underline.None = leb-true 0 20 refl
 underline_size underline.Single = leb-true 13 20 refl
@@ -180,34 +174,56 @@ if_size true c n h = h
 if_size false c n h = omega arith
 
 named_size : (t : List ℕ) (c : AnsiColor) → length t ≡ 6
-    → 1 + length (t ++ color_name c) ≤ 21
-named_size t c h = omega (arith, length-append t (color_name c), color_size c, h)
+    → 1 + length (t ++ (color_name c ++ [])) ≤ 21
+named_size t c h =
+    omega (
+      arith,
+      length-append t (color_name c ++ []),
+      ap length (append-nil (color_name c)),
+      color_size c,
+      h,
+    )
+
+digits_size : (n : ℕ) → length (index_digits n) ≤ 3
+digits_size n = by (nat_lt n 100)
+  where
+    by : (b : Bool) → length (if b then two_digits n
+        else (0x30 + n / 100 % 10) ∷ two_digits n) ≤ 3
+    by true = leb-true 2 3 refl
+    by false = leb-true 3 3 refl
+
+entry_size : (t : List ℕ) (n : ℕ) → length t ≡ 6 → 1 + length (t ++ index_digits n) ≤ 10
+entry_size t n h = omega (arith, length-append t (index_digits n), digits_size n, h)
 
 foreground_size : (c : Color)
     → name_size (foreground_class c) + declared_size (foreground_style c) ≤ 21
 foreground_size Default = leb-true 0 21 refl
 foreground_size (Named n) = omega (arith, named_size (codes "es-fg-") n refl)
+foreground_size (Palette n) = omega (arith, entry_size (codes "es-fg-") n refl)
 foreground_size (Direct d) = leb-true 14 21 refl
 
 background_size : (c : Color)
     → name_size (background_class c) + declared_size (background_style c) ≤ 25
 background_size Default = leb-true 0 25 refl
 background_size (Named n) = omega (arith, named_size (codes "es-bg-") n refl)
+background_size (Palette n) = omega (arith, entry_size (codes "es-bg-") n refl)
 background_size (Direct d) = leb-true 25 25 refl
 
 line_size : (c : Color)
     → name_size (underline_color_class c) + declared_size (underline_color_style c) ≤ 30
 line_size Default = leb-true 0 30 refl
 line_size (Named n) = omega (arith, named_size (codes "es-ul-") n refl)
+line_size (Palette n) = omega (arith, entry_size (codes "es-ul-") n refl)
 line_size (Direct d) = leb-true 30 30 refl
 
 -- the classes of a look but those of its colours
-marks_size : (i : Intensity) (u : Underline) (a b c d e f : Bool) (rest : List (Option Class))
-    → names_size (present (intensity_class i ∷ class_if a class.Italic ∷ underline_class u
+marks_size : (h i : Bool) (u : Underline) (a b c d e f : Bool) (rest : List (Option Class))
+    → names_size (present (class_if h class.Bold ∷ class_if i class.Faint
+    ∷ class_if a class.Italic ∷ underline_class u
     ∷ class_if b class.Blink ∷ class_if c class.Inverse ∷ class_if d class.Concealed
     ∷ class_if e class.Strikethrough ∷ class_if f class.Overline ∷ rest))
-    ≤ 101 + names_size (present rest)
-marks_size i u a b c d e f rest =
+    ≤ 109 + names_size (present rest)
+marks_size h i u a b c d e f rest =
     let x0 = class_if f class.Overline ∷ rest in
     let x1 = class_if e class.Strikethrough ∷ x0 in
     let x2 = class_if d class.Concealed ∷ x1 in
@@ -215,9 +231,11 @@ marks_size i u a b c d e f rest =
     let x4 = class_if b class.Blink ∷ x3 in
     let x5 = underline_class u ∷ x4 in
     let x6 = class_if a class.Italic ∷ x5 in
+    let x7 = class_if i class.Faint ∷ x6 in
     omega (
       arith,
-      names_next (intensity_class i) x6,
+      names_next (class_if h class.Bold) x7,
+      names_next (class_if i class.Faint) x6,
       names_next (class_if a class.Italic) x5,
       names_next (underline_class u) x4,
       names_next (class_if b class.Blink) x3,
@@ -225,7 +243,8 @@ marks_size i u a b c d e f rest =
       names_next (class_if d class.Concealed) x1,
       names_next (class_if e class.Strikethrough) x0,
       names_next (class_if f class.Overline) rest,
-      intensity_size i,
+      if_size h class.Bold 8 (leb-true 8 8 refl),
+      if_size i class.Faint 9 (leb-true 9 9 refl),
       underline_size u,
       if_size a class.Italic 10 (leb-true 10 10 refl),
       if_size b class.Blink 9 (leb-true 9 9 refl),
@@ -274,24 +293,25 @@ class_span_size : (l : Look) → length (piece_text (span false l)) ≤ 231
 class_span_size l =
     let cs = present (look_classes l) in
     let ss = present (look_styles l) in
-    let rest = foreground_class (shown_foreground l) ∷ background_class (shown_background l)
+    let rest = foreground_class (seen_foreground l) ∷ background_class (shown_background l)
     ∷ underline_color_class l.underline_color ∷ [] in
     omega (
       arith,
       tag_size (class_attribute cs) (style_attribute ss),
       classes_size cs,
       styles_size ss,
-      marks_size l.intensity l.underline l.italic l.blink l.inverse l.concealed l.strikethrough
-          l.overline rest,
-      colors_size (shown_foreground l) (shown_background l) l.underline_color,
+      marks_size l.bold l.faint l.underline l.italic l.blink l.inverse l.concealed
+          l.strikethrough l.overline rest,
+      colors_size (seen_foreground l) (shown_background l) l.underline_color,
     )
 
 -- ---- declarations alone
 
-weight_size : (i : Intensity) → length (weight_text i) ≤ 17
-weight_size intensity.Normal = leb-true 0 17 refl
-weight_size intensity.Bold = leb-true 17 17 refl
-weight_size intensity.Half = leb-true 12 17 refl
+weight_size : (h i : Bool) → length (weight_text h i) ≤ 29
+weight_size true true = leb-true 29 29 refl
+weight_size true false = leb-true 17 29 refl
+weight_size false true = leb-true 12 29 refl
+weight_size false false = leb-true 0 29 refl
 
 slant_size : (b : Bool) → length (slant_text b) ≤ 18
 slant_size true = leb-true 18 18 refl
@@ -323,9 +343,9 @@ kind_size underline.Curly = leb-true 27 29 refl
 kind_size underline.Dotted = leb-true 29 29 refl
 kind_size underline.Dashed = leb-true 29 29 refl
 
-keywords_size : (l : Look) → length (keywords_text l) ≤ 124
+keywords_size : (l : Look) → length (keywords_text l) ≤ 136
 keywords_size l =
-    let w = weight_text l.intensity in
+    let w = weight_text l.bold l.faint in
     let s = slant_text l.italic in
     let n = lines_text (is_underlined l.underline) l.strikethrough l.overline l.blink in
     let k = kind_text l.underline in
@@ -334,41 +354,54 @@ keywords_size l =
       length-append w (s ++ (n ++ k)),
       length-append s (n ++ k),
       length-append n k,
-      weight_size l.intensity,
+      weight_size l.bold l.faint,
       slant_size l.italic,
       lines_size (is_underlined l.underline) l.strikethrough l.overline l.blink,
       kind_size l.underline,
     )
 
-fore_text_size : (b i : Bool) (c : Color) → length (foreground_text b i c) ≤ 18
-fore_text_size true i c = leb-true 18 18 refl
-fore_text_size false true Default = leb-true 13 18 refl
-fore_text_size false false Default = leb-true 0 18 refl
-fore_text_size false i (Named n) = leb-true 14 18 refl
-fore_text_size false i (Direct d) = leb-true 14 18 refl
+-- a colour that is declared, or a keyword in its place
+shade_size : (f : ℕ × ℕ × ℕ → Style) (t : List ℕ) (o : Option (ℕ × ℕ × ℕ)) (n : ℕ)
+    → ((c : ℕ × ℕ × ℕ) → length (style_text (f c)) ≤ n) → length t ≤ n
+    → length (declared_as f t o) ≤ n
+shade_size f t None n h k = k
+shade_size f t (Some c) n h k = h c
 
-back_text_size : (i : Bool) (c : Color) → length (background_text i c) ≤ 28
-back_text_size true Default = leb-true 28 28 refl
-back_text_size false Default = leb-true 0 28 refl
-back_text_size i (Named n) = leb-true 25 28 refl
-back_text_size i (Direct d) = leb-true 25 28 refl
+keyword_size : (b : Bool) (t : List ℕ) (n : ℕ) → length t ≤ n
+    → length (if b then t else []) ≤ n
+keyword_size true t n h = h
+keyword_size false t n h = omega arith
+
+fore_text_size : (b i : Bool) (t g : Color) → length (foreground_text b i t g) ≤ 18
+fore_text_size true i t g = leb-true 18 18 refl
+fore_text_size false i t g =
+    shade_size color_style (if i then codes "color:Canvas;" else []) (text_rgb i t g) 18
+    (λ c. leb-true 14 18 refl)
+    (keyword_size i (codes "color:Canvas;") 18 (leb-true 13 18 refl))
+
+back_text_size : (i : Bool) (t g : Color) → length (background_text i t g) ≤ 28
+back_text_size i t g =
+    shade_size around_style (if i then codes "background-color:CanvasText;" else [])
+    (around_rgb t g) 28 (λ c. leb-true 25 28 refl)
+    (keyword_size i (codes "background-color:CanvasText;") 28 (leb-true 28 28 refl))
 
 line_text_size : (c : Color) → length (decoration_text c) ≤ 30
-line_text_size Default = leb-true 0 30 refl
-line_text_size (Named n) = leb-true 30 30 refl
-line_text_size (Direct d) = leb-true 30 30 refl
+line_text_size c =
+    shade_size decoration_style [] (rgb_of c) 30 (λ c. leb-true 30 30 refl) (leb-true 0 30 refl)
 
 colors_text_size : (l : Look) → length (colors_text l) ≤ 76
 colors_text_size l =
-    let f = foreground_text l.concealed l.inverse (shown_foreground l) in
-    let b = background_text l.inverse (shown_background l) in
+    let t = seen_foreground l in
+    let g = shown_background l in
+    let f = foreground_text l.concealed l.inverse t g in
+    let b = background_text l.inverse t g in
     let d = decoration_text l.underline_color in
     omega (
       arith,
       length-append f (b ++ d),
       length-append b d,
-      fore_text_size l.concealed l.inverse (shown_foreground l),
-      back_text_size l.inverse (shown_background l),
+      fore_text_size l.concealed l.inverse t g,
+      back_text_size l.inverse t g,
       line_text_size l.underline_color,
     )
 

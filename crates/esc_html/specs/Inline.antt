@@ -1,46 +1,29 @@
 -- The look of a span in its attribute `style` alone: declarations of CSS, each of a property of a
 -- fixed list with a keyword of a fixed list or with a colour by numbers, and a semicolon.
 use Rattle.std.specs.Prelude.{ℕ, Bool, true, false, ◌||◌, if◌then◌else◌, List, [], ◌++◌, codes, Option, Some, None}
-use Rattle.esc_looks.specs.Looks.{shown_background, shown_foreground}
+use Rattle.esc_html.specs.Shades.{ansi_rgb, around_rgb, text_rgb}
+use Rattle.esc_looks.specs.Colors.{palette}
+use Rattle.esc_looks.specs.Looks.{seen_foreground, shown_background}
 use Rattle.esc_looks.specs.Styles.{style_text}
 use Rattle.esc_looks.specs.declared.color.Color.{Color}
-use Rattle.esc_looks.specs.declared.color.Color.TheVariants.{Default, Named, Direct}
+use Rattle.esc_looks.specs.declared.color.Color.TheVariants.{Default, Named, Palette, Direct}
 use Rattle.esc_looks.specs.declared.look.Look.{Look}
 use Rattle.esc_looks.specs.declared.style.Style.{Style}
 use Rattle.esc_looks.specs.declared.style.Style.TheVariants as style
-use Rattle.esc_sequences.specs.declared.intensity.Intensity.{Intensity}
-use Rattle.esc_sequences.specs.declared.intensity.Intensity.TheVariants as intensity
 use Rattle.esc_sequences.specs.declared.underline.Underline.{Underline}
 use Rattle.esc_sequences.specs.declared.underline.Underline.TheVariants as underline
-use Rattle.esc_typed.specs.declared.ansi_color.AnsiColor.{AnsiColor}
-use Rattle.esc_typed.specs.declared.ansi_color.AnsiColor.TheVariants as ansi
 use Rattle.esc_html.specs.declared.inline.Declared.{Declared}
 use Rattle.esc_html.specs.declared.inline.Declared.TheVariants.{Keyword, Numbers}
 
--- the colours that have names, as intensities of red, green and blue
-abbrev pub ansi_rgb : AnsiColor → ℕ × ℕ × ℕ
-ansi_rgb ansi.Black = (0x24, 0x29, 0x2f)
-ansi_rgb ansi.Red = (0xb3, 0x26, 0x1e)
-ansi_rgb ansi.Green = (0x11, 0x63, 0x29)
-ansi_rgb ansi.Yellow = (0x7d, 0x4e, 0x00)
-ansi_rgb ansi.Blue = (0x05, 0x50, 0xae)
-ansi_rgb ansi.Magenta = (0x82, 0x50, 0xdf)
-ansi_rgb ansi.Cyan = (0x0b, 0x6b, 0x75)
-ansi_rgb ansi.White = (0x6e, 0x77, 0x81)
-ansi_rgb ansi.BrightBlack = (0x57, 0x60, 0x6a)
-ansi_rgb ansi.BrightRed = (0xcf, 0x22, 0x2e)
-ansi_rgb ansi.BrightGreen = (0x1a, 0x7f, 0x37)
-ansi_rgb ansi.BrightYellow = (0x9a, 0x67, 0x00)
-ansi_rgb ansi.BrightBlue = (0x09, 0x69, 0xda)
-ansi_rgb ansi.BrightMagenta = (0xa4, 0x75, 0xf9)
-ansi_rgb ansi.BrightCyan = (0x1b, 0x7c, 0x83)
-ansi_rgb ansi.BrightWhite = (0x8c, 0x95, 0x9f)
+-- how bright characters are: bold ones may be faint too
+abbrev pub bold_text : Bool → List ℕ
+bold_text b = if b then codes "font-weight:bold;" else []
 
--- how bright characters are
-abbrev pub weight_text : Intensity → List ℕ
-weight_text intensity.Normal = []
-weight_text intensity.Bold = codes "font-weight:bold;"
-weight_text intensity.Half = codes "opacity:0.8;"
+abbrev pub faint_text : Bool → List ℕ
+faint_text b = if b then codes "opacity:0.8;" else []
+
+abbrev pub weight_text : Bool → Bool → List ℕ
+weight_text bold faint = bold_text bold ++ faint_text faint
 
 -- whether they are slanted
 abbrev pub slant_text : Bool → List ℕ
@@ -78,6 +61,7 @@ kind_text underline.Dashed = codes "text-decoration-style:dashed;"
 abbrev pub rgb_of : Color → Option (ℕ × ℕ × ℕ)
 rgb_of Default = None
 rgb_of (Named c) = Some (ansi_rgb c)
+rgb_of (Palette n) = Some (palette n)
 rgb_of (Direct c) = Some c
 
 abbrev pub declared_as : (ℕ × ℕ × ℕ → Style) → List ℕ → Option (ℕ × ℕ × ℕ) → List ℕ
@@ -93,17 +77,18 @@ background_style c = style.BackgroundColor c.0 c.1 c.2
 abbrev pub decoration_style : ℕ × ℕ × ℕ → Style
 decoration_style c = style.TextDecorationColor c.0 c.1 c.2
 
--- the colour of the characters: transparent where they are concealed; where it is the page's own
--- and exchanged with the one around them, the keyword for that one
-abbrev pub foreground_text : Bool → Bool → Color → List ℕ
-foreground_text concealed inverse c =
+-- the colour of the characters, where this is around them: transparent where they are concealed;
+-- where both are the page's own and exchanged, the keyword for that
+abbrev pub foreground_text : Bool → Bool → Color → Color → List ℕ
+foreground_text concealed inverse t g =
     if concealed then codes "color:transparent;"
-    else declared_as color_style (if inverse then codes "color:Canvas;" else []) (rgb_of c)
+    else declared_as color_style (if inverse then codes "color:Canvas;" else [])
+    (text_rgb inverse t g)
 
 -- the one around them
-abbrev pub background_text : Bool → Color → List ℕ
-background_text inverse c = declared_as background_style
-    (if inverse then codes "background-color:CanvasText;" else []) (rgb_of c)
+abbrev pub background_text : Bool → Color → Color → List ℕ
+background_text inverse t g = declared_as background_style
+    (if inverse then codes "background-color:CanvasText;" else []) (around_rgb t g)
 
 -- and that of their underline
 abbrev pub decoration_text : Color → List ℕ
@@ -117,14 +102,15 @@ declared_text (Numbers s) = style_text s
 -- ---- all of them
 
 abbrev pub keywords_text : Look → List ℕ
-keywords_text l = weight_text l.intensity
+keywords_text l = weight_text l.bold l.faint
     ++ (slant_text l.italic
     ++ (lines_text (is_underlined l.underline) l.strikethrough l.overline l.blink
     ++ kind_text l.underline))
 
 abbrev pub colors_text : Look → List ℕ
-colors_text l = foreground_text l.concealed l.inverse (shown_foreground l)
-    ++ (background_text l.inverse (shown_background l) ++ decoration_text l.underline_color)
+colors_text l = foreground_text l.concealed l.inverse (seen_foreground l) (shown_background l)
+    ++ (background_text l.inverse (seen_foreground l) (shown_background l)
+    ++ decoration_text l.underline_color)
 
 abbrev pub inline_text : Look → List ℕ
 inline_text l = keywords_text l ++ colors_text l

@@ -1,13 +1,15 @@
 pub mod Attributes
+pub mod Plain
+pub mod Shades
 pub mod Inline
 pub mod Tokens
 pub mod Names
 pub mod Pieces
 pub mod Growing
+pub mod Characters
 pub mod Addresses
 pub mod Listed
 pub mod Marks
-pub mod Plain
 pub mod Renditions
 pub mod Pages
 pub mod Shown

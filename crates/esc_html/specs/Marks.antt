@@ -8,6 +8,7 @@ use Rattle.esc_osc.specs.declared.command.OperatingSystemCommand.{OperatingSyste
 use Rattle.esc_osc.specs.declared.command.OperatingSystemCommand.TheVariants.{SetHyperlink}
 use Rattle.esc_typed.specs.Functions.{Value as Function, renditions, of_csi}
 use Rattle.esc_html.specs.Addresses.{is_safe_address}
+use Rattle.esc_html.specs.Characters.{shown_as}
 use Rattle.esc_looks.specs.Looks.{look_by_all, plain_look}
 use Rattle.esc_html.specs.Pieces.{is_unbroken}
 use Rattle.esc_looks.specs.declared.look.Look.{Look}
@@ -51,9 +52,10 @@ pub data Step : Type 0 where
   shows : ℕ → Step
   nothing : Step
 
--- what is printed is shown, but DEL, of which terminals show nothing
+-- what is printed is shown, with U+FFFD in the place of noncharacters, but not DEL, of which
+-- terminals show nothing
 abbrev pub print_step : ℕ → Step
-print_step c = if c == 0x7f then nothing else shows c
+print_step c = if c == 0x7f then nothing else shows (shown_as c)
 
 -- tabs and line feeds are shown, and no other control
 abbrev pub control_step : ℕ → Step

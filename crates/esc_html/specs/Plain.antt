@@ -1,22 +1,24 @@
 -- Looks without renditions, field by field.
 use Rattle.std.specs.Prelude.{Bool, true, false, not, ◌&&◌, is_none}
-use Rattle.esc_looks.specs.Looks.{intensity_class, underline_class}
+use Rattle.esc_looks.specs.Looks.{underline_class}
 use Rattle.esc_looks.specs.declared.color.Color.{Color}
-use Rattle.esc_looks.specs.declared.color.Color.TheVariants.{Default, Named, Direct}
+use Rattle.esc_looks.specs.declared.color.Color.TheVariants.{Default, Named, Palette, Direct}
 use Rattle.esc_looks.specs.declared.look.Look.{Look}
 
 -- none of the renditions but colours holds
 abbrev pub is_markless : Look → Bool
-is_markless l = is_none (intensity_class l.intensity)
+is_markless l = not l.bold
+    && (not l.faint
     && (not l.italic
     && (is_none (underline_class l.underline)
     && (not l.blink && (not l.inverse && (not l.concealed && (not l.strikethrough
-    && not l.overline))))))
+    && not l.overline)))))))
 
 -- the page's own
 abbrev pub is_own : Color → Bool
 is_own Default = true
 is_own (Named c) = false
+is_own (Palette n) = false
 is_own (Direct c) = false
 
 abbrev pub is_colorless : Look → Bool

@@ -4,14 +4,16 @@ ghost use Rattle.std.specs.List.{list_all};
 ghost use Rattle.std.specs.Str.{chars};
 ghost use Rattle.esc_html.specs.Addresses.{has_scheme, is_address_char, is_safe_address, is_short};
 
+use crate::character::is_noncharacter;
+
 // How many bytes of an address VTE and iTerm2 take.
 const LONGEST_ADDRESS: usize = 2083;
 
 /// Whether a link may lead to this address: its scheme is `http` or `https` with `//`, or `mailto`,
-/// in letters of either case (RFC 3986, 3.1), and it has no control and no space. A browser leaves
-/// out tabs, line ends and what comes before the scheme, and takes what has no `//` for an address
-/// of the page's own host (WHATWG URL, 4.4): so such an address is refused. So is one of more than
-/// 2,083 bytes, as in VTE and iTerm2.
+/// in letters of either case (RFC 3986, 3.1), and it has no control, no space and no noncharacter.
+/// A browser leaves out tabs, line ends and what comes before the scheme, and takes what has no
+/// `//` for an address of the page's own host (WHATWG URL, 4.4): so such an address is refused. So
+/// is one of more than 2,083 bytes, as in VTE and iTerm2.
 pub fn is_safe_address(address: &str) -> bool
     ensures { result ≡ is_safe_address address.now }
 {
@@ -49,9 +51,9 @@ fn are_address_chars(address: &str) -> bool
     true
 }
 
-// Whether the character is neither a control nor a space.
+// Whether the character is neither a control nor a space, and no noncharacter.
 fn is_address_char(c: char) -> bool
     ensures { result ≡ is_address_char c }
 {
-    '\u{20}' < c && (c < '\u{7f}' || '\u{9f}' < c)
+    '\u{20}' < c && (c < '\u{7f}' || '\u{9f}' < c) && !is_noncharacter(c)
 }

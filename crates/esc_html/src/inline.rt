@@ -1,14 +1,14 @@
 //! The start tag of a span whose look is declarations alone.
 ghost use Rattle.std.specs.Prelude.{◌≡◌, ◌++◌, OnErr, OnOk, string_bytes, true};
-ghost use Rattle.esc_html.specs.Inline.{ansi_rgb, background_text, colors_text, declared_text, decoration_text, foreground_text, is_underlined, keywords_text, kind_text, lines_text, rgb_of, slant_text, weight_text};
+ghost use Rattle.esc_html.specs.Inline.{background_text, colors_text, declared_text, decoration_text, foreground_text, is_underlined, keywords_text, kind_text, lines_text, rgb_of, slant_text, weight_text};
 ghost use Rattle.esc_html.specs.Pieces.{piece_text, span};
-ghost use Rattle.esc_looks.specs.Looks.{shown_background, shown_foreground};
+ghost use Rattle.esc_looks.specs.Looks.{seen_foreground, shown_background};
 ghost use Rattle.memory.specs.Refusals.{Refused};
 
+use crate::shades::{ansi_rgb, around_rgb, text_rgb};
 use crate::tag::push_style;
-use esc_looks::{Color, Look, Style};
-use esc_sequences::{Intensity, Underline};
-use esc_typed::AnsiColor;
+use esc_looks::{Color, Look, Style, palette};
+use esc_sequences::Underline;
 use esc_values::RgbColor;
 use std::alloc::{AllocError, Allocator};
 
@@ -44,7 +44,7 @@ fn push_keywords<A: Allocator>(html: &mut String<A>, look: &Look) -> Result<(), 
     ensures refused { OnErr result (Refused A) }
 {
     let underlined = is_underlined(look.underline);
-    memory::push_str(html, weight(look.intensity))?;
+    memory::push_str(html, weight(look.bold, look.faint))?;
     memory::push_str(html, slant(look.italic))?;
     memory::push_str(
         html,
@@ -82,13 +82,14 @@ fn push_declared<A: Allocator>(html: &mut String<A>, declared: Declared) -> Resu
 }
 
 // How bright characters are.
-fn weight(intensity: Intensity) -> &'static str
-    ensures { result.now ≡ weight_text intensity }
+fn weight(bold: bool, faint: bool) -> &'static str
+    ensures { result.now ≡ weight_text bold faint }
 {
-    match intensity {
-        Intensity::Normal => "",
-        Intensity::Bold => "font-weight:bold;",
-        Intensity::Half => "opacity:0.8;",
+    match (bold, faint) {
+        (false, false) => "",
+        (true, false) => "font-weight:bold;",
+        (false, true) => "opacity:0.8;",
+        (true, true) => "font-weight:bold;opacity:0.8;",
     }
 }
 
@@ -152,18 +153,17 @@ fn kind(underline: Underline) -> &'static str
 
 // Their colour.
 fn foreground(look: &Look) -> Declared
-    ensures { declared_text result
-        ≡ foreground_text look.now.concealed look.now.inverse (shown_foreground look.now) }
+    ensures { declared_text result ≡ foreground_text look.now.concealed look.now.inverse
+        (seen_foreground look.now) (shown_background look.now) }
 {
     if look.concealed {
         return Declared::Keyword("color:transparent;");
     }
-    let color = if look.inverse {
-        look.background
-    } else {
-        look.foreground
-    };
-    match rgb_of(color) {
+    match text_rgb(
+        look.inverse,
+        look.seen_foreground(),
+        look.shown_background(),
+    ) {
         Some(rgb) => {
             let (red, green, blue) = rgb.to_tuple_rgb8();
             Declared::Numbers(Style::Color(red, green, blue))
@@ -175,15 +175,10 @@ fn foreground(look: &Look) -> Declared
 
 // The colour around them.
 fn background(look: &Look) -> Declared
-    ensures { declared_text result
-        ≡ background_text look.now.inverse (shown_background look.now) }
+    ensures { declared_text result ≡ background_text look.now.inverse
+        (seen_foreground look.now) (shown_background look.now) }
 {
-    let color = if look.inverse {
-        look.foreground
-    } else {
-        look.background
-    };
-    match rgb_of(color) {
+    match around_rgb(look.seen_foreground(), look.shown_background()) {
         Some(rgb) => {
             let (red, green, blue) = rgb.to_tuple_rgb8();
             Declared::Numbers(Style::BackgroundColor(red, green, blue))
@@ -213,30 +208,7 @@ fn rgb_of(color: Color) -> Option<RgbColor>
     match color {
         Color::Default => None,
         Color::Named(color) => Some(ansi_rgb(color)),
+        Color::Palette(index) => Some(palette(index)),
         Color::Direct(rgb) => Some(rgb),
-    }
-}
-
-// The colours that have names: those of a light page of `eschtml`'s.
-fn ansi_rgb(color: AnsiColor) -> RgbColor
-    ensures { result ≡ ansi_rgb color }
-{
-    match color {
-        AnsiColor::Black => RgbColor::new_8bpc(0x24, 0x29, 0x2f),
-        AnsiColor::Red => RgbColor::new_8bpc(0xb3, 0x26, 0x1e),
-        AnsiColor::Green => RgbColor::new_8bpc(0x11, 0x63, 0x29),
-        AnsiColor::Yellow => RgbColor::new_8bpc(0x7d, 0x4e, 0x00),
-        AnsiColor::Blue => RgbColor::new_8bpc(0x05, 0x50, 0xae),
-        AnsiColor::Magenta => RgbColor::new_8bpc(0x82, 0x50, 0xdf),
-        AnsiColor::Cyan => RgbColor::new_8bpc(0x0b, 0x6b, 0x75),
-        AnsiColor::White => RgbColor::new_8bpc(0x6e, 0x77, 0x81),
-        AnsiColor::BrightBlack => RgbColor::new_8bpc(0x57, 0x60, 0x6a),
-        AnsiColor::BrightRed => RgbColor::new_8bpc(0xcf, 0x22, 0x2e),
-        AnsiColor::BrightGreen => RgbColor::new_8bpc(0x1a, 0x7f, 0x37),
-        AnsiColor::BrightYellow => RgbColor::new_8bpc(0x9a, 0x67, 0x00),
-        AnsiColor::BrightBlue => RgbColor::new_8bpc(0x09, 0x69, 0xda),
-        AnsiColor::BrightMagenta => RgbColor::new_8bpc(0xa4, 0x75, 0xf9),
-        AnsiColor::BrightCyan => RgbColor::new_8bpc(0x1b, 0x7c, 0x83),
-        AnsiColor::BrightWhite => RgbColor::new_8bpc(0x8c, 0x95, 0x9f),
     }
 }

@@ -44,9 +44,10 @@ pub fn pieces_encoded()
 
 /// Of any stream, what an [`HtmlWriter`](crate::HtmlWriter) hands out for its pieces and what
 /// closes it are a page: a browser's tokenizer reads nothing but characters, spans and links to
-/// safe addresses; all tags are closed; it shows exactly the characters of the stream, each in the
-/// elements of its look and its link; and it is at most 150 times as long as the stream, and 150
-/// bytes more. It holds for every allocator `A`, which the type of the actions names.
+/// safe addresses; all tags are closed; it shows exactly the characters of the stream, with U+FFFD
+/// in the place of noncharacters, each in the elements of its look and its link; and it is at most
+/// 150 times as long as the stream, and 150 bytes more. It holds for every allocator `A`, which the
+/// type of the actions names.
 pub fn streams_are_pages<A: Allocator>()
     ensures { (limit : Option ℕ) (y : Layout) (s : List ℕ) → IsPage A limit y s
         (page_text A limit y s ++ closing_text A limit y s) }

@@ -18,6 +18,7 @@
 #![tactic(auto)]
 
 mod address;
+mod character;
 mod escaping;
 pub mod html_writer;
 mod inline;
@@ -27,15 +28,17 @@ mod line_writer;
 mod markup;
 mod page;
 mod plain;
+mod shades;
 mod shown;
 mod tag;
 mod tags;
 mod writing;
 
 pub use address::is_safe_address;
-pub use esc_looks::{Class, Color, Look, Style};
+pub use esc_looks::{Class, Color, Look, Style, palette};
 pub use html_writer::HtmlWriter;
 pub use layout::Layout;
 pub use line_writer::LineWriter;
+pub use shades::is_deep;
 pub use shown::is_shown;
 pub use writing::{close_link, close_span, open_link, open_span, push_text};

@@ -1,6 +1,8 @@
 //! What writes a page, action by action.
-ghost use Rattle.std.specs.Prelude.{◌≡◌, ◌++◌, [], OnErr, OnOk, true};
+ghost use Rattle.std.specs.Prelude.{◌≡◌, ◌++◌, [], OnErr, OnOk, map, true};
 ghost use Rattle.std.specs.List.{filter, list_all};
+ghost use Rattle.std.specs.Str.{chars};
+ghost use Rattle.esc_actions.specs.declared.action.Action.TheVariants.{Print};
 ghost use Rattle.esc_frame.specs.Scans.{is_text_byte};
 ghost use Rattle.esc_html.specs.Fed.{Adds, Takes, is_visible, state_of, text_of, with_text};
 ghost use Rattle.esc_looks.specs.Looks.{is_plain, look_by, look_by_all};
@@ -8,6 +10,7 @@ ghost use Rattle.esc_html.specs.Marks.{address_of, command_step, control_step, f
 ghost use Rattle.esc_html.specs.Pages.{State, after_character, before_character, closed, first_state, link_opening, opened, span_closed, span_unless, with_tags, without_span};
 ghost use Rattle.esc_html.specs.Pieces.{html_text};
 ghost use Rattle.esc_html.specs.Renditions.{rendition_of};
+ghost use Rattle.esc_parse.specs.Given.{Receives};
 ghost use Rattle.esc_sequences.specs.Csis.{sgr, unspecified};
 ghost use Rattle.esc_html.specs.declared.tags.Tags.TheVariants.{Closed, Open};
 ghost use Rattle.esc_typed.specs.Functions.{of_csi, value_of};
@@ -15,6 +18,7 @@ ghost use Rattle.esc_typed.specs.Selections.{left};
 ghost use Rattle.memory.specs.Refusals.{Refused};
 
 use crate::address::is_safe_address;
+use crate::character::{are_characters, shown_as};
 use crate::layout::Layout;
 use crate::markup::Markup;
 use crate::plain::is_plain;
@@ -219,12 +223,17 @@ impl<A: Allocator> Page<A> {
         self.html.push_char(c)
     }
 
-    // Shows what is printed, but DEL, of which terminals show nothing.
+    // Shows what is printed, but DEL, of which terminals show nothing, and U+FFFD in the place of a
+    // noncharacter.
     fn take_print(&mut self, c: char) -> Result<(), AllocError>
         ensures ok { OnOk result (Adds self.old (print_step c) self.new) }
         ensures refused { OnErr result (Refused A) }
     {
-        if c == '\u{7f}' { Ok(()) } else { self.show(c) }
+        if c == '\u{7f}' {
+            Ok(())
+        } else {
+            self.show(shown_as(c))
+        }
     }
 
     // Shows a run of characters, none of which ends a line.
@@ -250,6 +259,20 @@ impl<A: Allocator> Page<A> {
             rest = &rest[at + 1..];
         }
         self.show_run(rest)
+    }
+
+    // Shows what is printed, character by character.
+    fn take_each(&mut self, text: &str) -> Result<(), AllocError>
+        ensures { Receives ⊥ Takes (λ p a q. Refused A) result self.old
+            (map Print (chars text.now)) self.new }
+    {
+        for c in text.chars() {
+            match self.take_print(c) {
+                Ok(()) => {}
+                Err(error) => return Err(error),
+            }
+        }
+        Ok(())
     }
 
     // Shows a tab or a line feed, and no other control.
@@ -379,7 +402,11 @@ impl<A: Allocator> Sink<Action<A>> for Page<A> {
 
     #[inline]
     fn receive_str(&mut self, text: &str) -> Result<(), AllocError> {
-        self.take_run(text)
+        if are_characters(text) {
+            self.take_run(text)
+        } else {
+            self.take_each(text)
+        }
     }
 
     // Takes it with no action made, where it is one: renditions of which each is a sequence by

@@ -1,10 +1,10 @@
 //! Looks that need no span.
 ghost use Rattle.std.specs.Prelude.{◌≡◌, is_none};
 ghost use Rattle.esc_html.specs.Plain.{is_colorless, is_markless, is_own};
-ghost use Rattle.esc_looks.specs.Looks.{intensity_class, is_plain, underline_class};
+ghost use Rattle.esc_looks.specs.Looks.{is_plain, underline_class};
 
 use esc_looks::{Color, Look};
-use esc_sequences::{Intensity, Underline};
+use esc_sequences::Underline;
 
 // Whether a look needs no span: it is as at first. It makes no list of classes to see that.
 #[inline]
@@ -18,7 +18,8 @@ pub(crate) fn is_plain(look: &Look) -> bool
 fn is_markless(look: &Look) -> bool
     ensures { result ≡ is_markless look.now }
 {
-    is_normal(look.intensity)
+    !look.bold
+        && !look.faint
         && !look.italic
         && is_none(look.underline)
         && !look.blink
@@ -26,15 +27,6 @@ fn is_markless(look: &Look) -> bool
         && !look.concealed
         && !look.strikethrough
         && !look.overline
-}
-
-fn is_normal(intensity: Intensity) -> bool
-    ensures { result ≡ is_none (intensity_class intensity) }
-{
-    match intensity {
-        Intensity::Normal => true,
-        Intensity::Bold | Intensity::Half => false,
-    }
 }
 
 fn is_none(underline: Underline) -> bool
@@ -62,6 +54,6 @@ fn is_own(color: Color) -> bool
 {
     match color {
         Color::Default => true,
-        Color::Named(_) | Color::Direct(_) => false,
+        Color::Named(_) | Color::Palette(_) | Color::Direct(_) => false,
     }
 }

@@ -2,6 +2,7 @@
 ghost use Rattle.std.specs.Prelude.{◌≡◌, ◌&&◌, ◌++◌, IfOk, OnOk, OnErr, false, is_none, string_bytes, true, Some};
 ghost use Rattle.std.specs.List.{list_all};
 ghost use Rattle.esc_html.specs.Attributes.{class_opener, ended, next_class, next_style, style_opener};
+ghost use Rattle.esc_looks.specs.Classes.{index_digits, index_text};
 ghost use Rattle.esc_looks.specs.Colors.{is_small};
 ghost use Rattle.esc_html.specs.Growing.{Grows};
 ghost use Rattle.esc_looks.specs.Looks.{present};
@@ -60,7 +61,36 @@ fn push_next_class<A: Allocator>(
     };
     memory::push_str(html, class_opener(is_first))?;
     memory::push_str(html, class.name())?;
+    push_index(html, class.index())?;
     Ok(false)
+}
+
+// The entry of the palette that the name of a class ends in, where it does.
+fn push_index<A: Allocator>(html: &mut String<A>, index: Option<u8>) -> Result<(), AllocError>
+    ensures ok { OnOk result (string_bytes html.new
+        ≡ string_bytes html.old ++ index_text index) }
+    ensures grown { Grows (string_bytes html.old) (string_bytes html.new) }
+    ensures refused { OnErr result (Refused A) }
+{
+    match index {
+        Some(index) => push_digits(html, index),
+        None => Ok(()),
+    }
+}
+
+fn push_digits<A: Allocator>(html: &mut String<A>, index: u8) -> Result<(), AllocError>
+    ensures ok { OnOk result (string_bytes html.new
+        ≡ string_bytes html.old ++ index_digits index) }
+    ensures grown { Grows (string_bytes html.old) (string_bytes html.new) }
+    ensures refused { OnErr result (Refused A) }
+{
+    let tens = b'0' + index / 10 % 10;
+    let ones = b'0' + index % 10;
+    if index < 100 {
+        memory::push_str(html, as_str(&[tens, ones]))
+    } else {
+        memory::push_str(html, as_str(&[b'0' + index / 100 % 10, tens, ones]))
+    }
 }
 
 // What comes before the name of a class: a prefix of its own, too.

@@ -6,8 +6,6 @@ use Rattle.std.specs.Fmt.{decimal}
 use Rattle.esc_looks.specs.declared.color.Color.{Color}
 use Rattle.esc_looks.specs.declared.color.Color.TheVariants as color
 use Rattle.esc_looks.specs.declared.look.Look.{Look}
-use Rattle.esc_sequences.specs.declared.intensity.Intensity.{Intensity}
-use Rattle.esc_sequences.specs.declared.intensity.Intensity.TheVariants as intensity
 use Rattle.esc_sequences.specs.declared.underline.Underline.{Underline}
 use Rattle.esc_sequences.specs.declared.underline.Underline.TheVariants as underline
 use Rattle.esc_typed.specs.Numbers.{ansi_color_number}
@@ -15,11 +13,6 @@ use Rattle.esc_typed.specs.Numbers.{ansi_color_number}
 -- a number more
 abbrev pub number_text : ℕ → List ℕ
 number_text n = 0x3b ∷ decimal n
-
-abbrev pub intensity_text : Intensity → List ℕ
-intensity_text intensity.Normal = []
-intensity_text intensity.Bold = codes ";1"
-intensity_text intensity.Half = codes ";2"
 
 abbrev pub underline_text : Underline → List ℕ
 underline_text underline.None = []
@@ -31,6 +24,10 @@ underline_text underline.Dashed = codes ";4:5"
 
 abbrev pub flag_text : Bool → List ℕ → List ℕ
 flag_text b t = if b then t else []
+
+-- bold characters may be faint too
+abbrev pub weight_text : Bool → Bool → List ℕ
+weight_text bold faint = flag_text bold (codes ";1") ++ flag_text faint (codes ";2")
 
 abbrev pub flags_text : Look → List ℕ
 flags_text l = flag_text l.italic (codes ";3")
@@ -48,32 +45,31 @@ named_number base n = if nat_lt n 8 then base + n else base + 52 + n
 abbrev pub rgb_text : ℕ × ℕ × ℕ → List ℕ
 rgb_text c = number_text c.0 ++ (number_text c.1 ++ number_text c.2)
 
-abbrev pub color_text : ℕ → List ℕ → Color → List ℕ
-color_text base direct color.Default = []
-color_text base direct (color.Named c) = number_text (named_number base (ansi_color_number c))
-color_text base direct (color.Direct c) = direct ++ rgb_text c
+abbrev pub color_text : ℕ → List ℕ → List ℕ → Color → List ℕ
+color_text base entry direct color.Default = []
+color_text base entry direct (color.Named c) =
+    number_text (named_number base (ansi_color_number c))
+color_text base entry direct (color.Palette n) = entry ++ number_text n
+color_text base entry direct (color.Direct c) = direct ++ rgb_text c
 
 abbrev pub underline_color_text : Color → List ℕ
 underline_color_text color.Default = []
 underline_color_text (color.Named c) = codes ";58;5" ++ number_text (ansi_color_number c)
+underline_color_text (color.Palette n) = codes ";58;5" ++ number_text n
 underline_color_text (color.Direct c) = codes ";58;2" ++ rgb_text c
 
 abbrev pub colors_text : Look → List ℕ
-colors_text l = color_text 30 (codes ";38;2") l.foreground
-    ++ (color_text 40 (codes ";48;2") l.background ++ underline_color_text l.underline_color)
+colors_text l = color_text 30 (codes ";38;5") (codes ";38;2") l.foreground
+    ++ (color_text 40 (codes ";48;5") (codes ";48;2") l.background
+    ++ underline_color_text l.underline_color)
 
 -- what makes the look, whatever held before
 abbrev pub look_text : Look → List ℕ
 look_text l = 0x1b ∷ codes "[0"
-    ++ (intensity_text l.intensity ++ (underline_text l.underline
+    ++ (weight_text l.bold l.faint ++ (underline_text l.underline
     ++ (flags_text l ++ (colors_text l ++ codes "m"))))
 
 -- ---- whether two looks are the same
-
-abbrev pub intensity_code : Intensity → ℕ
-intensity_code intensity.Normal = 0
-intensity_code intensity.Bold = 1
-intensity_code intensity.Half = 2
 
 abbrev pub underline_code : Underline → ℕ
 underline_code underline.None = 0
@@ -84,9 +80,9 @@ underline_code underline.Dotted = 4
 underline_code underline.Dashed = 5
 
 abbrev pub same_flags : Look → Look → Bool
-same_flags a b = beq a.italic b.italic && beq a.blink b.blink && beq a.inverse b.inverse
-    && beq a.concealed b.concealed && beq a.strikethrough b.strikethrough
-    && beq a.overline b.overline
+same_flags a b = beq a.bold b.bold && beq a.faint b.faint && beq a.italic b.italic
+    && beq a.blink b.blink && beq a.inverse b.inverse && beq a.concealed b.concealed
+    && beq a.strikethrough b.strikethrough && beq a.overline b.overline
 
 abbrev pub is_default : Color → Bool
 is_default color.Default = true
@@ -96,6 +92,10 @@ abbrev pub is_named : ℕ → Color → Bool
 is_named n (color.Named c) = n == ansi_color_number c
 is_named n _ = false
 
+abbrev pub is_entry : ℕ → Color → Bool
+is_entry n (color.Palette m) = n == m
+is_entry n _ = false
+
 abbrev pub is_direct : ℕ × ℕ × ℕ → Color → Bool
 is_direct a (color.Direct c) = a.0 == c.0 && a.1 == c.1 && a.2 == c.2
 is_direct a _ = false
@@ -103,11 +103,11 @@ is_direct a _ = false
 abbrev pub same_color : Color → Color → Bool
 same_color color.Default c = is_default c
 same_color (color.Named a) c = is_named (ansi_color_number a) c
+same_color (color.Palette n) c = is_entry n c
 same_color (color.Direct a) c = is_direct a c
 
 abbrev pub same_look : Look → Look → Bool
-same_look a b = intensity_code a.intensity == intensity_code b.intensity
-    && underline_code a.underline == underline_code b.underline && same_flags a b
+same_look a b = underline_code a.underline == underline_code b.underline && same_flags a b
     && same_color a.foreground b.foreground && same_color a.background b.background
     && same_color a.underline_color b.underline_color
 

@@ -1,12 +1,12 @@
 //! The control sequence that makes a look.
 ghost use Rattle.std.specs.Prelude.{◌≡◌, ◌≤◌, ◌<◌, ◌++◌, [], IsTrue, false, OnErr, OnOk, string_bytes};
 ghost use Rattle.esc_looks.specs.Looks.{plain_look};
-ghost use Rattle.esc_lines.specs.Sgr.{change_text, color_text, colors_text, flag_text, flags_text, intensity_code, intensity_text, is_default, is_direct, is_named, look_text, named_number, number_text, rgb_text, same_color, same_flags, same_look, underline_code, underline_color_text, underline_text};
+ghost use Rattle.esc_lines.specs.Sgr.{change_text, color_text, colors_text, flag_text, flags_text, is_default, is_direct, is_entry, is_named, look_text, named_number, number_text, rgb_text, same_color, same_flags, same_look, underline_code, underline_color_text, underline_text, weight_text};
 ghost use Rattle.memory.specs.Refusals.{Refused};
 
 use crate::ascii::push_ascii;
 use esc_looks::{Color, Look};
-use esc_sequences::{Intensity, Underline};
+use esc_sequences::Underline;
 use esc_values::RgbColor;
 use std::alloc::{AllocError, Allocator};
 
@@ -34,7 +34,7 @@ fn push_look<A: Allocator>(text: &mut String<A>, look: &Look) -> Result<(), Allo
     ensures refused { OnErr result (Refused A) }
 {
     memory::push_str(text, "\x1b[0")?;
-    memory::push_str(text, intensity_text(look.intensity))?;
+    memory::push_str(text, weight_text(look.bold, look.faint))?;
     memory::push_str(text, underline_text(look.underline))?;
     push_flags(text, look)?;
     push_colors(text, look)?;
@@ -99,25 +99,30 @@ fn push_colors<A: Allocator>(text: &mut String<A>, look: &Look) -> Result<(), Al
         ≡ string_bytes text.old ++ colors_text look.now) }
     ensures refused { OnErr result (Refused A) }
 {
-    push_color(text, 30, ";38;2", look.foreground)?;
-    push_color(text, 40, ";48;2", look.background)?;
+    push_color(text, 30, ";38;5", ";38;2", look.foreground)?;
+    push_color(text, 40, ";48;5", ";48;2", look.background)?;
     push_underline_color(text, look.underline_color)
 }
 
 fn push_color<A: Allocator>(
     text: &mut String<A>,
     base: u8,
+    entry: &str,
     direct: &str,
     color: Color,
 ) -> Result<(), AllocError>
     requires { base ≤ 40 }
     ensures ok { OnOk result (string_bytes text.new
-        ≡ string_bytes text.old ++ color_text base direct.now color) }
+        ≡ string_bytes text.old ++ color_text base entry.now direct.now color) }
     ensures refused { OnErr result (Refused A) }
 {
     match color {
         Color::Default => Ok(()),
         Color::Named(color) => push_number(text, named_number(base, color.index())),
+        Color::Palette(index) => {
+            memory::push_str(text, entry)?;
+            push_number(text, index)
+        }
         Color::Direct(color) => {
             memory::push_str(text, direct)?;
             push_rgb(text, color)
@@ -135,6 +140,10 @@ fn push_underline_color<A: Allocator>(text: &mut String<A>, color: Color) -> Res
         Color::Named(color) => {
             memory::push_str(text, ";58;5")?;
             push_number(text, color.index())
+        }
+        Color::Palette(index) => {
+            memory::push_str(text, ";58;5")?;
+            push_number(text, index)
         }
         Color::Direct(color) => {
             memory::push_str(text, ";58;2")?;
@@ -190,13 +199,14 @@ fn named_number(base: u8, index: u8) -> u8
     }
 }
 
-fn intensity_text(intensity: Intensity) -> &'static str
-    ensures { result.now ≡ intensity_text intensity }
+fn weight_text(bold: bool, faint: bool) -> &'static str
+    ensures { result.now ≡ weight_text bold faint }
 {
-    match intensity {
-        Intensity::Normal => "",
-        Intensity::Bold => ";1",
-        Intensity::Half => ";2",
+    match (bold, faint) {
+        (false, false) => "",
+        (true, false) => ";1",
+        (false, true) => ";2",
+        (true, true) => ";1;2",
     }
 }
 
@@ -226,8 +236,7 @@ pub(crate) fn is_first(look: &Look) -> bool
 fn is_same(a: &Look, b: &Look) -> bool
     ensures { result ≡ same_look a.now b.now }
 {
-    intensity_code(a.intensity) == intensity_code(b.intensity)
-        && underline_code(a.underline) == underline_code(b.underline)
+    underline_code(a.underline) == underline_code(b.underline)
         && has_same_flags(a, b)
         && is_same_color(a.foreground, b.foreground)
         && is_same_color(a.background, b.background)
@@ -238,7 +247,9 @@ fn is_same(a: &Look, b: &Look) -> bool
 fn has_same_flags(a: &Look, b: &Look) -> bool
     ensures { result ≡ same_flags a.now b.now }
 {
-    a.italic == b.italic
+    a.bold == b.bold
+        && a.faint == b.faint
+        && a.italic == b.italic
         && a.blink == b.blink
         && a.inverse == b.inverse
         && a.concealed == b.concealed
@@ -253,6 +264,7 @@ fn is_same_color(a: Color, b: Color) -> bool
     match a {
         Color::Default => is_default(b),
         Color::Named(a) => is_named(a.index(), b),
+        Color::Palette(a) => is_entry(a, b),
         Color::Direct(a) => is_direct(a, b),
     }
 }
@@ -262,7 +274,7 @@ fn is_default(color: Color) -> bool
 {
     match color {
         Color::Default => true,
-        Color::Named(_) | Color::Direct(_) => false,
+        Color::Named(_) | Color::Palette(_) | Color::Direct(_) => false,
     }
 }
 
@@ -271,7 +283,16 @@ fn is_named(index: u8, color: Color) -> bool
 {
     match color {
         Color::Named(color) => index == color.index(),
-        Color::Default | Color::Direct(_) => false,
+        Color::Default | Color::Palette(_) | Color::Direct(_) => false,
+    }
+}
+
+fn is_entry(index: u8, color: Color) -> bool
+    ensures { result ≡ is_entry index color }
+{
+    match color {
+        Color::Palette(own) => index == own,
+        Color::Default | Color::Named(_) | Color::Direct(_) => false,
     }
 }
 
@@ -284,17 +305,7 @@ fn is_direct(rgb: RgbColor, color: Color) -> bool
             let (own_red, own_green, own_blue) = rgb.to_tuple_rgb8();
             own_red == red && own_green == green && own_blue == blue
         }
-        Color::Default | Color::Named(_) => false,
-    }
-}
-
-fn intensity_code(intensity: Intensity) -> u8
-    ensures { result ≡ intensity_code intensity }
-{
-    match intensity {
-        Intensity::Normal => 0,
-        Intensity::Bold => 1,
-        Intensity::Half => 2,
+        Color::Default | Color::Named(_) | Color::Palette(_) => false,
     }
 }
 

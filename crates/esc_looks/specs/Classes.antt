@@ -1,9 +1,9 @@
 -- The names of classes, in an attribute `class`.
-use Rattle.std.specs.Prelude.{ℕ, Bool, if◌then◌else◌, List, [], ◌∷◌, ◌++◌, codes}
+use Rattle.std.specs.Prelude.{ℕ, ◌+◌, ◌/◌, ◌%◌, nat_lt, Bool, if◌then◌else◌, List, [], ◌∷◌, ◌++◌, codes, Option, Some, None}
 use Rattle.esc_typed.specs.declared.ansi_color.AnsiColor.{AnsiColor}
 use Rattle.esc_typed.specs.declared.ansi_color.AnsiColor.TheVariants as ansi
 use Rattle.esc_looks.specs.declared.class.Class.{Class}
-use Rattle.esc_looks.specs.declared.class.Class.TheVariants.{Background, Blink, Bold, Concealed, CurlyUnderline, DashedUnderline, DottedUnderline, DoubleUnderline, Faint, Foreground, Inverse, Italic, Overline, Strikethrough, Underline, UnderlineColor}
+use Rattle.esc_looks.specs.declared.class.Class.TheVariants.{Background, Blink, Bold, Concealed, CurlyUnderline, DashedUnderline, DottedUnderline, DoubleUnderline, Faint, Foreground, Inverse, Italic, Overline, PaletteBackground, PaletteForeground, PaletteUnderline, Strikethrough, Underline, UnderlineColor}
 
 -- a colour that has a name
 abbrev pub color_name : AnsiColor → List ℕ
@@ -34,23 +34,48 @@ background_name c = codes "bg-" ++ color_name c
 abbrev pub underline_color_name : AnsiColor → List ℕ
 underline_color_name c = codes "ul-" ++ color_name c
 
+-- the name of a class, up to the entry of the palette that it ends in
+abbrev pub stem : Class → List ℕ
+stem Bold = codes "bold"
+stem Faint = codes "faint"
+stem Italic = codes "italic"
+stem Underline = codes "underline"
+stem DoubleUnderline = codes "double-underline"
+stem CurlyUnderline = codes "curly-underline"
+stem DottedUnderline = codes "dotted-underline"
+stem DashedUnderline = codes "dashed-underline"
+stem Blink = codes "blink"
+stem Inverse = codes "inverse"
+stem Concealed = codes "concealed"
+stem Strikethrough = codes "strikethrough"
+stem Overline = codes "overline"
+stem (Foreground c) = foreground_name c
+stem (Background c) = background_name c
+stem (UnderlineColor c) = underline_color_name c
+stem (PaletteForeground n) = codes "fg-"
+stem (PaletteBackground n) = codes "bg-"
+stem (PaletteUnderline n) = codes "ul-"
+
+-- this entry
+abbrev pub index_of : Class → Option ℕ
+index_of (PaletteForeground n) = Some n
+index_of (PaletteBackground n) = Some n
+index_of (PaletteUnderline n) = Some n
+index_of _ = None
+
+-- in decimal digits: from 16 on there are two or three
+abbrev pub two_digits : ℕ → List ℕ
+two_digits n = (0x30 + n / 10 % 10) ∷ (0x30 + n % 10) ∷ []
+
+abbrev pub index_digits : ℕ → List ℕ
+index_digits n = if nat_lt n 100 then two_digits n else (0x30 + n / 100 % 10) ∷ two_digits n
+
+abbrev pub index_text : Option ℕ → List ℕ
+index_text None = []
+index_text (Some n) = index_digits n
+
 abbrev pub class_name : Class → List ℕ
-class_name Bold = codes "bold"
-class_name Faint = codes "faint"
-class_name Italic = codes "italic"
-class_name Underline = codes "underline"
-class_name DoubleUnderline = codes "double-underline"
-class_name CurlyUnderline = codes "curly-underline"
-class_name DottedUnderline = codes "dotted-underline"
-class_name DashedUnderline = codes "dashed-underline"
-class_name Blink = codes "blink"
-class_name Inverse = codes "inverse"
-class_name Concealed = codes "concealed"
-class_name Strikethrough = codes "strikethrough"
-class_name Overline = codes "overline"
-class_name (Foreground c) = foreground_name c
-class_name (Background c) = background_name c
-class_name (UnderlineColor c) = underline_color_name c
+class_name c = stem c ++ index_text (index_of c)
 
 -- a name that comes next: the first as it is, and any other after a space
 abbrev pub next_name : Bool → Class → List ℕ

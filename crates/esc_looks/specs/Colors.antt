@@ -4,7 +4,7 @@ use Rattle.esc_typed.specs.Numbers.{ansi_color_at}
 use Rattle.esc_typed.specs.declared.color_spec.ColorSpec.{ColorSpec}
 use Rattle.esc_typed.specs.declared.color_spec.ColorSpec.TheVariants as spec
 use Rattle.esc_looks.specs.declared.color.Color.{Color}
-use Rattle.esc_looks.specs.declared.color.Color.TheVariants.{Default, Named, Direct}
+use Rattle.esc_looks.specs.declared.color.Color.TheVariants.{Default, Named, Palette, Direct}
 
 -- the six intensities of the cube of colours
 abbrev pub level : ℕ → ℕ
@@ -18,7 +18,7 @@ palette n = if nat_lt n 232
 
 -- an entry of the palette: the first 16 have names
 abbrev pub color_at : ℕ → Color
-color_at n = if nat_lt n 16 then Named (ansi_color_at n) else Direct (palette n)
+color_at n = if nat_lt n 16 then Named (ansi_color_at n) else Palette n
 
 abbrev pub color_of : ColorSpec → Color
 color_of spec.Default = Default

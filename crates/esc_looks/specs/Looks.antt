@@ -24,7 +24,8 @@ use Rattle.esc_looks.specs.declared.style.Style.TheVariants as style
 -- as at first
 abbrev pub plain_look : Look
 plain_look = record {
-  intensity = intensity.Normal;
+  bold = false;
+  faint = false;
   italic = false;
   underline = underline.None;
   blink = false;
@@ -42,10 +43,16 @@ is_blinking blink.None = false
 is_blinking blink.Slow = true
 is_blinking blink.Rapid = true
 
+-- Bold and faint may hold together, as in xterm and kitty; SGR 22 ends both.
+abbrev pub with_intensity : Look → IntensityKind → Look
+with_intensity l intensity.Normal = record l { bold = false; faint = false }
+with_intensity l intensity.Bold = record l { bold = true }
+with_intensity l intensity.Half = record l { faint = true }
+
 -- the look after a rendition
 abbrev pub look_by : Look → Rendition → Look
 look_by l Reset = plain_look
-look_by l (Intensity i) = record l { intensity = i }
+look_by l (Intensity i) = with_intensity l i
 look_by l (Italic b) = record l { italic = b }
 look_by l (Underline u) = record l { underline = u }
 look_by l (Blink b) = record l { blink = is_blinking b }
@@ -83,11 +90,6 @@ look_after l c = look_for l (of_csi c)
 abbrev pub class_if : Bool → Class → Option Class
 class_if b c = if b then Some c else None
 
-abbrev pub intensity_class : IntensityKind → Option Class
-intensity_class intensity.Normal = None
-intensity_class intensity.Bold = Some class.Bold
-intensity_class intensity.Half = Some class.Faint
-
 abbrev pub underline_class : UnderlineKind → Option Class
 underline_class underline.None = None
 underline_class underline.Single = Some class.Underline
@@ -98,14 +100,17 @@ underline_class underline.Dashed = Some class.DashedUnderline
 
 abbrev pub foreground_class : Color → Option Class
 foreground_class (color.Named c) = Some (class.Foreground c)
+foreground_class (color.Palette n) = Some (class.PaletteForeground n)
 foreground_class _ = None
 
 abbrev pub background_class : Color → Option Class
 background_class (color.Named c) = Some (class.Background c)
+background_class (color.Palette n) = Some (class.PaletteBackground n)
 background_class _ = None
 
 abbrev pub underline_color_class : Color → Option Class
 underline_color_class (color.Named c) = Some (class.UnderlineColor c)
+underline_color_class (color.Palette n) = Some (class.PaletteUnderline n)
 underline_color_class _ = None
 
 abbrev pub foreground_style : Color → Option Style
@@ -124,12 +129,17 @@ underline_color_style _ = None
 abbrev pub shown_foreground : Look → Color
 shown_foreground l = if l.inverse then l.background else l.foreground
 
+-- the same, but for that of concealed ones, which are not seen in any
+abbrev pub seen_foreground : Look → Color
+seen_foreground l = if l.concealed then color.Default else shown_foreground l
+
 abbrev pub shown_background : Look → Color
 shown_background l = if l.inverse then l.foreground else l.background
 
 -- its classes, of those that are there
 abbrev pub look_classes : Look → List (Option Class)
-look_classes l = intensity_class l.intensity
+look_classes l = class_if l.bold class.Bold
+    ∷ class_if l.faint class.Faint
     ∷ class_if l.italic class.Italic
     ∷ underline_class l.underline
     ∷ class_if l.blink class.Blink
@@ -137,14 +147,14 @@ look_classes l = intensity_class l.intensity
     ∷ class_if l.concealed class.Concealed
     ∷ class_if l.strikethrough class.Strikethrough
     ∷ class_if l.overline class.Overline
-    ∷ foreground_class (shown_foreground l)
+    ∷ foreground_class (seen_foreground l)
     ∷ background_class (shown_background l)
     ∷ underline_color_class l.underline_color
     ∷ []
 
 -- its styles, of those that are there
 abbrev pub look_styles : Look → List (Option Style)
-look_styles l = foreground_style (shown_foreground l)
+look_styles l = foreground_style (seen_foreground l)
     ∷ background_style (shown_background l)
     ∷ underline_color_style l.underline_color
     ∷ []

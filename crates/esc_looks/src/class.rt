@@ -1,6 +1,6 @@
 //! The classes of a span.
 ghost use Rattle.std.specs.Prelude.{◌≡◌};
-ghost use Rattle.esc_looks.specs.Classes.{background_name, class_name, foreground_name, underline_color_name};
+ghost use Rattle.esc_looks.specs.Classes.{background_name, foreground_name, index_of, stem, underline_color_name};
 
 use esc_typed::AnsiColor;
 
@@ -40,12 +40,18 @@ pub enum Class {
     Background(AnsiColor),
     /// `58;5;0` to `58;5;15`: the colour of the underline.
     UnderlineColor(AnsiColor),
+    /// `38;5;16` to `38;5;255`: the colour of the characters, an entry of the palette.
+    PaletteForeground(u8),
+    /// `48;5;16` to `48;5;255`: that of what is around them.
+    PaletteBackground(u8),
+    /// `58;5;16` to `58;5;255`: that of the underline.
+    PaletteUnderline(u8),
 }
 
 impl Class {
-    /// Its name in an attribute `class`.
+    /// Its name in an attribute `class`, up to its [`index`](Self::index).
     pub fn name(self) -> &'static str
-        ensures { result.now ≡ class_name self }
+        ensures { result.now ≡ stem self }
     {
         match self {
             Class::Bold => "bold",
@@ -64,6 +70,21 @@ impl Class {
             Class::Foreground(color) => foreground_name(color),
             Class::Background(color) => background_name(color),
             Class::UnderlineColor(color) => underline_color_name(color),
+            Class::PaletteForeground(_) => "fg-",
+            Class::PaletteBackground(_) => "bg-",
+            Class::PaletteUnderline(_) => "ul-",
+        }
+    }
+
+    /// The entry of the palette that its name ends in, in two or three digits.
+    pub fn index(self) -> Option<u8>
+        ensures { result ≡ index_of self }
+    {
+        match self {
+            Class::PaletteForeground(index)
+            | Class::PaletteBackground(index)
+            | Class::PaletteUnderline(index) => Some(index),
+            _ => None,
         }
     }
 }

@@ -1,5 +1,5 @@
 //! Colours.
-ghost use Rattle.std.specs.Prelude.{◌≡◌, ◌≤◌, ◌<◌};
+ghost use Rattle.std.specs.Prelude.{◌≡◌, ◌<◌};
 ghost use Rattle.esc_looks.specs.Colors.{color_at, color_code, color_of, hex_digit, level, palette};
 
 use esc_typed::{AnsiColor, ColorSpec};
@@ -12,14 +12,15 @@ pub enum Color {
     Default,
     /// One that has a name: the style sheet says which it is.
     Named(AnsiColor),
+    /// An entry of the palette of 256 colours, from 16 on.
+    Palette(u8),
     /// The intensities of red, green and blue.
     Direct(RgbColor),
 }
 
 impl Color {
     /// The colour that a rendition asks for. Of the palette of 256 colours, the first 16 are those
-    /// with names; the others are xterm's, 6 levels each of red, green and blue (16 to 231), and 24
-    /// greys (232 to 255).
+    /// with names.
     pub fn of(color: ColorSpec) -> Color
         ensures { result ≡ color_of color }
     {
@@ -38,17 +39,17 @@ fn at(index: u8) -> Color
     if index < 16 {
         Color::Named(AnsiColor::at(index))
     } else {
-        Color::Direct(palette(index))
+        Color::Palette(index)
     }
 }
 
-// The intensities of an entry that has no name.
-fn palette(index: u8) -> RgbColor
-    requires { 16 ≤ index }
+/// The intensities of an entry of the palette, from 16 on, as xterm has them: 6 levels each of red,
+/// green and blue (16 to 231), and 24 greys (232 to 255).
+pub fn palette(index: u8) -> RgbColor
     ensures { result ≡ palette index }
 {
     if index < 232 {
-        let place = index - 16;
+        let place = index.saturating_sub(16);
         RgbColor::new_8bpc(level(place / 36), level(place / 6 % 6), level(place % 6))
     } else {
         let grey = 8 + 10 * (index - 232);

@@ -18,6 +18,6 @@ pub mod look;
 pub mod style;
 
 pub use class::Class;
-pub use color::Color;
+pub use color::{Color, palette};
 pub use look::Look;
 pub use style::Style;

@@ -1,7 +1,7 @@
 //! How characters look.
 ghost use Rattle.std.specs.Prelude.{◌≡◌, is_none};
 ghost use Rattle.std.specs.List.{list_all};
-ghost use Rattle.esc_looks.specs.Looks.{background_class, background_style, class_if, foreground_class, foreground_style, intensity_class, is_blinking, is_plain, look_after, look_by, look_by_all, look_by_optional, look_classes, look_styles, plain_look, shown_background, shown_foreground, underline_class, underline_color_class, underline_color_style};
+ghost use Rattle.esc_looks.specs.Looks.{background_class, background_style, class_if, foreground_class, foreground_style, is_blinking, is_plain, look_after, look_by, look_by_all, look_by_optional, look_classes, look_styles, plain_look, seen_foreground, shown_background, shown_foreground, underline_class, underline_color_class, underline_color_style, with_intensity};
 ghost use Rattle.esc_sequences.specs.Csis.{csi_value};
 ghost use Rattle.esc_typed.specs.Selections.{left};
 
@@ -16,8 +16,10 @@ use std::alloc::Allocator;
 /// "Character Attributes (SGR)").
 #[derive(Clone, Copy, Debug, PartialEq, Eq)]
 pub struct Look {
-    /// How bright they are.
-    pub intensity: Intensity,
+    /// Whether they are bold.
+    pub bold: bool,
+    /// Whether they are faint. Bold characters may be faint too.
+    pub faint: bool,
     /// Whether they are slanted.
     pub italic: bool,
     /// How they are underlined.
@@ -46,7 +48,8 @@ impl Look {
         ensures { result ≡ plain_look }
     {
         Look {
-            intensity: Intensity::Normal,
+            bold: false,
+            faint: false,
             italic: false,
             underline: Underline::None,
             blink: false,
@@ -78,7 +81,7 @@ impl Look {
     {
         match rendition {
             Rendition::Reset => *self = Look::plain(),
-            Rendition::Intensity(intensity) => self.intensity = intensity,
+            Rendition::Intensity(intensity) => self.set_intensity(intensity),
             Rendition::Italic(is_on) => self.italic = is_on,
             Rendition::Underline(underline) => self.underline = underline,
             Rendition::Blink(blink) => self.blink = is_blinking(blink),
@@ -96,6 +99,20 @@ impl Look {
             | Rendition::Frame(_)
             | Rendition::Ideogram(_)
             | Rendition::VerticalAlign(_) => {}
+        }
+    }
+
+    // Bold and faint may hold together (xterm and kitty); SGR 22 ends both (ECMA-48, 8.3.117).
+    fn set_intensity(&mut self, intensity: Intensity)
+        ensures { self.new ≡ with_intensity self.old intensity }
+    {
+        match intensity {
+            Intensity::Normal => {
+                self.bold = false;
+                self.faint = false;
+            }
+            Intensity::Bold => self.bold = true,
+            Intensity::Half => self.faint = true,
         }
     }
 
@@ -135,8 +152,19 @@ impl Look {
         }
     }
 
-    // The colour that is shown around them.
-    fn shown_background(&self) -> Color
+    /// The colour in which characters are shown, but for concealed ones, which are seen in none.
+    pub fn seen_foreground(&self) -> Color
+        ensures { result ≡ seen_foreground self.now }
+    {
+        if self.concealed {
+            Color::Default
+        } else {
+            self.shown_foreground()
+        }
+    }
+
+    /// The colour that is shown around them.
+    pub fn shown_background(&self) -> Color
         ensures { result ≡ shown_background self.now }
     {
         if self.inverse {
@@ -147,11 +175,12 @@ impl Look {
     }
 
     // Its classes, of those that are there.
-    pub fn classes(&self) -> [Option<Class>; 11]
+    pub fn classes(&self) -> [Option<Class>; 12]
         ensures { result ≡ look_classes self.now }
     {
         [
-            intensity_class(self.intensity),
+            class_if(self.bold, Class::Bold),
+            class_if(self.faint, Class::Faint),
             class_if(self.italic, Class::Italic),
             underline_class(self.underline),
             class_if(self.blink, Class::Blink),
@@ -159,7 +188,7 @@ impl Look {
             class_if(self.concealed, Class::Concealed),
             class_if(self.strikethrough, Class::Strikethrough),
             class_if(self.overline, Class::Overline),
-            foreground_class(self.shown_foreground()),
+            foreground_class(self.seen_foreground()),
             background_class(self.shown_background()),
             underline_color_class(self.underline_color),
         ]
@@ -170,7 +199,7 @@ impl Look {
         ensures { result ≡ look_styles self.now }
     {
         [
-            foreground_style(self.shown_foreground()),
+            foreground_style(self.seen_foreground()),
             background_style(self.shown_background()),
             underline_color_style(self.underline_color),
         ]
@@ -207,16 +236,6 @@ fn class_if(holds: bool, class: Class) -> Option<Class>
     if holds { Some(class) } else { None }
 }
 
-fn intensity_class(intensity: Intensity) -> Option<Class>
-    ensures { result ≡ intensity_class intensity }
-{
-    match intensity {
-        Intensity::Normal => None,
-        Intensity::Bold => Some(Class::Bold),
-        Intensity::Half => Some(Class::Faint),
-    }
-}
-
 fn underline_class(underline: Underline) -> Option<Class>
     ensures { result ≡ underline_class underline }
 {
@@ -235,6 +254,7 @@ fn foreground_class(color: Color) -> Option<Class>
 {
     match color {
         Color::Named(color) => Some(Class::Foreground(color)),
+        Color::Palette(index) => Some(Class::PaletteForeground(index)),
         Color::Default | Color::Direct(_) => None,
     }
 }
@@ -244,6 +264,7 @@ fn background_class(color: Color) -> Option<Class>
 {
     match color {
         Color::Named(color) => Some(Class::Background(color)),
+        Color::Palette(index) => Some(Class::PaletteBackground(index)),
         Color::Default | Color::Direct(_) => None,
     }
 }
@@ -253,6 +274,7 @@ fn underline_color_class(color: Color) -> Option<Class>
 {
     match color {
         Color::Named(color) => Some(Class::UnderlineColor(color)),
+        Color::Palette(index) => Some(Class::PaletteUnderline(index)),
         Color::Default | Color::Direct(_) => None,
     }
 }
@@ -265,7 +287,7 @@ fn foreground_style(color: Color) -> Option<Style>
             let (red, green, blue) = color.to_tuple_rgb8();
             Some(Style::Color(red, green, blue))
         }
-        Color::Default | Color::Named(_) => None,
+        Color::Default | Color::Named(_) | Color::Palette(_) => None,
     }
 }
 
@@ -277,7 +299,7 @@ fn background_style(color: Color) -> Option<Style>
             let (red, green, blue) = color.to_tuple_rgb8();
             Some(Style::BackgroundColor(red, green, blue))
         }
-        Color::Default | Color::Named(_) => None,
+        Color::Default | Color::Named(_) | Color::Palette(_) => None,
     }
 }
 
@@ -289,6 +311,6 @@ fn underline_color_style(color: Color) -> Option<Style>
             let (red, green, blue) = color.to_tuple_rgb8();
             Some(Style::TextDecorationColor(red, green, blue))
         }
-        Color::Default | Color::Named(_) => None,
+        Color::Default | Color::Named(_) | Color::Palette(_) => None,
     }
 }

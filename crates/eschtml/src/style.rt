@@ -1,7 +1,15 @@
 //! The style sheet.
 
 use crate::options::Theme;
+use esc_html::{Style, is_deep, palette};
+use esc_values::RgbColor;
 use std::alloc::AllocError;
+use std::str;
+
+// The entries of the palette of 256 that have no names.
+const FIRST: u8 = 16;
+
+const LAST: u8 = 255;
 
 // The colours of a light page, and of looks that are exchanged on it.
 const LIGHT: &str = "\
@@ -37,7 +45,8 @@ const DARK: &str = "\
 // line through, over or under characters adds to the others; what blinks does not.
 //
 // Grounds have colours of their own: black and white can be read on each, and any other colour on a
-// deeper one. What stands on the ground of a line touches the one of the next.
+// deeper one, or on one that is nearly white. What stands on the ground of a line touches the one of
+// the next.
 const RULES: &str = "\
 .es-stream {
   --es-on-black: #24292f; --es-on-red: #dd313d; --es-on-green: #258640; --es-on-yellow: #927100;
@@ -75,19 +84,30 @@ const RULES: &str = "\
 .es-stream [class*=\"es-bg-\"] {
   --es-black: #000000; --es-white: #ffffff; --es-bright-white: #ffffff;
   --es-red: #ff7b72; --es-green: #3fb950; --es-yellow: #d29922; --es-blue: #58a6ff;
-  --es-magenta: #bc8cff; --es-cyan: #39c5cf; --es-bright-black: #8b949e; --es-bright-red: #ffa198;
+  --es-magenta: #bc8cff; --es-cyan: #39c5cf; --es-bright-black: #98a1ab; --es-bright-red: #ffa198;
   --es-bright-green: #56d364; --es-bright-yellow: #e3b341; --es-bright-blue: #79c0ff;
   --es-bright-magenta: #d2a8ff; --es-bright-cyan: #56d4dd; }
-.es-stream .es-bg-white, .es-stream .es-bg-bright-white {
+";
+
+// What grounds on which black can be read better have, after their names: darker colours.
+const ON_LIGHT: &str = " {
   --es-red: #b3261e; --es-green: #116329; --es-yellow: #7d4e00; --es-blue: #0550ae;
   --es-magenta: #8250df; --es-cyan: #0b6b75; --es-bright-black: #57606a; --es-bright-red: #cf222e;
   --es-bright-green: #1a7f37; --es-bright-yellow: #9a6700; --es-bright-blue: #0969da;
   --es-bright-magenta: #9a3fd5; --es-bright-cyan: #1b7c83; }
-.es-stream [class*=\"es-fg-\"]:not(.es-fg-black):not(.es-fg-white):not(.es-fg-bright-white) {
+";
+
+// The grounds that have names.
+const GROUNDS: &str = "\
+.es-stream .es-fg-red, .es-stream .es-fg-green, .es-stream .es-fg-yellow, .es-stream .es-fg-blue,
+.es-stream .es-fg-magenta, .es-stream .es-fg-cyan, .es-stream .es-fg-bright-black,
+.es-stream .es-fg-bright-red, .es-stream .es-fg-bright-green, .es-stream .es-fg-bright-yellow,
+.es-stream .es-fg-bright-blue, .es-stream .es-fg-bright-magenta, .es-stream .es-fg-bright-cyan {
   --es-on-red: #681117; --es-on-green: #103c1c; --es-on-yellow: #413200; --es-on-blue: #043369;
   --es-on-magenta: #3f1885; --es-on-cyan: #0c3a3d; --es-on-bright-black: #24292f;
   --es-on-bright-red: #6e0305; --es-on-bright-green: #0a3d0a; --es-on-bright-yellow: #43310d;
-  --es-on-bright-blue: #0f3367; --es-on-bright-magenta: #5b1b42; --es-on-bright-cyan: #043a42; }
+  --es-on-bright-blue: #0f3367; --es-on-bright-magenta: #5b1b42; --es-on-bright-cyan: #043a42;
+  --es-on-white: #f6f8fa; --es-on-bright-white: #f6f8fa; }
 .es-stream .es-bg-white.es-fg-white,
 .es-stream .es-bg-white.es-fg-bright-white,
 .es-stream .es-bg-bright-white.es-fg-white,
@@ -110,6 +130,10 @@ const RULES: &str = "\
 .es-stream .es-bg-bright-magenta { color: #ffffff; background-color: var(--es-on-bright-magenta); }
 .es-stream .es-bg-bright-cyan { color: #ffffff; background-color: var(--es-on-bright-cyan); }
 .es-stream .es-bg-bright-white { color: #000000; background-color: var(--es-on-bright-white); }
+";
+
+// The colours of characters and of underlines that have names.
+const COLORS: &str = "\
 .es-stream .es-fg-black { color: var(--es-black); }
 .es-stream .es-fg-red { color: var(--es-red); }
 .es-stream .es-fg-green { color: var(--es-green); }
@@ -142,6 +166,10 @@ const RULES: &str = "\
 .es-stream .es-ul-bright-magenta { text-decoration-color: var(--es-bright-magenta); }
 .es-stream .es-ul-bright-cyan { text-decoration-color: var(--es-bright-cyan); }
 .es-stream .es-ul-bright-white { text-decoration-color: var(--es-bright-white); }
+";
+
+// What holds for all of them.
+const LAST_RULES: &str = "\
 .es-stream .es-concealed { color: transparent !important; }
 .es-stream [class*=\"es-bg-\"], .es-stream .es-inverse, .es-stream [style*=\"background-color\"] {
   padding-block: 0.2em; }
@@ -191,7 +219,13 @@ pub fn push_style(text: &mut String, theme: Theme) -> Result<(), AllocError> {
         Theme::Light => memory::push_str(text, LIGHT)?,
         Theme::Dark => memory::push_str(text, DARK)?,
     }
-    memory::push_str(text, RULES)
+    memory::push_str(text, RULES)?;
+    push_light_grounds(text)?;
+    memory::push_str(text, GROUNDS)?;
+    push_palette(text, true)?;
+    memory::push_str(text, COLORS)?;
+    push_palette(text, false)?;
+    memory::push_str(text, LAST_RULES)
 }
 
 /// Appends what a whole page has beside it.
@@ -202,4 +236,75 @@ pub fn push_page_style(text: &mut String, theme: Theme) -> Result<(), AllocError
         Theme::Dark => DARK_PAGE,
     };
     memory::push_str(text, style)
+}
+
+// Appends the rule of light grounds.
+fn push_light_grounds(text: &mut String) -> Result<(), AllocError> {
+    memory::push_str(
+        text,
+        ".es-stream .es-bg-white, .es-stream .es-bg-bright-white",
+    )?;
+    for index in FIRST..=LAST {
+        if !is_deep(palette(index)) {
+            memory::push_str(text, ",\n.es-stream .es-bg-")?;
+            memory::push_display(text, &index)?;
+        }
+    }
+    memory::push_str(text, ON_LIGHT)
+}
+
+// Appends the rules of the palette: of grounds, or of characters and underlines.
+fn push_palette(text: &mut String, are_grounds: bool) -> Result<(), AllocError> {
+    for index in FIRST..=LAST {
+        let color = palette(index);
+        let (red, green, blue) = color.to_tuple_rgb8();
+        if are_grounds {
+            let on_it = text_on(color);
+            push_rule(
+                text,
+                "bg",
+                index,
+                on_it,
+                Style::BackgroundColor(red, green, blue),
+            )?;
+        } else {
+            push_rule(text, "fg", index, "", Style::Color(red, green, blue))?;
+            push_rule(
+                text,
+                "ul",
+                index,
+                "",
+                Style::TextDecorationColor(red, green, blue),
+            )?;
+        }
+    }
+    Ok(())
+}
+
+// Appends the rule of an entry of the palette.
+fn push_rule(
+    text: &mut String,
+    kind: &str,
+    index: u8,
+    first: &str,
+    style: Style,
+) -> Result<(), AllocError> {
+    memory::push_str(text, ".es-stream .es-")?;
+    memory::push_str(text, kind)?;
+    memory::push_str(text, "-")?;
+    memory::push_display(text, &index)?;
+    memory::push_str(text, "{")?;
+    memory::push_str(text, first)?;
+    memory::push_str(text, style.property())?;
+    memory::push_str(text, str::from_utf8(&style.code()).unwrap_or(""))?;
+    memory::push_str(text, "}\n")
+}
+
+// What is declared of text on a ground: it is black or white.
+fn text_on(color: RgbColor) -> &'static str {
+    if is_deep(color) {
+        "color:#ffffff;"
+    } else {
+        "color:#000000;"
+    }
 }

@@ -1,7 +1,7 @@
 use Rattle.std.proofs.Common.{◌++◌, string_bytes, ap, ◌∙◌}
 use Rattle.esc_html.proofs.Attributes.{three_added}
 use Rattle.esc_html.specs.Inline.{background_text, decoration_text, foreground_text}
-use Rattle.esc_looks.specs.Looks.{shown_background, shown_foreground}
+use Rattle.esc_looks.specs.Looks.{seen_foreground, shown_background}
 use Rattle.esc_html.proofs.inline.push_colors.Goals as goal
 
 pub returns-clause-ok : goal.returns-clause-ok
@@ -11,8 +11,9 @@ returns-clause-ok g c =
     let two = string_bytes c.push_declared-2.new.html in
     let old = string_bytes c.args.html.now in
     three_added old one two (string_bytes c.push_declared-3.new.html)
-    (foreground_text l.concealed l.inverse (shown_foreground l))
-    (background_text l.inverse (shown_background l)) (decoration_text l.underline_color)
+    (foreground_text l.concealed l.inverse (seen_foreground l) (shown_background l))
+    (background_text l.inverse (seen_foreground l) (shown_background l))
+    (decoration_text l.underline_color)
     (c.in_ok-push_declared.ensures.ok ∙ ap (λ x. old ++ x) c.foreground.ensures)
     (c.in_ok-push_declared-2.ensures.ok ∙ ap (λ x. one ++ x) c.background.ensures)
     (c.in_ok-push_declared-3.ensures.ok ∙ ap (λ x. two ++ x) c.decoration.ensures)

@@ -10,7 +10,7 @@ returns-clause-ok g c =
     let two = string_bytes c.push_str-2.new.text in
     let three = string_bytes c.push_str-3.new.text in
     let old = string_bytes c.args.html.now in
-    four_added old one two three (string_bytes c.push_str-4.new.text) (weight_text l.intensity)
+    four_added old one two three (string_bytes c.push_str-4.new.text) (weight_text l.bold l.faint)
     (slant_text l.italic)
     (lines_text (is_underlined l.underline) l.strikethrough l.overline l.blink)
     (kind_text l.underline)
