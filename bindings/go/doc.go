@@ -1,0 +1,32 @@
+// SPDX-License-Identifier: MIT
+
+// Package escapestream filters, normalizes and parses streams of terminal escape sequences of
+// unknown origin, and writes them as HTML, over the proved library escape_stream by cgo.
+//
+// A stream is bytes as a program writes them to a terminal: UTF-8 text, control characters, and the
+// control functions of ECMA-48 and xterm, such as colours, cursor movements and titles. Any bytes
+// are a stream.
+//
+//	text, err := escapestream.Filter(escapestream.Color, stream)
+//
+// returns colours, bold and links of a stream, its characters, tabs and line ends, and nothing
+// else. [NewReader] and [NewWriter] do so as a stream comes, [ToHTML] returns a stream as HTML in
+// which nothing comes alive, [Normal] returns its normal form, [Parser] gives its events, [Function]
+// names what a sequence asks for, and [ReadCommand] says what an operating system command says.
+//
+// What each call of the library writes is proved, for every stream. This package is not proved: it
+// is tested.
+//
+// # Building
+//
+// The headers and archives are found by pkg-config, under the names escape_stream and
+// escape_stream_parser, which the installation of escape_stream has. With the build tag
+// escapestream_flags they are found by the environment alone:
+//
+//	CGO_CFLAGS=-I.../include CGO_LDFLAGS=-L.../lib go build -tags escapestream_flags
+//
+// # Goroutines
+//
+// A value of this package is used by one goroutine at a time. The calls keep nothing of a thread,
+// so the goroutine may change its thread between two of them.
+package escapestream

@@ -1,0 +1,3 @@
+module escapestream
+
+go 1.18

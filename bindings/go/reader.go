@@ -1,0 +1,78 @@
+// SPDX-License-Identifier: MIT
+
+package escapestream
+
+import "io"
+
+// A Reader reads what a policy admits of the stream of another reader.
+type Reader struct {
+	from  io.Reader
+	f     *filter
+	piece []byte
+	text  []byte // what the last pieces added
+	due   []byte // the end of it, which is not read yet
+	err   error
+}
+
+// NewReader returns a reader over r. At its end it gives what takes back what the stream left
+// changed at a terminal, as a colour.
+func NewReader(r io.Reader, policy Policy, options ...Option) (*Reader, error) {
+	f, err := newFilter(policy, options)
+	if err != nil {
+		return nil, err
+	}
+	return &Reader{from: r, f: f, piece: make([]byte, room)}, nil
+}
+
+// Read reads what is admitted, as soon as there is some.
+func (r *Reader) Read(p []byte) (int, error) {
+	if len(p) == 0 {
+		return 0, nil
+	}
+	for len(r.due) == 0 {
+		if r.err != nil {
+			return 0, r.err
+		}
+		r.fill()
+	}
+	n := copy(p, r.due)
+	r.due = r.due[n:]
+	return n, nil
+}
+
+// Close gives back what the reader keeps, also before the end of the stream. It does not close the
+// reader below.
+func (r *Reader) Close() error {
+	r.f.end()
+	r.due, r.err = nil, ErrClosed
+	return nil
+}
+
+// fill reads a piece. What it adds is due before its error.
+func (r *Reader) fill() {
+	n, err := r.from.Read(r.piece)
+	r.text = r.text[:0]
+	if n > 0 {
+		if refused := r.f.feed(r.piece[:n]); refused != nil {
+			err = refused
+		} else {
+			_ = r.f.text(r.keep)
+		}
+	}
+	if err == io.EOF {
+		if refused := r.f.finish(); refused != nil {
+			err = refused
+		} else {
+			_ = r.f.text(r.keep)
+		}
+	}
+	if err != nil {
+		r.f.end()
+	}
+	r.due, r.err = r.text, err
+}
+
+func (r *Reader) keep(p []byte) error {
+	r.text = append(r.text, p...)
+	return nil
+}

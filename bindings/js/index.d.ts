@@ -1,0 +1,514 @@
+// SPDX-License-Identifier: MIT
+
+declare global {
+  // As @types/node has it, for a `lib` without esnext.disposable.
+  interface SymbolConstructor {
+    readonly dispose: unique symbol;
+  }
+}
+
+/** Bytes of a stream. */
+export type Bytes = ArrayBufferLike | ArrayBufferView;
+/** A piece of a stream: bytes, or a string, which is taken as its UTF-8. */
+export type Piece = string | Bytes;
+
+/**
+ * What a filter lets through. Each policy admits all that the one before it does: `text`
+ * characters but DEL, tabs and line ends; `color` renditions and hyperlinks; `screen` what changes
+ * the screen alone, from a list of what is known to do no more; `all` whatever can be written by
+ * itself, so it protects from broken input alone.
+ */
+export type Policy = "text" | "color" | "screen" | "all";
+
+export interface Limit {
+  /**
+   * How many bytes are kept of a string, such as a title; one with more is passed over.
+   * 1,048,576 where it is left out.
+   */
+  limit?: number;
+}
+
+export interface HtmlOptions extends Limit {
+  /** Closes the tags that are open before each line feed, and opens them again after it. */
+  perLine?: boolean;
+  /** Writes looks as styles in the tags, and not as the classes of stream.css. */
+  inline?: boolean;
+}
+
+export interface ParserOptions extends Limit {
+  /** How many bytes the data of a string may have that becomes one action. 67,108,864 else. */
+  dataLimit?: number;
+}
+
+/** How many bytes of a string are kept, where no limit is given. */
+export const DEFAULT_LIMIT: number;
+
+/** Returns what a policy admits of a stream, and nothing else: `text` where none is named. */
+export function filter(stream: string, policy?: Policy, options?: Limit): string;
+export function filter(stream: Bytes, policy?: Policy, options?: Limit): Uint8Array;
+
+/** Returns the characters, tabs and line ends of a stream. */
+export function strip(stream: string, options?: Limit): string;
+export function strip(stream: Bytes, options?: Limit): Uint8Array;
+
+/** Returns the normal form of a stream. It is no protection: for that there is `filter`. */
+export function normal(stream: string, options?: Limit): string;
+export function normal(stream: Bytes, options?: Limit): Uint8Array;
+
+/**
+ * Returns a stream as HTML: spans, links to http, https and mailto, and characters. It goes into a
+ * `pre`, with stream.css, or without it where it is `inline`.
+ */
+export function toHtml(stream: Piece, options?: HtmlOptions): string;
+
+/** What keeps memory of the module until it is disposed of, or nothing names it any more. */
+declare class Kept {
+  /** Gives back what it keeps. It may be called twice; every other call after it throws. */
+  dispose(): void;
+  [Symbol.dispose](): void;
+}
+
+/** A filter of a stream that comes in pieces: what `filter` returns of the whole, as it comes. */
+export class Filter extends Kept {
+  constructor(policy?: Policy, options?: Limit);
+  /** Takes the next piece of the stream, and returns what it adds. */
+  feed(piece: string): string;
+  feed(piece: Bytes): Uint8Array;
+  feed(piece: Piece): string | Uint8Array;
+  /**
+   * Ends the stream, and begins the next. Returns what takes back what the stream left changed at a
+   * terminal, as a colour: a string, where the last piece was one.
+   */
+  finish(): string | Uint8Array;
+}
+
+/** The normal form of a stream that comes in pieces. */
+export class Normalizer extends Kept {
+  constructor(options?: Limit);
+  /** Takes the next piece of the stream, and returns what it adds. */
+  feed(piece: string): string;
+  feed(piece: Bytes): Uint8Array;
+  feed(piece: Piece): string | Uint8Array;
+  /** Ends the stream, and begins the next. */
+  finish(): string | Uint8Array;
+}
+
+/** HTML of a stream that comes in pieces. */
+export class HtmlWriter extends Kept {
+  constructor(options?: HtmlOptions);
+  /** Takes the next piece of the stream, and returns what it adds. */
+  feed(piece: Piece): string;
+  /** Ends the stream, and returns what closes the tags that are open. No piece follows. */
+  finish(): string;
+}
+
+/** A character run, without controls. U+FFFD stands for bytes that are no UTF-8. */
+export interface TextEvent {
+  type: "Text";
+  text: string;
+}
+/** A control character of C0, or of C1 (80 to 9F, hexadecimal). */
+export interface ControlEvent {
+  type: "Control";
+  byte: number;
+}
+export interface EscapeEvent {
+  type: "Escape";
+  /** The first two. */
+  intermediates: string;
+  final: string;
+  /** Whether more intermediates came. */
+  hasMore: boolean;
+}
+export interface CsiEvent {
+  type: "Csi";
+  /** One of `<` `=` `>` `?`, or nothing. */
+  prefix: string;
+  /**
+   * The parameters between `;`, each the numbers between its colons; null is one that is left out.
+   * Numbers end at 2**63 - 1, and those above 2**53 are rounded.
+   */
+  parameters: (number | null)[][];
+  intermediates: string;
+  final: string;
+  /** Whether there are more than 256 parameters, separators and intermediates. */
+  hasMore: boolean;
+}
+/** An operating system command: all bytes between its opener and its end. */
+export interface OscEvent {
+  type: "Osc";
+  text: Uint8Array;
+}
+/** A device control string begins. Its data follow, and then its end. */
+export interface DcsEvent {
+  type: "Dcs";
+  parameters: (number | null)[];
+  /** The first two, a private prefix among them. */
+  intermediates: string;
+  final: string;
+  hasMore: boolean;
+}
+/** A run of the data of the device control string that began last. */
+export interface DataEvent {
+  type: "Data";
+  data: Uint8Array;
+}
+export interface DcsEndEvent {
+  type: "DcsEnd";
+}
+/** An application program command. */
+export interface ApcEvent {
+  type: "Apc";
+  text: Uint8Array;
+}
+/** A string ended that was longer than the limit: its event is left out. */
+export interface LimitPassed {
+  type: "LimitPassed";
+}
+
+export type Event =
+  | TextEvent
+  | ControlEvent
+  | EscapeEvent
+  | CsiEvent
+  | OscEvent
+  | DcsEvent
+  | DataEvent
+  | DcsEndEvent
+  | ApcEvent
+  | LimitPassed;
+
+/** A parser of a stream that comes in pieces. Of one stream take the events or the actions. */
+export class Parser extends Kept {
+  constructor(options?: ParserOptions);
+  /**
+   * Takes the next piece of the stream, and returns the events that it adds. However a stream is
+   * cut, they are the same, but that a run of text or of data may come in several.
+   */
+  events(piece: Piece): Event[];
+  /** The events of half a character that strings left, at the end of a stream of strings. */
+  endEvents(): Event[];
+  /** Takes the next piece of the stream, and returns the actions that it adds. */
+  actions(piece: Piece): Action[];
+  endActions(): Action[];
+  /** Whether no character, sequence or string of the stream so far is unfinished. */
+  readonly isGround: boolean;
+}
+
+/** Yields the events of a stream, or of its pieces. What is unfinished at its end adds nothing. */
+export function events(stream: Piece | Iterable<Piece>, options?: ParserOptions): Generator<Event>;
+/** Yields the actions of a stream, or of its pieces. */
+export function actions(
+  stream: Piece | Iterable<Piece>,
+  options?: ParserOptions,
+): Generator<Action>;
+
+type Out<P> = P extends string ? string : Uint8Array;
+/** The same as transformers, for `pipeThrough`: strings of strings, and bytes of bytes. */
+export function filterStream<P extends Piece = Uint8Array>(
+  policy?: Policy,
+  options?: Limit,
+): TransformStream<P, Out<P>>;
+export function stripStream<P extends Piece = Uint8Array>(
+  options?: Limit,
+): TransformStream<P, Out<P>>;
+export function normalStream<P extends Piece = Uint8Array>(
+  options?: Limit,
+): TransformStream<P, Out<P>>;
+export function htmlStream(options?: HtmlOptions): TransformStream<Piece, string>;
+/** A chunk an event. */
+export function eventStream(options?: ParserOptions): TransformStream<Piece, Event>;
+/** A chunk an action. */
+export function actionStream(options?: ParserOptions): TransformStream<Piece, Action>;
+
+/** A row of docs/FUNCTIONS.md. */
+export interface FunctionRow {
+  /** Its name, as the standards abbreviate it, such as `CUP`. */
+  readonly name: string;
+  /** What it does, in words, such as `cursor position`. */
+  readonly phrase: string;
+  /** Whether it changes the screen alone, with whatever parameters. */
+  readonly changesScreen: boolean;
+  /** Whether a terminal answers it, with some of its parameters or with all. */
+  readonly isAnswered: boolean;
+}
+/** Returns what a sequence or a control asks for, or null where it has no name. */
+export function functionOf(it: Event | Action): FunctionRow | null;
+
+/** What a part of a stream asks for, under the names of termwiz. */
+export type Action =
+  | { type: "PrintString"; text: string }
+  /** `code` is the name of the control, such as `LineFeed`. */
+  | { type: "Control"; code: string; byte: number }
+  | { type: "DeviceControl"; mode: DeviceControlMode }
+  | { type: "OperatingSystemCommand"; command: OperatingSystemCommand }
+  | {
+      type: "CSI";
+      prefix: string;
+      params: (number | null)[][];
+      intermediates: string;
+      control: string;
+      parametersTruncated: boolean;
+    }
+  | { type: "Esc"; intermediate: string | null; control: string }
+  | ({ type: "Sixel" } & Sixel)
+  | { type: "XtGetTcap"; names: string[] }
+  | { type: "KittyImage"; image: KittyImage }
+  | LimitPassed;
+
+export type DeviceControlMode =
+  | {
+      type: "Enter";
+      byte: string;
+      params: number[];
+      intermediates: string;
+      ignoredExtraIntermediates: boolean;
+    }
+  | { type: "Exit" }
+  | { type: "Data"; data: Uint8Array }
+  | {
+      type: "ShortDeviceControl";
+      params: number[];
+      intermediates: string;
+      byte: string;
+      data: Uint8Array;
+    };
+
+export interface Hyperlink {
+  params: Record<string, string>;
+  uri: string;
+  implicit: boolean;
+}
+/** Red, green and blue from 0 to 65535, or the question which they are. */
+export type ColorOrQuery =
+  | { type: "Color"; red: number; green: number; blue: number }
+  | { type: "Query" };
+export type DynamicColorNumber =
+  | "TextForegroundColor"
+  | "TextBackgroundColor"
+  | "TextCursorColor"
+  | "MouseForegroundColor"
+  | "MouseBackgroundColor"
+  | "TektronixForegroundColor"
+  | "TektronixBackgroundColor"
+  | "HighlightBackgroundColor"
+  | "TektronixCursorColor"
+  | "HighlightForegroundColor";
+export type Progress =
+  | { type: "None" | "SetIndeterminate" | "Paused" }
+  | { type: "SetPercentage" | "SetError"; percent: number };
+
+export type OperatingSystemCommand =
+  | {
+      type:
+        | "SetIconNameAndWindowTitle"
+        | "SetWindowTitle"
+        | "SetWindowTitleSun"
+        | "SetIconName"
+        | "SetIconNameSun"
+        | "SystemNotification";
+      text: string;
+    }
+  | { type: "SetHyperlink"; link: Hyperlink | null }
+  /** The selections are a sum: 2 clipboard, 4 primary, 8 select, 16 to 8192 cut buffers. */
+  | { type: "ClearSelection" | "QuerySelection"; selection: number }
+  | { type: "SetSelection"; selection: number; text: string }
+  | { type: "ITermProprietary"; command: ITermProprietary }
+  | { type: "FinalTermSemanticPrompt"; prompt: FinalTermSemanticPrompt }
+  | { type: "ChangeColorNumber"; pairs: { paletteIndex: number; color: ColorOrQuery }[] }
+  | { type: "ChangeDynamicColors"; number: DynamicColorNumber; colors: ColorOrQuery[] }
+  | { type: "ResetDynamicColor"; number: DynamicColorNumber }
+  | { type: "CurrentWorkingDirectory"; path: string }
+  | { type: "ResetColors"; indices: number[] }
+  | { type: "RxvtExtension"; parts: string[] }
+  | { type: "ConEmuProgress"; progress: Progress }
+  | { type: "Unspecified"; parts: Uint8Array[] };
+
+export type FinalTermClick = "Line" | "MultipleLine" | "ConservativeVertical" | "SmartVertical";
+export type FinalTermSemanticPrompt =
+  | {
+      type:
+        | "FreshLine"
+        | "MarkEndOfPromptAndStartOfInputUntilNextMarker"
+        | "MarkEndOfPromptAndStartOfInputUntilEndOfLine";
+    }
+  | {
+      type: "FreshLineAndStartPrompt" | "MarkEndOfCommandWithFreshLine";
+      aid: string | null;
+      cl: FinalTermClick | null;
+    }
+  | { type: "StartPrompt"; kind: "Initial" | "RightSide" | "Continuation" | "Secondary" }
+  | { type: "MarkEndOfInputAndStartOfOutput"; aid: string | null }
+  | { type: "CommandStatus"; status: number; aid: string | null };
+
+export type ITermDimension =
+  | { type: "Automatic" }
+  | { type: "Cells" | "Pixels" | "Percent"; count: number };
+export interface ITermFileData {
+  name: string | null;
+  size: number | null;
+  width: ITermDimension;
+  height: ITermDimension;
+  preserveAspectRatio: boolean;
+  inline: boolean;
+  doNotMoveCursor: boolean;
+  data: Uint8Array;
+}
+export type ITermProprietary =
+  | { type: "SetMark" | "StealFocus" | "ClearScrollback" | "EndCopy" | "RequestCellSize" }
+  | { type: "CurrentDir"; path: string }
+  | { type: "SetProfile" | "CopyToClipboard" | "ReportVariable"; name: string }
+  | { type: "HighlightCursorLine"; on: boolean }
+  /** In tenths of a pixel. */
+  | { type: "ReportCellSize"; heightPixels: number; widthPixels: number; scale: number | null }
+  | { type: "Copy" | "SetBadgeFormat"; text: string }
+  | { type: "SetUserVar"; name: string; value: string }
+  | { type: "File"; file: ITermFileData }
+  | {
+      type: "UnicodeVersion";
+      operation: { type: "Set"; version: number } | { type: "Push" | "Pop"; label: string | null };
+    };
+
+export type KittyImageVerbosity = "Verbose" | "OnlyErrors" | "Quiet";
+export type KittyImageData =
+  /** In base64, as it came. */
+  | { type: "Direct"; text: string }
+  | { type: "DirectBin"; data: Uint8Array }
+  | {
+      type: "File" | "TemporaryFile";
+      path: string;
+      dataSize: number | null;
+      dataOffset: number | null;
+    }
+  | { type: "SharedMem"; name: string; dataSize: number | null; dataOffset: number | null };
+export interface KittyImageTransmit {
+  format: "Rgb" | "Rgba" | "Png" | null;
+  data: KittyImageData;
+  width: number | null;
+  height: number | null;
+  imageId: number | null;
+  imageNumber: number | null;
+  compression: "None" | "Deflate";
+  moreDataFollows: boolean;
+}
+export interface KittyImagePlacement {
+  x: number | null;
+  y: number | null;
+  w: number | null;
+  h: number | null;
+  xOffset: number | null;
+  yOffset: number | null;
+  columns: number | null;
+  rows: number | null;
+  placementId: number | null;
+  doNotMoveCursor: boolean;
+  zIndex: number | null;
+  unicodePlaceholder: boolean;
+}
+export type KittyFrameCompositionMode = "AlphaBlending" | "Overwrite";
+export interface KittyImageFrame {
+  x: number | null;
+  y: number | null;
+  baseFrame: number | null;
+  frameNumber: number | null;
+  durationMs: number | null;
+  compositionMode: KittyFrameCompositionMode;
+  backgroundPixel: number | null;
+}
+export interface KittyImageFrameCompose {
+  imageId: number | null;
+  imageNumber: number | null;
+  targetFrame: number | null;
+  sourceFrame: number | null;
+  x: number | null;
+  y: number | null;
+  w: number | null;
+  h: number | null;
+  srcX: number | null;
+  srcY: number | null;
+  compositionMode: KittyFrameCompositionMode;
+}
+export type KittyImageDelete = { delete: boolean } & (
+  | { type: "All" | "AtCursorPosition" | "AnimationFrames" }
+  | { type: "ByImageId"; imageId: number; placementId: number | null }
+  | { type: "ByImageNumber"; imageNumber: number; placementId: number | null }
+  | { type: "DeleteAt"; x: number; y: number }
+  | { type: "DeleteAtZ"; x: number; y: number; z: number }
+  | { type: "DeleteColumn"; x: number }
+  | { type: "DeleteRow"; y: number }
+  | { type: "DeleteZ"; z: number }
+  | { type: "ByImageIdRange"; first: number; last: number }
+);
+export type KittyImage =
+  | { type: "TransmitData"; transmit: KittyImageTransmit; verbosity: KittyImageVerbosity }
+  | {
+      type: "TransmitDataAndDisplay";
+      transmit: KittyImageTransmit;
+      placement: KittyImagePlacement;
+      verbosity: KittyImageVerbosity;
+    }
+  | {
+      type: "Display";
+      imageId: number | null;
+      imageNumber: number | null;
+      placement: KittyImagePlacement;
+      verbosity: KittyImageVerbosity;
+    }
+  | { type: "Delete"; what: KittyImageDelete; verbosity: KittyImageVerbosity }
+  | { type: "Query"; transmit: KittyImageTransmit }
+  | {
+      type: "TransmitFrame";
+      transmit: KittyImageTransmit;
+      frame: KittyImageFrame;
+      verbosity: KittyImageVerbosity;
+    }
+  | { type: "ComposeFrame"; frame: KittyImageFrameCompose; verbosity: KittyImageVerbosity };
+
+export type SixelData =
+  /** Six pixels, one above the other, as bits: the top one the lowest. */
+  | { type: "Data"; data: number }
+  | { type: "Repeat"; repeatCount: number; data: number }
+  | {
+      type: "DefineColorMapRGB";
+      colorNumber: number;
+      rgb: { red: number; green: number; blue: number };
+    }
+  | {
+      type: "DefineColorMapHSL";
+      colorNumber: number;
+      hueAngle: number;
+      saturation: number;
+      lightness: number;
+    }
+  | { type: "SelectColorMapEntry"; colorNumber: number }
+  | { type: "CarriageReturn" | "NewLine" };
+export interface Sixel {
+  /** A pixel is so many units high, and `pad` wide. */
+  pan: number;
+  pad: number;
+  /** As raster attributes say. */
+  pixelWidth: number | null;
+  pixelHeight: number | null;
+  backgroundIsTransparent: boolean;
+  horizontalGridSize: number | null;
+  /** What raster attributes say, where they say both, and else what is drawn. */
+  width: number;
+  height: number;
+  data: SixelData[];
+}
+
+/** Returns what the text of an operating system command says, that of an event `Osc`. */
+export function command(text: Bytes): OperatingSystemCommand;
+/** Returns what the text of an event `Apc` says, or null where it is no image. */
+export function image(text: Bytes): KittyImage | null;
+/** Returns the sixel image of the parameters and the data of a device control string with `q`. */
+export function sixel(parameters: (number | null)[], data: Bytes): Sixel;
+/** Returns the names that the data of a device control string with `+q` ask for. */
+export function termcapQuery(data: Bytes): string[];
+
+type Module = BufferSource | Response | WebAssembly.Module;
+/**
+ * Takes the module, of `escape-stream/core`, which does not load it by itself: its bytes, a
+ * response with them, or what the host compiled. `escape-stream` has called it.
+ */
+export function use(source: Module | PromiseLike<Module>): Promise<void>;

@@ -1,0 +1,138 @@
+// SPDX-License-Identifier: MIT
+// What takes a stream in pieces and gives a text for each: a filter, a page, the normal form.
+import { Bytes, PIECE, Pieces, Text, rooms } from "./pieces.js";
+import { Kept, calls, done, give, limitOf, memory, take } from "./wasm.js";
+
+// How many bytes the struct of each has.
+const STRUCT = 16;
+const POLICIES = { text: 0, color: 1, screen: 2, all: 3 };
+
+function policyOf(policy) {
+  if (Object.hasOwn(POLICIES, policy)) return POLICIES[policy];
+  throw new TypeError(`escape-stream: no such policy: ${policy}`);
+}
+
+/* What the three have in common. */
+class InPieces extends Kept {
+  #name;
+  #what;
+  #at;
+  #pieces = new Pieces();
+
+  constructor(name, what, begin) {
+    const at = take(STRUCT);
+    memory().bytes.fill(0, at, at + STRUCT);
+    const free = () => {
+      calls[`${name}_end`](at);
+      give(at);
+    };
+    super(what, free);
+    this.#name = name;
+    this.#what = what;
+    this.#at = at;
+    try {
+      done(begin(at), what);
+    } catch (error) {
+      this.dispose();
+      throw error;
+    }
+  }
+
+  /* Takes a piece, and puts the text that it adds into `to`. */
+  fed(piece, to) {
+    this.check();
+    this.#pieces.put(piece, (length) => this.#feed(length, to));
+    return to.all();
+  }
+
+  /* Ends the stream, and puts the text that its end adds into `to`. */
+  finished(to) {
+    this.check();
+    this.#pieces.end((length) => this.#feed(length, to));
+    done(calls[`${this.#name}_finish`](this.#at), this.#what);
+    this.#push(to);
+    return to.all();
+  }
+
+  #feed(length, to) {
+    const feed = calls[`${this.#name}_feed`];
+    done(feed(this.#at, rooms().piece, length), this.#what);
+    this.#push(to);
+  }
+
+  #push(to) {
+    const text = calls[`${this.#name}_text`];
+    const { text: room } = rooms();
+    for (let from = 0; ; ) {
+      const count = text(this.#at, from, room, PIECE);
+      if (count === 0) return;
+      to.push(memory().bytes.subarray(room, room + count));
+      from += count;
+    }
+  }
+}
+
+const sinkOf = (piece) => (typeof piece === "string" ? new Text() : new Bytes());
+
+/* One that gives strings for strings, and bytes for bytes. */
+class AsGiven extends InPieces {
+  #isText = false;
+
+  feed(piece) {
+    this.#isText = typeof piece === "string";
+    return this.fed(piece, sinkOf(piece));
+  }
+
+  /** Ends the stream, and begins the next: what its end adds, as a string after a string. */
+  finish() {
+    return this.finished(this.#isText ? new Text() : new Bytes());
+  }
+}
+
+export class Filter extends AsGiven {
+  constructor(policy = "text", { limit } = {}) {
+    const number = policyOf(policy);
+    const most = limitOf(limit);
+    super("filter", "filter", (at) => calls.filter_begin(at, number, most));
+  }
+}
+
+export class Normalizer extends AsGiven {
+  constructor({ limit } = {}) {
+    const most = limitOf(limit);
+    super("normal", "normalizer", (at) => calls.normal_begin(at, most));
+  }
+}
+
+export class HtmlWriter extends InPieces {
+  constructor({ perLine = false, inline = false, limit } = {}) {
+    const flags = [perLine ? 1 : 0, inline ? 1 : 0, limitOf(limit)];
+    super("html", "page", (at) => calls.html_begin(at, ...flags));
+  }
+
+  feed(piece) {
+    return this.fed(piece, new Text());
+  }
+
+  finish() {
+    return this.finished(new Text());
+  }
+}
+
+/* What a stream gives that is given whole, with its end or without. */
+function whole(taker, stream, withEnd) {
+  try {
+    const text = taker.feed(stream);
+    return withEnd ? text + taker.finish() : text;
+  } finally {
+    taker.dispose();
+  }
+}
+
+export const filter = (stream, policy, options) => whole(new Filter(policy, options), stream);
+
+export const strip = (stream, options) => filter(stream, "text", options);
+
+export const normal = (stream, options) => whole(new Normalizer(options), stream);
+
+export const toHtml = (stream, options) => whole(new HtmlWriter(options), stream, true);

@@ -1,0 +1,80 @@
+// SPDX-License-Identifier: MIT
+// Tries the demo in a headless Chromium: `node --experimental-websocket tests/demo.js [PICTURE]`.
+import assert from "node:assert/strict";
+import { writeFileSync } from "node:fs";
+import { fileURLToPath } from "node:url";
+import { browser, serve } from "./browser.js";
+
+const ATTACK = Buffer.from(
+  "build started\n\x1b]0;rm -rf ~\x07\x1b]52;c;cm0gLXJmIH4=\x07\x1b[2J\x1b[31;1merror:\x1b[0m "
+    + "<script>document.title='ran'</script> <img src=x onerror=alert(2)>\n"
+    + "\x1b]8;;javascript:alert(3)\x1b\\click\x1b]8;;\x1b\\ "
+    + '\x1b]8;;https://example.org/?a=1&b="2\x1b\\a link\x1b]8;;\x1b\\ \x1b[c'
+    + "\x1b[38;5;208morange\x1b[38;2;0;128;255m blue\x1b[0m\n"
+    + "\x1b[32mok\x1b[0m \x1b[4munderlined\x1b[0m \x1b[7mreverse\x1b[0m\n\xff caf\xc3\xa9\n",
+  "latin1",
+);
+const HEAD = '{"version": 2, "width": 80, "height": 24}';
+const CAST = Buffer.from(`${HEAD}\n[0.1, "o", "\\u001b[1mbold"]\n[0.2, "i", "x"]\n`);
+
+const top = fileURLToPath(new URL("..", import.meta.url));
+const server = await serve(top);
+const it = await browser();
+let drops = 0;
+
+/* Drops a file on the page, and waits until it is shown. */
+async function drop(name, bytes) {
+  const text = JSON.stringify(Buffer.from(bytes).toString("base64"));
+  await it.run(`{
+    const bytes = Uint8Array.from(atob(${text}), (c) => c.charCodeAt(0));
+    const data = new DataTransfer();
+    data.items.add(new File([bytes], ${JSON.stringify(name)}));
+    dispatchEvent(new DragEvent("drop", { dataTransfer: data, bubbles: true, cancelable: true }));
+  }`);
+  await it.until(`document.documentElement.dataset.done === "${++drops}"`);
+  return it.run(`({
+    tags: [...new Set([...document.querySelectorAll("#log *")].map((e) => e.tagName))].sort(),
+    links: [...document.querySelectorAll("#log a")].map((e) => e.href),
+    text: document.getElementById("log").textContent,
+    color: getComputedStyle(document.querySelector("#log .es-fg-red") ?? document.body).color,
+    lines: document.querySelectorAll("#log .line").length,
+    title: document.title,
+    state: document.getElementById("state").textContent,
+    rows: [...document.querySelectorAll("#account tbody tr")]
+      .map((e) => [...e.cells].map((c) => c.textContent)),
+  })`);
+}
+
+try {
+  await it.open(`http://127.0.0.1:${server.port}/demo/index.html`);
+  await it.until('document.documentElement.dataset.ready === "true"');
+  const found = await drop("attack.log", ATTACK);
+  assert.deepEqual(found.tags, ["A", "SPAN"]);
+  assert.equal(found.links.length, 1);
+  assert.ok(found.links[0].startsWith("https://example.org/"));
+  const script = "<script>document.title='ran'</script> <img src=x onerror=alert(2)>";
+  assert.ok(found.text.includes(script));
+  assert.ok(found.text.includes("\ufffd caf\u00e9"));
+  assert.equal(found.title, "A log, safe to look at");
+  assert.equal(found.lines, 5);
+  const row = (what) => found.rows.find((cells) => cells[0] === what);
+  assert.deepEqual(row("OSC 52: set the clipboard")?.slice(1), ["1", "left out", "2"]);
+  assert.deepEqual(row("ED: erase in page")?.slice(1), ["1", "left out", "2"]);
+  assert.ok(row("OSC 8: begin a link that no page follows"));
+  const recording = await drop("a.cast", CAST);
+  assert.equal(recording.text, "bold");
+  assert.match(recording.state, /a recording of 8 bytes/);
+  const lines = "\x1b[90m1\x1b[0m line of a log\n".repeat(40_000);
+  const long = await drop("long.log", Buffer.from(lines));
+  assert.equal(long.lines, 40_000);
+  assert.deepEqual(it.said, []);
+  const [picture] = process.argv.slice(2);
+  if (picture) {
+    await drop("attack.log", ATTACK);
+    const { data } = await it.call("Page.captureScreenshot", { format: "png" });
+    writeFileSync(picture, Buffer.from(data, "base64"));
+  }
+} finally {
+  await it.close();
+  server.close();
+}
