@@ -1,0 +1,110 @@
+-- What a terminal was fed.
+use Rattle.std.specs.Prelude.{ℕ, ◌≡◌, List, [], ◌++◌, IsSomeAnd, None, Option, Some}
+use Rattle.esc_actions.specs.Meaning.{yield_within}
+use Rattle.esc_actions.specs.Values.{Value, value_of}
+use Rattle.esc_actions.specs.declared.action.Action.{Action}
+use Rattle.esc_looks.specs.declared.look.Look.{Look}
+use Rattle.esc_parse.specs.Fed.{WasFedWithin}
+use Rattle.esc_typed.specs.Functions.{Value as Function}
+use Rattle.esc_screen.specs.Grids.{Size}
+use Rattle.esc_screen.specs.Screens.{Becomes, grid_of, size_of}
+use Rattle.esc_screen.specs.Steps.{grid_from}
+use Rattle.esc_screen.specs.declared.step.Step.{Step}
+use Rattle.esc_terminal.specs.Requests.{function_request, listed, requests_of}
+use Rattle.esc_terminal.specs.Steps.{function_looks, function_steps, looks_by, steps_of}
+use Rattle.esc_terminal.specs.Streams.{Shown, asked_by, shown_of, title_by}
+use Rattle.esc_terminal.specs.declared.request.Request.{Request}
+use Rattle.esc_terminal.specs.declared.state.State.{State}
+use Rattle.esc_terminal.specs.declared.terminal.Terminal.{Terminal}
+
+-- its looks, and what it was asked for since it was cleared
+abbrev pub looks_in : {A : Type 0} → State A → List Look
+looks_in p = p.looks.items
+
+abbrev pub requests_in : {A : Type 0} → State A → List Request
+requests_in p = p.requests.items
+
+abbrev pub shown_in : {A : Type 0} → State A → Shown
+shown_in p = record {
+  grid = grid_of p.screen;
+  looks = looks_in p;
+  title = p.title;
+}
+
+-- The screen takes these steps, the looks and the title are these, and these requests are added.
+pub record Does {A : Type 0} (p : State A) (xs : List Step) (ls : List Look)
+    (t : Option (List ℕ)) (rs : List Request) (q : State A) : Type 0 where
+  pub screen : Becomes p.screen (grid_from (size_of p.screen) (grid_of p.screen) xs) q.screen
+  pub looks : looks_in q ≡ ls
+  pub title : q.title ≡ t
+  pub requests : requests_in q ≡ requests_in p ++ rs
+
+-- it takes steps alone
+abbrev pub TakesSteps : {A : Type 0} → State A → List Step → State A → Type 0
+TakesSteps p xs q = Does p xs (looks_in p) p.title [] q
+
+-- it takes what a function does to the screen
+abbrev pub TakesFunction : {A : Type 0} → State A → Function → State A → Type 0
+TakesFunction p f q = Does p (function_steps (looks_in p) p.screen.cursor f)
+    (function_looks (looks_in p) p.screen.cursor f) p.title [] q
+
+-- and what it asks for too
+abbrev pub TakesAll : {A : Type 0} → State A → Function → State A → Type 0
+TakesAll p f q = Does p (function_steps (looks_in p) p.screen.cursor f)
+    (function_looks (looks_in p) p.screen.cursor f) p.title (listed (function_request f)) q
+
+-- a value does what its steps do
+abbrev pub TakesValue : {A : Type 0} → State A → Value A → State A → Type 0
+TakesValue p v q = Does p (steps_of (looks_in p) p.screen.cursor v)
+    (looks_by (looks_in p) p.screen.cursor v) (title_by p.title v) (requests_of v) q
+
+-- and so does an action
+abbrev pub Takes : {A : Type 0} → State A → Action A → State A → Type 0
+Takes p a q = TakesValue p (value_of a) q
+
+-- it shows this stream
+pub record Shows {A : Type 0} (z : Size) (s : List ℕ) (p : State A) : Type 0 where
+  pub shown : shown_in p ≡ shown_of A z s
+  pub size : size_of p.screen ≡ z
+
+-- the terminal, of this size, was fed these bytes
+pub record WasFed {A : Type 0} (z : Size) (s : List ℕ) (t : Terminal A) : Type 0 where
+  pub parser : WasFedWithin (Some 0x1000) s t.parser
+  pub state : IsSomeAnd t.state (Shows z s)
+
+-- so many columns and rows
+abbrev pub sized : ℕ → ℕ → Size
+sized columns rows = record {
+  rows = rows;
+  columns = columns;
+}
+
+-- an earlier call was refused memory
+abbrev pub IsBroken : {A : Type 0} → Terminal A → Type 0
+IsBroken t = t.state ≡ None
+
+-- what the last call asked for
+abbrev pub asked_in : {A : Type 0} → Option (State A) → List Request
+asked_in None = []
+asked_in (Some p) = requests_in p
+
+abbrev pub requests_now : {A : Type 0} → Terminal A → List Request
+requests_now t = asked_in t.state
+
+-- its looks, and its title
+abbrev pub looks_at : {A : Type 0} → Option (State A) → List Look
+looks_at None = []
+looks_at (Some p) = looks_in p
+
+abbrev pub title_in : {A : Type 0} → Option (State A) → Option (List ℕ)
+title_in None = None
+title_in (Some p) = p.title
+
+-- this holds of each stream that the terminal may have been fed
+abbrev pub After : {A : Type 0} → Terminal A → (Size → List ℕ → Type 0) → Type 0
+After t C = (z : Size) (s : List ℕ) → WasFed z s t → C z s
+
+-- the terminal, which was fed s, was fed b too, and has the requests that b adds
+abbrev pub TakesIn : {A : Type 0} → Size → List ℕ → List ℕ → Terminal A → Type 0
+TakesIn {A} z s b t = WasFed z (s ++ b) t
+    × (requests_now t ≡ asked_by (yield_within {A = A} (Some 0x1000) s b))

@@ -1,0 +1,16 @@
+-- What holds of every stream.
+use Rattle.std.specs.Prelude.{ℕ, ◌≡◌, ◌<◌, List, ◌++◌, Some}
+use Rattle.esc_actions.specs.Meaning.{yield_within}
+use Rattle.esc_screen.specs.Grids.{Size}
+use Rattle.esc_screen.specs.Sound.{IsSound}
+use Rattle.esc_terminal.specs.Streams.{shown_after, shown_of}
+
+-- the grid is one that a screen can have
+abbrev pub IsAlwaysSound : Type 0 → Type 0
+IsAlwaysSound A = (z : Size) (s : List ℕ) → 0 < z.rows → 0 < z.columns
+    → IsSound z (shown_of A z s).grid
+
+-- what comes after a stream goes on from what is shown of it
+abbrev pub GoesOn : Type 0 → Type 0
+GoesOn A = (z : Size) (s b : List ℕ) → shown_of A z (s ++ b)
+    ≡ shown_after z (shown_of A z s) (yield_within {A = A} (Some 0x1000) s b)

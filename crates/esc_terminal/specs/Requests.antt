@@ -1,0 +1,60 @@
+-- What a stream asks a terminal for.
+use Rattle.std.specs.Prelude.{List, [], ◌∷◌, Option, Some, None}
+use Rattle.esc_actions.specs.Values.{Value, csi, esc}
+use Rattle.esc_typed.specs.Escapes.{of_escape}
+use Rattle.esc_typed.specs.Functions.{Value as Function, cursor, device, escape, mode_status, of_csi}
+use Rattle.esc_typed.specs.declared.cursor.Cursor.{Cursor}
+use Rattle.esc_typed.specs.declared.cursor.Cursor.TheVariants as cursors
+use Rattle.esc_typed.specs.declared.device.Device.{Device}
+use Rattle.esc_typed.specs.declared.device.Device.TheVariants as devices
+use Rattle.esc_typed.specs.declared.escape.Escape.{Escape}
+use Rattle.esc_typed.specs.declared.escape.Escape.TheVariants as escapes
+use Rattle.esc_typed.specs.declared.mode_status.ModeStatus.{ModeStatus}
+use Rattle.esc_typed.specs.declared.mode_status.ModeStatus.TheVariants as statuses
+use Rattle.esc_terminal.specs.declared.request.Request.{Request}
+use Rattle.esc_terminal.specs.declared.request.Request.TheVariants as request
+
+-- DSR 6
+abbrev pub cursor_request : Cursor → Option Request
+cursor_request cursors.RequestActivePositionReport = Some request.CursorPosition
+cursor_request _ = None
+
+-- DA1, DA2, DA3, XTVERSION, DSR 5
+abbrev pub device_request : Device → Option Request
+device_request devices.RequestPrimaryDeviceAttributes = Some request.PrimaryAttributes
+device_request devices.RequestSecondaryDeviceAttributes = Some request.SecondaryAttributes
+device_request devices.RequestTertiaryDeviceAttributes = Some request.TertiaryAttributes
+device_request devices.RequestTerminalNameAndVersion = Some request.NameAndVersion
+device_request devices.StatusReport = Some request.Status
+device_request devices.SoftReset = None
+
+-- DECRQM
+abbrev pub mode_request : ModeStatus → Option Request
+mode_request (statuses.QueryMode n) = Some (request.ModeState n)
+mode_request (statuses.QueryDecPrivateMode n) = Some (request.PrivateModeState n)
+mode_request _ = None
+
+-- DECID
+abbrev pub escape_request : Escape → Option Request
+escape_request escapes.ReturnTerminalId = Some request.PrimaryAttributes
+escape_request _ = None
+
+abbrev pub function_request : Function → Option Request
+function_request (cursor c) = cursor_request c
+function_request (device d) = device_request d
+function_request (mode_status s) = mode_request s
+function_request (escape e) = escape_request e
+function_request _ = None
+
+abbrev pub value_request : {A : Type 0} → Value A → Option Request
+value_request (csi c) = function_request (of_csi c)
+value_request (esc e) = function_request (of_escape e)
+value_request _ = None
+
+abbrev pub listed : Option Request → List Request
+listed None = []
+listed (Some r) = r ∷ []
+
+-- what a value asks for
+abbrev pub requests_of : {A : Type 0} → Value A → List Request
+requests_of v = listed (value_request v)

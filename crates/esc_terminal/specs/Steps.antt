@@ -1,0 +1,307 @@
+-- What each value of a stream does to a screen, by the names of ECMA-48, DEC and xterm.
+use Rattle.std.specs.Prelude.{ℕ, ◌+◌, ◌-◌, ◌==◌, nat_lt, min, Bool, true, false, if◌then◌else◌, List, [], ◌∷◌, Option, Some, None}
+use Rattle.unicode_width.specs.Width.{char_width}
+use Rattle.esc_values.specs.Params.{is_from}
+use Rattle.esc_values.specs.declared.csi_param.CsiParam.{CsiParam}
+use Rattle.esc_actions.specs.Values.{Value, print, control, esc, csi}
+use Rattle.esc_actions.specs.declared.control_code.ControlCode.{ControlCode}
+use Rattle.esc_actions.specs.declared.control_code.ControlCode.TheVariants as code
+use Rattle.esc_typed.specs.Choices.{cursor_tabulation_control_at, tabulation_clear_at}
+use Rattle.esc_typed.specs.Counts.{one_based}
+use Rattle.esc_typed.specs.Escapes.{of_escape}
+use Rattle.esc_typed.specs.Functions.{Value as Function, charset, cursor, device, edit, escape, modes, of_csi, renditions, tabs}
+use Rattle.esc_typed.specs.declared.charset.Charset.{Charset}
+use Rattle.esc_typed.specs.declared.charset.Charset.TheVariants as charsets
+use Rattle.esc_typed.specs.declared.charset94.Charset94.{Charset94}
+use Rattle.esc_typed.specs.declared.charset94.Charset94.TheVariants as sets
+use Rattle.esc_typed.specs.declared.cursor.Cursor.{Cursor}
+use Rattle.esc_typed.specs.declared.cursor.Cursor.TheVariants as cursors
+use Rattle.esc_typed.specs.declared.cursor_tabulation_control.CursorTabulationControl.{CursorTabulationControl}
+use Rattle.esc_typed.specs.declared.cursor_tabulation_control.CursorTabulationControl.TheVariants as tab
+use Rattle.esc_typed.specs.declared.device.Device.{Device}
+use Rattle.esc_typed.specs.declared.device.Device.TheVariants as devices
+use Rattle.esc_typed.specs.declared.edit.Edit.{Edit}
+use Rattle.esc_typed.specs.declared.edit.Edit.TheVariants as edits
+use Rattle.esc_typed.specs.declared.erase_in_display.EraseInDisplay.{EraseInDisplay}
+use Rattle.esc_typed.specs.declared.erase_in_display.EraseInDisplay.TheVariants as display
+use Rattle.esc_typed.specs.declared.erase_in_line.EraseInLine.{EraseInLine}
+use Rattle.esc_typed.specs.declared.erase_in_line.EraseInLine.TheVariants as line
+use Rattle.esc_typed.specs.declared.escape.Escape.{Escape}
+use Rattle.esc_typed.specs.declared.escape.Escape.TheVariants as escapes
+use Rattle.esc_typed.specs.declared.mode_change.ModeChange.{ModeChange}
+use Rattle.esc_typed.specs.declared.mode_change.ModeChange.TheVariants as changes
+use Rattle.esc_typed.specs.declared.one_based.OneBased.{OneBased}
+use Rattle.esc_typed.specs.declared.tab_change.TabChange.{TabChange}
+use Rattle.esc_typed.specs.declared.tab_change.TabChange.TheVariants as tab_changes
+use Rattle.esc_typed.specs.declared.tabulation_clear.TabulationClear.{TabulationClear}
+use Rattle.esc_typed.specs.declared.tabulation_clear.TabulationClear.TheVariants as clear
+use Rattle.esc_looks.specs.Looks.{look_by_all}
+use Rattle.esc_looks.specs.declared.look.Look.{Look}
+use Rattle.esc_screen.specs.declared.change.Change.TheVariants as change
+use Rattle.esc_screen.specs.declared.cursor.Cursor.{Cursor as Place}
+use Rattle.esc_screen.specs.declared.mode.Mode.TheVariants as mode
+use Rattle.esc_screen.specs.declared.motion.Motion.TheVariants as motion
+use Rattle.esc_screen.specs.declared.setting.Setting.{Setting}
+use Rattle.esc_screen.specs.declared.setting.Setting.TheVariants as setting
+use Rattle.esc_screen.specs.declared.step.Step.{Step}
+use Rattle.esc_screen.specs.declared.step.Step.TheVariants.{Edit as Edited, Mark, Move, Nothing, Print, PrintWide, Repeat, Set}
+use Rattle.esc_terminal.specs.Looks.{erased_look, look_at, number_in, with_look}
+
+-- ---- characters
+
+-- one of ASCII takes one column, and any other as many as Unicode has it; one of no column is a
+-- mark, and a control is none
+abbrev pub width_step : ℕ → Option ℕ → Step
+width_step c None = Nothing
+width_step c (Some n) = if n == 0 then Mark c else if n == 2 then PrintWide c else Print c
+
+abbrev pub print_step : ℕ → Step
+print_step c = if is_from 0x20 0x7e c then Print c else width_step c (char_width false c)
+
+-- ---- control codes
+
+abbrev pub control_step : ControlCode → Step
+control_step code.Backspace = Move (motion.Left 1)
+control_step code.HorizontalTab = Move (motion.Tab 1)
+control_step code.LineFeed = Edited change.LineFeed
+control_step code.VerticalTab = Edited change.LineFeed
+control_step code.FormFeed = Edited change.LineFeed
+control_step code.CarriageReturn = Move motion.RowStart
+control_step code.ShiftOut = Set (setting.Shift true)
+control_step code.ShiftIn = Set (setting.Shift false)
+control_step code.IND = Edited change.Index
+control_step code.NEL = Edited change.NextLine
+control_step code.HTS = Set setting.SetTab
+control_step code.RI = Edited change.ReverseIndex
+control_step _ = Nothing
+
+-- ---- control sequences
+
+-- how many, where a screen counts to 65,535
+abbrev pub count : OneBased → ℕ
+count n = min (one_based n) 0xffff
+
+-- a row or a column, from 0 on
+abbrev pub place : OneBased → ℕ
+place n = min (one_based n - 1) 0xffff
+
+-- the row after the last that scrolls
+abbrev pub margin_end : Option OneBased → ℕ
+margin_end None = 0xffff
+margin_end (Some n) = count n
+
+abbrev pub margins_step : ℕ → Option OneBased → Step
+margins_step m n = Set (setting.Margins m (margin_end n))
+
+-- TBC and CTC: no tab stop is of a line
+abbrev pub clear_step : TabulationClear → Step
+clear_step clear.ClearCharacterTabStopAtActivePosition = Set setting.ClearTab
+clear_step clear.ClearAllCharacterTabStops = Set setting.ClearTabs
+clear_step clear.ClearAllTabStops = Set setting.ClearTabs
+clear_step _ = Nothing
+
+abbrev pub tab_step : CursorTabulationControl → Step
+tab_step tab.SetCharacterTabStopAtActivePosition = Set setting.SetTab
+tab_step tab.ClearCharacterTabStopAtActivePosition = Set setting.ClearTab
+tab_step tab.ClearAllCharacterTabStops = Set setting.ClearTabs
+tab_step _ = Nothing
+
+-- VPR and VPB go to a row by its number, where the cursor is at such a place: no margin stops them
+-- but in origin mode, where it is within the margins
+abbrev pub after_step : Place → ℕ → Step
+after_step k n = if k.origin then Move (motion.Down n)
+    else Move (motion.Row (min (k.row + n) 0xffff))
+
+abbrev pub before_step : Place → ℕ → Step
+before_step k n = if k.origin then Move (motion.Up n) else Move (motion.Row (k.row - n))
+
+-- the cursor, and what bounds it
+abbrev pub cursor_step : Place → Cursor → Step
+cursor_step k (cursors.Up n) = Move (motion.Up (count n))
+cursor_step k (cursors.Down n) = Move (motion.Down (count n))
+cursor_step k (cursors.Right n) = Move (motion.Right (count n))
+cursor_step k (cursors.CharacterPositionForward n) = Move (motion.Right (count n))
+cursor_step k (cursors.Left n) = Move (motion.Left (count n))
+cursor_step k (cursors.CharacterPositionBackward n) = Move (motion.Left (count n))
+cursor_step k (cursors.NextLine n) = Move (motion.DownToStart (count n))
+cursor_step k (cursors.PrecedingLine n) = Move (motion.UpToStart (count n))
+cursor_step k (cursors.CharacterAbsolute n) = Move (motion.Column (place n))
+cursor_step k (cursors.CharacterPositionAbsolute n) = Move (motion.Column (place n))
+cursor_step k (cursors.Position m n) = Move (motion.Position (place m) (place n))
+cursor_step k (cursors.CharacterAndLinePosition m n) = Move (motion.Position (place m) (place n))
+cursor_step k (cursors.ForwardTabulation n) = Move (motion.Tab (count n))
+cursor_step k (cursors.BackwardTabulation n) = Move (motion.BackTab (count n))
+cursor_step k (cursors.LinePositionAbsolute n) = Move (motion.Row (place n))
+cursor_step k (cursors.LinePositionForward n) = after_step k (count n)
+cursor_step k (cursors.LinePositionBackward n) = before_step k (count n)
+cursor_step k (cursors.TabulationClear c) = clear_step c
+cursor_step k (cursors.TabulationControl c) = tab_step c
+cursor_step k (cursors.SetTopAndBottomMargins m n) = margins_step (place m) n
+cursor_step k cursors.SaveCursor = Set setting.Save
+cursor_step k cursors.RestoreCursor = Set setting.Restore
+cursor_step k _ = Nothing
+
+-- ED and EL; what scrolled off is none of the screen's
+abbrev pub display_step : EraseInDisplay → Step
+display_step display.EraseToEndOfDisplay = Edited change.EraseBelow
+display_step display.EraseToStartOfDisplay = Edited change.EraseAbove
+display_step display.EraseDisplay = Edited change.EraseAll
+display_step display.EraseScrollback = Nothing
+
+abbrev pub line_step : EraseInLine → Step
+line_step line.EraseToEndOfLine = Edited change.EraseRight
+line_step line.EraseToStartOfLine = Edited change.EraseLeft
+line_step line.EraseLine = Edited change.EraseRow
+
+-- what is inserted, deleted, erased and scrolled; nothing is protected, so DECSED and DECSEL erase
+-- what ED and EL do
+abbrev pub edit_step : Edit → Step
+edit_step (edits.InsertCharacter n) = Edited (change.InsertCells (count n))
+edit_step (edits.InsertLine n) = Edited (change.InsertRows (count n))
+edit_step (edits.DeleteLine n) = Edited (change.DeleteRows (count n))
+edit_step (edits.DeleteCharacter n) = Edited (change.DeleteCells (count n))
+edit_step (edits.ScrollUp n) = Edited (change.ScrollUp (count n))
+edit_step (edits.ScrollDown n) = Edited (change.ScrollDown (count n))
+edit_step (edits.EraseCharacter n) = Edited (change.EraseCells (count n))
+edit_step (edits.Repeat n) = Repeat (count n)
+edit_step (edits.EraseInDisplay p) = display_step p
+edit_step (edits.SelectiveEraseInDisplay p) = display_step p
+edit_step (edits.EraseInLine p) = line_step p
+edit_step (edits.SelectiveEraseInLine p) = line_step p
+edit_step _ = Nothing
+
+-- DECSTR
+abbrev pub device_step : Device → Step
+device_step devices.SoftReset = Set setting.SoftReset
+device_step _ = Nothing
+
+-- ---- escape sequences
+
+abbrev pub escape_step : Escape → Step
+escape_step escapes.DecSaveCursorPosition = Set setting.Save
+escape_step escapes.DecRestoreCursorPosition = Set setting.Restore
+escape_step escapes.DecScreenAlignmentDisplay = Edited change.Align
+escape_step escapes.Index = Edited change.Index
+escape_step escapes.NextLine = Edited change.NextLine
+escape_step escapes.HorizontalTabSet = Set setting.SetTab
+escape_step escapes.ReverseIndex = Edited change.ReverseIndex
+escape_step escapes.FullReset = Set setting.Reset
+escape_step _ = Nothing
+
+-- SCS: of a set other than that of line drawing each character is itself
+abbrev pub is_drawing : Charset94 → Bool
+is_drawing sets.DecSpecialGraphics = true
+is_drawing _ = false
+
+abbrev pub charset_step : Charset → Step
+charset_step (charsets.G0 c) = Set (setting.G0Draws (is_drawing c))
+charset_step (charsets.G1 c) = Set (setting.G1Draws (is_drawing c))
+charset_step (charsets.G0Pair c) = Set (setting.G0Draws false)
+charset_step (charsets.G0Multibyte c) = Set (setting.G0Draws false)
+charset_step (charsets.G1Of96 c) = Set (setting.G1Draws false)
+charset_step (charsets.G1Pair c) = Set (setting.G1Draws false)
+charset_step (charsets.G1Multibyte c) = Set (setting.G1Draws false)
+charset_step _ = Nothing
+
+-- ---- modes and tab stops
+
+-- IRM and LNM
+abbrev pub standard_step : Bool → ℕ → Step
+standard_step b n = if n == 4 then Set (setting.Mode mode.Insert b)
+    else if n == 20 then Set (setting.Mode mode.NewLine b)
+    else Nothing
+
+abbrev pub chosen : Bool → Setting → Setting → Setting
+chosen b x y = if b then x else y
+
+-- DECSCNM, DECOM, DECAWM, DECTCEM; the alternate screen and the saved cursor of xterm;
+-- synchronized output
+abbrev pub private_step : Bool → ℕ → Step
+private_step b n = if n == 5 then Set (setting.Mode mode.ReverseVideo b)
+    else if n == 6 then Set (setting.Origin b)
+    else if n == 7 then Set (setting.Mode mode.AutoWrap b)
+    else if n == 25 then Set (setting.Mode mode.ShowCursor b)
+    else if n == 47 then Set (chosen b setting.ShowAlternate setting.ShowMain)
+    else if n == 1047 then Set (chosen b setting.ShowAlternate setting.ClearAlternate)
+    else if n == 1048 then Set (chosen b setting.Save setting.Restore)
+    else if n == 1049 then Set (chosen b setting.EnterAlternate setting.LeaveAlternate)
+    else if n == 2026 then Set (setting.Mode mode.Synchronized b)
+    else Nothing
+
+-- a mode by its number
+abbrev pub numbered_step : ModeChange → ℕ → Step
+numbered_step changes.SetMode n = standard_step true n
+numbered_step changes.ResetMode n = standard_step false n
+numbered_step changes.SetDecPrivateMode n = private_step true n
+numbered_step changes.ResetDecPrivateMode n = private_step false n
+numbered_step _ n = Nothing
+
+abbrev pub mode_step : ModeChange → Option ℕ → Step
+mode_step c None = Nothing
+mode_step c (Some n) = numbered_step c n
+
+abbrev pub mode_steps : ModeChange → List (Option ℕ × List CsiParam) → List Step
+mode_steps c [] = []
+mode_steps c (m ∷ ms) = mode_step c m.0 ∷ mode_steps c ms
+
+-- a choice of tab stops by its number
+abbrev pub if_clear : Option TabulationClear → Step
+if_clear None = Nothing
+if_clear (Some c) = clear_step c
+
+abbrev pub if_tab : Option CursorTabulationControl → Step
+if_tab None = Nothing
+if_tab (Some c) = tab_step c
+
+abbrev pub numbered_choice : TabChange → ℕ → Step
+numbered_choice tab_changes.Clear n = if_clear (tabulation_clear_at n)
+numbered_choice tab_changes.Control n = if_tab (cursor_tabulation_control_at n)
+
+abbrev pub choice_step : TabChange → Option ℕ → Step
+choice_step c None = Nothing
+choice_step c (Some n) = if nat_lt n 256 then numbered_choice c n else Nothing
+
+abbrev pub choice_steps : TabChange → List (Option ℕ × List CsiParam) → List Step
+choice_steps c [] = []
+choice_steps c (n ∷ ns) = choice_step c n.0 ∷ choice_steps c ns
+
+-- ---- values
+
+-- SGR: how the characters look that come, from these looks on, and these with those that are new
+abbrev pub selected : Look → List Look → List Step
+selected l ls = Set (setting.Select (number_in l ls) (number_in (erased_look l) (with_look l ls)))
+    ∷ []
+
+abbrev pub selected_looks : Look → List Look → List Look
+selected_looks l ls = with_look (erased_look l) (with_look l ls)
+
+-- the steps of what a function asks for, of a screen with these looks and this cursor; of any other
+-- there are none
+abbrev pub function_steps : List Look → Place → Function → List Step
+function_steps ls k (cursor c) = cursor_step k c ∷ []
+function_steps ls k (edit e) = edit_step e ∷ []
+function_steps ls k (device d) = device_step d ∷ []
+function_steps ls k (charset c) = charset_step c ∷ []
+function_steps ls k (escape e) = escape_step e ∷ []
+function_steps ls k (modes c ms) = mode_steps c ms
+function_steps ls k (tabs c ns) = choice_steps c ns
+function_steps ls k (renditions rs) = selected (look_by_all (look_at k.look ls) rs) ls
+function_steps ls k _ = []
+
+-- and the looks after it
+abbrev pub function_looks : List Look → Place → Function → List Look
+function_looks ls k (renditions rs) = selected_looks (look_by_all (look_at k.look ls) rs) ls
+function_looks ls k _ = ls
+
+-- the steps of a value
+abbrev pub steps_of : {A : Type 0} → List Look → Place → Value A → List Step
+steps_of ls k (print c) = print_step c ∷ []
+steps_of ls k (control c) = control_step c ∷ []
+steps_of ls k (esc e) = function_steps ls k (of_escape e)
+steps_of ls k (csi c) = function_steps ls k (of_csi c)
+steps_of ls k _ = []
+
+abbrev pub looks_by : {A : Type 0} → List Look → Place → Value A → List Look
+looks_by ls k (esc e) = function_looks ls k (of_escape e)
+looks_by ls k (csi c) = function_looks ls k (of_csi c)
+looks_by ls k _ = ls

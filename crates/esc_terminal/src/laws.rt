@@ -1,0 +1,15 @@
+//! What holds of terminals, for every allocator `A`, which the type of the actions names.
+ghost use Rattle.esc_terminal.specs.Laws.{GoesOn, IsAlwaysSound};
+
+use std::alloc::Allocator;
+
+/// Whatever a stream is, each row has as many cells as the screen has columns, and the cursor is on
+/// the screen.
+pub fn is_always_sound<A: Allocator>()
+    ensures { IsAlwaysSound A }
+{}
+
+/// A stream in two pieces does what the first does and then the second.
+pub fn goes_on<A: Allocator>()
+    ensures { GoesOn A }
+{}

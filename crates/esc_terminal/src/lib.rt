@@ -1,0 +1,25 @@
+//! A terminal's screen from a stream of bytes: what each value of the stream does to an
+//! [`esc_screen::Screen`], by the names of ECMA-48, of DEC's manual of the VT510 and of xterm's
+//! "Control Sequences".
+//!
+//! ```text
+//! let mut terminal = Terminal::new(alloc, 80, 24)?;
+//! terminal.feed(b"\x1b[2J\x1b[H50%\rdo")?;
+//! terminal.feed(b"ne")?;
+//! terminal.row(0)         // the cells of "done" and 76 blank ones
+//! ```
+#![tactic(auto)]
+
+mod counts;
+pub mod laws;
+mod looks;
+mod receiving;
+pub mod request;
+pub mod row_text;
+mod state;
+pub mod steps;
+pub mod terminal;
+
+pub use request::Request;
+pub use row_text::push_row;
+pub use terminal::Terminal;

@@ -1,0 +1,242 @@
+//! What a terminal holds, value by value.
+ghost use Rattle.std.specs.Prelude.{◌≡◌, [], ◌∷◌, None, OnErr, OnOk, IfOk, map};
+ghost use Rattle.std.specs.List.{FoldsTo};
+ghost use Rattle.std.specs.Str.{chars};
+ghost use Rattle.esc_actions.specs.declared.action.Action.TheVariants as action;
+ghost use Rattle.esc_frame.specs.Scans.{IsRun, is_text_byte};
+ghost use Rattle.esc_looks.specs.Looks.{look_by_all, plain_look};
+ghost use Rattle.esc_screen.specs.Grids.{first_grid};
+ghost use Rattle.esc_screen.specs.Screens.{grid_of, size_of};
+ghost use Rattle.esc_terminal.specs.Fed.{Does, Takes, TakesAll, TakesFunction, TakesSteps, looks_in, requests_in, sized};
+ghost use Rattle.esc_terminal.specs.Looks.{look_at};
+ghost use Rattle.esc_terminal.specs.Requests.{listed};
+ghost use Rattle.esc_terminal.specs.Steps.{choice_steps, mode_steps, selected, selected_looks};
+ghost use Rattle.esc_terminal.specs.Streams.{title_by_command};
+ghost use Rattle.esc_typed.specs.Functions.{value_of as function_value};
+ghost use Rattle.esc_typed.specs.Selections.{left, modes_left};
+ghost use Rattle.memory.specs.Refusals.{Refused};
+
+use crate::looks::{erased_look, keep_look, look_at};
+use crate::request::{Request, request_of};
+use crate::steps::{
+    charset_step, choice_step, control_step, cursor_step, device_step, edit_step, escape_step,
+    mode_step, print_step,
+};
+use esc_actions::Action;
+use esc_looks::Look;
+use esc_osc::OperatingSystemCommand;
+use esc_screen::{Screen, Setting, Step};
+use esc_typed::{Function, ModeChange, Modes, Renditions, TabChange};
+use esc_values::Text;
+use memchr::memchr;
+use std::alloc::{AllocError, Allocator, Global};
+
+/// The screen of a terminal, its title, and what it was asked for since it was cleared.
+#[derive(Drop)]
+pub(crate) struct State<A: Allocator = Global> {
+    /// The screen.
+    pub screen: Screen<A>,
+    /// The looks of its cells, which have the numbers of these.
+    pub looks: Vec<Look, A>,
+    /// The title of its window, where it has one.
+    pub title: Option<Text<A>>,
+    /// What it was asked for.
+    pub requests: Vec<Request, A>,
+}
+
+impl<A: Allocator + Copy> State<A> {
+    /// A blank screen, no title and no requests.
+    pub fn new(alloc: A, columns: u16, rows: u16) -> Result<State<A>, AllocError>
+        ensures grid { IfOk result (λ p. grid_of p.screen ≡ first_grid (sized columns rows)) }
+        ensures size { IfOk result (λ p. size_of p.screen ≡ sized columns rows) }
+        ensures looks { IfOk result (λ p. (looks_in p ≡ plain_look ∷ []) × (p.title ≡ None)) }
+        ensures requests { IfOk result (λ p. requests_in p ≡ []) }
+    {
+        let screen = Screen::new(alloc, rows, columns)?;
+        let mut looks = Vec::new(alloc);
+        looks.push(Look::plain())?;
+        Ok(State {
+            screen,
+            looks,
+            title: None,
+            requests: Vec::new(alloc),
+        })
+    }
+}
+
+impl<A: Allocator> State<A> {
+    /// The same, with no requests.
+    pub fn cleared(mut self) -> State<A>
+        ensures screen { result.screen ≡ self.screen }
+        ensures looks { looks_in result ≡ looks_in self }
+        ensures title { result.title ≡ self.title }
+        ensures requests { requests_in result ≡ [] }
+    {
+        self.requests.clear();
+        self
+    }
+
+    /// Prints a run of characters 20 to 7F, one byte each, one after another.
+    pub fn print_all(&mut self, text: &[u8])
+        requires { IsRun is_text_byte text.now }
+        ensures { FoldsTo Takes self.old (map action.Print text.now) self.new }
+    {
+        match memchr(0x7f, text) {
+            None => self.screen.print_run(text),
+            Some(_) => self.print_each(text),
+        }
+    }
+
+    // Prints characters, one byte each, one by one.
+    fn print_each(&mut self, text: &[u8])
+        ensures { FoldsTo Takes self.old (map action.Print text.now) self.new }
+    {
+        for b in text {
+            self.print(*b as char);
+        }
+    }
+
+    // Prints a character.
+    #[inline]
+    fn print(&mut self, c: char)
+        ensures { Takes self.old (action.Print c) self.new }
+    {
+        self.screen.take(print_step(c));
+    }
+
+    /// Prints characters, one after another.
+    pub fn print_str(&mut self, text: &str)
+        ensures { FoldsTo Takes self.old (map action.Print (chars text.now)) self.new }
+    {
+        for c in text.chars() {
+            self.print(c);
+        }
+    }
+
+    // Takes what is done to modes.
+    fn take_modes(&mut self, change: ModeChange, modes: Modes<'_>)
+        ensures { TakesSteps self.old (mode_steps change (modes_left modes.entry)) self.new }
+    {
+        for mode in modes {
+            self.screen.take(mode_step(change, mode.number));
+        }
+    }
+
+    // Takes what is done to tab stops.
+    fn take_choices(&mut self, change: TabChange, choices: Modes<'_>)
+        ensures { TakesSteps self.old (choice_steps change (modes_left choices.entry)) self.new }
+    {
+        for choice in choices {
+            self.screen.take(choice_step(change, choice.number));
+        }
+    }
+
+    // Takes how the characters look that come.
+    fn select(&mut self, look: &Look) -> Result<(), AllocError>
+        ensures ok { OnOk result (Does self.old (selected look.now (looks_in self.old))
+            (selected_looks look.now (looks_in self.old)) self.old.title [] self.new) }
+        ensures refused { OnErr result (Refused A) }
+    {
+        let number = keep_look(&mut self.looks, look)?;
+        let erased = keep_look(&mut self.looks, &erased_look(look))?;
+        self.screen.take(Step::Set(Setting::Select(number, erased)));
+        Ok(())
+    }
+
+    // How the characters look that come, after renditions, one after another.
+    fn look_after(&self, renditions: Renditions<'_>) -> Look
+        ensures { result ≡ look_by_all (look_at self.now.screen.cursor.look (looks_in self.now))
+            (left renditions.entry) }
+    {
+        let mut look = look_at(&self.looks, self.screen.cursor().look);
+        look.select_all(renditions);
+        look
+    }
+
+    // Takes what a function does to the screen.
+    fn take_steps(&mut self, function: Function<'_>) -> Result<(), AllocError>
+        ensures ok { OnOk result (TakesFunction self.old (function_value function.entry)
+            self.new) }
+        ensures refused { OnErr result (Refused A) }
+    {
+        match function {
+            Function::Cursor(cursor) => {
+                let step = cursor_step(self.screen.cursor(), cursor);
+                self.screen.take(step);
+            }
+            Function::Edit(edit) => self.screen.take(edit_step(edit)),
+            Function::Device(device) => self.screen.take(device_step(device)),
+            Function::Charset(charset) => self.screen.take(charset_step(charset)),
+            Function::Escape(escape) => self.screen.take(escape_step(escape)),
+            Function::Mode(change, modes) => self.take_modes(change, modes),
+            Function::Tabs(change, choices) => self.take_choices(change, choices),
+            Function::Sgr(renditions) => {
+                let look = self.look_after(renditions);
+                return self.select(&look);
+            }
+            _ => {}
+        }
+        Ok(())
+    }
+
+    // Notes what is asked for, where something is.
+    fn ask(&mut self, request: Option<Request>) -> Result<(), AllocError>
+        ensures ok { OnOk result (Does self.old [] (looks_in self.old) self.old.title
+            (listed request) self.new) }
+        ensures refused { OnErr result (Refused A) }
+    {
+        match request {
+            Some(request) => {
+                memory::push(&mut self.requests, request)?;
+                Ok(())
+            }
+            None => Ok(()),
+        }
+    }
+
+    /// Takes what a control sequence or an escape sequence asks for.
+    pub fn take_function(&mut self, function: Function<'_>) -> Result<(), AllocError>
+        ensures ok { OnOk result (TakesAll self.old (function_value function.entry) self.new) }
+        ensures refused { OnErr result (Refused A) }
+    {
+        self.take_steps(function)?;
+        self.ask(request_of(function))
+    }
+
+    // Takes a command for the title.
+    fn take_command(&mut self, command: OperatingSystemCommand<A>)
+        ensures { Does self.old [] (looks_in self.old) (title_by_command self.old.title command)
+            [] self.new }
+    {
+        match command {
+            OperatingSystemCommand::SetIconNameAndWindowTitle(title)
+            | OperatingSystemCommand::SetWindowTitle(title)
+            | OperatingSystemCommand::SetWindowTitleSun(title) => self.title = Some(title),
+            _ => {}
+        }
+    }
+
+    /// Takes an action.
+    pub fn take(&mut self, action: Action<A>) -> Result<(), AllocError>
+        ensures ok { OnOk result (Takes self.old action self.new) }
+        ensures refused { OnErr result (Refused A) }
+    {
+        match action {
+            Action::Print(c) => {
+                self.print(c);
+                Ok(())
+            }
+            Action::Control(code) => {
+                self.screen.take(control_step(code));
+                Ok(())
+            }
+            Action::Esc(esc) => self.take_function(Function::of_escape(esc)),
+            Action::CSI(csi) => self.take_function(Function::of(&csi)),
+            Action::OperatingSystemCommand(command) => {
+                self.take_command(command.into_inner());
+                Ok(())
+            }
+            _ => Ok(()),
+        }
+    }
+}

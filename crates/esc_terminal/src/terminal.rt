@@ -1,0 +1,121 @@
+//! A terminal.
+ghost use Rattle.std.specs.Prelude.{◌≡◌, [], IfOk, IfSome, IsErr, IsSomeAnd, OnErr, OnOk};
+ghost use Rattle.std.specs.Option.{option_map};
+ghost use Rattle.esc_terminal.specs.Fed.{asked_in, looks_at, title_in};
+ghost use Rattle.memory.specs.Refusals.{Refused};
+
+use crate::request::Request;
+use crate::state::State;
+use esc_looks::Look;
+use esc_parse::Parser;
+use esc_screen::{Cell, Screen};
+use std::alloc::{AllocError, Allocator, Global};
+
+// How many bytes of a title are kept.
+const MOST: usize = 0x1000;
+
+/// Takes a stream in whatever pieces it comes, and has the screen that a terminal shows then.
+///
+/// It keeps a screen of its size, which is made at once, at most 4,096 looks, a title of at most
+/// 4,096 bytes, and what the last piece asked for.
+#[derive(Drop)]
+pub struct Terminal<A: Allocator = Global> {
+    parser: Parser<A>,
+    state: Option<State<A>>,
+}
+
+impl<A: Allocator + Copy> Terminal<A> {
+    ghost use Rattle.esc_terminal.specs.Fed.{After, IsBroken, TakesIn, WasFed, requests_now, sized};
+
+    /// A terminal of so many columns and rows at the beginning of a stream: each should be 1 at
+    /// least.
+    ///
+    /// The error is that a request for memory was refused.
+    pub fn new(alloc: A, columns: u16, rows: u16) -> Result<Terminal<A>, AllocError>
+        ensures fed { IfOk result (λ t. WasFed (sized columns rows) [] t) }
+        ensures asked { IfOk result (λ t. requests_now t ≡ []) }
+    {
+        let state = State::new(alloc, columns, rows)?;
+        Ok(Terminal {
+            parser: Parser::with_limit(alloc, MOST),
+            state: Some(state),
+        })
+    }
+
+    /// Takes `bytes`. What they ask for is [`requests`](Self::requests) then.
+    ///
+    /// The error is that a request for memory was refused, as a title, a request or a sequence may
+    /// take some: there is no screen from then on, and every call returns it.
+    pub fn feed(&mut self, bytes: &[u8]) -> Result<(), AllocError>
+        ensures given { After self.old (λ z s. OnOk result (TakesIn z s bytes.now self.new)) }
+        ensures refused { After self.old (λ z s. OnErr result (Refused A)) }
+        ensures broken { OnErr result (IsBroken self.new) }
+        ensures failed { IsBroken self.old → IsErr result × IsBroken self.new }
+    {
+        let Some(state) = self.state.take() else {
+            return Err(AllocError);
+        };
+        let (result, state) = self.parser.parse_into(bytes, state.cleared());
+        match result {
+            Ok(()) => {
+                self.state = Some(state);
+                Ok(())
+            }
+            Err(_) => Err(AllocError),
+        }
+    }
+}
+
+impl<A: Allocator> Terminal<A> {
+    /// Its screen; none after an error.
+    pub fn screen(&self) -> Option<&Screen<A>>
+        ensures { IfSome result (λ p. IsSomeAnd self.now.state (λ q. q.screen ≡ p.now)) }
+    {
+        match &self.state {
+            Some(state) => Some(&state.screen),
+            None => None,
+        }
+    }
+
+    /// The cells of a row, from 0 on; none where there is no such row.
+    pub fn row(&self, at: usize) -> &[Cell] {
+        match &self.state {
+            Some(state) => state.screen.row(at),
+            None => &[],
+        }
+    }
+
+    /// The looks of its cells, which have the numbers of these: 4,096 at most, of which the first
+    /// is the plain one, which also those have that came when there was no room for theirs.
+    pub fn looks(&self) -> &[Look]
+        ensures { result.now ≡ looks_at self.now.state }
+    {
+        match &self.state {
+            Some(state) => &state.looks,
+            None => &[],
+        }
+    }
+
+    /// The title of its window, where it has one.
+    pub fn title(&self) -> Option<&str>
+        ensures { option_map (λ t. t.now) result ≡ title_in self.now.state }
+    {
+        match &self.state {
+            Some(state) => match &state.title {
+                Some(title) => Some(title.as_str()),
+                None => None,
+            },
+            None => None,
+        }
+    }
+
+    /// What the last piece asked for, in order.
+    pub fn requests(&self) -> &[Request]
+        ensures { result.now ≡ asked_in self.now.state }
+    {
+        match &self.state {
+            Some(state) => &state.requests,
+            None => &[],
+        }
+    }
+}
