@@ -4,5 +4,5 @@
 
 package escapestream
 
-// #cgo LDFLAGS: -lescape_c -lstream_c -llibc_c
+// #cgo LDFLAGS: -lescape_stream
 import "C"

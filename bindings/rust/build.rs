@@ -1,7 +1,8 @@
 // SPDX-License-Identifier: MIT
-//! Links the archive of the proved library. `ESCAPE_STREAM_LIB` names the folder that has it. Without it it is looked for in
-//! `../../lib`, where a release has it; without either the crate can be checked and documented, and not linked. A program
-//! without the feature `oneshot` gets the parser's part of the archive alone, which asks for no memory.
+//! Links the archive of the proved library. `ESCAPE_STREAM_LIB` names the folder that has it.
+//! Without that it is looked for in `../../lib`, where a release has it; without either the crate
+//! can be checked and documented, and not linked. A program without the feature `oneshot` gets the
+//! parser's part of the archive alone, which asks for no memory.
 use std::env;
 use std::path::{Path, PathBuf};
 use std::process;
