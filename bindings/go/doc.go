@@ -19,9 +19,9 @@
 //
 // # Building
 //
-// The headers and archives are found by pkg-config, under the names escape_stream and
+// The headers and the library are found by pkg-config, under the names escape_stream and
 // escape_stream_parser, which the installation of escape_stream has. With the build tag
-// escapestream_flags they are found by the environment alone:
+// escapestream_flags they are found by the environment alone, and the archive is linked:
 //
 //	CGO_CFLAGS=-I.../include CGO_LDFLAGS=-L.../lib go build -tags escapestream_flags
 //

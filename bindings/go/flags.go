@@ -4,5 +4,5 @@
 
 package escapestream
 
-// #cgo LDFLAGS: -lescape_stream
+// #cgo LDFLAGS: -l:libescape_stream.a
 import "C"

@@ -45,8 +45,8 @@ const DARK: &str = "\
 // line through, over or under characters adds to the others; what blinks does not.
 //
 // Grounds have colours of their own: black and white can be read on each, and any other colour on a
-// deeper one, or on one that is nearly white. What stands on the ground of a line touches the one of
-// the next.
+// deeper one, or on one that is nearly white. What stands on the ground of a line touches the one
+// of the next.
 const RULES: &str = "\
 .es-stream {
   --es-on-black: #24292f; --es-on-red: #dd313d; --es-on-green: #258640; --es-on-yellow: #927100;
