@@ -50,11 +50,7 @@ impl Pen {
     }
 }
 
-fn push_flag<A: Allocator>(
-    text: &mut String<A>,
-    is_on: bool,
-    body: &str,
-) -> Result<(), AllocError>
+fn push_flag<A: Allocator>(text: &mut String<A>, is_on: bool, body: &str) -> Result<(), AllocError>
     ensures ok { OnOk result (string_bytes text.new
         ≡ string_bytes text.old ++ flag_text is_on body.now) }
     ensures refused { OnErr result (Refused A) }
