@@ -63,7 +63,7 @@ function* textsOf(stream) {
     yield [`filter ${policy}`, filter(stream, policy)];
     yield [`filter ${policy} in pieces`, inPieces(new Filter(policy), stream, 7)];
   }
-  yield ["normal", normal(stream)];
+  yield ["normal", normal(stream, { limit: stream.length })];
   yield ["normal in pieces", inPieces(new Normalizer(), stream, 3)];
   yield ["html", toHtml(stream)];
   yield ["html by lines", inPieces(new HtmlWriter({ perLine: true, inline: true }), stream, 5)];
