@@ -57,9 +57,9 @@ try {
   assert.ok(found.text.includes("\ufffd caf\u00e9"));
   assert.equal(found.title, "A log, safe to look at");
   assert.equal(found.lines, 5);
-  const row = (what) => found.rows.find((cells) => cells[0] === what);
+  const row = (what) => found.rows.find((cells) => cells[0].startsWith(what));
   assert.deepEqual(row("OSC 52: set the clipboard")?.slice(1), ["1", "left out", "2"]);
-  assert.deepEqual(row("ED: erase in page")?.slice(1), ["1", "left out", "2"]);
+  assert.deepEqual(row("ED: ")?.slice(1), ["1", "left out", "2"]);
   assert.ok(row("OSC 8: begin a link that no page follows"));
   const recording = await drop("a.cast", CAST);
   assert.equal(recording.text, "bold");

@@ -63,7 +63,7 @@ function* textsOf(stream) {
     yield [`filter ${policy}`, filter(stream, policy)];
     yield [`filter ${policy} in pieces`, inPieces(new Filter(policy), stream, 7)];
   }
-  yield ["normal", normal(stream)];
+  yield ["normal", normal(stream, { limit: stream.length })];
   yield ["normal in pieces", inPieces(new Normalizer(), stream, 3)];
   yield ["html", toHtml(stream)];
   yield ["html by lines", inPieces(new HtmlWriter({ perLine: true, inline: true }), stream, 5)];
@@ -88,7 +88,7 @@ test("as the native archives", { skip: program ? false : "NATIVE names no progra
     for (const [what, text] of textsOf(stream)) {
       const length = stdout.readUInt32LE(at);
       const wanted = stdout.subarray(at + 4, at + 4 + length);
-      assert.ok(Buffer.from(text).equals(wanted), `stream ${i}, ${what}: ${text}, not ${wanted}`);
+      assert.ok(Buffer.from(text).equals(wanted), `stream ${i}, ${what}`);
       at += 4 + length;
       count++;
     }

@@ -1,2 +1,3 @@
-pub mod Recordings
+pub mod Events
 pub mod Recorded
+pub mod Recordings

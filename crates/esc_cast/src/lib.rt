@@ -14,11 +14,15 @@
 //! recording.take_line("[0.25, \"o\", \"\\u001b]0;title\\u0007$ \"]")?;
 //! recording.text()       // "[0.25,\"o\",\"$ \"]\n"
 //! ```
+//!
+//! [`event_in`] reads a line and writes nothing: the times and the texts of output and of input.
 #![tactic(auto)]
 
 mod cast_error;
+mod event;
 mod line;
 mod recording;
 
 pub use cast_error::CastError;
+pub use event::{Event, event_in};
 pub use recording::Recording;

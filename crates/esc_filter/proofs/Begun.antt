@@ -11,6 +11,9 @@ use Rattle.esc_normal.specs.Io.{Borrowed}
 use Rattle.esc_actions.specs.Values.{Value}
 use Rattle.esc_filter.specs.Fed.{WasFedIn, policy_of}
 use Rattle.esc_filter.specs.Lines.{WasFedLines, closed_by_lines_as, policy_of_lines, text_by_lines_as}
+use Rattle.esc_filter.specs.Openings.{resumed_closed, resumed_text}
+use Rattle.esc_filter.specs.Resumed.{WasFedResumed, policy_of_resuming}
+use Rattle.esc_filter.specs.declared.resuming.ResumingFilter.{ResumingFilter}
 use Rattle.esc_filter.specs.Passing.{closed_text_as, passed_text_as, passes}
 use Rattle.esc_filter.specs.Characters.{in_values}
 use Rattle.esc_filter.specs.declared.guard.Guard.{Guard}
@@ -50,6 +53,23 @@ begun_lines {P} {A} admits u limit policy f e h =
     × (closed_by_lines_as {A = A} u limit (admits policy)
     ≡ closed_by_lines_as {A = A} w l (admits q)))
     (sym e) (u, limit, h, refl, refl)
+
+pub begun_resuming : {P A : Type 0} (admits : P → Value A → Bool) (k : Bool) (u : Guard) (limit : ℕ)
+    (policy : P) (f : ResumingFilter P A) → policy_of_resuming f ≡ policy
+    → WasFedResumed k u limit (admits policy) [] f
+    → (b : Bool) × (w : Guard) × (l : ℕ)
+    × WasFedResumed b w l (admits (policy_of_resuming f)) [] f
+    × (resumed_text {A = A} k u limit (admits policy)
+    ≡ resumed_text {A = A} b w l (admits (policy_of_resuming f)))
+    × (resumed_closed {A = A} k u limit (admits policy)
+    ≡ resumed_closed {A = A} b w l (admits (policy_of_resuming f)))
+begun_resuming {P} {A} admits k u limit policy f e h =
+    subst (λ q. (b : Bool) × (w : Guard) × (l : ℕ) × WasFedResumed b w l (admits q) [] f
+    × (resumed_text {A = A} k u limit (admits policy)
+    ≡ resumed_text {A = A} b w l (admits q))
+    × (resumed_closed {A = A} k u limit (admits policy)
+    ≡ resumed_closed {A = A} b w l (admits q)))
+    (sym e) (k, u, limit, h, refl, refl)
 
 -- nothing has no text
 pub nothing : {A : Type 0} (u : Guard) (limit : ℕ) (admits : Value A → Bool)

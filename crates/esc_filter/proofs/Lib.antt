@@ -21,7 +21,9 @@ pub mod ByLines
 pub mod ShortRenditions
 pub mod WideBytes
 pub mod PlainBytes
+pub mod Openings
 pub mod PlainLines
+pub mod Resumes
 pub mod LineFeeds
 pub mod LineData
 pub mod Feedless

@@ -1,10 +1,10 @@
 -- Whether renditions are on after a control sequence, and a link is left after a command.
-use Rattle.std.proofs.Common.{◌≡◌, ◌≢◌, true≢false, ℕ, ℤ, pos, ◌<◌, ◌+◌, ◌-◌, suc, get_or, ◌*◌, ◌%◌, length, ◌==◌, Bool, true, false, not, if◌then◌else◌, List, [], ◌∷◌, ◌++◌, codes, Option, Some, None, refl, sym, ap, ◌∙◌, subst, drop, arith}
+use Rattle.std.proofs.Common.{◌≡◌, ◌≢◌, true≢false, ℕ, ℤ, pos, negsuc, ◌<◌, ◌+◌, ◌-◌, suc, get_or, ◌*◌, ◌%◌, length, ◌==◌, Bool, true, false, not, if◌then◌else◌, List, [], ◌∷◌, ◌++◌, codes, Option, Some, None, refl, sym, ap, ◌∙◌, subst, drop, arith}
 use Rattle.std.specs.Prelude.{unwrap_or}
 use Rattle.std.specs.List.{list_all, onto_first, slice_split}
 use Rattle.std.proofs.lemmas.List.{append_cancel_right}
 use Rattle.std.proofs.lemmas.List.Splits.{slice_split-cons_no}
-use Rattle.std.proofs.lemmas.Bool.{ne_eqb}
+use Rattle.std.proofs.lemmas.Bool.{eqb-true, ne_eqb}
 use Rattle.std.proofs.lemmas.Bool.Decides.{nat_tests}
 use Rattle.esc_values.specs.Clear.{framed, parts_of}
 use Rattle.esc_values.specs.declared.csi_param.CsiParam.{CsiParam}
@@ -29,8 +29,11 @@ use Rattle.esc_functions.specs.Rows.{packed}
 use Rattle.esc_functions.specs.declared.control_function.ControlFunction.{ControlFunction}
 use Rattle.esc_functions.specs.declared.control_function.ControlFunction.TheVariants as function
 use Rattle.esc_functions.proofs.Functions.{has_its_key}
-use Rattle.esc_filter.specs.Closing.{IsAfter, BeginsWith, Turns, after_body, after_command, ends_in_semicolon, is_reset, lights, opens as opened, turned}
-use Rattle.esc_filter.specs.Terminal.{after_function, after_named, lit}
+use Rattle.esc_filter.specs.Closing.{IsAfter, BeginsWith, Turns, after_body, after_command, ends_in_semicolon, is_reset, lights, opens as opened, rendition_of}
+use Rattle.esc_filter.specs.Terminal.{after_function, after_named, turned}
+use Rattle.esc_pen.specs.Pens.{pen_by, pen_by_all}
+use Rattle.esc_pen.specs.declared.pen.Pen.{Pen}
+use Rattle.esc_typed.specs.Selections.{selections}
 use Rattle.esc_filter.specs.declared.terminal.Terminal.{Terminal}
 use Rattle.esc_filter.proofs.Screens.{no_marks}
 use Rattle.esc_filter.specs.Rules.{BeginsOther, is_link, is_plain_param}
@@ -67,15 +70,38 @@ named_resets n h =
 
 -- a sequence of plain parameters alone is a rendition
 lit_at : (es : List CsiParam) (t : Terminal)
-    → after_named (function_of (key_with 1 (length es) 0x6d)) es t ≡ lit t
+    → after_named (function_of (key_with 1 (length es) 0x6d)) es t ≡ turned true es t
 unfolding function_of rows_of after_function
 lit_at es t = refl
 
 pub plain_lit : (es : List CsiParam) → list_all is_plain_param es ≡ true → (t : Terminal)
-    → after_body es 0x6d t ≡ turned true t
+    → after_body es 0x6d t ≡ turned true es t
 plain_lit es h t =
     ap (λ ms. after_named (function_of (key_with (packed 1 ms) (length es) 0x6d)) es t)
     (no_marks es h) ∙ lit_at es t
+
+-- a rendition that has a name makes the same pen by its number
+abbrev Same : ℕ → Sgr → Type 0
+Same n s = (p : Pen) → pen_by p (rendition_of s) ≡ pen_by_all p (selections (Integer (pos n) ∷ []))
+
+pen_step : (k n : ℕ) (b : Bool) → (n == k) ≡ b → (x s : Sgr) (y : Option Sgr)
+    → (if b then Some x else y) ≡ Some s → Same k x → (y ≡ Some s → Same n s) → Same n s
+pen_step k n true g x s y e here others =
+    let same : x ≡ s = cc in
+    subst (Same n) same (subst (λ m. Same m x) (sym (eqb-true n k g)) here)
+pen_step k n false g x s y e here others = others e
+
+named_pen : (n : ℕ) (s : Sgr) → named n ≡ Some s → Same n s
+named_pen n s e =
+    pen_step 0 n (n == 0) refl _ s _ e (λ p. refl) (λ e.
+    pen_step 1 n (n == 1) refl _ s _ e (λ p. refl) (λ e.
+    pen_step 2 n (n == 2) refl _ s _ e (λ p. refl) (λ e.
+    pen_step 22 n (n == 22) refl _ s _ e (λ p. refl) (λ e.
+    pen_step 3 n (n == 3) refl _ s _ e (λ p. refl) (λ e.
+    pen_step 23 n (n == 23) refl _ s _ e (λ p. refl) (λ e.
+    pen_step 4 n (n == 4) refl _ s _ e (λ p. refl) (λ e.
+    pen_step 21 n (n == 21) refl _ s _ e (λ p. refl) (λ e.
+    pen_step 24 n (n == 24) refl _ s _ e (λ p. refl) (λ e. absurd cc)))))))))
 
 by_name : (n : ℤ) (o : Option Sgr) → numbered n ≡ o → resets o ≡ false
     → Turns (Integer n ∷ []) true
@@ -84,11 +110,14 @@ by_name n None e h = (
   ap (λ x. unwrap_or (put_first x (Some [])) (unspecified (Integer n ∷ []) false 0x6d ∷ [])) e,
   plain_lit (Integer n ∷ []) refl,
 )
-by_name n (Some s) e h = (
+by_name (pos n) (Some s) e h = (
   sgr s,
-  ap (λ x. unwrap_or (put_first x (Some [])) (unspecified (Integer n ∷ []) false 0x6d ∷ [])) e,
-  λ t. ap (λ b. turned (not b) t) h,
+  ap (λ x. unwrap_or (put_first x (Some [])) (unspecified (Integer (pos n) ∷ []) false 0x6d ∷ []))
+      e,
+  λ t. ap (λ b. record t { rendition = not b; pen = pen_by t.pen (rendition_of s) }) h
+      ∙ ap (λ p. record t { rendition = true; pen = p }) (named_pen n s e t.pen),
 )
+by_name (negsuc n) (Some s) e h = absurd cc
 
 -- a number that is 0, or another
 lone_by : (n : ℕ) (b : Bool) → (n == 0) ≡ b → Turns (Integer (pos n) ∷ []) (not b)
@@ -223,7 +252,7 @@ short_turns (short.Palette i) es h =
     first_turns es i.first (_, h.1) (omega (arith, i.fits.0)) (plain_sgr (short.Palette i) es h)
 
 pub short_renditions : (s : ShortNumbers) (es : List CsiParam) (f : ℕ) (t : Terminal) → f ≡ 0x6d
-    → AreParams s es f → IsAfter es f t (turned (lights s) t)
+    → AreParams s es f → IsAfter es f t (turned (lights s) es t)
 short_renditions s es f t is h =
     let (v, one, after) = short_turns s es (subst (λ g. AreParams s es g) is h) in
     (v, ap (csi_of es false) is ∙ one, sym (after t))

@@ -1,5 +1,5 @@
 -- Lines that are written as they are.
-use Rattle.std.proofs.Common.{ℕ, suc, not, ◌≡◌, ◌<◌, ◌+◌, ◌-◌, length, take, drop, get_or, Bool, true, false, ◌||◌, List, [], ◌∷◌, ◌++◌, map, Option, None, Some, arith, refl, ap, sym, ◌∙◌, subst, append-nil, append_assoc}
+use Rattle.std.proofs.Common.{ℕ, suc, not, ◌≡◌, ◌<◌, ◌+◌, ◌-◌, length, take, drop, get_or, Bool, true, false, ◌||◌, if◌then◌else◌, List, [], ◌∷◌, ◌++◌, map, Option, None, Some, arith, refl, ap, sym, ◌∙◌, subst, append-nil, append_assoc}
 use Rattle.std.specs.Prelude.{IsTrue}
 use Rattle.std.specs.List.{filter, list_all, prefix_len}
 use Rattle.std.specs.Char.{encode_utf8}
@@ -32,18 +32,23 @@ use Rattle.esc_normal.specs.Texts.{ends_in_string}
 use Rattle.esc_values.specs.declared.csi_param.CsiParam.{CsiParam}
 use Rattle.esc_sequences.specs.Csis.{CsiValue, csi_of, sgr, unspecified}
 use Rattle.esc_filter.specs.Characters.{character_of, in_guard, in_values, in_values_after, last_after}
-use Rattle.esc_filter.specs.Closing.{after_values, closing, given_back, keeps_cursor, turned}
+use Rattle.esc_filter.specs.Closing.{after_values, closing, given_back, keeps_cursor}
 use Rattle.esc_filter.specs.Terminal.{unchanged}
+use Rattle.esc_pen.specs.Pens.{pen_by_all, plain_pen}
+use Rattle.esc_pen.specs.declared.pen.Pen.{Pen}
+use Rattle.esc_typed.specs.Selections.{selections}
 use Rattle.esc_filter.specs.declared.terminal.Terminal.{Terminal}
 use Rattle.esc_filter.specs.Fed.{WasFedIn}
 use Rattle.esc_filter.specs.Known.{ArePassedRenditions, IsPassedText}
-use Rattle.esc_filter.specs.Lines.{ArePlainLines, AreWide, GrowsBy, IsShortRendition, WasFedLines, added_by, body, end_text, ends_line, ends_return, has_line_feed, held, is_line_feed, is_return, is_wide, passed_of_line, text_by_lines_as}
+use Rattle.esc_filter.specs.Openings.{ArePlainLines, IsQuiet, is_blank, opening, opening_after, opening_of}
+use Rattle.esc_filter.specs.Lines.{AreWide, GrowsBy, IsLine, IsShortRendition, WasFedLines, added_by, body, content, end_text, ends_line, ends_return, has_line_feed, held, is_line_feed, is_return, is_wide, passed_of_line, text_by_lines_as}
 use Rattle.esc_filter.specs.Passing.{in_lines, passes}
 use Rattle.esc_filter.specs.Rules.{is_rendition}
 use Rattle.esc_filter.specs.declared.line_filter.LineFilter.{LineFilter}
 use Rattle.esc_filter.specs.declared.guard.Guard.{Guard}
 use Rattle.esc_filter.proofs.ByLines.{by_append, closed_text}
-use Rattle.esc_filter.proofs.LineBytes.{ends_append, feeds_append, no_end}
+use Rattle.esc_filter.proofs.LineBytes.{content_is, ends_append, feeds_append, no_end}
+use Rattle.esc_filter.proofs.Openings.{joined_end, quiet_end}
 use Rattle.esc_filter.proofs.PlainBytes.{body_held_of, data_ascii, data_inner, data_move, data_shown, data_text, end_ends, end_utf8, held_feed, no_return, of_inner, with_held}
 use Rattle.esc_filter.proofs.WideBytes.{AreInner, all_utf8, has_return, wide_is}
 use Rattle.esc_filter.proofs.Characters.{in_both, in_more, in_none, plain_one, text_themselves}
@@ -53,6 +58,13 @@ use Rattle.esc_filter.proofs.ShortRenditions.{Shade, is_inner, shade_of}
 use Rattle.esc_filter.proofs.Texts.{after_more}
 
 -- ---- text that is written as it is
+
+-- renditions are on, or not, and nothing else is changed
+abbrev pub shaded : Bool → Pen → Terminal
+shaded on p = record unchanged { rendition = on; pen = p }
+
+abbrev pub IsShaded : Bool → Terminal → Type 0
+IsShaded on t = (p : Pen) × (t ≡ shaded on p)
 
 module _ (A : Type 0) (u : Guard) (limit : ℕ) (admits : Value A → Bool)
     (texts : IsPassedText admits) where
@@ -204,17 +216,16 @@ module _ (A : Type 0) (u : Guard) (limit : ℕ) (admits : Value A → Bool)
   -- ---- a line, after which renditions are on, or not
 
   abbrev pub Line : List ℕ → Bool → Type 0
-  Line x on = (vs : List (Value A)) × Passed x vs
-      × (after_values vs unchanged ≡ turned on unchanged)
+  Line x on = (vs : List (Value A)) × Passed x vs × IsShaded on (after_values vs unchanged)
 
   longer : {x y : List ℕ} {ws : List (Value A)} {on lit : Bool} → Line x on → Passed y ws
-      → after_values ws (turned on unchanged) ≡ turned lit unchanged
-      → Line (x ++ y) lit
-  longer {ws = ws} (vs, p, left) q leaves = (
-    vs ++ ws,
-    joined p q,
-    after_more vs ws unchanged ∙ ap (after_values ws) left ∙ leaves,
-  )
+      → ((p : Pen) → IsShaded lit (after_values ws (shaded on p))) → Line (x ++ y) lit
+  longer {ws = ws} (vs, p, (pen, left)) q leaves =
+      let (new, e) = leaves pen in (
+        vs ++ ws,
+        joined p q,
+        (new, after_more vs ws unchanged ∙ ap (after_values ws) left ∙ e),
+      )
 
   abbrev pub By : List ℕ → List ℕ
   By s = text_by_lines_as {A = A} u limit admits s
@@ -243,19 +254,24 @@ module _ (A : Type 0) (u : Guard) (limit : ℕ) (admits : Value A → Bool)
   end_same true = rw (texts (control CarriageReturn) refl) refl
   end_same false = refl
 
-  -- one that leaves none on is written as it is
-  one_line : (x : List ℕ) → Line x false → (r : Bool)
-      → By (x ++ (held r ++ 0x0a ∷ [])) ≡ x ++ (held r ++ 0x0a ∷ [])
-  one_line x (vs, p, left) r =
+  -- what passes of a line
+  line_passes : (x : List ℕ) (vs : List (Value A)) → Passed x vs
+      → passed_of_line {A = A} u limit admits (x ++ 0x0a ∷ []) ≡ vs
+  line_passes x vs p =
       let pass = passes (in_lines true admits) in
-      let m = x ++ 0x0a ∷ [] in
-      let y = x ++ held r in
-      let end = held r ++ 0x0a ∷ [] in
-      let here : passed_of_line {A = A} u limit admits m ≡ vs =
       ap (λ zs. in_values u (filter pass zs)) (feed_means x vs p)
       ∙ ap (in_values u)
       (filter-append pass vs (control LineFeed ∷ []) ∙ append-nil (filter pass vs) ∙ p.pass)
-      ∙ p.kept None in
+      ∙ p.kept None
+
+  -- one that leaves none on is written as it is
+  one_line : (x : List ℕ) → Line x false → (r : Bool)
+      → By (x ++ (held r ++ 0x0a ∷ [])) ≡ x ++ (held r ++ 0x0a ∷ [])
+  one_line x (vs, p, (pen, left)) r =
+      let m = x ++ 0x0a ∷ [] in
+      let y = x ++ held r in
+      let end = held r ++ 0x0a ∷ [] in
+      let here = line_passes x vs p in
       let same : list_text (closing admits vs) ≡ [] =
       ap (λ o. list_text {A = A} (given_back (keeps_cursor admits) o)) left in
       let none = no_return false x refl p.unreturned in
@@ -271,6 +287,35 @@ module _ (A : Type 0) (u : Guard) (limit : ℕ) (admits : Value A → Bool)
       ∙ ap (λ t. x ++ (t ++ end_text admits r)) same
       ∙ ap (λ t. x ++ t) (end_same r)
 
+  -- and leaves none on
+  quiet_line : (x : List ℕ) → Line x false → (r : Bool)
+      → opening_after {A = A} u limit admits [] ((x ++ (held r ++ 0x0a ∷ [])) ∷ []) ≡ []
+  quiet_line x (vs, p, (pen, left)) r =
+      let y = x ++ held r in
+      let l = x ++ (held r ++ 0x0a ∷ []) in
+      let leaves : opening_of {A = A} u limit admits (content l) ≡ [] =
+      ap (λ z. opening_of {A = A} u limit admits (content z))
+      (sym (append_assoc x (held r) (0x0a ∷ [])))
+      ∙ ap (opening_of {A = A} u limit admits)
+      (content_is y [] (feeds_append x (held r) p.one_line (held_feed r)))
+      ∙ ap (λ z. opening (after_values (passed_of_line {A = A} u limit admits (z ++ 0x0a ∷ []))
+      unchanged)) (body_held_of x r (no_return false x refl p.unreturned))
+      ∙ ap (λ zs. opening (after_values zs unchanged)) (line_passes x vs p)
+      ∙ ap opening left in
+      none (is_blank l) leaves
+    where
+      none : (b : Bool) {t : List ℕ} → t ≡ [] → (if b then [] else t) ≡ []
+      none true e = refl
+      none false e = e
+
+  is_one : (x : List ℕ) {on : Bool} → Line x on → (r : Bool)
+      → IsLine (x ++ (held r ++ 0x0a ∷ []))
+  is_one x (vs, p, left) r = (
+    x ++ held r,
+    feeds_append x (held r) p.one_line (held_feed r),
+    sym (append_assoc x (held r) (0x0a ∷ [])),
+  )
+
   -- ---- lines that have ended and are written as they are, and the beginning of one
 
   pub record Begun (on : Bool) (s : List ℕ) : Type 0 where
@@ -279,6 +324,7 @@ module _ (A : Type 0) (u : Guard) (limit : ℕ) (admits : Value A → Bool)
     pub whole : s ≡ ended ++ last
     pub ends : ends_line true ended ≡ true
     pub same : By ended ≡ ended
+    pub quiet : IsQuiet u limit admits ended
     pub line : Line last on
 
   none_begun : Begun false []
@@ -288,18 +334,19 @@ module _ (A : Type 0) (u : Guard) (limit : ℕ) (admits : Value A → Bool)
     whole = refl;
     ends = refl;
     same = refl;
-    line = ([], nothing, refl);
+    quiet = ([], refl, tt);
+    line = ([], nothing, (plain_pen, refl));
   }
 
   begun_more : {on lit : Bool} (s y : List ℕ) {ws : List (Value A)} → Begun on s → Passed y ws
-      → after_values ws (turned on unchanged) ≡ turned lit unchanged
-      → Begun lit (s ++ y)
+      → ((p : Pen) → IsShaded lit (after_values ws (shaded on p))) → Begun lit (s ++ y)
   begun_more s y b q leaves = record {
     ended = b.ended;
     last = b.last ++ y;
     whole = ap (λ z. z ++ y) b.whole ∙ append_assoc b.ended b.last y;
     ends = b.ends;
     same = b.same;
+    quiet = b.quiet;
     line = longer b.line q leaves;
   }
 
@@ -315,6 +362,16 @@ module _ (A : Type 0) (u : Guard) (limit : ℕ) (admits : Value A → Bool)
       ∙ ap (λ z. z ++ By (b.last ++ end_of r)) b.same
       ∙ ap (λ z. b.ended ++ z) (one_line b.last b.line r) ∙ sym both
 
+  quiet_ended : (s : List ℕ) → Begun false s → (r : Bool) → IsQuiet u limit admits (s ++ end_of r)
+  quiet_ended s b r =
+      let (ls, e, quiet) = b.quiet in
+      let l = b.last ++ end_of r in (
+        ls ++ l ∷ [],
+        ap (λ z. z ++ end_of r) b.whole ∙ append_assoc b.ended b.last (end_of r)
+            ∙ ap (λ z. z ++ l) e ∙ joined_end ls l,
+        quiet_end u limit admits ls l quiet (is_one b.last b.line r) (quiet_line b.last b.line r),
+      )
+
   begun_feed : (s : List ℕ) → Begun false s → (r : Bool) → Begun false (s ++ end_of r)
   begun_feed s b r = record {
     ended = s ++ end_of r;
@@ -322,7 +379,8 @@ module _ (A : Type 0) (u : Guard) (limit : ℕ) (admits : Value A → Bool)
     whole = sym (append-nil (s ++ end_of r));
     ends = end_ends s r;
     same = feed_ended s b r;
-    line = ([], nothing, refl);
+    quiet = quiet_ended s b r;
+    line = ([], nothing, (plain_pen, refl));
   }
 
 -- ---- as they are read
@@ -349,7 +407,7 @@ module _ (A : Type 0) (r : Bool) where
         λ u limit admits texts all.
             begun_more A u limit admits texts (take i s) y (begun u limit admits texts all)
             (run A u limit admits texts y bytes)
-            (run_leaves A u limit admits texts y (turned on unchanged)),
+            (λ p. (p, run_leaves A u limit admits texts y (shaded on p))),
       )
 
   next : (s : List ℕ) (i b : ℕ) → i < length s → get_or s i 0 ≡ b
@@ -366,7 +424,7 @@ module _ (A : Type 0) (r : Bool) where
         IsUtf8-append (take i s) (0x09 ∷ []) utf8 (of_inner (0x09 ∷ []) refl).0,
         λ u limit admits texts all.
             begun_more A u limit admits texts (take i s) (0x09 ∷ [])
-            (begun u limit admits texts all) (tab A u limit admits texts) refl,
+            (begun u limit admits texts all) (tab A u limit admits texts) (λ p. (p, refl)),
       )
 
   -- the end of a line, where none is on
@@ -384,7 +442,10 @@ module _ (A : Type 0) (r : Bool) where
           bytes,
           end_ends x h,
           λ u limit admits texts all.
-              feed_ended A u limit admits texts x (begun u limit admits texts all) h,
+              let b = begun u limit admits texts all in (
+                feed_ended A u limit admits texts x b h,
+                quiet_ended A u limit admits texts x b h,
+              ),
         ),
       )
 
@@ -417,7 +478,7 @@ module _ (A : Type 0) (r : Bool) where
       begun_more A u limit admits texts x y begun
       (subst (λ z. Passed A u limit admits texts z (map print cs)) is
       (wides A u limit admits texts cs wide))
-      (run_leaves A u limit admits texts cs (turned on unchanged))
+      (λ p. (p, run_leaves A u limit admits texts cs (shaded on p)))
 
   wide_utf8 : (y cs : List ℕ) → list_all is_wide cs ≡ true → encode_utf8_all cs ≡ y → IsUtf8 y
   wide_utf8 y cs wide is = subst IsUtf8 is (all_utf8 cs wide)
@@ -446,7 +507,7 @@ module _ (A : Type 0) (r : Bool) where
         λ u limit admits texts all.
             begun_more A u limit admits texts (take i s) y (begun u limit admits texts all)
             (rendition A u limit admits texts (all known) shade)
-            (shade.turns (turned on unchanged)),
+            (λ p. (pen_by_all p (selections shade.params), shade.turns (shaded on p))),
       )
 
 -- ---- between lines they are appended
@@ -494,7 +555,7 @@ plain_grows {A = A} u limit admits r s y old new texts all w ends lines same hol
         },
         by_append u limit admits s y ends
             ∙ ap (λ z. text_by_lines_as {A = A} u limit admits s ++ z)
-            (lines.2 u limit admits texts all),
+            (lines.2 u limit admits texts all).0,
       ),
       added,
     )

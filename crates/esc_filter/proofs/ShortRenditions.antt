@@ -31,7 +31,8 @@ use Rattle.esc_frame.proofs.Streams.{after_append, events_append}
 use Rattle.esc_normal.proofs.LoneNumbers.{lone_number}
 use Rattle.esc_write.specs.Plain.{last_text}
 use Rattle.esc_write.proofs.ShortNumbers.{last_one, last_two, last_three}
-use Rattle.esc_filter.specs.Closing.{after_sequence, turned}
+use Rattle.esc_filter.specs.Closing.{after_sequence}
+use Rattle.esc_filter.specs.Terminal.{turned}
 use Rattle.esc_filter.specs.declared.terminal.Terminal.{Terminal}
 use Rattle.esc_filter.specs.Lines.{IsNumber, IsShortRendition, is_line_feed, is_return}
 use Rattle.esc_filter.specs.Rules.{is_plain_param, is_rendition}
@@ -91,7 +92,7 @@ pub record Shade (x : List ℕ) (b : Bool) : Type 0 where
   pub one : csi_of params false 0x6d ≡ value ∷ []
   pub text : csi_text value ≡ x
   pub rendition : is_rendition value ≡ true
-  pub turns : (t : Terminal) → after_sequence value t ≡ turned b t
+  pub turns : (t : Terminal) → after_sequence value t ≡ turned b params t
   pub inner : list_all is_inner x ≡ true
 
 -- one with the body y
@@ -138,7 +139,7 @@ module _ (y : List ℕ) (es : List CsiParam) (bytes : list_all is_csi_parameter 
 
   shade : (v : CsiValue) (b : Bool) → csi_of es false 0x6d ≡ v ∷ [] → csi_text v ≡ whole
       → list_all is_plain_param es ≡ true
-      → ((t : Terminal) → after_sequence v t ≡ turned b t) → Shade whole b
+      → ((t : Terminal) → after_sequence v t ≡ turned b es t) → Shade whole b
   shade v b one text plain turns =
       let pass : list_all is_rendition (v ∷ []) ≡ true =
       subst (λ vs. list_all is_rendition vs ≡ true) one (renditions_pass es 0x6d refl plain) in

@@ -9,6 +9,8 @@ pub mod Noted
 pub mod Fed
 pub mod Encoding
 pub mod Lines
+pub mod Openings
+pub mod Resumed
 pub mod Concealed
 pub mod Schemes
 pub mod Groups

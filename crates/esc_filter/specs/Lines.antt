@@ -1,8 +1,7 @@
 -- What is written of a stream whose lines are streams of their own, where u says what is written of
 -- what deceives.
-use Rattle.std.specs.Prelude.{ℕ, ◌≡◌, ◌<◌, ◌⊎◌, Bool, true, false, not, ◌==◌, ◌&&◌, nat_le, nat_lt, if◌then◌else◌, List, [], ◌∷◌, ◌++◌, Some, IsTrue, codes, string_bytes}
+use Rattle.std.specs.Prelude.{ℕ, ◌≡◌, ◌<◌, ◌⊎◌, Bool, true, false, not, ◌==◌, ◌&&◌, nat_le, nat_lt, if◌then◌else◌, List, [], ◌∷◌, ◌++◌, Some, codes, string_bytes}
 use Rattle.std.specs.List.{list_any, flat_map}
-use Rattle.std.specs.Str.{IsUtf8}
 use lib.Utf8.{scalar}
 use Rattle.esc_values.specs.Clear.{IsTextOf}
 use Rattle.esc_values.specs.Params.{is_from}
@@ -15,7 +14,6 @@ use Rattle.esc_frame.specs.Segments.{is_empty}
 use Rattle.esc_filter.specs.Characters.{kept}
 use Rattle.esc_filter.specs.Closing.{closed, closing}
 use Rattle.esc_filter.specs.Fed.{WasFedIn, policy_of}
-use Rattle.esc_filter.specs.Known.{ArePassedRenditions, IsPassedText}
 use Rattle.esc_filter.specs.Passing.{in_lines, passed_as}
 use Rattle.esc_write.specs.Plain.{last_text}
 use Rattle.esc_filter.specs.declared.admit.Admit.{Ghosts as Admitter}
@@ -116,13 +114,6 @@ line_text u limit admits l =
 -- the text of a stream: that of its lines, one after another
 abbrev pub text_by_lines_as : {A : Type 0} → Guard → ℕ → (Value A → Bool) → List ℕ → List ℕ
 text_by_lines_as {A} u limit admits s = flat_map (line_text {A = A} u limit admits) (lines s)
-
--- Lines that have ended, in UTF-8, which are written as they are wherever all text passes, and
--- where r also all renditions
-abbrev pub ArePlainLines : Type 0 → Bool → List ℕ → Type 0
-ArePlainLines A r s = IsUtf8 s × (ends_line true s ≡ true)
-    × ((u : Guard) (limit : ℕ) (admits : Value A → Bool) → IsPassedText admits
-    → (IsTrue r → ArePassedRenditions admits) → text_by_lines_as u limit admits s ≡ s)
 
 -- a character from U+00A0 on that does not deceive
 abbrev pub is_wide : ℕ → Bool

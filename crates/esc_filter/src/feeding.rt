@@ -1,13 +1,16 @@
 //! Filters, as what takes a stream in pieces.
-ghost use Rattle.std.specs.Prelude.{◌≡◌, ℕ, Some, false};
+ghost use Rattle.std.specs.Prelude.{◌≡◌, ℕ, Bool, Some, false};
 ghost use Rattle.esc_filter.specs.Fed.{WasFedIn, added_by, policy_of};
 ghost use Rattle.esc_filter.specs.Lines.{WasFedLines, added_by as added_by_lines, closed_by_lines_as, policy_of_lines, text_by_lines_as};
+ghost use Rattle.esc_filter.specs.Openings.{resumed_closed, resumed_text};
+ghost use Rattle.esc_filter.specs.Resumed.{WasFedResumed, added_by as added_by_resuming, policy_of_resuming};
 ghost use Rattle.esc_filter.specs.Passing.{closed_text_as, passed_text_as};
 ghost use Rattle.esc_filter.specs.declared.guard.Guard.{Guard};
 
 use crate::admit::Admit;
 use crate::filter::Filter;
 use crate::line_filter::LineFilter;
+use crate::resuming::ResumingFilter;
 use esc_normal::Feeding;
 use std::alloc::{AllocError, Allocator};
 
@@ -44,6 +47,35 @@ impl<P: Admit<A>, A: Allocator + Copy> Feeding<A> for LineFilter<P, A> {
         × (c ≡ closed_by_lines_as {A = A} u limit (P.admits (policy_of_lines f))) };
 
     ghost added = { λ f. added_by_lines f };
+
+    ghost has_ended = { λ _ _ _. Unit {0} };
+
+    fn feed_piece(&mut self, bytes: &[u8]) -> Result<(), AllocError> {
+        match self.feed(bytes) {
+            Ok(()) => Ok(()),
+            Err(_) => Err(AllocError),
+        }
+    }
+
+    fn finish_all(&mut self) -> Result<(), AllocError> {
+        match self.finish() {
+            Ok(()) => Ok(()),
+            Err(_) => Err(AllocError),
+        }
+    }
+
+    fn added_text(&self) -> &str {
+        self.text()
+    }
+}
+
+impl<P: Admit<A>, A: Allocator + Copy> Feeding<A> for ResumingFilter<P, A> {
+    ghost gives = { λ f m c s. (k : Bool) × (u : Guard) × (limit : ℕ)
+        × WasFedResumed k u limit (P.admits (policy_of_resuming f)) s f
+        × (m ≡ resumed_text {A = A} k u limit (P.admits (policy_of_resuming f)))
+        × (c ≡ resumed_closed {A = A} k u limit (P.admits (policy_of_resuming f))) };
+
+    ghost added = { λ f. added_by_resuming f };
 
     ghost has_ended = { λ _ _ _. Unit {0} };
 

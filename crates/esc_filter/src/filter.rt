@@ -1,5 +1,5 @@
 //! A filter that is fed a stream piece by piece.
-ghost use Rattle.std.specs.Prelude.{◌≡◌, ◌≤◌, ◌+◌, Bool, List, [], IfErr, IsTrue, OnErr, OnOk, Some, false, min};
+ghost use Rattle.std.specs.Prelude.{◌≡◌, ◌≤◌, ◌+◌, ◌++◌, Bool, List, [], IfErr, IsTrue, OnErr, OnOk, Some, false, min, string_bytes};
 ghost use Rattle.esc_actions.specs.Limited.{data_kept};
 ghost use Rattle.esc_actions.specs.Values.{control};
 ghost use Rattle.esc_actions.specs.declared.control_code.ControlCode.TheVariants.{CarriageReturn};
@@ -7,6 +7,7 @@ ghost use Rattle.esc_frame.specs.Counts.{kept_of_cut};
 ghost use Rattle.esc_frame.specs.Limits.{most};
 ghost use Rattle.esc_frame.specs.Segments.{IsCut, Segment};
 ghost use Rattle.esc_filter.specs.Characters.{of_unicode};
+ghost use Rattle.esc_filter.specs.Openings.{opening};
 ghost use Rattle.esc_filter.specs.Known.{ArePassedRenditions, IsPassedText};
 ghost use Rattle.memory.specs.Refusals.{Refused};
 
@@ -169,6 +170,19 @@ impl<P: Admit<A>, A: Allocator + Copy> Filter<P, A> {
         ensures { result ≡ false → IsUnchanged self.now }
     {
         self.written.left.is_changed()
+    }
+
+    /// Appends the renditions that are left on.
+    pub(crate) fn push_opening(&self, text: &mut String<A>) -> Result<(), AllocError>
+        ensures ok { OnOk result (string_bytes text.new
+            ≡ string_bytes text.old ++ opening self.now.written.left) }
+        ensures refused { OnErr result (Refused A) }
+    {
+        if self.written.left.rendition {
+            self.written.left.pen.push_text(text)
+        } else {
+            Ok(())
+        }
     }
 
     /// Whether all text passes.

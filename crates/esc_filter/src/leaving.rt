@@ -1,12 +1,12 @@
 //! What the actions that pass leave changed at a terminal.
 ghost use Rattle.std.specs.Prelude.{List, ◌≡◌, ◌≢◌, ◌∷◌, codes, [], false, pos, IfSome, IsTrue};
 ghost use Rattle.esc_values.specs.Clear.{parts_of};
-ghost use Rattle.esc_sequences.specs.Csis.{CsiValue, csi_of, csi_value};
+ghost use Rattle.esc_sequences.specs.Csis.{CsiValue, csi_of, csi_value, sgr as sgr_value};
 ghost use Rattle.esc_values.specs.declared.csi_param.CsiParam.{CsiParam};
 ghost use Rattle.esc_values.specs.declared.csi_param.CsiParam.TheVariants.{Integer};
 ghost use Rattle.esc_actions.specs.Values.{value_of};
 ghost use Rattle.esc_osc.specs.Reading.{meaning as command_meant};
-ghost use Rattle.esc_filter.specs.Closing.{BeginsWith, IsAfter, Turns, after_body, after_command, after_control, after_escape, after_sequence, after_value, ends_in_semicolon, is_reset, lights, noted, opens, turned};
+ghost use Rattle.esc_filter.specs.Closing.{BeginsWith, IsAfter, Turns, after_body, after_command, after_control, after_escape, after_sequence, after_value, ends_in_semicolon, is_reset, lights, noted, opens, rendition_of};
 ghost use Rattle.esc_filter.specs.Terminal.{after_escape_function, after_named_escape};
 ghost use Rattle.esc_filter.specs.declared.terminal.Terminal.{Terminal};
 ghost use Rattle.esc_write.specs.Plain.{AreParams, IsPlainLink};
@@ -19,6 +19,7 @@ use esc_links::Hyperlink;
 use esc_osc::{OperatingSystemCommand, laws};
 use esc_sequences::csi::is_unspecified;
 use esc_sequences::{CSI, Esc, Sgr};
+use esc_typed::Rendition;
 use esc_values::CsiParam;
 use esc_write::short_numbers::ShortNumbers;
 use std::alloc::Allocator;
@@ -96,12 +97,20 @@ impl Terminal {
         ensures { self.new ≡ after_sequence (csi_value csi.now) self.old }
     {
         match csi {
-            CSI::Sgr(sgr) => self.rendition = !is_reset(*sgr),
+            CSI::Sgr(sgr) => self.note_sgr(*sgr),
             CSI::Unspecified(sequence) => {
                 let sequence = sequence.as_ref();
                 self.note_body(sequence.params.as_slice(), sequence.control);
             }
         }
+    }
+
+    // Notes a rendition.
+    fn note_sgr(&mut self, sgr: Sgr)
+        ensures { self.new ≡ after_sequence (sgr_value sgr) self.old }
+    {
+        self.rendition = !is_reset(sgr);
+        self.pen.select(rendition_of(sgr));
     }
 
     fn note_command<A: Allocator>(&mut self, command: &OperatingSystemCommand<A>)
@@ -130,7 +139,7 @@ impl Terminal {
         ensures { IsAfter params.now control self.old self.new }
     {
         if control == b'm' {
-            self.rendition = lights(numbers);
+            self.turn(lights(numbers), params);
             return;
         }
         if may_change(control) {
@@ -144,7 +153,7 @@ impl Terminal {
         ensures { self.new ≡ noted is_on params.now control self.old }
     {
         if let Some(is_on) = is_on {
-            self.rendition = is_on;
+            self.turn(is_on, params);
             return;
         }
         if may_change(control) {
@@ -214,6 +223,18 @@ fn lights(numbers: ShortNumbers) -> bool
     match numbers {
         ShortNumbers::Lone(number) => number != 0,
         ShortNumbers::Nothing | ShortNumbers::Pair(_, _) | ShortNumbers::Palette(_) => true,
+    }
+}
+
+// The rendition that it is.
+fn rendition_of(sgr: Sgr) -> Rendition
+    ensures { result ≡ rendition_of sgr }
+{
+    match sgr {
+        Sgr::Reset => Rendition::Reset,
+        Sgr::Intensity(intensity) => Rendition::Intensity(intensity),
+        Sgr::Italic(is_on) => Rendition::Italic(is_on),
+        Sgr::Underline(underline) => Rendition::Underline(underline),
     }
 }
 

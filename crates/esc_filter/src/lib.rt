@@ -34,6 +34,7 @@ mod line_filter;
 mod passing;
 mod plain_lines;
 mod policy;
+mod resuming;
 mod returns;
 mod saved;
 mod schemes;
@@ -61,6 +62,7 @@ pub use laws::{
 };
 pub use line_filter::{LineFilter, line_length};
 pub use policy::Policy;
+pub use resuming::ResumingFilter;
 pub use returns::Returns;
 pub use schemes::is_scheme;
 pub use unicode::Unicode;

@@ -1,6 +1,7 @@
 //! A filter to which each line is a stream of its own.
 ghost use Rattle.std.specs.Prelude.{◌≡◌, ◌++◌, ◌∷◌, ◌+◌, ◌≤◌, ◌<◌, [], Err, IfErr, IfOk, MatchOption, OnErr, OnOk, length, take, true, false};
 ghost use Rattle.esc_filter.specs.Characters.{of_unicode};
+ghost use Rattle.esc_filter.specs.Openings.{LeavesNone};
 ghost use Rattle.esc_filter.specs.Lines.{content, end_text, ends_line, ends_return, has_line_feed, held, IsLine, body};
 ghost use Rattle.memory.specs.Refusals.{Refused};
 
@@ -30,12 +31,12 @@ const SHORT: usize = 256;
 /// It keeps what a [`Filter`] keeps of the last line, and the text of the piece before.
 #[derive(Drop)]
 pub struct LineFilter<P, A: Allocator = Global> {
-    filter: Filter<P, A>,
+    pub(crate) filter: Filter<P, A>,
     // what the bytes fed last added
-    text: String<A>,
+    pub(crate) text: String<A>,
     // whether a carriage return came last, which may be a part of the end of its line
     holds: bool,
-    has_failed: bool,
+    pub(crate) has_failed: bool,
 }
 
 impl<P: Admit<A>, A: Allocator + Copy> LineFilter<P, A> {
@@ -167,10 +168,11 @@ impl<P: Admit<A>, A: Allocator + Copy> LineFilter<P, A> {
 
     // Between lines, appends as they are the lines that come first and are written so, where all
     // text passes. It returns how long they are.
-    fn pass_plain(&mut self, bytes: &[u8]) -> Result<usize, AllocError>
+    pub(crate) fn pass_plain(&mut self, bytes: &[u8]) -> Result<usize, AllocError>
         ensures given { AfterLines P.Admit self.old (λ u limit admits s. ends_line true s ≡ true
             → IfOk result (λ n. GrowsBy u admits limit s (take n bytes.now) self.old self.new)) }
-        ensures few { IfOk result (λ n. n ≤ length bytes.now) }
+        ensures few { IfOk result (λ n. (n ≤ length bytes.now)
+            × LeavesNone (P.admits (policy_of_lines self.old)) (take n bytes.now)) }
         ensures policy { policy_of_lines self.new ≡ policy_of_lines self.old }
         ensures refused { OnErr result (Refused A) }
     {
@@ -186,7 +188,7 @@ impl<P: Admit<A>, A: Allocator + Copy> LineFilter<P, A> {
     }
 
     // Takes what ends the last line.
-    fn feed_line(&mut self, bytes: &[u8]) -> Result<(), AllocError>
+    pub(crate) fn feed_line(&mut self, bytes: &[u8]) -> Result<(), AllocError>
         requires { IsLine bytes.now }
         ensures given { AfterLines P.Admit self.old (λ u limit admits s.
             OnOk result (GrowsBy u admits limit s bytes.now self.old self.new)) }
@@ -202,7 +204,7 @@ impl<P: Admit<A>, A: Allocator + Copy> LineFilter<P, A> {
 
     // Feeds the filter of the last line what ends that, without a carriage return that is a part of
     // its end.
-    fn fill_line(&mut self, bytes: &[u8]) -> Result<(), AllocError>
+    pub(crate) fn fill_line(&mut self, bytes: &[u8]) -> Result<(), AllocError>
         requires { IsLine bytes.now }
         ensures given { OnRest P.Admit self.old (λ u limit admits r.
             OnOk result (FillsLine u admits limit r (content bytes.now) self.old self.new)) }
@@ -256,7 +258,7 @@ impl<P: Admit<A>, A: Allocator + Copy> LineFilter<P, A> {
     }
 
     // Takes bytes without a line feed.
-    fn feed_open(&mut self, bytes: &[u8]) -> Result<(), AllocError>
+    pub(crate) fn feed_open(&mut self, bytes: &[u8]) -> Result<(), AllocError>
         requires { has_line_feed bytes.now ≡ false }
         ensures given { AfterLines P.Admit self.old (λ u limit admits s.
             OnOk result (GrowsBy u admits limit s bytes.now self.old self.new)) }
@@ -268,7 +270,7 @@ impl<P: Admit<A>, A: Allocator + Copy> LineFilter<P, A> {
     }
 
     // Feeds the filter of the last line, but for a carriage return that comes last.
-    fn feed_rest(&mut self, bytes: &[u8]) -> Result<(), AllocError>
+    pub(crate) fn feed_rest(&mut self, bytes: &[u8]) -> Result<(), AllocError>
         ensures given { OnRest P.Admit self.old (λ u limit admits r.
             OnOk result (GrowsRest u admits limit r bytes.now self.old self.new)) }
         ensures kept { (policy_of_lines self.new ≡ policy_of_lines self.old)
@@ -336,7 +338,7 @@ impl<P: Admit<A>, A: Allocator + Copy> LineFilter<P, A> {
     }
 
     // Ends the last line, and its text. The next line is a stream of its own.
-    fn end_line(&mut self) -> Result<(), AllocError>
+    pub(crate) fn end_line(&mut self) -> Result<(), AllocError>
         ensures given { OnLine P.Admit self.old (λ u limit admits l. OnOk result
             (EndsLine u admits limit l self.old self.new)) }
         ensures kept { (policy_of_lines self.new ≡ policy_of_lines self.old)

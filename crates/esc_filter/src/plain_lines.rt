@@ -1,6 +1,7 @@
 //! Lines that are written as they are.
 ghost use Rattle.std.specs.Prelude.{◌≡◌, ◌≤◌, length, take, IfSome};
-ghost use Rattle.esc_filter.specs.Lines.{ArePlainLines, AreWide, IsNumber, IsShortRendition, is_plain_three, is_plain_two};
+ghost use Rattle.esc_filter.specs.Lines.{AreWide, IsNumber, IsShortRendition, is_plain_three, is_plain_two};
+ghost use Rattle.esc_filter.specs.Openings.{ArePlainLines};
 
 use esc_frame::runs::scans::data_run;
 use esc_frame::utf8::sequence::{ahead, lies_from};

@@ -1,5 +1,5 @@
 use Rattle.std.proofs.Common.{◌-◌, ◌≤◌, length, take}
-use Rattle.esc_filter.specs.Lines.{ArePlainLines}
+use Rattle.esc_filter.specs.Openings.{ArePlainLines}
 use Rattle.esc_filter.proofs.PlainLines.{HasRead}
 use Rattle.esc_filter.proofs.plain_lines.plain_length.Given as goal
 

@@ -1,0 +1,23 @@
+use Rattle.std.proofs.Common.{[], ◌∙◌, true, refl, subst, ap, OnOk, if◌then◌else◌}
+use Rattle.esc_filter.specs.Fed.{WasFedIn}
+use Rattle.esc_filter.specs.Lines.{EndsLine, policy_of_lines}
+use Rattle.esc_filter.specs.Openings.{opening}
+use Rattle.esc_parse.proofs.Lists.{on_ok_more}
+use Rattle.esc_filter.proofs.resuming.ResumingFilter.close_line.Goals as goal
+
+pub returns-in-Ok-clause-given : goal.returns-in-Ok-clause-given
+returns-in-Ok-clause-given g c = λ u limit l h.
+    let old = c.args.self.now in
+    let same = c.note_opening.ensures.kept.0 in
+    let new = c.end_line.new.self in
+    let kept = c.end_line.ensures.kept in
+    on_ok_more _ _ c.end_line.result (λ e. (
+      e,
+      kept.1 ∙ ap (λ z. z.has_failed) same,
+      kept.2,
+      refl,
+      c.in-Ok.ensures.noted ∙ ap (λ o. if old.resumes then opening o else []) h.1.1,
+    ))
+    (subst (λ z. WasFedIn u true limit (g.P.Admit.admits (policy_of_lines z)) l z.filter
+    → OnOk c.end_line.result (EndsLine u (g.P.Admit.admits (policy_of_lines z)) limit l z new)) same
+    (c.end_line.ensures.given u limit l) h)

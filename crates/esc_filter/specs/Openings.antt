@@ -1,0 +1,88 @@
+-- The renditions that go on over a line feed, and the stream in which they are written again.
+use Rattle.std.specs.Prelude.{ℕ, ◌≡◌, Bool, true, false, not, ◌&&◌, if◌then◌else◌, List, [], ◌∷◌, ◌++◌, IsTrue}
+use Rattle.std.specs.Str.{IsUtf8}
+use Rattle.esc_actions.specs.Values.{Value}
+use Rattle.esc_filter.specs.Closing.{after_values, joined}
+use Rattle.esc_filter.specs.Known.{ArePassedRenditions, IsPassedText}
+use Rattle.esc_filter.specs.Lines.{IsLine, closed_by_lines_as, content, ends_line, is_line_feed, lines, passed_of_content, text_by_lines_as}
+use Rattle.esc_filter.specs.Terminal.{unchanged}
+use Rattle.esc_filter.specs.declared.guard.Guard.{Guard}
+use Rattle.esc_filter.specs.declared.terminal.Terminal.{Terminal}
+use Rattle.esc_pen.specs.Texts.{pen_text}
+
+-- the control sequences that make the renditions which are on, where any may be
+abbrev pub opening : Terminal → List ℕ
+opening t = if t.rendition then pen_text t.pen else []
+
+-- those that a line with this content leaves on
+abbrev pub opening_of : {A : Type 0} → Guard → ℕ → (Value A → Bool) → List ℕ → List ℕ
+opening_of u limit admits x = opening (after_values (passed_of_content u limit admits x) unchanged)
+
+-- a line in which nothing comes before its line feed
+abbrev pub is_blank : List ℕ → Bool
+is_blank [] = false
+is_blank (b ∷ s) = is_line_feed b
+
+-- those that are on after lines, where these were before them: a blank line leaves them
+abbrev pub opening_after : {A : Type 0} → Guard → ℕ → (Value A → Bool) → List ℕ → List (List ℕ)
+    → List ℕ
+opening_after u limit admits o [] = o
+opening_after u limit admits o (l ∷ ls) =
+    opening_after u limit admits
+    (if is_blank l then o else opening_of u limit admits (content l)) ls
+
+-- those that are on after the lines of a stream, where they are written again
+abbrev pub opening_at : {A : Type 0} → Bool → Guard → ℕ → (Value A → Bool) → List ℕ → List ℕ
+opening_at true u limit admits d = opening_after u limit admits [] (lines d)
+opening_at false u limit admits d = []
+
+-- those that are written before the byte b, after the stream d: at the beginning of a line that is
+-- not blank
+abbrev pub opening_before : {A : Type 0} → Bool → Guard → ℕ → (Value A → Bool) → List ℕ → ℕ
+    → List ℕ
+opening_before k u limit admits d b =
+    if ends_line true d && not (is_line_feed b) then opening_at k u limit admits d else []
+
+-- The stream d, and then bytes, where each line but a blank one begins with the renditions that the
+-- lines before it, as they are written, leave on; or, where k is false, as they came
+abbrev pub resumed_from : {A : Type 0} → Bool → Guard → ℕ → (Value A → Bool) → List ℕ → List ℕ
+    → List ℕ
+resumed_from k u limit admits d [] = d
+resumed_from k u limit admits d (b ∷ s) =
+    resumed_from k u limit admits (d ++ (opening_before k u limit admits d b ++ b ∷ [])) s
+
+abbrev pub resumed : {A : Type 0} → Bool → Guard → ℕ → (Value A → Bool) → List ℕ → List ℕ
+resumed k u limit admits s = resumed_from k u limit admits [] s
+
+-- What is written of a stream whose lines are streams of their own, and begin with the renditions
+-- that go on; and of one that has ended.
+abbrev pub resumed_text : {A : Type 0} → Bool → Guard → ℕ → (Value A → Bool) → List ℕ → List ℕ
+resumed_text {A} k u limit admits s =
+    text_by_lines_as {A = A} u limit admits (resumed k u limit admits s)
+
+abbrev pub resumed_closed : {A : Type 0} → Bool → Guard → ℕ → (Value A → Bool) → List ℕ → List ℕ
+resumed_closed {A} k u limit admits s =
+    closed_by_lines_as {A = A} u limit admits (resumed k u limit admits s)
+
+-- lines that have ended, and of which none leaves renditions on, where none were on before them
+abbrev pub AreQuiet : {A : Type 0} → Guard → ℕ → (Value A → Bool) → List (List ℕ) → Type 0
+AreQuiet u limit admits [] = Unit {0}
+AreQuiet u limit admits (l ∷ ls) =
+    IsLine l × (opening_after u limit admits [] (l ∷ []) ≡ []) × AreQuiet u limit admits ls
+
+-- a stream of such lines
+abbrev pub IsQuiet : {A : Type 0} → Guard → ℕ → (Value A → Bool) → List ℕ → Type 0
+IsQuiet u limit admits s =
+    (ls : List (List ℕ)) × (s ≡ joined ls) × AreQuiet u limit admits ls
+
+-- whatever is written of what deceives, and whatever the limit is
+abbrev pub LeavesNone : {A : Type 0} → (Value A → Bool) → List ℕ → Type 0
+LeavesNone admits s = (u : Guard) (limit : ℕ) → IsQuiet u limit admits s
+
+-- Lines that have ended, in UTF-8, which are written as they are wherever all text passes, and
+-- where r also all renditions, and which leave none on
+abbrev pub ArePlainLines : Type 0 → Bool → List ℕ → Type 0
+ArePlainLines A r s = IsUtf8 s × (ends_line true s ≡ true)
+    × ((u : Guard) (limit : ℕ) (admits : Value A → Bool) → IsPassedText admits
+    → (IsTrue r → ArePassedRenditions admits)
+    → (text_by_lines_as u limit admits s ≡ s) × IsQuiet u limit admits s)

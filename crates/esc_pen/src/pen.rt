@@ -1,0 +1,103 @@
+//! How characters are written from here on.
+ghost use Rattle.std.specs.Prelude.{◌≡◌};
+ghost use Rattle.esc_pen.specs.Pens.{pen_by, pen_by_all, pen_by_optional, plain_pen};
+ghost use Rattle.esc_typed.specs.Selections.{left};
+
+use crate::ink::Ink;
+use esc_sequences::{Intensity, Underline};
+use esc_typed::{Blink, ColorSpec, Rendition, Renditions};
+
+/// How characters are written from here on: the renditions that hold for them (ECMA-48, 8.3.117,
+/// SGR; xterm's list, "Character Attributes (SGR)"). Fonts, frames, marks of ideograms, and how
+/// high and how wide characters are are no part of it.
+#[derive(Clone, Copy, Debug, PartialEq, Eq)]
+pub struct Pen {
+    /// How bright they are.
+    pub intensity: Intensity,
+    /// Whether they are slanted.
+    pub italic: bool,
+    /// How they are underlined.
+    pub underline: Underline,
+    /// How they blink.
+    pub blink: Blink,
+    /// Whether their colour and that of the background are exchanged.
+    pub inverse: bool,
+    /// Whether they are hidden.
+    pub concealed: bool,
+    /// Whether they are crossed out.
+    pub strikethrough: bool,
+    /// Whether they have a line above.
+    pub overline: bool,
+    /// Their colour.
+    pub foreground: Ink,
+    /// The colour of the background.
+    pub background: Ink,
+    /// The colour of their underline.
+    pub underline_color: ColorSpec,
+}
+
+impl Pen {
+    /// As at first: none of the renditions.
+    pub fn plain() -> Pen
+        ensures { result ≡ plain_pen }
+    {
+        Pen {
+            intensity: Intensity::Normal,
+            italic: false,
+            underline: Underline::None,
+            blink: Blink::None,
+            inverse: false,
+            concealed: false,
+            strikethrough: false,
+            overline: false,
+            foreground: Ink::Other(ColorSpec::Default),
+            background: Ink::Other(ColorSpec::Default),
+            underline_color: ColorSpec::Default,
+        }
+    }
+
+    /// Takes one rendition.
+    pub fn select(&mut self, rendition: Rendition)
+        ensures { self.new ≡ pen_by self.old rendition }
+    {
+        match rendition {
+            Rendition::Reset => *self = Pen::plain(),
+            Rendition::Intensity(intensity) => self.intensity = intensity,
+            Rendition::Italic(is_on) => self.italic = is_on,
+            Rendition::Underline(underline) => self.underline = underline,
+            Rendition::Blink(blink) => self.blink = blink,
+            Rendition::Inverse(is_on) => self.inverse = is_on,
+            Rendition::Invisible(is_on) => self.concealed = is_on,
+            Rendition::StrikeThrough(is_on) => self.strikethrough = is_on,
+            Rendition::Overline(is_on) => self.overline = is_on,
+            Rendition::AnsiForeground(color) => self.foreground = Ink::Named(color),
+            Rendition::AnsiBackground(color) => self.background = Ink::Named(color),
+            Rendition::Foreground(color) => self.foreground = Ink::Other(color),
+            Rendition::Background(color) => self.background = Ink::Other(color),
+            Rendition::UnderlineColor(color) => self.underline_color = color,
+            Rendition::Font(_)
+            | Rendition::Proportional(_)
+            | Rendition::Frame(_)
+            | Rendition::Ideogram(_)
+            | Rendition::VerticalAlign(_) => {}
+        }
+    }
+
+    /// Takes renditions, one after another. One that is not known leaves it.
+    pub fn select_all(&mut self, renditions: Renditions<'_>)
+        ensures { self.new ≡ pen_by_all self.old (left renditions.entry) }
+    {
+        for selection in renditions {
+            self.select_optional(selection.rendition);
+        }
+    }
+
+    // Takes one, where it is known.
+    fn select_optional(&mut self, rendition: Option<Rendition>)
+        ensures { self.new ≡ pen_by_optional self.old rendition }
+    {
+        if let Some(rendition) = rendition {
+            self.select(rendition);
+        }
+    }
+}

@@ -1,0 +1,104 @@
+-- What an auditor tells of a stream that has ended.
+use Rattle.std.proofs.Common.{ℕ, ◌≡◌, true, false, if◌then◌else◌, Option, None, Some, List, [], ◌∷◌, length, refl, sym, ap, ◌∙◌, subst}
+use Rattle.esc_account.specs.Accounts.{Rule, total}
+use Rattle.esc_account.specs.Judges.{GoesBy}
+use Rattle.esc_account.specs.Ledgers.{IsCounted}
+use Rattle.esc_account.specs.Passing.{AllPass, IsPassing, passed_as, says}
+use Rattle.esc_account.specs.Rules.{rule_of}
+use Rattle.esc_account.specs.Ways.{IsToldBy, Way, by_lines, silent, whole}
+use Rattle.esc_account.specs.declared.book.Book.{Ghosts as Writer}
+use Rattle.esc_account.specs.declared.policy_judge.PolicyJudge.{PolicyJudge}
+use Rattle.esc_decode.specs.Decodings.{decoded}
+use Rattle.esc_filter.specs.declared.admit.Admit.{Ghosts as Admitter}
+use Rattle.esc_frame.specs.Segments.{Segment as Shape, bytes_of}
+use Rattle.esc_reveal.specs.declared.marking.Marking.{Marking}
+use Rattle.esc_sanitize.specs.Audits.{HeardAll, IsAudited, Told, account_of, way_by, way_of}
+use Rattle.esc_sanitize.specs.Fates.{shown_as}
+use Rattle.esc_sanitize.specs.Judged.{judged, rule_by}
+use Rattle.esc_sanitize.specs.Written.{passed_of}
+use Rattle.esc_sanitize.specs.declared.auditor.Auditor.{Auditor}
+use Rattle.esc_sanitize.specs.declared.auditor.Auditor.TheVariants as auditors
+use Rattle.esc_sanitize.specs.declared.options.FilterOptions.{FilterOptions}
+
+pub told : {P B A : Type 0} (V : Admitter P A) (W : Writer B A) (a : Auditor P B A) (w : Way)
+    (s t : List ℕ) → HeardAll V W a s t → way_of V a ≡ w → IsCounted s
+    → Told w s t (account_of a)
+told V W auditors.Nobody w s t heard e few = sym e
+told V W (auditors.Lines k) w s t heard e few =
+    let h = heard few in
+    subst (λ v. (total k.account.sums ≡ length s) × IsToldBy v s t k.account) e
+    (h.0, (h.1.0, h.1.1))
+told V W (auditors.Whole k) w s t heard e few =
+    let h = heard few in
+    subst (λ v. (total k.account.sums ≡ length s) × IsToldBy v s t k.account) e
+    (h.0, (h.1.0, h.1.1, h.1.2))
+
+pub audited : {P B A : Type 0} (V : Admitter P A) (W : Writer B A) (o : FilterOptions P)
+    (a : Auditor P B A) (s : List ℕ) → HeardAll V W a (decoded o.encoding s) (passed_of V o s)
+    → way_of V a ≡ way_by V o → IsAudited V W o a s
+audited V W o a s heard way = record {
+  told = told V W a (way_by V o) (decoded o.encoding s) (passed_of V o s) heard way;
+  heard = heard;
+  way = way;
+}
+
+-- ---- what passes at once
+
+all_shown : (m : Option Marking) (r : Rule) (o n : Option ℕ) (gs : List Shape) → AllPass r o gs n
+    → AllPass (λ b g f. shown_as m (bytes_of g) (r b g f)) o gs n
+all_shown m r o n [] h = h
+all_shown m r o n (g ∷ gs) h = (
+  h.0,
+  ap (shown_as m (bytes_of g)) h.1 ∙ same m (bytes_of g) (says g),
+  all_shown m r (says g) n gs h.2,
+)
+  where
+    same : (m : Option Marking) (x : List ℕ) (o : Option ℕ)
+        → shown_as m x (passed_as o) ≡ passed_as o
+    same None x o = refl
+    same (Some k) x o = refl
+
+-- it passes also where what does not pass is shown
+pub shown_pass : (m : Option Marking) (r : Rule) (o n : Option ℕ) (x : List ℕ)
+    → IsPassing r o x n → IsPassing (λ b g f. shown_as m (bytes_of g) (r b g f)) o x n
+shown_pass m r o n x h = (h.0, h.1, all_shown m r o n h.0 h.2)
+
+-- ---- what the options say
+
+pub judged_is : {P A : Type 0} (V : Admitter P A) (p : PolicyJudge P A) (m : Option Marking)
+    (o : FilterOptions P) → GoesBy p o.by_lines o.guard o.limit o.policy → m ≡ o.show
+    → judged V (record { policy = p; show = m }) ≡ rule_by V o
+judged_is V p m o (l, u, n, q) e =
+    ap (λ k. judged V (record { policy = p; show = k })) e
+    ∙ ap (λ b. λ x g f. shown_as o.show (bytes_of g) (rule_of b p.guard p.limit
+    (V.admits p.policy) x g f)) l
+    ∙ ap (λ v. λ x g f. shown_as o.show (bytes_of g) (rule_of o.by_lines v p.limit
+    (V.admits p.policy) x g f)) u
+    ∙ ap (λ k. λ x g f. shown_as o.show (bytes_of g) (rule_of o.by_lines o.guard k
+    (V.admits p.policy) x g f)) n
+    ∙ ap (λ c. λ x g f. shown_as o.show (bytes_of g) (rule_of o.by_lines o.guard o.limit
+    (V.admits c) x g f)) q
+
+module _ {P A : Type 0} (V : Admitter P A) (o : FilterOptions P) where
+  pub way_none : o.audits ≡ false → silent ≡ way_by V o
+  way_none e =
+      ap (λ t. if t then (if o.by_lines then by_lines (rule_by V o) else whole (rule_by V o))
+      else silent) (sym e)
+
+  some_way : o.audits ≡ true
+      → (if o.by_lines then by_lines (rule_by V o) else whole (rule_by V o)) ≡ way_by V o
+  some_way e =
+      ap (λ t. if t then (if o.by_lines then by_lines (rule_by V o) else whole (rule_by V o))
+      else silent) (sym e)
+
+  pub way_lines : (r : Rule) → o.audits ≡ true → o.by_lines ≡ true → r ≡ rule_by V o
+      → by_lines r ≡ way_by V o
+  way_lines r e l same =
+      ap by_lines same
+      ∙ ap (λ t. if t then by_lines (rule_by V o) else whole (rule_by V o)) (sym l) ∙ some_way e
+
+  pub way_whole : (r : Rule) → o.audits ≡ true → o.by_lines ≡ false → r ≡ rule_by V o
+      → whole r ≡ way_by V o
+  way_whole r e l same =
+      ap whole same
+      ∙ ap (λ t. if t then by_lines (rule_by V o) else whole (rule_by V o)) (sym l) ∙ some_way e

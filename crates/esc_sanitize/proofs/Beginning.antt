@@ -1,0 +1,69 @@
+-- Filters at the beginning of a stream.
+use Rattle.std.proofs.Common.{ℕ, ◌≡◌, Bool, [], None, Some, ap, sym, ◌∙◌}
+use Rattle.esc_actions.specs.Values.{Value}
+use Rattle.esc_decode.specs.Decodings.{OnlyAdds}
+use Rattle.esc_filter.specs.declared.admit.Admit.{Ghosts as Admitter}
+use Rattle.esc_filter.specs.declared.guard.Guard.{Guard}
+use Rattle.esc_normal.specs.declared.feeding.Feeding.{Ghosts as Feeder}
+use Rattle.esc_reveal.proofs.Begins.{through_nothing}
+use Rattle.esc_reveal.specs.Through.{through, through_whole}
+use Rattle.esc_reveal.specs.declared.marking.Marking.{Marking}
+use Rattle.esc_reveal.specs.declared.reveal.Rule.{Rule}
+use Rattle.esc_sanitize.proofs.Texts.{going_shown, through_adds, whole_shown}
+use Rattle.esc_sanitize.specs.Chains.{Begins}
+use Rattle.esc_sanitize.specs.Written.{closed_by, closed_of, going_by, opened_of, revealed_by, revealed_whole_by}
+use Rattle.esc_sanitize.specs.declared.options.FilterOptions.{FilterOptions}
+
+-- a filter of lines, or of the whole
+pub begins_by : {F A : Type 0} (G : Feeder F A) (f : F) (u : Guard) (b l : Bool) (limit : ℕ)
+    (p : Value A → Bool) → b ≡ l → G.gives f (going_by u l limit p) (closed_by u l limit p) []
+    → OnlyAdds (going_by u l limit p) (closed_by u l limit p) → going_by u l limit p [] ≡ []
+    → Begins G f (going_by u b limit p) (closed_by u b limit p)
+begins_by G f u b l limit p is given adds empty = record {
+  going = going_by u l limit p;
+  closed = closed_by u l limit p;
+  given = given;
+  adds = adds;
+  empty = empty;
+  goes_on = λ s. ap (λ k. going_by u k limit p s) (sym is);
+  ends = λ s. ap (λ k. closed_by u k limit p s) (sym is);
+}
+
+module _ {F P A : Type 0} (G : Feeder F A) (V : Admitter P A) (f : F) (o : FilterOptions P)
+    (b : Begins G f (going_by o.guard o.by_lines o.limit (V.admits o.policy))
+    (closed_by o.guard o.by_lines o.limit (V.admits o.policy))) where
+  -- where nothing is shown
+  pub begins_alone : o.show ≡ None → Begins G f (opened_of V o) (closed_of V o)
+  begins_alone is = record {
+    going = b.going;
+    closed = b.closed;
+    given = b.given;
+    adds = b.adds;
+    empty = b.empty;
+    goes_on = λ s. b.goes_on s ∙ ap (λ w. going_by o.guard o.by_lines o.limit (V.admits o.policy)
+        (revealed_by V o w s)) (sym is);
+    ends = λ s. b.ends s ∙ ap (λ w. closed_by o.guard o.by_lines o.limit (V.admits o.policy)
+        (revealed_whole_by V o w s)) (sym is);
+  }
+
+  -- where what does not pass is shown, by this rule
+  pub begins_shown : {H : Type 0} (L : Feeder H A) (h : H) (rule : Rule P) (k : Marking)
+      → o.show ≡ Some k → rule.limit ≡ o.limit
+      → (rule.by_lines ≡ o.by_lines) × (rule.marking ≡ k) → rule.policy ≡ o.policy
+      → L.gives h (through V rule b.going) (through_whole V rule b.closed) []
+      → Begins L h (opened_of V o) (closed_of V o)
+  begins_shown L h rule k is limit lines policy given = record {
+    going = through V rule b.going;
+    closed = through_whole V rule b.closed;
+    given = given;
+    adds = through_adds V rule b.going b.closed b.adds;
+    empty = through_nothing V rule b.going b.closed b.empty;
+    goes_on = λ s. ap b.going (going_shown V rule o k limit lines policy s)
+        ∙ b.goes_on (revealed_by V o (Some k) s)
+        ∙ ap (λ w. going_by o.guard o.by_lines o.limit (V.admits o.policy) (revealed_by V o w s))
+        (sym is);
+    ends = λ s. ap b.closed (whole_shown V rule o k limit lines policy s)
+        ∙ b.ends (revealed_whole_by V o (Some k) s)
+        ∙ ap (λ w. closed_by o.guard o.by_lines o.limit (V.admits o.policy)
+        (revealed_whole_by V o w s)) (sym is);
+  }

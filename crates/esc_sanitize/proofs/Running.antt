@@ -1,0 +1,113 @@
+-- A filter with its auditor, and what is left of the lines of its text.
+use Rattle.std.proofs.Common.{ℕ, ◌≡◌, List, [], ◌++◌, sym, ap, ◌∙◌, subst}
+use Rattle.esc_account.specs.Ways.{Way}
+use Rattle.esc_account.specs.declared.book.Book.{Ghosts as Writer}
+use Rattle.esc_decode.specs.Decodings.{decoded}
+use Rattle.esc_decode.specs.declared.encoding.Encoding.{Encoding}
+use Rattle.esc_filter.specs.declared.admit.Admit.{Ghosts as Admitter}
+use Rattle.esc_normal.specs.declared.feeding.Feeding.{Ghosts as Feeder}
+use Rattle.esc_sanitize.proofs.Following.{passed_longer, passing_longer}
+use Rattle.esc_sanitize.proofs.Texts.{rows_end, rows_longer, rows_none}
+use Rattle.esc_sanitize.specs.Audits.{HeardAll, way_by}
+use Rattle.esc_sanitize.specs.Hearings.{Follows, HasHeard}
+use Rattle.esc_sanitize.specs.Rows.{HasLeft, left_added}
+use Rattle.esc_sanitize.specs.Stages.{HasListened, IsRun, Runs, auditor_of, options_of}
+use Rattle.esc_sanitize.specs.Written.{final_text, going_of, left_text, passed_of, passing_of, text_of}
+use Rattle.esc_sanitize.specs.declared.hearing.Hearing.{Hearing}
+use Rattle.esc_sanitize.specs.declared.left.Left.{Left}
+use Rattle.esc_sanitize.specs.declared.options.FilterOptions.{FilterOptions}
+use Rattle.esc_sanitize.specs.declared.staged.Staged.{Staged}
+
+-- ---- one call
+
+module _ {F P B A : Type 0} (G : Feeder F A) (V : Admitter P A) (W : Writer B A)
+    (o : FilterOptions P) (s : List ℕ) where
+  -- bytes more, of which t passed
+  pub runs_more : (k : Hearing F P B A) (n : Left A) (b t : List ℕ) → k.options ≡ o
+      → Follows G V W k (s ++ b) → passing_of V o (s ++ b) ≡ passing_of V o s ++ t
+      → HasLeft o.rows (passing_of V o s ++ t) n
+      → final_text A o.rows (passing_of V o s ++ t)
+      ≡ final_text A o.rows (passing_of V o s) ++ left_added n t
+      → Runs G V W (record { hearing = k; left = n }) (s ++ b)
+      × (going_of V o (s ++ b) ≡ going_of V o s ++ left_added n t)
+  runs_more k n b t same follows more held added = (
+    (
+      follows,
+      subst (λ q. HasLeft q.rows (passing_of V q (s ++ b)) n) (sym same)
+          (subst (λ u. HasLeft o.rows u n) (sym more) held),
+    ),
+    ap (final_text A o.rows) more ∙ added,
+  )
+
+  -- the end, of which t passed
+  pub runs_end : (n : Left A) (t : List ℕ) → passed_of V o s ≡ passing_of V o s ++ t
+      → left_text A o.rows (passing_of V o s ++ t)
+      ≡ final_text A o.rows (passing_of V o s) ++ left_added n t
+      → text_of V o s ≡ going_of V o s ++ left_added n t
+  runs_end n t more added = ap (left_text A o.rows) more ∙ added
+
+-- ---- as what takes a stream in pieces
+
+module _ {F P B A : Type 0} (G : Feeder F A) (V : Admitter P A) (W : Writer B A)
+    (e : Encoding) (w : Way) (text m c : List ℕ → List ℕ) (k : Staged F P B A) (s : List ℕ)
+    (h : IsRun G V W e w text k m c s) where
+  -- bytes more added t
+  pub run_more : (n : Staged F P B A) (b t : List ℕ) → options_of n ≡ options_of k
+      → Runs G V W n (s ++ b)
+      → going_of V (options_of k) (s ++ b) ≡ going_of V (options_of k) s ++ t
+      → IsRun G V W e w text n m c (s ++ b) × (m (s ++ b) ≡ m s ++ t)
+  run_more n b t same runs added = (
+    record {
+      runs = runs;
+      goes_on = λ x. h.goes_on x ∙ ap (λ o. going_of V o x) (sym same);
+      ends = λ x. h.ends x ∙ ap (λ o. text_of V o x) (sym same);
+      coding = ap (λ o. o.encoding) same ∙ h.coding;
+      way = ap (way_by V) same ∙ h.way;
+      passed = λ x. ap (λ o. passed_of V o x) same ∙ h.passed x;
+    },
+    h.goes_on (s ++ b) ∙ added ∙ ap (λ y. y ++ t) (sym (h.goes_on s)),
+  )
+
+  -- the end added t
+  pub run_end : (t : List ℕ) → text_of V (options_of k) s ≡ going_of V (options_of k) s ++ t
+      → c s ≡ m s ++ t
+  run_end t added = h.ends s ∙ added ∙ ap (λ y. y ++ t) (sym (h.goes_on s))
+
+  -- and the auditor heard all of it
+  pub run_heard : (n : Staged F P B A) → options_of n ≡ options_of k
+      → HasHeard V W n.hearing s → HasListened V W e w text (auditor_of n) s
+  run_heard n same heard = (
+    subst (λ j. HeardAll V W (auditor_of n) (decoded j s) (text s))
+        (ap (λ o. o.encoding) same ∙ h.coding)
+        (subst (HeardAll V W (auditor_of n) (decoded (options_of n).encoding s))
+        (ap (λ o. passed_of V o s) same ∙ h.passed s) heard.0),
+    heard.1 ∙ ap (way_by V) same ∙ h.way,
+  )
+
+  -- more of the stream only adds, and so does the end of any
+  pub run_longer : (b : List ℕ) → (t : List ℕ) × (m (s ++ b) ≡ m s ++ t)
+  run_longer b =
+      let j = k.hearing in
+      let o = options_of k in
+      let (x, f) = passing_longer G V W o j.decoding j.auditor s h.runs.0 b in
+      let (t, g) = rows_longer A o.rows (passing_of V o s) x in (
+        t,
+        h.goes_on (s ++ b) ∙ ap (final_text A o.rows) f ∙ g
+            ∙ ap (λ y. y ++ t) (sym (h.goes_on s)),
+      )
+
+  pub run_closed : (z : List ℕ) → (t : List ℕ) × (c z ≡ m z ++ t)
+  run_closed z =
+      let j = k.hearing in
+      let o = options_of k in
+      let (x, f) = passed_longer G V W o j.decoding j.auditor s h.runs.0 z in
+      let (t, g) = rows_end A o.rows (passing_of V o z) x in (
+        t,
+        h.ends z ∙ ap (left_text A o.rows) f ∙ g ∙ ap (λ y. y ++ t) (sym (h.goes_on z)),
+      )
+
+  -- nothing has no text
+  pub run_none : m [] ≡ []
+  run_none =
+      let o = options_of k in
+      h.goes_on [] ∙ ap (final_text A o.rows) h.runs.0.empty ∙ rows_none A o.rows

@@ -1,0 +1,126 @@
+-- The texts of filters by options.
+use Rattle.std.proofs.Common.{ℕ, ◌≡◌, Bool, false, List, [], ◌++◌, Option, None, Some, refl, ap, sym, subst, ◌∙◌, append_assoc}
+use Rattle.esc_actions.specs.Texts.{list_text, texts_after}
+use Rattle.esc_actions.specs.Values.{Value}
+use Rattle.esc_decode.specs.Decodings.{OnlyAdds, decoded}
+use Rattle.esc_decode.specs.declared.encoding.Encoding.{Encoding}
+use Rattle.esc_decode.specs.declared.encoding.Encoding.TheVariants.{CodePage, EightBit, Utf8}
+use Rattle.esc_filter.proofs.ByLines.{by_more, closed_longer}
+use Rattle.esc_filter.proofs.Closers.{closed_more}
+use Rattle.esc_filter.proofs.Texts.{added_as, text_longer_as}
+use Rattle.esc_filter.specs.Closing.{closing}
+use Rattle.esc_filter.specs.Lines.{closed_by_lines_as, text_by_lines_as}
+use Rattle.esc_filter.specs.Passing.{closed_text_as, passed_as, passed_text_as}
+use Rattle.esc_filter.specs.declared.admit.Admit.{Ghosts as Admitter}
+use Rattle.esc_filter.specs.declared.guard.Guard.{Guard}
+use Rattle.esc_lines.proofs.Streams.{final_after_nil, final_longer}
+use Rattle.esc_lines.specs.Streams.{open_of, values_of}
+use Rattle.esc_normal.specs.Texts.{ends_in_string}
+use Rattle.esc_reveal.proofs.Begins.{through_longer}
+use Rattle.esc_reveal.proofs.Longer.{revealed_longer}
+use Rattle.esc_reveal.specs.Fed.{text_by, whole_by}
+use Rattle.esc_reveal.specs.Revealed.{revealed_as, revealed_whole_as}
+use Rattle.esc_reveal.specs.Through.{through, through_whole}
+use Rattle.esc_reveal.specs.declared.marking.Marking.{Marking}
+use Rattle.esc_reveal.specs.declared.reveal.Rule.{Rule}
+use Rattle.esc_sanitize.specs.Written.{final_text, left_text, revealed_by, revealed_whole_by, size_of}
+use Rattle.esc_sanitize.specs.declared.options.FilterOptions.{FilterOptions}
+
+-- nothing becomes nothing
+pub nothing_decoded : (e : Encoding) → decoded e [] ≡ []
+nothing_decoded Utf8 = refl
+nothing_decoded EightBit = refl
+nothing_decoded (CodePage p) = refl
+
+-- what is revealed by this rule is that by the options
+module _ {P A : Type 0} (V : Admitter P A) (rule : Rule P) (o : FilterOptions P) (k : Marking)
+    (limit : rule.limit ≡ o.limit) (lines : (rule.by_lines ≡ o.by_lines) × (rule.marking ≡ k))
+    (policy : rule.policy ≡ o.policy) where
+  pub whole_shown : (s : List ℕ) → whole_by {A = A} V rule s ≡ revealed_whole_by V o (Some k) s
+  whole_shown s =
+      ap (λ m. revealed_whole_as m rule.by_lines rule.limit (V.admits rule.policy) s) lines.1
+      ∙ ap (λ l. revealed_whole_as k rule.by_lines l (V.admits rule.policy) s) limit
+      ∙ ap (λ b. revealed_whole_as k b o.limit (V.admits rule.policy) s) lines.0
+      ∙ ap (λ p. revealed_whole_as k o.by_lines o.limit (V.admits p) s) policy
+
+  pub going_shown : (s : List ℕ) → text_by {A = A} V rule s ≡ revealed_by V o (Some k) s
+  going_shown s =
+      ap (λ m. revealed_as m rule.by_lines rule.limit (V.admits rule.policy) s) lines.1
+      ∙ ap (λ l. revealed_as k rule.by_lines l (V.admits rule.policy) s) limit
+      ∙ ap (λ b. revealed_as k b o.limit (V.admits rule.policy) s) lines.0
+      ∙ ap (λ p. revealed_as k o.by_lines o.limit (V.admits p) s) policy
+
+-- ---- more of a stream only adds
+
+-- to what is revealed of it, and then filtered
+pub through_adds : {P A : Type 0} (V : Admitter P A) (rule : Rule P) (m e : List ℕ → List ℕ)
+    → OnlyAdds m e → OnlyAdds (through V rule m) (through_whole V rule e)
+through_adds V rule m e only = record {
+  more = λ s b.
+      let (x, q) =
+      revealed_longer rule.marking rule.limit rule.by_lines (V.admits rule.policy) s b in
+      let (t, f) = only.more (text_by V rule s) x in (t, ap m q ∙ f);
+  end = through_longer V rule m e only.more only.end;
+}
+
+-- to the text of a filter
+pub whole_adds : {A : Type 0} (u : Guard) (limit : ℕ) (p : Value A → Bool)
+    → OnlyAdds (passed_text_as u (Some limit) p) (closed_text_as u (Some limit) p)
+whole_adds u limit p = record {
+  more = λ s b. (
+    texts_after (ends_in_string false (passed_as u (Some limit) p s))
+        (added_as u (Some limit) p s b),
+    text_longer_as u (Some limit) p s b,
+  );
+  end = λ s.
+      let vs = passed_as u (Some limit) p s in (list_text (closing p vs), closed_more p vs);
+}
+
+-- of lines
+pub lines_add : {A : Type 0} (u : Guard) (limit : ℕ) (p : Value A → Bool)
+    → OnlyAdds (text_by_lines_as {A = A} u limit p) (closed_by_lines_as u limit p)
+lines_add u limit p = record {
+  more = λ s b. by_more u limit p s b;
+  end = closed_longer u limit p;
+}
+
+-- to what is final of its lines
+pub rows_longer : (A : Type 0) (r : Option ℕ) (u x : List ℕ)
+    → (t : List ℕ) × (final_text A r (u ++ x) ≡ final_text A r u ++ t)
+rows_longer A None u x = (x, refl)
+rows_longer A (Some n) u x = final_longer A (size_of n) u x
+
+-- and its end to that
+pub rows_end : (A : Type 0) (r : Option ℕ) (u x : List ℕ)
+    → (t : List ℕ) × (left_text A r (u ++ x) ≡ final_text A r u ++ t)
+rows_end A None u x = (x, refl)
+rows_end A (Some n) u x =
+    let k = final_longer A (size_of n) u x in
+    let rest = open_of (size_of n) (values_of A (u ++ x)) in (
+      k.0 ++ rest,
+      ap (λ y. y ++ rest) k.1 ∙ append_assoc (final_text A (Some n) u) k.0 rest,
+    )
+
+-- nothing has no row
+pub rows_none : (A : Type 0) (r : Option ℕ) → final_text A r [] ≡ []
+rows_none A None = refl
+rows_none A (Some n) = final_after_nil A (size_of n) (λ x. x) refl
+
+-- ---- what a piece adds to what is left of lines
+
+module _ (A : Type 0) (r : Option ℕ) (u b : List ℕ) where
+  pub all_fed : r ≡ None → final_text A r (u ++ b) ≡ final_text A r u ++ b
+  all_fed e = subst (λ k. final_text A k (u ++ b) ≡ final_text A k u ++ b) (sym e) refl
+
+  pub all_ended : r ≡ None → left_text A r (u ++ b) ≡ final_text A r u ++ b
+  all_ended e = subst (λ k. left_text A k (u ++ b) ≡ final_text A k u ++ b) (sym e) refl
+
+  pub rows_fed : (n : ℕ) (t : List ℕ) → r ≡ Some n
+      → final_text A (Some n) (u ++ b) ≡ final_text A (Some n) u ++ t
+      → final_text A r (u ++ b) ≡ final_text A r u ++ t
+  rows_fed n t e h = subst (λ k. final_text A k (u ++ b) ≡ final_text A k u ++ t) (sym e) h
+
+  pub rows_ended : (n : ℕ) (t : List ℕ) → r ≡ Some n
+      → left_text A (Some n) (u ++ b) ≡ final_text A (Some n) u ++ t
+      → left_text A r (u ++ b) ≡ final_text A r u ++ t
+  rows_ended n t e h = subst (λ k. left_text A k (u ++ b) ≡ final_text A k u ++ t) (sym e) h

@@ -1,0 +1,11 @@
+pub mod Defaults
+pub mod Fates
+pub mod Judged
+pub mod Written
+pub mod Audits
+pub mod Chains
+pub mod Hearings
+pub mod Rows
+pub mod Stages
+pub mod Ended
+pub mod Sanitized

@@ -1,0 +1,126 @@
+-- What is written of a stream under options.
+use Rattle.std.specs.Prelude.{ℕ, ◌≡◌, Bool, true, false, List, Option, Some, None, max}
+use Rattle.esc_actions.specs.Values.{Value}
+use Rattle.esc_decode.specs.Decodings.{decoded}
+use Rattle.esc_filter.specs.Lines.{IsFilteredByLinesAs, closed_by_lines_as, text_by_lines_as}
+use Rattle.esc_filter.specs.Passing.{IsFilteredAs, closed_text_as, passed_text_as}
+use Rattle.esc_filter.specs.Pieces.{AdmitsAtMost, IsColorText, IsPlainText}
+use Rattle.esc_filter.specs.declared.admit.Admit.{Ghosts as Admitter}
+use Rattle.esc_filter.specs.declared.guard.Guard.{Guard}
+use Rattle.esc_filter.specs.declared.policy.Policy.TheVariants as policy
+use Rattle.esc_lines.specs.Streams.{final_of, left_of, values_of}
+use Rattle.esc_lines.specs.Windows.{Size, sized}
+use Rattle.esc_reveal.specs.Revealed.{revealed_as, revealed_whole_as}
+use Rattle.esc_reveal.specs.declared.marking.Marking.{Marking}
+use Rattle.esc_sanitize.specs.declared.options.FilterOptions.{FilterOptions}
+use Rattle.esc_sanitize.specs.declared.left.TheConstants.{COLUMNS}
+
+-- ---- what goes to the filter
+
+-- of what the stream becomes by its encoding: that, or where what does not pass is shown, what is
+-- revealed of it
+abbrev pub revealed_by : {P A : Type 0} → Admitter P A → FilterOptions P → Option Marking → List ℕ
+    → List ℕ
+revealed_by V o None s = s
+revealed_by V o (Some m) s = revealed_as m o.by_lines o.limit (V.admits o.policy) s
+
+-- the same of one that has ended
+abbrev pub revealed_whole_by : {P A : Type 0} → Admitter P A → FilterOptions P → Option Marking
+    → List ℕ → List ℕ
+revealed_whole_by V o None s = s
+revealed_whole_by V o (Some m) s = revealed_whole_as m o.by_lines o.limit (V.admits o.policy) s
+
+-- of the stream, which has ended or goes on
+abbrev pub seen_by : {P A : Type 0} → Admitter P A → FilterOptions P → Bool → List ℕ → List ℕ
+seen_by V o true s = revealed_whole_by V o o.show (decoded o.encoding s)
+seen_by V o false s = revealed_by V o o.show (decoded o.encoding s)
+
+-- ---- what passes
+
+-- the text t is what passes of the stream s, which has ended or goes on: of each of its lines, or
+-- of the whole
+abbrev pub is_passed_by : {A : Type 0} → Guard → Bool → Bool → ℕ → (Value A → Bool) → List ℕ
+    → List ℕ → Type 0
+is_passed_by u true b limit p s t = IsFilteredByLinesAs b u limit p s t
+is_passed_by u false b limit p s t = IsFilteredAs u b (Some limit) p s t
+
+-- the text of a stream that goes on, and of one that has ended
+abbrev pub going_by : {A : Type 0} → Guard → Bool → ℕ → (Value A → Bool) → List ℕ → List ℕ
+going_by {A} u true limit p s = text_by_lines_as {A = A} u limit p s
+going_by {A} u false limit p s = passed_text_as {A = A} u (Some limit) p s
+
+abbrev pub closed_by : {A : Type 0} → Guard → Bool → ℕ → (Value A → Bool) → List ℕ → List ℕ
+closed_by {A} u true limit p s = closed_by_lines_as {A = A} u limit p s
+closed_by {A} u false limit p s = closed_text_as {A = A} u (Some limit) p s
+
+-- by the options, of what a stream becomes by its encoding
+abbrev pub opened_of : {P A : Type 0} → Admitter P A → FilterOptions P → List ℕ → List ℕ
+opened_of V o s =
+    going_by o.guard o.by_lines o.limit (V.admits o.policy) (revealed_by V o o.show s)
+
+abbrev pub closed_of : {P A : Type 0} → Admitter P A → FilterOptions P → List ℕ → List ℕ
+closed_of V o s =
+    closed_by o.guard o.by_lines o.limit (V.admits o.policy) (revealed_whole_by V o o.show s)
+
+-- and of the stream
+abbrev pub passing_of : {P A : Type 0} → Admitter P A → FilterOptions P → List ℕ → List ℕ
+passing_of V o s = opened_of V o (decoded o.encoding s)
+
+abbrev pub passed_of : {P A : Type 0} → Admitter P A → FilterOptions P → List ℕ → List ℕ
+passed_of V o s = closed_of V o (decoded o.encoding s)
+
+-- ---- what is left of the lines of a text
+
+-- so many rows may be written again
+abbrev pub size_of : ℕ → Size
+size_of n = sized (max n 1) COLUMNS
+
+-- of a text that goes on, where rows may be written again, those that may not any more
+abbrev pub final_text : Type 0 → Option ℕ → List ℕ → List ℕ
+final_text A None u = u
+final_text A (Some n) u = final_of (size_of n) (values_of A u)
+
+-- of one that has ended, all rows
+abbrev pub left_text : Type 0 → Option ℕ → List ℕ → List ℕ
+left_text A None u = u
+left_text A (Some n) u = left_of (size_of n) (values_of A u)
+
+-- the text t is what is left of the lines of u, which has ended or goes on
+abbrev pub is_left_by : Type 0 → Option ℕ → Bool → List ℕ → List ℕ → Type 0
+is_left_by A r true u t = t ≡ left_text A r u
+is_left_by A r false u t = t ≡ final_text A r u
+
+-- ---- what is written
+
+-- the text t is written of the stream s, which has ended or goes on: what is left of the lines of
+-- what passes of what it becomes, or of what is revealed of that
+abbrev pub IsWritten : {P A : Type 0} → Admitter P A → FilterOptions P → Bool → List ℕ → List ℕ
+    → Type 0
+IsWritten {A = A} V o b s t = (u : List ℕ)
+    × is_passed_by {A = A} o.guard o.by_lines b o.limit (V.admits o.policy) (seen_by V o b s) u
+    × is_left_by A o.rows b u t
+
+-- the text of a stream that goes on, and of one that has ended
+abbrev pub going_of : {P A : Type 0} → Admitter P A → FilterOptions P → List ℕ → List ℕ
+going_of {A = A} V o s = final_text A o.rows (passing_of V o s)
+
+abbrev pub text_of : {P A : Type 0} → Admitter P A → FilterOptions P → List ℕ → List ℕ
+text_of {A = A} V o s = left_text A o.rows (passed_of V o s)
+
+-- ---- what it is made of
+
+-- this holds of the text of each stream that goes on or has ended, and of each text that is
+-- written of one
+abbrev pub OfAllWritten : {P A : Type 0} → Admitter P A → FilterOptions P → (List ℕ → Type 0)
+    → Type 0
+OfAllWritten V o C = ((s : List ℕ) → C (text_of V o s)) × ((s : List ℕ) → C (going_of V o s))
+    × ((b : Bool) (s t : List ℕ) → IsWritten V o b s t → C t)
+
+-- What is written is plain text where the policy admits no more than `Text`, and rows may not be
+-- written again; and text of characters, renditions and links where it admits no more than `Color`,
+-- and wherever rows may be written again.
+pub record IsOfPieces {P A : Type 0} (V : Admitter P A) (o : FilterOptions P) : Type 0 where
+  pub plain : o.rows ≡ None → AdmitsAtMost policy.Text (V.admits o.policy)
+      → OfAllWritten V o IsPlainText
+  pub color : AdmitsAtMost policy.Color (V.admits o.policy) → OfAllWritten V o IsColorText
+  pub collapsed : (n : ℕ) → o.rows ≡ Some n → OfAllWritten V o IsColorText

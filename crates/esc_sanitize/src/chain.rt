@@ -1,0 +1,84 @@
+//! The filters of a stream, by options.
+ghost use Rattle.std.specs.Prelude.{◌≡◌, []};
+ghost use Rattle.esc_sanitize.specs.Chains.{Begins};
+ghost use Rattle.esc_sanitize.specs.Stages.{Runs, options_of};
+ghost use Rattle.esc_sanitize.specs.Written.{closed_by, closed_of, going_by, opened_of};
+
+use crate::auditor::Auditor;
+use crate::either::Either;
+use crate::hearing::Hearing;
+use crate::options::FilterOptions;
+use crate::staged::Staged;
+use esc_account::Book;
+use esc_filter::{Admit, Feeding, Filter, LineFilter};
+use esc_reveal::{Reveal, Revealing};
+use std::alloc::Allocator;
+
+/// A filter of lines, or of a whole stream.
+pub type Framed<P, A> = Either<LineFilter<P, A>, Filter<P, A>>;
+
+/// The same, where what does not pass may be shown.
+pub type Chain<P, A> = Either<Framed<P, A>, Revealing<Framed<P, A>, P, A>>;
+
+/// A filter by these options, with an auditor who writes what did not pass into this book; at the
+/// beginning of a stream. It takes no memory but for rows that may be written again.
+pub fn staged<P: Admit<A> + Copy + Drop, B: Book<A> + Drop, A: Allocator + Copy>(
+    alloc: A,
+    options: FilterOptions<P>,
+    book: B,
+) -> Staged<Chain<P, A>, P, B, A>
+    ensures begins { B.was_given book []
+        → Runs ⟦<Chain<P, A> as Feeding<A>>⟧ P.Admit B.Book result [] }
+    ensures options { options_of result ≡ options }
+{
+    let auditor = Auditor::new(alloc, options, book);
+    let hearing = Hearing::new(alloc, options, chain(alloc, options), auditor);
+    Staged::new(alloc, hearing)
+}
+
+// The filters of what a stream becomes by its encoding.
+fn chain<P: Admit<A> + Copy, A: Allocator + Copy>(
+    alloc: A,
+    options: FilterOptions<P>,
+) -> Chain<P, A>
+    ensures { Begins ⟦<Chain<P, A> as Feeding<A>>⟧ result (opened_of P.Admit options)
+        (closed_of P.Admit options) }
+{
+    let filter = framed(alloc, options);
+    match options.show {
+        None => Either::First(filter),
+        Some(marking) => {
+            let reveal = Reveal::with_marking(
+                alloc,
+                options.limit,
+                options.policy,
+                options.by_lines,
+                marking,
+            );
+            Either::Second(Revealing::new(alloc, reveal, filter))
+        }
+    }
+}
+
+// The filter of lines, or of the whole.
+fn framed<P: Admit<A> + Copy, A: Allocator + Copy>(
+    alloc: A,
+    options: FilterOptions<P>,
+) -> Framed<P, A>
+    ensures { Begins ⟦<Framed<P, A> as Feeding<A>>⟧ result
+        (going_by options.guard options.by_lines options.limit (P.admits options.policy))
+        (closed_by options.guard options.by_lines options.limit (P.admits options.policy)) }
+{
+    let FilterOptions {
+        policy,
+        limit,
+        by_lines,
+        guard,
+        ..
+    } = options;
+    if by_lines {
+        Either::First(LineFilter::with_guard(alloc, limit, policy, guard))
+    } else {
+        Either::Second(Filter::with_guard(alloc, limit, policy, guard))
+    }
+}

@@ -1,0 +1,110 @@
+//! What is left of the lines of a text.
+ghost use Rattle.std.specs.Prelude.{◌≡◌, ◌++◌, ℕ, List, [], IfOk, OnErr, OnOk, Option, string_bytes};
+ghost use Rattle.esc_lines.specs.Fed.{WasFed};
+ghost use Rattle.esc_lines.specs.Streams.{final_of, left_of, values_of};
+ghost use Rattle.esc_lines.specs.Windows.{Size};
+ghost use Rattle.memory.specs.Refusals.{Refused};
+
+use esc_lines::Collapse;
+use std::alloc::{AllocError, Allocator, Global};
+
+/// How many columns a row has at most of which what is left is written.
+pub const COLUMNS: usize = 16_384;
+
+/// What is written of a text.
+#[derive(Drop)]
+pub enum Left<A: Allocator = Global> {
+    /// All of it.
+    All,
+    /// What is left of its lines.
+    Rows(A, Collapse<A>),
+    /// The same of a text that has ended: what its end added.
+    Last(String<A>),
+    /// Nothing, since memory for its rows was refused.
+    Refused,
+}
+
+impl<A: Allocator + Copy> Left<A> {
+    ghost use Rattle.esc_sanitize.specs.Rows.{HasLeft, left_added};
+    ghost use Rattle.esc_sanitize.specs.Written.{final_text, left_text};
+
+    /// At the beginning of a text, of which so many rows may be written again, where that is asked
+    /// for.
+    pub fn new(alloc: A, rows: Option<usize>) -> Left<A>
+        ensures { HasLeft rows [] result }
+    {
+        match rows {
+            None => Left::All,
+            Some(rows) => match Collapse::new(alloc, rows, COLUMNS) {
+                Ok(collapse) => Left::Rows(alloc, collapse),
+                Err(_) => Left::Refused,
+            },
+        }
+    }
+
+    /// Takes text more.
+    pub fn take(&mut self, text: &str) -> Result<(), AllocError>
+        ensures given { (r : Option ℕ) (u : List ℕ) → HasLeft r u self.old
+            → OnOk result (HasLeft r (u ++ text.now) self.new
+            × (final_text A r (u ++ text.now) ≡ final_text A r u
+            ++ left_added self.new text.now)) }
+        ensures refused { (r : Option ℕ) (u : List ℕ) → HasLeft r u self.old
+            → OnErr result (Refused A) }
+    {
+        match self {
+            Left::All => Ok(()),
+            Left::Rows(_, collapse) => collapse.feed(text.as_bytes()),
+            Left::Last(_) | Left::Refused => Err(AllocError),
+        }
+    }
+
+    /// Takes the last text, and ends it.
+    pub fn close(&mut self, text: &str) -> Result<(), AllocError>
+        ensures ended { (r : Option ℕ) (u : List ℕ) → HasLeft r u self.old
+            → OnOk result (left_text A r (u ++ text.now) ≡ final_text A r u
+            ++ left_added self.new text.now) }
+        ensures refused { (r : Option ℕ) (u : List ℕ) → HasLeft r u self.old
+            → OnErr result (Refused A) }
+    {
+        match self {
+            Left::All => Ok(()),
+            Left::Rows(alloc, collapse) => {
+                let last = last_text(*alloc, collapse, text)?;
+                *self = Left::Last(last);
+                Ok(())
+            }
+            Left::Last(_) | Left::Refused => Err(AllocError),
+        }
+    }
+
+    /// What the last call added, which took this text.
+    pub fn added<'b>(&'b self, text: &'b str) -> &'b str
+        ensures { result.now ≡ left_added self.now text.now }
+    {
+        match self {
+            Left::All => text,
+            Left::Rows(_, collapse) => collapse.added(),
+            Left::Last(last) => last.as_str(),
+            Left::Refused => "",
+        }
+    }
+}
+
+// Takes the last text, and ends it. It returns what that adds to the rows that are final.
+fn last_text<A: Allocator + Copy>(
+    alloc: A,
+    collapse: &mut Collapse<A>,
+    text: &str,
+) -> Result<String<A>, AllocError>
+    ensures ended { (z : Size) (u : List ℕ) → WasFed z u collapse.old → IfOk result (λ t.
+        left_of z (values_of A (u ++ text.now)) ≡ final_of z (values_of A u) ++ string_bytes t) }
+    ensures refused { (z : Size) (u : List ℕ) → WasFed z u collapse.old
+        → OnErr result (Refused A) }
+{
+    collapse.feed(text.as_bytes())?;
+    let mut last = String::new(alloc);
+    memory::push_str(&mut last, collapse.added())?;
+    collapse.finish()?;
+    memory::push_str(&mut last, collapse.added())?;
+    Ok(last)
+}

@@ -1,0 +1,38 @@
+//! The filter of the program `escfilter`, for programs of one's own: a stream in pieces, line by
+//! line or as one, in its encoding; what does not pass left out or shown in place; lines that are
+//! written again as a terminal leaves them; and the account of every byte of it.
+//!
+//! [`FilterOptions`] say how a stream is filtered, and a [`Sanitizer`] filters one, piece by piece.
+//! [`sanitize_stream`] does so from a reader to a writer.
+//!
+//! ```text
+//! let mut sanitizer = Sanitizer::new(alloc, FilterOptions::new(Policy::Color));
+//! sanitizer.feed(b"\x1b]0;title\nok\x1b[1m bo")?;
+//! sanitizer.text()          // "\nok\x1b[1m bo": an unended string takes no line away
+//! sanitizer.feed(b"ld\n")?;
+//! sanitizer.text()          // "ld\x1b[m\n"
+//! sanitizer.finish()?;
+//! sanitizer.account().sums.swallowed       // 9: the title that was not ended
+//! ```
+#![tactic(auto)]
+
+mod auditor;
+mod chain;
+mod either;
+mod hearing;
+mod judging;
+mod laws;
+mod left;
+mod options;
+mod sanitizer;
+mod staged;
+mod stream;
+mod told;
+
+pub use auditor::Auditor;
+pub use judging::Judging;
+pub use laws::writes_pieces;
+pub use left::COLUMNS;
+pub use options::FilterOptions;
+pub use sanitizer::Sanitizer;
+pub use stream::{Sanitized, sanitize_stream};

@@ -1,0 +1,102 @@
+//! How a stream is filtered.
+ghost use Rattle.std.specs.Prelude.{◌≡◌};
+ghost use Rattle.esc_sanitize.specs.Defaults.{defaults, guard_of, is_for_reading, with_policy};
+
+use esc_decode::Encoding;
+use esc_filter::{Guard, Policy, Returns, Unicode};
+use esc_reveal::Marking;
+
+const DEFAULT_LIMIT: usize = 1_048_576;
+
+/// How a stream is filtered: what the options of the program `escfilter` say of that.
+#[derive(Clone, Copy)]
+pub struct FilterOptions<P> {
+    /// What passes: a [`Policy`], [`Groups`](esc_filter::Groups), or an
+    /// [`Admit`](esc_filter::Admit) of one's own.
+    pub policy: P,
+    /// How many bytes are kept of an unfinished sequence or string.
+    pub limit: usize,
+    /// Whether each line is a stream of its own, so that no string takes away the lines after it.
+    pub by_lines: bool,
+    /// What is written of characters and carriage returns that hide or reorder text.
+    pub guard: Guard,
+    /// How the bytes are read. In `Encoding::Utf8` bytes 80 to 9F that are no part of a character
+    /// are replaced, and in `Encoding::EightBit` they are controls of C1. Where what does not pass
+    /// is shown the program reads a stream of UTF-8 in the latter, so that it replaces none.
+    pub encoding: Encoding,
+    /// How what does not pass is shown in its place; where none, it is left out.
+    pub show: Option<Marking>,
+    /// How many rows may be written again, where what is left of them is written, as of progress
+    /// bars; where none, all of the text is. The program then also lets pass the groups
+    /// [`Controls`](esc_filter::Group::Controls), [`Cursor`](esc_filter::Group::Cursor) and
+    /// [`Erase`](esc_filter::Group::Erase), none of which is written itself, and its guard shows
+    /// characters and keeps carriage returns.
+    pub rows: Option<usize>,
+    /// Whether an account is kept of what became of each byte. It costs time and memory.
+    pub audits: bool,
+}
+
+impl FilterOptions<Policy> {
+    /// As the program has it with `--allow` this policy and no other option, and with an account.
+    pub fn new(policy: Policy) -> FilterOptions<Policy>
+        ensures { result ≡ defaults policy }
+    {
+        FilterOptions {
+            policy,
+            limit: DEFAULT_LIMIT,
+            by_lines: is_for_reading(policy),
+            guard: guard_of(policy),
+            encoding: Encoding::Utf8,
+            show: None,
+            rows: None,
+            audits: true,
+        }
+    }
+}
+
+impl<P> FilterOptions<P> {
+    /// The same, where this says what passes.
+    pub fn with_policy<Q>(self, policy: Q) -> FilterOptions<Q>
+    where
+        P: Drop,
+        ensures { result ≡ with_policy policy self }
+    {
+        FilterOptions {
+            policy,
+            limit: self.limit,
+            by_lines: self.by_lines,
+            guard: self.guard,
+            encoding: self.encoding,
+            show: self.show,
+            rows: self.rows,
+            audits: self.audits,
+        }
+    }
+}
+
+// Whether a policy passes text and its colours alone: it is for logs, and for people who read them.
+fn is_for_reading(policy: Policy) -> bool
+    ensures { result ≡ is_for_reading policy }
+{
+    match policy {
+        Policy::Text | Policy::Color => true,
+        Policy::Screen | Policy::All => false,
+    }
+}
+
+// What is written then of what hides or reorders text.
+fn guard_of(policy: Policy) -> Guard
+    ensures { result ≡ guard_of policy }
+{
+    if is_for_reading(policy) {
+        Guard {
+            characters: Unicode::Join,
+            returns: Returns::Show,
+        }
+    } else {
+        Guard {
+            characters: Unicode::Keep,
+            returns: Returns::Keep,
+        }
+    }
+}

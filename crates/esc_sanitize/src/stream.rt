@@ -1,0 +1,104 @@
+//! One stream, from its reader to its writer.
+ghost use Rattle.std.specs.Prelude.{◌≡◌, ℕ, IsErrOf, List, OnOk, []};
+ghost use Rattle.memory.specs.Refusals.{Refused};
+ghost use Rattle.esc_normal.specs.Streams.{Filters, IsEither};
+ghost use Rattle.esc_sanitize.specs.Audits.{HasAccount, way_by};
+ghost use Rattle.esc_sanitize.specs.Ended.{HasHeardAll};
+ghost use Rattle.esc_sanitize.specs.Stages.{Runs, options_of};
+ghost use Rattle.esc_sanitize.specs.Written.{IsOfPieces, IsWritten, going_of, passed_of, text_of};
+
+use crate::auditor::Auditor;
+use crate::chain::staged;
+use crate::laws::writes_pieces;
+use crate::options::FilterOptions;
+use crate::staged::Staged;
+use crate::told::{Known, Told};
+use esc_account::Book;
+use esc_filter::{
+    Admit, Feeding, FilterError, filter_from, written_lines_read_back, written_reads_back,
+};
+use esc_normal::Watched;
+use std::alloc::{Allocator, Global};
+use std::io::{Read, Write};
+use std::marker::Brand;
+
+/// How a stream was filtered.
+#[derive(Drop)]
+pub struct Sanitized<P, B, A: Allocator = Global> {
+    /// Whether that failed.
+    pub outcome: Result<(), FilterError>,
+    /// The account of it.
+    pub auditor: Auditor<P, B, A>,
+}
+
+/// Writes on `writer` what passes by the options of what `reader` reads, as it comes: of each line,
+/// or of the whole; where what does not pass is shown, that in place; and of it all what is left of
+/// the lines, where these may be written again. It returns what
+/// [`filter_lines`](esc_filter::filter_lines) does, or
+/// [`filter_stream`](esc_filter::filter_stream). Where the policy admits no more than
+/// `Policy::Color`, what is written is made of characters, renditions and links.
+///
+/// On `Ok` the auditor has the account of the stream by the options, where they ask for one and it
+/// has less than 2^62 bytes: of the lines of what the stream becomes by its encoding, each with
+/// what passed of it before rows were written again, or of the cut of that. The sums add up to its
+/// length. What did not pass was written into the book.
+pub fn sanitize_stream<
+    P: Admit<A> + Copy + Drop,
+    B: Book<A> + Drop,
+    R: Read,
+    W: Write,
+    A: Allocator + Copy,
+>(
+    alloc: A,
+    options: FilterOptions<P>,
+    book: B,
+    reader: &mut Watched<R>,
+    writer: &mut Watched<W>,
+) -> Sanitized<P, B, A>
+    requires { B.was_given book [] }
+    ensures holds { Filters R.Read W.Write (text_of P.Admit options) (IsWritten P.Admit options)
+        result.outcome reader writer × IsOfPieces P.Admit options }
+    ensures refused { IsErrOf result.outcome FilterError.Memory → Refused A }
+    ensures account { OnOk result.outcome
+        (HasAccount P.Admit B.Book R.Read options result.auditor reader) }
+{
+    writes_pieces::<P, A>();
+    written_lines_read_back::<A>();
+    written_reads_back::<A>();
+    let staged = staged(alloc, options, book);
+    told::<_, _, _, Brand, _, _, _>(alloc, staged, reader, writer)
+}
+
+// The same by this filter, which was fed nothing, part by part.
+fn told<
+    F: Feeding<A> + Drop,
+    P: Admit<A> + Drop,
+    B: Book<A> + Drop,
+    N: Known,
+    R: Read,
+    W: Write,
+    A: Allocator + Copy,
+>(
+    alloc: A,
+    staged: Staged<F, P, B, A>,
+    reader: &mut Watched<R>,
+    writer: &mut Watched<W>,
+) -> Sanitized<P, B, A>
+    requires { Runs F.Feeding P.Admit B.Book staged []
+        × ((options_of staged).encoding ≡ N.encoding)
+        × (way_by P.Admit (options_of staged) ≡ N.way)
+        × ((s : List ℕ) → passed_of P.Admit (options_of staged) s ≡ N.text s) }
+    ensures holds { Filters R.Read W.Write (text_of P.Admit (options_of staged))
+        (IsEither (text_of P.Admit (options_of staged)) (going_of P.Admit (options_of staged)))
+        result.outcome reader writer }
+    ensures refused { IsErrOf result.outcome FilterError.Memory → Refused A }
+    ensures heard { OnOk result.outcome (HasHeardAll P.Admit B.Book R.Read N.encoding N.way N.text
+        result.auditor reader) }
+{
+    let mut filter = Told::<_, _, _, N, _>::new(staged);
+    let outcome = filter_from(alloc, &mut filter, reader, writer);
+    Sanitized {
+        outcome,
+        auditor: filter.into_auditor(),
+    }
+}

@@ -1,0 +1,84 @@
+//! A filter with its auditor, as what takes a stream in pieces.
+ghost use Rattle.std.specs.Prelude.{◌≡◌, ℕ, List};
+ghost use Rattle.esc_account.specs.Ways.{Way, silent};
+ghost use Rattle.esc_decode.specs.declared.encoding.Encoding.{Encoding as Coding};
+ghost use Rattle.esc_decode.specs.declared.encoding.Encoding.TheVariants.{Utf8};
+
+use crate::auditor::Auditor;
+use crate::staged::Staged;
+use esc_account::Book;
+use esc_filter::{Admit, Feeding};
+use std::alloc::{AllocError, Allocator, Global};
+use std::marker::{Brand, PhantomData};
+
+/// What stays the same while a stream is filtered, for proofs.
+pub trait Known {
+    // the stream's encoding
+    ghost encoding: { Coding };
+
+    // what the account goes by
+    ghost way: { Way };
+
+    // the text of what passes of a stream that has ended
+    ghost text: { List ℕ → List ℕ };
+}
+
+impl Known for Brand {
+    ghost encoding = { Utf8 };
+
+    ghost way = { silent };
+
+    ghost text = { λ s. s };
+}
+
+/// A filter with its auditor, whose options say this.
+#[derive(Drop)]
+pub struct Told<F, P, B, N, A: Allocator = Global> {
+    staged: Staged<F, P, B, A>,
+    of: PhantomData<N>,
+}
+
+impl<F: Drop, P: Drop, B: Drop, N: Known, A: Allocator> Told<F, P, B, N, A> {
+    /// This filter.
+    pub fn new(staged: Staged<F, P, B, A>) -> Told<F, P, B, N, A>
+        ensures { result.staged ≡ staged }
+    {
+        Told {
+            staged,
+            of: PhantomData,
+        }
+    }
+
+    /// The auditor, of a stream of which nothing more comes.
+    pub fn into_auditor(self) -> Auditor<P, B, A>
+        ensures { result ≡ self.staged.hearing.auditor }
+    {
+        let Told { staged, of: _ } = self;
+        staged.into_auditor()
+    }
+}
+
+impl<F: Feeding<A>, P: Admit<A>, B: Book<A>, N: Known, A: Allocator + Copy> Feeding<A>
+    for Told<F, P, B, N, A> {
+    ghost use Rattle.esc_sanitize.specs.Stages.{HasListened, IsRun, auditor_of, staged_added};
+
+    ghost gives = { λ f m c s.
+        IsRun F.Feeding P.Admit B.Book N.encoding N.way N.text f.staged m c s };
+
+    ghost added = { λ f. staged_added F.Feeding f.staged };
+
+    ghost has_ended = { λ f _ s.
+        HasListened P.Admit B.Book N.encoding N.way N.text (auditor_of f.staged) s };
+
+    fn feed_piece(&mut self, bytes: &[u8]) -> Result<(), AllocError> {
+        self.staged.feed(bytes)
+    }
+
+    fn finish_all(&mut self) -> Result<(), AllocError> {
+        self.staged.finish()
+    }
+
+    fn added_text(&self) -> &str {
+        self.staged.added_text()
+    }
+}
