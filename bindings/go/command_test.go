@@ -34,7 +34,8 @@ func TestReadCommand(t *testing.T) {
 
 func TestWriteCommand(t *testing.T) {
 	title := func(text string) Command {
-		return Command{CommandSetWindowTitle, []Field{{Name: FieldText, Kind: ValueText, Text: []byte(text)}}}
+		field := Field{Name: FieldText, Kind: ValueText, Text: []byte(text)}
+		return Command{CommandSetWindowTitle, []Field{field}}
 	}
 	got, err := title("hello").Bytes()
 	if err != nil || string(got) != "\x1b]2;hello\x1b\\" {

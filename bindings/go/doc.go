@@ -11,8 +11,9 @@
 //
 // returns colours, bold and links of a stream, its characters, tabs and line ends, and nothing
 // else. [NewReader] and [NewWriter] do so as a stream comes, [ToHTML] returns a stream as HTML in
-// which nothing comes alive, [Normal] returns its normal form, [Parser] gives its events, [Function]
-// names what a sequence asks for, and [ReadCommand] says what an operating system command says.
+// which nothing comes alive, [Normal] returns its normal form, [Parser] gives its events,
+// [Function] names what a sequence asks for, and [ReadCommand] says what an operating system
+// command says.
 //
 // What each call of the library writes is proved, for every stream. This package is not proved: it
 // is tested.

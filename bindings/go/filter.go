@@ -26,8 +26,8 @@ const (
 // a sequence, however broken the stream is.
 func Filter(policy Policy, stream []byte) ([]byte, error) {
 	return whole(len(stream), func(out []byte, needed *C.size_t) C.uint32_t {
-		return C.escape_stream_filter(C.uint32_t(policy), DefaultLimit, first(stream), C.size_t(len(stream)),
-			first(out), C.size_t(len(out)), needed)
+		return C.escape_stream_filter(C.uint32_t(policy), DefaultLimit,
+			first(stream), C.size_t(len(stream)), first(out), C.size_t(len(out)), needed)
 	})
 }
 

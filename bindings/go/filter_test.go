@@ -141,7 +141,8 @@ func TestNormalFormsOfTheTables(t *testing.T) {
 func TestReader(t *testing.T) {
 	_, want := written(t, []byte(stream), 100, Color)
 	for _, wrap := range []func(io.Reader) io.Reader{
-		func(r io.Reader) io.Reader { return r }, iotest.OneByteReader, iotest.DataErrReader, iotest.HalfReader,
+		func(r io.Reader) io.Reader { return r },
+		iotest.OneByteReader, iotest.DataErrReader, iotest.HalfReader,
 	} {
 		r, err := NewReader(wrap(strings.NewReader(stream)), Color)
 		if err != nil {

@@ -119,7 +119,8 @@ func newPage(options HTMLOptions) (*page, error) {
 		return nil, err
 	}
 	h := &page{room: make([]byte, room)}
-	status := C.escape_stream_html_begin(&h.raw, C.bool(options.PerLine), C.bool(options.Inline), limit)
+	status := C.escape_stream_html_begin(
+		&h.raw, C.bool(options.PerLine), C.bool(options.Inline), limit)
 	if err := errorOf(status); err != nil {
 		return nil, err
 	}

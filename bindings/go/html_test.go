@@ -28,7 +28,8 @@ func TestToHTML(t *testing.T) {
 }
 
 func TestHTMLInPieces(t *testing.T) {
-	for _, options := range []HTMLOptions{{}, {PerLine: true}, {Inline: true}, {PerLine: true, Inline: true}} {
+	all := []HTMLOptions{{}, {PerLine: true}, {Inline: true}, {PerLine: true, Inline: true}}
+	for _, options := range all {
 		long := bytes.Repeat([]byte(stream+"\n"), 2000)
 		want, err := ToHTML(long, options)
 		if err != nil {

@@ -64,7 +64,8 @@ type Option func(*settings)
 
 type settings struct{ limit int }
 
-// WithLimit sets how many bytes are kept of a string, such as a title; one with more is passed over.
+// WithLimit sets how many bytes are kept of a string, such as a title; one with more is passed
+// over.
 func WithLimit(bytes int) Option {
 	return func(s *settings) { s.limit = bytes }
 }

@@ -1,9 +1,10 @@
 /* SPDX-License-Identifier: MIT */
 /*
- * The memory that the library asks for: each block ends at a page that nobody may touch. A block is aligned to each power of
- * two that divides its size, and no better, which is what escape_stream.h asks for. A block that is moved or given back is
- * overwritten. The one request whose number is `refused` is refused. With PLAIN_ALLOCATOR, for a tool that watches the blocks
- * itself, it is the allocator of the C library, which refuses none.
+ * The memory that the library asks for: each block ends at a page that nobody may touch. A block is
+ * aligned to each power of two that divides its size, and no better, which is what escape_stream.h
+ * asks for. A block that is moved or given back is overwritten. The one request whose number is
+ * `refused` is refused. With PLAIN_ALLOCATOR, for a tool that watches the blocks itself, it is the
+ * allocator of the C library, which refuses none.
  */
 #include "hard.h"
 

@@ -1,5 +1,6 @@
 /* SPDX-License-Identifier: MIT */
-/* The fields of commands, images and queries: their texts one after another, in room of any length; and sixel images. */
+/* The fields of commands, images and queries: their texts one after another, in room of any length;
+ * and sixel images. */
 #include "hard.h"
 #include "escape_stream.h"
 
@@ -40,14 +41,16 @@ static struct room room_of(size_t field_room, size_t capacity) {
 }
 
 static uint32_t read_osc(const struct room *room, struct bytes text) {
-    return escape_stream_read_osc(text.at, text.length, room->osc, room->fields, room->field_room, room->out, room->capacity);
+    return escape_stream_read_osc(
+        text.at, text.length, room->osc, room->fields, room->field_room, room->out, room->capacity);
 }
 
 static uint32_t read_kitty(const struct room *room, struct bytes text) {
     struct escape_stream_image image;
     uint32_t status;
     memset(&image, UNTOUCHED, sizeof image);
-    status = escape_stream_read_kitty(text.at, text.length, &image, room->fields, room->field_room, room->out, room->capacity);
+    status = escape_stream_read_kitty(
+        text.at, text.length, &image, room->fields, room->field_room, room->out, room->capacity);
     *room->osc = (struct escape_stream_osc){image.kind, image.field_count, image.text_length};
     return status;
 }
@@ -56,7 +59,8 @@ static uint32_t read_tcap(const struct room *room, struct bytes text) {
     struct escape_stream_query query;
     uint32_t status;
     memset(&query, UNTOUCHED, sizeof query);
-    status = escape_stream_read_tcap(text.at, text.length, &query, room->fields, room->field_room, room->out, room->capacity);
+    status = escape_stream_read_tcap(
+        text.at, text.length, &query, room->fields, room->field_room, room->out, room->capacity);
     *room->osc = (struct escape_stream_osc){0, query.name_count, query.text_length};
     return status;
 }
@@ -68,7 +72,8 @@ static const struct call {
     uint32_t last_kind;
 } CALLS[] = {
     [COMMANDS] = {"escape_stream_read_osc", read_osc, ESCAPE_STREAM_OSC_ITERM_POP_UNICODE_VERSION},
-    [IMAGES] = {"escape_stream_read_kitty", read_kitty, ESCAPE_STREAM_KITTY_DELETE_BY_IMAGE_ID_RANGE},
+    [IMAGES] =
+        {"escape_stream_read_kitty", read_kitty, ESCAPE_STREAM_KITTY_DELETE_BY_IMAGE_ID_RANGE},
     [QUERIES] = {"escape_stream_read_tcap", read_tcap, 0},
 };
 static const struct call *call;
@@ -166,20 +171,24 @@ static void check_refusal(const struct escape_stream_osc *osc, struct bytes text
         at_hand.refusals++;
         clear(&room, 0, 0);
     } else if (status == ESCAPE_STREAM_DONE) {
-        clear(&room, osc->field_count < 8 ? osc->field_count : 8, osc->text_length < 64 ? osc->text_length : 64);
+        clear(
+            &room, osc->field_count < 8 ? osc->field_count : 8,
+            osc->text_length < 64 ? osc->text_length : 64);
     } else {
         fails("another status, or something written, where memory was refused", at);
     }
 }
 
 /* Whether a text has this kind and these fields. */
-bool reads_as(enum reading as, struct bytes text, uint32_t kind, const struct escape_stream_field *fields, size_t count,
-              struct bytes texts) {
+bool reads_as(
+    enum reading as, struct bytes text, uint32_t kind, const struct escape_stream_field *fields,
+    size_t count, struct bytes texts) {
     struct room room = room_of(count, texts.length);
     bool is_same;
     call = &CALLS[as];
-    is_same = run(&room, text) == ESCAPE_STREAM_DONE && room.osc->kind == kind && room.osc->field_count == count &&
-              room.osc->text_length == texts.length && memcmp(room.fields, fields, count * sizeof *fields) == 0 &&
+    is_same = run(&room, text) == ESCAPE_STREAM_DONE && room.osc->kind == kind &&
+              room.osc->field_count == count && room.osc->text_length == texts.length &&
+              memcmp(room.fields, fields, count * sizeof *fields) == 0 &&
               memcmp(room.out, texts.at, texts.length) == 0;
     memset(room.fields, JUNK, count * sizeof *fields);
     memset(room.out, JUNK, texts.length);
@@ -194,14 +203,16 @@ void check_command(enum reading as, struct bytes text) {
     check_room(&osc, text);
     if (one_in(4))
         check_refusal(&osc, text);
-    check_written(as, osc.kind, all_fields, osc.field_count, (struct bytes){all_texts, osc.text_length});
+    check_written(
+        as, osc.kind, all_fields, osc.field_count, (struct bytes){all_texts, osc.text_length});
 }
 
 /* Writes the sixel image of a text. */
 static void write_again(const int64_t *params, size_t count, struct bytes text) {
     static struct escape_stream_sixel_item items[STREAM_ROOM];
     struct escape_stream_sixel sixel;
-    if (escape_stream_read_sixel(params, count, text.at, text.length, &sixel, items, STREAM_ROOM) != ESCAPE_STREAM_DONE)
+    if (escape_stream_read_sixel(params, count, text.at, text.length, &sixel, items, STREAM_ROOM) !=
+        ESCAPE_STREAM_DONE)
         fails("another status", text.length);
     check_written_sixel(&sixel, items);
 }
@@ -216,7 +227,8 @@ void check_sixel(struct bytes text) {
     at_hand.calls++;
     items = (void *)placed(&rows, item_room * sizeof *items);
     text = lent(text);
-    if (escape_stream_read_sixel(params, count, text.at, text.length, &sixel, items, item_room) != ESCAPE_STREAM_DONE)
+    if (escape_stream_read_sixel(params, count, text.at, text.length, &sixel, items, item_room) !=
+        ESCAPE_STREAM_DONE)
         fails("another status", text.length);
     if (blocks != 0)
         fails("blocks were not given back", (size_t)blocks);

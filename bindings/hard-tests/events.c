@@ -1,7 +1,8 @@
 /* SPDX-License-Identifier: MIT */
 /*
- * The parser: the events of a stream in pieces, over a buffer of any length, are those of the whole over a large one, but that
- * of a string that is longer than half the buffer there is an event ESCAPE_STREAM_LIMIT.
+ * The parser: the events of a stream in pieces, over a buffer of any length, are those of the whole
+ * over a large one, but that of a string that is longer than half the buffer there is an event
+ * ESCAPE_STREAM_LIMIT.
  */
 #include "hard.h"
 #include "escape_stream_parser.h"
@@ -10,7 +11,8 @@
 
 enum { BUFFER_ROOM = 131072, LOG_ROOM = 1 << 22, SMALL = 80 };
 
-/* The events, a record each: a character of a run is one, and a byte of the data of a device control string. */
+/* The events, a record each: a character of a run is one, and a byte of the data of a device
+ * control string. */
 struct record {
     uint32_t kind, byte, payload;
     uint32_t text; /* how much of the payload is the text of a string */
@@ -73,11 +75,14 @@ static void add_data(struct log *log, const uint8_t *text, size_t length) {
 }
 
 /* A sequence or a string: its intermediates, its entries and its text. */
-static void add_sequence(struct log *log, const struct escape_stream_event *event, const uint8_t *text) {
+static void
+add_sequence(struct log *log, const struct escape_stream_event *event, const uint8_t *text) {
     bool is_dcs = event->kind == ESCAPE_STREAM_DCS, is_csi = event->kind == ESCAPE_STREAM_CSI;
     bool is_text = is_dcs || event->kind == ESCAPE_STREAM_OSC || event->kind == ESCAPE_STREAM_APC;
-    uint8_t flags[2] = {is_csi || is_dcs || event->kind == ESCAPE_STREAM_ESCAPE ? event->has_more : 0, 0};
-    size_t from = log->length, kept = is_dcs || event->kind == ESCAPE_STREAM_ESCAPE ? event->kept : 0;
+    uint8_t flags[2] = {
+        is_csi || is_dcs || event->kind == ESCAPE_STREAM_ESCAPE ? event->has_more : 0, 0};
+    size_t from = log->length,
+           kept = is_dcs || event->kind == ESCAPE_STREAM_ESCAPE ? event->kept : 0;
     struct record record = {event->kind, event->byte, 0, is_text ? (uint32_t)event->length : 0};
     if (is_text && !is_dcs)
         record.byte = 0;
@@ -96,7 +101,8 @@ static void add_sequence(struct log *log, const struct escape_stream_event *even
     memcpy(log->at + from, &record, sizeof record);
 }
 
-static void add_event(struct log *log, const struct escape_stream_event *event, const uint8_t *text) {
+static void
+add_event(struct log *log, const struct escape_stream_event *event, const uint8_t *text) {
     switch (event->kind) {
     case ESCAPE_STREAM_TEXT:
         add_run(log, text, event->length);
@@ -125,7 +131,8 @@ static void add_event(struct log *log, const struct escape_stream_event *event, 
 }
 
 /* The places and counts that the header promises. */
-static void check_event(const struct escape_stream_event *event, size_t room, size_t taken, size_t length) {
+static void
+check_event(const struct escape_stream_event *event, size_t room, size_t taken, size_t length) {
     bool is_run = event->kind == ESCAPE_STREAM_TEXT || event->kind == ESCAPE_STREAM_DATA;
     bool is_command = event->kind == ESCAPE_STREAM_OSC || event->kind == ESCAPE_STREAM_APC;
     bool is_string = is_command || event->kind == ESCAPE_STREAM_DCS;
@@ -141,7 +148,8 @@ static void check_event(const struct escape_stream_event *event, size_t room, si
         fails("a string longer than half the buffer", event->length);
 }
 
-/* A piece of a stream. The half of the buffer that is not the parser's is overwritten between two calls. */
+/* A piece of a stream. The half of the buffer that is not the parser's is overwritten between two
+ * calls. */
 static void feed(struct log *log, struct escape_stream_parser *parser, uint8_t *buffer, size_t room,
                  struct bytes piece) {
     struct escape_stream_event *event = (void *)placed(&events, sizeof *event);
@@ -165,7 +173,8 @@ static void feed(struct log *log, struct escape_stream_parser *parser, uint8_t *
     }
 }
 
-/* How long the next piece is: the way 0 is whole, 1 at random, and each other in pieces of one byte less than its number. */
+/* How long the next piece is: the way 0 is whole, 1 at random, and each other in pieces of one byte
+ * less than its number. */
 size_t piece_length(size_t way, size_t rest) {
     size_t wanted = way == 0 ? rest : way > 1 ? way - 1 : one_in(16) ? below(rest + 1) : below(9);
     return wanted < rest ? wanted : rest;
@@ -191,7 +200,8 @@ static struct record record_at(const struct log *log, size_t at) {
     return record;
 }
 
-/* What is expected within a limit. Of a device control string with a header that is too long no data are there. */
+/* What is expected within a limit. Of a device control string with a header that is too long no
+ * data are there. */
 static void limited(size_t limit) {
     bool is_left_out = false;
     struct record record;

@@ -1,5 +1,6 @@
 /* SPDX-License-Identifier: MIT */
-/* The control functions by name, over all bytes: a row that is there has a name, and of one that is not all is 0. */
+/* The control functions by name, over all bytes: a row that is there has a name, and of one that is
+ * not all is 0. */
 #include "hard.h"
 #include "escape_stream.h"
 
@@ -7,7 +8,8 @@
 
 static struct area rows;
 
-static void check_row(bool is_there, bool may_be_there, const struct escape_stream_function *row, size_t number) {
+static void check_row(
+    bool is_there, bool may_be_there, const struct escape_stream_function *row, size_t number) {
     static const struct escape_stream_function none;
     at_hand.calls++;
     if (!is_there && memcmp(row, &none, sizeof none) != 0)
@@ -30,7 +32,8 @@ static bool is_prefix(unsigned byte) {
     return byte == 0 || (byte >= '<' && byte <= '?');
 }
 
-/* The control sequences of a prefix and an intermediate. One of them alone is found in the place of the other too. */
+/* The control sequences of a prefix and an intermediate. One of them alone is found in the place of
+ * the other too. */
 static void check_finals(unsigned prefix, unsigned intermediate) {
     bool is_alone = prefix == 0 || intermediate == 0;
     unsigned one = prefix | intermediate;
@@ -40,19 +43,25 @@ static void check_finals(unsigned prefix, unsigned intermediate) {
         struct escape_stream_function *row = (void *)placed(&rows, sizeof *row);
         size_t count = one_in(2) ? 0 : one_in(2) ? 1 : (size_t)next_number();
         memset(row, JUNK, sizeof *row);
-        check_row(escape_stream_function((uint8_t)prefix, (uint8_t)intermediate, (uint8_t)final, count, row),
-                  may_be_there && final >= '@' && final <= '~', row, (size_t)prefix << 16 | intermediate << 8 | final);
+        check_row(
+            escape_stream_function(
+                (uint8_t)prefix, (uint8_t)intermediate, (uint8_t) final, count, row),
+            may_be_there && final >= '@' && final <= '~', row,
+            (size_t)prefix << 16 | intermediate << 8 | final);
     }
 }
 
-/* The escape sequences of an intermediate, or of none. The first byte alone says what designates a set. */
+/* The escape sequences of an intermediate, or of none. The first byte alone says what designates a
+ * set. */
 static void check_escapes(unsigned intermediate) {
     bool may_be_there = intermediate != 0 && is_intermediate(intermediate);
     for (unsigned final = 0; final < 256; final++) {
         struct escape_stream_function *row = (void *)placed(&rows, sizeof *row);
         memset(row, JUNK, sizeof *row);
-        check_row(escape_stream_escape_function((uint8_t)intermediate, (uint8_t)final, row),
-                  may_be_there || (intermediate == 0 && final >= ' ' && final <= '~'), row, intermediate << 8 | final);
+        check_row(
+            escape_stream_escape_function((uint8_t)intermediate, (uint8_t) final, row),
+            may_be_there || (intermediate == 0 && final >= ' ' && final <= '~'), row,
+            intermediate << 8 | final);
     }
 }
 

@@ -34,7 +34,8 @@ struct area guarded(size_t size) {
 
 /* Areas of `size` bytes each, one after another, with a page that nobody may touch after each. */
 uint8_t *guarded_row(size_t count, size_t size) {
-    uint8_t *all = between_guards(count * (size + PAGE), PROT_NONE, MAP_PRIVATE | MAP_ANONYMOUS, -1);
+    uint8_t *all =
+        between_guards(count * (size + PAGE), PROT_NONE, MAP_PRIVATE | MAP_ANONYMOUS, -1);
     for (size_t i = 0; i < count; i++)
         if (mprotect(all + i * (size + PAGE), size, PROT_READ | PROT_WRITE) != 0)
             stops("mprotect");

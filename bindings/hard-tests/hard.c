@@ -5,12 +5,13 @@
  *     hard COUNT SEED TABLE..
  *     hard functions
  *
- * COUNT streams, the first from the number SEED, each further one from the next number, so `hard 1 SEED` runs one of them
- * again, with the same pieces and in the same room. Each buffer that a call is given ends where memory ends, or begins where it
- * begins, the bytes of a stream cannot be written, and each block that the library asks for ends where memory ends. It says
- * what it ran; where a call does something else than its header says, or faults, it prints the seed and the stream in
- * hexadecimal, and the status is not 0. `hard functions` looks up all bytes among the functions by name. Link it with
- * -Wl,--wrap=malloc,--wrap=realloc,--wrap=free.
+ * COUNT streams, the first from the number SEED, each further one from the next number, so `hard 1
+ * SEED` runs one of them again, with the same pieces and in the same room. Each buffer that a call
+ * is given ends where memory ends, or begins where it begins, the bytes of a stream cannot be
+ * written, and each block that the library asks for ends where memory ends. It says what it ran;
+ * where a call does something else than its header says, or faults, it prints the seed and the
+ * stream in hexadecimal, and the status is not 0. `hard functions` looks up all bytes among the
+ * functions by name. Link it with -Wl,--wrap=malloc,--wrap=realloc,--wrap=free.
  */
 #define _GNU_SOURCE
 #include "hard.h"
@@ -27,8 +28,9 @@ struct run at_hand = {.call = "none"};
 /* Prints the stream at hand, with nothing but what a handler of a signal may call. */
 static void print_stream(void) {
     static char text[256 + 2 * STREAM_ROOM];
-    size_t length = (size_t)snprintf(text, 256, "hard: in %s, seed %" PRIu64 ", a stream of %zu bytes:\n", at_hand.call,
-                                     at_hand.seed, at_hand.stream.length);
+    size_t length = (size_t)snprintf(
+        text, 256, "hard: in %s, seed %" PRIu64 ", a stream of %zu bytes:\n", at_hand.call,
+        at_hand.seed, at_hand.stream.length);
     for (size_t i = 0; i < at_hand.stream.length; i++) {
         text[length++] = "0123456789abcdef"[at_hand.stream.at[i] >> 4];
         text[length++] = "0123456789abcdef"[at_hand.stream.at[i] & 15];
@@ -99,7 +101,9 @@ int main(int count, char **words) {
         read_table(words[i]);
     for (uint64_t i = 0; i < most; i++)
         check_stream(seed + i);
-    printf("%llu streams of %llu bytes from seed %" PRIu64 ", %llu calls, ", at_hand.streams, at_hand.bytes, seed, at_hand.calls);
+    printf(
+        "%llu streams of %llu bytes from seed %" PRIu64 ", %llu calls, ", at_hand.streams,
+        at_hand.bytes, seed, at_hand.calls);
     printf("%llu lengths of room, %llu refusals of memory\n", at_hand.rooms, at_hand.refusals);
     return 0;
 }

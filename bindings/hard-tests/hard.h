@@ -71,14 +71,18 @@ void check_functions(void);
 void begin_commands(void);
 enum reading { COMMANDS, IMAGES, QUERIES };
 struct escape_stream_field;
-bool reads_as(enum reading as, struct bytes text, uint32_t kind, const struct escape_stream_field *fields, size_t count,
-              struct bytes texts);
+bool reads_as(
+    enum reading as, struct bytes text, uint32_t kind, const struct escape_stream_field *fields,
+    size_t count, struct bytes texts);
 void check_command(enum reading as, struct bytes text);
 void check_sixel(struct bytes text);
 struct escape_stream_sixel;
 struct escape_stream_sixel_item;
 void begin_writes(void);
-void check_written(enum reading as, uint32_t kind, const struct escape_stream_field *fields, size_t count, struct bytes text);
-void check_written_sixel(const struct escape_stream_sixel *sixel, const struct escape_stream_sixel_item *items);
+void check_written(
+    enum reading as, uint32_t kind, const struct escape_stream_field *fields, size_t count,
+    struct bytes text);
+void check_written_sixel(
+    const struct escape_stream_sixel *sixel, const struct escape_stream_sixel_item *items);
 
 #endif

@@ -1,5 +1,6 @@
 /* SPDX-License-Identifier: MIT */
-/* The filter and the normal form in pieces: what they write of a stream in any pieces is what the call that takes it whole writes. */
+/* The filter and the normal form in pieces: what they write of a stream in any pieces is what the
+ * call that takes it whole writes. */
 #include "hard.h"
 #include "escape_stream.h"
 
@@ -33,7 +34,8 @@ static uint32_t feed_it(const struct text_call *call, union in_pieces *it, struc
                          : escape_stream_normal_feed(&it->normalizer, piece.at, piece.length);
 }
 
-static size_t text_of(const struct text_call *call, union in_pieces *it, size_t from, uint8_t *out, size_t capacity) {
+static size_t text_of(
+    const struct text_call *call, union in_pieces *it, size_t from, uint8_t *out, size_t capacity) {
     at_hand.calls++;
     return call->filters ? escape_stream_filter_text(&it->filter, from, out, capacity)
                          : escape_stream_normal_text(&it->normalizer, from, out, capacity);
@@ -59,7 +61,8 @@ static union in_pieces *moved(union in_pieces *it) {
 }
 
 /* A text can be read twice, from each of its bytes; past its end there is none. */
-static void check_again(const struct text_call *call, union in_pieces *it, struct bytes text, size_t capacity) {
+static void
+check_again(const struct text_call *call, union in_pieces *it, struct bytes text, size_t capacity) {
     size_t from = below(text.length + 3), rest = from < text.length ? text.length - from : 0;
     size_t fits = rest < capacity ? rest : capacity;
     uint8_t *out = placed(&outs, capacity);
@@ -71,7 +74,8 @@ static void check_again(const struct text_call *call, union in_pieces *it, struc
 }
 
 /* Adds what the last piece wrote, read in room for so many bytes at a time, to what was given. */
-static size_t add_text(const struct text_call *call, union in_pieces *it, size_t capacity, size_t length) {
+static size_t
+add_text(const struct text_call *call, union in_pieces *it, size_t capacity, size_t length) {
     size_t count, from = 0, before = length;
     do {
         uint8_t *out = placed(&outs, capacity);
@@ -102,7 +106,8 @@ static void check_finish(union in_pieces *it) {
 }
 
 /* Feeds the stream. The request for memory with the number `at` is refused, where that is not 0. */
-static size_t feed(const struct text_call *call, union in_pieces *it, size_t way, size_t at, uint32_t *status) {
+static size_t
+feed(const struct text_call *call, union in_pieces *it, size_t way, size_t at, uint32_t *status) {
     size_t length = 0, capacity = one_in(4) ? 1 + below(4096) : 1 + below(40);
     struct bytes stream = call->stream;
     requests = 0;
@@ -117,7 +122,8 @@ static size_t feed(const struct text_call *call, union in_pieces *it, size_t way
             it = moved(it);
     }
     refused = 0;
-    if (*status != ESCAPE_STREAM_DONE && feed_it(call, it, (struct bytes){stream.at, 0}) != ESCAPE_STREAM_NOT_BEGUN)
+    if (*status != ESCAPE_STREAM_DONE &&
+        feed_it(call, it, (struct bytes){stream.at, 0}) != ESCAPE_STREAM_NOT_BEGUN)
         fails("what was refused memory goes on", at);
     if (*status == ESCAPE_STREAM_DONE && !call->filters)
         check_finish(it);

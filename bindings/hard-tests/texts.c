@@ -5,7 +5,13 @@
 
 #include <string.h>
 
-enum { EACH_ROOM_UP_TO = 24, EACH_ROOM_OF_SOME = 2000, BESIDE = 32, UNTOUCHED = 99, LARGE = 1048576 };
+enum {
+    EACH_ROOM_UP_TO = 24,
+    EACH_ROOM_OF_SOME = 2000,
+    BESIDE = 32,
+    UNTOUCHED = 99,
+    LARGE = 1048576
+};
 
 static struct area outs, numbers;
 static uint8_t normals[TEXT_ROOM], agains[TEXT_ROOM], texts[TEXT_ROOM];
@@ -15,13 +21,17 @@ void begin_texts(void) {
     numbers = guarded(PAGE);
 }
 
-static uint32_t run(const struct text_call *call, struct bytes stream, uint8_t *out, size_t capacity, size_t *needed) {
+static uint32_t
+run(const struct text_call *call, struct bytes stream, uint8_t *out, size_t capacity,
+    size_t *needed) {
     uint32_t status;
     *needed = UNTOUCHED;
     at_hand.calls++;
     at_hand.call = call->filters ? "escape_stream_filter" : "escape_stream_normal";
-    status = call->filters ? escape_stream_filter(call->policy, call->limit, stream.at, stream.length, out, capacity, needed)
-                           : escape_stream_normal(stream.at, stream.length, out, capacity, needed);
+    status = call->filters
+                 ? escape_stream_filter(
+                       call->policy, call->limit, stream.at, stream.length, out, capacity, needed)
+                 : escape_stream_normal(stream.at, stream.length, out, capacity, needed);
     if (blocks != 0)
         fails("blocks were not given back", (size_t)blocks);
     return status;
@@ -56,8 +66,10 @@ static bool is_same(struct bytes one, struct bytes other) {
     return one.length == other.length && memcmp(one.at, other.at, one.length) == 0;
 }
 
-/* With room for so many bytes as many of the text are written, and nothing else in the room or beside it. */
-static void check_room(const struct text_call *call, struct bytes stream, struct bytes text, size_t capacity) {
+/* With room for so many bytes as many of the text are written, and nothing else in the room or
+ * beside it. */
+static void
+check_room(const struct text_call *call, struct bytes stream, struct bytes text, size_t capacity) {
     uint8_t *out = placed(&outs, capacity);
     size_t *needed = a_number(), fits = capacity < text.length ? capacity : text.length;
     at_hand.rooms++;
@@ -74,7 +86,8 @@ static void check_room(const struct text_call *call, struct bytes stream, struct
 
 static void check_rooms(const struct text_call *call, struct bytes text) {
     struct bytes stream = lent(call->stream);
-    bool has_all = text.length <= EACH_ROOM_UP_TO || (text.length <= EACH_ROOM_OF_SOME && one_in(64));
+    bool has_all =
+        text.length <= EACH_ROOM_UP_TO || (text.length <= EACH_ROOM_OF_SOME && one_in(64));
     for (size_t capacity = 0; has_all && capacity <= text.length + 1; capacity++)
         check_room(call, stream, text, capacity);
     if (has_all)
@@ -95,7 +108,8 @@ static void check_refusal(const struct text_call *call) {
     refused = at;
     status = run(call, lent(call->stream), out, BESIDE, needed);
     refused = 0;
-    if (status == ESCAPE_STREAM_NO_MEMORY && requests >= at && *needed == UNTOUCHED && is_junk(out, BESIDE))
+    if (status == ESCAPE_STREAM_NO_MEMORY && requests >= at && *needed == UNTOUCHED &&
+        is_junk(out, BESIDE))
         at_hand.refusals++;
     else if (status != ESCAPE_STREAM_DONE)
         fails("another status, or something written, where memory was refused", at);
@@ -108,15 +122,18 @@ static void check_is_normal(struct bytes stream, bool wanted) {
     at_hand.call = "escape_stream_is_normal";
     at_hand.calls++;
     stream = lent(stream);
-    if (escape_stream_is_normal(stream.at, stream.length, answer) != ESCAPE_STREAM_DONE || *answer != wanted)
+    if (escape_stream_is_normal(stream.at, stream.length, answer) != ESCAPE_STREAM_DONE ||
+        *answer != wanted)
         fails("another status, or not whether the stream is normal", stream.length);
     if (blocks != 0)
         fails("blocks were not given back", (size_t)blocks);
 }
 
-/* Whether all actions of the stream can be written by themselves, as then the policy all writes what `normal` is. */
+/* Whether all actions of the stream can be written by themselves, as then the policy all writes
+ * what `normal` is. */
 static bool is_writable(struct bytes stream, struct bytes normal) {
-    return is_same(written(&(struct text_call){true, ESCAPE_STREAM_POLICY_ALL, LARGE, stream}, texts), normal);
+    return is_same(
+        written(&(struct text_call){true, ESCAPE_STREAM_POLICY_ALL, LARGE, stream}, texts), normal);
 }
 
 /* The normal form of a stream whose actions can be written by themselves is its own normal form. */

@@ -30,15 +30,18 @@ void begin_writes(void) {
 }
 
 static uint32_t write_osc(const struct value *it, uint8_t *out, size_t capacity, size_t *needed) {
-    return escape_stream_write_osc(it->kind, it->fields, it->count, it->texts.at, it->texts.length, out, capacity, needed);
+    return escape_stream_write_osc(
+        it->kind, it->fields, it->count, it->texts.at, it->texts.length, out, capacity, needed);
 }
 
 static uint32_t write_kitty(const struct value *it, uint8_t *out, size_t capacity, size_t *needed) {
-    return escape_stream_write_kitty(it->kind, it->fields, it->count, it->texts.at, it->texts.length, out, capacity, needed);
+    return escape_stream_write_kitty(
+        it->kind, it->fields, it->count, it->texts.at, it->texts.length, out, capacity, needed);
 }
 
 static uint32_t write_tcap(const struct value *it, uint8_t *out, size_t capacity, size_t *needed) {
-    return escape_stream_write_tcap(it->fields, it->count, it->texts.at, it->texts.length, out, capacity, needed);
+    return escape_stream_write_tcap(
+        it->fields, it->count, it->texts.at, it->texts.length, out, capacity, needed);
 }
 
 static uint32_t write_sixel(const struct value *it, uint8_t *out, size_t capacity, size_t *needed) {
@@ -110,18 +113,21 @@ static void check_refusal(const struct value *value) {
     refused = at;
     status = run(value, out, EACH_ROOM_UP_TO, &needed);
     refused = 0;
-    if (status == ESCAPE_STREAM_NO_MEMORY && requests >= at && needed == UNTOUCHED && is_junk(out, EACH_ROOM_UP_TO))
+    if (status == ESCAPE_STREAM_NO_MEMORY && requests >= at && needed == UNTOUCHED &&
+        is_junk(out, EACH_ROOM_UP_TO))
         at_hand.refusals++;
     else if (status != ESCAPE_STREAM_DONE)
         fails("another status, or something written, where memory was refused", at);
     memset(out, JUNK, EACH_ROOM_UP_TO);
 }
 
-/* Writes all to `whole`, and in other rooms. Returns the length, or 0 where it is not writable, which is then written nowhere. */
+/* Writes all to `whole`, and in other rooms. Returns the length, or 0 where it is not writable,
+ * which is then written nowhere. */
 static size_t check_all(const struct value *value, bool may_refuse) {
     size_t length;
     uint32_t status = run(value, outs.at, outs.size, &length);
-    if (may_refuse && status == ESCAPE_STREAM_NOT_WRITABLE && length == UNTOUCHED && is_junk(outs.at, PAGE))
+    if (may_refuse && status == ESCAPE_STREAM_NOT_WRITABLE && length == UNTOUCHED &&
+        is_junk(outs.at, PAGE))
         return 0;
     if (status != ESCAPE_STREAM_DONE || length > outs.size)
         fails("another status of what was read", status);
@@ -138,7 +144,8 @@ static size_t check_all(const struct value *value, bool may_refuse) {
 /* Whether a text begins and ends as it has to. */
 static void check_frame(size_t length, const char *begins) {
     size_t first = strlen(begins);
-    if (length < first + 2 || memcmp(whole, begins, first) != 0 || memcmp(whole + length - 2, "\x1b\\", 2) != 0)
+    if (length < first + 2 || memcmp(whole, begins, first) != 0 ||
+        memcmp(whole + length - 2, "\x1b\\", 2) != 0)
         fails("no string of its kind", length);
     for (size_t i = first; i < length - 2; i++)
         if (whole[i] < 0x20)
@@ -146,7 +153,9 @@ static void check_frame(size_t length, const char *begins) {
 }
 
 /* Writes fields that were read, and reads what was written. */
-void check_written(enum reading as, uint32_t kind, const struct escape_stream_field *fields, size_t count, struct bytes text) {
+void check_written(
+    enum reading as, uint32_t kind, const struct escape_stream_field *fields, size_t count,
+    struct bytes text) {
     const struct call *call = &CALLS[as];
     size_t size = count * sizeof *fields, first = strlen(call->begins), length;
     struct escape_stream_field *lent_fields = (void *)placed(&rows, size);
@@ -165,26 +174,36 @@ void check_written(enum reading as, uint32_t kind, const struct escape_stream_fi
         fails("what was written reads otherwise", length);
 }
 
-static bool is_same_item(const struct escape_stream_sixel_item *one, const struct escape_stream_sixel_item *other) {
-    return one->kind == other->kind && one->count == other->count && one->color == other->color && one->hue == other->hue &&
-           one->pixels == other->pixels && one->red == other->red && one->green == other->green && one->blue == other->blue &&
+static bool is_same_item(
+    const struct escape_stream_sixel_item *one, const struct escape_stream_sixel_item *other) {
+    return one->kind == other->kind && one->count == other->count && one->color == other->color &&
+           one->hue == other->hue && one->pixels == other->pixels && one->red == other->red &&
+           one->green == other->green && one->blue == other->blue &&
            one->lightness == other->lightness && one->saturation == other->saturation;
 }
 
-static bool is_same_sixel(const struct escape_stream_sixel *one, const struct escape_stream_sixel *other) {
-    return one->pan == other->pan && one->pad == other->pad && one->has_grid_size == other->has_grid_size &&
-           one->grid_size == other->grid_size && one->has_pixel_width == other->has_pixel_width &&
-           one->pixel_width == other->pixel_width && one->has_pixel_height == other->has_pixel_height &&
-           one->pixel_height == other->pixel_height && one->width == other->width && one->height == other->height &&
-           one->background_is_transparent == other->background_is_transparent && one->item_count == other->item_count;
+static bool
+is_same_sixel(const struct escape_stream_sixel *one, const struct escape_stream_sixel *other) {
+    return one->pan == other->pan && one->pad == other->pad &&
+           one->has_grid_size == other->has_grid_size && one->grid_size == other->grid_size &&
+           one->has_pixel_width == other->has_pixel_width &&
+           one->pixel_width == other->pixel_width &&
+           one->has_pixel_height == other->has_pixel_height &&
+           one->pixel_height == other->pixel_height && one->width == other->width &&
+           one->height == other->height &&
+           one->background_is_transparent == other->background_is_transparent &&
+           one->item_count == other->item_count;
 }
 
 /* Writes an image that was read, and reads what was written. */
-void check_written_sixel(const struct escape_stream_sixel *sixel, const struct escape_stream_sixel_item *items) {
+void check_written_sixel(
+    const struct escape_stream_sixel *sixel, const struct escape_stream_sixel_item *items) {
     static struct escape_stream_sixel_item again_items[STREAM_ROOM];
     struct escape_stream_sixel *lent_sixel = (void *)placed(&values, sizeof *sixel), again = {0};
-    struct escape_stream_sixel_item *lent_items = (void *)placed(&texts, sixel->item_count * sizeof *items);
-    struct value value = {write_sixel, 0, sixel->item_count, NULL, {NULL, 0}, lent_sixel, lent_items};
+    struct escape_stream_sixel_item *lent_items =
+        (void *)placed(&texts, sixel->item_count * sizeof *items);
+    struct value value = {write_sixel, 0,          sixel->item_count, NULL,
+                          {NULL, 0},   lent_sixel, lent_items};
     int64_t params[MOST_PARAMETERS] = {0};
     size_t length, at = 2, count = 1;
     at_hand.call = "escape_stream_write_sixel";
@@ -197,8 +216,10 @@ void check_written_sixel(const struct escape_stream_sixel *sixel, const struct e
             count++;
         else
             params[count - 1] = 10 * params[count - 1] + whole[at] - '0';
-    if (escape_stream_read_sixel(params, count, whole + at + 1, length - at - 3, &again, again_items, STREAM_ROOM) !=
-            ESCAPE_STREAM_DONE || !is_same_sixel(&again, sixel))
+    if (escape_stream_read_sixel(
+            params, count, whole + at + 1, length - at - 3, &again, again_items, STREAM_ROOM) !=
+            ESCAPE_STREAM_DONE ||
+        !is_same_sixel(&again, sixel))
         fails("an image that was written reads otherwise", length);
     for (size_t i = 0; i < sixel->item_count; i++)
         if (!is_same_item(&again_items[i], &items[i]))

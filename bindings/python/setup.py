@@ -1,7 +1,8 @@
 # SPDX-License-Identifier: MIT
 """Links the shared object while a wheel is made, and says that it is of this platform.
 
-ESCAPE_STREAM_LIB names the folder with the archive. Without it it is looked for in ../../lib, where a release has it.
+ESCAPE_STREAM_LIB names the folder with the archive. Without it it is looked for in ../../lib, where
+a release has it.
 """
 
 import os

@@ -1,7 +1,8 @@
 // SPDX-License-Identifier: MIT
-// What the parser of libvterm takes for a stream: `libvterm FILE PIECE PASSES`, as vte.rs says. The parser alone: no state and no
-// screen. libvterm hands its text callback all that is left, and takes the number of bytes that it took; its own next layer decodes
-// UTF-8 there and stops at a control, so this does too.
+// What the parser of libvterm takes for a stream: `libvterm FILE PIECE PASSES`, as vte.rs says. The
+// parser alone: no state and no screen. libvterm hands its text callback all that is left, and
+// takes the number of bytes that it took; its own next layer decodes UTF-8 there and stops at a
+// control, so this does too.
 #include <stdio.h>
 #include <stdlib.h>
 #include <vterm.h>
@@ -72,8 +73,9 @@ static int escape(const char *bytes, size_t length, void *user)
     return length;
 }
 
-static int csi(const char *leader, const long *args, int count, const char *intermediates, char command, void *user)
-{
+static int
+csi(const char *leader, const long *args, int count, const char *intermediates, char command,
+    void *user) {
     (void)leader, (void)args, (void)intermediates;
     return add(user, count + command);
 }

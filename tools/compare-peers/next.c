@@ -1,6 +1,7 @@
 // SPDX-License-Identifier: MIT
-// What the parser for C takes for a stream: `next FILE PIECE PASSES`, as vte.rs says, by escape_stream_next with a buffer of 64 KiB.
-// Of an event it adds up what the program over vte does: of a control sequence the count of its parameters and the final byte.
+// What the parser for C takes for a stream: `next FILE PIECE PASSES`, as vte.rs says, by
+// escape_stream_next with a buffer of 64 KiB. Of an event it adds up what the program over vte
+// does: of a control sequence the count of its parameters and the final byte.
 #include "escape_stream_parser.h"
 #include <stdio.h>
 #include <stdlib.h>
@@ -32,12 +33,13 @@ static void add(struct count *count, const struct escape_stream_event *event, co
         count->sum += event->kind + event->byte + event->count + event->length;
 }
 
-static void feed(struct escape_stream_parser *parser, const uint8_t *bytes, size_t length, struct count *count)
-{
+static void feed(
+    struct escape_stream_parser *parser, const uint8_t *bytes, size_t length, struct count *count) {
     static struct escape_stream_event event;
     static uint8_t buffer[65536];
     for (size_t at = 0;;) {
-        size_t taken = escape_stream_next(parser, buffer, sizeof buffer, bytes + at, length - at, &event);
+        size_t taken =
+            escape_stream_next(parser, buffer, sizeof buffer, bytes + at, length - at, &event);
         if (event.kind == ESCAPE_STREAM_NONE || event.kind == ESCAPE_STREAM_FAILED)
             return;
         add(count, &event, escape_stream_text(&event, buffer, sizeof buffer, bytes + at));

@@ -115,7 +115,10 @@ static size_t bytes_of(const uint8_t *text, uint32_t units)
 {
     size_t length = 0;
     while (units > 0) {
-        size_t one = text[length] < 0x80 ? 1 : text[length] < 0xe0 ? 2 : text[length] < 0xf0 ? 3 : 4;
+        size_t one = text[length] < 0x80   ? 1
+                     : text[length] < 0xe0 ? 2
+                     : text[length] < 0xf0 ? 3
+                                           : 4;
         check(units >= one / 4 + 1u, "a run ends within a character");
         units -= (uint32_t)(one / 4 + 1);
         length += one;

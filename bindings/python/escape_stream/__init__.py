@@ -1,5 +1,6 @@
 # SPDX-License-Identifier: MIT
-"""Streams of terminal escape sequences: a filter for streams of unknown origin, the normal form, and a parser.
+"""Streams of terminal escape sequences: a filter for streams of unknown origin, the normal form,
+and a parser.
 
 A stream is bytes as a program writes them to a terminal. Any bytes are a stream.
 
@@ -12,8 +13,8 @@ Text(text='caf')
 Text(text='é')
 Csi(prefix='', parameters=((2,), (5,)), intermediates='', final='H', has_more=False)
 
-The work is done by a library that is proved: what each call writes is what its contract says, for every stream. This package is
-not proved.
+The work is done by a library that is proved: what each call writes is what its contract says, for
+every stream. This package is not proved.
 """
 
 from escape_stream._actions import Action, DeviceControl, actions

@@ -7,7 +7,18 @@ from typing import TypeAlias
 
 from escape_stream._commands import Command, command
 from escape_stream._devices import Sixel, TermcapQuery, sixel, termcap_query
-from escape_stream._events import Apc, Control, Csi, Data, Dcs, DcsEnd, Escape, LimitPassed, Osc, Text
+from escape_stream._events import (
+    Apc,
+    Control,
+    Csi,
+    Data,
+    Dcs,
+    DcsEnd,
+    Escape,
+    LimitPassed,
+    Osc,
+    Text,
+)
 from escape_stream._images import Image, image
 from escape_stream._parser import events
 from escape_stream._whole import DEFAULT_LIMIT
@@ -18,7 +29,8 @@ DEFAULT_DATA_LIMIT = 1 << 26
 
 @dataclass(frozen=True, slots=True)
 class DeviceControl:
-    """A device control string that is given whole, since it is short: a request for a setting (DECRQSS)."""
+    """A device control string that is given whole, since it is short: a request for a setting
+    (DECRQSS)."""
 
     header: Dcs
     data: bytes
@@ -42,16 +54,19 @@ Action: TypeAlias = (
 
 
 def actions(
-    stream: bytes | Iterable[bytes], limit: int = DEFAULT_LIMIT, data_limit: int = DEFAULT_DATA_LIMIT
+    stream: bytes | Iterable[bytes],
+    limit: int = DEFAULT_LIMIT,
+    data_limit: int = DEFAULT_DATA_LIMIT,
 ) -> Iterator[Action]:
-    """Yields the events of a stream, with what each string says: a `Command`, an `Image`, a `Sixel`, a `TermcapQuery`.
+    """Yields the events of a stream, with what each string says: a `Command`, an `Image`, a
+    `Sixel`, a `TermcapQuery`.
 
     >>> from escape_stream import actions
     >>> [type(it).__name__ for it in actions(b"a\\x1b]2;b\\x07\\x1bPq~\\x1b\\\\")]
     ['Text', 'Command', 'Sixel', 'Escape']
 
-    A device control string of another kind comes as its events. An application program command that is no image gives nothing,
-    and one of which there is more data than the limit `LimitPassed`.
+    A device control string of another kind comes as its events. An application program command that
+    is no image gives nothing, and one of which there is more data than the limit `LimitPassed`.
     """
     header, data = None, bytearray()
     for event in events(stream, limit):

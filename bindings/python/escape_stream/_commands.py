@@ -1,5 +1,6 @@
 # SPDX-License-Identifier: MIT
-"""What operating system commands say: their kind, and their parts as fields; and the commands that say it."""
+"""What operating system commands say: their kind, and their parts as fields; and the commands that
+say it."""
 
 from dataclasses import dataclass
 from enum import IntEnum
@@ -67,27 +68,31 @@ class Command:
 
     kind: CommandKind
     fields: Fields
-    """Numbers and sizes as `int`, texts as `str`; of what need not be UTF-8, `bytes`. A flag is 0 or 1."""
+    """Numbers and sizes as `int`, texts as `str`; of what need not be UTF-8, `bytes`. A flag is 0
+    or 1."""
 
     def get(self, name: FieldName) -> Value | None:
         """Returns the first field of this name, where there is one."""
         return next((value for it, value in self.fields if it == name), None)
 
     def to_bytes(self) -> bytes:
-        """Returns the command, from ESC ] to ESC \\ : what `command` reads of the text between these is this value.
+        """Returns the command, from ESC ] to ESC \\ : what `command` reads of the text between
+        these is this value.
 
         >>> from escape_stream import command
         >>> command(b"2;a title").to_bytes()
         b'\\x1b]2;a title\\x1b\\\\'
 
-        Raises ValueError where no command has this kind and these fields, and where its text would not read back as it, as
-        that of a title with a control; MemoryError where a request for memory was refused.
+        Raises ValueError where no command has this kind and these fields, and where its text would
+        not read back as it, as that of a title with a control; MemoryError where a request for
+        memory was refused.
         """
         return written(_library.write_osc, self.fields, self.kind)
 
 
 def command(text: bytes) -> Command:
-    """Returns what the text of an operating system command says: that of an event `Osc`. Any bytes are such a text.
+    """Returns what the text of an operating system command says: that of an event `Osc`. Any bytes
+    are such a text.
 
     >>> from escape_stream import FieldName, command
     >>> command(b"8;id=1;http://example.com/").get(FieldName.URI)

@@ -1,5 +1,6 @@
 # SPDX-License-Identifier: MIT
-"""What device control strings say, sixel images and termcap queries; and the strings that say it."""
+"""What device control strings say, sixel images and termcap queries; and the strings that say
+it."""
 
 from collections.abc import Sequence
 from ctypes import byref, c_int64
@@ -43,7 +44,8 @@ class SixelItem:
     rgb: tuple[int, int, int] = (0, 0, 0)
     """Red, green and blue, from 0 to 255."""
     hls: tuple[int, int, int] = (0, 0, 0)
-    """Hue, from 0 to 360, lightness and saturation, from 0 to 100; larger ones are as they were written."""
+    """Hue, from 0 to 360, lightness and saturation, from 0 to 100; larger ones are as they were
+    written."""
 
 
 @dataclass(frozen=True, slots=True)
@@ -65,7 +67,8 @@ class Sixel:
     items: tuple[SixelItem, ...]
 
     def to_bytes(self) -> bytes:
-        """Returns the image, from ESC P to ESC \\ : what `sixel` reads of its parameters and its data is this value.
+        """Returns the image, from ESC P to ESC \\ : what `sixel` reads of its parameters and its
+        data is this value.
 
         The `dimensions` follow from the rest, and are not looked at.
 
@@ -73,10 +76,13 @@ class Sixel:
         >>> sixel([9, 1], b"!3~").to_bytes()
         b'\\x1bP7;1q!3~\\x1b\\\\'
 
-        Raises ValueError where no image has these values, and where its text would not read back as it, as that of a number
-        that is negative; MemoryError where a request for memory was refused.
+        Raises ValueError where no image has these values, and where its text would not read back as
+        it, as that of a number that is negative; MemoryError where a request for memory was
+        refused.
         """
-        raw, rows = _library.RawSixel(), (_library.RawSixelItem * len(self.items))(*map(_row, self.items))
+        raw, rows = _library.RawSixel(), (_library.RawSixelItem * len(self.items))(
+            *map(_row, self.items)
+        )
         raw.pan, raw.pad = _library.signed(self.pan), _library.signed(self.pad)
         raw.background_is_transparent = self.background_is_transparent
         if self.horizontal_grid_size is not None:
@@ -95,13 +101,15 @@ class TermcapQuery:
     names: tuple[str, ...]
 
     def to_bytes(self) -> bytes:
-        """Returns the query, from ESC P + q to ESC \\ : what `termcap_query` reads of the data between these is this value.
+        """Returns the query, from ESC P + q to ESC \\ : what `termcap_query` reads of the data
+        between these is this value.
 
         >>> from escape_stream import TermcapQuery
         >>> TermcapQuery(("TN", "Co")).to_bytes()
         b'\\x1bP+q544e;436f\\x1b\\\\'
 
-        Raises ValueError where there is no name; MemoryError where a request for memory was refused.
+        Raises ValueError where there is no name; MemoryError where a request for memory was
+        refused.
         """
         return written(_library.write_tcap, tuple((FieldName.NAME, name) for name in self.names))
 
@@ -120,7 +128,8 @@ def termcap_query(data: bytes) -> TermcapQuery:
 
 
 def sixel(parameters: Sequence[int], data: bytes) -> Sixel:
-    """Returns the image of a device control string with `q`: of its parameters and its data. Any are such an image.
+    """Returns the image of a device control string with `q`: of its parameters and its data. Any
+    are such an image.
 
     >>> from escape_stream import sixel
     >>> sixel([9, 1], b"~!3?").dimensions
@@ -131,7 +140,9 @@ def sixel(parameters: Sequence[int], data: bytes) -> Sixel:
     data, raw = _library.bytes_of(data), _library.RawSixel()
     numbers = (c_int64 * len(parameters))(*parameters)
     rows = (_library.RawSixelItem * len(data))()
-    _library.done(_library.read_sixel(numbers, len(numbers), data, len(data), byref(raw), rows, len(rows)))
+    _library.done(
+        _library.read_sixel(numbers, len(numbers), data, len(data), byref(raw), rows, len(rows))
+    )
     if raw.item_count > len(rows):
         raise RuntimeError("escape_stream: more items than bytes")
     return Sixel(
@@ -149,7 +160,16 @@ def sixel(parameters: Sequence[int], data: bytes) -> Sixel:
 def _row(item: SixelItem) -> _library.RawSixelItem:
     hue, lightness, saturation = item.hls
     bits = (32, 32, 16, 16, 8, 8, 8, 8, 8, 8)
-    numbers = (item.kind, item.count, item.color, hue, item.pixels, *item.rgb, lightness, saturation)
+    numbers = (
+        item.kind,
+        item.count,
+        item.color,
+        hue,
+        item.pixels,
+        *item.rgb,
+        lightness,
+        saturation,
+    )
     return _library.RawSixelItem(*map(_library.within, numbers, bits))
 
 

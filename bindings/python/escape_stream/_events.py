@@ -40,16 +40,19 @@ class Csi:
     prefix: str
     """The private prefix, one of `<` `=` `>` `?`, or nothing."""
     parameters: tuple[tuple[int | None, ...], ...]
-    """The parameters between `;`, each the numbers between its colons; None is one that is left out. Numbers end at 2**63 - 1."""
+    """The parameters between `;`, each the numbers between its colons; None is one that is left
+    out. Numbers end at 2**63 - 1."""
     intermediates: str
     """The intermediates, each a space up to `/`."""
     final: str
     """The final byte."""
     has_more: bool = False
-    """Whether there are more than 256 parameters, separators and intermediates: the first are there."""
+    """Whether there are more than 256 parameters, separators and intermediates: the first are
+    there."""
 
     def number(self, index: int, default: int) -> int:
-        """Returns the parameter of this index, counted from 0, or the default where it is left out; of one with colons the first."""
+        """Returns the parameter of this index, counted from 0, or the default where it is left out;
+        of one with colons the first."""
         if not 0 <= index < len(self.parameters):
             return default
         first = self.parameters[index][0]
@@ -58,7 +61,8 @@ class Csi:
 
 @dataclass(frozen=True, slots=True)
 class Osc:
-    """An operating system command: all bytes between its opener and its end. `command` says what they ask for."""
+    """An operating system command: all bytes between its opener and its end. `command` says what
+    they ask for."""
 
     text: bytes
 
@@ -110,7 +114,8 @@ class Apc:
 
 @dataclass(frozen=True, slots=True)
 class LimitPassed:
-    """A string ended of which there was more than the limit: its event, and the data of a device control string, are left out."""
+    """A string ended of which there was more than the limit: its event, and the data of a device
+    control string, are left out."""
 
 
 def _number(digits: bytes) -> int | None:

@@ -22,8 +22,8 @@ class Filter(InPieces):
     ...     [filter.feed(b"\\x1b[31mred"), filter.finish()]
     [b'\\x1b[31mred', b'\\x1b[0m']
 
-    It stays in the thread that made it. What it keeps of the stream is given back by `close`, by the end of a `with`, or when
-    nothing names it any more.
+    It stays in the thread that made it. What it keeps of the stream is given back by `close`, by
+    the end of a `with`, or when nothing names it any more.
     """
 
     _name = "filter"
@@ -33,9 +33,13 @@ class Filter(InPieces):
     _end = _library.filter_end
 
     def __init__(self, policy: Policy = Policy.TEXT, limit: int = DEFAULT_LIMIT) -> None:
-        """Begins a stream. `limit` is how many bytes are kept of a string; of one with more nothing is written.
+        """Begins a stream. `limit` is how many bytes are kept of a string; of one with more nothing
+        is written.
 
-        Raises MemoryError where a request for memory was refused, and ValueError where there is no such policy.
+        Raises MemoryError where a request for memory was refused, and ValueError where there is no
+        such policy.
         """
         super().__init__(_library.RawFilter())
-        _library.done(_library.filter_begin(byref(self._raw), Policy(policy), _library.limit_of(limit)))
+        _library.done(
+            _library.filter_begin(byref(self._raw), Policy(policy), _library.limit_of(limit))
+        )

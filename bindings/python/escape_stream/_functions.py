@@ -23,8 +23,8 @@ class Function:
 
 
 def function(event: Csi | Escape | Control) -> Function | None:
-    """Returns the function of a control sequence, an escape sequence or a control, where it has a name; of an escape sequence of two
-    intermediates `None`.
+    """Returns the function of a control sequence, an escape sequence or a control, where it has a
+    name; of an escape sequence of two intermediates `None`.
 
     >>> from escape_stream import Csi, function
     >>> function(Csi("", ((2,), (5,)), "", "H")).phrase

@@ -1,5 +1,6 @@
 # SPDX-License-Identifier: MIT
-"""What commands of kitty's graphics protocol say: their kind, and their keys as fields; and the commands that say it."""
+"""What commands of kitty's graphics protocol say: their kind, and their keys as fields; and the
+commands that say it."""
 
 from dataclasses import dataclass
 from enum import IntEnum
@@ -59,20 +60,23 @@ class Image:
         return next((value for it, value in self.fields if it == name), None)
 
     def to_bytes(self) -> bytes:
-        """Returns the command, from ESC _ to ESC \\ : what `image` reads of the text between these is this value.
+        """Returns the command, from ESC _ to ESC \\ : what `image` reads of the text between these
+        is this value.
 
         >>> from escape_stream import image
         >>> image(b"Gs=10,f=24,v=20;AAAA").to_bytes()
         b'\\x1b_Gf=24,s=10,v=20;AAAA\\x1b\\\\'
 
-        Raises ValueError where no command has this kind and these fields, and where its text would not read back as it, as
-        that of pixels that are not in base64; MemoryError where a request for memory was refused.
+        Raises ValueError where no command has this kind and these fields, and where its text would
+        not read back as it, as that of pixels that are not in base64; MemoryError where a request
+        for memory was refused.
         """
         return written(_library.write_kitty, self.fields, self.kind)
 
 
 def image(text: bytes) -> Image | None:
-    """Returns what the text of an application program command says, that of an event `Apc`; None where it is no image.
+    """Returns what the text of an application program command says, that of an event `Apc`; None
+    where it is no image.
 
     >>> from escape_stream import FieldName, image
     >>> image(b"Gf=24,s=10,v=20;AAAA").get(FieldName.PIXEL_WIDTH)

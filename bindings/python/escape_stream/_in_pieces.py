@@ -30,24 +30,27 @@ class InPieces:
     def feed(self, piece: bytes) -> bytes:
         """Takes the next piece of the stream, and returns the text that it adds.
 
-        Raises MemoryError where a request for memory was refused: it is then closed, and the texts before are the beginning of what
-        the stream would have given. Raises ValueError where it is closed, and RuntimeError in another thread.
+        Raises MemoryError where a request for memory was refused: it is then closed, and the texts
+        before are the beginning of what the stream would have given. Raises ValueError where it is
+        closed, and RuntimeError in another thread.
         """
         self._check_thread()
         piece = _library.bytes_of(piece)
         return self._text_after(self._feed(byref(self._raw), piece, len(piece)))
 
     def finish(self) -> bytes:
-        """Ends the stream, and begins the next. Returns the text that the end adds. What is unfinished adds nothing.
+        """Ends the stream, and begins the next. Returns the text that the end adds. What is
+        unfinished adds nothing.
 
-        Raises MemoryError where a request for memory was refused: it is then closed. Raises ValueError where it is closed, and
-        RuntimeError in another thread.
+        Raises MemoryError where a request for memory was refused: it is then closed. Raises
+        ValueError where it is closed, and RuntimeError in another thread.
         """
         self._check_thread()
         return self._text_after(self._finish(byref(self._raw)))
 
     def close(self) -> None:
-        """Gives back what it keeps. What is unfinished at the end of a stream adds nothing. It may be closed twice."""
+        """Gives back what it keeps. What is unfinished at the end of a stream adds nothing. It may
+        be closed twice."""
         self._check_thread()
         self._end(byref(self._raw))
 
@@ -55,12 +58,16 @@ class InPieces:
         return self
 
     def __exit__(
-        self, kind: type[BaseException] | None, error: BaseException | None, trace: TracebackType | None
+        self,
+        kind: type[BaseException] | None,
+        error: BaseException | None,
+        trace: TracebackType | None,
     ) -> None:
         self.close()
 
     def __del__(self) -> None:
-        # In another thread the block is left as it is: the library does not say that it may be given back there.
+        # In another thread the block is left as it is: the library does not say that it may be
+        # given back there.
         if hasattr(self, "_room") and self._thread == threading.get_ident():
             self._end(byref(self._raw))
 

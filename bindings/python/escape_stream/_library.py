@@ -1,15 +1,26 @@
 # SPDX-License-Identifier: MIT
 """The calls of the proved library, as escape_stream.h and escape_stream_parser.h declare them.
 
-The declarations are written by hand. Each text that a caller gives is `bytes`, which nobody writes during a call, and whose
-pointer is never null; an object that a call writes is of this package alone.
+The declarations are written by hand. Each text that a caller gives is `bytes`, which nobody writes
+during a call, and whose pointer is never null; an object that a call writes is of this package
+alone.
 """
 
 import ctypes
 import struct
 from collections.abc import Callable
 from ctypes import POINTER, Structure, byref
-from ctypes import c_bool, c_char_p, c_int64, c_size_t, c_ubyte, c_uint16, c_uint32, c_uint64, c_void_p
+from ctypes import (
+    c_bool,
+    c_char_p,
+    c_int64,
+    c_size_t,
+    c_ubyte,
+    c_uint16,
+    c_uint32,
+    c_uint64,
+    c_void_p,
+)
 from pathlib import Path
 
 DONE, NO_MEMORY, UNKNOWN_POLICY, NOT_BEGUN, NO_COMMAND, NOT_WRITABLE = range(6)
@@ -296,7 +307,14 @@ read_tcap.argtypes = (*_length, POINTER(RawQuery), POINTER(RawField), c_size_t, 
 read_tcap.restype = c_uint32
 
 read_sixel = _long.escape_stream_read_sixel
-read_sixel.argtypes = (POINTER(c_int64), c_size_t, *_length, POINTER(RawSixel), POINTER(RawSixelItem), c_size_t)
+read_sixel.argtypes = (
+    POINTER(c_int64),
+    c_size_t,
+    *_length,
+    POINTER(RawSixel),
+    POINTER(RawSixelItem),
+    c_size_t,
+)
 read_sixel.restype = c_uint32
 
 _fields = (POINTER(RawField), c_size_t, *_length)

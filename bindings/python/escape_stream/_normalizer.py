@@ -9,7 +9,8 @@ from escape_stream._whole import DEFAULT_LIMIT
 
 
 class Normalizer(InPieces):
-    """The normal form of a stream that comes in pieces: what `normal` returns of the whole, as it comes.
+    """The normal form of a stream that comes in pieces: what `normal` returns of the whole, as it
+    comes.
 
     >>> from escape_stream import Normalizer
     >>> with Normalizer() as normalizer:
@@ -27,7 +28,8 @@ class Normalizer(InPieces):
     _end = _library.normal_end
 
     def __init__(self, limit: int = DEFAULT_LIMIT) -> None:
-        """Begins a stream. `limit` is how many bytes are kept of a string; of one with more nothing is written.
+        """Begins a stream. `limit` is how many bytes are kept of a string; of one with more nothing
+        is written.
 
         Raises MemoryError where a request for memory was refused.
         """

@@ -7,7 +7,19 @@ from ctypes import byref, c_ubyte
 from itertools import groupby
 
 from escape_stream import _library
-from escape_stream._events import Apc, Control, Csi, Data, Dcs, DcsEnd, Escape, Event, LimitPassed, Osc, Text
+from escape_stream._events import (
+    Apc,
+    Control,
+    Csi,
+    Data,
+    Dcs,
+    DcsEnd,
+    Escape,
+    Event,
+    LimitPassed,
+    Osc,
+    Text,
+)
 from escape_stream._library import RawEvent, RawParser
 from escape_stream._whole import DEFAULT_LIMIT
 
@@ -15,7 +27,8 @@ _PIECE = 65_536
 
 
 class Parser:
-    """A parser of a stream that comes in pieces. It takes memory when it is made: two bytes for each of its limit."""
+    """A parser of a stream that comes in pieces. It takes memory when it is made: two bytes for
+    each of its limit."""
 
     def __init__(self, limit: int = DEFAULT_LIMIT) -> None:
         """Begins a stream. `limit` is how many bytes a string may have that is handed out."""
@@ -29,7 +42,8 @@ class Parser:
     def feed(self, piece: bytes) -> list[Event]:
         """Takes the next piece of the stream, and returns the events that it adds.
 
-        However a stream is cut, its events are the same, but that a run of text or data may come in several: `joined` joins them.
+        However a stream is cut, its events are the same, but that a run of text or data may come in
+        several: `joined` joins them.
         """
         piece = _library.bytes_of(piece)
         start = ctypes.cast(ctypes.c_char_p(piece), ctypes.c_void_p).value or 0
@@ -98,7 +112,9 @@ class Parser:
                 intermediates += chr(byte)
         if has_parameters:
             groups.append((*group, number))
-        return Csi(prefix, tuple(groups), intermediates, chr(self._event.byte), self._event.has_more)
+        return Csi(
+            prefix, tuple(groups), intermediates, chr(self._event.byte), self._event.has_more
+        )
 
     def _intermediates(self) -> str:
         return bytes(self._event.intermediates[: self._event.kept]).decode("ascii")
@@ -115,7 +131,8 @@ class Parser:
 
 
 def events(stream: bytes | Iterable[bytes], limit: int = DEFAULT_LIMIT) -> Iterator[Event]:
-    """Yields the events of a stream: of bytes, or of pieces as they come, such as those of `iter(lambda: file.read(65536), b"")`.
+    """Yields the events of a stream: of bytes, or of pieces as they come, such as those of
+    `iter(lambda: file.read(65536), b"")`.
 
     What is unfinished at its end adds nothing.
     """
@@ -126,7 +143,8 @@ def events(stream: bytes | Iterable[bytes], limit: int = DEFAULT_LIMIT) -> Itera
 
 
 def joined(found: Iterable[Event]) -> Iterator[Event]:
-    """Yields the events with each run of text, and of data, as one: the same however the stream was cut."""
+    """Yields the events with each run of text, and of data, as one: the same however the stream was
+    cut."""
     for kind, run in groupby(found, type):
         if kind is Text:
             yield Text("".join(it.text for it in run if isinstance(it, Text)))

@@ -22,20 +22,24 @@ class Policy(IntEnum):
     SCREEN = 2
     """And what changes the screen alone, from a list of what is known to do no more."""
     ALL = 3
-    """All that can be written by itself, so images, titles and queries too. It protects from broken input alone."""
+    """All that can be written by itself, so images, titles and queries too. It protects from broken
+    input alone."""
 
 
 def filter(stream: bytes, policy: Policy = Policy.TEXT, limit: int = DEFAULT_LIMIT) -> bytes:
     """Returns what the policy admits of a stream, and nothing else.
 
-    The text reads back as the actions that were admitted, whatever bytes follow it: no text of the stream becomes a sequence,
-    however broken the stream is. `limit` is how many bytes are kept of a string, such as a title or an image; of one with more
-    nothing is written.
+    The text reads back as the actions that were admitted, whatever bytes follow it: no text of the
+    stream becomes a sequence, however broken the stream is. `limit` is how many bytes are kept of a
+    string, such as a title or an image; of one with more nothing is written.
 
-    Raises MemoryError where a request for memory was refused, and ValueError where there is no such policy.
+    Raises MemoryError where a request for memory was refused, and ValueError where there is no such
+    policy.
     """
     number, limit, stream = Policy(policy), _library.limit_of(limit), _library.bytes_of(stream)
-    return _whole(len(stream), lambda *out: _library.filter_whole(number, limit, stream, len(stream), *out))
+    return _whole(
+        len(stream), lambda *out: _library.filter_whole(number, limit, stream, len(stream), *out)
+    )
 
 
 def normal(stream: bytes) -> bytes:
@@ -60,7 +64,8 @@ def is_normal(stream: bytes) -> bool:
 
 
 def _whole(about: int, call: Callable[[Any, int, Any], int]) -> bytes:
-    """Returns all that a call writes, where it needs about this many bytes, or once more where it needs more."""
+    """Returns all that a call writes, where it needs about this many bytes, or once more where it
+    needs more."""
     needed = c_size_t(about)
     while True:
         capacity = needed.value

@@ -4,9 +4,10 @@
 
   filter_folder.py [--policy text|color|screen|all] [--workers N] FOLDER OUT
 
-Of each file of FOLDER it writes to OUT, under the same name, what the policy admits, as `escfilter --whole` does, and it prints for each
-how many bytes were written of how many, and how many controls and sequences of each name it had. A file is a task, in a process of its own;
-`--scheduler ADDRESS` sends the tasks to a cluster that runs, whose machines see both folders.
+Of each file of FOLDER it writes to OUT, under the same name, what the policy admits, as `escfilter
+--whole` does, and it prints for each how many bytes were written of how many, and how many controls
+and sequences of each name it had. A file is a task, in a process of its own; `--scheduler ADDRESS`
+sends the tasks to a cluster that runs, whose machines see both folders.
 """
 
 import argparse
@@ -23,13 +24,16 @@ PIECE = 1 << 20
 
 
 def name_of(event: escape_stream.Event) -> str | None:
-    """Returns what an event is counted under: the name of its function, or else its kind; text and data are not counted."""
+    """Returns what an event is counted under: the name of its function, or else its kind; text and
+    data are not counted."""
     if isinstance(event, Csi | Escape | Control):
         function = escape_stream.function(event)
         return function.name if function else type(event).__name__
     if isinstance(event, escape_stream.Osc):
         return f"OSC {event.parts[0].decode('ascii', 'replace')}"
-    return None if isinstance(event, escape_stream.Text | escape_stream.Data) else type(event).__name__
+    return (
+        None if isinstance(event, escape_stream.Text | escape_stream.Data) else type(event).__name__
+    )
 
 
 def filter_file(source: str, target: str, policy: int) -> tuple[int, int, Counter[str]]:
@@ -47,7 +51,9 @@ def filter_file(source: str, target: str, policy: int) -> tuple[int, int, Counte
 
 
 def main() -> None:
-    words = argparse.ArgumentParser(description=__doc__, formatter_class=argparse.RawDescriptionHelpFormatter)
+    words = argparse.ArgumentParser(
+        description=__doc__, formatter_class=argparse.RawDescriptionHelpFormatter
+    )
     words.add_argument("--policy", choices=[it.name.lower() for it in Policy], default="color")
     words.add_argument("--workers", type=int, default=2, metavar="N")
     words.add_argument("--scheduler", metavar="ADDRESS")
@@ -62,7 +68,9 @@ def main() -> None:
     here = {"n_workers": given.workers, "threads_per_worker": 1, "dashboard_address": None}
     where = {"address": given.scheduler} if given.scheduler else here
     with Client(**where) as client:  # type: ignore[no-untyped-call]
-        tasks = [client.submit(filter_file, str(it), str(given.out / it.name), policy) for it in files]
+        tasks = [
+            client.submit(filter_file, str(it), str(given.out / it.name), policy) for it in files
+        ]
         total: Counter[str] = Counter()
         for file, (size, passed, counts) in zip(files, client.gather(tasks)):
             print(f"{file.name}: {passed} of {size} bytes")

@@ -1,5 +1,6 @@
 # SPDX-License-Identifier: MIT
-"""The tables of streams that the proved programs are checked against. docs/DEVELOPING.md has their form."""
+"""The tables of streams that the proved programs are checked against. docs/DEVELOPING.md has their
+form."""
 
 import os
 import re
@@ -30,7 +31,8 @@ class Row:
 
 
 def unescaped(text: str) -> bytes:
-    """Returns the bytes that a text writes: `\\xNN` is a byte, `\\\\` is `\\`, any other character is itself."""
+    """Returns the bytes that a text writes: `\\xNN` is a byte, `\\\\` is `\\`, any other character
+    is itself."""
 
     def one(found: re.Match[bytes]) -> bytes:
         return bytes([int(found[1], 16)]) if found[1] else b"\\"

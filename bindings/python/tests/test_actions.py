@@ -26,7 +26,10 @@ from escape_stream._events import LimitPassed
 IMAGES = [
     (b"", None),
     (b"Ga=z", None),
-    (b"Ga=d,d=Z,z=-3", (ImageKind.DELETE_Z, [("Z_INDEX", -3), ("DELETES_DATA", 1), ("VERBOSITY", 0)])),
+    (
+        b"Ga=d,d=Z,z=-3",
+        (ImageKind.DELETE_Z, [("Z_INDEX", -3), ("DELETES_DATA", 1), ("VERBOSITY", 0)]),
+    ),
     (
         b"Ga=q,t=f,f=24,s=4294967295;L3RtcA==",
         (
@@ -50,7 +53,9 @@ def test_images(text: bytes, wanted: tuple[ImageKind, list[tuple[str, int | str]
     if wanted is None:
         assert found is None
     else:
-        assert found == Image(wanted[0], tuple((FieldName[name], value) for name, value in wanted[1]))
+        assert found == Image(
+            wanted[0], tuple((FieldName[name], value) for name, value in wanted[1])
+        )
 
 
 def test_a_sixel_image() -> None:
@@ -86,7 +91,8 @@ NAMES: dict[str, type] = {
 
 
 def is_named(word: str, text: str, name: str) -> bool:
-    """Returns whether a line is of an action that begins so. A line `kept` is a command that is kept as its parts."""
+    """Returns whether a line is of an action that begins so. A line `kept` is a command that is
+    kept as its parts."""
     return text.startswith(name) if word == "action" else name == "OperatingSystemCommand("
 
 
@@ -97,12 +103,21 @@ def test_actions_are_as_in_the_tables() -> None:
         words = [it.split(None, 1) for it in row.lines if it.startswith(("action ", "kept "))]
         if stream is None or row.bytes("limit") is not None or len(stream) > 10_000 or not words:
             continue
-        wanted = [kind for word, text in words for name, kind in NAMES.items() if is_named(word, text, name)]
+        wanted = [
+            kind
+            for word, text in words
+            for name, kind in NAMES.items()
+            if is_named(word, text, name)
+        ]
         kinds = tuple(NAMES.values())
         for pieces in (stream, [stream[at : at + 1] for at in range(len(stream))]):
             found = [it for it in actions(pieces) if isinstance(it, kinds)]
             # Three controls have no name, and are no actions of the tables.
-            named = [type(it) for it in found if not (isinstance(it, Control) and it.byte in (0x80, 0x81, 0x99))]
+            named = [
+                type(it)
+                for it in found
+                if not (isinstance(it, Control) and it.byte in (0x80, 0x81, 0x99))
+            ]
             assert named == wanted, row.name
         count += 1
     assert count > 200

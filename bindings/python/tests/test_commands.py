@@ -8,7 +8,11 @@ from escape_stream import Command, CommandKind, FieldName, Osc, command, events
 COMMANDS = [
     (b"2;caf\xc3\xa9", CommandKind.SET_WINDOW_TITLE, [("TEXT", "café")]),
     (b"8;;", CommandKind.SET_HYPERLINK, []),
-    (b"8;id=1;u", CommandKind.SET_HYPERLINK, [("URI", "u"), ("IMPLICIT", 0), ("KEY", "id"), ("VALUE", "1")]),
+    (
+        b"8;id=1;u",
+        CommandKind.SET_HYPERLINK,
+        [("URI", "u"), ("IMPLICIT", 0), ("KEY", "id"), ("VALUE", "1")],
+    ),
     (b"52;c;aGVsbG8=", CommandKind.SET_SELECTION, [("SELECTION", 2), ("TEXT", "hello")]),
     (b"4;1;?", CommandKind.CHANGE_COLOR_NUMBER, [("PALETTE_INDEX", 1), ("QUERY", 1)]),
     (b"133;D;-1", CommandKind.PROMPT_COMMAND_STATUS, [("STATUS", -1)]),
@@ -30,13 +34,17 @@ COMMANDS = [
 
 
 @pytest.mark.parametrize(("text", "kind", "fields"), COMMANDS)
-def test_fields(text: bytes, kind: CommandKind, fields: list[tuple[str, int | str | bytes]]) -> None:
+def test_fields(
+    text: bytes, kind: CommandKind, fields: list[tuple[str, int | str | bytes]]
+) -> None:
     assert command(text) == Command(kind, tuple((FieldName[name], value) for name, value in fields))
 
 
 def test_more_fields_than_room() -> None:
     said = command(b"104;" + b";".join(b"%d" % it for it in range(256)))
-    assert said == Command(CommandKind.RESET_COLORS, tuple((FieldName.PALETTE_INDEX, it) for it in range(256)))
+    assert said == Command(
+        CommandKind.RESET_COLORS, tuple((FieldName.PALETTE_INDEX, it) for it in range(256))
+    )
     # A byte that is no UTF-8 becomes a character of three.
     assert command(b"777;" + b"\xff" * 99).get(FieldName.PART) == "\N{REPLACEMENT CHARACTER}" * 99
 

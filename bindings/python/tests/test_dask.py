@@ -1,5 +1,6 @@
 # SPDX-License-Identifier: MIT
-"""The example for Dask gives of each file what a filter gives of the whole, and what escfilter writes, where ESCFILTER names it."""
+"""The example for Dask gives of each file what a filter gives of the whole, and what escfilter
+writes, where ESCFILTER names it."""
 
 import os
 import runpy
@@ -30,8 +31,19 @@ def test_a_folder_with_several_workers(tmp_path: Path) -> None:
     folder, out = tmp_path / "in", tmp_path / "out"
     folder.mkdir()
     recordings = write_recordings(folder)
-    words = [sys.executable, str(EXAMPLE), "--policy", "screen", "--workers", "2", str(folder), str(out)]
-    done = subprocess.run(words, check=True, capture_output=True, text=True, cwd=tmp_path, env=environment())
+    words = [
+        sys.executable,
+        str(EXAMPLE),
+        "--policy",
+        "screen",
+        "--workers",
+        "2",
+        str(folder),
+        str(out),
+    ]
+    done = subprocess.run(
+        words, check=True, capture_output=True, text=True, cwd=tmp_path, env=environment()
+    )
     lines = done.stdout.splitlines()
     for number, recording in enumerate(recordings):
         with Filter(Policy.SCREEN) as it:
@@ -39,7 +51,12 @@ def test_a_folder_with_several_workers(tmp_path: Path) -> None:
         assert (out / f"{number}.log").read_bytes() == wanted
         assert lines[number] == f"{number}.log: {len(wanted)} of {len(recording)} bytes"
         if program := os.environ.get("ESCFILTER"):
-            said = subprocess.run([program, "--allow=screen", "--whole"], input=recording, check=True, capture_output=True)
+            said = subprocess.run(
+                [program, "--allow=screen", "--whole"],
+                input=recording,
+                check=True,
+                capture_output=True,
+            )
             assert said.stdout == wanted
 
 
@@ -55,6 +72,7 @@ def test_counts(tmp_path: Path) -> None:
 
 
 def environment() -> dict[str, str]:
-    """Returns an environment in which a program finds this package, and Dask starts no more than it needs."""
+    """Returns an environment in which a program finds this package, and Dask starts no more than it
+    needs."""
     path = os.pathsep.join([it for it in sys.path if it])
     return {**os.environ, "PYTHONPATH": path}

@@ -4,7 +4,22 @@
 import pytest
 from rows import cuts
 
-from escape_stream import Apc, Control, Csi, Data, Dcs, DcsEnd, Escape, Event, LimitPassed, Osc, Parser, Text, events, joined
+from escape_stream import (
+    Apc,
+    Control,
+    Csi,
+    Data,
+    Dcs,
+    DcsEnd,
+    Escape,
+    Event,
+    LimitPassed,
+    Osc,
+    Parser,
+    Text,
+    events,
+    joined,
+)
 
 ST = Escape("", "\\")
 MOST = 2**63 - 1
@@ -15,13 +30,19 @@ STREAMS: list[tuple[bytes, list[Event]]] = [
     ("é€🚀".encode(), [Text("é€🚀")]),
     (b"a\xef\xbcb\xff", [Text("a\ufffdb\ufffd")]),
     (b"\x85\xc2\x84", [Control(0x85), Control(0x84)]),
-    (b"\x1b7\x1b(B\x1b $%&x", [Escape("", "7"), Escape("(", "B"), Escape(" $", "x", has_more=True)]),
+    (
+        b"\x1b7\x1b(B\x1b $%&x",
+        [Escape("", "7"), Escape("(", "B"), Escape(" $", "x", has_more=True)],
+    ),
     (b"\x1b[m", [Csi("", (), "", "m")]),
     (b"\x1b[0;31m", [Csi("", ((0,), (31,)), "", "m")]),
     (b"\x1b[;H", [Csi("", ((None,), (None,)), "", "H")]),
     (b"\x1b[38:2::1:2:3;1m", [Csi("", ((38, 2, None, 1, 2, 3), (1,)), "", "m")]),
     (b"\x9b?25h\xc2\x9b?25l", [Csi("?", ((25,),), "", "h"), Csi("?", ((25,),), "", "l")]),
-    (b"\x1b[2 q\x1b[>c\x1b[!p", [Csi("", ((2,),), " ", "q"), Csi(">", (), "", "c"), Csi("", (), "!", "p")]),
+    (
+        b"\x1b[2 q\x1b[>c\x1b[!p",
+        [Csi("", ((2,),), " ", "q"), Csi(">", (), "", "c"), Csi("", (), "!", "p")],
+    ),
     (b"\x1b[99999999999999999999A", [Csi("", ((MOST,),), "", "A")]),
     (b"\x1b]0;a\xc3\xa9\x07b", [Osc(b"0;a\xc3\xa9"), Text("b")]),
     (b"\x1b]\x1b\\", [Osc(b""), ST]),

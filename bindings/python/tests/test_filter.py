@@ -1,5 +1,6 @@
 # SPDX-License-Identifier: MIT
-"""The filter and the normal form in pieces beside the tables: their end, their thread, and wrong arguments."""
+"""The filter and the normal form in pieces beside the tables: their end, their thread, and wrong
+arguments."""
 
 import threading
 
@@ -71,7 +72,10 @@ def test_a_filter_stays_in_its_thread() -> None:
 
 def test_threads_with_streams_of_their_own() -> None:
     stream, texts = HOSTILE * 1000, []
-    threads = [threading.Thread(target=lambda: texts.append(filter(stream, Policy.COLOR))) for _ in range(8)]
+    threads = [
+        threading.Thread(target=lambda: texts.append(filter(stream, Policy.COLOR)))
+        for _ in range(8)
+    ]
     for it in threads:
         it.start()
     for it in threads:

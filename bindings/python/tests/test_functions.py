@@ -7,24 +7,34 @@ from rows import TOP
 
 from escape_stream import Control, Csi, Escape, events, function
 
-EFFECTS = {"screen": (True, False), "answered": (False, True), "report": (False, False), "other": (False, False)}
+EFFECTS = {
+    "screen": (True, False),
+    "answered": (False, True),
+    "report": (False, False),
+    "other": (False, False),
+}
 
 
 def rows(opener: str) -> list[list[str]]:
     """Returns the rows of the page whose sequence begins with this, cell by cell."""
     page = (TOP / "docs/FUNCTIONS.md").read_text()
     lines = [line.split(" | ") for line in page.splitlines() if line.startswith(f"| `{opener} ")]
-    return [[re.sub(r"^\| |^`|`$| \|$", "", it).replace("\\|", "|").strip("`") for it in line] for line in lines]
+    return [
+        [re.sub(r"^\| |^`|`$| \|$", "", it).replace("\\|", "|").strip("`") for it in line]
+        for line in lines
+    ]
 
 
 def control_sequence(words: str, parameters: str) -> bytes:
-    """Returns a control sequence: `..` are as many parameters as are named, `SP` is a space, and any other word is itself."""
+    """Returns a control sequence: `..` are as many parameters as are named, `SP` is a space, and
+    any other word is itself."""
     spelled = {"CSI": "", "SP": " ", "..": ";".join("1" for _ in parameters.split(";"))}
     return "".join(["\x1b[", *(spelled.get(it, it) for it in words.split())]).encode()
 
 
 def escape_sequence(words: str) -> bytes:
-    """Returns an escape sequence: `..` is any final byte, `SP` is a space, and any other word is itself."""
+    """Returns an escape sequence: `..` is any final byte, `SP` is a space, and any other word is
+    itself."""
     spelled = {"ESC": "", "SP": " ", "..": "B"}
     return "".join(["\x1b", *(spelled.get(it, it) for it in words.split())]).encode()
 
@@ -34,7 +44,11 @@ def check(stream: bytes, name: str, phrase: str, effect: str) -> None:
     assert isinstance(found, Csi | Escape)
     said = function(found)
     assert said is not None, stream
-    assert (said.name, said.phrase, said.changes_screen, said.is_answered) == (name, phrase, *EFFECTS[effect])
+    assert (said.name, said.phrase, said.changes_screen, said.is_answered) == (
+        name,
+        phrase,
+        *EFFECTS[effect],
+    )
 
 
 def test_control_sequences() -> None:
@@ -46,14 +60,24 @@ def test_control_sequences() -> None:
 
 def test_escape_sequences() -> None:
     # Those that open a string are no events of their own, and of two intermediates none is found.
-    table = [row for row in rows("ESC") if row[2] not in ("DCS", "SOS", "CSI", "OSC", "PM", "APC") and len(row[0].split()) < 4]
+    table = [
+        row
+        for row in rows("ESC")
+        if row[2] not in ("DCS", "SOS", "CSI", "OSC", "PM", "APC") and len(row[0].split()) < 4
+    ]
     for sequence, _, name, phrase, effect, _ in table:
         check(escape_sequence(sequence), name, phrase, effect)
     assert len(table) > 50
 
 
 def test_no_function() -> None:
-    for stream in (b"\x1b[<>1z", b"\x1b[1  x", b"\x1b[?1;2z", b"\x1b %&x", b"\x1b[" + b"1;" * 200 + b"m"):
+    for stream in (
+        b"\x1b[<>1z",
+        b"\x1b[1  x",
+        b"\x1b[?1;2z",
+        b"\x1b %&x",
+        b"\x1b[" + b"1;" * 200 + b"m",
+    ):
         for found in events(stream):
             assert isinstance(found, Csi | Escape) and function(found) is None, stream
 

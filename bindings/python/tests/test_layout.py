@@ -1,5 +1,6 @@
 # SPDX-License-Identifier: MIT
-"""The declarations of the package against the headers, as a C compiler reads them: sizes, and the place of each field."""
+"""The declarations of the package against the headers, as a C compiler reads them: sizes, and the
+place of each field."""
 
 import ctypes
 import os
@@ -30,7 +31,9 @@ STRUCTS: dict[str, type[ctypes.Structure]] = {
 }
 STATUSES = ("DONE", "NO_MEMORY", "UNKNOWN_POLICY", "NOT_BEGUN", "NO_COMMAND", "NOT_WRITABLE")
 VALUES = ("VALUE_NUMBER", "VALUE_TEXT", "VALUE_SIZE")
-KINDS = "NONE TEXT CHARACTER CONTROL ESCAPE CSI OSC DCS DATA DATA_BYTE DCS_END APC FAILED LIMIT".split()
+KINDS = (
+    "NONE TEXT CHARACTER CONTROL ESCAPE CSI OSC DCS DATA DATA_BYTE DCS_END APC FAILED LIMIT".split()
+)
 ENUMS: dict[str, type[IntEnum]] = {
     "POLICY": Policy,
     "OSC": CommandKind,
@@ -43,7 +46,8 @@ HEADERS = [TOP / "crates/escape_c/include", TOP / "crates/stream_c/include"]
 
 
 def declared() -> dict[str, int]:
-    """Returns the size of each struct, the place of each field and each number, as the package has them."""
+    """Returns the size of each struct, the place of each field and each number, as the package has
+    them."""
     found = {}
     for name, struct in STRUCTS.items():
         found[f"sizeof(struct {name})"] = ctypes.sizeof(struct)
@@ -64,8 +68,16 @@ def test_layout(tmp_path: Path) -> None:
     wanted = declared()
     lines = [f'printf("%zu\\n", (size_t){it});' for it in wanted]
     includes = '#include "escape_stream.h"\n#include "escape_stream_parser.h"\n#include <stdio.h>\n'
-    (tmp_path / "layout.c").write_text(f"{includes}int main(void) {{ {' '.join(lines)} return 0; }}\n")
-    words = [compiler, *(f"-I{it}" for it in HEADERS), str(tmp_path / "layout.c"), "-o", str(tmp_path / "layout")]
+    (tmp_path / "layout.c").write_text(
+        f"{includes}int main(void) {{ {' '.join(lines)} return 0; }}\n"
+    )
+    words = [
+        compiler,
+        *(f"-I{it}" for it in HEADERS),
+        str(tmp_path / "layout.c"),
+        "-o",
+        str(tmp_path / "layout"),
+    ]
     subprocess.run(words, check=True)
     said = subprocess.run([tmp_path / "layout"], check=True, capture_output=True, text=True).stdout
     assert dict(zip(wanted, map(int, said.split()))) == wanted

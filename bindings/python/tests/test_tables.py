@@ -5,7 +5,12 @@ from rows import cuts, rows
 
 from escape_stream import Filter, Normalizer, Policy, events, filter, is_normal, joined, normal
 
-POLICIES = {"as-text": Policy.TEXT, "as-color": Policy.COLOR, "as-screen": Policy.SCREEN, "as-all": Policy.ALL}
+POLICIES = {
+    "as-text": Policy.TEXT,
+    "as-color": Policy.COLOR,
+    "as-screen": Policy.SCREEN,
+    "as-all": Policy.ALL,
+}
 # Of longer streams the pieces are of one byte, and not of every size.
 EACH_SIZE_UP_TO = 2000
 
@@ -55,7 +60,9 @@ def test_what_policies_admit() -> None:
 def test_limits() -> None:
     count = 0
     for row in rows():
-        stream, limit, text, written = (row.bytes(it) for it in ("stream", "limit", "text", "as-all"))
+        stream, limit, text, written = (
+            row.bytes(it) for it in ("stream", "limit", "text", "as-all")
+        )
         text = text if written is None else written
         if stream is None or limit is None or text is None:
             continue

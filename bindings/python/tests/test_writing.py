@@ -41,11 +41,18 @@ def test_what_tables_have_is_written_and_read_again() -> None:
                 text = it.to_bytes()
             except ValueError:
                 # A text that is not of clear characters, or not of ASCII.
-                assert isinstance(it, Command | Image) and any(not str(value).isascii() for _, value in it.fields), row.name
+                assert isinstance(it, Command | Image) and any(
+                    not str(value).isascii() for _, value in it.fields
+                ), row.name
                 continue
             assert read_again(text) == [it], row.name
             written[type(it)] += 1
-    assert written[Command] > 100 and written[Image] > 20 and written[Sixel] > 10 and written[TermcapQuery] > 3
+    assert (
+        written[Command] > 100
+        and written[Image] > 20
+        and written[Sixel] > 10
+        and written[TermcapQuery] > 3
+    )
 
 
 NOT_WRITABLE = [
@@ -63,7 +70,16 @@ NOT_WRITABLE = [
     Sixel(1, 1, 1 << 32, 1, False, None, (0, 0), ()),
     Sixel(1, 1, None, None, False, None, (0, 0), (SixelItem(SixelKind.PIXELS, 63, 2),)),
     Sixel(1, 1, None, None, False, None, (0, 0), (SixelItem(SixelKind.PIXELS, 319, 1),)),
-    Sixel(1, 1, None, None, False, None, (0, 0), (SixelItem(SixelKind.DEFINE_RGB, color=1, rgb=(1, 0, 0)),)),
+    Sixel(
+        1,
+        1,
+        None,
+        None,
+        False,
+        None,
+        (0, 0),
+        (SixelItem(SixelKind.DEFINE_RGB, color=1, rgb=(1, 0, 0)),),
+    ),
     TermcapQuery(()),
     TermcapQuery(("\udcff",)),
 ]

@@ -86,7 +86,8 @@ impl KittyImage {
     ///
     /// let image = KittyImage::parse_apc(b"Ga=d,d=I,i=10")?;
     /// if let Some(KittyImage::Delete { what, .. }) = image {
-    ///     let wanted = KittyImageDelete::ByImageId { image_id: 10, placement_id: None, delete: true };
+    ///     let (image_id, placement_id) = (10, None);
+    ///     let wanted = KittyImageDelete::ByImageId { image_id, placement_id, delete: true };
     ///     assert_eq!(what, wanted);
     /// }
     /// assert_eq!(KittyImage::parse_apc(b"no image")?, None);

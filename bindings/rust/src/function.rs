@@ -44,8 +44,9 @@ macro_rules! functions {
             /// Each function, in the order of the last bytes of their sequences.
             pub const ALL: &[$functions] = &[$($functions::$f),+];
 
-            // The function that has this key: the bytes of its sequence but its parameters, as digits
-            // to the base 256 after a 1, or after a 2 where another function has the same bytes.
+            // The function that has this key: the bytes of its sequence but its parameters, as
+            // digits to the base 256 after a 1, or after a 2 where another function has the same
+            // bytes.
             pub(crate) fn of_key(key: u32) -> Option<$functions> {
                 match key {
                     $($key => Some($functions::$f),)+

@@ -16,9 +16,9 @@ pub struct Layout {
 }
 
 /// A stream that comes in pieces, as HTML: its characters, tabs and line feeds, with colours and
-/// renditions as spans and links to `http`, `https` and `mailto`. A browser reads from it, inside the
-/// body of a page in UTF-8, these spans and links and nothing else, whatever the stream is. It stays
-/// in the thread that made it.
+/// renditions as spans and links to `http`, `https` and `mailto`. A browser reads from it, inside
+/// the body of a page in UTF-8, these spans and links and nothing else, whatever the stream is. It
+/// stays in the thread that made it.
 ///
 /// ```
 /// use escape_stream::html::{Layout, PiecePage};
@@ -65,8 +65,8 @@ impl PiecePage {
     ///
     /// # Errors
     ///
-    /// [`Error::Memory`] where a request for memory was refused, and from then on, and after the end
-    /// of the stream, [`Error::Failed`]. The texts before are the beginning of the page.
+    /// [`Error::Memory`] where a request for memory was refused, and from then on, and after the
+    /// end of the stream, [`Error::Failed`]. The texts before are the beginning of the page.
     pub fn feed(&mut self, piece: &[u8]) -> Result<(), Error> {
         self.raw.feed(piece)
     }

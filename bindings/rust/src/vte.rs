@@ -1,6 +1,6 @@
 // SPDX-License-Identifier: MIT
-//! The calls of the crate `vte`, version 0.15, over the proved [parser](crate::Parser), for programs
-//! that are written for it.
+//! The calls of the crate `vte`, version 0.15, over the proved [parser](crate::Parser), for
+//! programs that are written for it.
 //!
 //! Such a program names this module where it named the crate: `use escape_stream::vte;`. The names
 //! below, their signatures and what each call means are those of `vte`. `docs/EMBEDDING.md` of the
@@ -90,7 +90,8 @@ pub trait Perform {
     fn esc_dispatch(&mut self, _intermediates: &[u8], _ignore: bool, _byte: u8) {}
 
     /// Whether [`Parser::advance_until_terminated`] stops here. The parser asks before the first
-    /// byte and after each call above, but for a run of characters, or of data, only after the last.
+    /// byte and after each call above, but for a run of characters, or of data, only after the
+    /// last.
     #[inline(always)]
     fn terminated(&self) -> bool {
         false
@@ -117,14 +118,14 @@ impl Parser {
     /// A parser at the beginning of a stream that hands out strings of up to 1,048,576 bytes.
     ///
     /// `vte` hands out longer ones too, in memory that it takes as they grow. The memory here is
-    /// taken at once, two bytes for each byte of the limit: most systems give a page of it only when
-    /// a string is so long that it is written. [`Parser::with_limit`] takes less.
+    /// taken at once, two bytes for each byte of the limit: most systems give a page of it only
+    /// when a string is so long that it is written. [`Parser::with_limit`] takes less.
     pub fn new() -> Parser {
         Parser::default()
     }
 
-    /// A parser at the beginning of a stream that hands out strings of up to `limit` bytes: texts of
-    /// operating system commands, and parameter bytes of device control strings. It passes over
+    /// A parser at the beginning of a stream that hands out strings of up to `limit` bytes: texts
+    /// of operating system commands, and parameter bytes of device control strings. It passes over
     /// longer ones. The data of a device control string has no limit.
     pub fn with_limit(limit: usize) -> Parser {
         Parser::of_limit(limit)
@@ -162,8 +163,8 @@ impl<const OSC_RAW_BUF_SIZE: usize> Parser<OSC_RAW_BUF_SIZE> {
     }
 
     /// Takes the next bytes of the stream up to where [`Perform::terminated`] is true, makes the
-    /// calls for what they say, and returns how many bytes it took. The bytes after them are for the
-    /// next call.
+    /// calls for what they say, and returns how many bytes it took. The bytes after them are for
+    /// the next call.
     ///
     /// After a [failure](Parser::has_failed) it makes no calls and takes all bytes, so that a loop
     /// over what is left comes to its end.
@@ -177,11 +178,11 @@ impl<const OSC_RAW_BUF_SIZE: usize> Parser<OSC_RAW_BUF_SIZE> {
         self.take(performer, bytes, P::terminated)
     }
 
-    /// Whether the parser failed, as [`Error::Failed`](crate::Error::Failed) has it: then it makes no
-    /// calls any more. No clause excludes it, and no test has met it.
+    /// Whether the parser failed, as [`Error::Failed`](crate::Error::Failed) has it: then it makes
+    /// no calls any more. No clause excludes it, and no test has met it.
     ///
-    /// The calls of `vte` return nothing that could say so, and these keep its signatures. Nor do they
-    /// panic: a terminal keeps what it shows, and may begin a new parser.
+    /// The calls of `vte` return nothing that could say so, and these keep its signatures. Nor do
+    /// they panic: a terminal keeps what it shows, and may begin a new parser.
     pub fn has_failed(&self) -> bool {
         self.has_failed
     }
@@ -228,7 +229,8 @@ fn call<P: Perform>(params: &mut Params, performer: &mut P, event: Event<'_>, ta
             has_more,
             byte,
         } => call_csi(params, performer, entries, has_more, byte),
-        // The bell is the only end of a command that is this byte, and no other byte of a command is.
+        // The bell is the only end of a command that is this byte, and no other byte of a command
+        // is.
         Event::Osc(text) => call_osc(performer, text, taken.last() == Some(&BELL)),
         Event::Dcs {
             parameters,

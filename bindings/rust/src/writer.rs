@@ -9,9 +9,10 @@ use std::io::{self, ErrorKind, Write};
 ///
 /// What is written to the inner writer is what [`filter`](crate::filter) gives of all that was
 /// taken, in whatever pieces it came, or where it reported an error the beginning of that. A
-/// sequence that is unfinished waits for its end. Each write tries to write at once all that it adds.
-/// What the inner writer did not take then, it is given at the next write or flush, which reports the
-/// error if it still does not; so a last [`flush`](Write::flush) shows whether all was written.
+/// sequence that is unfinished waits for its end. Each write tries to write at once all that it
+/// adds. What the inner writer did not take then, it is given at the next write or flush, which
+/// reports the error if it still does not; so a last [`flush`](Write::flush) shows whether all was
+/// written.
 ///
 /// ```
 /// use escape_stream::{Filter, Policy};
@@ -71,8 +72,8 @@ impl<W: Write> Filter<W> {
         self.writer.inner
     }
 
-    /// Ends the stream, and begins the next: writes what takes back what the stream left changed at a
-    /// terminal, as renditions and a link, and flushes the inner writer.
+    /// Ends the stream, and begins the next: writes what takes back what the stream left changed at
+    /// a terminal, as renditions and a link, and flushes the inner writer.
     ///
     /// # Errors
     ///
@@ -98,8 +99,8 @@ impl<W: Write> Write for Filter<W> {
 ///
 /// What is written to the inner writer is what [`normal`](crate::normal) gives of all that was
 /// taken, where no string is longer than the limit, or where it reported an error the beginning of
-/// that. A sequence that is unfinished waits for its end. When it writes, and which errors it reports,
-/// is as of a [`Filter`].
+/// that. A sequence that is unfinished waits for its end. When it writes, and which errors it
+/// reports, is as of a [`Filter`].
 ///
 /// ```
 /// use escape_stream::NormalWriter;
@@ -156,7 +157,8 @@ impl<W: Write> NormalWriter<W> {
         self.writer.inner
     }
 
-    /// Ends the stream, and begins the next: drops what is unfinished, and flushes the inner writer.
+    /// Ends the stream, and begins the next: drops what is unfinished, and flushes the inner
+    /// writer.
     ///
     /// # Errors
     ///

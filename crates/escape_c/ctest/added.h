@@ -1,7 +1,7 @@
 /* SPDX-License-Identifier: MIT */
 /*
- * The text that a call in pieces added. What includes it defines PROGRAM, its name, IN_PIECES, the struct of what is in pieces, and
- * ADDED, the call that copies its text.
+ * The text that a call in pieces added. What includes it defines PROGRAM, its name, IN_PIECES, the
+ * struct of what is in pieces, and ADDED, the call that copies its text.
  */
 #include "memory.h"
 
@@ -15,7 +15,9 @@ static size_t append(struct IN_PIECES *it, size_t capacity, uint8_t *text, size_
         memset(area, JUNK, sizeof area);
         count = ADDED(it, from, area + 8, capacity);
         wants(count <= capacity, "more than fits", "", count);
-        wants(is_junk(area, 8) && is_junk(area + 8 + count, sizeof area - 8 - count), "a byte past the text was written", "", count);
+        wants(
+            is_junk(area, 8) && is_junk(area + 8 + count, sizeof area - 8 - count),
+            "a byte past the text was written", "", count);
         memcpy(text + length, area + 8, count);
         length += count;
         from += count;

@@ -9,8 +9,8 @@ int main(void)
     uint8_t out[256] = {0};
     size_t needed = 0;
 
-    uint32_t status =
-        escape_stream_filter(ESCAPE_STREAM_POLICY_TEXT, 4096, bytes, strlen(stream), out, sizeof out, &needed);
+    uint32_t status = escape_stream_filter(
+        ESCAPE_STREAM_POLICY_TEXT, 4096, bytes, strlen(stream), out, sizeof out, &needed);
     if (status != ESCAPE_STREAM_DONE || needed > sizeof out)
         return 1;
     fwrite(out, 1, needed, stdout);

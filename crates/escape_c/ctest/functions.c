@@ -1,8 +1,8 @@
 /* SPDX-License-Identifier: MIT */
 /*
- * Finds every control function of a page, docs/FUNCTIONS.md, under its name, and what it says of it, but for escape sequences of two
- * intermediates, for which there is no call; and looks for each sequence that there can be, of which only those of the page have a
- * name.
+ * Finds every control function of a page, docs/FUNCTIONS.md, under its name, and what it says of
+ * it, but for escape sequences of two intermediates, for which there is no call; and looks for each
+ * sequence that there can be, of which only those of the page have a name.
  */
 #include "escape_stream.h"
 #include <stdio.h>
@@ -38,7 +38,8 @@ static int split(char *line)
     return count;
 }
 
-/* The characters of a sequence as the page has it, after its first word; `SP` is a space, and `..` none of them. */
+/* The characters of a sequence as the page has it, after its first word; `SP` is a space, and `..`
+ * none of them. */
 static size_t characters(char *shape, uint8_t *found)
 {
     size_t count = 0, ticks = shape[1] == '`' ? 3 : 1;
@@ -67,13 +68,15 @@ static void fail(const char *what, const char *name)
 }
 
 /* Compares a row that was written with that of the page. */
-static void compare(const struct escape_stream_function *function, const char *name, const char *phrase, const char *effect)
-{
+static void compare(
+    const struct escape_stream_function *function, const char *name, const char *phrase,
+    const char *effect) {
     if (strcmp(function->name, name) != 0)
         fail(function->name, name);
     if (strcmp(function->phrase, phrase) != 0)
         fail(function->phrase, name);
-    if (function->changes_screen != (strcmp(effect, "screen") == 0) || function->is_answered != (strcmp(effect, "answered") == 0))
+    if (function->changes_screen != (strcmp(effect, "screen") == 0) ||
+        function->is_answered != (strcmp(effect, "answered") == 0))
         fail("other flags", name);
 }
 
@@ -98,7 +101,8 @@ static int read_page(FILE *page)
                 prefix = bytes[at++];
             if (count - at == 2)
                 intermediate = bytes[at++];
-            if (!escape_stream_function(prefix, intermediate, bytes[at], entries(cells[3]), &function))
+            if (!escape_stream_function(
+                    prefix, intermediate, bytes[at], entries(cells[3]), &function))
                 fail("not found", cells[1]);
             compare(&function, cells[1], cells[2], cells[4]);
         } else if (count == 1 || !has_more) {
@@ -127,7 +131,8 @@ static int named_sequences(void)
             for (size_t p = 0; p < sizeof prefixes; p++)
                 for (size_t c = 0; c < 3; c++) {
                     memset(&function, 0x55, sizeof function);
-                    bool there = escape_stream_function(prefixes[p], (uint8_t)intermediate, (uint8_t)final, counts[c], &function);
+                    bool there = escape_stream_function(
+                        prefixes[p], (uint8_t)intermediate, (uint8_t) final, counts[c], &function);
                     if (!there && memcmp(&function, &zeros, sizeof zeros) != 0)
                         fail("no zeros", "no function");
                     if (there && (c == 0 || strcmp(function.name, last) != 0))

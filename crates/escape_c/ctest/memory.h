@@ -1,5 +1,6 @@
 /* SPDX-License-Identifier: MIT */
-/* Memory that is counted and refused, and differences that are counted. What includes it defines PROGRAM, its name. */
+/* Memory that is counted and refused, and differences that are counted. What includes it defines
+ * PROGRAM, its name. */
 #include "escape_stream.h"
 
 #include <stdio.h>

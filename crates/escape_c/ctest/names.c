@@ -2,7 +2,8 @@
 #include "escape_stream_parser.h"
 #include <stdio.h>
 
-/* The function of a control sequence, by the bytes among its entries that separate no parameters. */
+/* The function of a control sequence, by the bytes among its entries that separate no parameters.
+ */
 static bool function_of(const struct escape_stream_event *event, struct escape_stream_function *out)
 {
     uint8_t prefix = 0, intermediate = 0;

@@ -1,12 +1,14 @@
 /* SPDX-License-Identifier: MIT */
 /*
- * Reads operating system commands by escape_stream.h, compares their fields with what is wanted, and writes them again.
+ * Reads operating system commands by escape_stream.h, compares their fields with what is wanted,
+ * and writes them again.
  *
  *     osc
  *
- * Each command in every room, with guards beside it; each request for memory is refused in turn. Prints a line for each
- * difference; the status is 1 where there is one. Link it with -Wl,--wrap=malloc,--wrap=realloc,--wrap=free, by which it counts,
- * refuses, and sees that all was given back.
+ * Each command in every room, with guards beside it; each request for memory is refused in turn.
+ * Prints a line for each difference; the status is 1 where there is one. Link it with
+ * -Wl,--wrap=malloc,--wrap=realloc,--wrap=free, by which it counts, refuses, and sees that all was
+ * given back.
  */
 #define PROGRAM "osc"
 #define INTRODUCER "\x1b]"
@@ -14,24 +16,57 @@
 
 #define KIND(name) [ESCAPE_STREAM_OSC_##name] = #name
 static const char *const KINDS[] = {
-    KIND(UNSPECIFIED), KIND(SET_ICON_NAME_AND_WINDOW_TITLE), KIND(SET_WINDOW_TITLE), KIND(SET_WINDOW_TITLE_SUN),
-    KIND(SET_ICON_NAME), KIND(SET_ICON_NAME_SUN), KIND(SET_HYPERLINK), KIND(CLEAR_SELECTION), KIND(QUERY_SELECTION),
-    KIND(SET_SELECTION), KIND(SYSTEM_NOTIFICATION), KIND(CHANGE_COLOR_NUMBER), KIND(CHANGE_DYNAMIC_COLORS),
-    KIND(RESET_DYNAMIC_COLOR), KIND(CURRENT_WORKING_DIRECTORY), KIND(RESET_COLORS), KIND(RXVT_EXTENSION),
-    KIND(CONEMU_PROGRESS), KIND(PROMPT_FRESH_LINE), KIND(PROMPT_FRESH_LINE_AND_START_PROMPT),
-    KIND(PROMPT_END_OF_COMMAND_WITH_FRESH_LINE), KIND(PROMPT_START_PROMPT), KIND(PROMPT_START_OF_INPUT_UNTIL_NEXT_MARKER),
-    KIND(PROMPT_START_OF_INPUT_UNTIL_END_OF_LINE), KIND(PROMPT_START_OF_OUTPUT), KIND(PROMPT_COMMAND_STATUS),
-    KIND(ITERM_SET_MARK), KIND(ITERM_STEAL_FOCUS), KIND(ITERM_CLEAR_SCROLLBACK), KIND(ITERM_CURRENT_DIR),
-    KIND(ITERM_SET_PROFILE), KIND(ITERM_COPY_TO_CLIPBOARD), KIND(ITERM_END_COPY), KIND(ITERM_HIGHLIGHT_CURSOR_LINE),
-    KIND(ITERM_REQUEST_CELL_SIZE), KIND(ITERM_REPORT_CELL_SIZE), KIND(ITERM_COPY), KIND(ITERM_REPORT_VARIABLE),
-    KIND(ITERM_SET_USER_VAR), KIND(ITERM_SET_BADGE_FORMAT), KIND(ITERM_FILE), KIND(ITERM_SET_UNICODE_VERSION),
-    KIND(ITERM_PUSH_UNICODE_VERSION), KIND(ITERM_POP_UNICODE_VERSION),
+    KIND(UNSPECIFIED),
+    KIND(SET_ICON_NAME_AND_WINDOW_TITLE),
+    KIND(SET_WINDOW_TITLE),
+    KIND(SET_WINDOW_TITLE_SUN),
+    KIND(SET_ICON_NAME),
+    KIND(SET_ICON_NAME_SUN),
+    KIND(SET_HYPERLINK),
+    KIND(CLEAR_SELECTION),
+    KIND(QUERY_SELECTION),
+    KIND(SET_SELECTION),
+    KIND(SYSTEM_NOTIFICATION),
+    KIND(CHANGE_COLOR_NUMBER),
+    KIND(CHANGE_DYNAMIC_COLORS),
+    KIND(RESET_DYNAMIC_COLOR),
+    KIND(CURRENT_WORKING_DIRECTORY),
+    KIND(RESET_COLORS),
+    KIND(RXVT_EXTENSION),
+    KIND(CONEMU_PROGRESS),
+    KIND(PROMPT_FRESH_LINE),
+    KIND(PROMPT_FRESH_LINE_AND_START_PROMPT),
+    KIND(PROMPT_END_OF_COMMAND_WITH_FRESH_LINE),
+    KIND(PROMPT_START_PROMPT),
+    KIND(PROMPT_START_OF_INPUT_UNTIL_NEXT_MARKER),
+    KIND(PROMPT_START_OF_INPUT_UNTIL_END_OF_LINE),
+    KIND(PROMPT_START_OF_OUTPUT),
+    KIND(PROMPT_COMMAND_STATUS),
+    KIND(ITERM_SET_MARK),
+    KIND(ITERM_STEAL_FOCUS),
+    KIND(ITERM_CLEAR_SCROLLBACK),
+    KIND(ITERM_CURRENT_DIR),
+    KIND(ITERM_SET_PROFILE),
+    KIND(ITERM_COPY_TO_CLIPBOARD),
+    KIND(ITERM_END_COPY),
+    KIND(ITERM_HIGHLIGHT_CURSOR_LINE),
+    KIND(ITERM_REQUEST_CELL_SIZE),
+    KIND(ITERM_REPORT_CELL_SIZE),
+    KIND(ITERM_COPY),
+    KIND(ITERM_REPORT_VARIABLE),
+    KIND(ITERM_SET_USER_VAR),
+    KIND(ITERM_SET_BADGE_FORMAT),
+    KIND(ITERM_FILE),
+    KIND(ITERM_SET_UNICODE_VERSION),
+    KIND(ITERM_PUSH_UNICODE_VERSION),
+    KIND(ITERM_POP_UNICODE_VERSION),
 };
 
 static const char *kind_name(uint32_t kind) { return KINDS[kind]; }
 
-static uint32_t read_text(const uint8_t *text, size_t length, struct value *value, struct escape_stream_field *fields,
-                          size_t field_room, uint8_t *out, size_t capacity) {
+static uint32_t read_text(
+    const uint8_t *text, size_t length, struct value *value, struct escape_stream_field *fields,
+    size_t field_room, uint8_t *out, size_t capacity) {
     struct escape_stream_osc osc;
     uint32_t status;
     memset(&osc, JUNK, sizeof osc);
@@ -43,9 +78,11 @@ static uint32_t read_text(const uint8_t *text, size_t length, struct value *valu
     return status;
 }
 
-static uint32_t write_text(const struct value *value, const struct escape_stream_field *fields, const uint8_t *texts,
-                           uint8_t *out, size_t capacity, size_t *needed) {
-    return escape_stream_write_osc(value->kind, fields, value->field_count, texts, value->text_length, out, capacity, needed);
+static uint32_t write_text(
+    const struct value *value, const struct escape_stream_field *fields, const uint8_t *texts,
+    uint8_t *out, size_t capacity, size_t *needed) {
+    return escape_stream_write_osc(
+        value->kind, fields, value->field_count, texts, value->text_length, out, capacity, needed);
 }
 
 static const struct command COMMANDS[] = {
@@ -62,8 +99,10 @@ static const struct command COMMANDS[] = {
     {"52;;?", "QUERY_SELECTION SELECTION=24"},
     {"52;p9;aGVsbG8=", "SET_SELECTION SELECTION=8196 TEXT=hello"},
     {"9;done", "SYSTEM_NOTIFICATION TEXT=done"},
-    {"4;1;#ff0080;255;?", "CHANGE_COLOR_NUMBER PALETTE_INDEX=1 RED=65535 GREEN=0 BLUE=32896 PALETTE_INDEX=255 QUERY=1"},
-    {"11;?;rgb:1/2/3", "CHANGE_DYNAMIC_COLORS DYNAMIC_COLOR=11 QUERY=1 RED=4369 GREEN=8738 BLUE=13107"},
+    {"4;1;#ff0080;255;?",
+     "CHANGE_COLOR_NUMBER PALETTE_INDEX=1 RED=65535 GREEN=0 BLUE=32896 PALETTE_INDEX=255 QUERY=1"},
+    {"11;?;rgb:1/2/3",
+     "CHANGE_DYNAMIC_COLORS DYNAMIC_COLOR=11 QUERY=1 RED=4369 GREEN=8738 BLUE=13107"},
     {"112", "RESET_DYNAMIC_COLOR DYNAMIC_COLOR=12"},
     {"7;file:///tmp", "CURRENT_WORKING_DIRECTORY DIRECTORY=file:///tmp"},
     {"104", "RESET_COLORS"},
@@ -99,12 +138,19 @@ static const struct command COMMANDS[] = {
     {"1337;Copy=;aGVsbG8=", "ITERM_COPY TEXT=hello"},
     {"1337;SetUserVar=a=aGVsbG8=", "ITERM_SET_USER_VAR NAME=a VALUE=hello"},
     {"1337;SetBadgeFormat=aGVsbG8=", "ITERM_SET_BADGE_FORMAT TEXT=hello"},
-    {"1337;File=:AAH/", "ITERM_FILE PRESERVE_ASPECT_RATIO=1 INLINE=0 DO_NOT_MOVE_CURSOR=0 CONTENT=[00][01][ff]"},
-    {"1337;File=name=YQ==;size=18446744073709551615;width=-2;height=50%;preserveAspectRatio=0;inline=1;doNotMoveCursor=1:aGk=",
-     "ITERM_FILE NAME=a SIZE=18446744073709551615 WIDTH_CELLS=-2 HEIGHT_PERCENT=50 PRESERVE_ASPECT_RATIO=0 INLINE=1 "
+    {"1337;File=:AAH/",
+     "ITERM_FILE PRESERVE_ASPECT_RATIO=1 INLINE=0 DO_NOT_MOVE_CURSOR=0 CONTENT=[00][01][ff]"},
+    {"1337;File=name=YQ==;size=18446744073709551615;width=-2;height=50%;preserveAspectRatio=0;"
+     "inline=1;doNotMoveCursor=1:aGk=",
+     "ITERM_FILE NAME=a SIZE=18446744073709551615 WIDTH_CELLS=-2 HEIGHT_PERCENT=50 "
+     "PRESERVE_ASPECT_RATIO=0 INLINE=1 "
      "DO_NOT_MOVE_CURSOR=1 CONTENT=hi"},
-    {"1337;File=width=3px;height=4px:", "ITERM_FILE WIDTH_PIXELS=3 HEIGHT_PIXELS=4 PRESERVE_ASPECT_RATIO=1 INLINE=0 DO_NOT_MOVE_CURSOR=0 CONTENT="},
-    {"1337;File=width=3%;height=4:", "ITERM_FILE WIDTH_PERCENT=3 HEIGHT_CELLS=4 PRESERVE_ASPECT_RATIO=1 INLINE=0 DO_NOT_MOVE_CURSOR=0 CONTENT="},
+    {"1337;File=width=3px;height=4px:",
+     "ITERM_FILE WIDTH_PIXELS=3 HEIGHT_PIXELS=4 PRESERVE_ASPECT_RATIO=1 INLINE=0 "
+     "DO_NOT_MOVE_CURSOR=0 CONTENT="},
+    {"1337;File=width=3%;height=4:",
+     "ITERM_FILE WIDTH_PERCENT=3 HEIGHT_CELLS=4 PRESERVE_ASPECT_RATIO=1 INLINE=0 "
+     "DO_NOT_MOVE_CURSOR=0 CONTENT="},
     {"1337;UnicodeVersion=9", "ITERM_SET_UNICODE_VERSION VERSION=9"},
     {"1337;UnicodeVersion=push a", "ITERM_PUSH_UNICODE_VERSION LABEL=a"},
     {"1337;UnicodeVersion=pop", "ITERM_POP_UNICODE_VERSION"},
@@ -121,26 +167,82 @@ static const struct refusal REFUSALS[] = {
     {ESCAPE_STREAM_OSC_SET_WINDOW_TITLE, {TEXT(TEXT, 0, 1)}, 1, "ab", ESCAPE_STREAM_NO_COMMAND},
     {ESCAPE_STREAM_OSC_SET_WINDOW_TITLE, {TEXT(TEXT, 0, 3)}, 1, "ab", ESCAPE_STREAM_NO_COMMAND},
     {ESCAPE_STREAM_OSC_SET_WINDOW_TITLE, {TEXT(TEXT, 1, 1)}, 1, "ab", ESCAPE_STREAM_NO_COMMAND},
-    {ESCAPE_STREAM_OSC_SET_WINDOW_TITLE, {TEXT(TEXT, 0, SIZE_MAX)}, 1, "a", ESCAPE_STREAM_NO_COMMAND},
-    {ESCAPE_STREAM_OSC_SET_WINDOW_TITLE, {TEXT(TEXT, SIZE_MAX, 1)}, 1, "a", ESCAPE_STREAM_NO_COMMAND},
+    {ESCAPE_STREAM_OSC_SET_WINDOW_TITLE,
+     {TEXT(TEXT, 0, SIZE_MAX)},
+     1,
+     "a",
+     ESCAPE_STREAM_NO_COMMAND},
+    {ESCAPE_STREAM_OSC_SET_WINDOW_TITLE,
+     {TEXT(TEXT, SIZE_MAX, 1)},
+     1,
+     "a",
+     ESCAPE_STREAM_NO_COMMAND},
     {ESCAPE_STREAM_OSC_SET_WINDOW_TITLE, {TEXT(NAME, 0, 1)}, 1, "a", ESCAPE_STREAM_NO_COMMAND},
-    {ESCAPE_STREAM_OSC_SET_WINDOW_TITLE, {TEXT(TEXT, 0, 1), TEXT(TEXT, 1, 1)}, 2, "ab", ESCAPE_STREAM_NO_COMMAND},
+    {ESCAPE_STREAM_OSC_SET_WINDOW_TITLE,
+     {TEXT(TEXT, 0, 1), TEXT(TEXT, 1, 1)},
+     2,
+     "ab",
+     ESCAPE_STREAM_NO_COMMAND},
     {ESCAPE_STREAM_OSC_SET_WINDOW_TITLE, {TEXT(TEXT, 0, 1)}, 1, "\xff", ESCAPE_STREAM_NO_COMMAND},
     {ESCAPE_STREAM_OSC_SET_WINDOW_TITLE, {TEXT(TEXT, 0, 1)}, 1, "\x1b", ESCAPE_STREAM_NOT_WRITABLE},
-    {ESCAPE_STREAM_OSC_SET_WINDOW_TITLE, {TEXT(TEXT, 0, 2)}, 1, "\xc2\x9c", ESCAPE_STREAM_NOT_WRITABLE},
-    {ESCAPE_STREAM_OSC_SYSTEM_NOTIFICATION, {TEXT(TEXT, 0, 3)}, 1, "a;b", ESCAPE_STREAM_NOT_WRITABLE},
-    {ESCAPE_STREAM_OSC_ITERM_REPORT_VARIABLE, {TEXT(NAME, 0, 1)}, 1, "a", ESCAPE_STREAM_NOT_WRITABLE},
-    {ESCAPE_STREAM_OSC_UNSPECIFIED, {TEXT(PART, 0, 1), TEXT(PART, 1, 1)}, 2, "2a", ESCAPE_STREAM_NOT_WRITABLE},
-    {ESCAPE_STREAM_OSC_CLEAR_SELECTION, {NUMBER(SELECTION, 65536)}, 1, "", ESCAPE_STREAM_NO_COMMAND},
+    {ESCAPE_STREAM_OSC_SET_WINDOW_TITLE,
+     {TEXT(TEXT, 0, 2)},
+     1,
+     "\xc2\x9c",
+     ESCAPE_STREAM_NOT_WRITABLE},
+    {ESCAPE_STREAM_OSC_SYSTEM_NOTIFICATION,
+     {TEXT(TEXT, 0, 3)},
+     1,
+     "a;b",
+     ESCAPE_STREAM_NOT_WRITABLE},
+    {ESCAPE_STREAM_OSC_ITERM_REPORT_VARIABLE,
+     {TEXT(NAME, 0, 1)},
+     1,
+     "a",
+     ESCAPE_STREAM_NOT_WRITABLE},
+    {ESCAPE_STREAM_OSC_UNSPECIFIED,
+     {TEXT(PART, 0, 1), TEXT(PART, 1, 1)},
+     2,
+     "2a",
+     ESCAPE_STREAM_NOT_WRITABLE},
+    {ESCAPE_STREAM_OSC_CLEAR_SELECTION,
+     {NUMBER(SELECTION, 65536)},
+     1,
+     "",
+     ESCAPE_STREAM_NO_COMMAND},
     {ESCAPE_STREAM_OSC_CLEAR_SELECTION, {NUMBER(SELECTION, -1)}, 1, "", ESCAPE_STREAM_NO_COMMAND},
     {ESCAPE_STREAM_OSC_CLEAR_SELECTION, {NUMBER(SELECTION, 1)}, 1, "", ESCAPE_STREAM_NOT_WRITABLE},
-    {ESCAPE_STREAM_OSC_RESET_DYNAMIC_COLOR, {NUMBER(DYNAMIC_COLOR, 20)}, 1, "", ESCAPE_STREAM_NO_COMMAND},
+    {ESCAPE_STREAM_OSC_RESET_DYNAMIC_COLOR,
+     {NUMBER(DYNAMIC_COLOR, 20)},
+     1,
+     "",
+     ESCAPE_STREAM_NO_COMMAND},
     {ESCAPE_STREAM_OSC_RESET_COLORS, {NUMBER(PALETTE_INDEX, 256)}, 1, "", ESCAPE_STREAM_NO_COMMAND},
-    {ESCAPE_STREAM_OSC_CONEMU_PROGRESS, {NUMBER(PROGRESS_STATE, 5)}, 1, "", ESCAPE_STREAM_NO_COMMAND},
-    {ESCAPE_STREAM_OSC_CONEMU_PROGRESS, {NUMBER(PROGRESS_STATE, 1), NUMBER(PERCENT, 101)}, 2, "", ESCAPE_STREAM_NOT_WRITABLE},
-    {ESCAPE_STREAM_OSC_PROMPT_COMMAND_STATUS, {NUMBER(STATUS, INT64_C(2147483648))}, 1, "", ESCAPE_STREAM_NO_COMMAND},
-    {ESCAPE_STREAM_OSC_SET_HYPERLINK, {TEXT(URI, 0, 1), NUMBER(IMPLICIT, 1)}, 2, "u", ESCAPE_STREAM_NOT_WRITABLE},
-    {ESCAPE_STREAM_OSC_SET_HYPERLINK, {TEXT(URI, 0, 1), NUMBER(IMPLICIT, 0), TEXT(KEY, 1, 1)}, 3, "uk", ESCAPE_STREAM_NO_COMMAND},
+    {ESCAPE_STREAM_OSC_CONEMU_PROGRESS,
+     {NUMBER(PROGRESS_STATE, 5)},
+     1,
+     "",
+     ESCAPE_STREAM_NO_COMMAND},
+    {ESCAPE_STREAM_OSC_CONEMU_PROGRESS,
+     {NUMBER(PROGRESS_STATE, 1), NUMBER(PERCENT, 101)},
+     2,
+     "",
+     ESCAPE_STREAM_NOT_WRITABLE},
+    {ESCAPE_STREAM_OSC_PROMPT_COMMAND_STATUS,
+     {NUMBER(STATUS, INT64_C(2147483648))},
+     1,
+     "",
+     ESCAPE_STREAM_NO_COMMAND},
+    {ESCAPE_STREAM_OSC_SET_HYPERLINK,
+     {TEXT(URI, 0, 1), NUMBER(IMPLICIT, 1)},
+     2,
+     "u",
+     ESCAPE_STREAM_NOT_WRITABLE},
+    {ESCAPE_STREAM_OSC_SET_HYPERLINK,
+     {TEXT(URI, 0, 1), NUMBER(IMPLICIT, 0), TEXT(KEY, 1, 1)},
+     3,
+     "uk",
+     ESCAPE_STREAM_NO_COMMAND},
 };
 
 int main(void) {

@@ -4,9 +4,10 @@
  *
  *     sixel
  *
- * Each image in every room, with guards beside it; each request for memory is refused in turn. Prints a line for each difference;
- * the status is 1 where there is one. Link it with -Wl,--wrap=malloc,--wrap=realloc,--wrap=free, by which it counts, refuses, and
- * sees that all was given back.
+ * Each image in every room, with guards beside it; each request for memory is refused in turn.
+ * Prints a line for each difference; the status is 1 where there is one. Link it with
+ * -Wl,--wrap=malloc,--wrap=realloc,--wrap=free, by which it counts, refuses, and sees that all was
+ * given back.
  */
 #define PROGRAM "sixel"
 #include "memory.h"
@@ -45,7 +46,8 @@ static size_t append_item(char *line, const struct escape_stream_sixel_item *it)
     case ESCAPE_STREAM_SIXEL_DEFINE_RGB:
         return (size_t)sprintf(line, " #%u=%02x%02x%02x", it->color, it->red, it->green, it->blue);
     case ESCAPE_STREAM_SIXEL_DEFINE_HSL:
-        return (size_t)sprintf(line, " #%u=%u,%u,%u", it->color, it->hue, it->lightness, it->saturation);
+        return (size_t)sprintf(
+            line, " #%u=%u,%u,%u", it->color, it->hue, it->lightness, it->saturation);
     case ESCAPE_STREAM_SIXEL_SELECT:
         return (size_t)sprintf(line, " #%u", it->color);
     default:
@@ -63,7 +65,9 @@ struct room {
 static const char *written(const struct room *room) {
     static char line[1000];
     const struct escape_stream_sixel *it = &room->sixel;
-    size_t at = (size_t)sprintf(line, "%" PRId64 ":%" PRId64 " %" PRIu32 "x%" PRIu32, it->pan, it->pad, it->width, it->height);
+    size_t at = (size_t)sprintf(
+        line, "%" PRId64 ":%" PRId64 " %" PRIu32 "x%" PRIu32, it->pan, it->pad, it->width,
+        it->height);
     if (it->background_is_transparent)
         at += (size_t)sprintf(line + at, " transparent");
     if (it->has_grid_size)
@@ -81,23 +85,29 @@ static const char *written(const struct room *room) {
 
 static uint32_t read_into(struct room *room, const struct image *image, size_t item_room) {
     memset(room, JUNK, sizeof *room);
-    return escape_stream_read_sixel(image->params, image->count, (const uint8_t *)image->text, strlen(image->text), &room->sixel,
-                                    room->items, item_room);
+    return escape_stream_read_sixel(
+        image->params, image->count, (const uint8_t *)image->text, strlen(image->text),
+        &room->sixel, room->items, item_room);
 }
 
 /* The same image in less room: the beginning of its items, and nothing past these. */
 static void check_room(const struct room *whole, const struct image *image, size_t item_room) {
     static struct room room;
     size_t items = item_room < whole->sixel.item_count ? item_room : whole->sixel.item_count;
-    wants(read_into(&room, image, item_room) == ESCAPE_STREAM_DONE, "another status", image->text, item_room);
-    wants(room.sixel.item_count == whole->sixel.item_count, "another count", image->text, item_room);
+    wants(
+        read_into(&room, image, item_room) == ESCAPE_STREAM_DONE, "another status", image->text,
+        item_room);
+    wants(
+        room.sixel.item_count == whole->sixel.item_count, "another count", image->text, item_room);
     for (size_t i = 0; i < items; i++) {
         char one[100], other[100];
         append_item(one, &room.items[i]);
         append_item(other, &whole->items[i]);
         wants(strcmp(one, other) == 0, "another item", image->text, i);
     }
-    wants(is_junk(&room.items[items], sizeof room.items - items * sizeof *room.items), "an item past them", image->text, item_room);
+    wants(
+        is_junk(&room.items[items], sizeof room.items - items * sizeof *room.items),
+        "an item past them", image->text, item_room);
 }
 
 static void check_refusals(const struct image *image) {
@@ -112,7 +122,9 @@ static void check_refusals(const struct image *image) {
         if (status == ESCAPE_STREAM_DONE)
             wants(strcmp(written(&room), image->wanted) == 0, "another image", image->text, at);
         else
-            wants(status == ESCAPE_STREAM_NO_MEMORY && is_junk(&room, sizeof room), "something was written", image->text, at);
+            wants(
+                status == ESCAPE_STREAM_NO_MEMORY && is_junk(&room, sizeof room),
+                "something was written", image->text, at);
         if (requests < at)
             return;
     }
@@ -121,14 +133,17 @@ static void check_refusals(const struct image *image) {
 #include "written.h"
 
 static uint32_t write_from(const struct room *from, uint8_t *out, size_t capacity, size_t *needed) {
-    return escape_stream_write_sixel(&from->sixel, from->items, from->sixel.item_count, out, capacity, needed);
+    return escape_stream_write_sixel(
+        &from->sixel, from->items, from->sixel.item_count, out, capacity, needed);
 }
 
 static bool is_framed(const uint8_t *text, size_t length) {
-    return length >= 5 && memcmp(text, "\x1bP", 2) == 0 && memcmp(text + length - 2, "\x1b\\", 2) == 0;
+    return length >= 5 && memcmp(text, "\x1bP", 2) == 0 &&
+           memcmp(text + length - 2, "\x1b\\", 2) == 0;
 }
 
-/* Reads what was written: the numbers between `ESC P` and `q`, an empty one being 0, and the data between `q` and `ESC \`. */
+/* Reads what was written: the numbers between `ESC P` and `q`, an empty one being 0, and the data
+ * between `q` and `ESC \`. */
 static void read_again(struct room *room, const uint8_t *text, size_t length) {
     int64_t params[MOST_PARAMETERS + 1] = {0};
     size_t at = 2, count = text[2] != 'q';
@@ -138,7 +153,8 @@ static void read_again(struct room *room, const uint8_t *text, size_t length) {
         else
             params[count - 1] = 10 * params[count - 1] + text[at] - '0';
     memset(room, JUNK, sizeof *room);
-    escape_stream_read_sixel(params, count, text + at + 1, length - at - 3, &room->sixel, room->items, MOST_ITEMS);
+    escape_stream_read_sixel(
+        params, count, text + at + 1, length - at - 3, &room->sixel, room->items, MOST_ITEMS);
 }
 
 /* The image that was read is written in every room, and reads back as the same. */
@@ -156,9 +172,11 @@ static void check_written(const struct room *whole, const char *text, const char
 static void check_no_images(void) {
     static struct room room;
     struct escape_stream_sixel_item *item = &room.items[0];
-    static const struct room plain = {{.pan = 1, .pad = 1, .item_count = 1},
-                                      {{.kind = ESCAPE_STREAM_SIXEL_PIXELS, .count = 1, .pixels = 63}}};
-#define CHECK(change, wanted) (room = plain, change, check_not_written(&room, ESCAPE_STREAM_##wanted, #change))
+    static const struct room plain = {
+        {.pan = 1, .pad = 1, .item_count = 1},
+        {{.kind = ESCAPE_STREAM_SIXEL_PIXELS, .count = 1, .pixels = 63}}};
+#define CHECK(change, wanted)                                                                      \
+    (room = plain, change, check_not_written(&room, ESCAPE_STREAM_##wanted, #change))
     CHECK(item->kind = 7, NO_COMMAND);
     CHECK(item->count = 2, NO_COMMAND);
     CHECK(item->color = 1, NO_COMMAND);
@@ -176,7 +194,10 @@ static void check_no_images(void) {
     CHECK((room.sixel.has_grid_size = true, room.sixel.grid_size = -1), NOT_WRITABLE);
     CHECK((room.sixel.has_pixel_width = room.sixel.has_pixel_height = true,
            room.sixel.pixel_width = room.sixel.pixel_height = 10001), NOT_WRITABLE);
-    CHECK((*item = (struct escape_stream_sixel_item){.kind = ESCAPE_STREAM_SIXEL_DEFINE_RGB, .green = 1}), NOT_WRITABLE);
+    CHECK(
+        (*item =
+             (struct escape_stream_sixel_item){.kind = ESCAPE_STREAM_SIXEL_DEFINE_RGB, .green = 1}),
+        NOT_WRITABLE);
     /* What follows from the rest is not looked at. */
     room = plain;
     room.sixel.width = room.sixel.height = 7;
@@ -186,9 +207,13 @@ static void check_no_images(void) {
 int main(void) {
     static struct room whole;
     for (size_t i = 0; i < sizeof IMAGES / sizeof *IMAGES; i++) {
-        wants(read_into(&whole, &IMAGES[i], MOST_ITEMS) == ESCAPE_STREAM_DONE, "another status", IMAGES[i].text, 0);
+        wants(
+            read_into(&whole, &IMAGES[i], MOST_ITEMS) == ESCAPE_STREAM_DONE, "another status",
+            IMAGES[i].text, 0);
         wants(strcmp(written(&whole), IMAGES[i].wanted) == 0, written(&whole), IMAGES[i].text, i);
-        wants(whole.sixel.item_count <= strlen(IMAGES[i].text), "more items than bytes", IMAGES[i].text, i);
+        wants(
+            whole.sixel.item_count <= strlen(IMAGES[i].text), "more items than bytes",
+            IMAGES[i].text, i);
         for (size_t items = 0; items <= whole.sixel.item_count + 2; items++)
             check_room(&whole, &IMAGES[i], items);
         check_refusals(&IMAGES[i]);

@@ -1,12 +1,14 @@
 /* SPDX-License-Identifier: MIT */
 /*
- * Checks the calls of escape_stream.h against tables of streams, text files whose form docs/DEVELOPING.md gives.
+ * Checks the calls of escape_stream.h against tables of streams, text files whose form
+ * docs/DEVELOPING.md gives.
  *
  *     tables TABLE..
  *
- * Of each row what is written has to be what the row says, at every capacity, and every other byte has to stay as it was.
- * Each request for memory is refused in turn. Prints a line for each row that differs; the status is 1 where one does. Link it
- * with -Wl,--wrap=malloc,--wrap=realloc, by which it counts and refuses requests.
+ * Of each row what is written has to be what the row says, at every capacity, and every other byte
+ * has to stay as it was. Each request for memory is refused in turn. Prints a line for each row
+ * that differs; the status is 1 where one does. Link it with -Wl,--wrap=malloc,--wrap=realloc, by
+ * which it counts and refuses requests.
  */
 #include "escape_stream.h"
 
@@ -14,7 +16,13 @@
 #include <stdlib.h>
 #include <string.h>
 
-enum { GUARD = 32, EACH_CAPACITY_UP_TO = 2000, EACH_REQUEST_UP_TO = 2000, MOST_REQUESTS = 10000, LIMIT = 1048576 };
+enum {
+    GUARD = 32,
+    EACH_CAPACITY_UP_TO = 2000,
+    EACH_REQUEST_UP_TO = 2000,
+    MOST_REQUESTS = 10000,
+    LIMIT = 1048576
+};
 
 static const char *const WORDS[] = {"as-text", "as-color", "as-screen", "as-all"};
 
@@ -76,12 +84,15 @@ static uint8_t mark(size_t i) {
 static uint32_t run(const struct call *call, uint8_t *out, size_t capacity, size_t *needed) {
     calls++;
     if (call->filters)
-        return escape_stream_filter(call->policy, call->limit, call->stream.at, call->stream.length, out, capacity, needed);
+        return escape_stream_filter(
+            call->policy, call->limit, call->stream.at, call->stream.length, out, capacity, needed);
     return escape_stream_normal(call->stream.at, call->stream.length, out, capacity, needed);
 }
 
-/* Runs the call with room for this many bytes, between guards. `written` is how many bytes of the text are expected. */
-static void check_capacity(const struct call *call, size_t capacity, uint32_t status, size_t written, size_t wanted) {
+/* Runs the call with room for this many bytes, between guards. `written` is how many bytes of the
+ * text are expected. */
+static void check_capacity(
+    const struct call *call, size_t capacity, uint32_t status, size_t written, size_t wanted) {
     uint8_t *area = room(GUARD + capacity + GUARD), *out = area + GUARD;
     size_t needed = 99;
     for (size_t i = 0; i < GUARD + capacity + GUARD; i++)
@@ -105,7 +116,8 @@ static void check_capacities(const struct call *call) {
     size_t first = length <= EACH_CAPACITY_UP_TO ? 0 : length - 1;
     check_capacity(call, 0, ESCAPE_STREAM_DONE, 0, length);
     for (size_t capacity = first; capacity <= length + 2; capacity++)
-        check_capacity(call, capacity, ESCAPE_STREAM_DONE, capacity < length ? capacity : length, length);
+        check_capacity(
+            call, capacity, ESCAPE_STREAM_DONE, capacity < length ? capacity : length, length);
 }
 
 /* Refuses each request for memory in turn: then nothing is written. */
@@ -155,7 +167,8 @@ static unsigned digit(char c) {
     return (unsigned)(c <= '9' ? c - '0' : c - 'a' + 10);
 }
 
-/* Appends what a text stands for, `times` over: \xNN is a byte, \\ is \, any other byte is itself. */
+/* Appends what a text stands for, `times` over: \xNN is a byte, \\ is \, any other byte is itself.
+ */
 static void append(struct bytes *to, const char *text, size_t times) {
     struct bytes one = {room(strlen(text)), 0};
     uint8_t *whole;
@@ -189,13 +202,17 @@ static bool joined(char **lines, size_t count, const char *word, struct bytes *t
         if (head != strlen(word) || strncmp(lines[i], word, head) != 0)
             continue;
         found = true;
-        append(to, text + strspn(text, " "), lines[i][head] == '*' ? strtoul(lines[i] + head + 1, NULL, 10) : 1);
+        append(
+            to, text + strspn(text, " "),
+            lines[i][head] == '*' ? strtoul(lines[i] + head + 1, NULL, 10) : 1);
     }
     return found;
 }
 
-/* The text without what takes back, at its end, what the stream leaves changed, which a filter in pieces gives when it is finished. */
-static struct bytes without_end(uint32_t policy, size_t limit, struct bytes stream, struct bytes text) {
+/* The text without what takes back, at its end, what the stream leaves changed, which a filter in
+ * pieces gives when it is finished. */
+static struct bytes
+without_end(uint32_t policy, size_t limit, struct bytes stream, struct bytes text) {
     struct escape_stream_filter filter = {0};
     uint8_t *end = room(text.length + 1);
     size_t length;
@@ -224,18 +241,23 @@ static void check_filters(char **lines, size_t count, struct bytes stream) {
             next = last;
         }
         free(next.at);
-        check_call(&(struct call){true, policy, LIMIT, stream, without_end(policy, LIMIT, stream, text)});
+        check_call(
+            &(struct call){true, policy, LIMIT, stream, without_end(policy, LIMIT, stream, text)});
         check_is_normal(text, true);
     }
     for (uint32_t policy = 4; policy; policy += policy)
-        check_capacity(&(struct call){true, policy, LIMIT, stream, text}, 8, ESCAPE_STREAM_UNKNOWN_POLICY, 0, 99);
+        check_capacity(
+            &(struct call){true, policy, LIMIT, stream, text}, 8, ESCAPE_STREAM_UNKNOWN_POLICY, 0,
+            99);
     free(text.at);
 }
 
 static void check_row(char **lines, size_t count) {
     struct bytes stream, text, limit, as_text, as_all;
-    bool has_stream = joined(lines, count, "stream", &stream), has_text = joined(lines, count, "text", &text);
-    bool has_limit = joined(lines, count, "limit", &limit), has_filters = joined(lines, count, "as-text", &as_text);
+    bool has_stream = joined(lines, count, "stream", &stream),
+         has_text = joined(lines, count, "text", &text);
+    bool has_limit = joined(lines, count, "limit", &limit),
+         has_filters = joined(lines, count, "as-text", &as_text);
     bool has_all = joined(lines, count, "as-all", &as_all);
     append(&limit, "\\x00", 1);
     if (has_filters) {
@@ -248,7 +270,9 @@ static void check_row(char **lines, size_t count) {
     } else if (has_stream && !has_limit) {
         struct bytes wanted = has_text ? text : stream;
         check_call(&(struct call){false, 0, 0, stream, wanted});
-        check_is_normal(stream, wanted.length == stream.length && memcmp(wanted.at, stream.at, stream.length) == 0);
+        check_is_normal(
+            stream,
+            wanted.length == stream.length && memcmp(wanted.at, stream.at, stream.length) == 0);
     }
     rows += has_filters || (has_limit && has_text) || (has_stream && !has_limit);
     free(stream.at);
@@ -300,6 +324,7 @@ static void check_table(const char *path) {
 int main(int count, char **words) {
     for (int i = 1; i < count; i++)
         check_table(words[i]);
-    printf("%lu rows, %lu calls, %lu refusals, %lu differences\n", rows, calls, refusals, differences);
+    printf(
+        "%lu rows, %lu calls, %lu refusals, %lu differences\n", rows, calls, refusals, differences);
     return differences || !rows || !refusals;
 }

@@ -1,12 +1,14 @@
 /* SPDX-License-Identifier: MIT */
 /*
- * Reads termcap queries by escape_stream.h, compares their names with what is wanted, and writes them again.
+ * Reads termcap queries by escape_stream.h, compares their names with what is wanted, and writes
+ * them again.
  *
  *     tcap
  *
- * Each query in every room, with guards beside it; each request for memory is refused in turn. Prints a line for each
- * difference; the status is 1 where there is one. Link it with -Wl,--wrap=malloc,--wrap=realloc,--wrap=free, by which it counts,
- * refuses, and sees that all was given back.
+ * Each query in every room, with guards beside it; each request for memory is refused in turn.
+ * Prints a line for each difference; the status is 1 where there is one. Link it with
+ * -Wl,--wrap=malloc,--wrap=realloc,--wrap=free, by which it counts, refuses, and sees that all was
+ * given back.
  */
 #define PROGRAM "tcap"
 #define INTRODUCER "\x1bP+q"
@@ -14,8 +16,9 @@
 
 static const char *kind_name(uint32_t kind) { return kind == 0 ? "QUERY" : "?"; }
 
-static uint32_t read_text(const uint8_t *text, size_t length, struct value *value, struct escape_stream_field *fields,
-                          size_t field_room, uint8_t *out, size_t capacity) {
+static uint32_t read_text(
+    const uint8_t *text, size_t length, struct value *value, struct escape_stream_field *fields,
+    size_t field_room, uint8_t *out, size_t capacity) {
     struct escape_stream_query query;
     uint32_t status;
     memset(&query, JUNK, sizeof query);
@@ -27,9 +30,11 @@ static uint32_t read_text(const uint8_t *text, size_t length, struct value *valu
     return status;
 }
 
-static uint32_t write_text(const struct value *value, const struct escape_stream_field *fields, const uint8_t *texts,
-                           uint8_t *out, size_t capacity, size_t *needed) {
-    return escape_stream_write_tcap(fields, value->field_count, texts, value->text_length, out, capacity, needed);
+static uint32_t write_text(
+    const struct value *value, const struct escape_stream_field *fields, const uint8_t *texts,
+    uint8_t *out, size_t capacity, size_t *needed) {
+    return escape_stream_write_tcap(
+        fields, value->field_count, texts, value->text_length, out, capacity, needed);
 }
 
 static const struct command COMMANDS[] = {

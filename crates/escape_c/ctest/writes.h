@@ -1,21 +1,26 @@
 /* SPDX-License-Identifier: MIT */
 /*
- * Writes what was read by a call of escape_stream.h that gives a kind and fields, and reads it again; and fields that say nothing.
+ * Writes what was read by a call of escape_stream.h that gives a kind and fields, and reads it
+ * again; and fields that say nothing.
  *
- * What includes it defines INTRODUCER, with which a text begins, and write_text, the call, and all that fields.h wants.
+ * What includes it defines INTRODUCER, with which a text begins, and write_text, the call, and all
+ * that fields.h wants.
  */
 #include "fields.h"
 #include "written.h"
 
 enum { BEFORE = sizeof INTRODUCER - 1 };
 
-static uint32_t write_text(const struct value *value, const struct escape_stream_field *fields, const uint8_t *texts, uint8_t *out,
-                           size_t capacity, size_t *needed);
+static uint32_t write_text(
+    const struct value *value, const struct escape_stream_field *fields, const uint8_t *texts,
+    uint8_t *out, size_t capacity, size_t *needed);
 
 static bool is_same(const struct room *room, const struct room *other) {
-    return room->value.kind == other->value.kind && room->value.field_count == other->value.field_count &&
+    return room->value.kind == other->value.kind &&
+           room->value.field_count == other->value.field_count &&
            room->value.text_length == other->value.text_length &&
-           memcmp(room->fields, other->fields, sizeof room->fields) == 0 && memcmp(room->out, other->out, sizeof room->out) == 0;
+           memcmp(room->fields, other->fields, sizeof room->fields) == 0 &&
+           memcmp(room->out, other->out, sizeof room->out) == 0;
 }
 
 /* Writes what was read. */
@@ -25,15 +30,18 @@ static uint32_t write_from(const struct room *from, uint8_t *out, size_t capacit
 
 /* Whether a text begins with the introducer and ends with the string terminator. */
 static bool is_framed(const uint8_t *text, size_t length) {
-    return length >= BEFORE + 2 && memcmp(text, INTRODUCER, BEFORE) == 0 && memcmp(text + length - 2, "\x1b\\", 2) == 0;
+    return length >= BEFORE + 2 && memcmp(text, INTRODUCER, BEFORE) == 0 &&
+           memcmp(text + length - 2, "\x1b\\", 2) == 0;
 }
 
 /* Reads what was written. */
 static bool reads_as(const struct room *wanted, const uint8_t *text, size_t length) {
     static struct room again;
     memset(&again, JUNK, sizeof again);
-    return read_text(text + BEFORE, length - BEFORE - 2, &again.value, again.fields, MOST_FIELDS, again.out, MOST_BYTES) ==
-               ESCAPE_STREAM_DONE && is_same(&again, wanted);
+    return read_text(
+               text + BEFORE, length - BEFORE - 2, &again.value, again.fields, MOST_FIELDS,
+               again.out, MOST_BYTES) == ESCAPE_STREAM_DONE &&
+           is_same(&again, wanted);
 }
 
 /* The command that was read is written in every room, and reads back as the same fields. */
@@ -62,11 +70,15 @@ static void check_changed(const struct room *whole, const char *text) {
             memset(out, JUNK, sizeof out);
             status = write_from(&changed, out, sizeof out, &needed);
             if (status != ESCAPE_STREAM_DONE) {
-                wants((status == ESCAPE_STREAM_NO_COMMAND || status == ESCAPE_STREAM_NOT_WRITABLE) && needed == JUNK &&
-                      is_junk(out, sizeof out), "a change was written", text, i);
+                wants(
+                    (status == ESCAPE_STREAM_NO_COMMAND || status == ESCAPE_STREAM_NOT_WRITABLE) &&
+                        needed == JUNK && is_junk(out, sizeof out),
+                    "a change was written", text, i);
                 continue;
             }
-            wants(is_framed(out, needed) && reads_as(&changed, out, needed), "a change reads otherwise", text, i);
+            wants(
+                is_framed(out, needed) && reads_as(&changed, out, needed),
+                "a change reads otherwise", text, i);
         }
 }
 
@@ -90,7 +102,8 @@ struct refusal {
     uint32_t wanted;
 };
 #define NUMBER(name, number) {ESCAPE_STREAM_FIELD_##name, ESCAPE_STREAM_VALUE_NUMBER, number, 0, 0}
-#define TEXT(name, offset, length) {ESCAPE_STREAM_FIELD_##name, ESCAPE_STREAM_VALUE_TEXT, 0, offset, length}
+#define TEXT(name, offset, length)                                                                 \
+    { ESCAPE_STREAM_FIELD_##name, ESCAPE_STREAM_VALUE_TEXT, 0, offset, length }
 
 static void check_no_commands(const struct refusal *refusals, size_t count) {
     for (size_t i = 0; i < count; i++) {
@@ -98,8 +111,13 @@ static void check_no_commands(const struct refusal *refusals, size_t count) {
         uint8_t out[MOST_WRITTEN];
         size_t needed = JUNK;
         memset(out, JUNK, sizeof out);
-        wants(write_text(&value, refusals[i].fields, (const uint8_t *)refusals[i].text, out, sizeof out, &needed) ==
-              refusals[i].wanted, "another status", "refusal", i);
-        wants(needed == JUNK && is_junk(out, sizeof out) && blocks == 0, "something was written", "refusal", i);
+        wants(
+            write_text(
+                &value, refusals[i].fields, (const uint8_t *)refusals[i].text, out, sizeof out,
+                &needed) == refusals[i].wanted,
+            "another status", "refusal", i);
+        wants(
+            needed == JUNK && is_junk(out, sizeof out) && blocks == 0, "something was written",
+            "refusal", i);
     }
 }

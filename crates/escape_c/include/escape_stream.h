@@ -1,34 +1,42 @@
 /* SPDX-License-Identifier: MIT */
 /*
- * escape_stream.h - streams of terminal escape sequences: their normal form, a filter, HTML, and what they ask for
+ * escape_stream.h - streams of terminal escape sequences: their normal form, a filter, HTML, and
+ * what they ask for
  *
- * A stream is bytes as a program writes them to a terminal: UTF-8 text, control characters, and the control functions of
- * ECMA-48 and xterm, such as colours, cursor movements and titles. Any bytes are a stream. Each of the first three calls takes
- * one whole, and keeps nothing. A filter in pieces, escape_stream_filter_begin and the calls after it, takes one as it comes, and
- * so do a page, escape_stream_html_begin and the calls after it, and a normalizer, escape_stream_normal_begin and the calls after
- * it. The calls escape_stream_read_.. take the text of one command, query or image, and the calls escape_stream_write_.. write one.
+ * A stream is bytes as a program writes them to a terminal: UTF-8 text, control characters, and the
+ * control functions of ECMA-48 and xterm, such as colours, cursor movements and titles. Any bytes
+ * are a stream. Each of the first three calls takes one whole, and keeps nothing. A filter in
+ * pieces, escape_stream_filter_begin and the calls after it, takes one as it comes, and so do a
+ * page, escape_stream_html_begin and the calls after it, and a normalizer,
+ * escape_stream_normal_begin and the calls after it. The calls escape_stream_read_.. take the text
+ * of one command, query or image, and the calls escape_stream_write_.. write one.
  *
  *     cc program.c $(pkg-config --cflags --libs escape_stream)
  *
- * That links libescape_stream.so.0, or with -static libescape_stream.a. Both run on Linux, on every x86-64 or, built for it,
- * on every aarch64, with the C library of GNU of any version, or musl.
+ * That links libescape_stream.so.0, or with -static libescape_stream.a. Both run on Linux, on every
+ * x86-64 or, built for it, on every aarch64, with the C library of GNU of any version, or musl.
  *
- * What each call writes is proved, for every stream and every capacity; docs/EMBEDDING.md says what the proof covers and what
- * it takes for granted. Nothing checks the caller, who owes this at every call:
+ * What each call writes is proved, for every stream and every capacity; docs/EMBEDDING.md says what
+ * the proof covers and what it takes for granted. Nothing checks the caller, who owes this at every
+ * call:
  *
  *   - No pointer is NULL, also where its length is 0.
- *   - `bytes` or `text` is `length` initialized bytes that can be read, and nobody writes them during the call; of the calls
- *     escape_stream_write_.. so are the `text_length` bytes of `text`, the `count` fields or items, and `sixel`.
- *   - `out` is `capacity` initialized bytes that can be read and written; `needed`, `answer`, `osc`, `image`, `query` and `sixel`
- *     point to initialized objects of their types, `fields` to `field_room` of them, `items` to `item_room`, and `params` to
- *     `count`. No two of these and of `bytes` or `text` overlap, but `params` and `text`, and nobody else reads or writes them
+ *   - `bytes` or `text` is `length` initialized bytes that can be read, and nobody writes them
+ *     during the call; of the calls escape_stream_write_.. so are the `text_length` bytes of
+ *     `text`, the `count` fields or items, and `sixel`.
+ *   - `out` is `capacity` initialized bytes that can be read and written; `needed`, `answer`,
+ *     `osc`, `image`, `query` and `sixel` point to initialized objects of their types, `fields` to
+ *     `field_room` of them, `items` to `item_room`, and `params` to `count`. No two of these and of
+ *     `bytes` or `text` overlap, but `params` and `text`, and nobody else reads or writes them
  *     during the call.
  *   - No object has more than PTRDIFF_MAX bytes.
- *   - malloc, realloc and free are of one allocator, and align a block to each power of two up to 16 that divides its size.
- *   - The call is made neither in a signal handler, nor in the child of a process with threads that has only forked.
+ *   - malloc, realloc and free are of one allocator, and align a block to each power of two up to
+ *     16 that divides its size.
+ *   - The call is made neither in a signal handler, nor in the child of a process with threads that
+ *     has only forked.
  *
- * Calls may run in several threads at once, but those of one filter, page or normalizer in one thread alone. None starts a thread,
- * takes a lock, reads a clock or touches a file.
+ * Calls may run in several threads at once, but those of one filter, page or normalizer in one
+ * thread alone. None starts a thread, takes a lock, reads a clock or touches a file.
  */
 #ifndef ESCAPE_STREAM_H
 #define ESCAPE_STREAM_H
@@ -47,29 +55,37 @@ extern "C" {
 #define ESCAPE_STREAM_VERSION_MINOR 1
 #define ESCAPE_STREAM_VERSION_PATCH 0
 
-/* The version of the library that a program runs with, as ESCAPE_STREAM_VERSION has that of the header. Nobody frees the text. */
+/*
+ * The version of the library that a program runs with, as ESCAPE_STREAM_VERSION has that of the
+ * header. Nobody frees the text.
+ */
 const char *escape_stream_version(void);
 
 /*
- * The statuses. After each but ESCAPE_STREAM_DONE nothing was written: `out`, `fields`, `items`, `*needed`, `*answer`, `*osc`,
- * `*image`, `*query` and `*sixel` are as they were. Later versions may add some, so treat one that you do not know as an error.
+ * The statuses. After each but ESCAPE_STREAM_DONE nothing was written: `out`, `fields`, `items`,
+ * `*needed`, `*answer`, `*osc`, `*image`, `*query` and `*sixel` are as they were. Later versions
+ * may add some, so treat one that you do not know as an error.
  */
 #define ESCAPE_STREAM_DONE UINT32_C(0)           /* the call was done */
 #define ESCAPE_STREAM_NO_MEMORY UINT32_C(1)      /* a request for memory was refused */
 #define ESCAPE_STREAM_UNKNOWN_POLICY UINT32_C(2) /* no policy has this number */
-#define ESCAPE_STREAM_NOT_BEGUN UINT32_C(3)      /* the filter, page or normalizer was not begun, or has ended */
-#define ESCAPE_STREAM_NO_COMMAND UINT32_C(4)     /* no command, image or query has this kind and these fields, or this value */
+/* the filter, page or normalizer was not begun, or has ended */
+#define ESCAPE_STREAM_NOT_BEGUN UINT32_C(3)
+/* no command, image or query has this kind and these fields, or this value */
+#define ESCAPE_STREAM_NO_COMMAND UINT32_C(4)
 #define ESCAPE_STREAM_NOT_WRITABLE UINT32_C(5)   /* its text would not read back as it */
 
 /*
- * The policies of escape_stream_filter and escape_stream_filter_begin. Each admits all that the one before it does.
+ * The policies of escape_stream_filter and escape_stream_filter_begin. Each admits all that the one
+ * before it does.
  *
  * TEXT     characters but DEL; tab, line feed and carriage return
  * COLOR    and graphic renditions (SGR: colours, bold, underline ..) and hyperlinks (OSC 8)
- * SCREEN   and what changes the screen alone, from a list of what is known to do no more: cursor movement, erasing, scrolling,
- *          modes of what is shown, and others. Nothing that a terminal answers, no title, no clipboard, and nothing unknown
- * ALL      all that can be written by itself, so images, titles and queries too. It keeps broken input from becoming a
- *          sequence, and does not protect from sequences that are there
+ * SCREEN   and what changes the screen alone, from a list of what is known to do no more: cursor
+ *          movement, erasing, scrolling, modes of what is shown, and others. Nothing that a
+ *          terminal answers, no title, no clipboard, and nothing unknown
+ * ALL      all that can be written by itself, so images, titles and queries too. It keeps broken
+ *          input from becoming a sequence, and does not protect from sequences that are there
  */
 #define ESCAPE_STREAM_POLICY_TEXT UINT32_C(0)
 #define ESCAPE_STREAM_POLICY_COLOR UINT32_C(1)
@@ -77,13 +93,15 @@ const char *escape_stream_version(void);
 #define ESCAPE_STREAM_POLICY_ALL UINT32_C(3)
 
 /*
- * Writes the normal form of a stream: each of its actions, in order, in its one spelling. So a title that BEL ends is ended by
- * ESC \, a C1 control is UTF-8, and UTF-8 that is broken is U+FFFD. Of a sequence that is unfinished at the end of the stream
- * only what it has done so far is written; of a title, nothing.
+ * Writes the normal form of a stream: each of its actions, in order, in its one spelling. So a
+ * title that BEL ends is ended by ESC \, a C1 control is UTF-8, and UTF-8 that is broken is U+FFFD.
+ * Of a sequence that is unfinished at the end of the stream only what it has done so far is
+ * written; of a title, nothing.
  *
- * Where all that a stream means can be written, its normal form is its own normal form. Elsewhere it need not be: a byte 80 to
- * FF in the data of a device control string is written as two bytes, an escape sequence with two intermediates with none, and of
- * a control sequence the first 256 entries. What escape_stream_filter writes is always its own normal form.
+ * Where all that a stream means can be written, its normal form is its own normal form. Elsewhere
+ * it need not be: a byte 80 to FF in the data of a device control string is written as two bytes,
+ * an escape sequence with two intermediates with none, and of a control sequence the first 256
+ * entries. What escape_stream_filter writes is always its own normal form.
  *
  * Normal form is no protection: for a stream of unknown origin there is escape_stream_filter.
  *
@@ -91,13 +109,15 @@ const char *escape_stream_version(void);
  *   out, capacity    where its normal form goes, and for how many bytes there is room
  *   needed           where the length of the normal form goes, in bytes
  *
- * ESCAPE_STREAM_DONE: `*needed` is the length of the whole normal form, whatever the capacity. The normal form, or as much of
- * its beginning as there is room for, is at the beginning of `out`; every other byte of `out` is as it was. No 0 is added at
- * the end. All of it is there where `*needed <= capacity`; where it is not, call again with room for `*needed` bytes. With a
- * capacity of 0 only the length is written.
+ * ESCAPE_STREAM_DONE: `*needed` is the length of the whole normal form, whatever the capacity. The
+ * normal form, or as much of its beginning as there is room for, is at the beginning of `out`;
+ * every other byte of `out` is as it was. No 0 is added at the end. All of it is there where
+ * `*needed <= capacity`; where it is not, call again with room for `*needed` bytes. With a capacity
+ * of 0 only the length is written.
  *
- * ESCAPE_STREAM_NO_MEMORY is the only other status. The call takes memory for the normal form and for one string of the stream
- * at a time, and gives it back before it returns. Its time grows linearly with the stream.
+ * ESCAPE_STREAM_NO_MEMORY is the only other status. The call takes memory for the normal form and
+ * for one string of the stream at a time, and gives it back before it returns. Its time grows
+ * linearly with the stream.
  *
  * Example: the normal form of a stream, in a block of its own.
  *
@@ -109,14 +129,16 @@ const char *escape_stream_version(void);
  *         if (escape_stream_normal(bytes, length, &none, 0, needed) != ESCAPE_STREAM_DONE)
  *             return NULL;
  *         out = calloc(*needed + 1, 1);
- *         if (out && escape_stream_normal(bytes, length, out, *needed, needed) != ESCAPE_STREAM_DONE) {
+ *         if (out &&
+ *             escape_stream_normal(bytes, length, out, *needed, needed) != ESCAPE_STREAM_DONE) {
  *             free(out);
  *             return NULL;
  *         }
  *         return out;
  *     }
  */
-uint32_t escape_stream_normal(const uint8_t *bytes, size_t length, uint8_t *out, size_t capacity, size_t *needed);
+uint32_t escape_stream_normal(
+    const uint8_t *bytes, size_t length, uint8_t *out, size_t capacity, size_t *needed);
 
 /*
  * Says whether a stream is its own normal form.
@@ -124,7 +146,8 @@ uint32_t escape_stream_normal(const uint8_t *bytes, size_t length, uint8_t *out,
  *   bytes, length    the stream, and how many bytes it has
  *   answer           where the answer goes
  *
- * ESCAPE_STREAM_DONE: `*answer` is true where the normal form of the stream is the same bytes, and else false.
+ * ESCAPE_STREAM_DONE: `*answer` is true where the normal form of the stream is the same bytes, and
+ * else false.
  *
  * ESCAPE_STREAM_NO_MEMORY is the only other status. The call takes what escape_stream_normal takes.
  *
@@ -137,39 +160,46 @@ uint32_t escape_stream_normal(const uint8_t *bytes, size_t length, uint8_t *out,
 uint32_t escape_stream_is_normal(const uint8_t *bytes, size_t length, bool *answer);
 
 /*
- * Writes what a policy admits of a stream, and nothing else. The text reads back as the actions that were admitted, whatever
- * bytes follow it: no text of the stream becomes a sequence, however broken the stream is. What the stream leaves changed at a
- * terminal, as a rendition, stays so: escape_stream_filter_finish says what takes it back.
+ * Writes what a policy admits of a stream, and nothing else. The text reads back as the actions
+ * that were admitted, whatever bytes follow it: no text of the stream becomes a sequence, however
+ * broken the stream is. What the stream leaves changed at a terminal, as a rendition, stays so:
+ * escape_stream_filter_finish says what takes it back.
  *
  *   policy           one of ESCAPE_STREAM_POLICY_..
- *   limit            how many bytes are kept of a string, such as a title or an image; of one with more nothing is written.
- *                    So it bounds the memory that one string can take: while it is read at most 41 times as many bytes, as
- *                    one of semicolons alone does (measured on 2026-11-28). 1048576 will do
+ *   limit            how many bytes are kept of a string, such as a title or an image; of one with
+ *                    more nothing is written. So it bounds the memory that one string can take:
+ *                    while it is read at most 41 times as many bytes, as one of semicolons alone
+ *                    does (measured on 2026-11-28). 1048576 will do
  *   bytes, length    the stream, and how many bytes it has
  *   out, capacity    where the text goes, and for how many bytes there is room
  *   needed           where the length of the text goes, in bytes
  *
- * ESCAPE_STREAM_DONE: of that text, `*needed` and `out` are as escape_stream_normal says. A text that does not fit is cut
- * anywhere, also inside a sequence: send `out` to a terminal only where `*needed <= capacity`.
+ * ESCAPE_STREAM_DONE: of that text, `*needed` and `out` are as escape_stream_normal says. A text
+ * that does not fit is cut anywhere, also inside a sequence: send `out` to a terminal only where
+ * `*needed <= capacity`.
  *
- * ESCAPE_STREAM_UNKNOWN_POLICY says that no policy has this number. ESCAPE_STREAM_NO_MEMORY is the only other status. The call
- * takes memory for the text and for one string of the stream at a time, and gives it back before it returns.
+ * ESCAPE_STREAM_UNKNOWN_POLICY says that no policy has this number. ESCAPE_STREAM_NO_MEMORY is the
+ * only other status. The call takes memory for the text and for one string of the stream at a time,
+ * and gives it back before it returns.
  *
  * Example: a line of a log, safe to print.
  *
  *     uint8_t out[4096] = {0};
  *     size_t needed = 0;
- *     uint32_t status = escape_stream_filter(ESCAPE_STREAM_POLICY_COLOR, 1024, line, length, out, sizeof out, &needed);
+ *     uint32_t status = escape_stream_filter(
+ *         ESCAPE_STREAM_POLICY_COLOR, 1024, line, length, out, sizeof out, &needed);
  *     if (status == ESCAPE_STREAM_DONE && needed <= sizeof out)
  *         fwrite(out, 1, needed, stdout);
  */
-uint32_t escape_stream_filter(uint32_t policy, size_t limit, const uint8_t *bytes, size_t length, uint8_t *out,
-                              size_t capacity, size_t *needed);
+uint32_t escape_stream_filter(
+    uint32_t policy, size_t limit, const uint8_t *bytes, size_t length, uint8_t *out,
+    size_t capacity, size_t *needed);
 
 /*
- * A filter of a stream that comes in pieces. It lies in the caller's memory; what it keeps of the stream is in blocks that it
- * takes and escape_stream_filter_end gives back. Its fields are its own: read and write nothing of it, but set it to zero before
- * the first call, as by = {0}. A copy of it is the same filter, so go on with one of the two.
+ * A filter of a stream that comes in pieces. It lies in the caller's memory; what it keeps of the
+ * stream is in blocks that it takes and escape_stream_filter_end gives back. Its fields are its
+ * own: read and write nothing of it, but set it to zero before the first call, as by = {0}. A copy
+ * of it is the same filter, so go on with one of the two.
  */
 struct escape_stream_filter {
     bool is_begun;
@@ -177,38 +207,45 @@ struct escape_stream_filter {
 };
 
 /*
- * Begins a stream, of which at most `limit` bytes are kept of a string. A filter that was begun before is ended first.
+ * Begins a stream, of which at most `limit` bytes are kept of a string. A filter that was begun
+ * before is ended first.
  *
- * ESCAPE_STREAM_DONE, ESCAPE_STREAM_UNKNOWN_POLICY and ESCAPE_STREAM_NO_MEMORY are the statuses. After the last two the filter is
- * not begun, and keeps nothing.
+ * ESCAPE_STREAM_DONE, ESCAPE_STREAM_UNKNOWN_POLICY and ESCAPE_STREAM_NO_MEMORY are the statuses.
+ * After the last two the filter is not begun, and keeps nothing.
  */
-uint32_t escape_stream_filter_begin(struct escape_stream_filter *filter, uint32_t policy, size_t limit);
+uint32_t escape_stream_filter_begin(
+    struct escape_stream_filter *filter, uint32_t policy, size_t limit);
 
 /*
- * Takes the next piece of the stream, in whatever pieces it comes. What it adds to the text is then what escape_stream_filter_text
- * gives; that of the piece before is gone. The texts of all pieces, one after another, are what escape_stream_filter writes of
- * the pieces one after another. A sequence that the end of the stream cuts adds nothing.
+ * Takes the next piece of the stream, in whatever pieces it comes. What it adds to the text is then
+ * what escape_stream_filter_text gives; that of the piece before is gone. The texts of all pieces,
+ * one after another, are what escape_stream_filter writes of the pieces one after another. A
+ * sequence that the end of the stream cuts adds nothing.
  *
- * ESCAPE_STREAM_NO_MEMORY: the filter has ended, as by escape_stream_filter_end. The texts before it are the beginning of what
- * the whole stream would have given. ESCAPE_STREAM_NOT_BEGUN is the only other status but ESCAPE_STREAM_DONE.
+ * ESCAPE_STREAM_NO_MEMORY: the filter has ended, as by escape_stream_filter_end. The texts before
+ * it are the beginning of what the whole stream would have given. ESCAPE_STREAM_NOT_BEGUN is the
+ * only other status but ESCAPE_STREAM_DONE.
  */
-uint32_t escape_stream_filter_feed(struct escape_stream_filter *filter, const uint8_t *bytes, size_t length);
+uint32_t escape_stream_filter_feed(
+    struct escape_stream_filter *filter, const uint8_t *bytes, size_t length);
 
 /*
- * Ends the stream, and begins the next, within the same limit and by the same policy. What takes back what the stream left changed
- * at a terminal is then what escape_stream_filter_text gives: nothing where it left nothing changed, and else the ends of
- * renditions and of a link, and by the policies that admit more the main screen, the margins, the cursor and the other modes of
- * what is shown. What is unfinished is dropped.
+ * Ends the stream, and begins the next, within the same limit and by the same policy. What takes
+ * back what the stream left changed at a terminal is then what escape_stream_filter_text gives:
+ * nothing where it left nothing changed, and else the ends of renditions and of a link, and by the
+ * policies that admit more the main screen, the margins, the cursor and the other modes of what is
+ * shown. What is unfinished is dropped.
  *
- * ESCAPE_STREAM_NO_MEMORY: the filter has ended, as by escape_stream_filter_end. ESCAPE_STREAM_NOT_BEGUN is the only other status
- * but ESCAPE_STREAM_DONE.
+ * ESCAPE_STREAM_NO_MEMORY: the filter has ended, as by escape_stream_filter_end.
+ * ESCAPE_STREAM_NOT_BEGUN is the only other status but ESCAPE_STREAM_DONE.
  */
 uint32_t escape_stream_filter_finish(struct escape_stream_filter *filter);
 
 /*
- * Writes the text that the last piece or the end of the stream added, from its byte `from` on, to the beginning of `out`, as much
- * as there is room for, and returns how many bytes these are: 0 at the end of the text, and where the filter is not begun. Every
- * other byte of `out` is as it was. It changes nothing, so a text can be read twice.
+ * Writes the text that the last piece or the end of the stream added, from its byte `from` on, to
+ * the beginning of `out`, as much as there is room for, and returns how many bytes these are: 0 at
+ * the end of the text, and where the filter is not begun. Every other byte of `out` is as it was.
+ * It changes nothing, so a text can be read twice.
  *
  * Example: what passes of standard input, as it comes.
  *
@@ -218,23 +255,29 @@ uint32_t escape_stream_filter_finish(struct escape_stream_filter *filter);
  *     uint32_t status = escape_stream_filter_begin(&filter, ESCAPE_STREAM_POLICY_COLOR, 1048576);
  *     while (status == ESCAPE_STREAM_DONE && (length = fread(bytes, 1, sizeof bytes, stdin)) > 0) {
  *         status = escape_stream_filter_feed(&filter, bytes, length);
- *         for (size_t from = 0; (count = escape_stream_filter_text(&filter, from, out, sizeof out)) > 0; from += count)
+ *         for (size_t from = 0;
+ *              (count = escape_stream_filter_text(&filter, from, out, sizeof out)) > 0;
+ *              from += count)
  *             fwrite(out, 1, count, stdout);
  *     }
  *     if (escape_stream_filter_finish(&filter) == ESCAPE_STREAM_DONE)
- *         for (size_t from = 0; (count = escape_stream_filter_text(&filter, from, out, sizeof out)) > 0; from += count)
+ *         for (size_t from = 0;
+ *              (count = escape_stream_filter_text(&filter, from, out, sizeof out)) > 0;
+ *              from += count)
  *             fwrite(out, 1, count, stdout);
  *     escape_stream_filter_end(&filter);
  */
-size_t escape_stream_filter_text(struct escape_stream_filter *filter, size_t from, uint8_t *out, size_t capacity);
+size_t escape_stream_filter_text(
+    struct escape_stream_filter *filter, size_t from, uint8_t *out, size_t capacity);
 
 /* Ends a filter, and gives back what it took. One that is not begun stays so. */
 void escape_stream_filter_end(struct escape_stream_filter *filter);
 
 /*
- * A stream that comes in pieces, as HTML: its characters, tabs and line feeds, with colours and renditions as spans and links to
- * http, https and mailto. A browser reads from the text, inside the body of a page in UTF-8, these spans and links and nothing
- * else, whatever the stream is. It lies in the caller's memory as a filter does: set it to zero before the first call.
+ * A stream that comes in pieces, as HTML: its characters, tabs and line feeds, with colours and
+ * renditions as spans and links to http, https and mailto. A browser reads from the text, inside
+ * the body of a page in UTF-8, these spans and links and nothing else, whatever the stream is. It
+ * lies in the caller's memory as a filter does: set it to zero before the first call.
  */
 struct escape_stream_html {
     bool is_begun;
@@ -244,43 +287,52 @@ struct escape_stream_html {
 /*
  * Begins the page of a stream. A page that was begun before is given back first.
  *
- *   per_line         closes the tags that are open before each line feed, and opens them again after it
- *   is_inline        writes looks as styles alone, so that the text needs no style sheet; else as the classes of `eschtml --style`
- *   limit            how many bytes are kept of a string, such as a link; one with more shows nothing. 1048576 will do
+ *   per_line         closes the tags that are open before each line feed, and opens them again
+ *                    after it
+ *   is_inline        writes looks as styles alone, so that the text needs no style sheet; else as
+ *                    the classes of `eschtml --style`
+ *   limit            how many bytes are kept of a string, such as a link; one with more shows
+ *                    nothing. 1048576 will do
  *
- * ESCAPE_STREAM_DONE and ESCAPE_STREAM_NO_MEMORY are the statuses. After the last the page is not begun, and keeps nothing.
+ * ESCAPE_STREAM_DONE and ESCAPE_STREAM_NO_MEMORY are the statuses. After the last the page is not
+ * begun, and keeps nothing.
  */
-uint32_t escape_stream_html_begin(struct escape_stream_html *page, bool per_line, bool is_inline, size_t limit);
+uint32_t escape_stream_html_begin(
+    struct escape_stream_html *page, bool per_line, bool is_inline, size_t limit);
 
 /*
- * Takes the next piece of the stream. What it adds to the page is then what escape_stream_html_text gives; that of the piece before
- * is gone.
+ * Takes the next piece of the stream. What it adds to the page is then what escape_stream_html_text
+ * gives; that of the piece before is gone.
  *
- * ESCAPE_STREAM_NO_MEMORY: the page was given back. The texts before it are the beginning of the page. ESCAPE_STREAM_NOT_BEGUN, also
- * after the end of the stream, which gives the page back, is the only other status but ESCAPE_STREAM_DONE.
+ * ESCAPE_STREAM_NO_MEMORY: the page was given back. The texts before it are the beginning of the
+ * page. ESCAPE_STREAM_NOT_BEGUN, also after the end of the stream, which gives the page back, is
+ * the only other status but ESCAPE_STREAM_DONE.
  */
-uint32_t escape_stream_html_feed(struct escape_stream_html *page, const uint8_t *bytes, size_t length);
+uint32_t escape_stream_html_feed(
+    struct escape_stream_html *page, const uint8_t *bytes, size_t length);
 
 /*
- * Ends the stream. What closes the tags that are open is then what escape_stream_html_text gives: with it the texts of all pieces,
- * one after another, are a page, in which each tag is closed. It takes no memory.
+ * Ends the stream. What closes the tags that are open is then what escape_stream_html_text gives:
+ * with it the texts of all pieces, one after another, are a page, in which each tag is closed. It
+ * takes no memory.
  *
  * ESCAPE_STREAM_NOT_BEGUN is the only other status but ESCAPE_STREAM_DONE.
  */
 uint32_t escape_stream_html_finish(struct escape_stream_html *page);
 
 /*
- * Writes the text that the last piece or the end of the stream added, from its byte `from` on, to the beginning of `out`, as
- * escape_stream_filter_text does.
+ * Writes the text that the last piece or the end of the stream added, from its byte `from` on, to
+ * the beginning of `out`, as escape_stream_filter_text does.
  */
-size_t escape_stream_html_text(struct escape_stream_html *page, size_t from, uint8_t *out, size_t capacity);
+size_t escape_stream_html_text(
+    struct escape_stream_html *page, size_t from, uint8_t *out, size_t capacity);
 
 /* Gives back what a page took. One that is not begun stays so. */
 void escape_stream_html_end(struct escape_stream_html *page);
 
 /*
- * The normal form of a stream that comes in pieces. It lies in the caller's memory as a filter does: set it to zero before the
- * first call, as by = {0}.
+ * The normal form of a stream that comes in pieces. It lies in the caller's memory as a filter
+ * does: set it to zero before the first call, as by = {0}.
  */
 struct escape_stream_normalizer {
     bool is_begun;
@@ -288,34 +340,40 @@ struct escape_stream_normalizer {
 };
 
 /*
- * Begins a stream, of which at most `limit` bytes are kept of a string; of one with more nothing is written. 1048576 will do. A
- * normalizer that was begun before is ended first.
+ * Begins a stream, of which at most `limit` bytes are kept of a string; of one with more nothing is
+ * written. 1048576 will do. A normalizer that was begun before is ended first.
  *
- * ESCAPE_STREAM_DONE and ESCAPE_STREAM_NO_MEMORY are the statuses. After the last the normalizer is not begun, and keeps nothing.
+ * ESCAPE_STREAM_DONE and ESCAPE_STREAM_NO_MEMORY are the statuses. After the last the normalizer is
+ * not begun, and keeps nothing.
  */
 uint32_t escape_stream_normal_begin(struct escape_stream_normalizer *normalizer, size_t limit);
 
 /*
- * Takes the next piece of the stream, in whatever pieces it comes. What it adds to the normal form is then what
- * escape_stream_normal_text gives; that of the piece before is gone. The texts of all pieces, one after another, are what
- * escape_stream_normal writes of the pieces one after another, where no string is longer than the limit. Of a sequence that the
- * end of the stream cuts, only what it has done so far is written.
+ * Takes the next piece of the stream, in whatever pieces it comes. What it adds to the normal form
+ * is then what escape_stream_normal_text gives; that of the piece before is gone. The texts of all
+ * pieces, one after another, are what escape_stream_normal writes of the pieces one after another,
+ * where no string is longer than the limit. Of a sequence that the end of the stream cuts, only
+ * what it has done so far is written.
  *
- * ESCAPE_STREAM_NO_MEMORY: the normalizer has ended, as by escape_stream_normal_end. The texts before it are the beginning of the
- * normal form of the whole stream. ESCAPE_STREAM_NOT_BEGUN is the only other status but ESCAPE_STREAM_DONE.
+ * ESCAPE_STREAM_NO_MEMORY: the normalizer has ended, as by escape_stream_normal_end. The texts
+ * before it are the beginning of the normal form of the whole stream. ESCAPE_STREAM_NOT_BEGUN is
+ * the only other status but ESCAPE_STREAM_DONE.
  */
-uint32_t escape_stream_normal_feed(struct escape_stream_normalizer *normalizer, const uint8_t *bytes, size_t length);
+uint32_t escape_stream_normal_feed(
+    struct escape_stream_normalizer *normalizer, const uint8_t *bytes, size_t length);
 
 /*
- * Ends the stream, and begins the next, within the same limit. The end adds nothing to the normal form, so the text that
- * escape_stream_normal_text gives is then empty. What is unfinished is dropped. It takes no memory.
+ * Ends the stream, and begins the next, within the same limit. The end adds nothing to the normal
+ * form, so the text that escape_stream_normal_text gives is then empty. What is unfinished is
+ * dropped. It takes no memory.
  *
  * ESCAPE_STREAM_NOT_BEGUN is the only other status but ESCAPE_STREAM_DONE.
  */
 uint32_t escape_stream_normal_finish(struct escape_stream_normalizer *normalizer);
 
 /*
- * Writes the text that the last piece added, from its byte `from` on, to the beginning of `out`, as escape_stream_filter_text does.
+ * Writes the text that the last piece added, from its byte `from` on, to the beginning of `out`, as
+ * escape_stream_filter_text does.
  *
  * Example: the normal form of standard input, as it comes.
  *
@@ -325,12 +383,15 @@ uint32_t escape_stream_normal_finish(struct escape_stream_normalizer *normalizer
  *     uint32_t status = escape_stream_normal_begin(&normalizer, 1048576);
  *     while (status == ESCAPE_STREAM_DONE && (length = fread(bytes, 1, sizeof bytes, stdin)) > 0) {
  *         status = escape_stream_normal_feed(&normalizer, bytes, length);
- *         for (size_t from = 0; (count = escape_stream_normal_text(&normalizer, from, out, sizeof out)) > 0; from += count)
+ *         for (size_t from = 0;
+ *              (count = escape_stream_normal_text(&normalizer, from, out, sizeof out)) > 0;
+ *              from += count)
  *             fwrite(out, 1, count, stdout);
  *     }
  *     escape_stream_normal_end(&normalizer);
  */
-size_t escape_stream_normal_text(struct escape_stream_normalizer *normalizer, size_t from, uint8_t *out, size_t capacity);
+size_t escape_stream_normal_text(
+    struct escape_stream_normalizer *normalizer, size_t from, uint8_t *out, size_t capacity);
 
 /* Ends a normalizer, and gives back what it took. One that is not begun stays so. */
 void escape_stream_normal_end(struct escape_stream_normalizer *normalizer);
@@ -351,8 +412,9 @@ struct escape_stream_function {
  *   prefix         its private prefix, one of < = > ?, or 0 where it has none
  *   intermediate   its intermediate, a space up to /, or 0 where it has none. No function has two
  *   final          its final byte
- *   count          how many parameters and separators it has: of an event of escape_stream_next its `count`. It matters for the
- *                  final bytes T, s and u alone, of which each has two functions: with 0 for `count` those without parameters
+ *   count          how many parameters and separators it has: of an event of escape_stream_next its
+ *                  `count`. It matters for the final bytes T, s and u alone, of which each has two
+ *                  functions: with 0 for `count` those without parameters
  *   out            where the row goes
  *
  * The bytes are not checked: of others a name may be found too.
@@ -360,18 +422,20 @@ struct escape_stream_function {
  * Example: the cursor's lines, of a sequence without prefix and intermediate.
  *
  *     struct escape_stream_function function;
- *     if (escape_stream_function(0, 0, final, count, &function) && strcmp(function.name, "CUU") == 0)
+ *     if (escape_stream_function(0, 0, final, count, &function) &&
+ *         strcmp(function.name, "CUU") == 0)
  *         line -= number;
  */
 bool escape_stream_function(uint8_t prefix, uint8_t intermediate, uint8_t final, size_t count,
                             struct escape_stream_function *out);
 
 /*
- * The same of an escape sequence: its intermediate, or 0, and its final byte. A C1 control has the function of the escape
- * sequence whose final byte is 0x40 less than its code. Of one that designates a character set the intermediate decides, and
- * the final byte says which set.
+ * The same of an escape sequence: its intermediate, or 0, and its final byte. A C1 control has the
+ * function of the escape sequence whose final byte is 0x40 less than its code. Of one that
+ * designates a character set the intermediate decides, and the final byte says which set.
  */
-bool escape_stream_escape_function(uint8_t intermediate, uint8_t final, struct escape_stream_function *out);
+bool escape_stream_escape_function(
+    uint8_t intermediate, uint8_t final, struct escape_stream_function *out);
 
 /*
  * The same of a C0 control, 0x00 to 0x1f, or DEL, 0x7f: its code. 0x0a is "LF", "line feed".
@@ -379,133 +443,196 @@ bool escape_stream_escape_function(uint8_t intermediate, uint8_t final, struct e
 bool escape_stream_control_function(uint8_t code, struct escape_stream_function *out);
 
 /*
- * The kinds of operating system commands, and which fields each has, in order. One between [ and ] may be absent; `..` says that
- * what is before it comes once for each item. A colour is RED, GREEN and BLUE, or QUERY in place of the three. The 3 flags of a
- * file are PRESERVE_ASPECT_RATIO, INLINE and DO_NOT_MOVE_CURSOR; its width is one of WIDTH_.., and its height one of HEIGHT_..,
- * each absent where it is automatic. The commands of iTerm2 and the prompts of shells have a kind each. Later versions may add
- * some.
+ * The kinds of operating system commands, and which fields each has, in order. One between [ and ]
+ * may be absent; `..` says that what is before it comes once for each item. A colour is RED, GREEN
+ * and BLUE, or QUERY in place of the three. The 3 flags of a file are PRESERVE_ASPECT_RATIO, INLINE
+ * and DO_NOT_MOVE_CURSOR; its width is one of WIDTH_.., and its height one of HEIGHT_.., each
+ * absent where it is automatic. The commands of iTerm2 and the prompts of shells have a kind each.
+ * Later versions may add some.
  */
-#define ESCAPE_STREAM_OSC_UNSPECIFIED UINT32_C(0)                              /* PART ..: any other command, as its parts between ; */
+/* PART ..: any other command, as its parts between ; */
+#define ESCAPE_STREAM_OSC_UNSPECIFIED UINT32_C(0)
 #define ESCAPE_STREAM_OSC_SET_ICON_NAME_AND_WINDOW_TITLE UINT32_C(1)           /* TEXT */
 #define ESCAPE_STREAM_OSC_SET_WINDOW_TITLE UINT32_C(2)                         /* TEXT */
 #define ESCAPE_STREAM_OSC_SET_WINDOW_TITLE_SUN UINT32_C(3)                     /* TEXT */
 #define ESCAPE_STREAM_OSC_SET_ICON_NAME UINT32_C(4)                            /* TEXT */
 #define ESCAPE_STREAM_OSC_SET_ICON_NAME_SUN UINT32_C(5)                        /* TEXT */
-#define ESCAPE_STREAM_OSC_SET_HYPERLINK UINT32_C(6)                            /* URI, IMPLICIT, (KEY, VALUE) ..; none: the link ends */
+/* URI, IMPLICIT, (KEY, VALUE) ..; none: the link ends */
+#define ESCAPE_STREAM_OSC_SET_HYPERLINK UINT32_C(6)
 #define ESCAPE_STREAM_OSC_CLEAR_SELECTION UINT32_C(7)                          /* SELECTION */
 #define ESCAPE_STREAM_OSC_QUERY_SELECTION UINT32_C(8)                          /* SELECTION */
 #define ESCAPE_STREAM_OSC_SET_SELECTION UINT32_C(9)                            /* SELECTION, TEXT */
 #define ESCAPE_STREAM_OSC_SYSTEM_NOTIFICATION UINT32_C(10)                     /* TEXT */
-#define ESCAPE_STREAM_OSC_CHANGE_COLOR_NUMBER UINT32_C(11)                     /* (PALETTE_INDEX, colour) .. */
-#define ESCAPE_STREAM_OSC_CHANGE_DYNAMIC_COLORS UINT32_C(12)                   /* DYNAMIC_COLOR, colour ..: for it and those after it */
+/* (PALETTE_INDEX, colour) .. */
+#define ESCAPE_STREAM_OSC_CHANGE_COLOR_NUMBER UINT32_C(11)
+/* DYNAMIC_COLOR, colour ..: for it and those after it */
+#define ESCAPE_STREAM_OSC_CHANGE_DYNAMIC_COLORS UINT32_C(12)
 #define ESCAPE_STREAM_OSC_RESET_DYNAMIC_COLOR UINT32_C(13)                     /* DYNAMIC_COLOR */
 #define ESCAPE_STREAM_OSC_CURRENT_WORKING_DIRECTORY UINT32_C(14)               /* DIRECTORY */
-#define ESCAPE_STREAM_OSC_RESET_COLORS UINT32_C(15)                            /* PALETTE_INDEX ..; none: all of them */
+/* PALETTE_INDEX ..; none: all of them */
+#define ESCAPE_STREAM_OSC_RESET_COLORS UINT32_C(15)
 #define ESCAPE_STREAM_OSC_RXVT_EXTENSION UINT32_C(16)                          /* PART .. */
-#define ESCAPE_STREAM_OSC_CONEMU_PROGRESS UINT32_C(17)                         /* PROGRESS_STATE, and in states 1 and 2 PERCENT */
+/* PROGRESS_STATE, and in states 1 and 2 PERCENT */
+#define ESCAPE_STREAM_OSC_CONEMU_PROGRESS UINT32_C(17)
 #define ESCAPE_STREAM_OSC_PROMPT_FRESH_LINE UINT32_C(18)                       /* none */
-#define ESCAPE_STREAM_OSC_PROMPT_FRESH_LINE_AND_START_PROMPT UINT32_C(19)      /* [APPLICATION], [CLICK] */
-#define ESCAPE_STREAM_OSC_PROMPT_END_OF_COMMAND_WITH_FRESH_LINE UINT32_C(20)   /* [APPLICATION], [CLICK] */
+/* [APPLICATION], [CLICK] */
+#define ESCAPE_STREAM_OSC_PROMPT_FRESH_LINE_AND_START_PROMPT UINT32_C(19)
+/* [APPLICATION], [CLICK] */
+#define ESCAPE_STREAM_OSC_PROMPT_END_OF_COMMAND_WITH_FRESH_LINE UINT32_C(20)
 #define ESCAPE_STREAM_OSC_PROMPT_START_PROMPT UINT32_C(21)                     /* PROMPT_KIND */
 #define ESCAPE_STREAM_OSC_PROMPT_START_OF_INPUT_UNTIL_NEXT_MARKER UINT32_C(22) /* none */
 #define ESCAPE_STREAM_OSC_PROMPT_START_OF_INPUT_UNTIL_END_OF_LINE UINT32_C(23) /* none */
 #define ESCAPE_STREAM_OSC_PROMPT_START_OF_OUTPUT UINT32_C(24)                  /* [APPLICATION] */
-#define ESCAPE_STREAM_OSC_PROMPT_COMMAND_STATUS UINT32_C(25)                   /* STATUS, [APPLICATION] */
+/* STATUS, [APPLICATION] */
+#define ESCAPE_STREAM_OSC_PROMPT_COMMAND_STATUS UINT32_C(25)
 #define ESCAPE_STREAM_OSC_ITERM_SET_MARK UINT32_C(26)                          /* none */
 #define ESCAPE_STREAM_OSC_ITERM_STEAL_FOCUS UINT32_C(27)                       /* none */
 #define ESCAPE_STREAM_OSC_ITERM_CLEAR_SCROLLBACK UINT32_C(28)                  /* none */
 #define ESCAPE_STREAM_OSC_ITERM_CURRENT_DIR UINT32_C(29)                       /* DIRECTORY */
 #define ESCAPE_STREAM_OSC_ITERM_SET_PROFILE UINT32_C(30)                       /* NAME */
-#define ESCAPE_STREAM_OSC_ITERM_COPY_TO_CLIPBOARD UINT32_C(31)                 /* NAME: the pasteboard */
+/* NAME: the pasteboard */
+#define ESCAPE_STREAM_OSC_ITERM_COPY_TO_CLIPBOARD UINT32_C(31)
 #define ESCAPE_STREAM_OSC_ITERM_END_COPY UINT32_C(32)                          /* none */
 #define ESCAPE_STREAM_OSC_ITERM_HIGHLIGHT_CURSOR_LINE UINT32_C(33)             /* HIGHLIGHTED */
 #define ESCAPE_STREAM_OSC_ITERM_REQUEST_CELL_SIZE UINT32_C(34)                 /* none */
-#define ESCAPE_STREAM_OSC_ITERM_REPORT_CELL_SIZE UINT32_C(35)                  /* CELL_HEIGHT, CELL_WIDTH, [SCALE] */
+/* CELL_HEIGHT, CELL_WIDTH, [SCALE] */
+#define ESCAPE_STREAM_OSC_ITERM_REPORT_CELL_SIZE UINT32_C(35)
 #define ESCAPE_STREAM_OSC_ITERM_COPY UINT32_C(36)                              /* TEXT */
-#define ESCAPE_STREAM_OSC_ITERM_REPORT_VARIABLE UINT32_C(37)                   /* NAME. No text is read as this one */
+/* NAME. No text is read as this one */
+#define ESCAPE_STREAM_OSC_ITERM_REPORT_VARIABLE UINT32_C(37)
 #define ESCAPE_STREAM_OSC_ITERM_SET_USER_VAR UINT32_C(38)                      /* NAME, VALUE */
 #define ESCAPE_STREAM_OSC_ITERM_SET_BADGE_FORMAT UINT32_C(39)                  /* TEXT */
-#define ESCAPE_STREAM_OSC_ITERM_FILE UINT32_C(40)                              /* [NAME], [SIZE], [width], [height], 3 flags, CONTENT */
+/* [NAME], [SIZE], [width], [height], 3 flags, CONTENT */
+#define ESCAPE_STREAM_OSC_ITERM_FILE UINT32_C(40)
 #define ESCAPE_STREAM_OSC_ITERM_SET_UNICODE_VERSION UINT32_C(41)               /* VERSION */
 #define ESCAPE_STREAM_OSC_ITERM_PUSH_UNICODE_VERSION UINT32_C(42)              /* [LABEL] */
 #define ESCAPE_STREAM_OSC_ITERM_POP_UNICODE_VERSION UINT32_C(43)               /* [LABEL] */
 
 /*
- * The names of fields, and what each holds. A flag is a number, 0 or 1. Texts are UTF-8 where nothing else is said. No 0 ends them,
- * and they may hold controls, so print none as it is.
+ * The names of fields, and what each holds. A flag is a number, 0 or 1. Texts are UTF-8 where
+ * nothing else is said. No 0 ends them, and they may hold controls, so print none as it is.
  */
-#define ESCAPE_STREAM_FIELD_TEXT UINT32_C(0)                   /* text: a title, a notification, or for a clipboard or the badge */
-#define ESCAPE_STREAM_FIELD_PART UINT32_C(1)                   /* text: a part of a command; of UNSPECIFIED it need not be UTF-8 */
-#define ESCAPE_STREAM_FIELD_DIRECTORY UINT32_C(2)              /* text: the path or the address of a directory */
+/* text: a title, a notification, or for a clipboard or the badge */
+#define ESCAPE_STREAM_FIELD_TEXT UINT32_C(0)
+/* text: a part of a command; of UNSPECIFIED it need not be UTF-8 */
+#define ESCAPE_STREAM_FIELD_PART UINT32_C(1)
+/* text: the path or the address of a directory */
+#define ESCAPE_STREAM_FIELD_DIRECTORY UINT32_C(2)
 #define ESCAPE_STREAM_FIELD_URI UINT32_C(3)                    /* text: the address of a link */
-#define ESCAPE_STREAM_FIELD_IMPLICIT UINT32_C(4)               /* flag: the terminal found the link in the text. Here 0 */
-#define ESCAPE_STREAM_FIELD_KEY UINT32_C(5)                    /* text: the key of a parameter of a link */
-#define ESCAPE_STREAM_FIELD_VALUE UINT32_C(6)                  /* text: its value; or that of a variable */
-#define ESCAPE_STREAM_FIELD_SELECTION UINT32_C(7)              /* number, a sum: 2 clipboard, 4 primary, 8 select, 16 to 8192 buffers */
-#define ESCAPE_STREAM_FIELD_PALETTE_INDEX UINT32_C(8)          /* number: a place of the palette, 0 to 255 */
-#define ESCAPE_STREAM_FIELD_DYNAMIC_COLOR UINT32_C(9)          /* number: 10 to 19, that of the command which changes it */
+/* flag: the terminal found the link in the text. Here 0 */
+#define ESCAPE_STREAM_FIELD_IMPLICIT UINT32_C(4)
+/* text: the key of a parameter of a link */
+#define ESCAPE_STREAM_FIELD_KEY UINT32_C(5)
+/* text: its value; or that of a variable */
+#define ESCAPE_STREAM_FIELD_VALUE UINT32_C(6)
+/* number, a sum: 2 clipboard, 4 primary, 8 select, 16 to 8192 buffers */
+#define ESCAPE_STREAM_FIELD_SELECTION UINT32_C(7)
+/* number: a place of the palette, 0 to 255 */
+#define ESCAPE_STREAM_FIELD_PALETTE_INDEX UINT32_C(8)
+/* number: 10 to 19, that of the command which changes it */
+#define ESCAPE_STREAM_FIELD_DYNAMIC_COLOR UINT32_C(9)
 #define ESCAPE_STREAM_FIELD_RED UINT32_C(10)                   /* number: 0 to 65535 */
 #define ESCAPE_STREAM_FIELD_GREEN UINT32_C(11)                 /* number: 0 to 65535 */
 #define ESCAPE_STREAM_FIELD_BLUE UINT32_C(12)                  /* number: 0 to 65535 */
 #define ESCAPE_STREAM_FIELD_QUERY UINT32_C(13)                 /* number: 1. Asks for the colour */
-#define ESCAPE_STREAM_FIELD_PROGRESS_STATE UINT32_C(14)        /* number: 0 none, 1 per cent, 2 error, 3 no end known, 4 paused */
+/* number: 0 none, 1 per cent, 2 error, 3 no end known, 4 paused */
+#define ESCAPE_STREAM_FIELD_PROGRESS_STATE UINT32_C(14)
 #define ESCAPE_STREAM_FIELD_PERCENT UINT32_C(15)               /* number: 0 to 100 */
-#define ESCAPE_STREAM_FIELD_APPLICATION UINT32_C(16)           /* text: the name of the application that writes the prompt */
-#define ESCAPE_STREAM_FIELD_CLICK UINT32_C(17)                 /* number: 0 a line, 1 lines, 2 also up and down, 3 so, smartly */
-#define ESCAPE_STREAM_FIELD_PROMPT_KIND UINT32_C(18)           /* number: 0 initial, 1 right side, 2 continuation, 3 secondary */
-#define ESCAPE_STREAM_FIELD_STATUS UINT32_C(19)                /* number: the status of the command that ended */
-#define ESCAPE_STREAM_FIELD_NAME UINT32_C(20)                  /* text: of a profile, a pasteboard, a variable or a file */
-#define ESCAPE_STREAM_FIELD_HIGHLIGHTED UINT32_C(21)           /* flag: the line of the cursor is highlighted */
+/* text: the name of the application that writes the prompt */
+#define ESCAPE_STREAM_FIELD_APPLICATION UINT32_C(16)
+/* number: 0 a line, 1 lines, 2 also up and down, 3 so, smartly */
+#define ESCAPE_STREAM_FIELD_CLICK UINT32_C(17)
+/* number: 0 initial, 1 right side, 2 continuation, 3 secondary */
+#define ESCAPE_STREAM_FIELD_PROMPT_KIND UINT32_C(18)
+/* number: the status of the command that ended */
+#define ESCAPE_STREAM_FIELD_STATUS UINT32_C(19)
+/* text: of a profile, a pasteboard, a variable or a file */
+#define ESCAPE_STREAM_FIELD_NAME UINT32_C(20)
+/* flag: the line of the cursor is highlighted */
+#define ESCAPE_STREAM_FIELD_HIGHLIGHTED UINT32_C(21)
 #define ESCAPE_STREAM_FIELD_CELL_HEIGHT UINT32_C(22)           /* number: in tenths of a pixel */
 #define ESCAPE_STREAM_FIELD_CELL_WIDTH UINT32_C(23)            /* number: in tenths of a pixel */
-#define ESCAPE_STREAM_FIELD_SCALE UINT32_C(24)                 /* number: pixels of the display for a pixel, in tenths */
-#define ESCAPE_STREAM_FIELD_SIZE UINT32_C(25)                  /* size: how many bytes the file has, as the command says */
-#define ESCAPE_STREAM_FIELD_WIDTH_CELLS UINT32_C(26)           /* number: in cells; less than 0 is 0, also in the next five */
+/* number: pixels of the display for a pixel, in tenths */
+#define ESCAPE_STREAM_FIELD_SCALE UINT32_C(24)
+/* size: how many bytes the file has, as the command says */
+#define ESCAPE_STREAM_FIELD_SIZE UINT32_C(25)
+/* number: in cells; less than 0 is 0, also in the next five */
+#define ESCAPE_STREAM_FIELD_WIDTH_CELLS UINT32_C(26)
 #define ESCAPE_STREAM_FIELD_WIDTH_PIXELS UINT32_C(27)          /* number: in pixels */
 #define ESCAPE_STREAM_FIELD_WIDTH_PERCENT UINT32_C(28)         /* number: of the window */
 #define ESCAPE_STREAM_FIELD_HEIGHT_CELLS UINT32_C(29)          /* number: in cells */
 #define ESCAPE_STREAM_FIELD_HEIGHT_PIXELS UINT32_C(30)         /* number: in pixels */
 #define ESCAPE_STREAM_FIELD_HEIGHT_PERCENT UINT32_C(31)        /* number: of the window */
-#define ESCAPE_STREAM_FIELD_PRESERVE_ASPECT_RATIO UINT32_C(32) /* flag: the width and the height keep their ratio */
-#define ESCAPE_STREAM_FIELD_INLINE UINT32_C(33)                /* flag: the file is shown, and else stored */
-#define ESCAPE_STREAM_FIELD_DO_NOT_MOVE_CURSOR UINT32_C(34)    /* flag: the cursor stays where it is */
-#define ESCAPE_STREAM_FIELD_CONTENT UINT32_C(35)               /* text: what a file holds, any bytes; and see MEDIUM */
+/* flag: the width and the height keep their ratio */
+#define ESCAPE_STREAM_FIELD_PRESERVE_ASPECT_RATIO UINT32_C(32)
+/* flag: the file is shown, and else stored */
+#define ESCAPE_STREAM_FIELD_INLINE UINT32_C(33)
+/* flag: the cursor stays where it is */
+#define ESCAPE_STREAM_FIELD_DO_NOT_MOVE_CURSOR UINT32_C(34)
+/* text: what a file holds, any bytes; and see MEDIUM */
+#define ESCAPE_STREAM_FIELD_CONTENT UINT32_C(35)
 #define ESCAPE_STREAM_FIELD_VERSION UINT32_C(36)               /* number: a version of Unicode */
-#define ESCAPE_STREAM_FIELD_LABEL UINT32_C(37)                 /* text: of a version that is kept or brought back */
-#define ESCAPE_STREAM_FIELD_MEDIUM UINT32_C(38)                /* number: what CONTENT is, ESCAPE_STREAM_MEDIUM_.. */
-#define ESCAPE_STREAM_FIELD_DATA_SIZE UINT32_C(39)             /* number: how many bytes of the file or the memory are the image */
-#define ESCAPE_STREAM_FIELD_DATA_OFFSET UINT32_C(40)           /* number: how many come before them */
-#define ESCAPE_STREAM_FIELD_FORMAT UINT32_C(41)                /* number: of pixels. 24 RGB, 32 RGBA, 100 a PNG file */
+/* text: of a version that is kept or brought back */
+#define ESCAPE_STREAM_FIELD_LABEL UINT32_C(37)
+/* number: what CONTENT is, ESCAPE_STREAM_MEDIUM_.. */
+#define ESCAPE_STREAM_FIELD_MEDIUM UINT32_C(38)
+/* number: how many bytes of the file or the memory are the image */
+#define ESCAPE_STREAM_FIELD_DATA_SIZE UINT32_C(39)
+/* number: how many come before them */
+#define ESCAPE_STREAM_FIELD_DATA_OFFSET UINT32_C(40)
+/* number: of pixels. 24 RGB, 32 RGBA, 100 a PNG file */
+#define ESCAPE_STREAM_FIELD_FORMAT UINT32_C(41)
 #define ESCAPE_STREAM_FIELD_PIXEL_WIDTH UINT32_C(42)           /* number: of an image, in pixels */
 #define ESCAPE_STREAM_FIELD_PIXEL_HEIGHT UINT32_C(43)          /* number */
 #define ESCAPE_STREAM_FIELD_IMAGE_ID UINT32_C(44)              /* number: the id of an image */
-#define ESCAPE_STREAM_FIELD_IMAGE_NUMBER UINT32_C(45)          /* number: the number of an image, in place of an id */
+/* number: the number of an image, in place of an id */
+#define ESCAPE_STREAM_FIELD_IMAGE_NUMBER UINT32_C(45)
 #define ESCAPE_STREAM_FIELD_COMPRESSION UINT32_C(46)           /* number: 0 none, 1 deflate */
-#define ESCAPE_STREAM_FIELD_MORE_DATA_FOLLOWS UINT32_C(47)     /* flag: more of the image follows in further commands */
-#define ESCAPE_STREAM_FIELD_X UINT32_C(48)                     /* number: a left edge in pixels; of a deletion a column, from 1 */
-#define ESCAPE_STREAM_FIELD_Y UINT32_C(49)                     /* number: a top edge in pixels; of a deletion a row, from 1 */
-#define ESCAPE_STREAM_FIELD_WIDTH UINT32_C(50)                 /* number: of the part that is shown or put over others, in pixels */
+/* flag: more of the image follows in further commands */
+#define ESCAPE_STREAM_FIELD_MORE_DATA_FOLLOWS UINT32_C(47)
+/* number: a left edge in pixels; of a deletion a column, from 1 */
+#define ESCAPE_STREAM_FIELD_X UINT32_C(48)
+/* number: a top edge in pixels; of a deletion a row, from 1 */
+#define ESCAPE_STREAM_FIELD_Y UINT32_C(49)
+/* number: of the part that is shown or put over others, in pixels */
+#define ESCAPE_STREAM_FIELD_WIDTH UINT32_C(50)
 #define ESCAPE_STREAM_FIELD_HEIGHT UINT32_C(51)                /* number */
-#define ESCAPE_STREAM_FIELD_X_OFFSET UINT32_C(52)              /* number: how far from the left edge of the first cell, in pixels */
-#define ESCAPE_STREAM_FIELD_Y_OFFSET UINT32_C(53)              /* number: how far from its top edge */
-#define ESCAPE_STREAM_FIELD_COLUMNS UINT32_C(54)               /* number: how many an image is scaled to */
+/* number: how far from the left edge of the first cell, in pixels */
+#define ESCAPE_STREAM_FIELD_X_OFFSET UINT32_C(52)
+/* number: how far from its top edge */
+#define ESCAPE_STREAM_FIELD_Y_OFFSET UINT32_C(53)
+/* number: how many an image is scaled to */
+#define ESCAPE_STREAM_FIELD_COLUMNS UINT32_C(54)
 #define ESCAPE_STREAM_FIELD_ROWS UINT32_C(55)                  /* number */
 #define ESCAPE_STREAM_FIELD_PLACEMENT_ID UINT32_C(56)          /* number: the id of a placement */
-#define ESCAPE_STREAM_FIELD_Z_INDEX UINT32_C(57)               /* number: the order above and below others, which may be negative */
-#define ESCAPE_STREAM_FIELD_UNICODE_PLACEHOLDER UINT32_C(58)   /* flag: the image is shown where placeholder characters are */
-#define ESCAPE_STREAM_FIELD_BASE_FRAME UINT32_C(59)            /* number: the frame whose pixels a new one begins with, from 1 */
-#define ESCAPE_STREAM_FIELD_FRAME_NUMBER UINT32_C(60)          /* number: the frame that is edited, from 1 */
-#define ESCAPE_STREAM_FIELD_DURATION UINT32_C(61)              /* number: how long a frame is shown, in milliseconds */
-#define ESCAPE_STREAM_FIELD_COMPOSITION_MODE UINT32_C(62)      /* number: 0 pixels are blended with others, 1 they replace them */
-#define ESCAPE_STREAM_FIELD_BACKGROUND_PIXEL UINT32_C(63)      /* number: red, green, blue and alpha of 8 bits, red the highest */
-#define ESCAPE_STREAM_FIELD_TARGET_FRAME UINT32_C(64)          /* number: the frame that is changed, from 1 */
-#define ESCAPE_STREAM_FIELD_SOURCE_FRAME UINT32_C(65)          /* number: the frame whose pixels are taken, from 1 */
-#define ESCAPE_STREAM_FIELD_SOURCE_X UINT32_C(66)              /* number: the left edge of the part that is taken, in pixels */
+/* number: the order above and below others, which may be negative */
+#define ESCAPE_STREAM_FIELD_Z_INDEX UINT32_C(57)
+/* flag: the image is shown where placeholder characters are */
+#define ESCAPE_STREAM_FIELD_UNICODE_PLACEHOLDER UINT32_C(58)
+/* number: the frame whose pixels a new one begins with, from 1 */
+#define ESCAPE_STREAM_FIELD_BASE_FRAME UINT32_C(59)
+/* number: the frame that is edited, from 1 */
+#define ESCAPE_STREAM_FIELD_FRAME_NUMBER UINT32_C(60)
+/* number: how long a frame is shown, in milliseconds */
+#define ESCAPE_STREAM_FIELD_DURATION UINT32_C(61)
+/* number: 0 pixels are blended with others, 1 they replace them */
+#define ESCAPE_STREAM_FIELD_COMPOSITION_MODE UINT32_C(62)
+/* number: red, green, blue and alpha of 8 bits, red the highest */
+#define ESCAPE_STREAM_FIELD_BACKGROUND_PIXEL UINT32_C(63)
+/* number: the frame that is changed, from 1 */
+#define ESCAPE_STREAM_FIELD_TARGET_FRAME UINT32_C(64)
+/* number: the frame whose pixels are taken, from 1 */
+#define ESCAPE_STREAM_FIELD_SOURCE_FRAME UINT32_C(65)
+/* number: the left edge of the part that is taken, in pixels */
+#define ESCAPE_STREAM_FIELD_SOURCE_X UINT32_C(66)
 #define ESCAPE_STREAM_FIELD_SOURCE_Y UINT32_C(67)              /* number: its top edge */
-#define ESCAPE_STREAM_FIELD_DELETES_DATA UINT32_C(68)          /* flag: the data of images is deleted too */
-#define ESCAPE_STREAM_FIELD_FIRST_IMAGE_ID UINT32_C(69)        /* number: the first of the ids that are deleted */
+/* flag: the data of images is deleted too */
+#define ESCAPE_STREAM_FIELD_DELETES_DATA UINT32_C(68)
+/* number: the first of the ids that are deleted */
+#define ESCAPE_STREAM_FIELD_FIRST_IMAGE_ID UINT32_C(69)
 #define ESCAPE_STREAM_FIELD_LAST_IMAGE_ID UINT32_C(70)         /* number: the last */
-#define ESCAPE_STREAM_FIELD_VERBOSITY UINT32_C(71)             /* number: what is reported. 0 all, 1 errors alone, 2 nothing */
+/* number: what is reported. 0 all, 1 errors alone, 2 nothing */
+#define ESCAPE_STREAM_FIELD_VERBOSITY UINT32_C(71)
 
 /* What a field holds. */
 #define ESCAPE_STREAM_VALUE_NUMBER UINT32_C(0) /* `number` */
@@ -529,56 +656,73 @@ struct escape_stream_osc {
 };
 
 /*
- * Reads the command that the text of an operating system command is, the bytes between ESC ] and what ends them: the text of an
- * event ESCAPE_STREAM_OSC of escape_stream_next. Any bytes are such a text.
+ * Reads the command that the text of an operating system command is, the bytes between ESC ] and
+ * what ends them: the text of an event ESCAPE_STREAM_OSC of escape_stream_next. Any bytes are such
+ * a text.
  *
  *   text, length           the text, and how many bytes it has
- *   osc                    where the kind of the command goes, and how much room its fields and their texts need
+ *   osc                    where the kind of the command goes, and how much room its fields and
+ *                          their texts need
  *   fields, field_room     where its fields go, and for how many there is room
- *   out, capacity          where their texts go, one after another, and for how many bytes there is room
+ *   out, capacity          where their texts go, one after another, and for how many bytes there is
+ *                          room
  *
- * ESCAPE_STREAM_DONE: `*osc` is that of the command, whatever the room. At the beginning of `fields` are its fields, as many as
- * there is room for, and at the beginning of `out` their texts, as much as there is room for; all else is as it was. Each field
- * is there where `osc->field_count <= field_room`, and each text where `osc->text_length <= capacity`; where they are not, call
+ * ESCAPE_STREAM_DONE: `*osc` is that of the command, whatever the room. At the beginning of
+ * `fields` are its fields, as many as there is room for, and at the beginning of `out` their texts,
+ * as much as there is room for; all else is as it was. Each field is there where `osc->field_count
+ * <= field_room`, and each text where `osc->text_length <= capacity`; where they are not, call
  * again with room.
  *
- * ESCAPE_STREAM_NO_MEMORY is the only other status. The call takes memory for the command and its fields, and gives it back
- * before it returns.
+ * ESCAPE_STREAM_NO_MEMORY is the only other status. The call takes memory for the command and its
+ * fields, and gives it back before it returns.
  *
  * Example: the title of a window.
  *
  *     struct escape_stream_osc osc = {0};
  *     struct escape_stream_field fields[8] = {0};
  *     uint8_t out[256] = {0};
- *     if (escape_stream_read_osc(text, length, &osc, fields, 8, out, sizeof out) == ESCAPE_STREAM_DONE &&
+ *     if (escape_stream_read_osc(text, length, &osc, fields, 8, out, sizeof out) ==
+ *             ESCAPE_STREAM_DONE &&
  *         osc.kind == ESCAPE_STREAM_OSC_SET_WINDOW_TITLE && osc.text_length <= sizeof out)
  *         set_title(out, fields[0].length);
  */
-uint32_t escape_stream_read_osc(const uint8_t *text, size_t length, struct escape_stream_osc *osc,
-                                struct escape_stream_field *fields, size_t field_room, uint8_t *out, size_t capacity);
+uint32_t escape_stream_read_osc(
+    const uint8_t *text, size_t length, struct escape_stream_osc *osc,
+    struct escape_stream_field *fields, size_t field_room, uint8_t *out, size_t capacity);
 
 /*
- * The kinds of commands of kitty's graphics protocol, and which fields each has, in order, as for those of operating system
- * commands. A deletion has a kind for each of what is deleted. Later versions may add some.
+ * The kinds of commands of kitty's graphics protocol, and which fields each has, in order, as for
+ * those of operating system commands. A deletion has a kind for each of what is deleted. Later
+ * versions may add some.
  *
  * identified   [IMAGE_ID], [IMAGE_NUMBER]
- * transmitted  CONTENT, MEDIUM, [DATA_SIZE], [DATA_OFFSET], [FORMAT], [PIXEL_WIDTH], [PIXEL_HEIGHT], [IMAGE_ID], [IMAGE_NUMBER],
- *              COMPRESSION, MORE_DATA_FOLLOWS
- * placed       [X], [Y], [WIDTH], [HEIGHT], [X_OFFSET], [Y_OFFSET], [COLUMNS], [ROWS], [PLACEMENT_ID], DO_NOT_MOVE_CURSOR,
- *              [Z_INDEX], UNICODE_PLACEHOLDER
- * framed       [X], [Y], [BASE_FRAME], [FRAME_NUMBER], [DURATION], COMPOSITION_MODE, [BACKGROUND_PIXEL]
- * composed     [TARGET_FRAME], [SOURCE_FRAME], [X], [Y], [WIDTH], [HEIGHT], [SOURCE_X], [SOURCE_Y], COMPOSITION_MODE
+ * transmitted  CONTENT, MEDIUM, [DATA_SIZE], [DATA_OFFSET], [FORMAT], [PIXEL_WIDTH],
+ *              [PIXEL_HEIGHT], [IMAGE_ID], [IMAGE_NUMBER], COMPRESSION, MORE_DATA_FOLLOWS
+ * placed       [X], [Y], [WIDTH], [HEIGHT], [X_OFFSET], [Y_OFFSET], [COLUMNS], [ROWS],
+ *              [PLACEMENT_ID], DO_NOT_MOVE_CURSOR, [Z_INDEX], UNICODE_PLACEHOLDER
+ * framed       [X], [Y], [BASE_FRAME], [FRAME_NUMBER], [DURATION], COMPOSITION_MODE,
+ *              [BACKGROUND_PIXEL]
+ * composed     [TARGET_FRAME], [SOURCE_FRAME], [X], [Y], [WIDTH], [HEIGHT], [SOURCE_X], [SOURCE_Y],
+ *              COMPOSITION_MODE
  */
 #define ESCAPE_STREAM_KITTY_NONE UINT32_C(0)                       /* none: the text is no image */
-#define ESCAPE_STREAM_KITTY_TRANSMIT_DATA UINT32_C(1)              /* transmitted, VERBOSITY: keeps an image */
-#define ESCAPE_STREAM_KITTY_TRANSMIT_DATA_AND_DISPLAY UINT32_C(2)  /* transmitted, placed, VERBOSITY: keeps an image and shows it */
-#define ESCAPE_STREAM_KITTY_DISPLAY UINT32_C(3)                    /* identified, placed, VERBOSITY: shows an image */
-#define ESCAPE_STREAM_KITTY_QUERY UINT32_C(4)                      /* transmitted: asks whether it could be kept */
-#define ESCAPE_STREAM_KITTY_TRANSMIT_FRAME UINT32_C(5)             /* transmitted, framed, VERBOSITY: keeps a frame */
-#define ESCAPE_STREAM_KITTY_COMPOSE_FRAME UINT32_C(6)              /* identified, composed, VERBOSITY: puts a frame over another */
-#define ESCAPE_STREAM_KITTY_DELETE_ALL UINT32_C(7)                 /* DELETES_DATA, VERBOSITY: and so at the end of all below */
+/* transmitted, VERBOSITY: keeps an image */
+#define ESCAPE_STREAM_KITTY_TRANSMIT_DATA UINT32_C(1)
+/* transmitted, placed, VERBOSITY: keeps an image and shows it */
+#define ESCAPE_STREAM_KITTY_TRANSMIT_DATA_AND_DISPLAY UINT32_C(2)
+/* identified, placed, VERBOSITY: shows an image */
+#define ESCAPE_STREAM_KITTY_DISPLAY UINT32_C(3)
+/* transmitted: asks whether it could be kept */
+#define ESCAPE_STREAM_KITTY_QUERY UINT32_C(4)
+/* transmitted, framed, VERBOSITY: keeps a frame */
+#define ESCAPE_STREAM_KITTY_TRANSMIT_FRAME UINT32_C(5)
+/* identified, composed, VERBOSITY: puts a frame over another */
+#define ESCAPE_STREAM_KITTY_COMPOSE_FRAME UINT32_C(6)
+/* DELETES_DATA, VERBOSITY: and so at the end of all below */
+#define ESCAPE_STREAM_KITTY_DELETE_ALL UINT32_C(7)
 #define ESCAPE_STREAM_KITTY_DELETE_BY_IMAGE_ID UINT32_C(8)         /* IMAGE_ID, [PLACEMENT_ID] */
-#define ESCAPE_STREAM_KITTY_DELETE_BY_IMAGE_NUMBER UINT32_C(9)     /* IMAGE_NUMBER, [PLACEMENT_ID] */
+/* IMAGE_NUMBER, [PLACEMENT_ID] */
+#define ESCAPE_STREAM_KITTY_DELETE_BY_IMAGE_NUMBER UINT32_C(9)
 #define ESCAPE_STREAM_KITTY_DELETE_AT_CURSOR_POSITION UINT32_C(10) /* none more */
 #define ESCAPE_STREAM_KITTY_DELETE_ANIMATION_FRAMES UINT32_C(11)   /* none more */
 #define ESCAPE_STREAM_KITTY_DELETE_AT UINT32_C(12)                 /* X, Y */
@@ -586,16 +730,19 @@ uint32_t escape_stream_read_osc(const uint8_t *text, size_t length, struct escap
 #define ESCAPE_STREAM_KITTY_DELETE_COLUMN UINT32_C(14)             /* X */
 #define ESCAPE_STREAM_KITTY_DELETE_ROW UINT32_C(15)                /* Y */
 #define ESCAPE_STREAM_KITTY_DELETE_Z UINT32_C(16)                  /* Z_INDEX */
-#define ESCAPE_STREAM_KITTY_DELETE_BY_IMAGE_ID_RANGE UINT32_C(17)  /* FIRST_IMAGE_ID, LAST_IMAGE_ID */
+/* FIRST_IMAGE_ID, LAST_IMAGE_ID */
+#define ESCAPE_STREAM_KITTY_DELETE_BY_IMAGE_ID_RANGE UINT32_C(17)
 
 /*
- * What the CONTENT of an image is. A payload is the text as it came, which is base64 and is not decoded, since it may be cut into
- * several commands. A path and a name are decoded. No text is read as BYTES.
+ * What the CONTENT of an image is. A payload is the text as it came, which is base64 and is not
+ * decoded, since it may be cut into several commands. A path and a name are decoded. No text is
+ * read as BYTES.
  */
 #define ESCAPE_STREAM_MEDIUM_PAYLOAD 0        /* the pixels, in base64 */
 #define ESCAPE_STREAM_MEDIUM_BYTES 1          /* the pixels */
 #define ESCAPE_STREAM_MEDIUM_FILE 2           /* the path of a file */
-#define ESCAPE_STREAM_MEDIUM_TEMPORARY_FILE 3 /* that of a file which the terminal deletes once it is read */
+/* that of a file which the terminal deletes once it is read */
+#define ESCAPE_STREAM_MEDIUM_TEMPORARY_FILE 3
 #define ESCAPE_STREAM_MEDIUM_SHARED_MEMORY 4  /* the name of a shared memory object */
 
 /* A command of kitty's graphics protocol. */
@@ -606,9 +753,10 @@ struct escape_stream_image {
 };
 
 /*
- * Reads the command of kitty's graphics protocol that the text of an application program command is, the bytes between ESC _ and
- * what ends them: the text of an event ESCAPE_STREAM_APC of escape_stream_next. Any bytes are such a text; where they are no such
- * command the kind is ESCAPE_STREAM_KITTY_NONE, without a field.
+ * Reads the command of kitty's graphics protocol that the text of an application program command
+ * is, the bytes between ESC _ and what ends them: the text of an event ESCAPE_STREAM_APC of
+ * escape_stream_next. Any bytes are such a text; where they are no such command the kind is
+ * ESCAPE_STREAM_KITTY_NONE, without a field.
  *
  * The arguments and the statuses are those of escape_stream_read_osc, and so is what is written.
  *
@@ -622,8 +770,9 @@ struct escape_stream_image {
  *             if (fields[i].name == ESCAPE_STREAM_FIELD_PIXEL_WIDTH)
  *                 width = fields[i].number;
  */
-uint32_t escape_stream_read_kitty(const uint8_t *text, size_t length, struct escape_stream_image *image,
-                                  struct escape_stream_field *fields, size_t field_room, uint8_t *out, size_t capacity);
+uint32_t escape_stream_read_kitty(
+    const uint8_t *text, size_t length, struct escape_stream_image *image,
+    struct escape_stream_field *fields, size_t field_room, uint8_t *out, size_t capacity);
 
 /* A termcap query. */
 struct escape_stream_query {
@@ -632,23 +781,30 @@ struct escape_stream_query {
 };
 
 /*
- * Reads the names that a termcap query asks for (XTGETTCAP), of the data between ESC P + q and what ends it: that of the events
- * after an event ESCAPE_STREAM_DCS whose byte is `q` and whose one intermediate is `+`, put together. Any bytes are such data. Each
- * name is a field ESCAPE_STREAM_FIELD_NAME: what was written in hexadecimal, or the text as it is where it is not hexadecimal.
+ * Reads the names that a termcap query asks for (XTGETTCAP), of the data between ESC P + q and what
+ * ends it: that of the events after an event ESCAPE_STREAM_DCS whose byte is `q` and whose one
+ * intermediate is `+`, put together. Any bytes are such data. Each name is a field
+ * ESCAPE_STREAM_FIELD_NAME: what was written in hexadecimal, or the text as it is where it is not
+ * hexadecimal.
  *
  * The arguments and the statuses are those of escape_stream_read_osc, and so is what is written.
  */
-uint32_t escape_stream_read_tcap(const uint8_t *text, size_t length, struct escape_stream_query *query,
-                                 struct escape_stream_field *fields, size_t field_room, uint8_t *out, size_t capacity);
+uint32_t escape_stream_read_tcap(
+    const uint8_t *text, size_t length, struct escape_stream_query *query,
+    struct escape_stream_field *fields, size_t field_room, uint8_t *out, size_t capacity);
 
 /* What an item of a sixel image is, and what of it has a meaning. */
 #define ESCAPE_STREAM_SIXEL_PIXELS UINT32_C(0)          /* pixels; count is 1 */
 #define ESCAPE_STREAM_SIXEL_REPEAT UINT32_C(1)          /* pixels, count: the same so many times */
-#define ESCAPE_STREAM_SIXEL_DEFINE_RGB UINT32_C(2)      /* color, red, green, blue: gives a colour to a number, and selects it */
-#define ESCAPE_STREAM_SIXEL_DEFINE_HSL UINT32_C(3)      /* color, hue, lightness, saturation: the same */
+/* color, red, green, blue: gives a colour to a number, and selects it */
+#define ESCAPE_STREAM_SIXEL_DEFINE_RGB UINT32_C(2)
+/* color, hue, lightness, saturation: the same */
+#define ESCAPE_STREAM_SIXEL_DEFINE_HSL UINT32_C(3)
 #define ESCAPE_STREAM_SIXEL_SELECT UINT32_C(4)          /* color: selects it */
-#define ESCAPE_STREAM_SIXEL_CARRIAGE_RETURN UINT32_C(5) /* back to the start of the line, over which is drawn */
-#define ESCAPE_STREAM_SIXEL_NEW_LINE UINT32_C(6)        /* to the start of the next band of six lines */
+/* back to the start of the line, over which is drawn */
+#define ESCAPE_STREAM_SIXEL_CARRIAGE_RETURN UINT32_C(5)
+/* to the start of the next band of six lines */
+#define ESCAPE_STREAM_SIXEL_NEW_LINE UINT32_C(6)
 
 /* An item of a sixel image. What has no meaning for its kind is 0. */
 struct escape_stream_sixel_item {
@@ -665,140 +821,171 @@ struct escape_stream_sixel_item {
 struct escape_stream_sixel {
     int64_t pan, pad;                    /* a pixel is pan units high and pad wide */
     int64_t grid_size;                   /* the horizontal grid size, where `has_grid_size` */
-    uint32_t pixel_width, pixel_height;  /* as raster attributes say, where `has_pixel_width` and `has_pixel_height` */
-    uint32_t width, height;              /* those, where both are there, and else those of what is drawn */
+    /* as raster attributes say, where `has_pixel_width` and `has_pixel_height` */
+    uint32_t pixel_width, pixel_height;
+    /* those, where both are there, and else those of what is drawn */
+    uint32_t width, height;
     bool has_grid_size, has_pixel_width, has_pixel_height;
     bool background_is_transparent;      /* pixels of 0 leave what was there */
     size_t item_count;                   /* how many items its data has */
 };
 
 /*
- * Reads a sixel image, of the parameters and the data between ESC P and what ends it: those of an event ESCAPE_STREAM_DCS whose
- * byte is `q` and which has no intermediate, and those of the events after it, put together. Any parameters and any bytes are
- * such an image.
+ * Reads a sixel image, of the parameters and the data between ESC P and what ends it: those of an
+ * event ESCAPE_STREAM_DCS whose byte is `q` and which has no intermediate, and those of the events
+ * after it, put together. Any parameters and any bytes are such an image.
  *
- *   params, count          the parameters, and how many there are; one that is missing before others is 0
+ *   params, count          the parameters, and how many there are; one that is missing before
+ *                          others is 0
  *   text, length           the data, and how many bytes it has
  *   sixel                  where the image goes, but for its items, and how much room these need
  *   items, item_room       where its items go, and for how many there is room
  *
- * The items come in an array, one an item, so a loop over it with a switch by `kind` draws the image; PIXELS and REPEAT may be one
- * case, `count` times `pixels`. There are no more than `length`, so that room for so many is enough at the first call.
+ * The items come in an array, one an item, so a loop over it with a switch by `kind` draws the
+ * image; PIXELS and REPEAT may be one case, `count` times `pixels`. There are no more than
+ * `length`, so that room for so many is enough at the first call.
  *
- * ESCAPE_STREAM_DONE: `*sixel` is that of the image, whatever the room. At the beginning of `items` are its items, as many as there
- * is room for; the others are as they were. ESCAPE_STREAM_NO_MEMORY is the only other status. The call takes memory for the image,
- * and gives it back before it returns.
+ * ESCAPE_STREAM_DONE: `*sixel` is that of the image, whatever the room. At the beginning of `items`
+ * are its items, as many as there is room for; the others are as they were. ESCAPE_STREAM_NO_MEMORY
+ * is the only other status. The call takes memory for the image, and gives it back before it
+ * returns.
  */
-uint32_t escape_stream_read_sixel(const int64_t *params, size_t count, const uint8_t *text, size_t length,
-                                  struct escape_stream_sixel *sixel, struct escape_stream_sixel_item *items, size_t item_room);
+uint32_t escape_stream_read_sixel(
+    const int64_t *params, size_t count, const uint8_t *text, size_t length,
+    struct escape_stream_sixel *sixel, struct escape_stream_sixel_item *items, size_t item_room);
 
 /*
- * Writes a command: ESC ], its text and ESC \. A command that was read in another spelling, as a title that BEL ended or a
- * color by its name, is written in this one.
+ * Writes a command: ESC ], its text and ESC \. A command that was read in another spelling, as a
+ * title that BEL ended or a color by its name, is written in this one.
  *
  *   kind               which command: ESCAPE_STREAM_OSC_..
  *   fields, count      its fields, in the order that the kind has them, and how many there are
- *   text, text_length  the texts of these fields one after another, in the order of the fields, and how many bytes they have
+ *   text, text_length  the texts of these fields one after another, in the order of the fields, and
+ *                      how many bytes they have
  *   out, capacity      where the command goes, and for how many bytes there is room
  *   needed             where the length of the whole command goes
  *
- * The kind, the fields and the texts are as escape_stream_read_osc writes them: the first text has the offset 0, each other the
- * offset at which the one before it ends, and what has no meaning for what a field holds is 0.
+ * The kind, the fields and the texts are as escape_stream_read_osc writes them: the first text has
+ * the offset 0, each other the offset at which the one before it ends, and what has no meaning for
+ * what a field holds is 0.
  *
- * ESCAPE_STREAM_DONE: at the beginning of `out` is the command, as much of it as there is room for, and all else there is as it
- * was. `*needed` is its length, whatever the room; where it is more than `capacity`, call again with room. What is between ESC ]
- * and ESC \ holds no control but DEL, and escape_stream_read_osc reads this kind, these fields and these texts of it.
+ * ESCAPE_STREAM_DONE: at the beginning of `out` is the command, as much of it as there is room for,
+ * and all else there is as it was. `*needed` is its length, whatever the room; where it is more
+ * than `capacity`, call again with room. What is between ESC ] and ESC \ holds no control but DEL,
+ * and escape_stream_read_osc reads this kind, these fields and these texts of it.
  *
- * ESCAPE_STREAM_NO_COMMAND: no command has this kind and these fields, as where a field is missing, comes twice or has a name that
- * the kind has not, a number is out of its range, a text is not UTF-8, or a link's keys are not in order.
+ * ESCAPE_STREAM_NO_COMMAND: no command has this kind and these fields, as where a field is missing,
+ * comes twice or has a name that the kind has not, a number is out of its range, a text is not
+ * UTF-8, or a link's keys are not in order.
  *
- * ESCAPE_STREAM_NOT_WRITABLE: one has them, but its text would not read back as it, as that of a title with a control, of a text
- * with a `;` where that would divide it, or of ESCAPE_STREAM_OSC_ITERM_REPORT_VARIABLE, which has no reading.
+ * ESCAPE_STREAM_NOT_WRITABLE: one has them, but its text would not read back as it, as that of a
+ * title with a control, of a text with a `;` where that would divide it, or of
+ * ESCAPE_STREAM_OSC_ITERM_REPORT_VARIABLE, which has no reading.
  *
- * ESCAPE_STREAM_NO_MEMORY is the only other status. The call takes memory for the command and its text, and gives it back before it
- * returns.
+ * ESCAPE_STREAM_NO_MEMORY is the only other status. The call takes memory for the command and its
+ * text, and gives it back before it returns.
  *
  * Example: a title.
  *
- *     struct escape_stream_field field = {ESCAPE_STREAM_FIELD_TEXT, ESCAPE_STREAM_VALUE_TEXT, 0, 0, length};
+ *     struct escape_stream_field field = {
+ *         ESCAPE_STREAM_FIELD_TEXT, ESCAPE_STREAM_VALUE_TEXT, 0, 0, length};
  *     uint8_t out[256] = {0};
  *     size_t needed = 0;
- *     if (escape_stream_write_osc(ESCAPE_STREAM_OSC_SET_WINDOW_TITLE, &field, 1, title, length, out, sizeof out, &needed) ==
- *             ESCAPE_STREAM_DONE && needed <= sizeof out)
+ *     uint32_t status = escape_stream_write_osc(
+ *         ESCAPE_STREAM_OSC_SET_WINDOW_TITLE, &field, 1, title, length, out, sizeof out, &needed);
+ *     if (status == ESCAPE_STREAM_DONE && needed <= sizeof out)
  *         fwrite(out, 1, needed, stdout);
  */
-uint32_t escape_stream_write_osc(uint32_t kind, const struct escape_stream_field *fields, size_t count, const uint8_t *text,
-                                 size_t text_length, uint8_t *out, size_t capacity, size_t *needed);
+uint32_t escape_stream_write_osc(
+    uint32_t kind, const struct escape_stream_field *fields, size_t count, const uint8_t *text,
+    size_t text_length, uint8_t *out, size_t capacity, size_t *needed);
 
 /*
  * Writes a command of kitty's graphics protocol: ESC _, its keys and its payload, and ESC \.
  *
  *   kind               which command: ESCAPE_STREAM_KITTY_..
- *   fields, text       its fields and their texts, as escape_stream_read_kitty writes them and as escape_stream_write_osc takes them
- *
- * The other arguments are those of escape_stream_write_osc. So are the statuses and what is written, with escape_stream_read_kitty
- * in the place of escape_stream_read_osc; what is between ESC _ and ESC \ is of bytes from space to DEL.
- *
- * ESCAPE_STREAM_NO_COMMAND: no command has this kind and these fields, as ESCAPE_STREAM_KITTY_NONE has none.
- *
- * ESCAPE_STREAM_NOT_WRITABLE: one has them, but its text would not read back as it: a payload with another byte than those, one
- * that is ESCAPE_STREAM_MEDIUM_BYTES, since base64 is read as ESCAPE_STREAM_MEDIUM_PAYLOAD, or the number 0 of a frame or a
- * duration, which is read as none.
- */
-uint32_t escape_stream_write_kitty(uint32_t kind, const struct escape_stream_field *fields, size_t count, const uint8_t *text,
-                                   size_t text_length, uint8_t *out, size_t capacity, size_t *needed);
-
-/*
- * Writes a termcap query (XTGETTCAP): ESC P + q, its names in hexadecimal with `;` between them, and ESC \.
- *
- *   fields, text       a field ESCAPE_STREAM_FIELD_NAME for each name, and their texts, as escape_stream_read_tcap writes them and as
+ *   fields, text       its fields and their texts, as escape_stream_read_kitty writes them and as
  *                      escape_stream_write_osc takes them
  *
- * The other arguments are those of escape_stream_write_osc. So are the statuses and what is written, with escape_stream_read_tcap in
- * the place of escape_stream_read_osc; what is between ESC P + q and ESC \ is of digits from 0 to 9 and from a to f, and `;`.
+ * The other arguments are those of escape_stream_write_osc. So are the statuses and what is
+ * written, with escape_stream_read_kitty in the place of escape_stream_read_osc; what is between
+ * ESC _ and ESC \ is of bytes from space to DEL.
  *
- * ESCAPE_STREAM_NO_COMMAND: no names have these fields, as where a name is not UTF-8. ESCAPE_STREAM_NOT_WRITABLE: there is no name,
- * which would be read as one that is empty.
+ * ESCAPE_STREAM_NO_COMMAND: no command has this kind and these fields, as ESCAPE_STREAM_KITTY_NONE
+ * has none.
+ *
+ * ESCAPE_STREAM_NOT_WRITABLE: one has them, but its text would not read back as it: a payload with
+ * another byte than those, one that is ESCAPE_STREAM_MEDIUM_BYTES, since base64 is read as
+ * ESCAPE_STREAM_MEDIUM_PAYLOAD, or the number 0 of a frame or a duration, which is read as none.
  */
-uint32_t escape_stream_write_tcap(const struct escape_stream_field *fields, size_t count, const uint8_t *text, size_t text_length,
-                                  uint8_t *out, size_t capacity, size_t *needed);
+uint32_t escape_stream_write_kitty(
+    uint32_t kind, const struct escape_stream_field *fields, size_t count, const uint8_t *text,
+    size_t text_length, uint8_t *out, size_t capacity, size_t *needed);
+
+/*
+ * Writes a termcap query (XTGETTCAP): ESC P + q, its names in hexadecimal with `;` between them,
+ * and ESC \.
+ *
+ *   fields, text       a field ESCAPE_STREAM_FIELD_NAME for each name, and their texts, as
+ *                      escape_stream_read_tcap writes them and as escape_stream_write_osc takes
+ *                      them
+ *
+ * The other arguments are those of escape_stream_write_osc. So are the statuses and what is
+ * written, with escape_stream_read_tcap in the place of escape_stream_read_osc; what is between ESC
+ * P + q and ESC \ is of digits from 0 to 9 and from a to f, and `;`.
+ *
+ * ESCAPE_STREAM_NO_COMMAND: no names have these fields, as where a name is not UTF-8.
+ * ESCAPE_STREAM_NOT_WRITABLE: there is no name, which would be read as one that is empty.
+ */
+uint32_t escape_stream_write_tcap(
+    const struct escape_stream_field *fields, size_t count, const uint8_t *text,
+    size_t text_length, uint8_t *out, size_t capacity, size_t *needed);
 
 /*
  * Writes a sixel image: ESC P, parameters, `q`, data and ESC \.
  *
- *   sixel              the image but for its items. Its `width`, `height` and `item_count` follow from the rest, and are not looked at
+ *   sixel              the image but for its items. Its `width`, `height` and `item_count` follow
+ *                      from the rest, and are not looked at
  *   items, count       its items, and how many there are
  *   out, capacity      where the image goes, and for how many bytes there is room
  *   needed             where the length of the whole image goes
  *
- * The rest of `sixel` and the items are as escape_stream_read_sixel writes them: what is absent, or has no meaning for the kind of an
- * item, is 0.
+ * The rest of `sixel` and the items are as escape_stream_read_sixel writes them: what is absent, or
+ * has no meaning for the kind of an item, is 0.
  *
- * ESCAPE_STREAM_DONE: at the beginning of `out` is the image, as much of it as there is room for, and all else there is as it was.
- * `*needed` is its length, whatever the room; where it is more than `capacity`, call again with room. The parameters are of digits
- * and `;`, the data is of bytes from space to ~, and escape_stream_read_sixel reads this image and these items of the two.
+ * ESCAPE_STREAM_DONE: at the beginning of `out` is the image, as much of it as there is room for,
+ * and all else there is as it was. `*needed` is its length, whatever the room; where it is more
+ * than `capacity`, call again with room. The parameters are of digits and `;`, the data is of bytes
+ * from space to ~, and escape_stream_read_sixel reads this image and these items of the two.
  *
- * ESCAPE_STREAM_NO_COMMAND: no image has these values, as where an item has an unknown kind, or a colour that it has no use for.
+ * ESCAPE_STREAM_NO_COMMAND: no image has these values, as where an item has an unknown kind, or a
+ * colour that it has no use for.
  *
- * ESCAPE_STREAM_NOT_WRITABLE: one has them, but its text would not read back as it: a number that is negative, a pixel width without
- * a height or the other way round, or so large that there are more than 100,000,000 pixels, six pixels over 63, or red, green or blue
- * that are none of 0, 2, 5, 7, .., 255, which the percentages from 0 to 100 are read as: 255 * n / 100, without what is left over.
+ * ESCAPE_STREAM_NOT_WRITABLE: one has them, but its text would not read back as it: a number that
+ * is negative, a pixel width without a height or the other way round, or so large that there are
+ * more than 100,000,000 pixels, six pixels over 63, or red, green or blue that are none of 0, 2, 5,
+ * 7, .., 255, which the percentages from 0 to 100 are read as: 255 * n / 100, without what is left
+ * over.
  *
- * ESCAPE_STREAM_NO_MEMORY is the only other status. The call takes memory for the image and its text, and gives it back before it
- * returns.
+ * ESCAPE_STREAM_NO_MEMORY is the only other status. The call takes memory for the image and its
+ * text, and gives it back before it returns.
  *
  * Example: a picture of one red pixel.
  *
  *     struct escape_stream_sixel sixel = {.pan = 1, .pad = 1};
- *     struct escape_stream_sixel_item items[] = {{.kind = ESCAPE_STREAM_SIXEL_DEFINE_RGB, .color = 1, .red = 255},
- *                                                {.kind = ESCAPE_STREAM_SIXEL_PIXELS, .count = 1, .pixels = 1}};
+ *     struct escape_stream_sixel_item items[] = {
+ *         {.kind = ESCAPE_STREAM_SIXEL_DEFINE_RGB, .color = 1, .red = 255},
+ *         {.kind = ESCAPE_STREAM_SIXEL_PIXELS, .count = 1, .pixels = 1}};
  *     uint8_t out[64] = {0};
  *     size_t needed = 0;
- *     if (escape_stream_write_sixel(&sixel, items, 2, out, sizeof out, &needed) == ESCAPE_STREAM_DONE && needed <= sizeof out)
+ *     if (escape_stream_write_sixel(&sixel, items, 2, out, sizeof out, &needed) ==
+ *             ESCAPE_STREAM_DONE &&
+ *         needed <= sizeof out)
  *         fwrite(out, 1, needed, stdout);
  */
-uint32_t escape_stream_write_sixel(const struct escape_stream_sixel *sixel, const struct escape_stream_sixel_item *items, size_t count,
-                                   uint8_t *out, size_t capacity, size_t *needed);
+uint32_t escape_stream_write_sixel(
+    const struct escape_stream_sixel *sixel, const struct escape_stream_sixel_item *items,
+    size_t count, uint8_t *out, size_t capacity, size_t *needed);
 
 #ifdef __cplusplus
 }

@@ -19,7 +19,8 @@ int main(void)
     while ((length = fread(bytes, 1, sizeof bytes, stdin)) > 0) {
         const uint8_t *next = bytes, *end = bytes + length;
         for (;;) {
-            size_t taken = escape_stream_next(&parser, buffer, sizeof buffer, next, (size_t)(end - next), &event);
+            size_t taken = escape_stream_next(
+                &parser, buffer, sizeof buffer, next, (size_t)(end - next), &event);
             const uint8_t *text = escape_stream_text(&event, buffer, sizeof buffer, next);
             if (event.kind == ESCAPE_STREAM_NONE)
                 break;

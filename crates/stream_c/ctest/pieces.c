@@ -1,6 +1,7 @@
 /* SPDX-License-Identifier: MIT */
 /*
- * Checks escape_stream_parser.h: the events of streams in pieces of each size, and those of each stream by itself.
+ * Checks escape_stream_parser.h: the events of streams in pieces of each size, and those of each
+ * stream by itself.
  *
  * Prints a line for each difference; the status is 1 where there is one.
  */
@@ -14,7 +15,8 @@ enum { GUARD = 32, MOST_PIECE = 40, NOISES = 2000, NOISE_PIECES = 60, ROOM = 1 <
 
 static unsigned long differences;
 
-/* What was handed out, in a form in which a run is the same as its characters or bytes by themselves. */
+/* What was handed out, in a form in which a run is the same as its characters or bytes by
+ * themselves. */
 struct log {
     char at[ROOM];
     size_t length;
@@ -52,16 +54,18 @@ static void add_run(struct log *log, const uint8_t *bytes, size_t length) {
                 abort();
             c = c << 6 | (bytes[i + k] & 0x3f);
         }
-        if (c < 0x20 || (c >= 0x80 && c < 0xa0) || (more == 2 && c < 0x800) || (c >= 0xd800 && c < 0xe000) ||
-            (more == 3 && c < 0x10000) || c > 0x10ffff)
+        if (c < 0x20 || (c >= 0x80 && c < 0xa0) || (more == 2 && c < 0x800) ||
+            (c >= 0xd800 && c < 0xe000) || (more == 3 && c < 0x10000) || c > 0x10ffff)
             abort();
         add_character(log, c);
         i += 1 + more;
     }
 }
 
-static void add_event(struct log *log, const struct escape_stream_event *event, const uint8_t *text) {
-    static const char *const NAMES[] = {"none", "", "", "control", "escape", "csi", "osc", "dcs", "", "", "end", "apc", "FAILED", "limit"};
+static void
+add_event(struct log *log, const struct escape_stream_event *event, const uint8_t *text) {
+    static const char *const NAMES[] = {"none", "", "", "control", "escape", "csi",    "osc",
+                                        "dcs",  "", "", "end",     "apc",    "FAILED", "limit"};
     switch (event->kind) {
     case ESCAPE_STREAM_TEXT:
         add_run(log, text, event->length);
@@ -82,8 +86,8 @@ static void add_event(struct log *log, const struct escape_stream_event *event, 
     }
     add(log, "\n", 1);
     add(log, NAMES[event->kind], strlen(NAMES[event->kind]));
-    if (event->kind != ESCAPE_STREAM_OSC && event->kind != ESCAPE_STREAM_APC && event->kind != ESCAPE_STREAM_DCS_END &&
-        event->kind != ESCAPE_STREAM_LIMIT)
+    if (event->kind != ESCAPE_STREAM_OSC && event->kind != ESCAPE_STREAM_APC &&
+        event->kind != ESCAPE_STREAM_DCS_END && event->kind != ESCAPE_STREAM_LIMIT)
         add_number(log, event->byte);
     if (event->kind == ESCAPE_STREAM_ESCAPE || event->kind == ESCAPE_STREAM_DCS) {
         add(log, " [", 2);
@@ -100,7 +104,8 @@ static void add_event(struct log *log, const struct escape_stream_event *event, 
                 add_number(log, entry->number);
             }
         }
-    if (event->kind == ESCAPE_STREAM_OSC || event->kind == ESCAPE_STREAM_APC || event->kind == ESCAPE_STREAM_DCS) {
+    if (event->kind == ESCAPE_STREAM_OSC || event->kind == ESCAPE_STREAM_APC ||
+        event->kind == ESCAPE_STREAM_DCS) {
         add(log, " <", 2);
         add(log, text, event->length);
         add(log, ">", 1);
@@ -111,11 +116,14 @@ static void add_event(struct log *log, const struct escape_stream_event *event, 
 }
 
 /* The places and counts that the header promises. */
-static void check_event(const struct escape_stream_event *event, size_t room, size_t taken, size_t length) {
+static void
+check_event(const struct escape_stream_event *event, size_t room, size_t taken, size_t length) {
     bool is_run = event->kind == ESCAPE_STREAM_TEXT || event->kind == ESCAPE_STREAM_DATA;
-    if (taken > length || event->kept > 2 || event->count > 256 || event->kind > ESCAPE_STREAM_LIMIT)
+    if (taken > length || event->kept > 2 || event->count > 256 ||
+        event->kind > ESCAPE_STREAM_LIMIT)
         abort();
-    if (is_run ? event->start > taken || event->length > taken - event->start : event->length > room)
+    if (is_run ? event->start > taken || event->length > taken - event->start
+               : event->length > room)
         abort();
 }
 
@@ -137,7 +145,8 @@ static void feed(const uint8_t *stream, size_t length, size_t size, size_t room,
             abort();
         memcpy(bytes, stream + from, piece);
         for (;;) {
-            size_t taken = escape_stream_next(&parser, buffer, room, bytes + at, piece - at, &event);
+            size_t taken =
+                escape_stream_next(&parser, buffer, room, bytes + at, piece - at, &event);
             check_event(&event, room - room / 2, taken, piece - at);
             if (event.kind == ESCAPE_STREAM_NONE) {
                 if (taken != piece - at)
@@ -169,8 +178,9 @@ static void compare(const uint8_t *stream, size_t length, size_t room) {
         cut.length = 0;
         feed(stream, length, size, room, &cut);
         if (cut.length != whole.length || memcmp(cut.at, whole.at, cut.length) != 0) {
-            fprintf(stderr, "in pieces of %zu, with room for %zu: %.*s\nand not: %.*s\n", size, room, (int)cut.length, cut.at,
-                    (int)whole.length, whole.at);
+            fprintf(
+                stderr, "in pieces of %zu, with room for %zu: %.*s\nand not: %.*s\n", size, room,
+                (int)cut.length, cut.at, (int)whole.length, whole.at);
             differences++;
             return;
         }
@@ -206,9 +216,46 @@ static const struct row ROWS[] = {
 };
 
 static const char *const PIECES[] = {
-    "\x1b", "[", "]", "P", "_", "X", "^", "\\", "\x9b", "\x9d", "\x90", "\x9f", "\x9c", "\xc2", "\xc3\xa9",
-    "\xe2\x82\xac", "\xf0\x9f\x98\x80", "\xe2", "\x82", "\xff", "\x07", "\x18", "\n", "\x7f", "a", "m", "q", "text",
-    "0", "12", "9999999999", ";", ":", "?", " ", "$", "\x1b]0;", "\x1bP1q", "\x1b_G", "\x1b[3",
+    "\x1b",
+    "[",
+    "]",
+    "P",
+    "_",
+    "X",
+    "^",
+    "\\",
+    "\x9b",
+    "\x9d",
+    "\x90",
+    "\x9f",
+    "\x9c",
+    "\xc2",
+    "\xc3\xa9",
+    "\xe2\x82\xac",
+    "\xf0\x9f\x98\x80",
+    "\xe2",
+    "\x82",
+    "\xff",
+    "\x07",
+    "\x18",
+    "\n",
+    "\x7f",
+    "a",
+    "m",
+    "q",
+    "text",
+    "0",
+    "12",
+    "9999999999",
+    ";",
+    ":",
+    "?",
+    " ",
+    "$",
+    "\x1b]0;",
+    "\x1bP1q",
+    "\x1b_G",
+    "\x1b[3",
 };
 
 static uint64_t state;
@@ -222,15 +269,27 @@ static uint64_t next_number(void) {
 
 /* The first and the last character of each length, and what is none. */
 static void check_utf8(void) {
-    static const struct { uint32_t c; const char *utf8; } ROWS_OF_UTF8[] = {
-        {0x7f, "\x7f"}, {0x80, "\xc2\x80"}, {0x7ff, "\xdf\xbf"}, {0x800, "\xe0\xa0\x80"}, {0xd7ff, "\xed\x9f\xbf"},
-        {0xd800, "\xef\xbf\xbd"}, {0xdfff, "\xef\xbf\xbd"}, {0xe000, "\xee\x80\x80"}, {0xffff, "\xef\xbf\xbf"},
-        {0x10000, "\xf0\x90\x80\x80"}, {0x10ffff, "\xf4\x8f\xbf\xbf"}, {0x110000, "\xef\xbf\xbd"}, {UINT32_MAX, "\xef\xbf\xbd"},
+    static const struct { uint32_t c; const char *utf8;
+    } ROWS_OF_UTF8[] = {
+        {0x7f, "\x7f"},
+        {0x80, "\xc2\x80"},
+        {0x7ff, "\xdf\xbf"},
+        {0x800, "\xe0\xa0\x80"},
+        {0xd7ff, "\xed\x9f\xbf"},
+        {0xd800, "\xef\xbf\xbd"},
+        {0xdfff, "\xef\xbf\xbd"},
+        {0xe000, "\xee\x80\x80"},
+        {0xffff, "\xef\xbf\xbf"},
+        {0x10000, "\xf0\x90\x80\x80"},
+        {0x10ffff, "\xf4\x8f\xbf\xbf"},
+        {0x110000, "\xef\xbf\xbd"},
+        {UINT32_MAX, "\xef\xbf\xbd"},
     };
     for (size_t i = 0; i < sizeof ROWS_OF_UTF8 / sizeof ROWS_OF_UTF8[0]; i++) {
         uint8_t out[4];
         size_t length = escape_stream_utf8(ROWS_OF_UTF8[i].c, out);
-        if (length != strlen(ROWS_OF_UTF8[i].utf8) || memcmp(out, ROWS_OF_UTF8[i].utf8, length) != 0) {
+        if (length != strlen(ROWS_OF_UTF8[i].utf8) ||
+            memcmp(out, ROWS_OF_UTF8[i].utf8, length) != 0) {
             fprintf(stderr, "the UTF-8 of %x\n", (unsigned)ROWS_OF_UTF8[i].c);
             differences++;
         }
@@ -246,7 +305,8 @@ int main(void) {
         size_t length = strlen(ROWS[i].stream);
         log.length = 0;
         feed(stream, length, length + 1, 64, &log);
-        if (log.length != strlen(ROWS[i].events) || memcmp(log.at, ROWS[i].events, log.length) != 0) {
+        if (log.length != strlen(ROWS[i].events) ||
+            memcmp(log.at, ROWS[i].events, log.length) != 0) {
             fprintf(stderr, "row %zu: %.*s\n", i, (int)log.length, log.at);
             differences++;
         }

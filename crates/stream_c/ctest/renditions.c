@@ -14,7 +14,8 @@ static void put_character(uint32_t c)
 static bool is_rendition(const struct escape_stream_event *event)
 {
     for (size_t i = 0; i < event->count; i++)
-        if (event->entries[i].is_byte && event->entries[i].byte != ';' && event->entries[i].byte != ':')
+        if (event->entries[i].is_byte && event->entries[i].byte != ';' &&
+            event->entries[i].byte != ':')
             return false;
     return event->byte == 'm' && !event->has_more;
 }
@@ -45,7 +46,9 @@ static void put(const struct escape_stream_event *event, const uint8_t *text)
         put_run(text, event->length);
     else if (event->kind == ESCAPE_STREAM_CHARACTER && event->byte != 0x7f)
         put_character(event->byte);
-    else if (event->kind == ESCAPE_STREAM_CONTROL && (event->byte == '\n' || event->byte == '\r' || event->byte == '\t'))
+    else if (
+        event->kind == ESCAPE_STREAM_CONTROL &&
+        (event->byte == '\n' || event->byte == '\r' || event->byte == '\t'))
         put_character(event->byte);
     else if (event->kind == ESCAPE_STREAM_CSI && is_rendition(event))
         put_rendition(event);
@@ -62,7 +65,8 @@ int main(void)
     while ((length = fread(bytes, 1, sizeof bytes, stdin)) > 0) {
         const uint8_t *next = bytes, *end = bytes + length;
         do {
-            size_t taken = escape_stream_next(&parser, buffer, sizeof buffer, next, (size_t)(end - next), &event);
+            size_t taken = escape_stream_next(
+                &parser, buffer, sizeof buffer, next, (size_t)(end - next), &event);
             put(&event, escape_stream_text(&event, buffer, sizeof buffer, next));
             next += taken;
         } while (event.kind != ESCAPE_STREAM_NONE && event.kind != ESCAPE_STREAM_FAILED);

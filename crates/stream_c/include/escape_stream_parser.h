@@ -1,27 +1,33 @@
 /* SPDX-License-Identifier: MIT */
 /*
- * escape_stream_parser.h - a parser of terminal escape sequences that takes a stream in pieces and takes no memory
+ * escape_stream_parser.h - a parser of terminal escape sequences that takes a stream in pieces and
+ * takes no memory
  *
- * A stream is bytes as a program writes them to a terminal: UTF-8 text, control characters, and the control functions of
- * ECMA-48 and xterm, such as colours, cursor movements and titles. Any bytes are a stream, and it may be cut anywhere.
+ * A stream is bytes as a program writes them to a terminal: UTF-8 text, control characters, and the
+ * control functions of ECMA-48 and xterm, such as colours, cursor movements and titles. Any bytes
+ * are a stream, and it may be cut anywhere.
  *
  *     cc program.c $(pkg-config --cflags --libs escape_stream_parser)
  *
- * That links libescape_stream.so.0, or with -static libescape_stream.a. Both run on Linux, on every x86-64 or, built for it,
- * on every aarch64, with the C library of GNU of any version, or musl.
+ * That links libescape_stream.so.0, or with -static libescape_stream.a. Both run on Linux, on every
+ * x86-64 or, built for it, on every aarch64, with the C library of GNU of any version, or musl.
  *
- * The calls need nothing but memcpy, memmove and memset. What the calls do is proved, for every stream, in any pieces;
- * docs/EMBEDDING.md says what the proof covers and what it takes for granted. Nothing checks the caller, who owes this:
+ * The calls need nothing but memcpy, memmove and memset. What the calls do is proved, for every
+ * stream, in any pieces; docs/EMBEDDING.md says what the proof covers and what it takes for
+ * granted. Nothing checks the caller, who owes this:
  *
- *   - No pointer is NULL, also where its length is 0, and nothing that a call is given overlaps anything else that it is given.
- *   - A parser and an event are initialized before their first use, for example by = {0}; a parser is then begun. Of a parser the
- *     caller reads and writes nothing.
- *   - The buffer has the same place, the same length and the same lower half at each call of a parser: the first length / 2 bytes
- *     are the parser's. It is initialized, too.
- *   - `bytes` is `length` initialized bytes that can be read, and nobody writes them during the call.
+ *   - No pointer is NULL, also where its length is 0, and nothing that a call is given overlaps
+ *     anything else that it is given.
+ *   - A parser and an event are initialized before their first use, for example by = {0}; a parser
+ *     is then begun. Of a parser the caller reads and writes nothing.
+ *   - The buffer has the same place, the same length and the same lower half at each call of a
+ *     parser: the first length / 2 bytes are the parser's. It is initialized, too.
+ *   - `bytes` is `length` initialized bytes that can be read, and nobody writes them during the
+ *     call.
  *   - Two calls of one parser do not run at the same time.
  *
- * Calls of several parsers may run in several threads at once. None allocates, starts a thread, takes a lock or touches a file.
+ * Calls of several parsers may run in several threads at once. None allocates, starts a thread,
+ * takes a lock or touches a file.
  */
 #ifndef ESCAPE_STREAM_PARSER_H
 #define ESCAPE_STREAM_PARSER_H
@@ -40,20 +46,26 @@ extern "C" {
 #define ESCAPE_STREAM_VERSION_MINOR 1
 #define ESCAPE_STREAM_VERSION_PATCH 0
 
-/* The version of the library that a program runs with, as ESCAPE_STREAM_VERSION has that of the header. Nobody frees the text. */
+/*
+ * The version of the library that a program runs with, as ESCAPE_STREAM_VERSION has that of the
+ * header. Nobody frees the text.
+ */
 const char *escape_stream_version(void);
 
 /*
- * The kinds of events, and what goes with them. `byte` is a number, `text` the bytes of escape_stream_text.
+ * The kinds of events, and what goes with them. `byte` is a number, `text` the bytes of
+ * escape_stream_text.
  *
  * NONE       all bytes were taken, and there is no event
- * TEXT       a run of characters: `text`, well-formed UTF-8 without controls, in the bytes of the call
+ * TEXT       a run of characters: `text`, well-formed UTF-8 without controls, in the bytes of the
+ *            call
  * CHARACTER  a character, `byte`: one that two calls share, or U+FFFD for bytes that are no UTF-8
  * CONTROL    a control character, `byte`, of C0 or C1
  * ESCAPE     an escape sequence: its intermediates, its final byte `byte`
  * CSI        a control sequence: its entries, its final byte `byte`
  * OSC        an operating system command: `text`, all that was between its opener and its end
- * DCS        a device control string begins: its parameter bytes `text`, its intermediates, its final byte `byte`
+ * DCS        a device control string begins: its parameter bytes `text`, its intermediates, its
+ *            final byte `byte`
  * DATA       a run of its data: `text`, in the bytes of the call
  * DATA_BYTE  a byte of its data, `byte`
  * DCS_END    it ends
@@ -61,8 +73,9 @@ const char *escape_stream_version(void);
  * FAILED     something else wrote the parser or the lower half of the buffer, or the buffer is not
  *            that of the calls before; from then on no call of the parser gives anything else.
  *            Where the caller keeps to the rules above it never comes, as is proved
- * LIMIT      a string, or the header of a device control string, ended of which there was more than half the
- *            buffer: its event is not handed out, nor are the data of the device control string
+ * LIMIT      a string, or the header of a device control string, ended of which there was more than
+ *            half the buffer: its event is not handed out, nor are the data of the device control
+ *            string
  */
 #define ESCAPE_STREAM_NONE UINT32_C(0)
 #define ESCAPE_STREAM_TEXT UINT32_C(1)
@@ -79,7 +92,10 @@ const char *escape_stream_version(void);
 #define ESCAPE_STREAM_FAILED UINT32_C(12)
 #define ESCAPE_STREAM_LIMIT UINT32_C(13)
 
-/* An entry of a control sequence: a number, or a byte that is none, as a separator, a marker or an intermediate. */
+/*
+ * An entry of a control sequence: a number, or a byte that is none, as a separator, a marker or an
+ * intermediate.
+ */
 struct escape_stream_entry {
     int64_t number; /* held at INT64_MAX */
     uint8_t byte;
@@ -120,38 +136,46 @@ struct escape_stream_parser {
 void escape_stream_begin(struct escape_stream_parser *parser);
 
 /*
- * Takes bytes of the stream up to the next event, notes it in `event`, and returns how many bytes were taken. Call it again with
- * the bytes after them until the kind is ESCAPE_STREAM_NONE, for which all bytes were taken; a call may take none and give an
- * event. Then go on with the next piece of the stream. However a stream is cut, its events are the same, but that a run may come
- * in several, or its characters one by one.
+ * Takes bytes of the stream up to the next event, notes it in `event`, and returns how many bytes
+ * were taken. Call it again with the bytes after them until the kind is ESCAPE_STREAM_NONE, for
+ * which all bytes were taken; a call may take none and give an event. Then go on with the next
+ * piece of the stream. However a stream is cut, its events are the same, but that a run may come in
+ * several, or its characters one by one.
  *
- * A string, which is the text of an OSC or an APC or the parameter bytes of a DCS, of more than buffer_length / 2 bytes is not
- * handed out: it is passed over, an event ESCAPE_STREAM_LIMIT is in its place, and what follows it is parsed as ever.
+ * A string, which is the text of an OSC or an APC or the parameter bytes of a DCS, of more than
+ * buffer_length / 2 bytes is not handed out: it is passed over, an event ESCAPE_STREAM_LIMIT is in
+ * its place, and what follows it is parsed as ever.
  */
-size_t escape_stream_next(struct escape_stream_parser *parser, uint8_t *buffer, size_t buffer_length, const uint8_t *bytes,
-                          size_t length, struct escape_stream_event *event);
+size_t escape_stream_next(
+    struct escape_stream_parser *parser, uint8_t *buffer, size_t buffer_length,
+    const uint8_t *bytes, size_t length, struct escape_stream_event *event);
 
 /*
- * Whether no character, sequence or string of the stream so far is unfinished: the events of what follows are then those of a
- * stream of its own. After ESCAPE_STREAM_FAILED it is false.
+ * Whether no character, sequence or string of the stream so far is unfinished: the events of what
+ * follows are then those of a stream of its own. After ESCAPE_STREAM_FAILED it is false.
  */
 bool escape_stream_is_ground(const struct escape_stream_parser *parser);
 
-/* The text of an event: `event->length` bytes in the bytes of the call, or in the upper half of the buffer, up to the next call. */
-static inline const uint8_t *escape_stream_text(const struct escape_stream_event *event, const uint8_t *buffer,
-                                                size_t buffer_length, const uint8_t *bytes)
+/*
+ * The text of an event: `event->length` bytes in the bytes of the call, or in the upper half of the
+ * buffer, up to the next call.
+ */
+static inline const uint8_t *escape_stream_text(
+    const struct escape_stream_event *event, const uint8_t *buffer, size_t buffer_length,
+    const uint8_t *bytes)
 {
-    return event->kind == ESCAPE_STREAM_TEXT || event->kind == ESCAPE_STREAM_DATA ? bytes + event->start
-                                                                                  : buffer + buffer_length / 2;
+    bool is_lent = event->kind == ESCAPE_STREAM_TEXT || event->kind == ESCAPE_STREAM_DATA;
+    return is_lent ? bytes + event->start : buffer + buffer_length / 2;
 }
 
 /*
- * Writes the UTF-8 of a character, as the `byte` of an event ESCAPE_STREAM_CHARACTER, to `out`, and returns how many bytes it has:
- * 1 to 4. A number that is no character is written as U+FFFD.
+ * Writes the UTF-8 of a character, as the `byte` of an event ESCAPE_STREAM_CHARACTER, to `out`, and
+ * returns how many bytes it has: 1 to 4. A number that is no character is written as U+FFFD.
  */
 static inline size_t escape_stream_utf8(uint32_t character, uint8_t out[4])
 {
-    uint32_t c = character > 0x10ffff || (character >= 0xd800 && character < 0xe000) ? 0xfffd : character;
+    bool is_none = character > 0x10ffff || (character >= 0xd800 && character < 0xe000);
+    uint32_t c = is_none ? 0xfffd : character;
     size_t more = c < 0x80 ? 0 : c < 0x800 ? 1 : c < 0x10000 ? 2 : 3;
     static const uint8_t marks[4] = {0, 0xc0, 0xe0, 0xf0};
 
