@@ -16,14 +16,15 @@ class Filter(InPieces):
     ...     [filter.feed(piece) for piece in (b"a\\x1b]0;a ti", b"tle\\x07b\\x1b[3", b"1m")]
     [b'a', b'b', b'\\x1b[31m']
 
-    `finish` ends a stream with what takes back what it left changed at a terminal, as renditions and a link:
+    `finish` ends a stream with what takes back what it left changed at a terminal, as renditions
+    and a link:
 
     >>> with Filter(Policy.COLOR) as filter:
     ...     [filter.feed(b"\\x1b[31mred"), filter.finish()]
     [b'\\x1b[31mred', b'\\x1b[0m']
 
-    It stays in the thread that made it. What it keeps of the stream is given back by `close`, by
-    the end of a `with`, or when nothing names it any more.
+    Any thread may use it, and one at a time. What it keeps of the stream is given back by `close`,
+    by the end of a `with`, or when nothing names it any more.
     """
 
     _name = "filter"

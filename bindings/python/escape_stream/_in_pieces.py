@@ -13,7 +13,7 @@ _Self = TypeVar("_Self", bound="InPieces")
 
 
 class InPieces:
-    """A filter or a normalizer. It stays in the thread that made it."""
+    """A filter or a normalizer. Any thread may use it, and one at a time."""
 
     # What it is called, and the calls of the library: these take its struct first.
     _name: ClassVar[str]
@@ -23,7 +23,7 @@ class InPieces:
     _end: ClassVar[Any]
 
     def __init__(self, raw: Structure) -> None:
-        self._thread = threading.get_ident()
+        self._in_use = threading.Lock()
         self._raw = raw
         self._room = (c_ubyte * _ROOM)()
 
@@ -32,27 +32,30 @@ class InPieces:
 
         Raises MemoryError where a request for memory was refused: it is then closed, and the texts
         before are the beginning of what the stream would have given. Raises ValueError where it is
-        closed, and RuntimeError in another thread.
+        closed, and RuntimeError while another thread uses it.
         """
-        self._check_thread()
         piece = _library.bytes_of(piece)
-        return self._text_after(self._feed(byref(self._raw), piece, len(piece)))
+        with _library.used(self._in_use, self._name):
+            return self._text_after(self._feed(byref(self._raw), piece, len(piece)))
 
     def finish(self) -> bytes:
         """Ends the stream, and begins the next. Returns the text that the end adds. What is
         unfinished adds nothing.
 
         Raises MemoryError where a request for memory was refused: it is then closed. Raises
-        ValueError where it is closed, and RuntimeError in another thread.
+        ValueError where it is closed, and RuntimeError while another thread uses it.
         """
-        self._check_thread()
-        return self._text_after(self._finish(byref(self._raw)))
+        with _library.used(self._in_use, self._name):
+            return self._text_after(self._finish(byref(self._raw)))
 
     def close(self) -> None:
         """Gives back what it keeps. What is unfinished at the end of a stream adds nothing. It may
-        be closed twice."""
-        self._check_thread()
-        self._end(byref(self._raw))
+        be closed twice.
+
+        Raises RuntimeError while another thread uses it.
+        """
+        with _library.used(self._in_use, self._name):
+            self._end(byref(self._raw))
 
     def __enter__(self: _Self) -> _Self:
         return self
@@ -66,14 +69,9 @@ class InPieces:
         self.close()
 
     def __del__(self) -> None:
-        # In another thread the block is left as it is: the library does not say that it may be
-        # given back there.
-        if hasattr(self, "_room") and self._thread == threading.get_ident():
+        # (nothing names it any more, so no thread uses it)
+        if hasattr(self, "_room"):
             self._end(byref(self._raw))
-
-    def _check_thread(self) -> None:
-        if self._thread != threading.get_ident():
-            raise RuntimeError(f"a {self._name} stays in the thread that made it")
 
     def _text_after(self, status: int) -> bytes:
         if status == _library.NOT_BEGUN:

@@ -8,7 +8,8 @@ alone.
 
 import ctypes
 import struct
-from collections.abc import Callable
+from collections.abc import Callable, Iterator
+from contextlib import contextmanager
 from ctypes import POINTER, Structure, byref
 from ctypes import (
     c_bool,
@@ -22,6 +23,7 @@ from ctypes import (
     c_void_p,
 )
 from pathlib import Path
+from threading import Lock
 
 DONE, NO_MEMORY, UNKNOWN_POLICY, NOT_BEGUN, NO_COMMAND, NOT_WRITABLE = range(6)
 
@@ -378,6 +380,17 @@ def signed(number: int) -> int:
 def bytes_of(stream: bytes) -> bytes:
     """Returns the bytes of what has bytes: of `bytes` itself no copy."""
     return stream if type(stream) is bytes else bytes(memoryview(stream))
+
+
+@contextmanager
+def used(in_use: Lock, name: str) -> Iterator[None]:
+    """Keeps an object for one thread as long as that uses it. The name is for people."""
+    if not in_use.acquire(blocking=False):
+        raise RuntimeError(f"another thread uses this {name}")
+    try:
+        yield
+    finally:
+        in_use.release()
 
 
 def limit_of(limit: int) -> int:

@@ -17,8 +17,9 @@ class Normalizer(InPieces):
     ...     [normalizer.feed(piece) for piece in (b"a\\x1b]0;a ti", b"tle\\x07b\\x1b[03", b"1m")]
     [b'a', b'\\x1b]0;a title\\x1b\\\\b', b'\\x1b[31m']
 
-    `finish` ends a stream, and adds nothing. It stays in the thread that made it. What it keeps of the stream is given back by
-    `close`, by the end of a `with`, or when nothing names it any more.
+    `finish` ends a stream, and adds nothing. Any thread may use it, and one at a time. What it
+    keeps of the stream is given back by `close`, by the end of a `with`, or when nothing names it
+    any more.
     """
 
     _name = "normalizer"

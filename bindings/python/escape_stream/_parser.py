@@ -2,6 +2,7 @@
 """A parser of a stream that comes in pieces."""
 
 import ctypes
+import threading
 from collections.abc import Iterable, Iterator
 from ctypes import byref, c_ubyte
 from itertools import groupby
@@ -28,10 +29,11 @@ _PIECE = 65_536
 
 class Parser:
     """A parser of a stream that comes in pieces. It takes memory when it is made: two bytes for
-    each of its limit."""
+    each of its limit. Any thread may use it, and one at a time."""
 
     def __init__(self, limit: int = DEFAULT_LIMIT) -> None:
         """Begins a stream. `limit` is how many bytes a string may have that is handed out."""
+        self._in_use = threading.Lock()
         self._raw = RawParser()
         self._event = RawEvent()
         self._size = 2 * _library.limit_of(limit)
@@ -44,8 +46,14 @@ class Parser:
 
         However a stream is cut, its events are the same, but that a run of text or data may come in
         several: `joined` joins them.
+
+        Raises RuntimeError while another thread uses it.
         """
         piece = _library.bytes_of(piece)
+        with _library.used(self._in_use, "parser"):
+            return self._events_of(piece)
+
+    def _events_of(self, piece: bytes) -> list[Event]:
         start = ctypes.cast(ctypes.c_char_p(piece), ctypes.c_void_p).value or 0
         raw, room, event = map(ctypes.addressof, (self._raw, self._buffer, self._event))
         found: list[Event] = []

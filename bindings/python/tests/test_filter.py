@@ -1,12 +1,14 @@
 # SPDX-License-Identifier: MIT
-"""The filter and the normal form in pieces beside the tables: their end, their thread, and wrong
+"""The filter and the normal form in pieces beside the tables: their end, their threads, and wrong
 arguments."""
 
+import asyncio
+import gc
 import threading
 
 import pytest
 
-from escape_stream import Filter, Normalizer, Policy, filter, is_normal, normal
+from escape_stream import Filter, Normalizer, Parser, Policy, filter, is_normal, normal
 
 HOSTILE = b"a\x1b]0;a title\x07 \x1b[1;31mred\x1b[2J"
 
@@ -53,21 +55,31 @@ def test_a_closed_normalizer() -> None:
         Normalizer(-1)
 
 
-def test_a_filter_stays_in_its_thread() -> None:
-    it, said = Filter(), []
+def test_a_filter_goes_from_thread_to_thread() -> None:
+    async def feed_all() -> list[bytes]:
+        it = Filter(Policy.COLOR)
+        pieces = (b"a\x1b]0;a ti", b"tle\x07b\x1b[3", b"1m")
+        return [await asyncio.to_thread(it.feed, piece) for piece in pieces]
 
-    def feed() -> None:
-        for call in (lambda: it.feed(b"a"), it.close):
-            try:
-                call()
-            except RuntimeError as error:
-                said.append(str(error))
+    assert asyncio.run(feed_all()) == [b"a", b"b", b"\x1b[31m"]
 
-    other = threading.Thread(target=feed)
-    other.start()
-    other.join()
-    assert said == ["a filter stays in the thread that made it"] * 2
-    assert it.feed(b"a") == b"a"
+
+def test_a_filter_that_another_thread_drops_leaves_nothing() -> None:
+    for _ in range(20):
+        held = [Filter(limit=1 << 20)]
+        held[0].feed(b"\x1b]0;" + b"a" * (1 << 20))
+        other = threading.Thread(target=held.clear)
+        other.start()
+        other.join()
+    gc.collect()
+
+
+def test_two_threads_at_once() -> None:
+    it, parser = Filter(), Parser()
+    for call, in_use in ((it.feed, it._in_use), (parser.feed, parser._in_use)):
+        with in_use, pytest.raises(RuntimeError, match="another thread uses this"):
+            call(b"a")
+        assert call(b"a")
 
 
 def test_threads_with_streams_of_their_own() -> None:

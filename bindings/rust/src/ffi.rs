@@ -165,6 +165,7 @@ pub mod kind {
 }
 
 /// An event.
+#[derive(Clone)]
 #[repr(C)]
 pub struct Event {
     pub kind: u32,
@@ -192,7 +193,9 @@ impl Event {
     }
 }
 
-/// A parser. Its fields are the library's.
+/// A parser. Its fields are the library's. It points to nothing, and the calls speak of the bytes of
+/// its buffer, not of their place: so a copy over a copy of the buffer is a parser too.
+#[derive(Clone)]
 #[repr(C)]
 pub struct Parser {
     state: u32,

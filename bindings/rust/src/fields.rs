@@ -18,6 +18,13 @@ pub struct Room {
 // Room for so much sixel data is kept from one image to the next.
 const KEPT_PIXELS: usize = 1 << 14;
 
+/// A copy has no room yet: between two calls nothing is kept in it.
+impl Clone for Room {
+    fn clone(&self) -> Room {
+        Room::default()
+    }
+}
+
 impl Room {
     /// The room for the data of a sixel image, with nothing in it.
     pub fn pixels(&mut self) -> Vec<SixelData> {

@@ -3,9 +3,8 @@
 use crate::pieces::{DEFAULT_LIMIT, in_parts};
 use crate::{Error, Policy, ffi};
 
-/// A filter of a stream that comes in pieces. It keeps what is unfinished, at most its limit, and
-/// stays in the thread that made it. With the feature `std` there is [`Filter`](crate::Filter), a
-/// writer.
+/// A filter of a stream that comes in pieces. It keeps what is unfinished, at most its limit. It
+/// may move between threads. With the feature `std` there is [`Filter`](crate::Filter), a writer.
 ///
 /// ```
 /// use escape_stream::{PieceFilter, Policy};

@@ -18,7 +18,7 @@ pub struct Layout {
 /// A stream that comes in pieces, as HTML: its characters, tabs and line feeds, with colours and
 /// renditions as spans and links to `http`, `https` and `mailto`. A browser reads from it, inside
 /// the body of a page in UTF-8, these spans and links and nothing else, whatever the stream is. It
-/// stays in the thread that made it.
+/// may move between threads.
 ///
 /// ```
 /// use escape_stream::html::{Layout, PiecePage};

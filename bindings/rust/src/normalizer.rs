@@ -5,7 +5,7 @@ use crate::{Error, ffi};
 
 /// The normal form of a stream that comes in pieces: what [`normal`](crate::normal) gives of all of
 /// them, where no string is longer than the limit. It keeps what is unfinished, at most its limit,
-/// and stays in the thread that made it. With the feature `std` there are
+/// and may move between threads. With the feature `std` there are
 /// [`NormalReader`](crate::NormalReader) and [`NormalWriter`](crate::NormalWriter).
 ///
 /// ```

@@ -6,6 +6,7 @@ use alloc::vec::Vec;
 /// Which actions pass [`filter`]. Each policy admits all that the one before it does.
 #[derive(Clone, Copy, Debug, PartialEq, Eq, Hash)]
 #[cfg_attr(feature = "serde", derive(serde::Serialize, serde::Deserialize))]
+#[non_exhaustive]
 pub enum Policy {
     /// Characters but DEL; tab, line feed and carriage return.
     Text,

@@ -8,7 +8,7 @@ const MOST: usize = 32;
 /// subparameters counted too.
 ///
 /// A number that is left out is 0, and a number above 65,535 is 65,535. So there is at least one.
-#[derive(Default)]
+#[derive(Clone, Default)]
 pub struct Params {
     numbers: [u16; MOST],
     len: usize,
@@ -81,6 +81,7 @@ impl<'a> IntoIterator for &'a Params {
 }
 
 /// The parameters of a [`Params`], one after another.
+#[derive(Clone, Debug)]
 pub struct ParamsIter<'a> {
     params: &'a Params,
     at: usize,

@@ -27,6 +27,7 @@ use core::fmt;
 /// assert_eq!(text, "caf\u{e9} red");
 /// # Ok::<(), escape_stream::Error>(())
 /// ```
+#[derive(Clone)]
 pub struct Parser {
     raw: Box<ffi::Parser>,
     event: Box<ffi::Event>,
@@ -37,6 +38,7 @@ pub struct Parser {
 
 /// What a stream says, in order. A run may come in several, or its characters and bytes one by one.
 #[derive(Clone, Copy, Debug, PartialEq)]
+#[non_exhaustive]
 pub enum Event<'a> {
     /// A run of characters, none of them a control.
     Text(&'a str),
@@ -171,6 +173,15 @@ impl Default for Parser {
     }
 }
 
+impl fmt::Debug for Parser {
+    fn fmt(&self, f: &mut fmt::Formatter<'_>) -> fmt::Result {
+        f.debug_struct("Parser")
+            .field("limit", &(self.buffer.len() / 2))
+            .field("is_ground", &self.is_ground())
+            .finish_non_exhaustive()
+    }
+}
+
 impl Parser {
     /// A parser at the beginning of a stream that hands out strings of up to 4,096 bytes.
     pub fn new() -> Parser {
@@ -179,12 +190,43 @@ impl Parser {
 
     /// A parser at the beginning of a stream that hands out strings of up to `limit` bytes: texts of
     /// commands, and parameter bytes of device control strings. It passes over longer ones, and
-    /// hands out [`Event::LimitPassed`] in the place of each.
+    /// hands out [`Event::LimitPassed`] in the place of each. It takes two bytes for each of the
+    /// limit.
+    ///
+    /// # Panics
+    ///
+    /// Where there cannot be as much memory, as with [`Vec::with_capacity`].
+    /// [`try_with_limit`](Parser::try_with_limit) returns an error.
     pub fn with_limit(limit: usize) -> Parser {
+        Parser::over(vec![0; limit.saturating_mul(2)])
+    }
+
+    /// The same, where there is as much memory.
+    ///
+    /// # Errors
+    ///
+    /// [`Error::Memory`] where a request for memory was refused.
+    ///
+    /// ```
+    /// use escape_stream::{Error, Parser};
+    ///
+    /// assert_eq!(Parser::try_with_limit(usize::MAX).err(), Some(Error::Memory));
+    /// ```
+    pub fn try_with_limit(limit: usize) -> Result<Parser, Error> {
+        let mut buffer = Vec::new();
+        let length = limit.saturating_mul(2);
+        buffer
+            .try_reserve_exact(length)
+            .map_err(|_| Error::Memory)?;
+        buffer.resize(length, 0);
+        Ok(Parser::over(buffer))
+    }
+
+    fn over(buffer: Vec<u8>) -> Parser {
         Parser {
             raw: Box::new(ffi::begun()),
             event: Box::new(ffi::no_event()),
-            buffer: vec![0; 2 * limit],
+            buffer,
             byte: 0,
         }
     }

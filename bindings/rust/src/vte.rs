@@ -102,6 +102,7 @@ pub trait Perform {
 ///
 /// The number is the limit of a parser that [`Parser::new_with_size`] makes, and says nothing of
 /// any other: in `vte` too it has no meaning with the feature `std`.
+#[derive(Clone, Debug)]
 pub struct Parser<const OSC_RAW_BUF_SIZE: usize = MOST_OSC_RAW> {
     stream: crate::Parser,
     params: Params,

@@ -3,6 +3,11 @@
 use crate::pieces::InPieces;
 use crate::{Error, Normalizer, PieceFilter, Policy};
 use std::io::{self, ErrorKind, Write};
+use std::vec;
+use std::vec::Vec;
+
+// How many bytes of a text are written at once.
+const ROOM: usize = 4096;
 
 /// Writes to another writer what a policy admits of the stream that is written to it, and nothing
 /// else, as it comes.
@@ -187,6 +192,8 @@ struct PieceWriter<W, P> {
     pieces: P,
     // How much of the text that the last piece added was written.
     written: usize,
+    // Room for a part of the text.
+    room: Vec<u8>,
 }
 
 impl<W: Write, P: InPieces> PieceWriter<W, P> {
@@ -195,6 +202,7 @@ impl<W: Write, P: InPieces> PieceWriter<W, P> {
             inner,
             pieces,
             written: 0,
+            room: vec![0; ROOM],
         }
     }
 
@@ -221,13 +229,12 @@ impl<W: Write, P: InPieces> PieceWriter<W, P> {
 
     // Writes what is left of the text.
     fn write_text(&mut self) -> io::Result<()> {
-        let mut room = [0; 4096];
         loop {
-            let count = self.pieces.text_from(self.written, &mut room);
+            let count = self.pieces.text_from(self.written, &mut self.room);
             if count == 0 {
                 return Ok(());
             }
-            match self.inner.write(&room[..count]) {
+            match self.inner.write(&self.room[..count]) {
                 Ok(0) => return Err(ErrorKind::WriteZero.into()),
                 Ok(taken) => self.written += taken,
                 Err(error) if error.kind() == ErrorKind::Interrupted => {}
@@ -239,6 +246,11 @@ impl<W: Write, P: InPieces> PieceWriter<W, P> {
 
 impl From<Error> for io::Error {
     fn from(error: Error) -> io::Error {
-        io::Error::new(ErrorKind::OutOfMemory, error)
+        let kind = match error {
+            Error::Memory => ErrorKind::OutOfMemory,
+            Error::NotWritable => ErrorKind::InvalidInput,
+            Error::Failed => ErrorKind::Other,
+        };
+        io::Error::new(kind, error)
     }
 }

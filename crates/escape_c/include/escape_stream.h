@@ -35,8 +35,9 @@
  *   - The call is made neither in a signal handler, nor in the child of a process with threads that
  *     has only forked.
  *
- * Calls may run in several threads at once, but those of one filter, page or normalizer in one
- * thread alone. None starts a thread, takes a lock, reads a clock or touches a file.
+ * Calls may run in several threads at once, but those of one filter, page or normalizer one after
+ * another: it may go from thread to thread, as a stream of zlib may. No call keeps anything of a
+ * thread, starts one, takes a lock, reads a clock or touches a file.
  */
 #ifndef ESCAPE_STREAM_H
 #define ESCAPE_STREAM_H

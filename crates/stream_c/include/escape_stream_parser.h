@@ -20,8 +20,9 @@
  *     anything else that it is given.
  *   - A parser and an event are initialized before their first use, for example by = {0}; a parser
  *     is then begun. Of a parser the caller reads and writes nothing.
- *   - The buffer has the same place, the same length and the same lower half at each call of a
- *     parser: the first length / 2 bytes are the parser's. It is initialized, too.
+ *   - The buffer has the same length and the same lower half at each call of a parser: the first
+ *     length / 2 bytes are the parser's. It is initialized, too. A copy of a parser, with a copy of
+ *     its buffer, is another parser at the same place of the stream.
  *   - `bytes` is `length` initialized bytes that can be read, and nobody writes them during the
  *     call.
  *   - Two calls of one parser do not run at the same time.

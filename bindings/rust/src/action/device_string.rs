@@ -12,7 +12,7 @@ const KEPT_ROOM: usize = 1 << 16;
 
 /// The device control string that is unfinished, with the numbers of its header and the data that
 /// are kept of it.
-#[derive(Default)]
+#[derive(Clone, Default)]
 pub struct DeviceString {
     kind: Kind,
     params: Vec<i64>,

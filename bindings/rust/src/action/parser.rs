@@ -7,6 +7,7 @@ use crate::ffi::kind;
 use crate::{Error, Event, borrowed, ffi};
 use alloc::collections::VecDeque;
 use alloc::vec::Vec;
+use core::fmt;
 use core::iter::FusedIterator;
 
 /// A parser of a stream that comes in pieces, and is given as actions. Its calls are those of
@@ -28,6 +29,7 @@ use core::iter::FusedIterator;
 /// assert_eq!(titles, [OperatingSystemCommand::SetWindowTitle("some".into())]);
 /// assert_eq!(parser.failure(), None);
 /// ```
+#[derive(Clone)]
 pub struct Parser {
     events: crate::Parser,
     taker: Taker,
@@ -37,6 +39,15 @@ pub struct Parser {
 impl Default for Parser {
     fn default() -> Parser {
         Parser::new()
+    }
+}
+
+impl fmt::Debug for Parser {
+    fn fmt(&self, f: &mut fmt::Formatter<'_>) -> fmt::Result {
+        f.debug_struct("Parser")
+            .field("events", &self.events)
+            .field("failure", &self.failure)
+            .finish_non_exhaustive()
     }
 }
 
@@ -299,6 +310,7 @@ impl Parser {
 
 /// The actions of some bytes, one after another: what [`Parser::actions`] returns. Bytes are taken
 /// as they are needed. Where it is dropped before its end, [`rest`](Actions::rest) are not taken.
+#[derive(Debug)]
 pub struct Actions<'a, 'b> {
     parser: &'a mut Parser,
     rest: &'b [u8],

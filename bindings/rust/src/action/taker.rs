@@ -9,6 +9,7 @@ use crate::{Error, Event};
 
 /// What is kept between events: an unfinished device control string, and room for what the
 /// library's calls write.
+#[derive(Clone)]
 pub struct Taker {
     pub device: DeviceString,
     limit: usize,

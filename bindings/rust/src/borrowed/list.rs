@@ -102,6 +102,13 @@ enum Left<'a, T> {
     Fields(Fields<'a>),
 }
 
+impl<'a, T: Item<'a> + fmt::Debug> fmt::Debug for ListIter<'a, T> {
+    fn fmt(&self, f: &mut fmt::Formatter<'_>) -> fmt::Result {
+        f.write_str("ListIter ")?;
+        T::show(self.clone(), f)
+    }
+}
+
 impl<'a, T: Item<'a>> Iterator for ListIter<'a, T> {
     type Item = T;
 

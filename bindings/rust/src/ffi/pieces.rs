@@ -46,8 +46,7 @@ extern "C" {
 }
 
 // What the three have in common: the struct, whose fields are the library's, and the calls but that
-// which begins it. What it points to is in use by it alone, since it is never copied; it is not
-// `Send`, for the library does not say that another thread may have it.
+// which begins it. What it points to is in use by it alone, since it is never copied.
 macro_rules! in_pieces {
     ($(#[$doc:meta])* $name:ident, $feed:ident, $finish:ident, $text:ident, $end:ident) => {
         $(#[$doc])*
@@ -57,6 +56,13 @@ macro_rules! in_pieces {
             is_begun: bool,
             state: *mut u8,
         }
+
+        // SAFETY: the library keeps nothing of a thread, and its memory is that of `malloc`, which
+        // any thread may give back. The header asks for one caller at a time.
+        unsafe impl Send for $name {}
+
+        // SAFETY: no call takes a shared reference.
+        unsafe impl Sync for $name {}
 
         impl $name {
             /// One that is not begun.

@@ -23,7 +23,7 @@ use super::Perform;
 /// }
 /// assert_eq!(screen.0, "caf\u{e9} red");
 /// ```
-#[derive(Default)]
+#[derive(Clone, Debug, Default)]
 pub struct Parser {
     pieces: super::Parser,
 }
