@@ -93,7 +93,7 @@ func TestNamesAreThoseOfTheHeader(t *testing.T) {
 		t.Skip("the header is not here")
 	}
 	plain := func(name string) string { return strings.ToLower(strings.ReplaceAll(name, "_", "")) }
-	line := regexp.MustCompile(`(?m)^#define ESCAPE_STREAM_(OSC|FIELD)_(\w+) +UINT32_C\((\d+)\)`)
+	line := regexp.MustCompile(`(?m)^#define ESCAPE_STREAM_(OSC|FIELD)_(\w+) +(\d+)\b`)
 	count := 0
 	for _, it := range line.FindAllStringSubmatch(string(header), -1) {
 		names := commandNames[:]

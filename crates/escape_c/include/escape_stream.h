@@ -67,14 +67,14 @@ const char *escape_stream_version(void);
  * `*needed`, `*answer`, `*osc`, `*image`, `*query` and `*sixel` are as they were. Later versions
  * may add some, so treat one that you do not know as an error.
  */
-#define ESCAPE_STREAM_DONE UINT32_C(0)           /* the call was done */
-#define ESCAPE_STREAM_NO_MEMORY UINT32_C(1)      /* a request for memory was refused */
-#define ESCAPE_STREAM_UNKNOWN_POLICY UINT32_C(2) /* no policy has this number */
+#define ESCAPE_STREAM_DONE 0           /* the call was done */
+#define ESCAPE_STREAM_NO_MEMORY 1      /* a request for memory was refused */
+#define ESCAPE_STREAM_UNKNOWN_POLICY 2 /* no policy has this number */
 /* the filter, page or normalizer was not begun, or has ended */
-#define ESCAPE_STREAM_NOT_BEGUN UINT32_C(3)
+#define ESCAPE_STREAM_NOT_BEGUN 3
 /* no command, image or query has this kind and these fields, or this value */
-#define ESCAPE_STREAM_NO_COMMAND UINT32_C(4)
-#define ESCAPE_STREAM_NOT_WRITABLE UINT32_C(5)   /* its text would not read back as it */
+#define ESCAPE_STREAM_NO_COMMAND 4
+#define ESCAPE_STREAM_NOT_WRITABLE 5   /* its text would not read back as it */
 
 /*
  * The policies of escape_stream_filter and escape_stream_filter_begin. Each admits all that the one
@@ -88,10 +88,10 @@ const char *escape_stream_version(void);
  * ALL      all that can be written by itself, so images, titles and queries too. It keeps broken
  *          input from becoming a sequence, and does not protect from sequences that are there
  */
-#define ESCAPE_STREAM_POLICY_TEXT UINT32_C(0)
-#define ESCAPE_STREAM_POLICY_COLOR UINT32_C(1)
-#define ESCAPE_STREAM_POLICY_SCREEN UINT32_C(2)
-#define ESCAPE_STREAM_POLICY_ALL UINT32_C(3)
+#define ESCAPE_STREAM_POLICY_TEXT 0
+#define ESCAPE_STREAM_POLICY_COLOR 1
+#define ESCAPE_STREAM_POLICY_SCREEN 2
+#define ESCAPE_STREAM_POLICY_ALL 3
 
 /*
  * Writes the normal form of a stream: each of its actions, in order, in its one spelling. So a
@@ -452,193 +452,178 @@ bool escape_stream_control_function(uint8_t code, struct escape_stream_function 
  * Later versions may add some.
  */
 /* PART ..: any other command, as its parts between ; */
-#define ESCAPE_STREAM_OSC_UNSPECIFIED UINT32_C(0)
-#define ESCAPE_STREAM_OSC_SET_ICON_NAME_AND_WINDOW_TITLE UINT32_C(1)           /* TEXT */
-#define ESCAPE_STREAM_OSC_SET_WINDOW_TITLE UINT32_C(2)                         /* TEXT */
-#define ESCAPE_STREAM_OSC_SET_WINDOW_TITLE_SUN UINT32_C(3)                     /* TEXT */
-#define ESCAPE_STREAM_OSC_SET_ICON_NAME UINT32_C(4)                            /* TEXT */
-#define ESCAPE_STREAM_OSC_SET_ICON_NAME_SUN UINT32_C(5)                        /* TEXT */
+#define ESCAPE_STREAM_OSC_UNSPECIFIED 0
+#define ESCAPE_STREAM_OSC_SET_ICON_NAME_AND_WINDOW_TITLE 1           /* TEXT */
+#define ESCAPE_STREAM_OSC_SET_WINDOW_TITLE 2                         /* TEXT */
+#define ESCAPE_STREAM_OSC_SET_WINDOW_TITLE_SUN 3                     /* TEXT */
+#define ESCAPE_STREAM_OSC_SET_ICON_NAME 4                            /* TEXT */
+#define ESCAPE_STREAM_OSC_SET_ICON_NAME_SUN 5                        /* TEXT */
 /* URI, IMPLICIT, (KEY, VALUE) ..; none: the link ends */
-#define ESCAPE_STREAM_OSC_SET_HYPERLINK UINT32_C(6)
-#define ESCAPE_STREAM_OSC_CLEAR_SELECTION UINT32_C(7)                          /* SELECTION */
-#define ESCAPE_STREAM_OSC_QUERY_SELECTION UINT32_C(8)                          /* SELECTION */
-#define ESCAPE_STREAM_OSC_SET_SELECTION UINT32_C(9)                            /* SELECTION, TEXT */
-#define ESCAPE_STREAM_OSC_SYSTEM_NOTIFICATION UINT32_C(10)                     /* TEXT */
+#define ESCAPE_STREAM_OSC_SET_HYPERLINK 6
+#define ESCAPE_STREAM_OSC_CLEAR_SELECTION 7                          /* SELECTION */
+#define ESCAPE_STREAM_OSC_QUERY_SELECTION 8                          /* SELECTION */
+#define ESCAPE_STREAM_OSC_SET_SELECTION 9                            /* SELECTION, TEXT */
+#define ESCAPE_STREAM_OSC_SYSTEM_NOTIFICATION 10                     /* TEXT */
 /* (PALETTE_INDEX, colour) .. */
-#define ESCAPE_STREAM_OSC_CHANGE_COLOR_NUMBER UINT32_C(11)
+#define ESCAPE_STREAM_OSC_CHANGE_COLOR_NUMBER 11
 /* DYNAMIC_COLOR, colour ..: for it and those after it */
-#define ESCAPE_STREAM_OSC_CHANGE_DYNAMIC_COLORS UINT32_C(12)
-#define ESCAPE_STREAM_OSC_RESET_DYNAMIC_COLOR UINT32_C(13)                     /* DYNAMIC_COLOR */
-#define ESCAPE_STREAM_OSC_CURRENT_WORKING_DIRECTORY UINT32_C(14)               /* DIRECTORY */
+#define ESCAPE_STREAM_OSC_CHANGE_DYNAMIC_COLORS 12
+#define ESCAPE_STREAM_OSC_RESET_DYNAMIC_COLOR 13                     /* DYNAMIC_COLOR */
+#define ESCAPE_STREAM_OSC_CURRENT_WORKING_DIRECTORY 14               /* DIRECTORY */
 /* PALETTE_INDEX ..; none: all of them */
-#define ESCAPE_STREAM_OSC_RESET_COLORS UINT32_C(15)
-#define ESCAPE_STREAM_OSC_RXVT_EXTENSION UINT32_C(16)                          /* PART .. */
+#define ESCAPE_STREAM_OSC_RESET_COLORS 15
+#define ESCAPE_STREAM_OSC_RXVT_EXTENSION 16                          /* PART .. */
 /* PROGRESS_STATE, and in states 1 and 2 PERCENT */
-#define ESCAPE_STREAM_OSC_CONEMU_PROGRESS UINT32_C(17)
-#define ESCAPE_STREAM_OSC_PROMPT_FRESH_LINE UINT32_C(18)                       /* none */
-/* [APPLICATION], [CLICK] */
-#define ESCAPE_STREAM_OSC_PROMPT_FRESH_LINE_AND_START_PROMPT UINT32_C(19)
-/* [APPLICATION], [CLICK] */
-#define ESCAPE_STREAM_OSC_PROMPT_END_OF_COMMAND_WITH_FRESH_LINE UINT32_C(20)
-#define ESCAPE_STREAM_OSC_PROMPT_START_PROMPT UINT32_C(21)                     /* PROMPT_KIND */
-#define ESCAPE_STREAM_OSC_PROMPT_START_OF_INPUT_UNTIL_NEXT_MARKER UINT32_C(22) /* none */
-#define ESCAPE_STREAM_OSC_PROMPT_START_OF_INPUT_UNTIL_END_OF_LINE UINT32_C(23) /* none */
-#define ESCAPE_STREAM_OSC_PROMPT_START_OF_OUTPUT UINT32_C(24)                  /* [APPLICATION] */
-/* STATUS, [APPLICATION] */
-#define ESCAPE_STREAM_OSC_PROMPT_COMMAND_STATUS UINT32_C(25)
-#define ESCAPE_STREAM_OSC_ITERM_SET_MARK UINT32_C(26)                          /* none */
-#define ESCAPE_STREAM_OSC_ITERM_STEAL_FOCUS UINT32_C(27)                       /* none */
-#define ESCAPE_STREAM_OSC_ITERM_CLEAR_SCROLLBACK UINT32_C(28)                  /* none */
-#define ESCAPE_STREAM_OSC_ITERM_CURRENT_DIR UINT32_C(29)                       /* DIRECTORY */
-#define ESCAPE_STREAM_OSC_ITERM_SET_PROFILE UINT32_C(30)                       /* NAME */
-/* NAME: the pasteboard */
-#define ESCAPE_STREAM_OSC_ITERM_COPY_TO_CLIPBOARD UINT32_C(31)
-#define ESCAPE_STREAM_OSC_ITERM_END_COPY UINT32_C(32)                          /* none */
-#define ESCAPE_STREAM_OSC_ITERM_HIGHLIGHT_CURSOR_LINE UINT32_C(33)             /* HIGHLIGHTED */
-#define ESCAPE_STREAM_OSC_ITERM_REQUEST_CELL_SIZE UINT32_C(34)                 /* none */
+#define ESCAPE_STREAM_OSC_CONEMU_PROGRESS 17
+#define ESCAPE_STREAM_OSC_PROMPT_FRESH_LINE 18                       /* none */
+#define ESCAPE_STREAM_OSC_PROMPT_FRESH_LINE_AND_START_PROMPT 19      /* [APPLICATION], [CLICK] */
+#define ESCAPE_STREAM_OSC_PROMPT_END_OF_COMMAND_WITH_FRESH_LINE 20   /* [APPLICATION], [CLICK] */
+#define ESCAPE_STREAM_OSC_PROMPT_START_PROMPT 21                     /* PROMPT_KIND */
+#define ESCAPE_STREAM_OSC_PROMPT_START_OF_INPUT_UNTIL_NEXT_MARKER 22 /* none */
+#define ESCAPE_STREAM_OSC_PROMPT_START_OF_INPUT_UNTIL_END_OF_LINE 23 /* none */
+#define ESCAPE_STREAM_OSC_PROMPT_START_OF_OUTPUT 24                  /* [APPLICATION] */
+#define ESCAPE_STREAM_OSC_PROMPT_COMMAND_STATUS 25                   /* STATUS, [APPLICATION] */
+#define ESCAPE_STREAM_OSC_ITERM_SET_MARK 26                          /* none */
+#define ESCAPE_STREAM_OSC_ITERM_STEAL_FOCUS 27                       /* none */
+#define ESCAPE_STREAM_OSC_ITERM_CLEAR_SCROLLBACK 28                  /* none */
+#define ESCAPE_STREAM_OSC_ITERM_CURRENT_DIR 29                       /* DIRECTORY */
+#define ESCAPE_STREAM_OSC_ITERM_SET_PROFILE 30                       /* NAME */
+#define ESCAPE_STREAM_OSC_ITERM_COPY_TO_CLIPBOARD 31                 /* NAME: the pasteboard */
+#define ESCAPE_STREAM_OSC_ITERM_END_COPY 32                          /* none */
+#define ESCAPE_STREAM_OSC_ITERM_HIGHLIGHT_CURSOR_LINE 33             /* HIGHLIGHTED */
+#define ESCAPE_STREAM_OSC_ITERM_REQUEST_CELL_SIZE 34                 /* none */
 /* CELL_HEIGHT, CELL_WIDTH, [SCALE] */
-#define ESCAPE_STREAM_OSC_ITERM_REPORT_CELL_SIZE UINT32_C(35)
-#define ESCAPE_STREAM_OSC_ITERM_COPY UINT32_C(36)                              /* TEXT */
+#define ESCAPE_STREAM_OSC_ITERM_REPORT_CELL_SIZE 35
+#define ESCAPE_STREAM_OSC_ITERM_COPY 36                              /* TEXT */
 /* NAME. No text is read as this one */
-#define ESCAPE_STREAM_OSC_ITERM_REPORT_VARIABLE UINT32_C(37)
-#define ESCAPE_STREAM_OSC_ITERM_SET_USER_VAR UINT32_C(38)                      /* NAME, VALUE */
-#define ESCAPE_STREAM_OSC_ITERM_SET_BADGE_FORMAT UINT32_C(39)                  /* TEXT */
+#define ESCAPE_STREAM_OSC_ITERM_REPORT_VARIABLE 37
+#define ESCAPE_STREAM_OSC_ITERM_SET_USER_VAR 38                      /* NAME, VALUE */
+#define ESCAPE_STREAM_OSC_ITERM_SET_BADGE_FORMAT 39                  /* TEXT */
 /* [NAME], [SIZE], [width], [height], 3 flags, CONTENT */
-#define ESCAPE_STREAM_OSC_ITERM_FILE UINT32_C(40)
-#define ESCAPE_STREAM_OSC_ITERM_SET_UNICODE_VERSION UINT32_C(41)               /* VERSION */
-#define ESCAPE_STREAM_OSC_ITERM_PUSH_UNICODE_VERSION UINT32_C(42)              /* [LABEL] */
-#define ESCAPE_STREAM_OSC_ITERM_POP_UNICODE_VERSION UINT32_C(43)               /* [LABEL] */
+#define ESCAPE_STREAM_OSC_ITERM_FILE 40
+#define ESCAPE_STREAM_OSC_ITERM_SET_UNICODE_VERSION 41               /* VERSION */
+#define ESCAPE_STREAM_OSC_ITERM_PUSH_UNICODE_VERSION 42              /* [LABEL] */
+#define ESCAPE_STREAM_OSC_ITERM_POP_UNICODE_VERSION 43               /* [LABEL] */
 
 /*
  * The names of fields, and what each holds. A flag is a number, 0 or 1. Texts are UTF-8 where
  * nothing else is said. No 0 ends them, and they may hold controls, so print none as it is.
  */
 /* text: a title, a notification, or for a clipboard or the badge */
-#define ESCAPE_STREAM_FIELD_TEXT UINT32_C(0)
+#define ESCAPE_STREAM_FIELD_TEXT 0
 /* text: a part of a command; of UNSPECIFIED it need not be UTF-8 */
-#define ESCAPE_STREAM_FIELD_PART UINT32_C(1)
+#define ESCAPE_STREAM_FIELD_PART 1
 /* text: the path or the address of a directory */
-#define ESCAPE_STREAM_FIELD_DIRECTORY UINT32_C(2)
-#define ESCAPE_STREAM_FIELD_URI UINT32_C(3)                    /* text: the address of a link */
+#define ESCAPE_STREAM_FIELD_DIRECTORY 2
+#define ESCAPE_STREAM_FIELD_URI 3                    /* text: the address of a link */
 /* flag: the terminal found the link in the text. Here 0 */
-#define ESCAPE_STREAM_FIELD_IMPLICIT UINT32_C(4)
-/* text: the key of a parameter of a link */
-#define ESCAPE_STREAM_FIELD_KEY UINT32_C(5)
-/* text: its value; or that of a variable */
-#define ESCAPE_STREAM_FIELD_VALUE UINT32_C(6)
+#define ESCAPE_STREAM_FIELD_IMPLICIT 4
+#define ESCAPE_STREAM_FIELD_KEY 5                    /* text: the key of a parameter of a link */
+#define ESCAPE_STREAM_FIELD_VALUE 6                  /* text: its value; or that of a variable */
 /* number, a sum: 2 clipboard, 4 primary, 8 select, 16 to 8192 buffers */
-#define ESCAPE_STREAM_FIELD_SELECTION UINT32_C(7)
-/* number: a place of the palette, 0 to 255 */
-#define ESCAPE_STREAM_FIELD_PALETTE_INDEX UINT32_C(8)
+#define ESCAPE_STREAM_FIELD_SELECTION 7
+#define ESCAPE_STREAM_FIELD_PALETTE_INDEX 8          /* number: a place of the palette, 0 to 255 */
 /* number: 10 to 19, that of the command which changes it */
-#define ESCAPE_STREAM_FIELD_DYNAMIC_COLOR UINT32_C(9)
-#define ESCAPE_STREAM_FIELD_RED UINT32_C(10)                   /* number: 0 to 65535 */
-#define ESCAPE_STREAM_FIELD_GREEN UINT32_C(11)                 /* number: 0 to 65535 */
-#define ESCAPE_STREAM_FIELD_BLUE UINT32_C(12)                  /* number: 0 to 65535 */
-#define ESCAPE_STREAM_FIELD_QUERY UINT32_C(13)                 /* number: 1. Asks for the colour */
+#define ESCAPE_STREAM_FIELD_DYNAMIC_COLOR 9
+#define ESCAPE_STREAM_FIELD_RED 10                   /* number: 0 to 65535 */
+#define ESCAPE_STREAM_FIELD_GREEN 11                 /* number: 0 to 65535 */
+#define ESCAPE_STREAM_FIELD_BLUE 12                  /* number: 0 to 65535 */
+#define ESCAPE_STREAM_FIELD_QUERY 13                 /* number: 1. Asks for the colour */
 /* number: 0 none, 1 per cent, 2 error, 3 no end known, 4 paused */
-#define ESCAPE_STREAM_FIELD_PROGRESS_STATE UINT32_C(14)
-#define ESCAPE_STREAM_FIELD_PERCENT UINT32_C(15)               /* number: 0 to 100 */
+#define ESCAPE_STREAM_FIELD_PROGRESS_STATE 14
+#define ESCAPE_STREAM_FIELD_PERCENT 15               /* number: 0 to 100 */
 /* text: the name of the application that writes the prompt */
-#define ESCAPE_STREAM_FIELD_APPLICATION UINT32_C(16)
+#define ESCAPE_STREAM_FIELD_APPLICATION 16
 /* number: 0 a line, 1 lines, 2 also up and down, 3 so, smartly */
-#define ESCAPE_STREAM_FIELD_CLICK UINT32_C(17)
+#define ESCAPE_STREAM_FIELD_CLICK 17
 /* number: 0 initial, 1 right side, 2 continuation, 3 secondary */
-#define ESCAPE_STREAM_FIELD_PROMPT_KIND UINT32_C(18)
+#define ESCAPE_STREAM_FIELD_PROMPT_KIND 18
 /* number: the status of the command that ended */
-#define ESCAPE_STREAM_FIELD_STATUS UINT32_C(19)
+#define ESCAPE_STREAM_FIELD_STATUS 19
 /* text: of a profile, a pasteboard, a variable or a file */
-#define ESCAPE_STREAM_FIELD_NAME UINT32_C(20)
+#define ESCAPE_STREAM_FIELD_NAME 20
 /* flag: the line of the cursor is highlighted */
-#define ESCAPE_STREAM_FIELD_HIGHLIGHTED UINT32_C(21)
-#define ESCAPE_STREAM_FIELD_CELL_HEIGHT UINT32_C(22)           /* number: in tenths of a pixel */
-#define ESCAPE_STREAM_FIELD_CELL_WIDTH UINT32_C(23)            /* number: in tenths of a pixel */
+#define ESCAPE_STREAM_FIELD_HIGHLIGHTED 21
+#define ESCAPE_STREAM_FIELD_CELL_HEIGHT 22           /* number: in tenths of a pixel */
+#define ESCAPE_STREAM_FIELD_CELL_WIDTH 23            /* number: in tenths of a pixel */
 /* number: pixels of the display for a pixel, in tenths */
-#define ESCAPE_STREAM_FIELD_SCALE UINT32_C(24)
+#define ESCAPE_STREAM_FIELD_SCALE 24
 /* size: how many bytes the file has, as the command says */
-#define ESCAPE_STREAM_FIELD_SIZE UINT32_C(25)
+#define ESCAPE_STREAM_FIELD_SIZE 25
 /* number: in cells; less than 0 is 0, also in the next five */
-#define ESCAPE_STREAM_FIELD_WIDTH_CELLS UINT32_C(26)
-#define ESCAPE_STREAM_FIELD_WIDTH_PIXELS UINT32_C(27)          /* number: in pixels */
-#define ESCAPE_STREAM_FIELD_WIDTH_PERCENT UINT32_C(28)         /* number: of the window */
-#define ESCAPE_STREAM_FIELD_HEIGHT_CELLS UINT32_C(29)          /* number: in cells */
-#define ESCAPE_STREAM_FIELD_HEIGHT_PIXELS UINT32_C(30)         /* number: in pixels */
-#define ESCAPE_STREAM_FIELD_HEIGHT_PERCENT UINT32_C(31)        /* number: of the window */
+#define ESCAPE_STREAM_FIELD_WIDTH_CELLS 26
+#define ESCAPE_STREAM_FIELD_WIDTH_PIXELS 27          /* number: in pixels */
+#define ESCAPE_STREAM_FIELD_WIDTH_PERCENT 28         /* number: of the window */
+#define ESCAPE_STREAM_FIELD_HEIGHT_CELLS 29          /* number: in cells */
+#define ESCAPE_STREAM_FIELD_HEIGHT_PIXELS 30         /* number: in pixels */
+#define ESCAPE_STREAM_FIELD_HEIGHT_PERCENT 31        /* number: of the window */
 /* flag: the width and the height keep their ratio */
-#define ESCAPE_STREAM_FIELD_PRESERVE_ASPECT_RATIO UINT32_C(32)
-/* flag: the file is shown, and else stored */
-#define ESCAPE_STREAM_FIELD_INLINE UINT32_C(33)
-/* flag: the cursor stays where it is */
-#define ESCAPE_STREAM_FIELD_DO_NOT_MOVE_CURSOR UINT32_C(34)
+#define ESCAPE_STREAM_FIELD_PRESERVE_ASPECT_RATIO 32
+#define ESCAPE_STREAM_FIELD_INLINE 33                /* flag: the file is shown, and else stored */
+#define ESCAPE_STREAM_FIELD_DO_NOT_MOVE_CURSOR 34    /* flag: the cursor stays where it is */
 /* text: what a file holds, any bytes; and see MEDIUM */
-#define ESCAPE_STREAM_FIELD_CONTENT UINT32_C(35)
-#define ESCAPE_STREAM_FIELD_VERSION UINT32_C(36)               /* number: a version of Unicode */
+#define ESCAPE_STREAM_FIELD_CONTENT 35
+#define ESCAPE_STREAM_FIELD_VERSION 36               /* number: a version of Unicode */
 /* text: of a version that is kept or brought back */
-#define ESCAPE_STREAM_FIELD_LABEL UINT32_C(37)
+#define ESCAPE_STREAM_FIELD_LABEL 37
 /* number: what CONTENT is, ESCAPE_STREAM_MEDIUM_.. */
-#define ESCAPE_STREAM_FIELD_MEDIUM UINT32_C(38)
+#define ESCAPE_STREAM_FIELD_MEDIUM 38
 /* number: how many bytes of the file or the memory are the image */
-#define ESCAPE_STREAM_FIELD_DATA_SIZE UINT32_C(39)
-/* number: how many come before them */
-#define ESCAPE_STREAM_FIELD_DATA_OFFSET UINT32_C(40)
+#define ESCAPE_STREAM_FIELD_DATA_SIZE 39
+#define ESCAPE_STREAM_FIELD_DATA_OFFSET 40           /* number: how many come before them */
 /* number: of pixels. 24 RGB, 32 RGBA, 100 a PNG file */
-#define ESCAPE_STREAM_FIELD_FORMAT UINT32_C(41)
-#define ESCAPE_STREAM_FIELD_PIXEL_WIDTH UINT32_C(42)           /* number: of an image, in pixels */
-#define ESCAPE_STREAM_FIELD_PIXEL_HEIGHT UINT32_C(43)          /* number */
-#define ESCAPE_STREAM_FIELD_IMAGE_ID UINT32_C(44)              /* number: the id of an image */
+#define ESCAPE_STREAM_FIELD_FORMAT 41
+#define ESCAPE_STREAM_FIELD_PIXEL_WIDTH 42           /* number: of an image, in pixels */
+#define ESCAPE_STREAM_FIELD_PIXEL_HEIGHT 43          /* number */
+#define ESCAPE_STREAM_FIELD_IMAGE_ID 44              /* number: the id of an image */
 /* number: the number of an image, in place of an id */
-#define ESCAPE_STREAM_FIELD_IMAGE_NUMBER UINT32_C(45)
-#define ESCAPE_STREAM_FIELD_COMPRESSION UINT32_C(46)           /* number: 0 none, 1 deflate */
+#define ESCAPE_STREAM_FIELD_IMAGE_NUMBER 45
+#define ESCAPE_STREAM_FIELD_COMPRESSION 46           /* number: 0 none, 1 deflate */
 /* flag: more of the image follows in further commands */
-#define ESCAPE_STREAM_FIELD_MORE_DATA_FOLLOWS UINT32_C(47)
+#define ESCAPE_STREAM_FIELD_MORE_DATA_FOLLOWS 47
 /* number: a left edge in pixels; of a deletion a column, from 1 */
-#define ESCAPE_STREAM_FIELD_X UINT32_C(48)
+#define ESCAPE_STREAM_FIELD_X 48
 /* number: a top edge in pixels; of a deletion a row, from 1 */
-#define ESCAPE_STREAM_FIELD_Y UINT32_C(49)
+#define ESCAPE_STREAM_FIELD_Y 49
 /* number: of the part that is shown or put over others, in pixels */
-#define ESCAPE_STREAM_FIELD_WIDTH UINT32_C(50)
-#define ESCAPE_STREAM_FIELD_HEIGHT UINT32_C(51)                /* number */
+#define ESCAPE_STREAM_FIELD_WIDTH 50
+#define ESCAPE_STREAM_FIELD_HEIGHT 51                /* number */
 /* number: how far from the left edge of the first cell, in pixels */
-#define ESCAPE_STREAM_FIELD_X_OFFSET UINT32_C(52)
-/* number: how far from its top edge */
-#define ESCAPE_STREAM_FIELD_Y_OFFSET UINT32_C(53)
-/* number: how many an image is scaled to */
-#define ESCAPE_STREAM_FIELD_COLUMNS UINT32_C(54)
-#define ESCAPE_STREAM_FIELD_ROWS UINT32_C(55)                  /* number */
-#define ESCAPE_STREAM_FIELD_PLACEMENT_ID UINT32_C(56)          /* number: the id of a placement */
+#define ESCAPE_STREAM_FIELD_X_OFFSET 52
+#define ESCAPE_STREAM_FIELD_Y_OFFSET 53              /* number: how far from its top edge */
+#define ESCAPE_STREAM_FIELD_COLUMNS 54               /* number: how many an image is scaled to */
+#define ESCAPE_STREAM_FIELD_ROWS 55                  /* number */
+#define ESCAPE_STREAM_FIELD_PLACEMENT_ID 56          /* number: the id of a placement */
 /* number: the order above and below others, which may be negative */
-#define ESCAPE_STREAM_FIELD_Z_INDEX UINT32_C(57)
+#define ESCAPE_STREAM_FIELD_Z_INDEX 57
 /* flag: the image is shown where placeholder characters are */
-#define ESCAPE_STREAM_FIELD_UNICODE_PLACEHOLDER UINT32_C(58)
+#define ESCAPE_STREAM_FIELD_UNICODE_PLACEHOLDER 58
 /* number: the frame whose pixels a new one begins with, from 1 */
-#define ESCAPE_STREAM_FIELD_BASE_FRAME UINT32_C(59)
-/* number: the frame that is edited, from 1 */
-#define ESCAPE_STREAM_FIELD_FRAME_NUMBER UINT32_C(60)
+#define ESCAPE_STREAM_FIELD_BASE_FRAME 59
+#define ESCAPE_STREAM_FIELD_FRAME_NUMBER 60          /* number: the frame that is edited, from 1 */
 /* number: how long a frame is shown, in milliseconds */
-#define ESCAPE_STREAM_FIELD_DURATION UINT32_C(61)
+#define ESCAPE_STREAM_FIELD_DURATION 61
 /* number: 0 pixels are blended with others, 1 they replace them */
-#define ESCAPE_STREAM_FIELD_COMPOSITION_MODE UINT32_C(62)
+#define ESCAPE_STREAM_FIELD_COMPOSITION_MODE 62
 /* number: red, green, blue and alpha of 8 bits, red the highest */
-#define ESCAPE_STREAM_FIELD_BACKGROUND_PIXEL UINT32_C(63)
-/* number: the frame that is changed, from 1 */
-#define ESCAPE_STREAM_FIELD_TARGET_FRAME UINT32_C(64)
+#define ESCAPE_STREAM_FIELD_BACKGROUND_PIXEL 63
+#define ESCAPE_STREAM_FIELD_TARGET_FRAME 64          /* number: the frame that is changed, from 1 */
 /* number: the frame whose pixels are taken, from 1 */
-#define ESCAPE_STREAM_FIELD_SOURCE_FRAME UINT32_C(65)
+#define ESCAPE_STREAM_FIELD_SOURCE_FRAME 65
 /* number: the left edge of the part that is taken, in pixels */
-#define ESCAPE_STREAM_FIELD_SOURCE_X UINT32_C(66)
-#define ESCAPE_STREAM_FIELD_SOURCE_Y UINT32_C(67)              /* number: its top edge */
-/* flag: the data of images is deleted too */
-#define ESCAPE_STREAM_FIELD_DELETES_DATA UINT32_C(68)
+#define ESCAPE_STREAM_FIELD_SOURCE_X 66
+#define ESCAPE_STREAM_FIELD_SOURCE_Y 67              /* number: its top edge */
+#define ESCAPE_STREAM_FIELD_DELETES_DATA 68          /* flag: the data of images is deleted too */
 /* number: the first of the ids that are deleted */
-#define ESCAPE_STREAM_FIELD_FIRST_IMAGE_ID UINT32_C(69)
-#define ESCAPE_STREAM_FIELD_LAST_IMAGE_ID UINT32_C(70)         /* number: the last */
+#define ESCAPE_STREAM_FIELD_FIRST_IMAGE_ID 69
+#define ESCAPE_STREAM_FIELD_LAST_IMAGE_ID 70         /* number: the last */
 /* number: what is reported. 0 all, 1 errors alone, 2 nothing */
-#define ESCAPE_STREAM_FIELD_VERBOSITY UINT32_C(71)
+#define ESCAPE_STREAM_FIELD_VERBOSITY 71
 
 /* What a field holds. */
-#define ESCAPE_STREAM_VALUE_NUMBER UINT32_C(0) /* `number` */
-#define ESCAPE_STREAM_VALUE_TEXT UINT32_C(1)   /* `length` bytes of `out`, from `offset` on */
-#define ESCAPE_STREAM_VALUE_SIZE UINT32_C(2)   /* `length`, a number of bytes */
+#define ESCAPE_STREAM_VALUE_NUMBER 0 /* `number` */
+#define ESCAPE_STREAM_VALUE_TEXT 1   /* `length` bytes of `out`, from `offset` on */
+#define ESCAPE_STREAM_VALUE_SIZE 2   /* `length`, a number of bytes */
 
 /* A field of a command. What has no meaning for what it holds is 0. */
 struct escape_stream_field {
@@ -706,33 +691,31 @@ uint32_t escape_stream_read_osc(
  * composed     [TARGET_FRAME], [SOURCE_FRAME], [X], [Y], [WIDTH], [HEIGHT], [SOURCE_X], [SOURCE_Y],
  *              COMPOSITION_MODE
  */
-#define ESCAPE_STREAM_KITTY_NONE UINT32_C(0)                       /* none: the text is no image */
+#define ESCAPE_STREAM_KITTY_NONE 0                       /* none: the text is no image */
 /* transmitted, VERBOSITY: keeps an image */
-#define ESCAPE_STREAM_KITTY_TRANSMIT_DATA UINT32_C(1)
+#define ESCAPE_STREAM_KITTY_TRANSMIT_DATA 1
 /* transmitted, placed, VERBOSITY: keeps an image and shows it */
-#define ESCAPE_STREAM_KITTY_TRANSMIT_DATA_AND_DISPLAY UINT32_C(2)
+#define ESCAPE_STREAM_KITTY_TRANSMIT_DATA_AND_DISPLAY 2
 /* identified, placed, VERBOSITY: shows an image */
-#define ESCAPE_STREAM_KITTY_DISPLAY UINT32_C(3)
+#define ESCAPE_STREAM_KITTY_DISPLAY 3
 /* transmitted: asks whether it could be kept */
-#define ESCAPE_STREAM_KITTY_QUERY UINT32_C(4)
+#define ESCAPE_STREAM_KITTY_QUERY 4
 /* transmitted, framed, VERBOSITY: keeps a frame */
-#define ESCAPE_STREAM_KITTY_TRANSMIT_FRAME UINT32_C(5)
+#define ESCAPE_STREAM_KITTY_TRANSMIT_FRAME 5
 /* identified, composed, VERBOSITY: puts a frame over another */
-#define ESCAPE_STREAM_KITTY_COMPOSE_FRAME UINT32_C(6)
+#define ESCAPE_STREAM_KITTY_COMPOSE_FRAME 6
 /* DELETES_DATA, VERBOSITY: and so at the end of all below */
-#define ESCAPE_STREAM_KITTY_DELETE_ALL UINT32_C(7)
-#define ESCAPE_STREAM_KITTY_DELETE_BY_IMAGE_ID UINT32_C(8)         /* IMAGE_ID, [PLACEMENT_ID] */
-/* IMAGE_NUMBER, [PLACEMENT_ID] */
-#define ESCAPE_STREAM_KITTY_DELETE_BY_IMAGE_NUMBER UINT32_C(9)
-#define ESCAPE_STREAM_KITTY_DELETE_AT_CURSOR_POSITION UINT32_C(10) /* none more */
-#define ESCAPE_STREAM_KITTY_DELETE_ANIMATION_FRAMES UINT32_C(11)   /* none more */
-#define ESCAPE_STREAM_KITTY_DELETE_AT UINT32_C(12)                 /* X, Y */
-#define ESCAPE_STREAM_KITTY_DELETE_AT_Z UINT32_C(13)               /* X, Y, Z_INDEX */
-#define ESCAPE_STREAM_KITTY_DELETE_COLUMN UINT32_C(14)             /* X */
-#define ESCAPE_STREAM_KITTY_DELETE_ROW UINT32_C(15)                /* Y */
-#define ESCAPE_STREAM_KITTY_DELETE_Z UINT32_C(16)                  /* Z_INDEX */
-/* FIRST_IMAGE_ID, LAST_IMAGE_ID */
-#define ESCAPE_STREAM_KITTY_DELETE_BY_IMAGE_ID_RANGE UINT32_C(17)
+#define ESCAPE_STREAM_KITTY_DELETE_ALL 7
+#define ESCAPE_STREAM_KITTY_DELETE_BY_IMAGE_ID 8         /* IMAGE_ID, [PLACEMENT_ID] */
+#define ESCAPE_STREAM_KITTY_DELETE_BY_IMAGE_NUMBER 9     /* IMAGE_NUMBER, [PLACEMENT_ID] */
+#define ESCAPE_STREAM_KITTY_DELETE_AT_CURSOR_POSITION 10 /* none more */
+#define ESCAPE_STREAM_KITTY_DELETE_ANIMATION_FRAMES 11   /* none more */
+#define ESCAPE_STREAM_KITTY_DELETE_AT 12                 /* X, Y */
+#define ESCAPE_STREAM_KITTY_DELETE_AT_Z 13               /* X, Y, Z_INDEX */
+#define ESCAPE_STREAM_KITTY_DELETE_COLUMN 14             /* X */
+#define ESCAPE_STREAM_KITTY_DELETE_ROW 15                /* Y */
+#define ESCAPE_STREAM_KITTY_DELETE_Z 16                  /* Z_INDEX */
+#define ESCAPE_STREAM_KITTY_DELETE_BY_IMAGE_ID_RANGE 17  /* FIRST_IMAGE_ID, LAST_IMAGE_ID */
 
 /*
  * What the CONTENT of an image is. A payload is the text as it came, which is base64 and is not
@@ -795,17 +778,15 @@ uint32_t escape_stream_read_tcap(
     struct escape_stream_field *fields, size_t field_room, uint8_t *out, size_t capacity);
 
 /* What an item of a sixel image is, and what of it has a meaning. */
-#define ESCAPE_STREAM_SIXEL_PIXELS UINT32_C(0)          /* pixels; count is 1 */
-#define ESCAPE_STREAM_SIXEL_REPEAT UINT32_C(1)          /* pixels, count: the same so many times */
+#define ESCAPE_STREAM_SIXEL_PIXELS 0          /* pixels; count is 1 */
+#define ESCAPE_STREAM_SIXEL_REPEAT 1          /* pixels, count: the same so many times */
 /* color, red, green, blue: gives a colour to a number, and selects it */
-#define ESCAPE_STREAM_SIXEL_DEFINE_RGB UINT32_C(2)
-/* color, hue, lightness, saturation: the same */
-#define ESCAPE_STREAM_SIXEL_DEFINE_HSL UINT32_C(3)
-#define ESCAPE_STREAM_SIXEL_SELECT UINT32_C(4)          /* color: selects it */
+#define ESCAPE_STREAM_SIXEL_DEFINE_RGB 2
+#define ESCAPE_STREAM_SIXEL_DEFINE_HSL 3      /* color, hue, lightness, saturation: the same */
+#define ESCAPE_STREAM_SIXEL_SELECT 4          /* color: selects it */
 /* back to the start of the line, over which is drawn */
-#define ESCAPE_STREAM_SIXEL_CARRIAGE_RETURN UINT32_C(5)
-/* to the start of the next band of six lines */
-#define ESCAPE_STREAM_SIXEL_NEW_LINE UINT32_C(6)
+#define ESCAPE_STREAM_SIXEL_CARRIAGE_RETURN 5
+#define ESCAPE_STREAM_SIXEL_NEW_LINE 6        /* to the start of the next band of six lines */
 
 /* An item of a sixel image. What has no meaning for its kind is 0. */
 struct escape_stream_sixel_item {

@@ -78,20 +78,20 @@ const char *escape_stream_version(void);
  *            half the buffer: its event is not handed out, nor are the data of the device control
  *            string
  */
-#define ESCAPE_STREAM_NONE UINT32_C(0)
-#define ESCAPE_STREAM_TEXT UINT32_C(1)
-#define ESCAPE_STREAM_CHARACTER UINT32_C(2)
-#define ESCAPE_STREAM_CONTROL UINT32_C(3)
-#define ESCAPE_STREAM_ESCAPE UINT32_C(4)
-#define ESCAPE_STREAM_CSI UINT32_C(5)
-#define ESCAPE_STREAM_OSC UINT32_C(6)
-#define ESCAPE_STREAM_DCS UINT32_C(7)
-#define ESCAPE_STREAM_DATA UINT32_C(8)
-#define ESCAPE_STREAM_DATA_BYTE UINT32_C(9)
-#define ESCAPE_STREAM_DCS_END UINT32_C(10)
-#define ESCAPE_STREAM_APC UINT32_C(11)
-#define ESCAPE_STREAM_FAILED UINT32_C(12)
-#define ESCAPE_STREAM_LIMIT UINT32_C(13)
+#define ESCAPE_STREAM_NONE 0
+#define ESCAPE_STREAM_TEXT 1
+#define ESCAPE_STREAM_CHARACTER 2
+#define ESCAPE_STREAM_CONTROL 3
+#define ESCAPE_STREAM_ESCAPE 4
+#define ESCAPE_STREAM_CSI 5
+#define ESCAPE_STREAM_OSC 6
+#define ESCAPE_STREAM_DCS 7
+#define ESCAPE_STREAM_DATA 8
+#define ESCAPE_STREAM_DATA_BYTE 9
+#define ESCAPE_STREAM_DCS_END 10
+#define ESCAPE_STREAM_APC 11
+#define ESCAPE_STREAM_FAILED 12
+#define ESCAPE_STREAM_LIMIT 13
 
 /*
  * An entry of a control sequence: a number, or a byte that is none, as a separator, a marker or an
