@@ -2,24 +2,14 @@
 #include "escape_stream_parser.h"
 #include <stdio.h>
 
-/* The function of a control sequence, by the bytes among its entries that separate no parameters.
- */
+/* The function of a control sequence. None has two intermediates. */
 static bool function_of(const struct escape_stream_event *event, struct escape_stream_function *out)
 {
-    uint8_t prefix = 0, intermediate = 0;
-    for (size_t i = 0; i < event->count; i++) {
-        uint8_t byte = event->entries[i].byte;
-        if (!event->entries[i].is_byte || byte == ';' || byte == ':')
-            continue;
-        if (byte >= '<' && prefix == 0)
-            prefix = byte;
-        else if (byte < '<' && intermediate == 0)
-            intermediate = byte;
-        else
-            return false;
-    }
-    return !event->has_more &&
-           escape_stream_function(prefix, intermediate, (uint8_t)event->byte, event->count, out);
+    uint8_t prefix = escape_stream_prefix(event), final = (uint8_t)event->byte;
+    uint8_t intermediate = escape_stream_intermediate(event, 0);
+    bool is_whole = !event->has_more && escape_stream_intermediate(event, 1) == 0;
+
+    return is_whole && escape_stream_function(prefix, intermediate, final, event->count, out);
 }
 
 int main(void)

@@ -186,6 +186,71 @@ static inline size_t escape_stream_utf8(uint32_t character, uint8_t out[4])
     return more + 1;
 }
 
+/*
+ * The parameters of an event ESCAPE_STREAM_CSI, by its entries: `;` separates parameters, and `:`
+ * the numbers of one.
+ *
+ * parameter_count   how many parameters there are: none where nothing is in their place, as in
+ *                   CSI m
+ * parameter         the number `part` of the parameter `index`, both counted from 0, or `otherwise`
+ *                   where it is left out: so parameter(event, 0, 0, 1) is how far CSI A goes up
+ * prefix            the private prefix, one of < = > ?, or 0 where there is none
+ * intermediate      the intermediate of this index, a space up to /, or 0 where there is none
+ */
+static inline size_t escape_stream_parameter_count(const struct escape_stream_event *event)
+{
+    size_t count = 1;
+    bool has_some = false;
+
+    for (size_t i = 0; i < event->count; i++) {
+        const struct escape_stream_entry *entry = &event->entries[i];
+        has_some |= !entry->is_byte || entry->byte == ';' || entry->byte == ':';
+        count += entry->is_byte && entry->byte == ';';
+    }
+    return has_some ? count : 0;
+}
+
+static inline int64_t escape_stream_parameter(
+    const struct escape_stream_event *event, size_t index, size_t part, int64_t otherwise)
+{
+    size_t parameter = 0, number = 0;
+
+    for (size_t i = 0; i < event->count; i++) {
+        const struct escape_stream_entry *entry = &event->entries[i];
+        if (!entry->is_byte) {
+            if (parameter == index && number == part)
+                return entry->number;
+        } else if (entry->byte == ';') {
+            parameter++;
+            number = 0;
+        } else if (entry->byte == ':') {
+            number++;
+        }
+    }
+    return otherwise;
+}
+
+static inline uint8_t escape_stream_prefix(const struct escape_stream_event *event)
+{
+    for (size_t i = 0; i < event->count; i++) {
+        const struct escape_stream_entry *entry = &event->entries[i];
+        if (entry->is_byte && entry->byte >= '<' && entry->byte <= '?')
+            return entry->byte;
+    }
+    return 0;
+}
+
+static inline uint8_t escape_stream_intermediate(
+    const struct escape_stream_event *event, size_t index)
+{
+    for (size_t i = 0; i < event->count; i++) {
+        const struct escape_stream_entry *entry = &event->entries[i];
+        if (entry->is_byte && entry->byte >= ' ' && entry->byte <= '/' && index-- == 0)
+            return entry->byte;
+    }
+    return 0;
+}
+
 #ifdef __cplusplus
 }
 #endif
