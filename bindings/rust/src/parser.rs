@@ -183,9 +183,11 @@ impl fmt::Debug for Parser {
 }
 
 impl Parser {
-    /// A parser at the beginning of a stream that hands out strings of up to 4,096 bytes.
+    /// A parser at the beginning of a stream that hands out strings of up to 65,536 bytes: an
+    /// image of kitty has at most 4,096 of payload beside its keys, and long texts of the clipboard
+    /// need more.
     pub fn new() -> Parser {
-        Parser::with_limit(4096)
+        Parser::with_limit(1 << 16)
     }
 
     /// A parser at the beginning of a stream that hands out strings of up to `limit` bytes: texts of

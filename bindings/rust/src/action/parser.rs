@@ -101,6 +101,21 @@ impl Parser {
         self.give(bytes, Borrowed(callback));
     }
 
+    /// Whether no sequence, no string and no character is unfinished after the bytes so far, so
+    /// that a recorder may cut the stream here.
+    ///
+    /// ```
+    /// let mut parser = escape_stream::action::Parser::new();
+    /// parser.parse(b"a\x1b[1", |_| {});
+    /// assert!(!parser.is_ground());
+    /// parser.parse(b"m", |_| {});
+    /// assert!(parser.is_ground());
+    /// ```
+    #[must_use]
+    pub fn is_ground(&self) -> bool {
+        self.events.is_ground()
+    }
+
     // Gives the actions of the next bytes.
     #[inline(always)]
     fn give(&mut self, bytes: &[u8], mut to: impl Receiver) {
