@@ -20,7 +20,7 @@ type Function struct {
 // Function returns what a control sequence, an escape sequence or a control asks for, and whether
 // it has a name.
 func (e *Event) Function() (Function, bool) {
-	var row C.struct_escape_stream_function
+	var row C.struct_escape_stream_function_info
 	found := false
 	switch e.Kind {
 	case KindCSI:

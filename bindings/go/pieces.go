@@ -12,7 +12,7 @@ const room = 1 << 16
 
 // A filter of a stream in pieces. The library took its block.
 type filter struct {
-	raw  C.struct_escape_stream_filter
+	raw  C.struct_escape_stream_filter_state
 	room []byte
 }
 

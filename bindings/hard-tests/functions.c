@@ -9,8 +9,9 @@
 static struct area rows;
 
 static void check_row(
-    bool is_there, bool may_be_there, const struct escape_stream_function *row, size_t number) {
-    static const struct escape_stream_function none;
+    bool is_there, bool may_be_there, const struct escape_stream_function_info *row,
+    size_t number) {
+    static const struct escape_stream_function_info none;
     at_hand.calls++;
     if (!is_there && memcmp(row, &none, sizeof none) != 0)
         fails("a row that is not there is not 0", number);
@@ -40,7 +41,7 @@ static void check_finals(unsigned prefix, unsigned intermediate) {
     bool may_be_there = is_alone ? is_prefix(one) || is_intermediate(one)
                                  : is_prefix(prefix) && is_intermediate(intermediate);
     for (unsigned final = 0; final < 256; final++) {
-        struct escape_stream_function *row = (void *)placed(&rows, sizeof *row);
+        struct escape_stream_function_info *row = (void *)placed(&rows, sizeof *row);
         size_t count = one_in(2) ? 0 : one_in(2) ? 1 : (size_t)next_number();
         memset(row, JUNK, sizeof *row);
         check_row(
@@ -56,7 +57,7 @@ static void check_finals(unsigned prefix, unsigned intermediate) {
 static void check_escapes(unsigned intermediate) {
     bool may_be_there = intermediate != 0 && is_intermediate(intermediate);
     for (unsigned final = 0; final < 256; final++) {
-        struct escape_stream_function *row = (void *)placed(&rows, sizeof *row);
+        struct escape_stream_function_info *row = (void *)placed(&rows, sizeof *row);
         memset(row, JUNK, sizeof *row);
         check_row(
             escape_stream_escape_function((uint8_t)intermediate, (uint8_t) final, row),
@@ -66,7 +67,7 @@ static void check_escapes(unsigned intermediate) {
 }
 
 static void check_control(unsigned code) {
-    struct escape_stream_function *row = (void *)placed(&rows, sizeof *row);
+    struct escape_stream_function_info *row = (void *)placed(&rows, sizeof *row);
     bool is_control = code < ' ' || code == 0x7f, is_there;
     memset(row, JUNK, sizeof *row);
     is_there = escape_stream_control_function((uint8_t)code, row);

@@ -9,7 +9,7 @@
 /* A filter or a normalizer, which has the same fields. */
 union in_pieces {
     bool is_begun;
-    struct escape_stream_filter filter;
+    struct escape_stream_filter_state filter;
     struct escape_stream_normalizer normalizer;
 };
 

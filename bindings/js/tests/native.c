@@ -90,7 +90,7 @@ static void check(uint32_t status)
 static void write_filters(const uint8_t *bytes, size_t length)
 {
     for (uint32_t policy = 0; policy < 4; policy++) {
-        struct escape_stream_filter it = {0};
+        struct escape_stream_filter_state it = {0};
         size_t needed = 0;
         uint8_t none = 0, *out;
         check(escape_stream_filter(policy, LIMIT, bytes, length, &none, 0, &needed));

@@ -19,13 +19,13 @@
 #define BYTES(place) AT(uint8_t, place)
 
 /* What JavaScript reads and writes by its place. */
-_Static_assert(sizeof(struct escape_stream_filter) == 16, "a filter");
+_Static_assert(sizeof(struct escape_stream_filter_state) == 16, "a filter");
 _Static_assert(sizeof(struct escape_stream_html) == 16, "a page");
 _Static_assert(sizeof(struct escape_stream_normalizer) == 16, "a normalizer");
-_Static_assert(sizeof(struct escape_stream_function) == 98, "a function");
-_Static_assert(offsetof(struct escape_stream_function, phrase) == 16, "its phrase");
-_Static_assert(offsetof(struct escape_stream_function, changes_screen) == 96, "its first flag");
-_Static_assert(offsetof(struct escape_stream_function, is_answered) == 97, "its second flag");
+_Static_assert(sizeof(struct escape_stream_function_info) == 98, "a function");
+_Static_assert(offsetof(struct escape_stream_function_info, phrase) == 16, "its phrase");
+_Static_assert(offsetof(struct escape_stream_function_info, changes_screen) == 96, "its first flag");
+_Static_assert(offsetof(struct escape_stream_function_info, is_answered) == 97, "its second flag");
 _Static_assert(sizeof(struct escape_stream_field) == 32, "a field");
 _Static_assert(offsetof(struct escape_stream_field, kind) == 4, "what it holds");
 _Static_assert(offsetof(struct escape_stream_field, number) == 8, "its number");
@@ -81,14 +81,14 @@ void host_give(NUMBER at) { heap_give(BYTES(at)); }
     }                                                                                      \
     void host_##name##_end(NUMBER it) { escape_stream_##name##_end(AT(type, it)); }
 
-IN_PIECES(filter, struct escape_stream_filter)
+IN_PIECES(filter, struct escape_stream_filter_state)
 IN_PIECES(html, struct escape_stream_html)
 IN_PIECES(normal, struct escape_stream_normalizer)
 
 EXPORTED(filter_begin, "(i32, i32, i32) -> (i32)");
 NUMBER host_filter_begin(NUMBER it, NUMBER policy, NUMBER limit)
 {
-    return escape_stream_filter_begin(AT(struct escape_stream_filter, it), policy, limit);
+    return escape_stream_filter_begin(AT(struct escape_stream_filter_state, it), policy, limit);
 }
 
 EXPORTED(html_begin, "(i32, i32, i32, i32) -> (i32)");
@@ -108,20 +108,21 @@ EXPORTED(function, "(i32, i32, i32, i32, i32) -> (i32)");
 NUMBER host_function(NUMBER prefix, NUMBER intermediate, NUMBER final, NUMBER count, NUMBER out)
 {
     return escape_stream_function((uint8_t)prefix, (uint8_t)intermediate, (uint8_t)final, count,
-                                  AT(struct escape_stream_function, out));
+                                  AT(struct escape_stream_function_info, out));
 }
 
 EXPORTED(escape_function, "(i32, i32, i32) -> (i32)");
 NUMBER host_escape_function(NUMBER intermediate, NUMBER final, NUMBER out)
 {
     return escape_stream_escape_function((uint8_t)intermediate, (uint8_t)final,
-                                         AT(struct escape_stream_function, out));
+                                         AT(struct escape_stream_function_info, out));
 }
 
 EXPORTED(control_function, "(i32, i32) -> (i32)");
 NUMBER host_control_function(NUMBER code, NUMBER out)
 {
-    return escape_stream_control_function((uint8_t)code, AT(struct escape_stream_function, out));
+    return escape_stream_control_function(
+        (uint8_t)code, AT(struct escape_stream_function_info, out));
 }
 
 /* A call that reads fields of a text. */

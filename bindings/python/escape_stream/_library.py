@@ -36,7 +36,7 @@ MOST_ENTRIES = 256
 
 
 class RawFilter(Structure):
-    """`struct escape_stream_filter`."""
+    """`struct escape_stream_filter_state`."""
 
     _fields_ = [("is_begun", c_bool), ("state", c_void_p)]
 
@@ -106,7 +106,7 @@ class RawParser(Structure):
 
 
 class RawFunction(Structure):
-    """`struct escape_stream_function`."""
+    """`struct escape_stream_function_info`."""
 
     _fields_ = [
         ("name", ctypes.c_char * 16),

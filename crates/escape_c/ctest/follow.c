@@ -3,7 +3,7 @@
 
 int main(void)
 {
-    struct escape_stream_filter filter = {0};
+    struct escape_stream_filter_state filter = {0};
     static uint8_t bytes[4096], out[4096];
     size_t length, count;
 

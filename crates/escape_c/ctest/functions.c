@@ -69,7 +69,7 @@ static void fail(const char *what, const char *name)
 
 /* Compares a row that was written with that of the page. */
 static void compare(
-    const struct escape_stream_function *function, const char *name, const char *phrase,
+    const struct escape_stream_function_info *function, const char *name, const char *phrase,
     const char *effect) {
     if (strcmp(function->name, name) != 0)
         fail(function->name, name);
@@ -85,7 +85,7 @@ static bool is_prefix(uint8_t byte) { return byte >= '<' && byte <= '?'; }
 static int read_page(FILE *page)
 {
     static char line[1024];
-    struct escape_stream_function function;
+    struct escape_stream_function_info function;
     int rows = 0;
     while (fgets(line, sizeof line, page) != NULL) {
         uint8_t bytes[8], prefix = 0, intermediate = 0;
@@ -122,7 +122,7 @@ static int named_sequences(void)
 {
     static const uint8_t prefixes[] = {0, '<', '=', '>', '?'};
     static const size_t counts[] = {0, 1, 5};
-    struct escape_stream_function function, zeros;
+    struct escape_stream_function_info function, zeros;
     char last[16] = "";
     int found = 0;
     memset(&zeros, 0, sizeof zeros);

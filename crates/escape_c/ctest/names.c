@@ -3,7 +3,8 @@
 #include <stdio.h>
 
 /* The function of a control sequence. None has two intermediates. */
-static bool function_of(const struct escape_stream_event *event, struct escape_stream_function *out)
+static bool function_of(
+    const struct escape_stream_event *event, struct escape_stream_function_info *out)
 {
     uint8_t prefix = escape_stream_prefix(event), final = (uint8_t)event->byte;
     uint8_t intermediate = escape_stream_intermediate(event, 0);
@@ -16,8 +17,8 @@ int main(void)
 {
     static struct escape_stream_parser parser;
     static struct escape_stream_event event;
-    static uint8_t buffer[8192], bytes[4096];
-    struct escape_stream_function function;
+    static uint8_t buffer[2 * 65536], bytes[4096];
+    struct escape_stream_function_info function;
     size_t length;
 
     escape_stream_begin(&parser);

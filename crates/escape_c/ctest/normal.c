@@ -127,7 +127,7 @@ static void check_finish(void) {
 /* What the calls of a filter began is no normalizer. It is given back. */
 static void check_others(void) {
     union {
-        struct escape_stream_filter filter;
+        struct escape_stream_filter_state filter;
         struct escape_stream_html page;
         struct escape_stream_normalizer normalizer;
     } it = {{0}};

@@ -21,7 +21,7 @@
 static uint32_t feed_all(
     uint32_t policy, const uint8_t *bytes, size_t length, size_t size, size_t capacity,
     const uint8_t *wanted, size_t needed) {
-    struct escape_stream_filter filter = {0};
+    struct escape_stream_filter_state filter = {0};
     uint8_t text[MOST];
     size_t count = 0;
     uint32_t status = escape_stream_filter_begin(&filter, policy, LIMIT);
@@ -68,7 +68,7 @@ static void check_stream(uint32_t policy, const uint8_t *bytes, size_t length) {
 }
 
 static void check_states(void) {
-    struct escape_stream_filter filter = {0};
+    struct escape_stream_filter_state filter = {0};
     const uint8_t bytes[] = {'a', 0x1b, ']'};
     uint8_t out[8] = {0};
     escape_stream_filter_end(&filter);
@@ -105,7 +105,7 @@ static void check_states(void) {
 
 /* What a stream leaves changed is taken back at its end, and the filter goes on with the next. */
 static void check_finish(void) {
-    struct escape_stream_filter filter = {0};
+    struct escape_stream_filter_state filter = {0};
     const char stream[] = "\x1b[1m\x1b]8;;http://a\x1b\\x\x1b]0;t";
     const char back[] = "\x1b[0m\x1b]8;;\x1b\\";
     uint8_t out[40] = {0};

@@ -213,7 +213,7 @@ static bool joined(char **lines, size_t count, const char *word, struct bytes *t
  * pieces gives when it is finished. */
 static struct bytes
 without_end(uint32_t policy, size_t limit, struct bytes stream, struct bytes text) {
-    struct escape_stream_filter filter = {0};
+    struct escape_stream_filter_state filter = {0};
     uint8_t *end = room(text.length + 1);
     size_t length;
     calls++;

@@ -202,7 +202,7 @@ uint32_t escape_stream_filter(
  * own: read and write nothing of it, but set it to zero before the first call, as by = {0}. A copy
  * of it is the same filter, so go on with one of the two.
  */
-struct escape_stream_filter {
+struct escape_stream_filter_state {
     bool is_begun;
     void *state;
 };
@@ -215,7 +215,7 @@ struct escape_stream_filter {
  * After the last two the filter is not begun, and keeps nothing.
  */
 uint32_t escape_stream_filter_begin(
-    struct escape_stream_filter *filter, uint32_t policy, size_t limit);
+    struct escape_stream_filter_state *filter, uint32_t policy, size_t limit);
 
 /*
  * Takes the next piece of the stream, in whatever pieces it comes. What it adds to the text is then
@@ -228,7 +228,7 @@ uint32_t escape_stream_filter_begin(
  * only other status but ESCAPE_STREAM_DONE.
  */
 uint32_t escape_stream_filter_feed(
-    struct escape_stream_filter *filter, const uint8_t *bytes, size_t length);
+    struct escape_stream_filter_state *filter, const uint8_t *bytes, size_t length);
 
 /*
  * Ends the stream, and begins the next, within the same limit and by the same policy. What takes
@@ -240,7 +240,7 @@ uint32_t escape_stream_filter_feed(
  * ESCAPE_STREAM_NO_MEMORY: the filter has ended, as by escape_stream_filter_end.
  * ESCAPE_STREAM_NOT_BEGUN is the only other status but ESCAPE_STREAM_DONE.
  */
-uint32_t escape_stream_filter_finish(struct escape_stream_filter *filter);
+uint32_t escape_stream_filter_finish(struct escape_stream_filter_state *filter);
 
 /*
  * Writes the text that the last piece or the end of the stream added, from its byte `from` on, to
@@ -250,7 +250,7 @@ uint32_t escape_stream_filter_finish(struct escape_stream_filter *filter);
  *
  * Example: what passes of standard input, as it comes.
  *
- *     struct escape_stream_filter filter = {0};
+ *     struct escape_stream_filter_state filter = {0};
  *     uint8_t bytes[4096], out[4096] = {0};
  *     size_t length, count;
  *     uint32_t status = escape_stream_filter_begin(&filter, ESCAPE_STREAM_POLICY_COLOR, 1048576);
@@ -269,10 +269,10 @@ uint32_t escape_stream_filter_finish(struct escape_stream_filter *filter);
  *     escape_stream_filter_end(&filter);
  */
 size_t escape_stream_filter_text(
-    struct escape_stream_filter *filter, size_t from, uint8_t *out, size_t capacity);
+    struct escape_stream_filter_state *filter, size_t from, uint8_t *out, size_t capacity);
 
 /* Ends a filter, and gives back what it took. One that is not begun stays so. */
-void escape_stream_filter_end(struct escape_stream_filter *filter);
+void escape_stream_filter_end(struct escape_stream_filter_state *filter);
 
 /*
  * A stream that comes in pieces, as HTML: its characters, tabs and line feeds, with colours and
@@ -400,7 +400,7 @@ void escape_stream_normal_end(struct escape_stream_normalizer *normalizer);
 /*
  * What a control function is: a row of docs/FUNCTIONS.md. Where there is none, all of it is 0.
  */
-struct escape_stream_function {
+struct escape_stream_function_info {
     char name[16];       /* as the standards abbreviate it, as "CUP"; a 0 ends it */
     char phrase[80];     /* what it does, in words, as "cursor position"; a 0 ends it */
     bool changes_screen; /* it changes the screen alone, with whatever parameters */
@@ -422,13 +422,13 @@ struct escape_stream_function {
  *
  * Example: the cursor's lines, of a sequence without prefix and intermediate.
  *
- *     struct escape_stream_function function;
+ *     struct escape_stream_function_info function;
  *     if (escape_stream_function(0, 0, final, count, &function) &&
  *         strcmp(function.name, "CUU") == 0)
  *         line -= number;
  */
 bool escape_stream_function(uint8_t prefix, uint8_t intermediate, uint8_t final, size_t count,
-                            struct escape_stream_function *out);
+                            struct escape_stream_function_info *out);
 
 /*
  * The same of an escape sequence: its intermediate, or 0, and its final byte. A C1 control has the
@@ -436,12 +436,12 @@ bool escape_stream_function(uint8_t prefix, uint8_t intermediate, uint8_t final,
  * designates a character set the intermediate decides, and the final byte says which set.
  */
 bool escape_stream_escape_function(
-    uint8_t intermediate, uint8_t final, struct escape_stream_function *out);
+    uint8_t intermediate, uint8_t final, struct escape_stream_function_info *out);
 
 /*
  * The same of a C0 control, 0x00 to 0x1f, or DEL, 0x7f: its code. 0x0a is "LF", "line feed".
  */
-bool escape_stream_control_function(uint8_t code, struct escape_stream_function *out);
+bool escape_stream_control_function(uint8_t code, struct escape_stream_function_info *out);
 
 /*
  * The kinds of operating system commands, and which fields each has, in order. One between [ and ]

@@ -1,7 +1,7 @@
 /* SPDX-License-Identifier: MIT */
 /*
- * Checks what escape_stream_parser.h says of the parameters of control sequences. Prints what is
- * wrong, and ends with 1 where something is.
+ * Checks what escape_stream_parser.h says of the parameters of control sequences, and of the ends
+ * of strings. Prints what is wrong, and ends with 1 where something is.
  */
 #include "escape_stream_parser.h"
 #include <inttypes.h>
@@ -54,35 +54,54 @@ static const struct number {
     {"\x1b[99999999999999999999A", 0, 0, INT64_MAX},
 };
 
+/* A string, and what ended it. */
+static const struct end {
+    const char *bytes;
+    uint8_t wanted;
+} ENDS[] = {
+    {"\x1b]0;a\x07", 0x07},
+    {"\x1b]0;a\x1b\\", 0x1b},
+    {"\x1b]0;a\x18", 0x18},
+    {"\x1b]0;a\x1a", 0x1a},
+    {"\x1b]0;a\x9c", 0x9c},
+    {"\x1b]0;a\xc2\x9c", 0x9c},
+    {"\x1b_Ga=q\x1b\\", 0x1b},
+    {"\x1b]0;far longer than half of the buffer\x07", 0x07},
+    {"\x1b[m", 0},
+    {"a", 0},
+};
+
 static int status = 0;
 
 static void expect(bool is_so, const char *bytes)
 {
     if (!is_so) {
-        printf("parameters of ESC %s differ\n", bytes + 1);
+        printf("what is said of ESC %s differs\n", bytes + 1);
         status = 1;
     }
 }
 
-/* Returns the event of a sequence. */
-static const struct escape_stream_event *event_of(const char *bytes)
+/* Returns the first event of a stream, and how many bytes were taken for it. */
+static const struct escape_stream_event *event_of(const char *bytes, size_t *taken)
 {
     static struct escape_stream_parser parser;
     static struct escape_stream_event event;
     static uint8_t buffer[64];
 
     escape_stream_begin(&parser);
-    escape_stream_next(
+    *taken = escape_stream_next(
         &parser, buffer, sizeof buffer, (const uint8_t *)bytes, strlen(bytes), &event);
-    expect(event.kind == ESCAPE_STREAM_CSI, bytes);
     return &event;
 }
 
 int main(void)
 {
+    size_t taken;
+
     for (size_t i = 0; i < sizeof SHAPES / sizeof *SHAPES; i++) {
         const struct shape *it = &SHAPES[i];
-        const struct escape_stream_event *event = event_of(it->bytes);
+        const struct escape_stream_event *event = event_of(it->bytes, &taken);
+        expect(event->kind == ESCAPE_STREAM_CSI, it->bytes);
         expect(escape_stream_prefix(event) == it->prefix, it->bytes);
         expect(escape_stream_intermediate(event, 0) == it->intermediates[0], it->bytes);
         expect(escape_stream_intermediate(event, 1) == it->intermediates[1], it->bytes);
@@ -91,9 +110,15 @@ int main(void)
     }
     for (size_t i = 0; i < sizeof NUMBERS / sizeof *NUMBERS; i++) {
         const struct number *it = &NUMBERS[i];
-        int64_t number =
-            escape_stream_parameter(event_of(it->bytes), it->index, it->part, LEFT_OUT);
+        const struct escape_stream_event *event = event_of(it->bytes, &taken);
+        int64_t number = escape_stream_parameter(event, it->index, it->part, LEFT_OUT);
         expect(number == it->wanted, it->bytes);
+    }
+    for (size_t i = 0; i < sizeof ENDS / sizeof *ENDS; i++) {
+        const struct escape_stream_event *event = event_of(ENDS[i].bytes, &taken);
+        const uint8_t *bytes = (const uint8_t *)ENDS[i].bytes;
+        uint8_t end = escape_stream_string_end(event, bytes, taken);
+        expect(end == ENDS[i].wanted, ENDS[i].bytes);
     }
     return status;
 }

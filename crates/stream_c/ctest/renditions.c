@@ -58,7 +58,7 @@ int main(void)
 {
     static struct escape_stream_parser parser;
     static struct escape_stream_event event;
-    static uint8_t buffer[8192], bytes[4096];
+    static uint8_t buffer[2 * 65536], bytes[4096];
     size_t length;
 
     escape_stream_begin(&parser);

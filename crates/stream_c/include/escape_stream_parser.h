@@ -170,6 +170,24 @@ static inline const uint8_t *escape_stream_text(
 }
 
 /*
+ * What ended the string of an event OSC, APC, DCS_END or LIMIT, by the bytes that the call took, so
+ * that an answer can end in the same way and a command that was cancelled can be dropped: 0x07 is
+ * BEL, 0x18 and 0x1a are CAN and SUB, 0x1b is ESC, that of `ESC \`, the string terminator, or of
+ * another escape sequence, which is the next event, and 0x80 to 0x9f is a C1 control. 0 where a
+ * header over the limit ended, and of any other event.
+ */
+static inline uint8_t escape_stream_string_end(
+    const struct escape_stream_event *event, const uint8_t *bytes, size_t taken)
+{
+    bool is_end = event->kind == ESCAPE_STREAM_OSC || event->kind == ESCAPE_STREAM_APC ||
+                  event->kind == ESCAPE_STREAM_DCS_END || event->kind == ESCAPE_STREAM_LIMIT;
+    uint8_t last = is_end && taken > 0 ? bytes[taken - 1] : 0;
+    bool is_c1 = last >= 0x80 && last <= 0x9f;
+
+    return last == 0x07 || last == 0x18 || last == 0x1a || last == 0x1b || is_c1 ? last : 0;
+}
+
+/*
  * Writes the UTF-8 of a character, as the `byte` of an event ESCAPE_STREAM_CHARACTER, to `out`, and
  * returns how many bytes it has: 1 to 4. A number that is no character is written as U+FFFD.
  */
