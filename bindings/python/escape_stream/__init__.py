@@ -36,7 +36,9 @@ from escape_stream._events import (
 from escape_stream._fields import FieldName
 from escape_stream._filter import Filter
 from escape_stream._functions import Function, function
+from escape_stream._html import Page, html
 from escape_stream._images import Image, ImageKind, Medium, image
+from escape_stream._library import VERSION as __version__
 from escape_stream._normalizer import Normalizer
 from escape_stream._parser import Parser, events, joined
 from escape_stream._whole import DEFAULT_LIMIT, Policy, filter, is_normal, normal
@@ -64,6 +66,7 @@ __all__ = [
     "Medium",
     "Normalizer",
     "Osc",
+    "Page",
     "Parser",
     "Policy",
     "Sixel",
@@ -71,11 +74,13 @@ __all__ = [
     "SixelKind",
     "TermcapQuery",
     "Text",
+    "__version__",
     "actions",
     "command",
     "events",
     "filter",
     "function",
+    "html",
     "image",
     "is_normal",
     "joined",

@@ -5,6 +5,7 @@ from collections.abc import Iterable, Iterator
 from dataclasses import dataclass
 from typing import TypeAlias
 
+from escape_stream import _library
 from escape_stream._commands import Command, command
 from escape_stream._devices import Sixel, TermcapQuery, sixel, termcap_query
 from escape_stream._events import (
@@ -54,7 +55,7 @@ Action: TypeAlias = (
 
 
 def actions(
-    stream: bytes | Iterable[bytes],
+    stream: _library.Bytes | Iterable[_library.Bytes],
     limit: int = DEFAULT_LIMIT,
     data_limit: int = DEFAULT_DATA_LIMIT,
 ) -> Iterator[Action]:

@@ -90,7 +90,7 @@ class Command:
         return written(_library.write_osc, self.fields, self.kind)
 
 
-def command(text: bytes) -> Command:
+def command(text: _library.Bytes) -> Command:
     """Returns what the text of an operating system command says: that of an event `Osc`. Any bytes
     are such a text.
 

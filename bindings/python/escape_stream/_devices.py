@@ -114,7 +114,7 @@ class TermcapQuery:
         return written(_library.write_tcap, tuple((FieldName.NAME, name) for name in self.names))
 
 
-def termcap_query(data: bytes) -> TermcapQuery:
+def termcap_query(data: _library.Bytes) -> TermcapQuery:
     """Returns what the data of a device control string with `+q` asks for. Any bytes are such data.
 
     >>> from escape_stream import termcap_query
@@ -127,7 +127,7 @@ def termcap_query(data: bytes) -> TermcapQuery:
     return TermcapQuery(tuple(str(value) for _, value in fields))
 
 
-def sixel(parameters: Sequence[int], data: bytes) -> Sixel:
+def sixel(parameters: Sequence[int], data: _library.Bytes) -> Sixel:
     """Returns the image of a device control string with `q`: of its parameters and its data. Any
     are such an image.
 

@@ -92,11 +92,14 @@ Raw: TypeAlias = _library.RawOsc | _library.RawImage | _library.RawQuery
 
 
 def read(
-    call: Callable[..., int], raw: Raw, text: bytes, as_bytes: Collection[tuple[int, int]]
+    call: Callable[..., int],
+    raw: Raw,
+    stream: _library.Bytes,
+    as_bytes: Collection[tuple[int, int]],
 ) -> tuple[int, Fields]:
     """Returns the kind and the fields that a call finds in a text. Those in `as_bytes`, by kind and
     name, are no `str`."""
-    text = _library.bytes_of(text)
+    text = _library.bytes_of(stream)
     # First in as much room as most need.
     room = 8, len(text)
     while True:

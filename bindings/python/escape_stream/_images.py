@@ -74,7 +74,7 @@ class Image:
         return written(_library.write_kitty, self.fields, self.kind)
 
 
-def image(text: bytes) -> Image | None:
+def image(text: _library.Bytes) -> Image | None:
     """Returns what the text of an application program command says, that of an event `Apc`; None
     where it is no image.
 

@@ -27,7 +27,7 @@ class InPieces:
         self._raw = raw
         self._room = (c_ubyte * _ROOM)()
 
-    def feed(self, piece: bytes) -> bytes:
+    def feed(self, piece: _library.Bytes) -> bytes:
         """Takes the next piece of the stream, and returns the text that it adds.
 
         Raises MemoryError where a request for memory was refused: it is then closed, and the texts

@@ -22,8 +22,12 @@ from ctypes import (
     c_uint64,
     c_void_p,
 )
+from mmap import mmap
 from pathlib import Path
 from threading import Lock
+
+Bytes = bytes | bytearray | memoryview | mmap
+"""What has the bytes of a stream."""
 
 DONE, NO_MEMORY, UNKNOWN_POLICY, NOT_BEGUN, NO_COMMAND, NOT_WRITABLE = range(6)
 
@@ -151,7 +155,7 @@ class RawQuery(Structure):
     @property
     def field_count(self) -> int:
         """How many names it has."""
-        return self.name_count
+        return int(self.name_count)
 
 
 class RawSixelItem(Structure):
@@ -195,6 +199,12 @@ _PLACE = str(Path(__file__).parent / "libescape_stream.so")
 _long = ctypes.CDLL(_PLACE)
 # The others do not, so of one parser no two run at the same time.
 _short = ctypes.PyDLL(_PLACE)
+
+_version = _short.escape_stream_version
+_version.argtypes = ()
+_version.restype = c_char_p
+VERSION: str = _version().decode("ascii")
+"""The version of the library that is loaded."""
 
 _length = (c_char_p, c_size_t)
 _room = (POINTER(c_ubyte), c_size_t)
@@ -377,7 +387,7 @@ def signed(number: int) -> int:
     return number
 
 
-def bytes_of(stream: bytes) -> bytes:
+def bytes_of(stream: Bytes) -> bytes:
     """Returns the bytes of what has bytes: of `bytes` itself no copy."""
     return stream if type(stream) is bytes else bytes(memoryview(stream))
 

@@ -6,6 +6,7 @@ import threading
 from collections.abc import Iterable, Iterator
 from ctypes import byref, c_ubyte
 from itertools import groupby
+from mmap import mmap
 
 from escape_stream import _library
 from escape_stream._events import (
@@ -41,7 +42,7 @@ class Parser:
         self._entries = memoryview(self._event).cast("B")[RawEvent.entries.offset :]
         _library.begin(byref(self._raw))
 
-    def feed(self, piece: bytes) -> list[Event]:
+    def feed(self, piece: _library.Bytes) -> list[Event]:
         """Takes the next piece of the stream, and returns the events that it adds.
 
         However a stream is cut, its events are the same, but that a run of text or data may come in
@@ -138,14 +139,17 @@ class Parser:
         return bytes(memoryview(self._buffer)[half : half + self._event.length])
 
 
-def events(stream: bytes | Iterable[bytes], limit: int = DEFAULT_LIMIT) -> Iterator[Event]:
+def events(
+    stream: _library.Bytes | Iterable[_library.Bytes], limit: int = DEFAULT_LIMIT
+) -> Iterator[Event]:
     """Yields the events of a stream: of bytes, or of pieces as they come, such as those of
     `iter(lambda: file.read(65536), b"")`.
 
     What is unfinished at its end adds nothing.
     """
     parser = Parser(limit)
-    for piece in [stream] if isinstance(stream, bytes | bytearray | memoryview) else stream:
+    pieces = [stream] if isinstance(stream, bytes | bytearray | memoryview | mmap) else stream
+    for piece in pieces:
         for at in range(0, len(piece), _PIECE):
             yield from parser.feed(piece[at : at + _PIECE])
 

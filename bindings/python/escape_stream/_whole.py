@@ -26,7 +26,9 @@ class Policy(IntEnum):
     input alone."""
 
 
-def filter(stream: bytes, policy: Policy = Policy.TEXT, limit: int = DEFAULT_LIMIT) -> bytes:
+def filter(
+    stream: _library.Bytes, policy: Policy = Policy.TEXT, limit: int = DEFAULT_LIMIT
+) -> bytes:
     """Returns what the policy admits of a stream, and nothing else.
 
     The text reads back as the actions that were admitted, whatever bytes follow it: no text of the
@@ -42,7 +44,7 @@ def filter(stream: bytes, policy: Policy = Policy.TEXT, limit: int = DEFAULT_LIM
     )
 
 
-def normal(stream: bytes) -> bytes:
+def normal(stream: _library.Bytes) -> bytes:
     """Returns the normal form of a stream: each of its actions, in order, in its one spelling.
 
     Normal form is no protection: for a stream of unknown origin there is `filter`.
@@ -53,7 +55,7 @@ def normal(stream: bytes) -> bytes:
     return _whole(len(stream), lambda *out: _library.normal(stream, len(stream), *out))
 
 
-def is_normal(stream: bytes) -> bool:
+def is_normal(stream: _library.Bytes) -> bool:
     """Says whether a stream is its own normal form.
 
     Raises MemoryError where a request for memory was refused.

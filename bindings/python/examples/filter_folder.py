@@ -14,6 +14,7 @@ import argparse
 import sys
 from collections import Counter
 from pathlib import Path
+from typing import Any
 
 from dask.distributed import Client
 
@@ -67,7 +68,8 @@ def main() -> None:
     policy = int(Policy[given.policy.upper()])
     here = {"n_workers": given.workers, "threads_per_worker": 1, "dashboard_address": None}
     where = {"address": given.scheduler} if given.scheduler else here
-    with Client(**where) as client:  # type: ignore[no-untyped-call]
+    connect: Any = Client
+    with connect(**where) as client:
         tasks = [
             client.submit(filter_file, str(it), str(given.out / it.name), policy) for it in files
         ]

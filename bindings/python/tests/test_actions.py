@@ -110,7 +110,8 @@ def test_actions_are_as_in_the_tables() -> None:
             if is_named(word, text, name)
         ]
         kinds = tuple(NAMES.values())
-        for pieces in (stream, [stream[at : at + 1] for at in range(len(stream))]):
+        streams: list[bytes | list[bytes]] = [stream, [bytes([it]) for it in stream]]
+        for pieces in streams:
             found = [it for it in actions(pieces) if isinstance(it, kinds)]
             # Three controls have no name, and are no actions of the tables.
             named = [
