@@ -32,8 +32,9 @@ struct events {
  * ESCAPE               the final byte; the intermediates
  * CSI                  the final byte; whether more came; how many entries it has, and these
  * OSC, APC             the length of its text, in the buffer
- * DCS                  the final byte; the intermediates; the length of its parameters, in the
- * buffer DATA                 where it begins in the bytes; its length
+ * DCS                  the final byte; the intermediates; the length of its parameters, which are
+ *                      in the buffer
+ * DATA                 where it begins in the bytes; its length
  */
 void next_events(struct events *it, uint8_t *buffer, size_t size, const uint8_t *bytes,
                  size_t length);
