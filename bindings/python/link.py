@@ -1,6 +1,6 @@
 #!/usr/bin/env python3
 # SPDX-License-Identifier: MIT
-"""Links the proved archive into the shared object that the package loads.
+"""Links the proved archive, and events.c, into the shared object that the package loads.
 
   python3 link.py FOLDER FILE    FOLDER has libescape_stream.a; FILE is made
 
@@ -14,6 +14,10 @@ import tempfile
 from pathlib import Path
 
 ARCHIVE = "libescape_stream.a"
+HERE = Path(__file__).resolve().parent
+# Where the header lies: beside this file, in the repository, in a release. Else it is looked for
+# beside the folder with the archive.
+HEADERS = [HERE, HERE / "../../crates/stream_c/include", HERE / "../../include"]
 # Only the calls of the headers are seen from outside.
 EXPORTS = "{ global: escape_stream_*; local: *; };\n"
 
@@ -29,6 +33,8 @@ def link(folder: Path, made: Path) -> None:
         exports.flush()
         words = [os.environ.get("CC") or "cc", "-shared", "-o", str(made)]
         words += [f"-Wl,--version-script={exports.name}", "-Wl,--gc-sections", "-Wl,-z,defs"]
+        words += ["-std=c11", "-O2", "-fPIC", str(HERE / "events.c")]
+        words += [f"-I{it}" for it in (*HEADERS, folder / "../include")]
         words += ["-Wl,--whole-archive", str(archive), "-Wl,--no-whole-archive"]
         subprocess.run(words, check=True)
 

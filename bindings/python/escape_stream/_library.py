@@ -36,8 +36,6 @@ DCS, DATA, DATA_BYTE, DCS_END, APC, FAILED, LIMIT = range(7, 14)
 
 VALUE_NUMBER, VALUE_TEXT, VALUE_SIZE = range(3)
 
-MOST_ENTRIES = 256
-
 
 class RawFilter(Structure):
     """`struct escape_stream_filter_state`."""
@@ -55,58 +53,6 @@ class RawNormalizer(Structure):
     """`struct escape_stream_normalizer`."""
 
     _fields_ = [("is_begun", c_bool), ("state", c_void_p)]
-
-
-class RawEntry(Structure):
-    """`struct escape_stream_entry`."""
-
-    _fields_ = [("number", c_int64), ("byte", c_ubyte), ("is_byte", c_bool)]
-
-
-# The fields of an entry, in the memory of an event.
-ENTRY = struct.Struct("qB?6x")
-
-
-class RawEvent(Structure):
-    """`struct escape_stream_event`."""
-
-    _fields_ = [
-        ("kind", c_uint32),
-        ("byte", c_uint32),
-        ("start", c_size_t),
-        ("length", c_size_t),
-        ("intermediates", c_ubyte * 2),
-        ("kept", c_size_t),
-        ("has_more", c_bool),
-        ("count", c_size_t),
-        ("entries", RawEntry * MOST_ENTRIES),
-    ]
-
-
-class RawParser(Structure):
-    """`struct escape_stream_parser`."""
-
-    _fields_ = [
-        ("state", c_uint32),
-        ("pending", c_uint32),
-        ("first", c_ubyte),
-        ("second", c_ubyte),
-        ("third", c_ubyte),
-        ("intermediates", c_ubyte * 2),
-        ("kept", c_size_t),
-        ("has_more", c_bool),
-        ("form", c_uint32),
-        ("count", c_size_t),
-        ("entries", RawEntry * MOST_ENTRIES),
-        ("is_truncated", c_bool),
-        ("is_open", c_bool),
-        ("number", c_uint64),
-        ("text", c_size_t),
-        ("is_over", c_bool),
-        ("due_kind", c_uint32),
-        ("due_value", c_uint32),
-        ("has_failed", c_bool),
-    ]
 
 
 class RawFunction(Structure):
@@ -281,18 +227,23 @@ normal_end = _short.escape_stream_normal_end
 normal_end.argtypes = (POINTER(RawNormalizer),)
 normal_end.restype = None
 
-begin = _short.escape_stream_begin
-begin.argtypes = (POINTER(RawParser),)
-begin.restype = None
+# Many events at one call: the calls and the struct `many` of events.c. It begins with how many bytes
+# were taken, how many words of records, bytes of text and bytes of strings follow, whether it is
+# done, and whether the last string is in the buffer.
+MANY = struct.Struct("6I")
+MANY_WORDS, MANY_TEXT, MANY_SIZE = 16_384, 3 * 32_768 + 16, 300_000
 
-next_event = _short.escape_stream_next
-# Places in memory are given as numbers, which cost the least at each event.
-next_event.argtypes = (c_void_p, c_void_p, c_size_t, c_void_p, c_size_t, c_void_p)
-next_event.restype = c_size_t
+many_begin = _short.escape_stream_many_begin
+many_begin.argtypes = (c_void_p,)
+many_begin.restype = None
 
-is_ground = _short.escape_stream_is_ground
-is_ground.argtypes = (POINTER(RawParser),)
-is_ground.restype = c_bool
+many_next = _short.escape_stream_many_next
+many_next.argtypes = (c_void_p, c_void_p, c_size_t, c_void_p, c_size_t)
+many_next.restype = None
+
+many_is_ground = _short.escape_stream_many_is_ground
+many_is_ground.argtypes = (c_void_p,)
+many_is_ground.restype = c_bool
 
 control_function = _short.escape_stream_function
 control_function.argtypes = (c_ubyte, c_ubyte, c_ubyte, c_size_t, POINTER(RawFunction))

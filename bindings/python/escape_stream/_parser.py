@@ -4,7 +4,7 @@
 import ctypes
 import threading
 from collections.abc import Iterable, Iterator
-from ctypes import byref, c_ubyte
+from ctypes import c_ubyte
 from itertools import groupby
 from mmap import mmap
 
@@ -22,25 +22,27 @@ from escape_stream._events import (
     Osc,
     Text,
 )
-from escape_stream._library import RawEvent, RawParser
 from escape_stream._whole import DEFAULT_LIMIT
 
 _PIECE = 65_536
+# How many control sequences are kept, so that one that comes again is not made again.
+_MOST_KEPT = 4096
+# What begins each byte, and each long number, among the words of a control sequence.
+_BYTE, _LONG = 1 << 31, 1 << 30
 
 
 class Parser:
     """A parser of a stream that comes in pieces. It takes memory when it is made: two bytes for
-    each of its limit. Any thread may use it, and one at a time."""
+    each of its limit, and 0.3 MB. Any thread may use it, and one at a time."""
 
     def __init__(self, limit: int = DEFAULT_LIMIT) -> None:
         """Begins a stream. `limit` is how many bytes a string may have that is handed out."""
         self._in_use = threading.Lock()
-        self._raw = RawParser()
-        self._event = RawEvent()
+        self._many = (c_ubyte * _library.MANY_SIZE)()
         self._size = 2 * _library.limit_of(limit)
         self._buffer = (c_ubyte * self._size)()
-        self._entries = memoryview(self._event).cast("B")[RawEvent.entries.offset :]
-        _library.begin(byref(self._raw))
+        self._sequences: dict[bytes, Csi] = {}
+        _library.many_begin(ctypes.addressof(self._many))
 
     def feed(self, piece: _library.Bytes) -> list[Event]:
         """Takes the next piece of the stream, and returns the events that it adds.
@@ -54,89 +56,145 @@ class Parser:
         with _library.used(self._in_use, "parser"):
             return self._events_of(piece)
 
-    def _events_of(self, piece: bytes) -> list[Event]:
-        start = ctypes.cast(ctypes.c_char_p(piece), ctypes.c_void_p).value or 0
-        raw, room, event = map(ctypes.addressof, (self._raw, self._buffer, self._event))
-        found: list[Event] = []
-        at = 0
-        while True:
-            taken = _library.next_event(raw, room, self._size, start + at, len(piece) - at, event)
-            if self._event.kind == _library.NONE:
-                return found
-            found.append(self._noted(piece, at))
-            at += taken
-
     def is_ground(self) -> bool:
         """Returns whether no character, sequence or string of the stream so far is unfinished."""
-        return bool(_library.is_ground(byref(self._raw)))
+        return bool(_library.many_is_ground(ctypes.addressof(self._many)))
 
-    def _noted(self, piece: bytes, at: int) -> Event:
-        """Returns the event of a call that was given the bytes of the piece from a place on."""
-        event = self._event
-        kind, byte = event.kind, event.byte
-        if kind == _library.TEXT:
-            return Text(self._run(piece, at).decode())
-        if kind == _library.CHARACTER:
-            return Text(chr(byte))
-        if kind == _library.CONTROL:
-            return Control(byte)
-        if kind == _library.ESCAPE:
-            return Escape(self._intermediates(), chr(byte), event.has_more)
-        if kind == _library.CSI:
-            return self._control_sequence()
-        if kind == _library.OSC:
-            return Osc(self._string())
-        if kind == _library.DCS:
-            return Dcs(self._string(), self._intermediates(), chr(byte), event.has_more)
-        if kind == _library.DATA:
-            return Data(self._run(piece, at))
-        if kind == _library.DATA_BYTE:
-            return Data(bytes([byte]))
-        if kind == _library.DCS_END:
-            return DcsEnd()
-        if kind == _library.APC:
-            return Apc(self._string())
-        if kind == _library.LIMIT:
-            return LimitPassed()
-        raise RuntimeError("the parser failed: something else wrote its memory")
+    def _events_of(self, piece: bytes) -> list[Event]:
+        start = ctypes.cast(ctypes.c_char_p(piece), ctypes.c_void_p).value or 0
+        many, buffer = ctypes.addressof(self._many), ctypes.addressof(self._buffer)
+        found: list[Event] = []
+        at, is_done = 0, False
+        while not is_done or at < len(piece):
+            _library.many_next(many, buffer, self._size, start + at, len(piece) - at)
+            taken, words, text, strings, done, is_lent = _library.MANY.unpack_from(self._many)
+            self._note(found, piece[at : at + taken], words, text, strings, bool(is_lent))
+            at, is_done = at + taken, bool(done)
+        return found
 
-    def _control_sequence(self) -> Csi:
-        prefix, intermediates, number = "", "", None
-        groups: list[tuple[int | None, ...]] = []
-        group: list[int | None] = []
-        has_parameters = False
-        entries = self._entries[: self._event.count * _library.ENTRY.size]
-        for value, byte, is_byte in _library.ENTRY.iter_unpack(entries):
-            if not is_byte:
-                number, has_parameters = value, True
-            elif byte in b";:":
-                group.append(number)
-                number, has_parameters = None, True
-                if byte == ord(";"):
-                    groups.append(tuple(group))
-                    group = []
-            elif byte in b"<=>?":
-                prefix += chr(byte)
+    def _note(
+        self, found: list[Event], taken: bytes, words: int, text: int, strings: int, is_lent: bool
+    ) -> None:
+        """Adds the events of a call that took these bytes."""
+        view = memoryview(self._many)
+        first = _library.MANY.size
+        raw = bytes(view[first : first + 4 * words])
+        record = memoryview(raw).cast("I").tolist()
+        first += 4 * _library.MANY_WORDS
+        characters = str(view[first : first + text], "utf-8")
+        first += _library.MANY_TEXT
+        kept = bytes(view[first : first + strings])
+        of_text = of_strings = i = 0
+        while i < words:
+            kind = record[i]
+            if kind == _library.TEXT:
+                end = of_text + record[i + 1]
+                found.append(Text(characters[of_text:end]))
+                of_text, i = end, i + 2
+            elif kind == _library.CSI:
+                end = i + 2 + record[i + 1]
+                key = raw[4 * i + 8 : 4 * end]
+                sequence = self._sequences.get(key)
+                if sequence is None:
+                    sequence = self._kept(key, record[i + 2 : end])
+                found.append(sequence)
+                i = end
+            elif kind == _library.CONTROL:
+                found.append(Control(record[i + 1]))
+                i += 2
+            elif kind == _library.ESCAPE:
+                intermediates, has_more = _marks(record[i + 2])
+                found.append(Escape(intermediates, chr(record[i + 1]), has_more))
+                i += 3
+            elif kind == _library.DATA:
+                found.append(Data(taken[record[i + 1] : record[i + 1] + record[i + 2]]))
+                i += 3
+            elif kind == _library.DATA_BYTE:
+                found.append(Data(bytes([record[i + 1]])))
+                i += 2
+            elif kind == _library.DCS_END:
+                found.append(DcsEnd())
+                i += 1
+            elif kind == _library.LIMIT:
+                found.append(LimitPassed())
+                i += 1
+            elif kind == _library.FAILED:
+                raise RuntimeError("the parser failed: something else wrote its memory")
             else:
-                intermediates += chr(byte)
-        if has_parameters:
-            groups.append((*group, number))
-        return Csi(
-            prefix, tuple(groups), intermediates, chr(self._event.byte), self._event.has_more
-        )
+                size = 4 if kind == _library.DCS else 2
+                length = record[i + size - 1]
+                if is_lent and i + size == words:
+                    string = self._lent(length)
+                else:
+                    string = kept[of_strings : of_strings + length]
+                    of_strings += length
+                found.append(_of_string(kind, string, record[i + 1 : i + 3]))
+                i += size
 
-    def _intermediates(self) -> str:
-        return bytes(self._event.intermediates[: self._event.kept]).decode("ascii")
+    def _kept(self, key: bytes, words: list[int]) -> Csi:
+        """Returns a control sequence, and keeps it under its words."""
+        if len(self._sequences) >= _MOST_KEPT:
+            self._sequences.clear()
+        sequence = self._sequences[key] = _control_sequence(words)
+        return sequence
 
-    def _run(self, piece: bytes, at: int) -> bytes:
-        """Returns a run in the bytes of a call that began at this place of the piece."""
-        start = at + self._event.start
-        return piece[start : start + self._event.length]
-
-    def _string(self) -> bytes:
+    def _lent(self, length: int) -> bytes:
         """Returns a text in the upper half of the buffer."""
         half = self._size // 2
-        return bytes(memoryview(self._buffer)[half : half + self._event.length])
+        return bytes(memoryview(self._buffer)[half : half + length])
+
+
+def _marks(marks: int) -> tuple[str, bool]:
+    """Returns the intermediates, and whether more came."""
+    kept = marks >> 16 & 0xFF
+    return bytes([marks & 0xFF, marks >> 8 & 0xFF])[:kept].decode("ascii"), bool(marks >> 24)
+
+
+def _of_string(kind: int, string: bytes, words: list[int]) -> Event:
+    """Returns the event of a string."""
+    if kind == _library.OSC:
+        return Osc(string)
+    if kind == _library.APC:
+        return Apc(string)
+    intermediates, has_more = _marks(words[1])
+    return Dcs(string, intermediates, chr(words[0]), has_more)
+
+
+def _entries(words: list[int]) -> Iterator[tuple[int, bool]]:
+    """Yields the entries of a control sequence, and whether each is a byte."""
+    rest = iter(words)
+    for word in rest:
+        if word & _BYTE:
+            yield word & 0xFF, True
+        elif word & _LONG:
+            low = next(rest)
+            yield low | next(rest) << 32, False
+        else:
+            yield word, False
+
+
+def _control_sequence(words: list[int]) -> Csi:
+    """Returns a control sequence by its final byte, whether more came, and its entries."""
+    prefix, intermediates, number = "", "", None
+    groups: list[tuple[int | None, ...]] = []
+    group: list[int | None] = []
+    has_parameters = False
+    for value, is_byte in _entries(words[2:]):
+        if not is_byte:
+            number, has_parameters = value, True
+        elif value in b";:":
+            group.append(number)
+            number, has_parameters = None, True
+            if value == ord(";"):
+                groups.append(tuple(group))
+                group = []
+        elif value in b"<=>?":
+            prefix += chr(value)
+        else:
+            intermediates += chr(value)
+    if has_parameters:
+        groups.append((*group, number))
+    return Csi(prefix, tuple(groups), intermediates, chr(words[0]), bool(words[1]))
 
 
 def events(

@@ -18,9 +18,6 @@ STRUCTS: dict[str, type[ctypes.Structure]] = {
     "escape_stream_filter": _library.RawFilter,
     "escape_stream_html": _library.RawPage,
     "escape_stream_normalizer": _library.RawNormalizer,
-    "escape_stream_entry": _library.RawEntry,
-    "escape_stream_event": _library.RawEvent,
-    "escape_stream_parser": _library.RawParser,
     "escape_stream_function": _library.RawFunction,
     "escape_stream_field": _library.RawField,
     "escape_stream_osc": _library.RawOsc,
@@ -81,6 +78,3 @@ def test_layout(tmp_path: Path) -> None:
     subprocess.run(words, check=True)
     said = subprocess.run([tmp_path / "layout"], check=True, capture_output=True, text=True).stdout
     assert dict(zip(wanted, map(int, said.split()))) == wanted
-    # An entry is also read by its bytes.
-    entry = _library.RawEntry(-5, 7, True)
-    assert _library.ENTRY.unpack(bytes(entry)) == (entry.number, entry.byte, entry.is_byte)
