@@ -3,12 +3,14 @@ ghost use Rattle.std.specs.Prelude.{◌≤◌, length};
 
 use crate::carried::Carried;
 use crate::item::Item;
-use crate::json::add_object;
+use crate::kind::Kind;
 use crate::line::{add_line, add_said};
+use crate::objects::add_object;
 use crate::options::{Form, Options};
 use crate::resume::{held_back, resumed};
 use crate::stats::Stats;
 use crate::words::Words;
+use dump_input::{Found, Sent, add_sent, found_in, paste_end_in};
 use dump_page::Page;
 use esc_parse::Parser;
 use esc_segments::{Segment, SegmentKind, Segments};
@@ -34,6 +36,11 @@ pub struct Dump<'n> {
     known: usize,
     // The kind of what is begun.
     unfinished: SegmentKind,
+    // Whether what is begun may be a key; whether nothing comes after it; and whether a paste goes
+    // on.
+    is_waiting: bool,
+    is_last: bool,
+    is_pasting: bool,
     stats: Stats,
     page: Page,
 }
@@ -53,6 +60,9 @@ impl<'n> Dump<'n> {
             begun: Vec::new(alloc),
             known: 0,
             unfinished: SegmentKind::Control,
+            is_waiting: false,
+            is_last: false,
+            is_pasting: false,
             stats: Stats::new(alloc),
             page: Page::new(alloc, options.is_colored),
         };
@@ -72,6 +82,11 @@ impl<'n> Dump<'n> {
                 self.page.end_line();
             }
         }
+    }
+
+    /// What comes now comes at this time.
+    pub fn set_time(&mut self, time: u64) {
+        self.item.now = Some(time);
     }
 
     /// The lines since they were cleared.
@@ -95,10 +110,17 @@ impl<'n> Dump<'n> {
     fn take_segments(&mut self, bytes: &[u8]) {
         let mut known = self.known;
         self.known = 0;
+        self.is_waiting = false;
         let mut rest = bytes;
         for _ in 0..u64::MAX {
             if known == 0 {
                 rest = self.take_shown(rest);
+                if self.options.is_input && !self.is_closing {
+                    rest = self.take_sent(rest);
+                    if self.is_waiting {
+                        break;
+                    }
+                }
             }
             let Some(segment) = Segments::new(rest).next() else {
                 break;
@@ -117,6 +139,50 @@ impl<'n> Dump<'n> {
             self.take_piece(SegmentKind::Character, shown);
         }
         rest
+    }
+
+    // Takes the keys and other things that a terminal sends which come first, and text between
+    // them, and returns what is after them. What may be one waits for more bytes.
+    fn take_sent<'b>(&mut self, bytes: &'b [u8]) -> &'b [u8] {
+        let mut rest = bytes;
+        for _ in 0..u64::MAX {
+            let found = if self.is_pasting {
+                paste_end_in(rest, self.is_last)
+            } else {
+                found_in(rest, self.is_last)
+            };
+            match found {
+                Found::Other => break,
+                Found::More => {
+                    self.keep(rest);
+                    self.is_waiting = true;
+                    break;
+                }
+                Found::Input(length, sent) => {
+                    let (first, after) = rest.split_at(length.min(rest.len()));
+                    self.add_sent(sent, first);
+                    rest = self.take_shown(after);
+                }
+            }
+        }
+        rest
+    }
+
+    // Adds the line of what a terminal sends.
+    fn add_sent(&mut self, sent: Sent, bytes: &[u8]) {
+        self.end_text();
+        let limit = self.options.limit;
+        self.page
+            .note(!self.item.add(SegmentKind::Csi, bytes, limit));
+        match sent {
+            Sent::Key(_, _) | Sent::Typed(_, _) => self.item.set_kind(Kind::Key),
+            Sent::Mouse(_) => self.item.set_kind(Kind::Mouse),
+            Sent::Paste(is_begin) => self.is_pasting = is_begin,
+            Sent::Focus(_) => {}
+        }
+        self.words.is_whole = true;
+        add_sent(sent, &mut self.words.phrase);
+        self.end_line(true);
     }
 
     // Takes the bytes of a segment after those that are known, of an unfinished one but for those
@@ -160,6 +226,7 @@ impl<'n> Dump<'n> {
     /// Adds the line of what the stream leaves unfinished, and those of what it holds, where they
     /// are asked for.
     pub fn finish(&mut self) {
+        self.end_waiting();
         let begun = mem::replace(&mut self.begun, Vec::new(self.alloc));
         let rest = &begun[self.known.min(begun.len())..];
         if !rest.is_empty() {
@@ -173,6 +240,15 @@ impl<'n> Dump<'n> {
         match self.options.form {
             Form::Stats => self.stats.add_lines(&mut self.page),
             Form::Words | Form::Segments | Form::Bytes | Form::Json => {}
+        }
+    }
+
+    // Takes what waits to be a key, after which nothing comes.
+    fn end_waiting(&mut self) {
+        if self.is_waiting {
+            self.is_last = true;
+            let begun = mem::replace(&mut self.begun, Vec::new(self.alloc));
+            self.take_segments(&begun);
         }
     }
 

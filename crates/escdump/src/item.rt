@@ -11,8 +11,14 @@ pub struct Item {
     pub place: u64,
     /// How many bytes of it came.
     pub length: u64,
+    /// When its first byte came, in microseconds, where the stream has times.
+    pub time: Option<u64>,
+    /// When what comes now comes.
+    pub now: Option<u64>,
     /// The kind of what came of it last.
     pub segment: SegmentKind,
+    // What a terminal sends by it, where its segment does not say that.
+    sent: Option<Kind>,
     // The letter that opens it, as `]`; 0, where it has not come.
     letter: u8,
     // How many of its bytes come up to that letter.
@@ -28,7 +34,10 @@ impl Item {
         Item {
             place: 0,
             length: 0,
+            time: None,
+            now: None,
             segment: SegmentKind::Control,
+            sent: None,
             letter: 0,
             opened: 0,
             closed: 0,
@@ -48,12 +57,23 @@ impl Item {
 
     /// Its kind.
     pub fn kind(&self) -> Kind {
-        Kind::of(self.segment, self.letter)
+        match self.sent {
+            Some(kind) => kind,
+            None => Kind::of(self.segment, self.letter),
+        }
+    }
+
+    /// It is of this kind, whatever its segment is.
+    pub fn set_kind(&mut self, kind: Kind) {
+        self.sent = Some(kind);
     }
 
     /// Adds some bytes, of which as many are kept as the limit allows, and of a run of text all;
     /// returns whether memory was there for them.
     pub fn add(&mut self, segment: SegmentKind, bytes: &[u8], limit: usize) -> bool {
+        if self.length == 0 {
+            self.time = self.now;
+        }
         self.segment = segment;
         self.length = self.length.saturating_add(bytes.len() as u64);
         if segment == SegmentKind::Character {
@@ -133,6 +153,7 @@ impl Item {
     pub fn end(&mut self) {
         self.place = self.place.saturating_add(self.length);
         self.length = 0;
+        self.sent = None;
         self.letter = 0;
         self.opened = 0;
         self.closed = 0;

@@ -31,12 +31,16 @@ pub enum Kind {
     Broken,
     /// A byte that is no part of UTF-8.
     Stray,
+    /// A key.
+    Key,
+    /// A report of the mouse.
+    Mouse,
 }
 
 /// The words of the options for the kinds, in the order of [`Kind`].
 pub const KINDS: &[&str] = &[
     "text", "control", "escape", "csi", "dcs", "osc", "apc", "sos", "pm", "st", "cut", "broken",
-    "stray",
+    "stray", "key", "mouse",
 ];
 
 impl Kind {
@@ -88,6 +92,8 @@ impl Kind {
             Kind::Cut => "sequence cut short",
             Kind::Broken => "broken UTF-8",
             Kind::Stray => "stray byte",
+            Kind::Key => "key",
+            Kind::Mouse => "mouse",
         }
     }
 

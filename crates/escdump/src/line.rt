@@ -8,6 +8,7 @@ use crate::item::Item;
 use crate::kind::Kind;
 use crate::options::Form;
 use crate::osc_words::add_command;
+use crate::times::add_seconds;
 use crate::words::Words;
 use dump_page::{Color, Page, Phrase};
 
@@ -21,6 +22,11 @@ const KIND: usize = 17;
 const STATE: usize = 45;
 
 const SEGMENT: usize = 56;
+
+// How many columns the seconds of a time have, and the whole time with what comes after it.
+const SECONDS: usize = 6;
+
+const TIME: usize = 15;
 
 // How many columns of bytes come before words; the last character may go past them.
 const ROOM: usize = 18;
@@ -41,38 +47,51 @@ pub fn add_line(
         Form::Words | Form::Json => add_words(item, words, is_finished, page),
         Form::Segments => add_segment(item, is_finished, width, page),
         Form::Bytes | Form::Stats => {
-            add_place(item.place, page);
+            add_place(item, page);
             push_bytes(item, width, page);
         }
     }
     page.end_line();
 }
 
-// The place.
-fn add_place(place: u64, page: &mut Page) {
+// The time, where there is one, and the place.
+fn add_place(item: &Item, page: &mut Page) {
+    let start = time_columns(item);
+    if let Some(time) = item.time {
+        page.color(Color::Place);
+        add_seconds(time, SECONDS, page.words());
+        page.color(Color::Plain);
+        page.pad(start);
+    }
     if page.is_colored() {
         page.color(Color::Place);
-        page.words().add_number(place, 8, 0);
+        page.words().add_number(item.place, 8, 0);
         page.color(Color::Plain);
-        page.pad(BYTES);
+        page.pad(start.saturating_add(BYTES));
     } else {
-        page.words().add_number(place, 8, 2);
+        page.words().add_number(item.place, 8, 2);
     }
+}
+
+// How many columns the time takes.
+fn time_columns(item: &Item) -> usize {
+    if item.time.is_some() { TIME } else { 0 }
 }
 
 // The place and the length of a segment, its kind, and its bytes.
 fn add_segment(item: &Item, is_finished: bool, width: usize, page: &mut Page) {
-    add_place(item.place, page);
+    add_place(item, page);
+    let start = time_columns(item);
     page.words().add_number(item.length, 6, 0);
-    page.pad(KIND);
+    page.pad(start.saturating_add(KIND));
     page.words().add(full_name(item.kind()));
-    page.pad(STATE);
+    page.pad(start.saturating_add(STATE));
     page.words().add(if is_finished {
         "finished"
     } else {
         "unfinished"
     });
-    page.pad(SEGMENT);
+    page.pad(start.saturating_add(SEGMENT));
     push_bytes(item, width, page);
 }
 
@@ -95,8 +114,8 @@ fn push_bytes(item: &Item, width: usize, page: &mut Page) {
 
 // The place, the first bytes, and the words.
 fn add_words(item: &Item, words: &mut Words, is_finished: bool, page: &mut Page) {
-    add_place(item.place, page);
-    add_first(item.bytes(), page);
+    add_place(item, page);
+    add_first(item, page);
     if item.is_text() {
         return add_text(item, words, page);
     }
@@ -139,13 +158,14 @@ fn add_text(item: &Item, words: &mut Words, page: &mut Page) {
 }
 
 // The first bytes. What is past the column is not read.
-fn add_first(bytes: &[u8], page: &mut Page) {
+fn add_first(item: &Item, page: &mut Page) {
+    let bytes = item.bytes();
     let most = bytes.len().min(WIDEST * ROOM + WIDEST);
     page.color(Color::Bytes);
     page.words().add_bytes(&bytes[..most], ROOM);
     page.words().forget_hidden();
     page.color(Color::Plain);
-    page.pad(WORDS);
+    page.pad(time_columns(item).saturating_add(WORDS));
 }
 
 /// Adds the words of a segment, as far as they are not there yet.
@@ -177,7 +197,9 @@ pub fn add_said(item: &Item, words: &mut Words) {
             phrase.begin(kind.name(), "", "");
             phrase.add(cut_words(item));
         }
-        Kind::St | Kind::Broken | Kind::Stray => phrase.begin(kind.name(), "", kind.words()),
+        Kind::St | Kind::Broken | Kind::Stray | Kind::Key | Kind::Mouse => {
+            phrase.begin(kind.name(), "", kind.words())
+        }
     }
     if kind != Kind::Text {
         add_carried(item, words);

@@ -6,6 +6,7 @@ mod apc_words;
 mod carried;
 mod charsets;
 mod choices;
+mod color_spaces;
 mod color_words;
 mod controls;
 mod csi_table;
@@ -18,13 +19,13 @@ mod entries;
 mod escapes;
 mod fields;
 mod item;
-mod json;
 mod key_words;
 mod kind;
 mod line;
 mod mode_words;
 mod named;
 mod notation;
+mod objects;
 mod options;
 mod osc_table;
 mod osc_words;
@@ -33,12 +34,15 @@ mod resume;
 mod rows;
 mod run;
 mod selection;
+mod source;
 mod stats;
+mod times;
 mod values;
+mod whole;
 mod words;
 
 use command_line::{
-    Ended, FAULT, OUTPUT, Work, last_status, open_closed, program_words, refused, work_through,
+    DONE, Ended, FAULT, OUTPUT, last_status, open_closed, program_words, refused, work_through,
 };
 use notation::bytes_of;
 use options::{Kind, Options, Task, When};
@@ -47,11 +51,12 @@ use std::env;
 use std::env::VarError;
 use std::io::{IsTerminal, Write};
 use std::process::ExitCode;
+use whole::Whole;
 
 const USAGE: &str = "\
-usage: escdump [-e|--explain text] [--segments] [--escape] [--json] [--stats] [--only kind,..] \
-[--skip kind,..] [--limit size] [--width size] [--color auto|always|never] [-h|--help] \
-[-V|--version] [--] [FILE..]";
+usage: escdump [-e|--explain text] [--segments] [--escape] [--json] [--stats] [--input] \
+[--timing file] [--only kind,..] [--skip kind,..] [--limit size] [--width size] \
+[--color auto|always|never] [-h|--help] [-V|--version] [--] [FILE..]";
 
 const HELP: &str = "\n\
 Prints each FILE, or standard input, as a readable line for each sequence and run of text.
@@ -64,8 +69,12 @@ Prints each FILE, or standard input, as a readable line for each sequence and ru
   --json          a line is an object of JSON
   --stats         a line for each name that came: how often, with how many bytes, how many
                   the longest has, and where the first is
+  --input         a stream is what a terminal sends: keys, the mouse, pastes and answers
+  --timing file   the timing of FILE, a typescript of script(1): a line has its time too, in
+                  seconds
   --only kind,..  prints lines of these names alone, as 'OSC 52', SGR or 'DECSET 1049', or of
-                  these kinds: text control escape csi dcs osc apc sos pm st cut broken stray
+                  these kinds: text control escape csi dcs osc apc sos pm st cut broken stray key
+                  mouse
   --skip kind,..  prints no lines of these names or kinds
   --limit size    the most bytes of a sequence or string that are kept (1MiB): a number,
                   as 65536, or 64K, 1M or 1G, also as 64KiB, in powers of 1024
@@ -131,7 +140,7 @@ fn width_of(rt: &HostRuntime, width: Option<usize>) -> usize {
 // Does what the words ask for.
 fn done(rt: &HostRuntime, task: &Task<'_>, options: Options<'_>) -> u8 {
     match task.kind {
-        Kind::Dump => dump_all(rt, options, task.explained, &task.files),
+        Kind::Dump => dump_task(rt, options, task),
         Kind::Help => said(rt, &[USAGE, HELP]),
         Kind::Version => said(rt, &[VERSION]),
     }
@@ -141,6 +150,29 @@ fn done(rt: &HostRuntime, task: &Task<'_>, options: Options<'_>) -> u8 {
 fn said(rt: &HostRuntime, texts: &[&'static str]) -> u8 {
     let done = say(rt.alloc(), texts, &mut rt.stdout());
     last_status(ended(done, OUTPUT, &mut rt.stderr()))
+}
+
+// Reads the timing file, where there is one, and prints the streams.
+fn dump_task(rt: &HostRuntime, options: Options<'_>, task: &Task<'_>) -> u8 {
+    let Some(name) = task.timing else {
+        return dump_all(rt, options, task.explained, &task.files);
+    };
+    let mut whole = Whole::new(rt.alloc(), rt.stderr());
+    let status = work_through(rt, PROGRAM, &[name], &mut whole, &mut rt.stderr());
+    if status != DONE {
+        return status;
+    }
+    dump_all(
+        rt,
+        timed(options, whole.bytes()),
+        task.explained,
+        &task.files,
+    )
+}
+
+// The options with this timing.
+fn timed<'a>(options: Options<'a>, timing: &'a [u8]) -> Options<'a> {
+    Options { timing, ..options }
 }
 
 // Prints what is to be explained, and one file after another.
@@ -163,7 +195,7 @@ fn dump_all(rt: &HostRuntime, options: Options<'_>, explained: Option<&str>, fil
 // Prints what a stream is that stands in the program's words.
 fn explain<W: Write, E: Write>(text: &str, dumping: &mut Dumping<'_, W, E>) -> Ended {
     match bytes_of(dumping.alloc, text) {
-        Ok(bytes) => dumping.take("--explain", bytes.as_slice()),
+        Ok(bytes) => dumping.take_stream("--explain", bytes.as_slice()),
         Err(_) => ended(Err(Fault::Memory), "--explain", &mut dumping.faults),
     }
 }

@@ -19,6 +19,15 @@ pub enum Form {
     Stats,
 }
 
+/// What the bytes of a file are.
+#[derive(Clone, Copy)]
+pub enum Recorded {
+    /// A stream.
+    Stream,
+    /// A typescript of script(1) that has a timing file.
+    Typescript,
+}
+
 /// When lines have colours.
 #[derive(Clone, Copy)]
 pub enum When {
@@ -35,6 +44,12 @@ pub enum When {
 pub struct Options<'a> {
     /// What a line is printed of.
     pub form: Form,
+    /// What the bytes of a file are.
+    pub recorded: Recorded,
+    /// Whether a stream is what a terminal sends, and not what it gets.
+    pub is_input: bool,
+    /// The timing of a typescript.
+    pub timing: &'a [u8],
     /// How many bytes are kept of a segment.
     pub limit: usize,
     /// How many bytes the words of a line may have, and its bytes.
@@ -71,6 +86,8 @@ pub struct Task<'a> {
     pub colors: When,
     /// How many bytes the words of a line may have, where that is given.
     pub width: Option<usize>,
+    /// The timing file of a typescript.
+    pub timing: Option<&'a str>,
     /// A stream as people write it, which comes before the files.
     pub explained: Option<&'a str>,
     /// The files.
@@ -110,6 +127,16 @@ const KNOWN: &[Known] = &[
         name: "--stats",
         letter: "",
         takes: Takes::Nothing,
+    },
+    Known {
+        name: "--input",
+        letter: "",
+        takes: Takes::Nothing,
+    },
+    Known {
+        name: "--timing",
+        letter: "",
+        takes: Takes::OneOf("file", &[]),
     },
     Known {
         name: "--only",
@@ -162,6 +189,7 @@ impl<'a> Task<'a> {
             options: DEFAULT,
             colors: When::Auto,
             width: None,
+            timing: None,
             explained: None,
             files: found.files,
         };
@@ -181,6 +209,11 @@ impl<'a> Task<'a> {
             "--escape" => options.form = Form::Bytes,
             "--json" => options.form = Form::Json,
             "--stats" => options.form = Form::Stats,
+            "--input" => options.is_input = true,
+            "--timing" => {
+                options.recorded = Recorded::Typescript;
+                self.timing = Some(given.word);
+            }
             "--only" => options.only = listed("--only", given.word)?,
             "--skip" => options.skip = listed("--skip", given.word)?,
             "--limit" => options.limit = given.size,
@@ -198,6 +231,9 @@ impl<'a> Task<'a> {
 // How streams are printed where the words do not say.
 const DEFAULT: Options<'static> = Options {
     form: Form::Words,
+    recorded: Recorded::Stream,
+    is_input: false,
+    timing: b"",
     limit: DEFAULT_LIMIT,
     width: usize::MAX,
     is_colored: false,

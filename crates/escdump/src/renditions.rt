@@ -1,11 +1,12 @@
 //! Renditions in words.
 
+use crate::color_spaces::{add_space, add_spaced};
 use crate::color_words::add_color;
 use crate::csi_words::add_entries;
-use crate::entries::{number_at, part_at};
+use crate::entries::number_at;
 use dump_page::Phrase;
 use esc_sequences::{Intensity, Sgr, Underline};
-use esc_typed::{Rendition, Renditions, Selection};
+use esc_typed::{ColorSpec, Rendition, Renditions, Selection};
 use esc_values::CsiParam;
 
 // A rendition, by its number.
@@ -129,51 +130,30 @@ pub fn add_renditions(params: &[CsiParam], to: &mut Phrase) {
     }
 }
 
-// Adds a rendition that the library does not read: a colour in a colour space, which comes before
-// its channels (ISO 8613-6; xterm's list, "Pi").
+// Adds a rendition that the library does not read: a colour of a colour space, or none that is
+// known.
 fn add_unknown(entries: &[CsiParam], to: &mut Phrase) {
-    let what = match (number_at(entries, 0), part_at(entries, 0, 1)) {
-        (Some(38), Some(2)) => "foreground #",
-        (Some(48), Some(2)) => "background #",
-        (Some(58), Some(2)) => "underline colour #",
-        _ => "",
-    };
-    match (
-        channel(entries, 3),
-        channel(entries, 4),
-        channel(entries, 5),
-    ) {
-        (Some(red), Some(green), Some(blue)) if !what.is_empty() => {
-            to.add(what);
-            for channel in [red, green, blue] {
-                to.add_hex(channel, b'a');
-            }
-            to.add(", in a colour space");
-        }
-        _ => {
-            to.add("not known");
-            add_entries(entries, to);
-        }
-    }
-}
-
-// The channel that is this part of the first parameter.
-fn channel(entries: &[CsiParam], part: usize) -> Option<u8> {
-    match part_at(entries, 0, part) {
-        Some(number) => u8::try_from(number).ok(),
-        None => None,
+    if !add_spaced(entries, to) {
+        to.add("not known");
+        add_entries(entries, to);
     }
 }
 
 // Adds the rendition of these parameters: colours are more than one text.
 fn add_rendition(rendition: Rendition, entries: &[CsiParam], to: &mut Phrase) {
     match rendition {
-        Rendition::Foreground(color) => add_color("foreground ", color, to),
-        Rendition::Background(color) => add_color("background ", color, to),
-        Rendition::UnderlineColor(color) => add_color("underline colour ", color, to),
+        Rendition::Foreground(color) => add_colored("foreground ", color, entries, to),
+        Rendition::Background(color) => add_colored("background ", color, entries, to),
+        Rendition::UnderlineColor(color) => add_colored("underline colour ", color, entries, to),
         Rendition::Underline(underline) => to.add(underline_words(underline)),
         _ => to.add(words_at(number_at(entries, 0).unwrap_or(0))),
     }
+}
+
+// Adds a colour, and what has it.
+fn add_colored(what: &'static str, color: ColorSpec, entries: &[CsiParam], to: &mut Phrase) {
+    add_color(what, color, to);
+    add_space(entries, to);
 }
 
 fn underline_words(underline: Underline) -> &'static str {

@@ -3,9 +3,11 @@ ghost use Rattle.std.specs.Prelude.{◌≡◌, ◌≤◌, IfOk, OnOk, length};
 ghost use Rattle.dump_page.specs.Pages.{AppendsPage};
 
 use crate::dump::Dump;
-use crate::options::Options;
+use crate::options::{Options, Recorded};
+use crate::source::Source;
 use command_line::{Ended, OUTPUT, Reason, Work, tell, unwritten};
 use dump_page::Page;
+use dump_time::TimeError;
 use std::alloc::Global;
 use std::io;
 use std::io::{ErrorKind, Read, Write};
@@ -20,6 +22,8 @@ pub enum Fault {
     Read(Reason),
     /// A write or a flush failed, for this reason.
     Write(Reason),
+    /// It is a recording that cannot be read to its end.
+    Recording(TimeError),
     /// Memory was refused.
     Memory,
 }
@@ -35,6 +39,24 @@ pub struct Dumping<'a, W, E> {
     pub output: W,
     /// Where what hinders goes.
     pub faults: E,
+}
+
+impl<'a, W: Write, E: Write> Dumping<'a, W, E> {
+    /// Prints the lines of a stream of this name that is no recording.
+    pub fn take_stream<R: Read + Drop>(&mut self, name: &str, mut input: R) -> Ended {
+        let options = Options {
+            recorded: Recorded::Stream,
+            ..self.options
+        };
+        dump_named(
+            self.alloc,
+            options,
+            name,
+            &mut input,
+            &mut self.output,
+            &mut self.faults,
+        )
+    }
 }
 
 impl<'a, W: Write, E: Write> Work for Dumping<'a, W, E> {
@@ -79,7 +101,7 @@ pub fn say<W: Write>(alloc: Global, texts: &[&'static str], output: &mut W) -> R
     for text in texts {
         push_lines(*text, &mut page);
     }
-    print(&mut page, output)
+    print(&mut page, Ok(()), output)
 }
 
 // Appends the lines of a text.
@@ -101,6 +123,10 @@ pub fn ended<E: Write>(done: Result<(), Fault>, name: &str, faults: &mut E) -> E
             tell(PROGRAM, name, reason, faults);
             Ended::Unread
         }
+        Err(Fault::Recording(error)) => {
+            tell(PROGRAM, name, error, faults);
+            Ended::Unread
+        }
         Err(Fault::Memory) => {
             tell(PROGRAM, name, "out of memory", faults);
             Ended::Unread
@@ -120,12 +146,14 @@ fn dump<R: Read, W: Write>(
     ensures { OnOk result (AppendsPage (W.contents output.old) (W.contents output.new)) }
 {
     let mut dump = Dump::new(alloc, options, name);
-    dump_all(&mut dump, input, output)
+    let mut source = Source::new(options);
+    dump_all(&mut source, &mut dump, input, output)
 }
 
-// The same, by way of this dump, to which nothing came yet.
+// The same, by way of this dump, to which nothing came yet, from this source.
 #[tactic(auto, using(dump_page::proofs::PagesMore::no_pages))]
 fn dump_all<R: Read, W: Write>(
+    source: &mut Source<'_>,
     dump: &mut Dump<'_>,
     input: &mut R,
     output: &mut W,
@@ -138,15 +166,16 @@ fn dump_all<R: Read, W: Write>(
         if count == 0 {
             break;
         }
-        dump.take(&chunk[..count], count == CHUNK);
-        print(dump.page(), output)?;
+        let taken = source.take(&chunk[..count], count == CHUNK, dump);
+        print(dump.page(), taken, output)?;
     }
+    let taken = source.finish(dump);
     dump.finish();
-    print(dump.page(), output)
+    print(dump.page(), taken, output)
 }
 
-// Reads some bytes, 0 at the end. A call that was interrupted is made again.
-fn read_some<R: Read>(input: &mut R, chunk: &mut [u8]) -> Result<usize, Fault>
+/// Reads some bytes, 0 at the end. A call that was interrupted is made again.
+pub fn read_some<R: Read>(input: &mut R, chunk: &mut [u8]) -> Result<usize, Fault>
     ensures { IfOk result (λ n. n ≤ length chunk.new) }
 {
     for _ in 0..u64::MAX {
@@ -162,9 +191,14 @@ fn read_some<R: Read>(input: &mut R, chunk: &mut [u8]) -> Result<usize, Fault>
     Err(Fault::Read(Reason::of(&io::Error::from(ErrorKind::TimedOut))))
 }
 
-// Prints the lines, flushes and drops them, also where memory was refused after them.
+// Prints the lines, flushes and drops them, also where memory was refused after them, or the
+// recording that they are of is not read on.
 #[tactic(auto, using(dump_page::proofs::PagesMore::page_printed))]
-fn print<W: Write>(page: &mut Page, output: &mut W) -> Result<(), Fault>
+fn print<W: Write>(
+    page: &mut Page,
+    taken: Result<(), TimeError>,
+    output: &mut W,
+) -> Result<(), Fault>
     ensures { OnOk result (AppendsPage (W.contents output.old) (W.contents output.new)) }
 {
     match output.write_all(page.as_bytes()) {
@@ -179,5 +213,8 @@ fn print<W: Write>(page: &mut Page, output: &mut W) -> Result<(), Fault>
     if page.is_refused() {
         return Err(Fault::Memory);
     }
-    Ok(())
+    match taken {
+        Ok(()) => Ok(()),
+        Err(error) => Err(Fault::Recording(error)),
+    }
 }

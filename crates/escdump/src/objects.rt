@@ -2,8 +2,11 @@
 
 use crate::item::Item;
 use crate::kind::Kind;
+use crate::times::add_seconds;
+use crate::values::cut;
 use crate::words::Words;
 use dump_page::{Member, Name, Page, Phrase};
+use std::str;
 
 /// Adds the object of an item with these words, of the file of this name, where it is named.
 pub fn add_object(
@@ -28,6 +31,7 @@ pub fn add_object(
     if kind != Kind::Text {
         object.add_member(Member::Words);
         object.add_string("", words.phrase.as_str());
+        add_values(words.phrase.as_str().as_bytes(), object);
     }
     if kind == Kind::Csi || kind.is_string() {
         add_fields(kind, item.body(), &mut words.scratch, object);
@@ -36,9 +40,14 @@ pub fn add_object(
     object.add("}");
 }
 
-// Adds the place and the length, the kind, whether it is finished, and whether it is cut.
+// Adds the place, the time, the length, the kind, whether it is finished, and whether it is cut.
 fn add_head(item: &Item, kind: Kind, is_finished: bool, object: &mut Phrase) {
     object.add_digits(item.place);
+    if let Some(time) = item.time {
+        object.add_string(",", "time");
+        object.add(":");
+        add_seconds(time, 0, object);
+    }
     object.add_member(Member::Length);
     object.add_digits(item.length);
     object.add_member(Member::Kind);
@@ -68,6 +77,47 @@ fn add_text(phrase: &Phrase, object: &mut Phrase) {
     if phrase.is_refused() {
         object.refuse();
     }
+}
+
+// Adds the texts that words have between quotes, as they are there, where they have any.
+fn add_values(words: &[u8], object: &mut Phrase) {
+    let mut rest = words;
+    let mut is_next = false;
+    for _ in 0..u64::MAX {
+        let (_, Some(inside)) = cut(rest, b'"') else {
+            break;
+        };
+        let (text, after) = inside.split_at(quoted_length(inside).min(inside.len()));
+        if !is_next {
+            object.add_string(",", "values");
+            object.add(":");
+        }
+        object.add_string(
+            if is_next { "," } else { "[" },
+            str::from_utf8(text).unwrap_or(""),
+        );
+        is_next = true;
+        match after {
+            [_, more @ ..] => rest = more,
+            [] => break,
+        }
+    }
+    if is_next {
+        object.add("]");
+    }
+}
+
+// How many bytes come before the `"` that ends a text: the first that no `\` escapes.
+fn quoted_length(bytes: &[u8]) -> usize {
+    let mut is_escaped = false;
+    for at in 0..bytes.len() {
+        match bytes[at] {
+            b'"' if !is_escaped => return at,
+            b'\\' => is_escaped = !is_escaped,
+            _ => is_escaped = false,
+        }
+    }
+    bytes.len()
 }
 
 // Adds the fields of a control sequence, of which they have digits and colons alone, or of a

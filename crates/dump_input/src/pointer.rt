@@ -1,0 +1,67 @@
+//! Reports of the mouse.
+
+use crate::found::Found;
+use crate::sent::{Pointer, Sent};
+use crate::sequences::number_in;
+
+/// The report of X10 and of mode 1000, after `ESC [ M`: three bytes that are 32 more. They are
+/// counted with the `M`. Without them it is a key of cons25.
+pub fn bytes_report(bytes: &[u8], is_last: bool) -> Found {
+    match bytes {
+        [
+            bits @ 0x20..=0xff,
+            column @ 0x20..=0xff,
+            line @ 0x20..=0xff,
+            ..
+        ] => { Found::Input(4, Sent::Mouse(pointer_of(*bits, *column, *line))) }
+        [] | [_] | [_, _] if !is_last => Found::More,
+        [] => Found::Input(1, Sent::Key("F1 (cons25)", 0)),
+        _ => Found::Other,
+    }
+}
+
+// The report of these bytes. Of a button that is released it does not say which.
+fn pointer_of(bits: u8, column: u8, line: u8) -> Pointer {
+    Pointer {
+        bits: u64::from(bits.saturating_sub(32)),
+        is_released: false,
+        column: u64::from(column.saturating_sub(32)),
+        line: u64::from(line.saturating_sub(32)),
+    }
+}
+
+/// The report of mode 1006 or 1016: three numbers after `ESC [ <`.
+pub fn sgr_report(numbers: &[u8], is_released: bool) -> Option<Sent> {
+    let (bits, column, line) = three_in(numbers)?;
+    Some(Sent::Mouse(Pointer {
+        bits,
+        is_released,
+        column,
+        line,
+    }))
+}
+
+/// The report of mode 1015: three numbers, of which the first is 32 more.
+pub fn numbers_report(numbers: &[u8]) -> Option<Sent> {
+    match three_in(numbers) {
+        Some((bits, column, line)) if bits >= 32 => Some(Sent::Mouse(Pointer {
+            bits: bits.saturating_sub(32),
+            is_released: false,
+            column,
+            line,
+        })),
+        _ => None,
+    }
+}
+
+// Three numbers with `;` between them.
+fn three_in(text: &[u8]) -> Option<(u64, u64, u64)> {
+    let (first, rest) = number_in(text)?;
+    let (second, rest) = number_in(rest.strip_prefix(b";")?)?;
+    let (third, rest) = number_in(rest.strip_prefix(b";")?)?;
+    if rest.is_empty() {
+        Some((first, second, third))
+    } else {
+        None
+    }
+}

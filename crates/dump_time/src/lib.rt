@@ -1,0 +1,13 @@
+// SPDX-License-Identifier: MIT
+//! The times of what a terminal got, for `escdump`: of typescripts of script(1), by the timing file
+//! that it writes ([`Typescript`]). A time is in microseconds since the recording began.
+#![tactic(auto)]
+
+mod seconds;
+mod time_error;
+mod timing;
+mod typescript;
+
+pub use seconds::micros_in;
+pub use time_error::TimeError;
+pub use typescript::{Run, Typescript};

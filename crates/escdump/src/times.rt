@@ -1,0 +1,30 @@
+//! Times in words.
+
+use dump_page::Phrase;
+
+// The decimal digits.
+static DIGITS: [&str; 10] = ["0", "1", "2", "3", "4", "5", "6", "7", "8", "9"];
+
+/// Adds so many microseconds as seconds, with six digits after the point, after spaces where there
+/// are fewer digits before it than this.
+pub fn add_seconds(micros: u64, width: usize, to: &mut Phrase) {
+    to.add_number(micros / 1_000_000, width, 0);
+    to.add(".");
+    let mut left = micros % 1_000_000;
+    let mut unit: u64 = 100_000;
+    for _ in 0..6 {
+        to.add(digit_words(left / unit.max(1)));
+        left %= unit.max(1);
+        unit /= 10;
+    }
+}
+
+// The digit of a number below 10.
+fn digit_words(number: u64) -> &'static str {
+    for at in 0..DIGITS.len() {
+        if at as u64 == number {
+            return DIGITS[at];
+        }
+    }
+    ""
+}
