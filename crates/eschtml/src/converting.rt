@@ -43,7 +43,7 @@ impl<'a, W: Write, E: Write> Work for Converting<'a, W, E> {
 impl<'a, W: Write, E: Write> Converting<'a, W, E> {
     // Writes a stream of this name, with what comes before and after it.
     fn take_on_page<R: Read + Drop>(&mut self, name: &str, input: R) -> Ended {
-        let Ok(text) = before(self.alloc, name, self.is_headed, self.options.wraps) else {
+        let Ok(text) = before(self.alloc, name, self.is_headed, self.options) else {
             tell(
                 PROGRAM,
                 self.output_name,

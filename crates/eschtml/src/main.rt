@@ -57,7 +57,8 @@ renditions as spans, and links to http, https and mailto. Nothing of it becomes 
                   after it, so that each line is HTML by itself
   --inline        writes colours and renditions as styles, and not as classes, so that the
                   fragment needs no style sheet
-  --show          writes what is left out in its place, as text: ^[]0;title^G
+  --show          writes what is left out in its place, as text in reverse video:
+                  ^[]0;title^G
   --final-lines   writes what a terminal leaves of lines that are written again, as by
                   progress bars; --final-lines=rows where these go back over more rows than 32
   --style         prints the style sheet, for a page around a fragment

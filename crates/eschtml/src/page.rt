@@ -121,7 +121,7 @@ pub fn before(
     alloc: Global,
     name: &str,
     is_headed: bool,
-    wraps: bool,
+    options: Options<'_>,
 ) -> Result<String, AllocError> {
     let mut text = String::new(alloc);
     if is_headed {
@@ -129,7 +129,7 @@ pub fn before(
         push_title(&mut text, name)?;
         memory::push_str(&mut text, "</h2>\n")?;
     }
-    memory::push_str(&mut text, opening(wraps))?;
+    push_opening(&mut text, options)?;
     let name = as_characters(alloc, name)?;
     push_value(&mut text, name.as_str())?;
     memory::push_str(&mut text, "\">\n")?;
@@ -137,12 +137,15 @@ pub fn before(
 }
 
 // What it begins with, up to the name.
-fn opening(wraps: bool) -> &'static str {
-    if wraps {
-        "<div class=\"es-stream es-wrap\"><pre tabindex=\"0\" role=\"region\" aria-label=\""
-    } else {
-        "<div class=\"es-stream\"><pre tabindex=\"0\" role=\"region\" aria-label=\""
+fn push_opening(text: &mut String, options: Options<'_>) -> Result<(), AllocError> {
+    memory::push_str(text, "<div class=\"es-stream")?;
+    if options.wraps {
+        memory::push_str(text, " es-wrap")?;
     }
+    if options.shows {
+        memory::push_str(text, " es-shows")?;
+    }
+    memory::push_str(text, "\"><pre tabindex=\"0\" role=\"region\" aria-label=\"")
 }
 
 /// What comes after a stream.
