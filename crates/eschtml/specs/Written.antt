@@ -1,6 +1,6 @@
 -- What is written of a stream.
-use Rattle.std.specs.Prelude.{ℕ, ◌≡◌, Bool, true, false, ◌&&◌, ◌||◌, if◌then◌else◌, List, ◌++◌, Option, None, Some, is_some, max}
-use Rattle.esc_actions.specs.Values.{Value}
+use Rattle.std.specs.Prelude.{ℕ, ◌≡◌, Bool, true, false, not, ◌&&◌, ◌||◌, if◌then◌else◌, List, ◌++◌, Option, None, Some, is_some, max}
+use Rattle.esc_actions.specs.Values.{Value, csi}
 use Rattle.esc_decode.specs.Decodings.{decoded}
 use Rattle.esc_filter.specs.Passing.{closed_text, passed_text}
 use Rattle.esc_filter.specs.Rules.{admits}
@@ -13,7 +13,10 @@ use Rattle.esc_html.specs.Shown.{IsPage}
 use Rattle.esc_html.specs.declared.layout.Layout.{Layout}
 use Rattle.esc_lines.specs.Fed.{final_after, left_after}
 use Rattle.esc_lines.specs.Windows.{Size, sized}
-use Rattle.esc_reveal.specs.Revealed.{revealed, revealed_whole}
+use Rattle.esc_looks.specs.Looks.{look_after, plain_look}
+use Rattle.esc_looks.specs.declared.look.Look.{Look}
+use Rattle.esc_reveal.specs.Revealed.{revealed_as, revealed_whole_as}
+use Rattle.esc_reveal.specs.declared.marking.Marking.TheVariants.{Reversed}
 use Rattle.eschtml.specs.declared.options.Options.{Options}
 use Rattle.eschtml.specs.declared.stream.TheConstants.{COLUMNS}
 
@@ -55,20 +58,29 @@ IsHtml A o false s t =
 
 -- ---- what is shown of what is left out
 
--- what stays as it is: what a page shows, and where what is left of lines is shown, what changes
--- the screen too
-abbrev pub is_kept : {A : Type 0} → Bool → Value A → Bool
-is_kept moves v = is_shown v || (moves && admits Screen v)
+-- a control sequence after which plain text is in reverse video, as what is shown is, or concealed
+abbrev pub has_disguise : Look → Bool
+has_disguise l = l.inverse || l.concealed
 
--- a stream that goes on; or, where what is left out is shown, what is revealed of it
+abbrev pub disguises : {A : Type 0} → Value A → Bool
+disguises (csi c) = has_disguise (look_after plain_look c)
+disguises _ = false
+
+-- what stays as it is: what a page shows, and where what is left of lines is shown, what changes
+-- the screen too; but for what disguises
+abbrev pub is_kept : {A : Type 0} → Bool → Value A → Bool
+is_kept moves v = not (disguises v) && (is_shown v || (moves && admits Screen v))
+
+-- a stream that goes on; or, where what is left out is shown, what is revealed of it, in reverse
+-- video
 abbrev pub going_in : Type 0 → Bool → ℕ → Bool → List ℕ → List ℕ
 going_in A shows limit moves s =
-    if shows then revealed {A = A} false limit (is_kept moves) s else s
+    if shows then revealed_as {A = A} Reversed false limit (is_kept moves) s else s
 
 -- the same of one that has ended
 abbrev pub whole_in : Type 0 → Bool → ℕ → Bool → List ℕ → List ℕ
 whole_in A shows limit moves s =
-    if shows then revealed_whole {A = A} false limit (is_kept moves) s else s
+    if shows then revealed_whole_as {A = A} Reversed false limit (is_kept moves) s else s
 
 -- of what the stream becomes by its encoding
 abbrev pub seen_by : Type 0 → Options → Bool → Bool → List ℕ → List ℕ

@@ -3,14 +3,15 @@
 use crate::heeding::Heeding;
 use crate::lines::Counting;
 use crate::options::Options;
-use crate::page::{AFTER, before};
+use crate::page::{AFTER, Side, before, counted, ending, group, heading};
 use crate::stream::{PROGRAM, write_html};
 use crate::strings::Lost;
-use command_line::{Ended, Noting, Place, Reason, Shown, Work, ended_by, tell, unwritten};
+use command_line::{Ended, Noting, Place, Reason, Shown, Work, ended_by, tell, unread, unwritten};
 use esc_decode::Input;
 use esc_filter::FilterError;
 use esc_normal::Watched;
-use std::alloc::Global;
+use page_input::{Linking, Mark, Sections, Window};
+use std::alloc::{AllocError, Global};
 use std::io;
 use std::io::{Read, Write};
 
@@ -32,18 +33,149 @@ pub struct Converting<'a, W, E> {
 
 impl<'a, W: Write, E: Write> Work for Converting<'a, W, E> {
     fn take<R: Read + Drop>(&mut self, name: &str, input: R) -> Ended {
+        let input = Input::new(self.alloc, self.options.order, input);
+        let mut window = Window::new(self.alloc, self.options.cut, input);
+        window.prepare();
+        let before = window.before();
+        self.tell_left_out(name, before, Side::Before);
+        self.line = self.line.saturating_add(before);
         if self.options.is_page {
-            self.take_on_page(name, input)
+            self.take_on_page(name, window)
         } else {
-            self.take_stream(name, input)
+            let (ended, mut window) = self.take_window(name, window);
+            let (ended, _) = self.end_window(name, ended, &mut window);
+            ended
         }
     }
 }
 
 impl<'a, W: Write, E: Write> Converting<'a, W, E> {
-    // Writes a stream of this name, with what comes before and after it.
-    fn take_on_page<R: Read + Drop>(&mut self, name: &str, input: R) -> Ended {
-        let Ok(text) = before(self.alloc, name, self.is_headed, self.options.wraps) else {
+    // Writes these lines of a stream of this name, with what comes before and after them.
+    fn take_on_page<R: Read + Drop>(&mut self, name: &str, window: Window<R>) -> Ended {
+        let text = heading(self.alloc, name, self.is_headed, window.before());
+        let ended = self.push(Ended::Whole, text);
+        if ended != Ended::Whole {
+            return ended;
+        }
+        let (ended, mut window) = self.take_window(name, window);
+        if is_last(ended) {
+            return ended;
+        }
+        let (ended, left_out) = self.end_window(name, ended, &mut window);
+        let text = ending(self.alloc, left_out);
+        let ended = self.push(ended, text);
+        self.flush(ended)
+    }
+
+    // Writes these lines of a stream of this name, and says what a string took of them.
+    fn take_window<R: Read + Drop>(&mut self, name: &str, window: Window<R>) -> (Ended, Window<R>) {
+        let before = window.before();
+        let mut input = Heeding::new(self.alloc, self.options.encoding, window);
+        let ended = if !self.options.is_page {
+            self.take_text(name, &mut input)
+        } else if self.options.folds {
+            self.take_groups(name, &mut input)
+        } else {
+            self.take_block(name, &mut input)
+        };
+        let (lost, window) = input.end();
+        if ended == Ended::Whole {
+            self.tell_lost(name, before, lost);
+        }
+        (ended, window)
+    }
+
+    // Writes a stream of this name, group after group.
+    fn take_groups<R: Read + Drop>(&mut self, name: &str, input: &mut R) -> Ended {
+        let mut sections = Sections::new(self.alloc, &mut *input);
+        let mut ended = Ended::Whole;
+        for _ in 0..u64::MAX {
+            match self.take_part(name, &mut sections) {
+                Some(Ended::Whole) => {}
+                Some(other) => {
+                    ended = other;
+                    break;
+                }
+                None => break,
+            }
+        }
+        for _ in 0..sections.depth() {
+            if is_last(ended) {
+                return ended;
+            }
+            let text = group(self.alloc, &Mark::End);
+            ended = self.push(ended, text);
+        }
+        ended
+    }
+
+    // Writes what comes next: the beginning or the end of a group, or text. None at the end.
+    fn take_part<R: Read + Drop>(
+        &mut self,
+        name: &str,
+        sections: &mut Sections<R>,
+    ) -> Option<Ended> {
+        match sections.mark() {
+            Ok(Some((mark, ends_line))) => {
+                self.line = self.line.saturating_add(u64::from(ends_line));
+                let text = group(self.alloc, &mark);
+                return Some(self.push(Ended::Whole, text));
+            }
+            Ok(None) => {}
+            Err(error) => return Some(self.unread(name, error)),
+        }
+        match sections.has_text() {
+            Ok(true) => Some(self.take_block(name, sections)),
+            Ok(false) => None,
+            Err(error) => Some(self.unread(name, error)),
+        }
+    }
+
+    // Writes text of a stream of this name as a block of the page.
+    fn take_block<R: Read + Drop>(&mut self, name: &str, input: &mut R) -> Ended {
+        let text = before(self.alloc, name, self.line, self.options);
+        let ended = self.push(Ended::Whole, text);
+        if ended != Ended::Whole {
+            return ended;
+        }
+        let ended = self.take_text(name, input);
+        if is_last(ended) {
+            return ended;
+        }
+        let text = memory::text(self.alloc, AFTER);
+        self.push(ended, text)
+    }
+
+    // Writes the HTML of text of a stream of this name.
+    fn take_text<R: Read + Drop>(&mut self, name: &str, input: &mut R) -> Ended {
+        if self.options.links {
+            let linking = Linking::new(self.alloc, input);
+            self.write(name, linking)
+        } else {
+            self.write(name, input)
+        }
+    }
+
+    // Writes the HTML of what this reads, of a stream of this name.
+    fn write<R: Read + Drop>(&mut self, name: &str, input: R) -> Ended {
+        let options = self.numbered();
+        let mut reader = Watched::new(Noting::new(input));
+        let mut writer = Watched::new(Noting::new(Counting::new(&mut *self.output)));
+        let outcome = write_html(self.alloc, &options, &mut reader, &mut writer);
+        let writer = writer.into_inner();
+        let reason = reader.into_inner().reason().or(writer.reason());
+        let lines = writer.into_inner().lines();
+        let place = match outcome {
+            Err(FilterError::Write) => Place::Output(self.output_name),
+            _ => Place::Input(name),
+        };
+        self.line = self.line.saturating_add(lines.count());
+        ended_by(PROGRAM, outcome, place, reason, &mut self.faults)
+    }
+
+    // How it ends after this text.
+    fn push(&mut self, ended: Ended, text: Result<String, AllocError>) -> Ended {
+        let Ok(text) = text else {
             tell(
                 PROGRAM,
                 self.output_name,
@@ -52,20 +184,16 @@ impl<'a, W: Write, E: Write> Converting<'a, W, E> {
             );
             return Ended::Unwritten;
         };
-        if let Err(error) = self.output.write_all(text.as_bytes()) {
-            return self.unwritten(error);
+        match self.output.write_all(text.as_bytes()) {
+            Ok(()) => ended,
+            Err(error) => self.unwritten(error),
         }
-        let ended = self.take_stream(name, input);
-        if ended == Ended::Unwritten || ended == Ended::Closed {
-            return ended;
-        }
-        self.after(ended, AFTER)
     }
 
-    // How it ends after this text.
-    fn after(&mut self, ended: Ended, text: &str) -> Ended {
-        if let Err(error) = self.output.write_all(text.as_bytes()) {
-            return self.unwritten(error);
+    // How it ends once that is flushed.
+    fn flush(&mut self, ended: Ended) -> Ended {
+        if is_last(ended) {
+            return ended;
         }
         match self.output.flush() {
             Ok(()) => ended,
@@ -73,28 +201,24 @@ impl<'a, W: Write, E: Write> Converting<'a, W, E> {
         }
     }
 
-    // Writes the HTML of a stream of this name.
-    fn take_stream<R: Read + Drop>(&mut self, name: &str, input: R) -> Ended {
-        let options = self.numbered();
-        let input = Input::new(self.alloc, options.order, input);
-        let input = Heeding::new(self.alloc, options.encoding, input);
-        let mut reader = Watched::new(Noting::new(input));
-        let mut writer = Watched::new(Noting::new(Counting::new(&mut *self.output)));
-        let outcome = write_html(self.alloc, &options, &mut reader, &mut writer);
-        let writer = writer.into_inner();
-        let reader = reader.into_inner();
-        let reason = reader.reason().or(writer.reason());
-        let lost = reader.into_inner().lost();
-        let lines = writer.into_inner().lines();
-        if outcome.is_ok() {
-            self.tell_lost(name, lost);
+    // How it ends that some lines were written, and how many after them are left out.
+    fn end_window<R: Read>(
+        &mut self,
+        name: &str,
+        ended: Ended,
+        window: &mut Window<R>,
+    ) -> (Ended, u64) {
+        if ended != Ended::Whole {
+            return (ended, 0);
         }
-        let place = match outcome {
-            Err(FilterError::Write) => Place::Output(self.output_name),
-            _ => Place::Input(name),
-        };
-        self.line = self.line.saturating_add(lines.count());
-        ended_by(PROGRAM, outcome, place, reason, &mut self.faults)
+        match window.after() {
+            Ok(lines) => {
+                self.tell_left_out(name, lines, Side::After);
+                self.line = self.line.saturating_add(lines);
+                (ended, lines)
+            }
+            Err(error) => (self.unread(name, error), 0),
+        }
     }
 
     // The options for a stream after these lines.
@@ -106,8 +230,9 @@ impl<'a, W: Write, E: Write> Converting<'a, W, E> {
         options
     }
 
-    // Says what a string of the stream of this name took, which nothing ended, unless it is shown.
-    fn tell_lost(&mut self, name: &str, lost: Option<Lost>) {
+    // Says what a string of the stream of this name took, which nothing ended, unless it is shown;
+    // so many lines come before what was read.
+    fn tell_lost(&mut self, name: &str, before: u64, lost: Option<Lost>) {
         let Some(Lost { line, bytes }) = lost else {
             return;
         };
@@ -115,9 +240,26 @@ impl<'a, W: Write, E: Write> Converting<'a, W, E> {
             return;
         }
         let name = Shown(name);
+        let line = line.saturating_add(before);
         let _ = writeln!(
             self.faults,
             "{PROGRAM}: {name}: line {line}: an unended string swallowed {bytes} bytes"
+        );
+        let _ = self.faults.flush();
+    }
+
+    // Says how many lines of the stream of this name are left out, on this side of those that are
+    // written.
+    fn tell_left_out(&mut self, name: &str, lines: u64, side: Side) {
+        if lines == 0 {
+            return;
+        }
+        let name = Shown(name);
+        let counted = counted(lines);
+        let place = side.place();
+        let _ = writeln!(
+            self.faults,
+            "{PROGRAM}: {name}: {lines} {counted} left out at the {place}"
         );
         let _ = self.faults.flush();
     }
@@ -127,4 +269,13 @@ impl<'a, W: Write, E: Write> Converting<'a, W, E> {
         let reason = Reason::of(&error);
         unwritten(PROGRAM, self.output_name, reason, &mut self.faults)
     }
+    // How it ends that no more can be read of the stream of this name.
+    fn unread(&mut self, name: &str, error: io::Error) -> Ended {
+        unread(PROGRAM, name, Reason::of(&error), &mut self.faults)
+    }
+}
+
+// Whether nothing can be written after a stream that ended so.
+fn is_last(ended: Ended) -> bool {
+    ended == Ended::Unwritten || ended == Ended::Closed
 }

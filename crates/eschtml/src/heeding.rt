@@ -24,9 +24,10 @@ impl<R: Read + Drop> Heeding<R> {
         }
     }
 
-    /// The string that is unfinished where the stream has ended.
-    pub fn lost(self) -> Option<Lost> {
-        self.strings.lost()
+    /// The string that is unfinished where the stream has ended, and the other reader.
+    pub fn end(self) -> (Option<Lost>, R) {
+        let Heeding { inner, strings } = self;
+        (strings.lost(), inner)
     }
 }
 

@@ -1,13 +1,17 @@
 //! What of a stream stays where what a page leaves out is shown.
+ghost use Rattle.std.specs.Prelude.{◌≡◌};
+ghost use Rattle.esc_actions.specs.Values.{value_of};
+ghost use Rattle.eschtml.specs.Written.{disguises};
 
 use esc_actions::Action;
 use esc_filter::{Admit, Policy};
-use esc_html::is_shown;
+use esc_html::{Look, is_shown};
 use memchr::memchr;
 use std::alloc::Allocator;
 
-/// Admits what a page shows; and where what is left of lines is shown, what changes the screen,
-/// since it decides what is left.
+/// Admits what a page shows, but for renditions after which text looks as what is shown or is not
+/// seen; and where what is left of lines is shown, what changes the screen, since it decides what
+/// is left.
 #[derive(Clone, Copy)]
 pub struct Kept {
     /// Whether what changes the screen stays.
@@ -20,7 +24,7 @@ impl<A: Allocator> Admit<A> for Kept {
     ghost admits = { λ k v. is_kept k.moves v };
 
     fn admits(&self, action: &Action<A>) -> bool {
-        is_shown(action) || (self.moves && Policy::Screen.admits(action))
+        !disguises(action) && (is_shown(action) || (self.moves && Policy::Screen.admits(action)))
     }
 
     #[inline]
@@ -29,5 +33,27 @@ impl<A: Allocator> Admit<A> for Kept {
             Some(_) => false,
             None => true,
         }
+    }
+}
+
+// Whether plain text is in reverse video after an action, as what is shown is, or concealed.
+fn disguises<A: Allocator>(action: &Action<A>) -> bool
+    ensures { result ≡ disguises (value_of action.now) }
+{
+    match action {
+        Action::CSI(csi) => {
+            let mut look = Look::plain();
+            look.apply(csi);
+            look.inverse || look.concealed
+        }
+        Action::Print(_)
+        | Action::PrintString(_)
+        | Action::Control(_)
+        | Action::Esc(_)
+        | Action::OperatingSystemCommand(_)
+        | Action::KittyImage(_)
+        | Action::Sixel(_)
+        | Action::XtGetTcap(_)
+        | Action::DeviceControl(_) => false,
     }
 }

@@ -34,7 +34,7 @@ use style::push_style;
 const USAGE: &str = "\
 usage: eschtml [--page] [--title text] [--css address] [--lang language] \
 [--theme auto|light|dark] [--numbers] [--wrap] [--lines] [--inline] [--show] \
-[--final-lines[=rows]] [--style] \
+[--final-lines[=rows]] [--head lines] [--tail lines] [--linkify] [--fold] [--style] \
 [--encoding utf-8|utf-16|utf-16le|utf-16be|latin1|windows-1250|windows-1251|windows-1252|\
 windows-1253|windows-1254|windows-1255|windows-1256|windows-1257|windows-1258] \
 [--c1 replace|obey] [--limit size] [-o|--output file] [-h|--help] [-V|--version] [--] [FILE..]";
@@ -57,9 +57,14 @@ renditions as spans, and links to http, https and mailto. Nothing of it becomes 
                   after it, so that each line is HTML by itself
   --inline        writes colours and renditions as styles, and not as classes, so that the
                   fragment needs no style sheet
-  --show          writes what is left out in its place, as text: ^[]0;title^G
+  --show          writes what is left out in its place, as text in reverse video:
+                  ^[]0;title^G
   --final-lines   writes what a terminal leaves of lines that are written again, as by
                   progress bars; --final-lines=rows where these go back over more rows than 32
+  --head lines    writes so many lines that come first, and says how many are left out
+  --tail lines    writes so many that come last; of the first ones, with --head
+  --linkify       makes links of addresses in text that begin with http:// or https://
+  --fold          folds the groups of lines of GitHub and GitLab on a page
   --style         prints the style sheet, for a page around a fragment
   --encoding name reads utf-8 (the default), utf-16, utf-16le, utf-16be, latin1, or windows-1250
                   to windows-1258

@@ -3,6 +3,7 @@
 use command_line::{Apart, Found, Given, Known, Takes, Wrong, read};
 use esc_decode::{ByteOrder, ENCODINGS, Encoding, encoding_of, order_of, page_of};
 use esc_html::Layout;
+use page_input::Cut;
 use std::alloc::Global;
 
 /// How streams become HTML.
@@ -28,6 +29,12 @@ pub struct Options<'a> {
     pub shows: bool,
     /// How many rows may be written again, where what is left of them is written.
     pub rows: Option<usize>,
+    /// Which lines are written.
+    pub cut: Cut,
+    /// Whether addresses in text are links.
+    pub links: bool,
+    /// Whether groups of lines are folded.
+    pub folds: bool,
     /// Which byte of a unit comes first, where a stream is in UTF-16; then it is read as UTF-8.
     pub order: Option<ByteOrder>,
     /// How the bytes of a stream are read.
@@ -92,6 +99,9 @@ const DEFAULT_ROWS: usize = 32;
 
 const MOST_ROWS: usize = 4096;
 
+// What the value of `--head` and `--tail` is called.
+const LINES: &str = "number of lines";
+
 const KNOWN: &[Known] = &[
     Known {
         name: "--page",
@@ -149,6 +159,26 @@ const KNOWN: &[Known] = &[
         takes: Takes::Maybe("number of rows", &[]),
     },
     Known {
+        name: "--head",
+        letter: "",
+        takes: Takes::OneOf(LINES, &[]),
+    },
+    Known {
+        name: "--tail",
+        letter: "",
+        takes: Takes::OneOf(LINES, &[]),
+    },
+    Known {
+        name: "--linkify",
+        letter: "",
+        takes: Takes::Nothing,
+    },
+    Known {
+        name: "--fold",
+        letter: "",
+        takes: Takes::Nothing,
+    },
+    Known {
         name: "--style",
         letter: "",
         takes: Takes::Nothing,
@@ -188,6 +218,12 @@ impl<'a> Task<'a> {
             if given.name == "--lang" && !is_language(given.word) {
                 return Err(Wrong::Value("--lang", "language", given.word, None));
             }
+            if given.name == "--head" && lines_of(given.word).is_none() {
+                return Err(Wrong::Value("--head", LINES, given.word, None));
+            }
+            if given.name == "--tail" && lines_of(given.word).is_none() {
+                return Err(Wrong::Value("--tail", LINES, given.word, None));
+            }
         }
         Ok(Task::from_found(found))
     }
@@ -199,6 +235,8 @@ impl<'a> Task<'a> {
         let mut apart = None;
         let mut page = None;
         let mut obeys = false;
+        let mut head = None;
+        let mut tail = None;
         let mut options = Options {
             is_page: false,
             title: None,
@@ -213,6 +251,12 @@ impl<'a> Task<'a> {
             },
             shows: false,
             rows: None,
+            cut: Cut {
+                head: None,
+                tail: None,
+            },
+            links: false,
+            folds: false,
             order: None,
             encoding: Encoding::Utf8,
             limit: DEFAULT_LIMIT,
@@ -236,6 +280,10 @@ impl<'a> Task<'a> {
                     options.rows = rows_of(given.word);
                     apart = apart_of(given);
                 }
+                "--head" => head = lines_of(given.word),
+                "--tail" => tail = lines_of(given.word),
+                "--linkify" => options.links = true,
+                "--fold" => options.folds = true,
                 "--c1" => obeys = given.word == "obey",
                 "--encoding" => {
                     page = page_of(given.word);
@@ -250,6 +298,7 @@ impl<'a> Task<'a> {
             }
         }
         options.encoding = encoding_of(page, obeys);
+        options.cut = Cut { head, tail };
         Task {
             kind,
             options,
@@ -288,6 +337,14 @@ fn rows_of(word: &str) -> Option<usize> {
     }
     match word.parse::<usize>() {
         Ok(rows) if 0 < rows && rows <= MOST_ROWS => Some(rows),
+        _ => None,
+    }
+}
+
+// How many lines a word names.
+fn lines_of(word: &str) -> Option<u64> {
+    match word.parse::<u64>() {
+        Ok(lines) if 0 < lines => Some(lines),
         _ => None,
     }
 }

@@ -3,6 +3,7 @@
 use crate::options::{Options, Theme};
 use crate::style::{push_page_style, push_style};
 use esc_html::push_text;
+use page_input::Mark;
 use std::alloc::{AllocError, Global};
 
 // What is allowed to a page: its own styles, and nothing that a browser would load or run.
@@ -115,13 +116,37 @@ fn push_value(text: &mut String, value: &str) -> Result<(), AllocError> {
 /// What a page ends with.
 pub const END: &str = "</main>\n</body>\n</html>\n";
 
-/// What comes before a stream of this name, and whether that is a heading too. A browser leaves out
-/// the line feed after `<pre>`. The error is that memory was refused.
-pub fn before(
+/// On which side of the lines that are written others are left out.
+#[derive(Clone, Copy)]
+pub enum Side {
+    /// Before them.
+    Before,
+    /// After them.
+    After,
+}
+
+impl Side {
+    /// The place in the stream.
+    pub fn place(self) -> &'static str {
+        match self {
+            Side::Before => "beginning",
+            Side::After => "end",
+        }
+    }
+}
+
+/// What so many lines are called.
+pub fn counted(lines: u64) -> &'static str {
+    if lines == 1 { "line" } else { "lines" }
+}
+
+/// What comes before a stream of this name, of which so many lines before those that are written are
+/// left out, where its name is a heading or not. The error is that memory was refused.
+pub fn heading(
     alloc: Global,
     name: &str,
     is_headed: bool,
-    wraps: bool,
+    left_out: u64,
 ) -> Result<String, AllocError> {
     let mut text = String::new(alloc);
     if is_headed {
@@ -129,21 +154,89 @@ pub fn before(
         push_title(&mut text, name)?;
         memory::push_str(&mut text, "</h2>\n")?;
     }
-    memory::push_str(&mut text, opening(wraps))?;
+    push_left_out(&mut text, left_out, Side::Before)?;
+    Ok(text)
+}
+
+/// What comes before text of a stream of this name, after so many lines of the page. A browser
+/// leaves out the line feed after `<pre>`. The error is that memory was refused.
+pub fn before(
+    alloc: Global,
+    name: &str,
+    lines: u64,
+    options: Options<'_>,
+) -> Result<String, AllocError> {
+    let mut text = String::new(alloc);
+    push_opening(&mut text, lines, options)?;
     let name = as_characters(alloc, name)?;
     push_value(&mut text, name.as_str())?;
     memory::push_str(&mut text, "\">\n")?;
     Ok(text)
 }
 
-// What it begins with, up to the name.
-fn opening(wraps: bool) -> &'static str {
-    if wraps {
-        "<div class=\"es-stream es-wrap\"><pre tabindex=\"0\" role=\"region\" aria-label=\""
+/// What comes after it.
+pub const AFTER: &str = "</pre></div>\n";
+
+// What it begins with, up to the name. Where not all lines are shown as such, the numbers of the
+// others are counted from the first of them on.
+fn push_opening(text: &mut String, lines: u64, options: Options<'_>) -> Result<(), AllocError> {
+    memory::push_str(text, "<div class=\"es-stream")?;
+    if options.wraps {
+        memory::push_str(text, " es-wrap")?;
+    }
+    if options.shows {
+        memory::push_str(text, " es-shows")?;
+    }
+    memory::push_str(text, "\"><pre tabindex=\"0\" role=\"region\"")?;
+    if lines > 0 && (options.folds || options.cut.is_some()) {
+        memory::push_str(text, " style=\"counter-reset: es-line ")?;
+        memory::push_display(text, &lines)?;
+        memory::push_str(text, "\"")?;
+    }
+    memory::push_str(text, " aria-label=\"")
+}
+
+/// What comes after a stream, of which so many lines after those that are written are left out. The
+/// error is that memory was refused.
+pub fn ending(alloc: Global, left_out: u64) -> Result<String, AllocError> {
+    let mut text = String::new(alloc);
+    push_left_out(&mut text, left_out, Side::After)?;
+    Ok(text)
+}
+
+/// What begins or ends a group of lines. The error is that memory was refused.
+pub fn group(alloc: Global, mark: &Mark) -> Result<String, AllocError> {
+    let mut text = String::new(alloc);
+    match mark {
+        Mark::Begin { title, is_closed } => {
+            memory::push_str(&mut text, opening_of(*is_closed))?;
+            push_title(&mut text, title.as_str())?;
+            memory::push_str(&mut text, "</summary>\n")?;
+        }
+        Mark::End => memory::push_str(&mut text, "</details>\n")?,
+    }
+    Ok(text)
+}
+
+// What begins a group, up to its title.
+fn opening_of(is_closed: bool) -> &'static str {
+    if is_closed {
+        "<details><summary>"
     } else {
-        "<div class=\"es-stream\"><pre tabindex=\"0\" role=\"region\" aria-label=\""
+        "<details open><summary>"
     }
 }
 
-/// What comes after a stream.
-pub const AFTER: &str = "</pre></div>\n";
+// Appends how many lines are left out on this side, where any are.
+fn push_left_out(text: &mut String, lines: u64, side: Side) -> Result<(), AllocError> {
+    if lines == 0 {
+        return Ok(());
+    }
+    memory::push_str(text, "<p class=\"es-note\">")?;
+    memory::push_display(text, &lines)?;
+    memory::push_str(text, " ")?;
+    memory::push_str(text, counted(lines))?;
+    memory::push_str(text, " left out at the ")?;
+    memory::push_str(text, side.place())?;
+    memory::push_str(text, "</p>\n")
+}

@@ -17,7 +17,7 @@ use esc_filter::{Feeding, Filter, FilterError, Policy, filter_from};
 use esc_html::{HtmlWriter, Layout, laws};
 use esc_lines::Collapsing;
 use esc_normal::Watched;
-use esc_reveal::{Reveal, Revealing};
+use esc_reveal::{Marking, Reveal, Revealing};
 use std::alloc::{AllocError, Allocator, Global};
 use std::io::{Read, Write};
 
@@ -206,7 +206,13 @@ fn write_seen<A: Allocator + Copy, R: Read, W: Write, F: Feeding<A> + Drop>(
 {
     let shows = options.shows;
     if shows {
-        let reveal = Reveal::new(alloc, options.limit, Kept { moves }, false);
+        let reveal = Reveal::with_marking(
+            alloc,
+            options.limit,
+            Kept { moves },
+            false,
+            Marking::Reversed,
+        );
         let shown = Revealing::new(alloc, reveal, filter);
         let mut filter = Decoding::new(alloc, options.encoding, shown);
         filter_from(alloc, &mut filter, reader, writer)

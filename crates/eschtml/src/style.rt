@@ -173,6 +173,7 @@ const LAST_RULES: &str = "\
 .es-stream .es-concealed { color: transparent !important; }
 .es-stream [class*=\"es-bg-\"], .es-stream .es-inverse, .es-stream [style*=\"background-color\"] {
   padding-block: 0.2em; }
+.es-stream.es-shows .es-inverse { border-radius: 0.25em; box-shadow: 0 0 0 1px var(--es-dim); }
 .es-stream.es-wrap pre { white-space: pre-wrap; overflow-wrap: anywhere; }
 .es-stream.es-wrap .es-line { width: auto; content-visibility: auto;
   contain-intrinsic-block-size: auto 1.45em; }
@@ -182,29 +183,31 @@ const LAST_RULES: &str = "\
 }
 ";
 
-// What a whole page has beside it, where it is light or dark as its reader's setting.
-const AUTO_PAGE: &str = "\
-:root { color-scheme: light dark; background: #ffffff; color: #1f2328; }
-@media (prefers-color-scheme: dark) { :root { background: #0d1117; color: #e6edf3; } }
+// What any whole page has beside it.
+const PAGE: &str = "\
 body { margin: 0; }
 main { counter-reset: es-line; }
 h1, h2 { margin: 0.5rem 1rem; font: bold 1rem/1.45 system-ui, sans-serif; }
+.es-note { margin: 0.5rem 1rem; font: italic 0.875rem/1.45 system-ui, sans-serif; }
+summary { padding: 0 1rem; font: bold 0.875rem/1.45 system-ui, sans-serif; cursor: pointer; }
+details > details, details > div { margin-left: 1.5rem; }
+@media print { details::details-content { content-visibility: visible; height: auto; } }
+";
+
+// What it has, where it is light or dark as its reader's setting.
+const AUTO_PAGE: &str = "\
+:root { color-scheme: light dark; background: #ffffff; color: #1f2328; }
+@media (prefers-color-scheme: dark) { :root { background: #0d1117; color: #e6edf3; } }
 ";
 
 // What a light one has.
 const LIGHT_PAGE: &str = "\
 :root { color-scheme: light; background: #ffffff; color: #1f2328; }
-body { margin: 0; }
-main { counter-reset: es-line; }
-h1, h2 { margin: 0.5rem 1rem; font: bold 1rem/1.45 system-ui, sans-serif; }
 ";
 
 // What a dark one has.
 const DARK_PAGE: &str = "\
 :root { color-scheme: dark; background: #0d1117; color: #e6edf3; }
-body { margin: 0; }
-main { counter-reset: es-line; }
-h1, h2 { margin: 0.5rem 1rem; font: bold 1rem/1.45 system-ui, sans-serif; }
 ";
 
 /// Appends the style sheet: light or dark, for a `div` of class `es-stream` and what is in it.
@@ -235,7 +238,8 @@ pub fn push_page_style(text: &mut String, theme: Theme) -> Result<(), AllocError
         Theme::Light => LIGHT_PAGE,
         Theme::Dark => DARK_PAGE,
     };
-    memory::push_str(text, style)
+    memory::push_str(text, style)?;
+    memory::push_str(text, PAGE)
 }
 
 // Appends the rule of light grounds.

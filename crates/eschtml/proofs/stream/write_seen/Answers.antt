@@ -14,23 +14,24 @@ returns-then-shows-clause-holds g c = λ m e fresh none only.
     let a = g.row.A.Denot in
     let o = c.args.options.now in
     let moves = c.args.moves in
-    let rule = c.new-reveal.result.rule in
+    let rule = c.with_marking-reveal.result.rule in
     let V : Admitter Kept a = record {
       admits = λ k v. is_kept {A = a} k.moves v;
     } in
     let shown = c.new-shown.ensures.begins m e fresh
     (record { more = λ f s b k. only.more s b; end = λ f s b k. only.end (s ++ b) })
-    c.new-reveal.ensures.fed in
+    c.with_marking-reveal.ensures.fed in
     let adds = through_adds V rule m e only in
     let new = c.new-filter.ensures.begins _ _ shown adds in
-    let admits = ap (λ p. is_kept {A = a} p.moves) c.new-reveal.ensures.policy in
+    let admits = ap (λ p. is_kept {A = a} p.moves) c.with_marking-reveal.ensures.policy in
     let f = same_texts (through o.encoding (through_whole V rule e))
     (through o.encoding (revealed_through V rule m)) (λ s. e (seen_by a o moves true s))
     (λ s. m (seen_by a o moves false s))
-    (λ s. ap e (whole_shown V rule o.limit moves c.new-reveal.ensures.limit
-    c.new-reveal.ensures.lines admits o.shows c.if-shows.true (decoded o.encoding s)))
-    (λ s. ap m (going_shown V rule o.limit moves c.new-reveal.ensures.limit
-    c.new-reveal.ensures.lines admits o.shows c.if-shows.true (decoded o.encoding s))) _ _ _
+    (λ s. ap e (whole_shown V rule o.limit moves c.with_marking-reveal.ensures.limit
+    c.with_marking-reveal.ensures.lines admits o.shows c.if-shows.true (decoded o.encoding s)))
+    (λ s. ap m (going_shown V rule o.limit moves c.with_marking-reveal.ensures.limit
+    c.with_marking-reveal.ensures.lines admits o.shows c.if-shows.true
+    (decoded o.encoding s))) _ _ _
     (c.filter_from.ensures.holds _ _ new
     (ap (revealed_through V rule m) (nothing_decoded o.encoding)
     ∙ through_nothing V rule m e none) (λ s. adds.end (decoded o.encoding s))) in
@@ -48,13 +49,13 @@ returns-then-shows-clause-holds g c = λ m e fresh none only.
 pub returns-then-shows-clause-refused : goal.returns-then-shows-clause-refused
 returns-then-shows-clause-refused g c = λ m e fresh none only.
     let o = c.args.options.now in
-    let rule = c.new-reveal.result.rule in
+    let rule = c.with_marking-reveal.result.rule in
     let V : Admitter Kept g.row.A.Denot = record {
       admits = λ k v. is_kept {A = g.row.A.Denot} k.moves v;
     } in
     let shown = c.new-shown.ensures.begins m e fresh
     (record { more = λ f s b k. only.more s b; end = λ f s b k. only.end (s ++ b) })
-    c.new-reveal.ensures.fed in
+    c.with_marking-reveal.ensures.fed in
     let adds = through_adds V rule m e only in
     let new = c.new-filter.ensures.begins _ _ shown adds in
     c.filter_from.ensures.refused _ _ new

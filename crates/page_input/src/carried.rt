@@ -1,0 +1,143 @@
+//! Renditions that go on where a stream is cut.
+
+use esc_frame::{VTActor, VTParser};
+use esc_pen::Pen;
+use esc_typed::Function;
+use esc_values::CsiParam;
+use memchr::memchr;
+use std::alloc::{AllocError, Global};
+
+const ESC: u8 = 0x1b;
+
+/// The renditions that hold after some of a stream.
+#[derive(Drop)]
+pub(crate) struct Carried {
+    framer: VTParser,
+    hold: Hold,
+}
+
+impl Carried {
+    /// At the beginning of a stream. Takes no memory.
+    pub fn new(alloc: Global) -> Carried {
+        Carried {
+            framer: VTParser::with_limit(alloc, 0),
+            hold: Hold { pen: Pen::plain() },
+        }
+    }
+
+    /// Takes bytes more. A byte past ASCII is taken for text.
+    pub fn take(&mut self, bytes: &[u8]) {
+        let mut rest = bytes;
+        while !rest.is_empty() {
+            let start = self.text_length(rest).min(rest.len());
+            let n = start.saturating_add(self.follow(&rest[start..]));
+            rest = &rest[n.max(1).min(rest.len())..];
+        }
+    }
+
+    // How many bytes come before the next segment.
+    fn text_length(&self, bytes: &[u8]) -> usize {
+        if !self.framer.is_ground() {
+            return 0;
+        }
+        memchr(ESC, bytes).unwrap_or(bytes.len())
+    }
+
+    /// The control sequences that make them. The error is that memory was refused.
+    pub fn text(&self, alloc: Global) -> Result<String, AllocError> {
+        let mut text = String::new(alloc);
+        self.hold.pen.push_text(&mut text)?;
+        Ok(text)
+    }
+
+    // Follows a segment to its end, as far as it is there; how many bytes that are.
+    fn follow(&mut self, bytes: &[u8]) -> usize {
+        let mut n = 0usize;
+        for byte in bytes {
+            n = n.saturating_add(1);
+            let byte = if byte.is_ascii() { *byte } else { b'?' };
+            if self.framer.parse(&[byte], &mut self.hold).is_err() {
+                return bytes.len();
+            }
+            if self.framer.is_ground() {
+                return n;
+            }
+        }
+        n
+    }
+}
+
+// The renditions that hold.
+#[derive(Drop)]
+struct Hold {
+    pen: Pen,
+}
+
+impl VTActor for Hold {
+    ghost takes = { λ _ _ _. Unit {0} };
+
+    ghost refuses = { λ _ _ _. ⊥ };
+
+    ghost is_ready = { λ _. Unit {0} };
+
+    ghost may = { λ _ _. Unit {0} };
+
+    fn print(&mut self, _c: char) -> Result<(), AllocError> {
+        Ok(())
+    }
+
+    fn execute_c0_or_c1(&mut self, _control: u8) -> Result<(), AllocError> {
+        Ok(())
+    }
+
+    fn dcs_hook(
+        &mut self,
+        _byte: u8,
+        _params: &[i64],
+        _intermediates: &[u8],
+        _ignored_extra_intermediates: bool,
+    ) -> Result<(), AllocError> {
+        Ok(())
+    }
+
+    fn dcs_put(&mut self, _byte: u8) -> Result<(), AllocError> {
+        Ok(())
+    }
+
+    fn dcs_unhook(&mut self) -> Result<(), AllocError> {
+        Ok(())
+    }
+
+    fn esc_dispatch(
+        &mut self,
+        _params: &[i64],
+        _intermediates: &[u8],
+        _ignored_extra_intermediates: bool,
+        _byte: u8,
+    ) -> Result<(), AllocError> {
+        Ok(())
+    }
+
+    fn csi_dispatch(
+        &mut self,
+        params: &[CsiParam],
+        parameters_truncated: bool,
+        byte: u8,
+    ) -> Result<(), AllocError> {
+        if parameters_truncated {
+            return Ok(());
+        }
+        if let Function::Sgr(renditions) = Function::of_params(params, byte) {
+            self.pen.select_all(renditions);
+        }
+        Ok(())
+    }
+
+    fn osc_dispatch(&mut self, _params: &[&[u8]]) -> Result<(), AllocError> {
+        Ok(())
+    }
+
+    fn apc_dispatch(&mut self, _text: &[u8]) -> Result<(), AllocError> {
+        Ok(())
+    }
+}

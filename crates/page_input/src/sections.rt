@@ -1,0 +1,215 @@
+//! A log, group after group.
+
+use crate::linking::copied;
+use crate::marks::{Mark, is_end, mark_length, mark_of};
+use memchr::memchr;
+use std::alloc::{AllocError, Global};
+use std::io;
+use std::io::Read;
+
+// How many bytes are read at once.
+const BYTES: usize = 8192;
+
+// How many bytes of a line are looked at, to see whether it is a mark.
+const LINE: usize = 4096;
+
+/// How many groups may be one in another: a mark that begins one more is text.
+pub const MOST_DEPTH: usize = 16;
+
+// What comes next.
+#[derive(Clone, Copy)]
+enum Next {
+    // so many bytes of text, which end a line or not
+    Text(usize, bool),
+    // so many bytes of a mark
+    Mark(usize),
+    // nothing
+    End,
+}
+
+/// Reads what another reader does, up to a line that begins or ends a group: `##[group]NAME` and
+/// `##[endgroup]`, or `::group::NAME` and `::endgroup::`, maybe after a time, as GitHub has them;
+/// or `section_start:TIME:NAME` and `section_end:TIME:NAME`, a carriage return and `ESC [0K`, as
+/// GitLab. [`mark`](Sections::mark) says then which it is, and what is read next comes after it.
+///
+/// It keeps a line up to its end, but at most 4 KiB and what is read at once.
+#[derive(Drop)]
+pub struct Sections<R> {
+    inner: R,
+    alloc: Global,
+    // what was read, and how much of it was handed out
+    kept: Vec<u8>,
+    at: usize,
+    has_ended: bool,
+    // whether a line begins there
+    begins_line: bool,
+    depth: usize,
+}
+
+impl<R: Read> Sections<R> {
+    /// A reader of what this one reads, from its beginning. Takes no memory.
+    pub fn new(alloc: Global, inner: R) -> Sections<R> {
+        Sections {
+            inner,
+            alloc,
+            kept: Vec::new(alloc),
+            at: 0,
+            has_ended: false,
+            begins_line: true,
+            depth: 0,
+        }
+    }
+
+    /// How many groups are open.
+    pub fn depth(&self) -> usize {
+        self.depth
+    }
+
+    /// This reader.
+    pub fn into_inner(self) -> R {
+        self.inner
+    }
+
+    /// Whether text comes next.
+    pub fn has_text(&mut self) -> io::Result<bool> {
+        match self.next()? {
+            Next::Text(_, _) => Ok(true),
+            Next::Mark(_) | Next::End => Ok(false),
+        }
+    }
+
+    /// Takes the mark that comes next, where one does; and whether a line ends with it.
+    pub fn mark(&mut self) -> io::Result<Option<(Mark, bool)>> {
+        let Next::Mark(length) = self.next()? else {
+            return Ok(None);
+        };
+        let line = self.first(length);
+        let mark = mark_of(self.alloc, line)?;
+        let ends_line = ends_line(line);
+        self.at = self.at.saturating_add(length);
+        self.depth = match &mark {
+            Mark::Begin { .. } => self.depth.saturating_add(1),
+            Mark::End => self.depth.saturating_sub(1),
+        };
+        Ok(Some((mark, ends_line)))
+    }
+
+    // Reads a line of text, or what of it there is room for.
+    fn read_line(&mut self, buf: &mut [u8]) -> io::Result<usize> {
+        let Next::Text(length, ends_line) = self.next()? else {
+            return Ok(0);
+        };
+        let text = self.first(length);
+        let count = copied(text, buf);
+        let is_whole = count == text.len();
+        self.begins_line = ends_line && is_whole;
+        self.at = self.at.saturating_add(count);
+        Ok(count)
+    }
+
+    // Whether a whole line was read.
+    fn has_line(&self) -> bool {
+        memchr(b'\n', self.rest()).is_some()
+    }
+
+    // What was read and not handed out.
+    fn rest(&self) -> &[u8] {
+        let at = self.at.min(self.kept.len());
+        &self.kept.as_slice()[at..]
+    }
+
+    // The first bytes of it, at most so many.
+    fn first(&self, length: usize) -> &[u8] {
+        let rest = self.rest();
+        &rest[..length.min(rest.len())]
+    }
+
+    // What comes next.
+    fn next(&mut self) -> io::Result<Next> {
+        for _ in 0..u64::MAX {
+            let rest = self.rest();
+            let end = memchr(b'\n', rest);
+            if end.is_some() || self.has_ended || LINE <= rest.len() {
+                return Ok(self.next_of(rest, end));
+            }
+            if !self.begins_line && !rest.is_empty() {
+                return Ok(Next::Text(rest.len(), false));
+            }
+            self.refill()?;
+        }
+        Ok(Next::End)
+    }
+
+    // What these bytes are, of which the first line has this end.
+    fn next_of(&self, bytes: &[u8], end: Option<usize>) -> Next {
+        let length = match end {
+            Some(end) => end.saturating_add(1).min(bytes.len()),
+            None => bytes.len(),
+        };
+        let line = bytes.get(..length).unwrap_or(bytes);
+        if line.is_empty() {
+            return Next::End;
+        }
+        match mark_length(line) {
+            Some(length) if self.begins_line && self.may_mark(line) => Next::Mark(length),
+            _ => Next::Text(length, end.is_some()),
+        }
+    }
+
+    // Whether the mark of this line may be one here.
+    fn may_mark(&self, line: &[u8]) -> bool {
+        if is_end(line) {
+            0 < self.depth
+        } else {
+            self.depth < MOST_DEPTH
+        }
+    }
+
+    // Reads more, after what was not handed out.
+    fn refill(&mut self) -> io::Result<()> {
+        let mut bytes = [0; BYTES];
+        let count = self.inner.read(&mut bytes)?;
+        match bytes.get(..count) {
+            Some(read) if count > 0 => Ok(self.keep(read)?),
+            _ => {
+                self.has_ended = true;
+                Ok(())
+            }
+        }
+    }
+
+    fn keep(&mut self, bytes: &[u8]) -> Result<(), AllocError> {
+        let mut kept = memory::copied(self.alloc, self.rest())?;
+        memory::extend(&mut kept, bytes)?;
+        self.kept = kept;
+        self.at = 0;
+        Ok(())
+    }
+}
+
+impl<R: Read> Read for Sections<R> {
+    fn read(&mut self, buf: &mut [u8]) -> io::Result<usize> {
+        if buf.is_empty() {
+            return Ok(0);
+        }
+        let mut count = self.read_line(buf)?;
+        for _ in 0..BYTES {
+            let Some(room) = buf.get_mut(count..) else {
+                break;
+            };
+            if count == 0 || room.is_empty() || !self.has_line() {
+                break;
+            }
+            let more = self.read_line(room)?;
+            if more == 0 {
+                break;
+            }
+            count = count.saturating_add(more);
+        }
+        Ok(count.min(buf.len()))
+    }
+}
+// Whether a line feed ends it.
+fn ends_line(line: &[u8]) -> bool {
+    matches!(line, [.., b'\n'])
+}

@@ -1,0 +1,275 @@
+//! The first lines of a stream, or the last ones.
+
+use crate::carried::Carried;
+use memchr::{memchr, memrchr};
+use std::alloc::{AllocError, Global};
+use std::io::{ErrorKind, Read};
+use std::{io, mem};
+
+// How many bytes are read at once.
+const BYTES: usize = 8192;
+
+// How many bytes are kept at least before those are let go that are no part of the last lines.
+const ROOM: usize = 65_536;
+
+/// Which lines of a stream are written: of the first ones the last ones.
+#[derive(Clone, Copy)]
+pub struct Cut {
+    /// How many come first, where not all do.
+    pub head: Option<u64>,
+    /// How many of them come last, where not all do.
+    pub tail: Option<u64>,
+}
+
+impl Cut {
+    /// Whether not all of them are.
+    pub fn is_some(self) -> bool {
+        self.head.is_some() || self.tail.is_some()
+    }
+}
+
+/// How many lines some text has.
+#[derive(Clone, Copy)]
+struct Count {
+    // those that a line feed ended
+    ended: u64,
+    // whether more came after the last line feed
+    is_open: bool,
+}
+
+impl Count {
+    // Of no text.
+    fn new() -> Count {
+        Count {
+            ended: 0,
+            is_open: false,
+        }
+    }
+
+    // With more text.
+    fn and(self, bytes: &[u8]) -> Count {
+        let mut count = self;
+        let mut rest = bytes;
+        while let Some(at) = memchr(b'\n', rest) {
+            count.ended = count.ended.saturating_add(1);
+            count.is_open = false;
+            rest = &rest[at + 1..];
+        }
+        count.is_open = count.is_open || !rest.is_empty();
+        count
+    }
+
+    fn lines(self) -> u64 {
+        self.ended.saturating_add(u64::from(self.is_open))
+    }
+}
+
+/// A reader around another, which reads some of its lines. Where these are the last ones, they are
+/// kept, and begin with the renditions that the lines before them leave on.
+#[derive(Drop)]
+pub struct Window<R> {
+    inner: R,
+    alloc: Global,
+    // how many lines more come first, where not all do
+    left: Option<u64>,
+    // how many of them come last, where not all do
+    tail: Option<u64>,
+    // the lines that were left out before them, and after them
+    before: Count,
+    after: Count,
+    carried: Carried,
+    // the last lines so far, and how many bytes there may be before some are let go
+    kept: Vec<u8>,
+    most: usize,
+    // how many bytes of them were handed out
+    at: usize,
+    // why no more can be read
+    fault: Option<io::Error>,
+}
+
+impl<R: Read> Window<R> {
+    /// A reader of these lines of what `inner` reads. Takes no memory.
+    pub fn new(alloc: Global, cut: Cut, inner: R) -> Window<R> {
+        Window {
+            inner,
+            alloc,
+            left: cut.head,
+            tail: cut.tail,
+            before: Count::new(),
+            after: Count::new(),
+            carried: Carried::new(alloc),
+            kept: Vec::new(alloc),
+            most: ROOM,
+            at: 0,
+            fault: None,
+        }
+    }
+
+    /// Reads on to the last lines, where these are read. What hinders it is an error of the read
+    /// after them.
+    pub fn prepare(&mut self) {
+        let Some(tail) = self.tail else {
+            return;
+        };
+        if let Err(error) = self.read_all(tail) {
+            self.fault = Some(error);
+        }
+        if let Err(error) = self.begin(tail) {
+            self.fault = Some(error.into());
+        }
+    }
+
+    /// How many lines were left out before those that are read.
+    pub fn before(&self) -> u64 {
+        self.before.lines()
+    }
+
+    /// Reads the rest; how many lines were left out after those that were read.
+    pub fn after(&mut self) -> io::Result<u64> {
+        if self.left.is_none() {
+            return Ok(0);
+        }
+        let mut bytes = [0; BYTES];
+        for _ in 0..u64::MAX {
+            let count = self.read_some(&mut bytes)?;
+            match bytes.get(..count) {
+                Some(read) if count > 0 => self.after = self.after.and(read),
+                _ => break,
+            }
+        }
+        Ok(self.after.lines())
+    }
+
+    // Reads what comes first to its end, and keeps the last lines of it.
+    fn read_all(&mut self, tail: u64) -> io::Result<()> {
+        let mut bytes = [0; BYTES];
+        for _ in 0..u64::MAX {
+            let count = self.read_first(&mut bytes)?;
+            match bytes.get(..count) {
+                Some(read) if count > 0 => self.keep(tail, read)?,
+                _ => break,
+            }
+        }
+        Ok(())
+    }
+
+    // Reads what comes first.
+    fn read_first(&mut self, buf: &mut [u8]) -> io::Result<usize> {
+        if self.left == Some(0) {
+            return Ok(0);
+        }
+        let count = self.read_some(buf)?;
+        let Some(left) = self.left else {
+            return Ok(count);
+        };
+        let read = buf.get(..count).unwrap_or(buf);
+        let first = length_of_first(read, left);
+        let (first, rest) = read.split_at(first.min(read.len()));
+        self.left = Some(left.saturating_sub(Count::new().and(first).ended));
+        self.after = self.after.and(rest);
+        Ok(first.len())
+    }
+
+    // Reads, also where a signal came between.
+    fn read_some(&mut self, buf: &mut [u8]) -> io::Result<usize> {
+        for _ in 0..u64::MAX {
+            match self.inner.read(buf) {
+                Ok(count) => return Ok(count.min(buf.len())),
+                Err(error) => {
+                    if error.kind() != ErrorKind::Interrupted {
+                        return Err(error);
+                    }
+                }
+            }
+        }
+        Ok(0)
+    }
+
+    // Keeps more.
+    fn keep(&mut self, tail: u64, bytes: &[u8]) -> Result<(), AllocError> {
+        memory::extend(&mut self.kept, bytes)?;
+        if self.kept.len() < self.most {
+            return Ok(());
+        }
+        self.let_go(tail)?;
+        self.most = self.kept.len().saturating_mul(2).saturating_add(ROOM);
+        Ok(())
+    }
+
+    // Lets go what is no part of the last lines.
+    fn let_go(&mut self, tail: u64) -> Result<(), AllocError> {
+        let start = start_of_last(self.kept.as_slice(), tail).min(self.kept.len());
+        let (gone, rest) = self.kept.as_slice().split_at(start);
+        self.before = self.before.and(gone);
+        self.carried.take(gone);
+        let rest = memory::copied(self.alloc, rest)?;
+        self.kept = rest;
+        Ok(())
+    }
+
+    // Begins the last lines with the renditions that hold there.
+    fn begin(&mut self, tail: u64) -> Result<(), AllocError> {
+        self.let_go(tail)?;
+        let mut text = self.carried.text(self.alloc)?.into_bytes();
+        memory::extend(&mut text, self.kept.as_slice())?;
+        self.kept = text;
+        Ok(())
+    }
+
+    // Hands out what was kept, as much as there is room for.
+    fn hand_out(&mut self, buf: &mut [u8]) -> io::Result<usize> {
+        let at = self.at.min(self.kept.len());
+        let rest = &self.kept.as_slice()[at..];
+        let count = rest.len().min(buf.len());
+        if count == 0 {
+            return match mem::replace(&mut self.fault, None) {
+                Some(error) => Err(error),
+                None => Ok(0),
+            };
+        }
+        buf[..count].copy_from_slice(&rest[..count]);
+        self.at = at.saturating_add(count);
+        Ok(count)
+    }
+}
+
+impl<R: Read> Read for Window<R> {
+    fn read(&mut self, buf: &mut [u8]) -> io::Result<usize> {
+        let count = match self.tail {
+            Some(_) => self.hand_out(buf)?,
+            None => self.read_first(buf)?,
+        };
+        Ok(count.min(buf.len()))
+    }
+}
+
+// How many bytes the first lines have, of which there are so many.
+fn length_of_first(bytes: &[u8], lines: u64) -> usize {
+    let mut left = lines;
+    let mut rest = bytes;
+    while let Some(at) = memchr(b'\n', rest) {
+        rest = &rest[at + 1..];
+        left = left.saturating_sub(1);
+        if left == 0 {
+            return bytes.len().saturating_sub(rest.len());
+        }
+    }
+    bytes.len()
+}
+
+// Where the last lines begin, of which there are so many.
+fn start_of_last(bytes: &[u8], lines: u64) -> usize {
+    let mut left = lines;
+    let mut rest = match bytes {
+        [rest @ .., b'\n'] => rest,
+        _ => bytes,
+    };
+    while let Some(at) = memrchr(b'\n', rest) {
+        left = left.saturating_sub(1);
+        if left == 0 {
+            return at.saturating_add(1);
+        }
+        rest = &rest[..at];
+    }
+    0
+}
