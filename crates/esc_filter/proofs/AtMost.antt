@@ -6,7 +6,6 @@ use Rattle.std.proofs.lemmas.Bool.{and_parts, eqb-true, true≢false}
 use Rattle.std.proofs.lemmas.Str.{encode_ascii}
 use Rattle.esc_visible.specs.Characters.{is_deceiving, number_text}
 use Rattle.esc_visible.specs.Following.{may_follow}
-use Rattle.esc_values.specs.declared.csi_param.CsiParam.{CsiParam}
 use Rattle.esc_sequences.specs.Csis.{CsiValue, sgr, unspecified}
 use Rattle.esc_osc.specs.declared.command.OperatingSystemCommand.{OperatingSystemCommand}
 use Rattle.esc_osc.specs.declared.command.OperatingSystemCommand.TheVariants as command
@@ -19,15 +18,12 @@ use Rattle.esc_actions.specs.declared.control_code.ControlCode.{ControlCode}
 use Rattle.esc_actions.specs.declared.control_code.ControlCode.TheVariants as code
 use Rattle.esc_actions.specs.declared.control_code.ControlCode.TheVariants.{CarriageReturn}
 use Rattle.esc_filter.specs.Characters.{in_guard, in_return, in_values_after, instead, is_return, last_after}
-use Rattle.esc_filter.specs.Closing.{after_body, after_command, after_control, after_sequence, after_value, after_values, closed, closing, given_back, is_reset, keeps_cursor, opens, rendition_of}
+use Rattle.esc_filter.specs.Closing.{after_body, after_command, after_control, after_sequence, after_value, after_values, closed, closing, given_back, is_reset, keeps_cursor, opens, turned}
 use Rattle.esc_filter.specs.Lines.{body, closed_by_lines_as, content, end_text, ended_lines, ends_line, ends_return, last_line, last_values, line_text, lines, passed_of_line, text_by_lines_as}
 use Rattle.esc_filter.specs.Passing.{closed_text_as, in_lines, is_line_feed, is_whole, passed, passed_as, passed_text_as, passes}
 use Rattle.esc_filter.specs.Pieces.{AdmitsAtMost, IsOfPieces}
 use Rattle.esc_filter.specs.Rules.{admits, is_colour, is_layout, is_link, is_plain_param, is_rendition, is_shown, is_text}
-use Rattle.esc_filter.specs.Terminal.{turned, unchanged}
-use Rattle.esc_pen.specs.Pens.{pen_by, pen_by_all, plain_pen}
-use Rattle.esc_pen.specs.declared.pen.Pen.{Pen}
-use Rattle.esc_typed.specs.Selections.{selections}
+use Rattle.esc_filter.specs.Terminal.{unchanged}
 use Rattle.esc_filter.specs.declared.policy.Policy.TheVariants as policy
 use Rattle.esc_filter.specs.declared.terminal.Terminal.{Terminal}
 use Rattle.esc_filter.specs.declared.guard.Guard.{Guard}
@@ -117,12 +113,12 @@ module _ (A : Type 0) (k : Bool) where
 -- ---- what it leaves changed
 
 -- a rendition and a link alone
-abbrev tinted : Bool → Bool → Pen → Terminal
-tinted r l p = record unchanged { rendition = r; link = l; pen = p }
+abbrev tinted : Bool → Bool → Terminal
+tinted r l = record unchanged { rendition = r; link = l }
 
 abbrev IsTinted : Bool → Terminal → Type 0
 IsTinted false t = t ≡ unchanged
-IsTinted true t = (r : Bool) × (l : Bool) × (p : Pen) × (t ≡ tinted r l p)
+IsTinted true t = (r : Bool) × (l : Bool) × (t ≡ tinted r l)
 
 layout_stays : (c : ControlCode) (t : Terminal) → is_layout (code_number c) ≡ true
     → after_control c t ≡ t
@@ -145,27 +141,25 @@ text_stays (enter e) t h = refl
 text_stays (datum b) t h = refl
 text_stays exit t h = refl
 
-tinted_by : (b : Bool) (es : List CsiParam) (t : Terminal) → IsTinted true t
-    → IsTinted true (turned b es t)
-tinted_by b es t (r, l, p, e) = (b, l, pen_by_all p (selections es), ap (turned b es) e)
+tinted_by : (b : Bool) (t : Terminal) → IsTinted true t → IsTinted true (turned b t)
+tinted_by b t (r, l, e) = (b, l, ap (turned b) e)
 
 rendition_tints : (c : CsiValue) (t : Terminal) → is_rendition c ≡ true → IsTinted true t
     → IsTinted true (after_sequence c t)
-rendition_tints (sgr s) t h (r, l, p, e) =
-    (not (is_reset s), l, pen_by p (rendition_of s), ap (after_sequence (sgr s)) e)
+rendition_tints (sgr s) t h k = tinted_by (not (is_reset s)) t k
 rendition_tints (unspecified es more f) t h k =
     let q = and_parts (f == 0x6d) (list_all is_plain_param es) h in
     subst (IsTinted true)
     (sym (ap (λ x. after_body es x t) (eqb-true f 0x6d q.0) ∙ plain_lit es q.1 t))
-    (tinted_by true es t k)
+    (tinted_by true t k)
 
 abbrev linked : Bool → Terminal → Terminal
 linked b t = record t { link = b }
 
 link_tints : {A : Type 0} (c : OperatingSystemCommand A) (t : Terminal) → is_link c ≡ true
     → IsTinted true t → IsTinted true (after_command c t)
-link_tints (command.SetHyperlink l) t h (r, m, p, e) =
-    (r, opens l, p, ap (linked (opens l)) e)
+link_tints (command.SetHyperlink l) t h (r, m, e) =
+    (r, opens l, ap (linked (opens l)) e)
 link_tints _ t h k = absurd (true≢false (sym h))
 
 colour_tints : {A : Type 0} (v : Value A) (t : Terminal) → is_colour v ≡ true → IsTinted true t
@@ -203,21 +197,21 @@ values_tint k (v ∷ vs) t h e =
 
 at_first : (k : Bool) → IsTinted k unchanged
 at_first false = refl
-at_first true = (false, false, plain_pen, refl)
+at_first true = (false, false, refl)
 
 -- a reset of renditions, and the end of a link
-back_of : (A : Type 0) (b r l : Bool) (p : Pen)
-    → list_all (admits policy.Color) (given_back {A = A} b (tinted r l p)) ≡ true
-back_of A b false false p = refl
-back_of A b true false p = refl
-back_of A b false true p = refl
-back_of A b true true p = refl
+back_of : (A : Type 0) (b r l : Bool)
+    → list_all (admits policy.Color) (given_back {A = A} b (tinted r l)) ≡ true
+back_of A b false false = refl
+back_of A b true false = refl
+back_of A b false true = refl
+back_of A b true true = refl
 
 back_least : (A : Type 0) (k b : Bool) (t : Terminal) → IsTinted k t
     → list_all (admits (least k)) (given_back {A = A} b t) ≡ true
 back_least A false b t e = ap (λ x. list_all (admits policy.Text) (given_back {A = A} b x)) e
-back_least A true b t (r, l, p, e) =
-    ap (λ x. list_all (admits policy.Color) (given_back {A = A} b x)) e ∙ back_of A b r l p
+back_least A true b t (r, l, e) =
+    ap (λ x. list_all (admits policy.Color) (given_back {A = A} b x)) e ∙ back_of A b r l
 
 closing_least : {A : Type 0} (k : Bool) (f : Value A → Bool) (vs : List (Value A))
     → list_all (admits (least k)) vs ≡ true → list_all (admits (least k)) (closing f vs) ≡ true

@@ -10,8 +10,6 @@ use Rattle.esc_actions.specs.Values.{Value, control, csi, osc}
 use Rattle.esc_actions.specs.declared.control_code.ControlCode.TheVariants.{ShiftIn}
 use Rattle.esc_filter.specs.Closing.{IsAtStart, after_value, after_values, ascii_in, closed, closing, escape, give, given_back, keeps_cursor, main_by, margins_back, next, private_mode, saved_back, saved_by, screen_back, states_back, without_margins}
 use Rattle.esc_filter.specs.GivenBack.{on_main, with_main}
-use Rattle.esc_pen.specs.Pens.{plain_pen}
-use Rattle.esc_pen.specs.declared.pen.Pen.{Pen}
 use Rattle.esc_filter.specs.Terminal.{after_escape_function, after_function, after_private, are_changed_sets, is_changed, is_changed_mode, is_changed_saved, is_main, no_sets, nothing_saved, restore, save, unchanged}
 use Rattle.esc_filter.specs.declared.saved.Saved.{Saved}
 use Rattle.esc_filter.specs.declared.terminal.Screen.{Screen}
@@ -83,14 +81,8 @@ start_if t h =
 -- ---- without states
 
 -- with none of these states
--- the pen that is left where renditions are reset, if any may be on
-abbrev pub rested : Bool → Pen → Pen
-rested true p = plain_pen
-rested false p = p
-
 abbrev pub quiet : Terminal → Terminal
 quiet t = record t {
-  pen = rested t.rendition t.pen;
   sides = false;
   origin = false;
   insert = false;
@@ -201,13 +193,6 @@ module _ (A : Type 0) where
   step true v vs t u w h k r = ap (after_values vs) h ∙ r
   step false v vs t u w h k r = ap (after_values vs) (k refl) ∙ r
 
-  -- one that is, where it is changed
-  step_if : (b : Bool) (v : Value A) (vs : List (Value A)) (t u w : Terminal)
-      → (b ≡ true → after_value v t ≡ u) → (b ≡ false → t ≡ u) → after_values vs u ≡ w
-      → after_values (give b v ++ vs) t ≡ w
-  step_if true v vs t u w h k r = ap (after_values vs) (h refl) ∙ r
-  step_if false v vs t u w h k r = ap (after_values vs) (k refl) ∙ r
-
   pub states_are : (t : Terminal) → after_values (states_back {A = A} t) t ≡ quiet t
   states_are t =
       let a = record t { sides = false } in
@@ -217,7 +202,7 @@ module _ (A : Type 0) where
       let e = record d { reverse = false } in
       let f = record e { no_wrap = false } in
       let g = record f { held = false } in
-      let h = record g { rendition = false; pen = rested t.rendition t.pen } in
+      let h = record g { rendition = false } in
       let i = record h { link = false } in
       let j = record i { sets = record i.sets { shifted = false } } in
       let k = record j { sets = record j.sets { g0 = false } } in
@@ -234,10 +219,7 @@ module _ (A : Type 0) where
       (step t.no_wrap (private_mode 7 0x68) _ e f _ (set_mode 7 e)
       (ap (λ x. record e { no_wrap = x }))
       (step t.held (private_mode 2026 0x6c) _ f g _ (reset 2026 f) (ap (λ x. record f { held = x }))
-      (step_if t.rendition (csi (sgr Reset)) _ g h _
-      (λ e. ap (λ x. record g { rendition = false; pen = rested x t.pen }) (sym e))
-      (λ e. ap (λ x. record g { rendition = x; pen = t.pen }) e
-      ∙ ap (λ x. record g { rendition = false; pen = rested x t.pen }) (sym e))
+      (step t.rendition (csi (sgr Reset)) _ g h _ refl (ap (λ x. record g { rendition = x }))
       (step t.link (osc (command.SetHyperlink None)) _ h i _ refl (ap (λ x. record h { link = x }))
       (step t.sets.shifted (control ShiftIn) _ i j _ refl
       (ap (λ x. record i { sets = record i.sets { shifted = x } }))

@@ -16,6 +16,8 @@ use Rattle.esc_filter.specs.Characters.{each_in_guard, in_guard, in_return, in_v
 use Rattle.esc_actions.specs.declared.control_code.ControlCode.{ControlCode}
 use Rattle.esc_actions.specs.declared.control_code.ControlCode.TheVariants.{CarriageReturn}
 use Rattle.esc_filter.specs.Closing.{after_values}
+use Rattle.esc_filter.specs.Pens.{pen_after}
+use Rattle.esc_pen.specs.declared.pen.Pen.{Pen}
 use Rattle.esc_filter.specs.declared.terminal.Terminal.{Terminal}
 use Rattle.esc_filter.specs.Noted.{AreKept, Writes}
 use Rattle.esc_filter.specs.declared.written.Written.{Written}
@@ -303,19 +305,25 @@ prints_last : (A : Type 0) (b : Option ℕ) (xs : List ℕ)
 prints_last A b [] = refl
 prints_last A b (x ∷ xs) = prints_last A (Some x) xs
 
+prints_pen : (A : Type 0) (xs : List ℕ) (p : Option Pen)
+    → pen_after {A = A} (map print xs) p ≡ p
+prints_pen A [] p = refl
+prints_pen A (x ∷ xs) p = prints_pen A xs p
+
 -- characters of ASCII were appended
 writes_prints : {A : Type 0} (p q : Written A) (x : ℕ) (xs : List ℕ)
     → list_all is_ascii (x ∷ xs) ≡ true
     → q.spell.text ≡ p.spell.text ++ (x ∷ xs) → q.spell.follows_string ≡ false
     → q.left ≡ p.left → q.by_lines ≡ p.by_lines → q.guard ≡ p.guard
-    → q.before ≡ last_of (Some x) xs → Writes p (map print (x ∷ xs)) q
-writes_prints {A} p q x xs h t e o b u l = (
+    → q.before ≡ last_of (Some x) xs → q.pen ≡ p.pen → Writes p (map print (x ∷ xs)) q
+writes_prints {A} p q x xs h t e o b u l m = (
   t ∙ ap (λ z. p.spell.text ++ z) (sym (prints_text A p.spell.follows_string (x ∷ xs) h)),
   e ∙ sym (prints_end A p.spell.follows_string x xs),
   o ∙ sym (prints_leave A (x ∷ xs) p.left),
   b,
   u,
   l ∙ sym (prints_last A (Some x) xs),
+  m ∙ sym (prints_pen A (x ∷ xs) p.pen),
 )
 
 -- the last character of the text of a number is `>`
@@ -341,18 +349,18 @@ number_ends A b c =
 pub writes_number : {A : Type 0} (p q : Written A) (c : ℕ)
     → q.spell.text ≡ p.spell.text ++ number_text c → q.spell.follows_string ≡ false
     → q.left ≡ p.left → q.by_lines ≡ p.by_lines → q.guard ≡ p.guard
-    → q.before ≡ Some 0x3e → Writes p (map print (number_text c)) q
+    → q.before ≡ Some 0x3e → q.pen ≡ p.pen → Writes p (map print (number_text c)) q
 unfolding number_text
-writes_number p q c t e o b u l =
+writes_number p q c t e o b u l m =
     writes_prints p q 0x3c (0x55 ∷ 0x2b ∷ (leading c ++ (four_digits c ++ 0x3e ∷ [])))
-    (number_ascii c) t e o b u (l ∙ sym (number_last (Some 0x2b) c))
+    (number_ascii c) t e o b u (l ∙ sym (number_last (Some 0x2b) c)) m
 
 -- `^M` was
 pub writes_return : {A : Type 0} (p q : Written A)
     → q.spell.text ≡ p.spell.text ++ (0x5e ∷ 0x4d ∷ []) → q.spell.follows_string ≡ false
     → q.left ≡ p.left → q.by_lines ≡ p.by_lines → q.guard ≡ p.guard
-    → q.before ≡ Some 0x4d → Writes p (map print (0x5e ∷ 0x4d ∷ [])) q
-writes_return p q t e o b u l = writes_prints p q 0x5e (0x4d ∷ []) refl t e o b u l
+    → q.before ≡ Some 0x4d → q.pen ≡ p.pen → Writes p (map print (0x5e ∷ 0x4d ∷ [])) q
+writes_return p q t e o b u l m = writes_prints p q 0x5e (0x4d ∷ []) refl t e o b u l m
 
 -- the last of some bytes
 pub last_at : (b : Option ℕ) (xs : List ℕ) (n : ℕ) → length xs ≡ n + 1

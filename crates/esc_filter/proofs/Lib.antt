@@ -23,6 +23,7 @@ pub mod WideBytes
 pub mod PlainBytes
 pub mod Openings
 pub mod PlainLines
+pub mod ReadPlain
 pub mod Resumes
 pub mod LineFeeds
 pub mod LineData

@@ -29,11 +29,12 @@ use Rattle.esc_functions.specs.Rows.{packed}
 use Rattle.esc_functions.specs.declared.control_function.ControlFunction.{ControlFunction}
 use Rattle.esc_functions.specs.declared.control_function.ControlFunction.TheVariants as function
 use Rattle.esc_functions.proofs.Functions.{has_its_key}
-use Rattle.esc_filter.specs.Closing.{IsAfter, BeginsWith, Turns, after_body, after_command, ends_in_semicolon, is_reset, lights, opens as opened, rendition_of}
-use Rattle.esc_filter.specs.Terminal.{after_function, after_named, turned}
+use Rattle.esc_filter.specs.Closing.{IsAfter, BeginsWith, Turns, after_body, after_command, ends_in_semicolon, is_reset, lights, opens as opened, turned}
+use Rattle.esc_filter.specs.Pens.{pen_after_final, pen_after_sequence, pen_selected, rendition_of}
 use Rattle.esc_pen.specs.Pens.{pen_by, pen_by_all}
 use Rattle.esc_pen.specs.declared.pen.Pen.{Pen}
 use Rattle.esc_typed.specs.Selections.{selections}
+use Rattle.esc_filter.specs.Terminal.{after_function, after_named, lit}
 use Rattle.esc_filter.specs.declared.terminal.Terminal.{Terminal}
 use Rattle.esc_filter.proofs.Screens.{no_marks}
 use Rattle.esc_filter.specs.Rules.{BeginsOther, is_link, is_plain_param}
@@ -70,12 +71,12 @@ named_resets n h =
 
 -- a sequence of plain parameters alone is a rendition
 lit_at : (es : List CsiParam) (t : Terminal)
-    → after_named (function_of (key_with 1 (length es) 0x6d)) es t ≡ turned true es t
+    → after_named (function_of (key_with 1 (length es) 0x6d)) es t ≡ lit t
 unfolding function_of rows_of after_function
 lit_at es t = refl
 
 pub plain_lit : (es : List CsiParam) → list_all is_plain_param es ≡ true → (t : Terminal)
-    → after_body es 0x6d t ≡ turned true es t
+    → after_body es 0x6d t ≡ turned true t
 plain_lit es h t =
     ap (λ ms. after_named (function_of (key_with (packed 1 ms) (length es) 0x6d)) es t)
     (no_marks es h) ∙ lit_at es t
@@ -103,19 +104,30 @@ named_pen n s e =
     pen_step 21 n (n == 21) refl _ s _ e (λ p. refl) (λ e.
     pen_step 24 n (n == 24) refl _ s _ e (λ p. refl) (λ e. absurd cc)))))))))
 
+same_pen : (n : ℕ) (s : Sgr) → Same n s → (p : Option Pen)
+    → pen_after_sequence (sgr s) p ≡ pen_selected (Integer (pos n) ∷ []) p
+same_pen n s same None = refl
+same_pen n s same (Some p) = ap Some (same p)
+
+-- a sequence of plain parameters alone selects those
+pub plain_pens : (es : List CsiParam) → list_all is_plain_param es ≡ true → (p : Option Pen)
+    → pen_after_sequence (unspecified es false 0x6d) p ≡ pen_selected es p
+plain_pens es h p = ap (λ b. if b then pen_selected es p else p) h
+
 by_name : (n : ℤ) (o : Option Sgr) → numbered n ≡ o → resets o ≡ false
     → Turns (Integer n ∷ []) true
 by_name n None e h = (
   unspecified (Integer n ∷ []) false 0x6d,
   ap (λ x. unwrap_or (put_first x (Some [])) (unspecified (Integer n ∷ []) false 0x6d ∷ [])) e,
   plain_lit (Integer n ∷ []) refl,
+  plain_pens (Integer n ∷ []) refl,
 )
 by_name (pos n) (Some s) e h = (
   sgr s,
   ap (λ x. unwrap_or (put_first x (Some [])) (unspecified (Integer (pos n) ∷ []) false 0x6d ∷ []))
       e,
-  λ t. ap (λ b. record t { rendition = not b; pen = pen_by t.pen (rendition_of s) }) h
-      ∙ ap (λ p. record t { rendition = true; pen = p }) (named_pen n s e t.pen),
+  λ t. ap (λ b. turned (not b) t) h,
+  same_pen n s (named_pen n s e),
 )
 by_name (negsuc n) (Some s) e h = absurd cc
 
@@ -123,7 +135,7 @@ by_name (negsuc n) (Some s) e h = absurd cc
 lone_by : (n : ℕ) (b : Bool) → (n == 0) ≡ b → Turns (Integer (pos n) ∷ []) (not b)
 lone_by n true h =
     subst (λ k. Turns (Integer (pos k) ∷ []) false) (sym (nat_is n h))
-    (sgr sgr_variant.Reset, refl, λ t. refl)
+    (sgr sgr_variant.Reset, refl, λ t. refl, λ p. refl)
   where
     nat_is : (n : ℕ) → (n == 0) ≡ true → n ≡ 0
     nat_is n h = grind (arith, nat_tests)
@@ -134,7 +146,7 @@ pub lone_turns : (es : List CsiParam) (n : ℕ) → es ≡ Integer (pos n) ∷ [
 lone_turns es n e = subst (λ x. Turns x (not (n == 0))) (sym e) (lone_by n (n == 0) refl)
 
 pub nothing_turns : (es : List CsiParam) → length es ≡ 0 → Turns es false
-nothing_turns [] e = (sgr sgr_variant.Reset, refl, λ t. refl)
+nothing_turns [] e = (sgr sgr_variant.Reset, refl, λ t. refl, λ p. refl)
 nothing_turns (x ∷ es) e = absurd (omega (arith, e))
 
 -- ---- one sequence of no name
@@ -142,7 +154,8 @@ nothing_turns (x ∷ es) e = absurd (omega (arith, e))
 pub unnamed_turns : (es : List CsiParam)
     → csi_of es false 0x6d ≡ unspecified es false 0x6d ∷ [] → list_all is_plain_param es ≡ true
     → Turns es true
-unnamed_turns es e plain = (unspecified es false 0x6d, e, plain_lit es plain)
+unnamed_turns es e plain =
+    (unspecified es false 0x6d, e, plain_lit es plain, plain_pens es plain)
 
 pub nameless_any : (es : List CsiParam) (more : Bool) (f : ℕ) → (f == 0x6d) ≡ false
     → csi_of es more f ≡ unspecified es more f ∷ []
@@ -252,15 +265,24 @@ short_turns (short.Palette i) es h =
     first_turns es i.first (_, h.1) (omega (arith, i.fits.0)) (plain_sgr (short.Palette i) es h)
 
 pub short_renditions : (s : ShortNumbers) (es : List CsiParam) (f : ℕ) (t : Terminal) → f ≡ 0x6d
-    → AreParams s es f → IsAfter es f t (turned (lights s) es t)
+    → AreParams s es f → IsAfter es f t (turned (lights s) t)
 short_renditions s es f t is h =
-    let (v, one, after) = short_turns s es (subst (λ g. AreParams s es g) is h) in
-    (v, ap (csi_of es false) is ∙ one, sym (after t))
+    let (v, one, after, pens) = short_turns s es (subst (λ g. AreParams s es g) is h) in (
+      v,
+      ap (csi_of es false) is ∙ one,
+      sym (after t),
+      λ p. ap (λ g. pen_after_final es g p) is ∙ sym (pens p),
+    )
+
+-- a sequence with another final byte leaves the pen
+pub other_pens : (es : List CsiParam) (f : ℕ) (p : Option Pen) → f ≢ 0x6d
+    → pen_after_sequence (unspecified es false f) p ≡ pen_after_final es f p
+other_pens es f p other = rw (ne_eqb f 0x6d other) refl
 
 pub other_sequence : (es : List CsiParam) (f : ℕ) (t u : Terminal) → f ≢ 0x6d
     → u ≡ after_body es f t → IsAfter es f t u
 other_sequence es f t u other after =
-    (unspecified es false f, rw (ne_eqb f 0x6d other) refl, after)
+    (unspecified es false f, rw (ne_eqb f 0x6d other) refl, after, λ p. sym (other_pens es f p other))
 
 -- ---- a semicolon at the end
 

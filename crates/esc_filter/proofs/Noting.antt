@@ -29,6 +29,8 @@ use Rattle.esc_normal.proofs.Spelling.{IsCommand, IsSequence, plain_refused}
 use Rattle.esc_filter.proofs.Results.{stops_for}
 use Rattle.esc_filter.specs.Closing.{after_command, after_control, after_sequence, after_value}
 use Rattle.esc_filter.specs.declared.terminal.Terminal.{Terminal}
+use Rattle.esc_filter.specs.Pens.{pen_after_sequence, pen_after_value}
+use Rattle.esc_pen.specs.declared.pen.Pen.{Pen}
 use Rattle.esc_filter.specs.Noted.{Notes, WriteDenies, Writes, written_of}
 use Rattle.esc_filter.specs.Passing.{is_line_feed}
 use Rattle.esc_filter.specs.declared.written.Written.{Written}
@@ -37,16 +39,21 @@ module _ {A : Type 0} where
   abbrev with_spell : Written A → Spell A → Written A
   with_spell p s = record p { spell = s }
 
-  -- a control, a sequence or a command was written
+  -- a control or a command was written
   abbrev with_both : Written A → Terminal → Spell A → Written A
   with_both p o s = record p { spell = s; left = o; before = None }
+
+  -- a sequence was
+  abbrev with_pen : Written A → Terminal → Option Pen → Spell A → Written A
+  with_pen p o m s = record p { spell = s; left = o; before = None; pen = m }
 
   -- ---- one value
 
   pub writes_one : (p q : Written A) (a : Action A) (v : Value A) → value_of a ≡ v
       → Adds p.spell a q.spell → q.left ≡ after_value v p.left → q.by_lines ≡ p.by_lines
-      → q.guard ≡ p.guard → q.before ≡ character_of v → Writes p (v ∷ []) q
-  writes_one p q a v is t o b u l =
+      → q.guard ≡ p.guard → q.before ≡ character_of v → q.pen ≡ pen_after_value v p.pen
+      → Writes p (v ∷ []) q
+  writes_one p q a v is t o b u l m =
       let f = p.spell.follows_string in (
         t.0
             ∙ ap (λ x. p.spell.text ++ x)
@@ -56,16 +63,18 @@ module _ {A : Type 0} where
         b,
         u,
         l,
+        m,
       )
 
   -- it is written as it is
   notes_one : (p q : Written A) (a : Action A) (v : Value A) → value_of a ≡ v
       → written_of p.by_lines p.guard p.before v ≡ v ∷ []
       → Adds p.spell a q.spell → q.left ≡ after_value v p.left → q.by_lines ≡ p.by_lines
-      → q.guard ≡ p.guard → q.before ≡ character_of v → Notes p a q
-  notes_one p q a v is itself t o b u l =
+      → q.guard ≡ p.guard → q.before ≡ character_of v → q.pen ≡ pen_after_value v p.pen
+      → Notes p a q
+  notes_one p q a v is itself t o b u l m =
       subst (λ x. Writes p (written_of p.by_lines p.guard p.before x) q) (sym is)
-      (subst (λ ws. Writes p ws q) (sym itself) (writes_one p q a v is t o b u l))
+      (subst (λ ws. Writes p ws q) (sym itself) (writes_one p q a v is t o b u l m))
 
   -- what is written of a control that is no line feed, or is none that is dropped
   in_control : (b : Bool) (u : Guard) (l : Option ℕ) (c : ControlCode)
@@ -98,7 +107,7 @@ module _ {A : Type 0} where
   notes_control p s c h r t =
       notes_one p (with_both p (after_control c p.left) s) (action.Control c) (control c) refl
       (in_control p.by_lines p.guard p.before c h ∙ of_other p.guard p.before c r) t refl refl
-      refl refl
+      refl refl refl
 
   -- a carriage return
   pub notes_return : (p q : Written A) (c : ControlCode)
@@ -111,9 +120,9 @@ module _ {A : Type 0} where
   -- a line feed that is
   pub notes_feed : (p q : Written A) (c : ControlCode) → p.by_lines ≡ true
       → is_line_feed {A = A} (control c) ≡ true → q.spell ≡ p.spell → q.left ≡ p.left
-      → q.by_lines ≡ p.by_lines → q.guard ≡ p.guard → q.before ≡ p.before
+      → q.by_lines ≡ p.by_lines → q.guard ≡ p.guard → q.before ≡ p.before → q.pen ≡ p.pen
       → Notes p (action.Control c) q
-  notes_feed p q c l f s o b u k =
+  notes_feed p q c l f s o b u k m =
       subst (λ ws. Writes p ws q)
       (sym (none p.by_lines (is_line_feed ctl) (in_guard p.guard p.before ctl) l f)) (
         ap (λ x. x.text) s ∙ sym (append-nil p.spell.text),
@@ -122,6 +131,7 @@ module _ {A : Type 0} where
         b,
         u,
         k,
+        m,
       )
     where
       ctl : Value A
@@ -138,7 +148,7 @@ module _ {A : Type 0} where
       → written_of p.by_lines p.guard p.before (value_of a) ≡ [] → Notes p a p
   notes_nothing p a e =
       subst (λ ws. Writes p ws p) (sym e)
-      (sym (append-nil p.spell.text), refl, refl, refl, refl, refl)
+      (sym (append-nil p.spell.text), refl, refl, refl, refl, refl, refl)
 
   -- a character is left out where it deceives
   pub dropped : (b : Bool) (u : Guard) (l : Option ℕ) (c : ℕ)
@@ -170,7 +180,7 @@ module _ {A : Type 0} where
   run_noted (x ∷ xs) p s (i, h) (j, t, rest) = (
     record p { spell = j; before = Some x },
     notes_one p (record p { spell = j; before = Some x }) (action.Print x) (print x) refl i t refl
-        refl refl refl,
+        refl refl refl refl,
     run_noted xs (record p { spell = j; before = Some x }) s h rest,
   )
 
@@ -197,39 +207,44 @@ module _ {A : Type 0} where
 
   -- ---- a sequence
 
-  one_noted : (vs : List CsiValue) (v : CsiValue) (p : Written A) (o : Terminal) (s : Spell A)
-      → vs ≡ v ∷ [] → o ≡ after_sequence v p.left
+  one_noted : (vs : List CsiValue) (v : CsiValue) (p : Written A) (o : Terminal) (m : Option Pen)
+      (s : Spell A) → vs ≡ v ∷ [] → o ≡ after_sequence v p.left → m ≡ pen_after_sequence v p.pen
       → FoldsTo (By IsSequence Adds) p.spell vs s
-      → FoldsTo (By IsSequence Notes) p vs (with_both p o s)
-  one_noted vs v p o s e h t = subst (λ ws. FoldsTo (By IsSequence Notes) p ws (with_both p o s))
+      → FoldsTo (By IsSequence Notes) p vs (with_pen p o m s)
+  one_noted vs v p o m s e h i t =
+      subst (λ ws. FoldsTo (By IsSequence Notes) p ws (with_pen p o m s))
       (sym e) (by (subst (λ ws. FoldsTo (By IsSequence Adds) p.spell ws s) e t))
     where
       by : FoldsTo (By IsSequence Adds) p.spell (v ∷ []) s
-          → FoldsTo (By IsSequence Notes) p (v ∷ []) (with_both p o s)
+          → FoldsTo (By IsSequence Notes) p (v ∷ []) (with_pen p o m s)
       by (j, (a, is, w), same) = (
-        with_both p o j,
-        (a, is, notes_one p (with_both p o j) a (csi v) is refl w h refl refl refl),
-        ap (with_both p o) same,
+        with_pen p o m j,
+        (a, is, notes_one p (with_pen p o m j) a (csi v) is refl w h refl refl refl i),
+        ap (with_pen p o m) same,
       )
 
   pub sequence_noted : {E : Type 0} (r : Result Bool E) (vs : List CsiValue) (p : Written A)
-      (o : Terminal) (s : Spell A)
+      (o : Terminal) (m : Option Pen) (s : Spell A)
       → (v : CsiValue) × (vs ≡ v ∷ []) × (o ≡ after_sequence v p.left)
+      × (m ≡ pen_after_sequence v p.pen)
       → IfOk r (λ b. IsTrue b → FoldsTo (By IsSequence Adds) p.spell vs s)
-      → IfOk r (λ b. IsTrue b → FoldsTo (By IsSequence Notes) p vs (with_both p o s))
-  sequence_noted r vs p o s (v, e, h) t =
-      if_ok_more _ _ r (λ b k i. one_noted vs v p o s e h (k i)) t
+      → IfOk r (λ b. IsTrue b → FoldsTo (By IsSequence Notes) p vs (with_pen p o m s))
+  sequence_noted r vs p o m s (v, e, h, i) t =
+      if_ok_more _ _ r (λ b k n. one_noted vs v p o m s e h i (k n)) t
 
   -- one value, which was written
-  pub one_written : (vs : List CsiValue) (v : CsiValue) (p : Written A) (o : Terminal) (s : Spell A)
-      → vs ≡ v ∷ [] → o ≡ after_sequence v p.left → FoldsTo (By IsSequence Adds) p.spell vs s
-      → Writes p (csi v ∷ []) (with_both p o s)
-  one_written vs v p o s e h t = by (subst (λ ws. FoldsTo (By IsSequence Adds) p.spell ws s) e t)
+  pub one_written : (vs : List CsiValue) (v : CsiValue) (p : Written A) (o : Terminal)
+      (m : Option Pen) (s : Spell A) → vs ≡ v ∷ [] → o ≡ after_sequence v p.left
+      → m ≡ pen_after_sequence v p.pen → FoldsTo (By IsSequence Adds) p.spell vs s
+      → Writes p (csi v ∷ []) (with_pen p o m s)
+  one_written vs v p o m s e h i t =
+      by (subst (λ ws. FoldsTo (By IsSequence Adds) p.spell ws s) e t)
     where
-      by : FoldsTo (By IsSequence Adds) p.spell (v ∷ []) s → Writes p (csi v ∷ []) (with_both p o s)
+      by : FoldsTo (By IsSequence Adds) p.spell (v ∷ []) s
+          → Writes p (csi v ∷ []) (with_pen p o m s)
       by (j, (a, is, w), same) =
-          subst (λ k. Writes p (csi v ∷ []) (with_both p o k)) same
-          (writes_one p (with_both p o j) a (csi v) is w h refl refl refl)
+          subst (λ k. Writes p (csi v ∷ []) (with_pen p o m k)) same
+          (writes_one p (with_pen p o m j) a (csi v) is w h refl refl refl i)
 
   -- a link that was
   pub link_written : (ps : List (List ℕ)) (p : Written A) (o : Terminal) (s : Spell A)
@@ -239,7 +254,7 @@ module _ {A : Type 0} where
       → Writes p (osc (command_meant ps) ∷ []) (with_both p o s)
   link_written ps p o s h t =
       writes_one p (with_both p o s) (action.OperatingSystemCommand (command_meant ps))
-      (osc (command_meant ps)) refl t h refl refl refl
+      (osc (command_meant ps)) refl t h refl refl refl refl
 
   sequence_why : (p : Spell A) (v : CsiValue) (q : Spell A) → By IsSequence Denies p v q → Refused A
   sequence_why p v q (a, is, denied) = denied (ap has_text is)
@@ -288,7 +303,7 @@ module _ {A : Type 0} where
         (
           a,
           is,
-          notes_one p (with_both p o j) a (osc (command_meant ps)) is refl w h refl refl refl,
+          notes_one p (with_both p o j) a (osc (command_meant ps)) is refl w h refl refl refl refl,
         ),
         ap (with_both p o) same,
       )

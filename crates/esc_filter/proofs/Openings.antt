@@ -1,5 +1,5 @@
 -- The renditions that go on over a line feed, and the stream in which they are written again.
-use Rattle.std.proofs.Common.{ℕ, ◌≡◌, ◌+◌, ◌/◌, ◌%◌, Bool, true, false, ◌||◌, nat_lt, if◌then◌else◌, List, [], ◌∷◌, ◌++◌, codes, arith, refl, ap, sym, ◌∙◌, append_assoc, append-nil}
+use Rattle.std.proofs.Common.{ℕ, ◌≡◌, ◌+◌, ◌/◌, ◌%◌, Bool, true, false, ◌||◌, nat_lt, if◌then◌else◌, List, [], ◌∷◌, ◌++◌, Option, None, Some, codes, arith, refl, ap, sym, ◌∙◌, append_assoc, append-nil}
 use Rattle.std.proofs.lemmas.Bool.{ne_eqb}
 use Rattle.esc_actions.specs.Values.{Value}
 use Rattle.esc_sequences.specs.declared.intensity.Intensity.{Intensity}
@@ -18,7 +18,8 @@ use Rattle.esc_pen.specs.declared.pen.Pen.{Pen}
 use Rattle.esc_filter.specs.Closing.{after_values, joined}
 use Rattle.esc_filter.specs.Lines.{IsLine, content, ends_line, has_line_feed, is_line_feed, lines, passed_of_content}
 use Rattle.esc_filter.specs.Terminal.{unchanged}
-use Rattle.esc_filter.specs.Openings.{AreQuiet, is_blank, opening, opening_after, opening_at, opening_before, opening_of, resumed_from}
+use Rattle.esc_filter.specs.Openings.{AreQuiet, is_blank, opening, opening_after, opening_at, opening_before, opening_left, opening_of, resumed_from}
+use Rattle.esc_filter.specs.Pens.{pen_after, start_pen, text_of_pen}
 use Rattle.esc_filter.specs.declared.guard.Guard.{Guard}
 use Rattle.esc_filter.specs.declared.terminal.Terminal.{Terminal}
 use Rattle.esc_filter.proofs.LineBytes.{ends_append, feeds_append, line_ends, lines_append, no_end, one_line}
@@ -134,8 +135,15 @@ either_feedless : (b : Bool) (x y : List ℕ) → Feedless x → Feedless y
 either_feedless true x y h k = h
 either_feedless false x y h k = k
 
-opening_feedless : (t : Terminal) → Feedless (opening t)
-opening_feedless t = either_feedless t.rendition (pen_text t.pen) [] (pen_feedless t.pen) refl
+some_feedless : (p : Option Pen) → Feedless (text_of_pen p)
+some_feedless None = refl
+some_feedless (Some p) = pen_feedless p
+
+opening_feedless : (t : Terminal) (p : Option Pen) → Feedless (opening t p)
+opening_feedless t p = either_feedless t.rendition (text_of_pen p) [] (some_feedless p) refl
+
+left_feedless : {A : Type 0} (vs : List (Value A)) → Feedless (opening_left vs)
+left_feedless vs = opening_feedless (after_values vs unchanged) (pen_after vs (start_pen true))
 
 -- ---- lines one after another
 
@@ -173,7 +181,7 @@ module _ {A : Type 0} (u : Guard) (limit : ℕ) (admits : Value A → Bool) wher
   after_feedless o (l ∷ ls) h =
       after_feedless (if is_blank l then o else Of (content l)) ls
       (either_feedless (is_blank l) o (Of (content l)) h
-      (opening_feedless (after_values (passed_of_content u limit admits (content l)) unchanged)))
+      (left_feedless (passed_of_content u limit admits (content l))))
 
   abbrev pub At : Bool → List ℕ → List ℕ
   At k d = opening_at {A = A} k u limit admits d

@@ -1,10 +1,9 @@
 -- Lines that are written as they are.
-use Rattle.std.proofs.Common.{ℕ, suc, not, ◌≡◌, ◌<◌, ◌+◌, ◌-◌, length, take, drop, get_or, Bool, true, false, ◌||◌, if◌then◌else◌, List, [], ◌∷◌, ◌++◌, map, Option, None, Some, arith, refl, ap, sym, ◌∙◌, subst, append-nil, append_assoc}
+use Rattle.std.proofs.Common.{ℕ, not, ◌≡◌, ◌+◌, ◌-◌, Bool, true, false, ◌||◌, if◌then◌else◌, List, [], ◌∷◌, ◌++◌, map, Option, None, Some, arith, refl, ap, sym, ◌∙◌, subst, append-nil, append_assoc}
 use Rattle.std.specs.Prelude.{IsTrue}
-use Rattle.std.specs.List.{filter, list_all, prefix_len}
+use Rattle.std.specs.List.{filter, list_all}
 use Rattle.std.specs.Char.{encode_utf8}
 use Rattle.std.specs.Str.{IsUtf8, encode_utf8_all}
-use Rattle.std.proofs.Math.Seq.{take-suc}
 use Rattle.std.proofs.lemmas.Bool.{and_parts}
 use Rattle.std.proofs.lemmas.List.Elements.{filter-append}
 use Rattle.std.proofs.lemmas.List.Folds.{list_any-append}
@@ -17,8 +16,7 @@ use Rattle.esc_frame.specs.Leads.Unfinished.{Ground}
 use Rattle.esc_frame.specs.Machine.Moves.{after_all, after_by, events_all, events_by, move}
 use Rattle.esc_frame.specs.Scans.{is_data_byte}
 use Rattle.esc_frame.specs.Stream.{events_within}
-use Rattle.esc_frame.proofs.CsiRuns.{run_joins}
-use Rattle.esc_frame.proofs.ManyBytes.{character_does, run_passes}
+use Rattle.esc_frame.proofs.ManyBytes.{character_does}
 use Rattle.esc_frame.proofs.Streams.{after_append, events_append}
 use Rattle.esc_actions.proofs.Meanings.{mode_append, values_append}
 use Rattle.esc_actions.specs.ControlCodes.{code_of}
@@ -32,16 +30,14 @@ use Rattle.esc_normal.specs.Texts.{ends_in_string}
 use Rattle.esc_values.specs.declared.csi_param.CsiParam.{CsiParam}
 use Rattle.esc_sequences.specs.Csis.{CsiValue, csi_of, sgr, unspecified}
 use Rattle.esc_filter.specs.Characters.{character_of, in_guard, in_values, in_values_after, last_after}
-use Rattle.esc_filter.specs.Closing.{after_values, closing, given_back, keeps_cursor}
+use Rattle.esc_filter.specs.Closing.{after_values, closing, given_back, keeps_cursor, turned}
 use Rattle.esc_filter.specs.Terminal.{unchanged}
-use Rattle.esc_pen.specs.Pens.{pen_by_all, plain_pen}
-use Rattle.esc_pen.specs.declared.pen.Pen.{Pen}
-use Rattle.esc_typed.specs.Selections.{selections}
+use Rattle.esc_filter.specs.Pens.{pen_after, start_pen}
 use Rattle.esc_filter.specs.declared.terminal.Terminal.{Terminal}
 use Rattle.esc_filter.specs.Fed.{WasFedIn}
 use Rattle.esc_filter.specs.Known.{ArePassedRenditions, IsPassedText}
-use Rattle.esc_filter.specs.Openings.{ArePlainLines, IsQuiet, is_blank, opening, opening_after, opening_of}
-use Rattle.esc_filter.specs.Lines.{AreWide, GrowsBy, IsLine, IsShortRendition, WasFedLines, added_by, body, content, end_text, ends_line, ends_return, has_line_feed, held, is_line_feed, is_return, is_wide, passed_of_line, text_by_lines_as}
+use Rattle.esc_filter.specs.Openings.{ArePlainLines, IsQuiet, is_blank, opening, opening_after, opening_left, opening_of}
+use Rattle.esc_filter.specs.Lines.{GrowsBy, IsLine, WasFedLines, added_by, body, content, end_text, ends_line, ends_return, has_line_feed, held, is_line_feed, is_return, is_wide, passed_of_line, text_by_lines_as}
 use Rattle.esc_filter.specs.Passing.{in_lines, passes}
 use Rattle.esc_filter.specs.Rules.{is_rendition}
 use Rattle.esc_filter.specs.declared.line_filter.LineFilter.{LineFilter}
@@ -49,22 +45,14 @@ use Rattle.esc_filter.specs.declared.guard.Guard.{Guard}
 use Rattle.esc_filter.proofs.ByLines.{by_append, closed_text}
 use Rattle.esc_filter.proofs.LineBytes.{content_is, ends_append, feeds_append, no_end}
 use Rattle.esc_filter.proofs.Openings.{joined_end, quiet_end}
-use Rattle.esc_filter.proofs.PlainBytes.{body_held_of, data_ascii, data_inner, data_move, data_shown, data_text, end_ends, end_utf8, held_feed, no_return, of_inner, with_held}
-use Rattle.esc_filter.proofs.WideBytes.{AreInner, all_utf8, has_return, wide_is}
+use Rattle.esc_filter.proofs.PlainBytes.{body_held_of, data_ascii, data_inner, data_move, data_shown, data_text, end_ends, held_feed, no_return, of_inner, with_held}
+use Rattle.esc_filter.proofs.WideBytes.{AreInner, has_return, wide_is}
 use Rattle.esc_filter.proofs.Characters.{in_both, in_more, in_none, plain_one, text_themselves}
-use Rattle.esc_filter.proofs.Runs.{all_more}
 use Rattle.esc_filter.proofs.Sequences.{each_whole}
-use Rattle.esc_filter.proofs.ShortRenditions.{Shade, is_inner, shade_of}
+use Rattle.esc_filter.proofs.ShortRenditions.{Shade}
 use Rattle.esc_filter.proofs.Texts.{after_more}
 
 -- ---- text that is written as it is
-
--- renditions are on, or not, and nothing else is changed
-abbrev pub shaded : Bool → Pen → Terminal
-shaded on p = record unchanged { rendition = on; pen = p }
-
-abbrev pub IsShaded : Bool → Terminal → Type 0
-IsShaded on t = (p : Pen) × (t ≡ shaded on p)
 
 module _ (A : Type 0) (u : Guard) (limit : ℕ) (admits : Value A → Bool)
     (texts : IsPassedText admits) where
@@ -165,20 +153,20 @@ module _ (A : Type 0) (u : Guard) (limit : ℕ) (admits : Value A → Bool)
       (λ l. (text_themselves A u l (b ∷ []) (rw (data_text b h) refl)).0)
       (λ f. encode_ascii b (data_ascii b h)) (of_inner (b ∷ []) (rw (data_inner b h) refl))
 
-  tab : Passed (0x09 ∷ []) (control HorizontalTab ∷ [])
+  pub tab : Passed (0x09 ∷ []) (control HorizontalTab ∷ [])
   unfolding class_of code_of
   tab =
       alone (0x09 ∷ []) (control HorizontalTab) (Execute 0x09) refl refl refl refl
       (texts (control HorizontalTab) refl) (λ l. refl) (λ f. encode_ascii 0x09 (omega arith))
       (of_inner (0x09 ∷ []) refl)
 
-  run : (s : List ℕ) → list_all is_data_byte s ≡ true → Passed s (map print s)
+  pub run : (s : List ℕ) → list_all is_data_byte s ≡ true → Passed s (map print s)
   run [] h = nothing
   run (b ∷ s) h =
       let q = and_parts (is_data_byte b) (list_all is_data_byte s) h in
       joined (character b q.0) (run s q.1)
 
-  run_leaves : (s : List ℕ) (o : Terminal) → after_values {A = A} (map print s) o ≡ o
+  pub run_leaves : (s : List ℕ) (o : Terminal) → after_values {A = A} (map print s) o ≡ o
   run_leaves [] o = refl
   run_leaves (b ∷ s) o = run_leaves s o
 
@@ -189,7 +177,7 @@ module _ (A : Type 0) (u : Guard) (limit : ℕ) (admits : Value A → Bool)
       alone (encode_utf8 c) (print c) (Print c) does.0 (does.1 (Some limit)) refl refl
       (texts (print c) w.shown) (λ l. plain_one u l c w.plain) (λ f. refl) w.inner
 
-  wides : (cs : List ℕ) → list_all is_wide cs ≡ true → Passed (encode_utf8_all cs) (map print cs)
+  pub wides : (cs : List ℕ) → list_all is_wide cs ≡ true → Passed (encode_utf8_all cs) (map print cs)
   wides [] h = nothing
   wides (c ∷ cs) h =
       let q = and_parts (is_wide c) (list_all is_wide cs) h in
@@ -205,7 +193,7 @@ module _ (A : Type 0) (u : Guard) (limit : ℕ) (admits : Value A → Bool)
       (subst (λ vs. list_all (λ c. not (is_truncated c)) vs ≡ true) one (each_whole es 0x6d)) in
       rw (whole.0, all (unspecified ps more f) is) refl
 
-  rendition : {x : List ℕ} {b : Bool} → ArePassedRenditions admits → (s : Shade x b)
+  pub rendition : {x : List ℕ} {b : Bool} → ArePassedRenditions admits → (s : Shade x b)
       → Passed x (csi s.value ∷ [])
   rendition {x} all s =
       alone x (csi s.value) (CsiDispatch s.params false 0x6d) s.ground (s.events (Some limit))
@@ -216,16 +204,17 @@ module _ (A : Type 0) (u : Guard) (limit : ℕ) (admits : Value A → Bool)
   -- ---- a line, after which renditions are on, or not
 
   abbrev pub Line : List ℕ → Bool → Type 0
-  Line x on = (vs : List (Value A)) × Passed x vs × IsShaded on (after_values vs unchanged)
+  Line x on = (vs : List (Value A)) × Passed x vs
+      × (after_values vs unchanged ≡ turned on unchanged)
 
   longer : {x y : List ℕ} {ws : List (Value A)} {on lit : Bool} → Line x on → Passed y ws
-      → ((p : Pen) → IsShaded lit (after_values ws (shaded on p))) → Line (x ++ y) lit
-  longer {ws = ws} (vs, p, (pen, left)) q leaves =
-      let (new, e) = leaves pen in (
-        vs ++ ws,
-        joined p q,
-        (new, after_more vs ws unchanged ∙ ap (after_values ws) left ∙ e),
-      )
+      → after_values ws (turned on unchanged) ≡ turned lit unchanged
+      → Line (x ++ y) lit
+  longer {ws = ws} (vs, p, left) q leaves = (
+    vs ++ ws,
+    joined p q,
+    after_more vs ws unchanged ∙ ap (after_values ws) left ∙ leaves,
+  )
 
   abbrev pub By : List ℕ → List ℕ
   By s = text_by_lines_as {A = A} u limit admits s
@@ -267,7 +256,7 @@ module _ (A : Type 0) (u : Guard) (limit : ℕ) (admits : Value A → Bool)
   -- one that leaves none on is written as it is
   one_line : (x : List ℕ) → Line x false → (r : Bool)
       → By (x ++ (held r ++ 0x0a ∷ [])) ≡ x ++ (held r ++ 0x0a ∷ [])
-  one_line x (vs, p, (pen, left)) r =
+  one_line x (vs, p, left) r =
       let m = x ++ 0x0a ∷ [] in
       let y = x ++ held r in
       let end = held r ++ 0x0a ∷ [] in
@@ -290,7 +279,7 @@ module _ (A : Type 0) (u : Guard) (limit : ℕ) (admits : Value A → Bool)
   -- and leaves none on
   quiet_line : (x : List ℕ) → Line x false → (r : Bool)
       → opening_after {A = A} u limit admits [] ((x ++ (held r ++ 0x0a ∷ [])) ∷ []) ≡ []
-  quiet_line x (vs, p, (pen, left)) r =
+  quiet_line x (vs, p, left) r =
       let y = x ++ held r in
       let l = x ++ (held r ++ 0x0a ∷ []) in
       let leaves : opening_of {A = A} u limit admits (content l) ≡ [] =
@@ -298,10 +287,10 @@ module _ (A : Type 0) (u : Guard) (limit : ℕ) (admits : Value A → Bool)
       (sym (append_assoc x (held r) (0x0a ∷ [])))
       ∙ ap (opening_of {A = A} u limit admits)
       (content_is y [] (feeds_append x (held r) p.one_line (held_feed r)))
-      ∙ ap (λ z. opening (after_values (passed_of_line {A = A} u limit admits (z ++ 0x0a ∷ []))
-      unchanged)) (body_held_of x r (no_return false x refl p.unreturned))
-      ∙ ap (λ zs. opening (after_values zs unchanged)) (line_passes x vs p)
-      ∙ ap opening left in
+      ∙ ap (λ z. opening_left (passed_of_line {A = A} u limit admits (z ++ 0x0a ∷ [])))
+      (body_held_of x r (no_return false x refl p.unreturned))
+      ∙ ap opening_left (line_passes x vs p)
+      ∙ ap (λ t. opening t (pen_after vs (start_pen true))) left in
       none (is_blank l) leaves
     where
       none : (b : Bool) {t : List ℕ} → t ≡ [] → (if b then [] else t) ≡ []
@@ -327,7 +316,7 @@ module _ (A : Type 0) (u : Guard) (limit : ℕ) (admits : Value A → Bool)
     pub quiet : IsQuiet u limit admits ended
     pub line : Line last on
 
-  none_begun : Begun false []
+  pub none_begun : Begun false []
   none_begun = record {
     ended = [];
     last = [];
@@ -335,11 +324,11 @@ module _ (A : Type 0) (u : Guard) (limit : ℕ) (admits : Value A → Bool)
     ends = refl;
     same = refl;
     quiet = ([], refl, tt);
-    line = ([], nothing, (plain_pen, refl));
+    line = ([], nothing, refl);
   }
 
-  begun_more : {on lit : Bool} (s y : List ℕ) {ws : List (Value A)} → Begun on s → Passed y ws
-      → ((p : Pen) → IsShaded lit (after_values ws (shaded on p))) → Begun lit (s ++ y)
+  pub begun_more : {on lit : Bool} (s y : List ℕ) {ws : List (Value A)} → Begun on s → Passed y ws
+      → after_values ws (turned on unchanged) ≡ turned lit unchanged → Begun lit (s ++ y)
   begun_more s y b q leaves = record {
     ended = b.ended;
     last = b.last ++ y;
@@ -354,7 +343,7 @@ module _ (A : Type 0) (u : Guard) (limit : ℕ) (admits : Value A → Bool)
   abbrev end_of : Bool → List ℕ
   end_of r = held r ++ 0x0a ∷ []
 
-  feed_ended : (s : List ℕ) → Begun false s → (r : Bool) → By (s ++ end_of r) ≡ s ++ end_of r
+  pub feed_ended : (s : List ℕ) → Begun false s → (r : Bool) → By (s ++ end_of r) ≡ s ++ end_of r
   feed_ended s b r =
       let both : s ++ end_of r ≡ b.ended ++ (b.last ++ end_of r) =
       ap (λ z. z ++ end_of r) b.whole ∙ append_assoc b.ended b.last (end_of r) in
@@ -362,7 +351,7 @@ module _ (A : Type 0) (u : Guard) (limit : ℕ) (admits : Value A → Bool)
       ∙ ap (λ z. z ++ By (b.last ++ end_of r)) b.same
       ∙ ap (λ z. b.ended ++ z) (one_line b.last b.line r) ∙ sym both
 
-  quiet_ended : (s : List ℕ) → Begun false s → (r : Bool) → IsQuiet u limit admits (s ++ end_of r)
+  pub quiet_ended : (s : List ℕ) → Begun false s → (r : Bool) → IsQuiet u limit admits (s ++ end_of r)
   quiet_ended s b r =
       let (ls, e, quiet) = b.quiet in
       let l = b.last ++ end_of r in (
@@ -372,7 +361,7 @@ module _ (A : Type 0) (u : Guard) (limit : ℕ) (admits : Value A → Bool)
         quiet_end u limit admits ls l quiet (is_one b.last b.line r) (quiet_line b.last b.line r),
       )
 
-  begun_feed : (s : List ℕ) → Begun false s → (r : Bool) → Begun false (s ++ end_of r)
+  pub begun_feed : (s : List ℕ) → Begun false s → (r : Bool) → Begun false (s ++ end_of r)
   begun_feed s b r = record {
     ended = s ++ end_of r;
     last = [];
@@ -380,135 +369,8 @@ module _ (A : Type 0) (u : Guard) (limit : ℕ) (admits : Value A → Bool)
     ends = end_ends s r;
     same = feed_ended s b r;
     quiet = quiet_ended s b r;
-    line = ([], nothing, (plain_pen, refl));
+    line = ([], nothing, refl);
   }
-
--- ---- as they are read
-
--- what has been read, after which renditions are on or not
-abbrev pub HasRead : Type 0 → Bool → Bool → List ℕ → Type 0
-HasRead A r on s = IsUtf8 s
-    × ((u : Guard) (limit : ℕ) (admits : Value A → Bool) (texts : IsPassedText admits)
-    → (IsTrue r → ArePassedRenditions admits) → Begun A u limit admits texts on s)
-
-module _ (A : Type 0) (r : Bool) where
-  -- a run of bytes 20 to 7E
-  pub read_run : (on : Bool) (s : List ℕ) (i n : ℕ) → HasRead A r on (take i s)
-      → n ≡ prefix_len is_data_byte (take (length s - i) (drop i s))
-      → HasRead A r on (take (i + n) s)
-  read_run on s i n (utf8, begun) e =
-      let y = take n (take (length s - i) (drop i s)) in
-      let bytes : list_all is_data_byte y ≡ true =
-      ap (λ k. list_all is_data_byte (take k (take (length s - i) (drop i s)))) e
-      ∙ run_passes is_data_byte (take (length s - i) (drop i s)) in
-      subst (HasRead A r on) (run_joins s i n) (
-        IsUtf8-append (take i s) y utf8 (of_inner y (all_more is_data_byte is_inner data_inner y
-            bytes)).0,
-        λ u limit admits texts all.
-            begun_more A u limit admits texts (take i s) y (begun u limit admits texts all)
-            (run A u limit admits texts y bytes)
-            (λ p. (p, run_leaves A u limit admits texts y (shaded on p))),
-      )
-
-  next : (s : List ℕ) (i b : ℕ) → i < length s → get_or s i 0 ≡ b
-      → take i s ++ b ∷ [] ≡ take (i + 1) s
-  next s i b l e =
-      let more : suc i ≡ i + 1 = omega arith in
-      ap (λ c. take i s ++ c ∷ []) (sym e) ∙ sym (take-suc s i 0 l) ∙ ap (λ k. take k s) more
-
-  -- a tab
-  pub read_tab : (on : Bool) (s : List ℕ) (i : ℕ) → i < length s
-      → get_or s i 0 ≡ 0x09 → HasRead A r on (take i s) → HasRead A r on (take (i + 1) s)
-  read_tab on s i l e (utf8, begun) =
-      subst (HasRead A r on) (next s i 0x09 l e) (
-        IsUtf8-append (take i s) (0x09 ∷ []) utf8 (of_inner (0x09 ∷ []) refl).0,
-        λ u limit admits texts all.
-            begun_more A u limit admits texts (take i s) (0x09 ∷ [])
-            (begun u limit admits texts all) (tab A u limit admits texts) (λ p. (p, refl)),
-      )
-
-  -- the end of a line, where none is on
-  read_end : (x : List ℕ) (h : Bool) → HasRead A r false x
-      → HasRead A r false (x ++ (held h ++ 0x0a ∷ []))
-      × ArePlainLines A r (x ++ (held h ++ 0x0a ∷ []))
-  read_end x h (utf8, begun) =
-      let bytes = IsUtf8-append x (held h ++ 0x0a ∷ []) utf8 (end_utf8 h) in (
-        (
-          bytes,
-          λ u limit admits texts all.
-              begun_feed A u limit admits texts x (begun u limit admits texts all) h,
-        ),
-        (
-          bytes,
-          end_ends x h,
-          λ u limit admits texts all.
-              let b = begun u limit admits texts all in (
-                feed_ended A u limit admits texts x b h,
-                quiet_ended A u limit admits texts x b h,
-              ),
-        ),
-      )
-
-  -- a line feed
-  pub read_feed : (s : List ℕ) (i : ℕ) → i < length s → get_or s i 0 ≡ 0x0a
-      → HasRead A r false (take i s)
-      → HasRead A r false (take (i + 1) s) × ArePlainLines A r (take (i + 1) s)
-  read_feed s i l e read =
-      subst (λ z. HasRead A r false z × ArePlainLines A r z) (next s i 0x0a l e)
-      (read_end (take i s) false read)
-
-  -- a carriage return and a line feed
-  pub read_return : (s : List ℕ) (i : ℕ) → i + 1 < length s → get_or s i 0 ≡ 0x0d
-      → get_or s (i + 1) 0 ≡ 0x0a → HasRead A r false (take i s)
-      → HasRead A r false (take (i + 2) s) × ArePlainLines A r (take (i + 2) s)
-  read_return s i l e f read =
-      let first : take i s ++ 0x0d ∷ [] ≡ take (i + 1) s = next s i 0x0d (omega (arith, l)) e in
-      let two : i + 1 + 1 ≡ i + 2 = omega arith in
-      subst (λ z. HasRead A r false z × ArePlainLines A r z)
-      (sym (append_assoc (take i s) (0x0d ∷ []) (0x0a ∷ []))
-      ∙ ap (λ z. z ++ 0x0a ∷ []) first ∙ next s (i + 1) 0x0a l f ∙ ap (λ k. take k s) two)
-      (read_end (take i s) true read)
-
-  -- characters from U+00A0 on
-  wide_begun : (on : Bool) (u : Guard) (limit : ℕ) (admits : Value A → Bool)
-      (texts : IsPassedText admits) (x y cs : List ℕ) → list_all is_wide cs ≡ true
-      → encode_utf8_all cs ≡ y → Begun A u limit admits texts on x
-      → Begun A u limit admits texts on (x ++ y)
-  wide_begun on u limit admits texts x y cs wide is begun =
-      begun_more A u limit admits texts x y begun
-      (subst (λ z. Passed A u limit admits texts z (map print cs)) is
-      (wides A u limit admits texts cs wide))
-      (λ p. (p, run_leaves A u limit admits texts cs (shaded on p)))
-
-  wide_utf8 : (y cs : List ℕ) → list_all is_wide cs ≡ true → encode_utf8_all cs ≡ y → IsUtf8 y
-  wide_utf8 y cs wide is = subst IsUtf8 is (all_utf8 cs wide)
-
-  pub read_wide : (on : Bool) (s : List ℕ) (i n : ℕ)
-      → AreWide (take n (take (length s - i) (drop i s)))
-      → HasRead A r on (take i s) → HasRead A r on (take (i + n) s)
-  read_wide on s i n (cs, wide, is) (utf8, begun) =
-      let y = take n (take (length s - i) (drop i s)) in
-      subst (HasRead A r on) (run_joins s i n) (
-        IsUtf8-append (take i s) y utf8 (wide_utf8 y cs wide is),
-        λ u limit admits texts all.
-            wide_begun on u limit admits texts (take i s) y cs wide is
-            (begun u limit admits texts all),
-      )
-
-  -- a rendition, where all pass
-  pub read_rendition : (on lit : Bool) (s : List ℕ) (i n : ℕ) → r ≡ true
-      → IsShortRendition (take n (take (length s - i) (drop i s))) lit
-      → HasRead A r on (take i s) → HasRead A r lit (take (i + n) s)
-  read_rendition on lit s i n known is (utf8, begun) =
-      let y = take n (take (length s - i) (drop i s)) in
-      let shade = shade_of y lit is in
-      subst (HasRead A r lit) (run_joins s i n) (
-        IsUtf8-append (take i s) y utf8 (of_inner y shade.inner).0,
-        λ u limit admits texts all.
-            begun_more A u limit admits texts (take i s) y (begun u limit admits texts all)
-            (rendition A u limit admits texts (all known) shade)
-            (λ p. (pen_by_all p (selections shade.params), shade.turns (shaded on p))),
-      )
 
 -- ---- between lines they are appended
 

@@ -2,11 +2,9 @@
 use Rattle.std.proofs.Common.{ℕ, ◌≡◌, ◌≢◌, ◌<◌, length, OnOk, Bool, true, false, not, ◌||◌, if◌then◌else◌, List, [], ◌∷◌, ◌++◌, arith, refl, ap, sym, ◌∙◌, subst, append_assoc, append-nil, length-append}
 use Rattle.std.specs.Prelude.{Err, IfOk, Ok, Result, string_bytes}
 use Rattle.esc_actions.specs.Values.{Value}
-use Rattle.esc_filter.specs.Closing.{after_values}
 use Rattle.esc_filter.specs.Lines.{FillsLine, GrowsBy, GrowsRest, IsLine, WasFedLines, added_by, body, content, ends_line, has_line_feed, is_line_feed, passed_of_line, text_by_lines_as}
-use Rattle.esc_filter.specs.Openings.{IsQuiet, is_blank, opening, opening_at, resumed, resumed_closed, resumed_from, resumed_text}
+use Rattle.esc_filter.specs.Openings.{IsQuiet, is_blank, opening_at, opening_left, resumed, resumed_closed, resumed_from, resumed_text}
 use Rattle.esc_filter.specs.Resumed.{AddsResumed, ClosesWith, EndsWith, GrowsResumed, IsMarked}
-use Rattle.esc_filter.specs.Terminal.{unchanged}
 use Rattle.esc_filter.specs.declared.guard.Guard.{Guard}
 use Rattle.esc_filter.specs.declared.line_filter.LineFilter.{LineFilter}
 use Rattle.esc_filter.specs.declared.resuming.ResumingFilter.{ResumingFilter}
@@ -317,8 +315,7 @@ module _ {P A : Type 0} (u : Guard) (limit : ℕ) (admits : Value A → Bool) wh
   )
     where
       Of : List ℕ → List ℕ
-      Of y = opening
-          (after_values (passed_of_line {A = A} u limit admits (body y ++ 0x0a ∷ [])) unchanged)
+      Of y = opening_left (passed_of_line {A = A} u limit admits (body y ++ 0x0a ∷ []))
 
       l2 : List ℕ
       l2 = w.rest ++ (x ++ 0x0a ∷ [])

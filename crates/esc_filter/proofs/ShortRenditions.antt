@@ -31,8 +31,7 @@ use Rattle.esc_frame.proofs.Streams.{after_append, events_append}
 use Rattle.esc_normal.proofs.LoneNumbers.{lone_number}
 use Rattle.esc_write.specs.Plain.{last_text}
 use Rattle.esc_write.proofs.ShortNumbers.{last_one, last_two, last_three}
-use Rattle.esc_filter.specs.Closing.{after_sequence}
-use Rattle.esc_filter.specs.Terminal.{turned}
+use Rattle.esc_filter.specs.Closing.{after_sequence, turned}
 use Rattle.esc_filter.specs.declared.terminal.Terminal.{Terminal}
 use Rattle.esc_filter.specs.Lines.{IsNumber, IsShortRendition, is_line_feed, is_return}
 use Rattle.esc_filter.specs.Rules.{is_plain_param, is_rendition}
@@ -92,7 +91,7 @@ pub record Shade (x : List ℕ) (b : Bool) : Type 0 where
   pub one : csi_of params false 0x6d ≡ value ∷ []
   pub text : csi_text value ≡ x
   pub rendition : is_rendition value ≡ true
-  pub turns : (t : Terminal) → after_sequence value t ≡ turned b params t
+  pub turns : (t : Terminal) → after_sequence value t ≡ turned b t
   pub inner : list_all is_inner x ≡ true
 
 -- one with the body y
@@ -139,7 +138,7 @@ module _ (y : List ℕ) (es : List CsiParam) (bytes : list_all is_csi_parameter 
 
   shade : (v : CsiValue) (b : Bool) → csi_of es false 0x6d ≡ v ∷ [] → csi_text v ≡ whole
       → list_all is_plain_param es ≡ true
-      → ((t : Terminal) → after_sequence v t ≡ turned b es t) → Shade whole b
+      → ((t : Terminal) → after_sequence v t ≡ turned b t) → Shade whole b
   shade v b one text plain turns =
       let pass : list_all is_rendition (v ∷ []) ≡ true =
       subst (λ vs. list_all is_rendition vs ≡ true) one (renditions_pass es 0x6d refl plain) in
@@ -172,7 +171,7 @@ number_params n h =
 -- a rendition of one number
 lone : (n : ℕ) → n < 1000 → Shade (0x1b ∷ 0x5b ∷ last_text n 0x6d) (not (n == 0))
 lone n h =
-    let (v, one, turns) = lone_turns (Integer (pos n) ∷ []) n refl in
+    let (v, one, turns, pens) = lone_turns (Integer (pos n) ∷ []) n refl in
     let (c, same, text) = lone_number {A = Unit {0}} (pos n) false 0x6d in
     let is : csi_value c ≡ v = head_same (sym same ∙ one) in
     shade (decimal n) (Integer (pos n) ∷ []) (number_bytes n h) (number_params n h)
@@ -192,7 +191,7 @@ indexed : (k n : ℕ) (t : List ℕ) → 24 < k → n < 1000 → decimal k ≡ t
     → Shade (0x1b ∷ 0x5b ∷ ((t ++ 0x3b ∷ 0x35 ∷ 0x3b ∷ decimal n) ++ 0x6d ∷ [])) true
 indexed k n t high h first bytes is =
     let es = P 0x3b ∷ Integer (pos 5) ∷ P 0x3b ∷ Integer (pos n) ∷ [] in
-    let (v, one, turns) = first_turns (Integer (pos k) ∷ es) k (es, refl) high refl in
+    let (v, one, turns, pens) = first_turns (Integer (pos k) ∷ es) k (es, refl) high refl in
     let none = large_unnamed k es high in
     shade (t ++ 0x3b ∷ 0x35 ∷ 0x3b ∷ decimal n) (Integer (pos k) ∷ es) bytes is (omega arith)
     (unspecified (Integer (pos k) ∷ es) false 0x6d) true none text refl

@@ -1,5 +1,5 @@
 -- What was written of the values that pass, and noted of them.
-use Rattle.std.proofs.Common.{◌≡◌, Option, None, ℕ, Bool, true, false, not, ◌&&◌, cond, if◌then◌else◌, List, [], ◌∷◌, ◌++◌, refl, sym, subst, ap, ◌∙◌, append_assoc, append-nil}
+use Rattle.std.proofs.Common.{◌≡◌, Option, ℕ, Bool, true, false, not, ◌&&◌, cond, if◌then◌else◌, List, [], ◌∷◌, ◌++◌, refl, sym, subst, ap, ◌∙◌, append_assoc, append-nil}
 use Rattle.std.specs.List.{FoldsTo, filter}
 use Rattle.esc_parse.specs.Given.{At}
 use Rattle.esc_actions.specs.Meaning.{yield_within}
@@ -7,9 +7,10 @@ use Rattle.esc_actions.specs.Texts.{texts_after}
 use Rattle.esc_actions.specs.Values.{Value, value_of}
 use Rattle.esc_actions.specs.declared.action.Action.{Action}
 use Rattle.esc_filter.specs.Closing.{after_values}
+use Rattle.esc_filter.specs.Pens.{pen_after, start_pen}
 use Rattle.esc_filter.specs.Fed.{Takes}
 use Rattle.esc_filter.specs.Noted.{HasNoted, Writes, written_of}
-use Rattle.esc_filter.proofs.Texts.{added_as, after_more, end_longer, last_longer, left_longer, text_longer_as}
+use Rattle.esc_filter.proofs.Texts.{added_as, after_more, end_longer, last_longer, left_longer, pens_longer, pens_more, text_longer_as}
 use Rattle.esc_normal.proofs.Texts.{ends_more, texts_more}
 use Rattle.esc_filter.proofs.Characters.{in_more, in_none, last_more}
 use Rattle.esc_filter.specs.Characters.{in_guard, in_values_after, last_after}
@@ -22,7 +23,7 @@ module _ {A : Type 0} where
   -- one list after another
   writes_both : (p j q : Written A) (vs ws : List (Value A)) → Writes p vs j → Writes j ws q
       → Writes p (vs ++ ws) q
-  writes_both p j q vs ws (t, e, o, b, u, l) (t', e', o', b', u', l') =
+  writes_both p j q vs ws (t, e, o, b, u, l, m) (t', e', o', b', u', l', m') =
       let f = p.spell.follows_string in (
         t'
             ∙ ap (λ x. x ++ texts_after j.spell.follows_string ws) t
@@ -35,6 +36,7 @@ module _ {A : Type 0} where
         b' ∙ b,
         u' ∙ u,
         l' ∙ ap (λ x. last_after x ws) l ∙ sym (last_more p.before vs ws),
+        m' ∙ ap (pen_after ws) m ∙ sym (pens_more vs ws p.pen),
       )
 
   -- a value that passes, or not, and is dropped, or not
@@ -96,7 +98,7 @@ fed_more : {A : Type 0} (u : Guard) (limit : Option ℕ) (b : Bool) (admits : Va
     → HasNoted b u (passed_as u limit admits (s ++ bs)) q
     × (passed_text_as u limit admits (s ++ bs)
     ≡ passed_text_as u limit admits s ++ q.spell.text)
-fed_more u limit b admits s bs p q none (e, o, l, c, k) g =
+fed_more u limit b admits s bs p q none (e, o, l, c, k, m) g =
     let vs = added_as u limit admits s bs in (
       (
         g.1 ∙ ap (λ x. ends_in_string x vs) e ∙ sym (end_longer u limit admits s bs),
@@ -104,6 +106,7 @@ fed_more u limit b admits s bs p q none (e, o, l, c, k) g =
         g.3 ∙ l,
         g.4 ∙ c,
         g.5 ∙ ap (λ x. last_after x vs) k ∙ sym (last_longer u limit admits s bs),
+        g.6 ∙ ap (pen_after vs) m ∙ sym (pens_longer u limit admits s bs (start_pen b)),
       ),
       text_longer_as u limit admits s bs
           ∙ ap (λ t. passed_text_as u limit admits s ++ t)
@@ -148,6 +151,7 @@ module _ {S K A : Type 0} (admits : K → Value A → Bool) (policy : S → K) (
       ap (λ x. (written x).by_lines) (sym e),
       ap (λ x. (written x).guard) (sym e),
       ap (λ x. (written x).before) (sym e),
+      ap (λ x. (written x).pen) (sym e),
     ),
   )
   gives_all p (v ∷ vs) q l c (j, (a, is, w), rest) =

@@ -7,6 +7,8 @@ use Rattle.esc_actions.specs.Meaning.{meaning_within, yield_within}
 use Rattle.esc_actions.specs.Texts.{list_text, texts_after}
 use Rattle.esc_actions.specs.Values.{Value}
 use Rattle.esc_filter.specs.Closing.{after_value, after_values}
+use Rattle.esc_filter.specs.Pens.{pen_after, pen_after_value}
+use Rattle.esc_pen.specs.declared.pen.Pen.{Pen}
 use Rattle.esc_filter.specs.Terminal.{unchanged}
 use Rattle.esc_filter.specs.declared.terminal.Terminal.{Terminal}
 use Rattle.esc_filter.specs.Passing.{passed, passed_as, passed_text, passed_text_as, passes}
@@ -82,3 +84,17 @@ pub last_longer : {A : Type 0} (u : Guard) (limit : Option ℕ) (admits : Value 
 last_longer u limit admits s b =
     ap (last_after None) (written_longer u limit admits s b)
     ∙ last_more None (passed_as u limit admits s) (added_as u limit admits s b)
+
+-- the renditions that are on
+pub pens_more : {A : Type 0} (vs ws : List (Value A)) (p : Option Pen)
+    → pen_after (vs ++ ws) p ≡ pen_after ws (pen_after vs p)
+pens_more [] ws p = refl
+pens_more (v ∷ vs) ws p = pens_more vs ws (pen_after_value v p)
+
+pub pens_longer : {A : Type 0} (u : Guard) (limit : Option ℕ) (admits : Value A → Bool)
+    (s b : List ℕ) (p : Option Pen)
+    → pen_after (passed_as u limit admits (s ++ b)) p
+    ≡ pen_after (added_as u limit admits s b) (pen_after (passed_as u limit admits s) p)
+pens_longer u limit admits s b p =
+    ap (λ vs. pen_after vs p) (written_longer u limit admits s b)
+    ∙ pens_more (passed_as u limit admits s) (added_as u limit admits s b) p

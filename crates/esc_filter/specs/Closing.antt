@@ -18,10 +18,9 @@ use Rattle.esc_actions.specs.declared.control_code.ControlCode.{ControlCode}
 use Rattle.esc_actions.specs.declared.control_code.ControlCode.TheVariants.{ShiftIn, ShiftOut}
 use Rattle.esc_write.specs.declared.short_numbers.ShortNumbers.{ShortNumbers}
 use Rattle.esc_write.specs.declared.short_numbers.ShortNumbers.TheVariants as short
-use Rattle.esc_pen.specs.Pens.{pen_by}
-use Rattle.esc_typed.specs.declared.rendition.Rendition.{Rendition}
-use Rattle.esc_typed.specs.declared.rendition.Rendition.TheVariants as rendition
-use Rattle.esc_filter.specs.Terminal.{after_named, after_named_escape, is_changed_saved, nothing_saved, turned, unchanged}
+use Rattle.esc_pen.specs.declared.pen.Pen.{Pen}
+use Rattle.esc_filter.specs.Pens.{pen_after_final, pen_after_sequence, pen_selected}
+use Rattle.esc_filter.specs.Terminal.{after_named, after_named_escape, is_changed_saved, nothing_saved, unchanged}
 use Rattle.esc_filter.specs.declared.terminal.Screen.{Screen}
 use Rattle.esc_filter.specs.declared.terminal.Screen.TheVariants as screen
 use Rattle.esc_filter.specs.declared.terminal.Terminal.{Terminal}
@@ -37,26 +36,23 @@ abbrev pub is_reset : Sgr → Bool
 is_reset sgr_variant.Reset = true
 is_reset _ = false
 
--- the rendition that it is
-abbrev pub rendition_of : Sgr → Rendition
-rendition_of sgr_variant.Reset = rendition.Reset
-rendition_of (sgr_variant.Intensity i) = rendition.Intensity i
-rendition_of (sgr_variant.Italic b) = rendition.Italic b
-rendition_of (sgr_variant.Underline u) = rendition.Underline u
+abbrev pub turned : Bool → Terminal → Terminal
+turned b t = record t { rendition = b }
 
 abbrev pub after_sequence : CsiValue → Terminal → Terminal
-after_sequence (sgr s) t =
-    record t { rendition = not (is_reset s); pen = pen_by t.pen (rendition_of s) }
+after_sequence (sgr s) t = turned (not (is_reset s)) t
 after_sequence (unspecified es more f) t = after_body es f t
 
 -- a sequence of these parameters and `m` is one action, after which renditions are on, or not
 abbrev pub Turns : List CsiParam → Bool → Type 0
 Turns es b = (v : CsiValue) × (csi_of es false 0x6d ≡ v ∷ [])
-    × ((t : Terminal) → after_sequence v t ≡ turned b es t)
+    × ((t : Terminal) → after_sequence v t ≡ turned b t)
+    × ((p : Option Pen) → pen_after_sequence v p ≡ pen_selected es p)
 
 -- the sequence is one value, after which t is u
 abbrev pub IsAfter : List CsiParam → ℕ → Terminal → Terminal → Type 0
 IsAfter es f t u = (v : CsiValue) × (csi_of es false f ≡ v ∷ []) × (u ≡ after_sequence v t)
+    × ((p : Option Pen) → pen_after_final es f p ≡ pen_after_sequence v p)
 
 -- whether renditions of these numbers leave any on
 abbrev pub lights : ShortNumbers → Bool
@@ -69,7 +65,7 @@ lights (short.Palette i) = true
 -- function says what it leaves changed
 abbrev pub noted : Option Bool → List CsiParam → ℕ → Terminal → Terminal
 noted None es f t = after_body es f t
-noted (Some b) es f t = turned b es t
+noted (Some b) es f t = turned b t
 
 -- this number comes first
 abbrev pub BeginsWith : ℕ → List CsiParam → Type 0

@@ -1,6 +1,7 @@
 pub mod Rules
 pub mod Known
 pub mod Terminal
+pub mod Pens
 pub mod Closing
 pub mod GivenBack
 pub mod Characters

@@ -13,6 +13,7 @@ use Rattle.esc_visible.specs.Following.{has_stray}
 use Rattle.esc_filter.specs.Characters.{in_guard, last_after}
 use Rattle.esc_filter.specs.Closing.{after_values}
 use Rattle.esc_filter.specs.Terminal.{unchanged}
+use Rattle.esc_filter.specs.Pens.{pen_after, start_pen}
 use Rattle.esc_filter.specs.Passing.{is_line_feed}
 use Rattle.esc_filter.specs.Rules.{is_link, is_plain_param}
 use Rattle.esc_normal.specs.Texts.{ends_in_string}
@@ -29,7 +30,7 @@ abbrev pub Writes : {A : Type 0} → Written A → List (Value A) → Written A 
 Writes p vs q = (q.spell.text ≡ p.spell.text ++ texts_after p.spell.follows_string vs)
     × (q.spell.follows_string ≡ ends_in_string p.spell.follows_string vs)
     × (q.left ≡ after_values vs p.left) × (q.by_lines ≡ p.by_lines) × (q.guard ≡ p.guard)
-    × (q.before ≡ last_after p.before vs)
+    × (q.before ≡ last_after p.before vs) × (q.pen ≡ pen_after vs p.pen)
 
 -- what is written of a value, where this character was written before it: nothing of a line feed
 -- where lines are streams of their own
@@ -53,7 +54,7 @@ WriteDenies p a q = Denies p.spell a q.spell
 abbrev pub HasNoted : {A : Type 0} → Bool → Guard → List (Value A) → Written A → Type 0
 HasNoted b u vs w = (w.spell.follows_string ≡ ends_in_string false vs)
     × (w.left ≡ after_values vs unchanged) × (w.by_lines ≡ b) × (w.guard ≡ u)
-    × (w.before ≡ last_after None vs)
+    × (w.before ≡ last_after None vs) × (w.pen ≡ pen_after vs (start_pen b))
 
 -- ---- sequences and commands that are written from their parameters or their text
 

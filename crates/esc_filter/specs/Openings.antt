@@ -1,5 +1,5 @@
 -- The renditions that go on over a line feed, and the stream in which they are written again.
-use Rattle.std.specs.Prelude.{ℕ, ◌≡◌, Bool, true, false, not, ◌&&◌, if◌then◌else◌, List, [], ◌∷◌, ◌++◌, IsTrue}
+use Rattle.std.specs.Prelude.{ℕ, ◌≡◌, Bool, true, false, not, ◌&&◌, if◌then◌else◌, List, [], ◌∷◌, ◌++◌, IsTrue, Option}
 use Rattle.std.specs.Str.{IsUtf8}
 use Rattle.esc_actions.specs.Values.{Value}
 use Rattle.esc_filter.specs.Closing.{after_values, joined}
@@ -8,15 +8,20 @@ use Rattle.esc_filter.specs.Lines.{IsLine, closed_by_lines_as, content, ends_lin
 use Rattle.esc_filter.specs.Terminal.{unchanged}
 use Rattle.esc_filter.specs.declared.guard.Guard.{Guard}
 use Rattle.esc_filter.specs.declared.terminal.Terminal.{Terminal}
-use Rattle.esc_pen.specs.Texts.{pen_text}
+use Rattle.esc_filter.specs.Pens.{pen_after, start_pen, text_of_pen}
+use Rattle.esc_pen.specs.declared.pen.Pen.{Pen}
 
 -- the control sequences that make the renditions which are on, where any may be
-abbrev pub opening : Terminal → List ℕ
-opening t = if t.rendition then pen_text t.pen else []
+abbrev pub opening : Terminal → Option Pen → List ℕ
+opening t p = if t.rendition then text_of_pen p else []
+
+-- those that these values leave on
+abbrev pub opening_left : {A : Type 0} → List (Value A) → List ℕ
+opening_left vs = opening (after_values vs unchanged) (pen_after vs (start_pen true))
 
 -- those that a line with this content leaves on
 abbrev pub opening_of : {A : Type 0} → Guard → ℕ → (Value A → Bool) → List ℕ → List ℕ
-opening_of u limit admits x = opening (after_values (passed_of_content u limit admits x) unchanged)
+opening_of u limit admits x = opening_left (passed_of_content u limit admits x)
 
 -- a line in which nothing comes before its line feed
 abbrev pub is_blank : List ℕ → Bool

@@ -1,10 +1,8 @@
 -- What a filter was fed that writes renditions again which go on over a line feed.
 use Rattle.std.specs.Prelude.{ℕ, ◌≡◌, ◌<◌, Bool, true, false, not, if◌then◌else◌, List, [], ◌++◌, length, string_bytes}
 use Rattle.esc_actions.specs.Values.{Value}
-use Rattle.esc_filter.specs.Closing.{after_values}
 use Rattle.esc_filter.specs.Lines.{EndsLine, GrowsBy, WasFedLines, added_by as added_by_lines, ends_line, passed_of_line, policy_of_lines}
-use Rattle.esc_filter.specs.Terminal.{unchanged}
-use Rattle.esc_filter.specs.Openings.{opening, opening_at, resumed, resumed_closed, resumed_from, resumed_text}
+use Rattle.esc_filter.specs.Openings.{opening_at, opening_left, resumed, resumed_closed, resumed_from, resumed_text}
 use Rattle.esc_filter.specs.declared.admit.Admit.{Ghosts as Admitter}
 use Rattle.esc_filter.specs.declared.guard.Guard.{Guard}
 use Rattle.esc_filter.specs.declared.resuming.ResumingFilter.{ResumingFilter}
@@ -95,4 +93,4 @@ ClosesWith {P} {A} u admits limit l old new = EndsLine u admits limit l old.line
     × (new.lines.has_failed ≡ old.lines.has_failed) × (new.lines.holds ≡ false)
     × (new.is_open ≡ false)
     × (string_bytes new.opening ≡ (if old.resumes
-    then opening (after_values (passed_of_line {A = A} u limit admits l) unchanged) else []))
+    then opening_left (passed_of_line {A = A} u limit admits l) else []))

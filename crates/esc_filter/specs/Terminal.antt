@@ -6,8 +6,6 @@ use Rattle.esc_functions.specs.declared.control_function.ControlFunction.{Contro
 use Rattle.esc_functions.specs.declared.control_function.ControlFunction.TheVariants as function
 use Rattle.esc_functions.specs.declared.escape_function.EscapeFunction.{EscapeFunction}
 use Rattle.esc_functions.specs.declared.escape_function.EscapeFunction.TheVariants as escape
-use Rattle.esc_pen.specs.Pens.{pen_by_all, plain_pen}
-use Rattle.esc_typed.specs.Selections.{selections}
 use Rattle.esc_filter.specs.declared.terminal.Change.{Change}
 use Rattle.esc_filter.specs.declared.terminal.Change.TheVariants as change
 use Rattle.esc_filter.specs.declared.kept_modes.Modes.{Modes}
@@ -39,7 +37,6 @@ no_modes = record {
 abbrev pub unchanged : Terminal
 unchanged = record {
   rendition = false;
-  pen = plain_pen;
   link = false;
   insert = false;
   origin = false;
@@ -204,10 +201,6 @@ abbrev pub has_params : List CsiParam → Bool
 has_params [] = false
 has_params (e ∷ es) = true
 
--- after renditions of these parameters, which may leave some on, or none
-abbrev pub turned : Bool → List CsiParam → Terminal → Terminal
-turned b es t = record t { rendition = b; pen = pen_by_all t.pen (selections es) }
-
 -- renditions may be on
 abbrev pub lit : Terminal → Terminal
 lit t = record t { rendition = true }
@@ -215,7 +208,7 @@ lit t = record t { rendition = true }
 -- After a control sequence of this function. What XTPUSHSGR put aside is not known to XTPOPSGR;
 -- DECSTR lets lines wrap no more (VT510), and what else it resets is taken for changed.
 unfoldable pub after_function : ControlFunction → List CsiParam → Terminal → Terminal
-after_function function.SGR es t = turned true es t
+after_function function.SGR es t = lit t
 after_function function.SM es t = after_params (change.Mode true) es t
 after_function function.RM es t = after_params (change.Mode false) es t
 after_function function.DECSET es t = after_params (change.PrivateMode true) es t

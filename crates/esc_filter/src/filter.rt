@@ -15,6 +15,7 @@ use crate::admit::Admit;
 use crate::giving_back::keeps_cursor_of;
 use crate::guard::Guard;
 use crate::passing::Passing;
+use crate::pens::push_pen;
 use crate::text::emptied;
 use crate::unicode::Unicode;
 use crate::written::Written;
@@ -172,14 +173,14 @@ impl<P: Admit<A>, A: Allocator + Copy> Filter<P, A> {
         self.written.left.is_changed()
     }
 
-    /// Appends the renditions that are left on.
+    /// Appends the renditions that are left on, where they are noted.
     pub(crate) fn push_opening(&self, text: &mut String<A>) -> Result<(), AllocError>
         ensures ok { OnOk result (string_bytes text.new
-            ≡ string_bytes text.old ++ opening self.now.written.left) }
+            ≡ string_bytes text.old ++ opening self.now.written.left self.now.written.pen) }
         ensures refused { OnErr result (Refused A) }
     {
         if self.written.left.rendition {
-            self.written.left.pen.push_text(text)
+            push_pen(self.written.pen, text)
         } else {
             Ok(())
         }

@@ -1,12 +1,14 @@
 //! What the actions that pass leave changed at a terminal.
-ghost use Rattle.std.specs.Prelude.{List, ◌≡◌, ◌≢◌, ◌∷◌, codes, [], false, pos, IfSome, IsTrue};
+ghost use Rattle.std.specs.Prelude.{List, Option, ◌≡◌, ◌≢◌, ◌∷◌, codes, [], false, pos, IfSome, IsTrue};
 ghost use Rattle.esc_values.specs.Clear.{parts_of};
-ghost use Rattle.esc_sequences.specs.Csis.{CsiValue, csi_of, csi_value, sgr as sgr_value};
+ghost use Rattle.esc_sequences.specs.Csis.{CsiValue, csi_of, csi_value};
 ghost use Rattle.esc_values.specs.declared.csi_param.CsiParam.{CsiParam};
 ghost use Rattle.esc_values.specs.declared.csi_param.CsiParam.TheVariants.{Integer};
 ghost use Rattle.esc_actions.specs.Values.{value_of};
 ghost use Rattle.esc_osc.specs.Reading.{meaning as command_meant};
-ghost use Rattle.esc_filter.specs.Closing.{BeginsWith, IsAfter, Turns, after_body, after_command, after_control, after_escape, after_sequence, after_value, ends_in_semicolon, is_reset, lights, noted, opens, rendition_of};
+ghost use Rattle.esc_filter.specs.Closing.{BeginsWith, IsAfter, Turns, after_body, after_command, after_control, after_escape, after_sequence, after_value, ends_in_semicolon, is_reset, lights, noted, opens, turned};
+ghost use Rattle.esc_filter.specs.Pens.{pen_after_final, pen_after_sequence};
+ghost use Rattle.esc_pen.specs.declared.pen.Pen.{Pen};
 ghost use Rattle.esc_filter.specs.Terminal.{after_escape_function, after_named_escape};
 ghost use Rattle.esc_filter.specs.declared.terminal.Terminal.{Terminal};
 ghost use Rattle.esc_write.specs.Plain.{AreParams, IsPlainLink};
@@ -19,7 +21,6 @@ use esc_links::Hyperlink;
 use esc_osc::{OperatingSystemCommand, laws};
 use esc_sequences::csi::is_unspecified;
 use esc_sequences::{CSI, Esc, Sgr};
-use esc_typed::Rendition;
 use esc_values::CsiParam;
 use esc_write::short_numbers::ShortNumbers;
 use std::alloc::Allocator;
@@ -97,20 +98,12 @@ impl Terminal {
         ensures { self.new ≡ after_sequence (csi_value csi.now) self.old }
     {
         match csi {
-            CSI::Sgr(sgr) => self.note_sgr(*sgr),
+            CSI::Sgr(sgr) => self.rendition = !is_reset(*sgr),
             CSI::Unspecified(sequence) => {
                 let sequence = sequence.as_ref();
                 self.note_body(sequence.params.as_slice(), sequence.control);
             }
         }
-    }
-
-    // Notes a rendition.
-    fn note_sgr(&mut self, sgr: Sgr)
-        ensures { self.new ≡ after_sequence (sgr_value sgr) self.old }
-    {
-        self.rendition = !is_reset(sgr);
-        self.pen.select(rendition_of(sgr));
     }
 
     fn note_command<A: Allocator>(&mut self, command: &OperatingSystemCommand<A>)
@@ -139,7 +132,7 @@ impl Terminal {
         ensures { IsAfter params.now control self.old self.new }
     {
         if control == b'm' {
-            self.turn(lights(numbers), params);
+            self.rendition = lights(numbers);
             return;
         }
         if may_change(control) {
@@ -153,7 +146,7 @@ impl Terminal {
         ensures { self.new ≡ noted is_on params.now control self.old }
     {
         if let Some(is_on) = is_on {
-            self.turn(is_on, params);
+            self.rendition = is_on;
             return;
         }
         if may_change(control) {
@@ -226,18 +219,6 @@ fn lights(numbers: ShortNumbers) -> bool
     }
 }
 
-// The rendition that it is.
-fn rendition_of(sgr: Sgr) -> Rendition
-    ensures { result ≡ rendition_of sgr }
-{
-    match sgr {
-        Sgr::Reset => Rendition::Reset,
-        Sgr::Intensity(intensity) => Rendition::Intensity(intensity),
-        Sgr::Italic(is_on) => Rendition::Italic(is_on),
-        Sgr::Underline(underline) => Rendition::Underline(underline),
-    }
-}
-
 // Whether a rendition resets all.
 fn is_reset(sgr: Sgr) -> bool
     ensures { result ≡ is_reset sgr }
@@ -296,7 +277,8 @@ fn first_number(params: &[CsiParam]) -> Option<u64>
 #[inline]
 pub(crate) fn renditions_after(params: &[CsiParam], control: u8) -> Option<Option<bool>>
     ensures { IfSome result (λ is_on. (v : CsiValue) × (csi_of params.now false control ≡ v ∷ [])
-        × ((t : Terminal) → after_sequence v t ≡ noted is_on params.now control t)) }
+        × ((t : Terminal) → after_sequence v t ≡ noted is_on params.now control t)
+        × ((p : Option Pen) → pen_after_sequence v p ≡ pen_after_final params.now control p)) }
 {
     if control != b'm' {
         return Some(None);

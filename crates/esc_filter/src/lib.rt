@@ -32,6 +32,7 @@ mod laws;
 mod leaving;
 mod line_filter;
 mod passing;
+mod pens;
 mod plain_lines;
 mod policy;
 mod resuming;

@@ -244,7 +244,8 @@ impl<P: Admit<A>, A: Allocator + Copy> ResumingFilter<P, A> {
     // Notes the renditions that the last line leaves on, where they are written again.
     fn note_opening(&mut self) -> Result<(), AllocError>
         ensures noted { OnOk result (string_bytes self.new.opening
-            ≡ (if self.old.resumes then opening self.old.lines.filter.written.left else [])) }
+            ≡ (if self.old.resumes then opening self.old.lines.filter.written.left
+            self.old.lines.filter.written.pen else [])) }
         ensures kept { (self.new.lines ≡ self.old.lines)
             × (self.new.resumes ≡ self.old.resumes) }
         ensures refused { OnErr result (Refused A) }

@@ -1,12 +1,10 @@
 //! A terminal, as far as what passes leaves it changed.
 ghost use Rattle.std.specs.Prelude.{◌≡◌};
-ghost use Rattle.esc_filter.specs.Terminal.{after_change, after_function, after_mode, after_named, after_param, after_params, after_private, again, are_changed_sets, cursor_kept, is_changed, is_changed_mode, is_changed_saved, is_main, kept_mode, restore, restored, save, saved_of, shown, turned, unchanged, was_set, with_cursor};
+ghost use Rattle.esc_filter.specs.Terminal.{after_change, after_function, after_mode, after_named, after_param, after_params, after_private, again, are_changed_sets, cursor_kept, is_changed, is_changed_mode, is_changed_saved, is_main, kept_mode, lit, restore, restored, save, saved_of, shown, unchanged, was_set, with_cursor};
 
 use crate::kept_modes::Modes;
 use crate::saved::{Saved, Sets};
 use esc_functions::ControlFunction;
-use esc_pen::Pen;
-use esc_typed::Renditions;
 use esc_values::CsiParam;
 
 /// Which screen is shown, and by which private mode the alternate one is.
@@ -27,8 +25,6 @@ pub(crate) enum Screen {
 pub(crate) struct Terminal {
     /// Whether renditions may be on.
     pub rendition: bool,
-    /// The renditions that are known to be on.
-    pub pen: Pen,
     /// Whether a link is open.
     pub link: bool,
     /// Whether characters are inserted.
@@ -87,7 +83,6 @@ impl Terminal {
     {
         Terminal {
             rendition: false,
-            pen: Pen::plain(),
             link: false,
             insert: false,
             origin: false,
@@ -137,7 +132,7 @@ impl Terminal {
         ensures { self.new ≡ after_function function params.now self.old }
     {
         match function {
-            ControlFunction::SGR => self.turn(true, params),
+            ControlFunction::SGR => self.rendition = true,
             ControlFunction::SM => self.change_modes(Change::Mode(true), params),
             ControlFunction::RM => self.change_modes(Change::Mode(false), params),
             ControlFunction::DECSET => self.change_modes(Change::PrivateMode(true), params),
@@ -152,14 +147,6 @@ impl Terminal {
             ControlFunction::DECSTR => self.no_wrap = true,
             _ => {}
         }
-    }
-
-    /// Renditions of these parameters come, which may leave some on, or none.
-    pub fn turn(&mut self, is_on: bool, params: &[CsiParam])
-        ensures { self.new ≡ turned is_on params.now self.old }
-    {
-        self.rendition = is_on;
-        self.pen.select_all(Renditions::new(params));
     }
 
     // The cursor is saved.

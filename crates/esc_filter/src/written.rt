@@ -16,6 +16,7 @@ ghost use Rattle.esc_filter.specs.Passing.{is_line_feed};
 
 use crate::guard::Guard;
 use crate::leaving::{is_other_end, leaves_all, renditions_after};
+use crate::pens::{pen_after, pen_after_final, start_pen};
 use crate::returns::{Returns, is_return};
 use crate::terminal::Terminal;
 use crate::text::emptied;
@@ -23,6 +24,7 @@ use crate::unicode::Unicode;
 use esc_actions::{Action, ControlCode};
 use esc_normal::Spell;
 use esc_parse::Sink;
+use esc_pen::Pen;
 use esc_values::CsiParam;
 use esc_visible::{has_deceiving, has_stray, is_deceiving, last_char, may_follow, number_text};
 use esc_write::plain_link;
@@ -42,6 +44,8 @@ pub(crate) struct Written<A: Allocator = Global> {
     pub by_lines: bool,
     /// The character that was written last, where a character was.
     pub before: Option<char>,
+    /// The renditions that are known to be on, where they are noted.
+    pub pen: Option<Pen>,
 }
 
 impl<A: Allocator> Written<A> {
@@ -56,6 +60,7 @@ impl<A: Allocator> Written<A> {
             guard,
             by_lines,
             before: None,
+            pen: start_pen(by_lines),
         }
     }
 
@@ -70,6 +75,7 @@ impl<A: Allocator> Written<A> {
             guard,
             by_lines,
             before,
+            pen,
         } = self;
         let Spell {
             text,
@@ -84,6 +90,7 @@ impl<A: Allocator> Written<A> {
             guard,
             by_lines,
             before,
+            pen,
         }
     }
 
@@ -95,6 +102,7 @@ impl<A: Allocator> Written<A> {
         self.spell.follows_string = false;
         self.left = Terminal::unchanged();
         self.before = None;
+        self.pen = start_pen(self.by_lines);
     }
 }
 
@@ -242,6 +250,7 @@ impl<A: Allocator> Written<A> {
         match self.spell.write_short(numbers, b'm') {
             Ok(()) => {
                 self.left.note_short(numbers, params, b'm');
+                self.pen = pen_after_final(self.pen, params, b'm');
                 self.before = None;
                 Ok(true)
             }
@@ -348,6 +357,7 @@ impl<A: Allocator> Written<A> {
             (λ _. WriteDenies self.old action self.new) }
     {
         self.left.note(&action);
+        self.pen = pen_after(self.pen, &action);
         self.before = character_of(&action);
         self.spell.receive(action)
     }
@@ -403,6 +413,7 @@ impl<A: Allocator> Sink<Action<A>> for Written<A> {
             return match self.spell.write_short(numbers, control) {
                 Ok(()) => {
                     self.left.note_short(numbers, params, control);
+                    self.pen = pen_after_final(self.pen, params, control);
                     self.before = None;
                     Ok(true)
                 }
@@ -418,6 +429,7 @@ impl<A: Allocator> Sink<Action<A>> for Written<A> {
         {
             Ok(true) => {
                 self.left.note_sequence(is_on, params, control);
+                self.pen = pen_after_final(self.pen, params, control);
                 self.before = None;
                 Ok(true)
             }

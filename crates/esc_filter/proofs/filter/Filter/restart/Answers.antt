@@ -5,6 +5,7 @@ use Rattle.esc_filter.proofs.filter.Filter.restart.Goals as goal
 use Rattle.esc_filter.specs.Characters.{last_after}
 use Rattle.esc_filter.specs.Closing.{after_values}
 use Rattle.esc_filter.specs.Terminal.{unchanged}
+use Rattle.esc_filter.specs.Pens.{pen_after, start_pen}
 use Rattle.esc_filter.specs.Fed.{policy_of}
 use Rattle.esc_filter.specs.Passing.{in_lines}
 use Rattle.esc_normal.specs.Texts.{ends_in_string}
@@ -21,5 +22,6 @@ returns-clause-fed g c = λ b u limit s h.
         n.2 ∙ h.1.2,
         n.3 ∙ h.1.3,
         n.4 ∙ ap (last_after None) (of_nothing u admits nil),
+        n.5 ∙ ap start_pen h.1.2 ∙ ap (λ vs. pen_after vs (start_pen b)) (of_nothing u admits nil),
       ),
     )

@@ -1,7 +1,10 @@
-use Rattle.std.proofs.Common.{[], ◌∙◌, true, refl, subst, ap, OnOk, if◌then◌else◌}
+use Rattle.std.proofs.Common.{[], ◌∙◌, Some, true, refl, subst, ap, OnOk, if◌then◌else◌}
 use Rattle.esc_filter.specs.Fed.{WasFedIn}
 use Rattle.esc_filter.specs.Lines.{EndsLine, policy_of_lines}
+use Rattle.esc_filter.specs.Closing.{after_values}
 use Rattle.esc_filter.specs.Openings.{opening}
+use Rattle.esc_filter.specs.Passing.{in_lines, passed_as}
+use Rattle.esc_filter.specs.Terminal.{unchanged}
 use Rattle.esc_parse.proofs.Lists.{on_ok_more}
 use Rattle.esc_filter.proofs.resuming.ResumingFilter.close_line.Goals as goal
 
@@ -16,7 +19,11 @@ returns-in-Ok-clause-given g c = λ u limit l h.
       kept.1 ∙ ap (λ z. z.has_failed) same,
       kept.2,
       refl,
-      c.in-Ok.ensures.noted ∙ ap (λ o. if old.resumes then opening o else []) h.1.1,
+      c.in-Ok.ensures.noted
+          ∙ ap (λ t. if old.resumes then opening t old.lines.filter.written.pen else []) h.1.1
+          ∙ ap (λ p. if old.resumes then opening (after_values
+          (passed_as u (Some limit) (in_lines true (g.P.Admit.admits (policy_of_lines old.lines))) l)
+          unchanged) p else []) h.1.5,
     ))
     (subst (λ z. WasFedIn u true limit (g.P.Admit.admits (policy_of_lines z)) l z.filter
     → OnOk c.end_line.result (EndsLine u (g.P.Admit.admits (policy_of_lines z)) limit l z new)) same

@@ -6,8 +6,7 @@ use Rattle.esc_filter.proofs.terminal.Terminal.change.Goals as goal
 
 pub returns-in-SGR : goal.returns-in-SGR
 unfolding after_function
-returns-in-SGR c = c.turn.ensures
-    ∙ function_is _ _ c.args.params.now c.args.self.now c.in-SGR.is
+returns-in-SGR c = function_is _ _ c.args.params.now c.args.self.now c.in-SGR.is
 
 pub returns-in-SM : goal.returns-in-SM
 unfolding after_function

@@ -15,4 +15,4 @@ returns-in-Ok-clause-ok g c =
     c.args.c
     (c.in-Ok.ensures.ok ∙ ap (λ x. c.args.self.now.spell.text ++ x)
     (c.as_str.ensures.value ∙ c.number_text.ensures))
-    refl refl refl refl refl
+    refl refl refl refl refl refl

@@ -9,12 +9,13 @@ pub returns-in-Ok-clause-taken : goal.returns-in-Ok-clause-taken
 returns-in-Ok-clause-taken g c = λ _.
     let p = c.args.self.now in
     let es = c.args.params.now in
-    let (v, one, after) = c.note_short.ensures in (
+    let (v, one, after, pens) = c.note_short.ensures in (
       plain_sgr c.in-Some.numbers es c.in-Some.ensures.params,
       (
         v,
         one,
-        one_written (csi_of es false 0x6d) v p _ c.write_short.new.self one after
+        one_written (csi_of es false 0x6d) v p _ c.pen_after_final-self.result c.write_short.new.self
+            one after (c.pen_after_final-self.ensures ∙ pens p.pen)
             (plain_given p.spell c.write_short.new.self es false 0x6d
             (c.in-Some.ensures.plain false) (
               c.in-Ok.ensures.ok.0

@@ -11,12 +11,13 @@ returns-in-Ok-clause-given g c = record {
   taken =
       let p = c.args.self.now in
       let more = c.args.parameters_truncated in
-      let (v, one, after) = c.note_short.ensures in
+      let (v, one, after, pens) = c.note_short.ensures in
       sequence_noted {E = AllocError} (Ok true) (csi_of c.args.params.now more c.args.control) p _
-      c.write_short.new.self (
+      c.pen_after_final-self.result c.write_short.new.self (
         v,
         ap (λ b. csi_of c.args.params.now b c.args.control) c.if-parameters_truncated.false ∙ one,
         after,
+        c.pen_after_final-self.ensures ∙ pens p.pen,
       ) (λ _. plain_given p.spell c.write_short.new.self c.args.params.now more c.args.control
       (c.in-Some.ensures.plain more) (
         c.in-Ok.ensures.ok.0 ∙ ap (λ t. p.spell.text ++ t) (sym (c.in-Some.ensures.text more)),
