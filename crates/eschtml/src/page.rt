@@ -140,8 +140,8 @@ pub fn counted(lines: u64) -> &'static str {
     if lines == 1 { "line" } else { "lines" }
 }
 
-/// What comes before a stream of this name, of which so many lines before those that are written are
-/// left out, where its name is a heading or not. The error is that memory was refused.
+/// What comes before a stream of this name, of which so many lines before those that are written
+/// are left out, where its name is a heading or not. The error is that memory was refused.
 pub fn heading(
     alloc: Global,
     name: &str,
