@@ -24,7 +24,7 @@ use Rattle.esc_fields.specs.FoundCommands.{command_in, form_at}
 use Rattle.esc_fields.specs.FoundItems.{nothing}
 use Rattle.esc_fields.specs.FoundPrompts.{click_in, click_of, prompt_kind_of, scale_in, text_in}
 use Rattle.esc_fields.specs.Found.{Reading, held as held_reading, kept, past}
-use Rattle.esc_fields.specs.Held.{Bounds, Has, IsHeld, IsITerm, IsOptional, IsPrompt, IsScale, IsWithin, types}
+use Rattle.esc_fields.specs.Held.{AreWithin, Bounds, Has, IsHeld, iterm_parts, parts_of, prompt_parts, scale_parts, text_parts, types}
 use Rattle.esc_fields.specs.Kinds.{iterm_kind, kind_number, kind_of, prompt_kind as kind_of_prompt}
 use Rattle.esc_fields.specs.Prompts.{aid_fields, click_fields, click_number, kind_number as prompt_number, prompt_fields}
 use Rattle.esc_fields.specs.Proprietary.{iterm_fields, scale_fields, text_fields}
@@ -59,29 +59,30 @@ form_of k = form_at (kind_number k)
 
 module _ (r : Reading) (b : Bounds) (f : Fits r b) where
   -- the name of the application and the click, of which each may be absent
-  aid_back : (a : Option (List ℕ)) (c : Option FinalTermClick) → IsOptional b a
+  aid_back : (a : Option (List ℕ)) (c : Option FinalTermClick) → AreWithin b (text_parts a)
       → text_in r name.Application (map named (aid_fields a ++ click_fields c)) ≡ a
   aid_back None None held = refl
   aid_back None (Some c) held = refl
-  aid_back (Some t) c held = ap Some (f.text t held)
+  aid_back (Some t) c held = ap Some (f.text t held.0)
 
-  lone_back : (a : Option (List ℕ)) → IsOptional b a
+  lone_back : (a : Option (List ℕ)) → AreWithin b (text_parts a)
       → text_in r name.Application (map named (aid_fields a)) ≡ a
   lone_back None held = refl
-  lone_back (Some t) held = ap Some (f.text t held)
+  lone_back (Some t) held = ap Some (f.text t held.0)
 
   -- a label and a scale that may be absent
-  label_back : (o : Option (List ℕ)) → IsOptional b o
+  label_back : (o : Option (List ℕ)) → AreWithin b (text_parts o)
       → text_in r name.Label (map named (text_fields name.Label o)) ≡ o
   label_back None held = refl
-  label_back (Some t) held = ap Some (f.text t held)
+  label_back (Some t) held = ap Some (f.text t held.0)
 
-  scale_back : (o : Option ℕ) → IsScale b o → scale_in r (map named (scale_fields o)) ≡ o
+  scale_back : (o : Option ℕ) → AreWithin b (scale_parts o)
+      → scale_in r (map named (scale_fields o)) ≡ o
   scale_back None held = refl
-  scale_back (Some s) held = ap Some (f.number (2 ^ 32) s held)
+  scale_back (Some s) held = ap Some (f.number (2 ^ 32) s held.0)
 
   -- a prompt of its kind
-  prompts_back : {A : Type 0} (p : FinalTermSemanticPrompt A) → IsPrompt b p
+  prompts_back : {A : Type 0} (p : FinalTermSemanticPrompt A) → AreWithin b (prompt_parts p)
       → command_in r (form_of (kind_of_prompt p)) (map named (prompt_fields p))
       ≡ command.FinalTermSemanticPrompt p
   prompts_back prompt.FreshLine held = refl
@@ -104,42 +105,42 @@ module _ (r : Reading) (b : Bounds) (f : Fits r b) where
       λ i. command.FinalTermSemanticPrompt (prompt.CommandStatus (status_is i) (aid_is i))
 
   -- a command of iTerm2 of its kind
-  iterms_back : {A : Type 0} (c : ITermProprietary A) → IsITerm b c
+  iterms_back : {A : Type 0} (c : ITermProprietary A) → AreWithin b (iterm_parts c)
       → command_in r (form_of (iterm_kind c)) (map named (iterm_fields c))
       ≡ command.ITermProprietary c
   iterms_back iterm.SetMark held = refl
   iterms_back iterm.StealFocus held = refl
   iterms_back iterm.ClearScrollback held = refl
   iterms_back (iterm.CurrentDir t) held =
-      ap (λ x. command.ITermProprietary (iterm.CurrentDir x)) (f.text t held)
+      ap (λ x. command.ITermProprietary (iterm.CurrentDir x)) (f.text t held.0)
   iterms_back (iterm.SetProfile t) held =
-      ap (λ x. command.ITermProprietary (iterm.SetProfile x)) (f.text t held)
+      ap (λ x. command.ITermProprietary (iterm.SetProfile x)) (f.text t held.0)
   iterms_back (iterm.CopyToClipboard t) held =
-      ap (λ x. command.ITermProprietary (iterm.CopyToClipboard x)) (f.text t held)
+      ap (λ x. command.ITermProprietary (iterm.CopyToClipboard x)) (f.text t held.0)
   iterms_back iterm.EndCopy held = refl
   iterms_back (iterm.HighlightCursorLine b) held =
       ap (λ x. command.ITermProprietary (iterm.HighlightCursorLine x)) (flag_back b)
   iterms_back iterm.RequestCellSize held = refl
   iterms_back (iterm.ReportCellSize h w s) held =
       let height_is = f.number (2 ^ 32) h held.0 in
-      let width_is = f.number (2 ^ 32) w held.1 in
-      let scale_is = scale_back s held.2 in
+      let width_is = f.number (2 ^ 32) w held.1.0 in
+      let scale_is = scale_back s held.1.1 in
       λ i. command.ITermProprietary (iterm.ReportCellSize (height_is i) (width_is i) (scale_is i))
   iterms_back (iterm.Copy t) held =
-      ap (λ x. command.ITermProprietary (iterm.Copy x)) (f.text t held)
+      ap (λ x. command.ITermProprietary (iterm.Copy x)) (f.text t held.0)
   iterms_back (iterm.ReportVariable t) held =
-      ap (λ x. command.ITermProprietary (iterm.ReportVariable x)) (f.text t held)
+      ap (λ x. command.ITermProprietary (iterm.ReportVariable x)) (f.text t held.0)
   iterms_back (iterm.SetUserVar n t) held =
       let name_is = f.text n held.0 in
-      let value_is = f.text t held.1 in
+      let value_is = f.text t held.1.0 in
       λ i. command.ITermProprietary (iterm.SetUserVar (name_is i) (value_is i))
   iterms_back (iterm.SetBadgeFormat t) held =
-      ap (λ x. command.ITermProprietary (iterm.SetBadgeFormat x)) (f.text t held)
+      ap (λ x. command.ITermProprietary (iterm.SetBadgeFormat x)) (f.text t held.0)
   iterms_back (iterm.File x) held =
       ap (λ y. command.ITermProprietary (iterm.File y)) (file_back r b f x held)
   iterms_back (iterm.UnicodeVersion (version.Set n)) held =
       ap (λ x. command.ITermProprietary (iterm.UnicodeVersion (version.Set x)))
-      (f.number (2 ^ 8) n held)
+      (f.number (2 ^ 8) n held.0)
   iterms_back (iterm.UnicodeVersion (version.Push l)) held =
       ap (λ x. command.ITermProprietary (iterm.UnicodeVersion (version.Push x)))
       (label_back l held)
@@ -147,24 +148,24 @@ module _ (r : Reading) (b : Bounds) (f : Fits r b) where
       ap (λ x. command.ITermProprietary (iterm.UnicodeVersion (version.Pop x)))
       (label_back l held)
 
-  pub command_back : {A : Type 0} (c : OperatingSystemCommand A) → IsWithin b c
+  pub command_back : {A : Type 0} (c : OperatingSystemCommand A) → AreWithin b (parts_of c)
       → command_in r (form_of (kind_of c)) (map named (fields_of c)) ≡ c
   command_back (command.SetIconNameAndWindowTitle t) held =
-      ap command.SetIconNameAndWindowTitle (f.text t held)
-  command_back (command.SetWindowTitle t) held = ap command.SetWindowTitle (f.text t held)
-  command_back (command.SetWindowTitleSun t) held = ap command.SetWindowTitleSun (f.text t held)
-  command_back (command.SetIconName t) held = ap command.SetIconName (f.text t held)
-  command_back (command.SetIconNameSun t) held = ap command.SetIconNameSun (f.text t held)
+      ap command.SetIconNameAndWindowTitle (f.text t held.0)
+  command_back (command.SetWindowTitle t) held = ap command.SetWindowTitle (f.text t held.0)
+  command_back (command.SetWindowTitleSun t) held = ap command.SetWindowTitleSun (f.text t held.0)
+  command_back (command.SetIconName t) held = ap command.SetIconName (f.text t held.0)
+  command_back (command.SetIconNameSun t) held = ap command.SetIconNameSun (f.text t held.0)
   command_back (command.SetHyperlink h) held = ap command.SetHyperlink (link_back r b f h held)
   command_back (command.ClearSelection s) held =
-      ap (λ n. command.ClearSelection (record { 0 = n })) (f.number (2 ^ 16) s.0 held)
+      ap (λ n. command.ClearSelection (record { 0 = n })) (f.number (2 ^ 16) s.0 held.0)
   command_back (command.QuerySelection s) held =
-      ap (λ n. command.QuerySelection (record { 0 = n })) (f.number (2 ^ 16) s.0 held)
+      ap (λ n. command.QuerySelection (record { 0 = n })) (f.number (2 ^ 16) s.0 held.0)
   command_back (command.SetSelection s t) held =
       let bits_are = f.number (2 ^ 16) s.0 held.0 in
-      let text_are = f.text t held.1 in
+      let text_are = f.text t held.1.0 in
       λ i. command.SetSelection (record { 0 = bits_are i }) (text_are i)
-  command_back (command.SystemNotification t) held = ap command.SystemNotification (f.text t held)
+  command_back (command.SystemNotification t) held = ap command.SystemNotification (f.text t held.0)
   command_back (command.ITermProprietary c) held = iterms_back c held
   command_back (command.FinalTermSemanticPrompt p) held = prompts_back p held
   command_back (command.ChangeColorNumber ps) held =
@@ -174,7 +175,7 @@ module _ (r : Reading) (b : Bounds) (f : Fits r b) where
       λ i. command.ChangeDynamicColors (dynamic_back n i) (colors_are i)
   command_back (command.ResetDynamicColor n) held = ap command.ResetDynamicColor (dynamic_back n)
   command_back (command.CurrentWorkingDirectory t) held =
-      ap command.CurrentWorkingDirectory (f.text t held)
+      ap command.CurrentWorkingDirectory (f.text t held.0)
   command_back (command.ResetColors ns) held = ap command.ResetColors (numbers_back r b f ns held)
   command_back (command.RxvtExtension ts) held = ap command.RxvtExtension (texts_back r b f ts held)
   command_back (command.ConEmuProgress p) held = ap command.ConEmuProgress

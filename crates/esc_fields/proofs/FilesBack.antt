@@ -7,7 +7,7 @@ use Rattle.esc_fields.proofs.ValuesBack.{Fits, flag_back, optional_is}
 use Rattle.esc_fields.specs.Fields.{Field, named}
 use Rattle.esc_fields.specs.Found.{NamedValue, Reading, named_value, past, size_of, string_of}
 use Rattle.esc_fields.specs.FoundPrompts.{file_in, file_with, high_in, past_width, sized_in, width_in}
-use Rattle.esc_fields.specs.Held.{Bounds, IsOptional}
+use Rattle.esc_fields.specs.Held.{AreWithin, Bounds, text_parts}
 use Rattle.esc_fields.specs.Proprietary.{file_fields, height_fields, shown_fields, size_fields, text_fields, width_fields}
 use Rattle.esc_fields.specs.declared.field_name.FieldName.TheVariants as name
 use Rattle.std.specs.Option.{option_map}
@@ -93,7 +93,7 @@ module _ {A : Type 0} (r : Reading) (b : Bounds) (f : Fits r b) where
       (λ i. sized_in {A = A} (option_map (string_of r) (o.0 i)) (o.1 i))
       ∙ sized_back None k w h x
 
-  pub file_back : (x : ITermFileData A) → IsOptional b x.name
+  pub file_back : (x : ITermFileData A) → AreWithin b (text_parts x.name)
       → file_in r (map named (file_fields x)) ≡ x
   file_back x held =
       let name_is = optional_is r b f x.name held in

@@ -1,6 +1,6 @@
 -- The parts of kitty's images are read from their numbers, by a reading that gives what is within
 -- bounds as it is.
-use Rattle.std.proofs.Common.{ℕ, ℤ, pos, ◌≡◌, ◌==◌, ◌^◌, Bool, true, false, if◌then◌else◌, List, [], ◌∷◌, ◌++◌, Option, Some, None, option_map, map, refl, ap, ◌∙◌}
+use Rattle.std.proofs.Common.{ℕ, ℤ, zero, suc, pos, ◌≡◌, ◌==◌, ◌^◌, Bool, true, false, if◌then◌else◌, List, [], ◌∷◌, ◌++◌, get_or, Option, Some, None, option_map, map, refl, ap, ◌∙◌}
 use Rattle.esc_kitty.specs.Texts.{offset_in, size_in}
 use Rattle.esc_kitty.specs.declared.compose.KittyImageFrameCompose.{KittyImageFrameCompose}
 use Rattle.esc_kitty.specs.declared.composition.KittyFrameCompositionMode.{KittyFrameCompositionMode}
@@ -21,8 +21,8 @@ use Rattle.esc_fields.specs.Fields.{Field, name_number, named}
 use Rattle.esc_fields.specs.Fields.Value.{Text}
 use Rattle.esc_fields.specs.Found.{Reading}
 use Rattle.esc_fields.specs.FoundImages.{compose_in, composition_of, compression_of, content_of, count, flag, format_in, frame_in, known, look, order, placement_in, transmit_in, verbosity_in, verbosity_of}
-use Rattle.esc_fields.specs.Held.{Bounds}
-use Rattle.esc_fields.specs.HeldImages.{IsCompose, IsContent, IsCount, IsFrame, IsOrder, IsPlacement, IsTransmit}
+use Rattle.esc_fields.specs.Held.{AreWithin, Bounds}
+use Rattle.esc_fields.specs.HeldImages.{AreCounts, IsCount, IsOrder, IsPlacement, IsTransmit, compose_counts, content_parts, frame_counts, placement_counts, transmit_counts}
 use Rattle.esc_fields.specs.Images.{Numbers, bytes_of, compose_numbers, composition_number, compression_number, counted, flagged, format_number, frame_numbers, medium_number, number_fields, optional_field, placement_numbers, transmit_numbers, verbosity_number, verbosity_numbers}
 use Rattle.esc_fields.specs.declared.field_name.FieldName.{FieldName}
 
@@ -107,84 +107,87 @@ module _ (r : Reading) (b : Bounds) (f : Fits r b) where
   order_back None h = refl
   order_back (Some z) h = ap Some (f.signed z h)
 
+  -- the number at a place among those within bounds
+  pub at : (i : ℕ) (os : List (Option ℕ)) → AreCounts b os
+      → count r (counted (get_or os i None)) ≡ get_or os i None
+  at i [] h = refl
+  at zero (o ∷ os) h = count_back o h.0
+  at (suc i) (o ∷ os) h = at i os h.1
+
   -- how an image is shown
   pub placement_back : (p : KittyImagePlacement) → IsPlacement b p
       → placement_in r (seek (placement_numbers p)) ≡ p
-  placement_back p h = λ k. record {
-    x = count_back p.x h.x k;
-    y = count_back p.y h.y k;
-    w = count_back p.w h.w k;
-    h = count_back p.h h.h k;
-    x_offset = count_back p.x_offset h.x_offset k;
-    y_offset = count_back p.y_offset h.y_offset k;
-    columns = count_back p.columns h.columns k;
-    rows = count_back p.rows h.rows k;
-    placement_id = count_back p.placement_id h.placement_id k;
+  placement_back p h = let ns = placement_counts p in λ k. record {
+    x = at 0 ns h.0 k;
+    y = at 1 ns h.0 k;
+    w = at 2 ns h.0 k;
+    h = at 3 ns h.0 k;
+    x_offset = at 4 ns h.0 k;
+    y_offset = at 5 ns h.0 k;
+    columns = at 6 ns h.0 k;
+    rows = at 7 ns h.0 k;
+    placement_id = at 8 ns h.0 k;
     do_not_move_cursor = flag_back p.do_not_move_cursor k;
-    z_index = order_back p.z_index h.z_index k;
+    z_index = order_back p.z_index h.1 k;
     unicode_placeholder = flag_back p.unicode_placeholder k;
   }
 
   -- frames
-  pub frame_back : (x : KittyImageFrame) → IsFrame b x → frame_in r (seek (frame_numbers x)) ≡ x
-  frame_back x h = λ k. record {
-    x = count_back x.x h.x k;
-    y = count_back x.y h.y k;
-    base_frame = count_back x.base_frame h.base_frame k;
-    frame_number = count_back x.frame_number h.frame_number k;
-    duration_ms = count_back x.duration_ms h.duration_ms k;
+  pub frame_back : (x : KittyImageFrame) → AreCounts b (frame_counts x)
+      → frame_in r (seek (frame_numbers x)) ≡ x
+  frame_back x h = let ns = frame_counts x in λ k. record {
+    x = at 0 ns h k;
+    y = at 1 ns h k;
+    base_frame = at 2 ns h k;
+    frame_number = at 3 ns h k;
+    duration_ms = at 4 ns h k;
     composition_mode = composition_is x.composition_mode k;
-    background_pixel = count_back x.background_pixel h.background_pixel k;
+    background_pixel = at 5 ns h k;
   }
 
-  pub compose_back : (x : KittyImageFrameCompose) → IsCompose b x
+  pub compose_back : (x : KittyImageFrameCompose) → AreCounts b (compose_counts x)
       → compose_in r (seek (compose_numbers x)) ≡ x
-  compose_back x h = λ k. record {
-    image_id = count_back x.image_id h.image_id k;
-    image_number = count_back x.image_number h.image_number k;
-    target_frame = count_back x.target_frame h.target_frame k;
-    source_frame = count_back x.source_frame h.source_frame k;
-    x = count_back x.x h.x k;
-    y = count_back x.y h.y k;
-    w = count_back x.w h.w k;
-    h = count_back x.h h.h k;
-    src_x = count_back x.src_x h.src_x k;
-    src_y = count_back x.src_y h.src_y k;
+  compose_back x h = let ns = compose_counts x in λ k. record {
+    image_id = at 0 ns h k;
+    image_number = at 1 ns h k;
+    target_frame = at 2 ns h k;
+    source_frame = at 3 ns h k;
+    x = at 4 ns h k;
+    y = at 5 ns h k;
+    w = at 6 ns h k;
+    h = at 7 ns h k;
+    src_x = at 8 ns h k;
+    src_y = at 9 ns h k;
     composition_mode = composition_is x.composition_mode k;
   }
 
   -- what an image is made of
-  content_is : {A : Type 0} (c : KittyImageData A) → IsContent b c
+  content_is : {A : Type 0} (c : KittyImageData A) → AreWithin b (content_parts c)
+      → IsCount b (size_in c) → IsCount b (offset_in c)
       → content_of r (medium_number c) (Text (bytes_of c)) (count r (counted (size_in c)))
       (count r (counted (offset_in c))) ≡ c
-  content_is (Direct t) h = ap Direct (f.text t h)
-  content_is (DirectBin t) h = refl
-  content_is (File t s o) h =
-      let text_is = f.text t h.0 in
-      let size_is = count_back s h.1 in
-      let offset_is = count_back o h.2 in
-      λ k. File (text_is k) (size_is k) (offset_is k)
-  content_is (TemporaryFile t s o) h =
-      let text_is = f.text t h.0 in
-      let size_is = count_back s h.1 in
-      let offset_is = count_back o h.2 in
-      λ k. TemporaryFile (text_is k) (size_is k) (offset_is k)
-  content_is (SharedMem t s o) h =
-      let text_is = f.text t h.0 in
-      let size_is = count_back s h.1 in
-      let offset_is = count_back o h.2 in
-      λ k. SharedMem (text_is k) (size_is k) (offset_is k)
+  content_is (Direct t) h u v = ap Direct (f.text t h.0)
+  content_is (DirectBin t) h u v = refl
+  content_is (File t s o) h u v =
+      λ k. File (f.text t h.0 k) (count_back s u k) (count_back o v k)
+  content_is (TemporaryFile t s o) h u v =
+      λ k. TemporaryFile (f.text t h.0 k) (count_back s u k) (count_back o v k)
+  content_is (SharedMem t s o) h u v =
+      λ k. SharedMem (f.text t h.0 k) (count_back s u k) (count_back o v k)
 
   -- an image on its way
   pub transmit_back : {A : Type 0} (t : KittyImageTransmit A) → IsTransmit b t
       → transmit_in r (Text (bytes_of t.content)) (seek (transmit_numbers t)) ≡ t
-  transmit_back t h = λ k. record {
-    format = format_is t.format k;
-    content = content_is t.content h.content k;
-    width = count_back t.width h.width k;
-    height = count_back t.height h.height k;
-    image_id = count_back t.image_id h.image_id k;
-    image_number = count_back t.image_number h.image_number k;
-    compression = compression_is t.compression k;
-    more_data_follows = flag_back t.more_data_follows k;
-  }
+  transmit_back t h =
+      let ns = transmit_counts t in
+      let content = content_is t.content h.1 h.0.1.1.1.1.0 h.0.1.1.1.1.1.0 in
+      λ k. record {
+        format = format_is t.format k;
+        content = content k;
+        width = at 0 ns h.0 k;
+        height = at 1 ns h.0 k;
+        image_id = at 2 ns h.0 k;
+        image_number = at 3 ns h.0 k;
+        compression = compression_is t.compression k;
+        more_data_follows = flag_back t.more_data_follows k;
+      }

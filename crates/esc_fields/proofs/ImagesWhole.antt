@@ -1,14 +1,10 @@
 -- Kitty images are read back from what their rows say, so a kind and fields are the whole of an
 -- image, or of none.
-use Rattle.std.proofs.Common.{ℕ, ℤ, ◌≡◌, ◌↔◌, Bool, true, false, IsTrue, List, ◌++◌, Option, Some, None, Result, Ok, Err, IfOk, map, refl, sym, subst, ap, ◌∙◌}
+use Rattle.std.proofs.Common.{ℕ, ℤ, ◌≡◌, ◌↔◌, Bool, true, false, IsTrue, List, [], ◌∷◌, ◌++◌, Option, Some, None, Result, Ok, Err, IfOk, map, refl, sym, subst, ap, ◌∙◌}
 use Rattle.std.proofs.lemmas.Bool.{true≢false}
 use Rattle.std.proofs.lemmas.Option.{none-some}
-use Rattle.esc_kitty.specs.declared.compose.KittyImageFrameCompose.{KittyImageFrameCompose}
-use Rattle.esc_kitty.specs.declared.content.KittyImageData.{KittyImageData}
-use Rattle.esc_kitty.specs.declared.content.KittyImageData.TheVariants.{Direct, DirectBin, File, TemporaryFile, SharedMem}
 use Rattle.esc_kitty.specs.declared.delete.KittyImageDelete.{KittyImageDelete}
 use Rattle.esc_kitty.specs.declared.delete.KittyImageDelete.TheVariants as delete
-use Rattle.esc_kitty.specs.declared.frame.KittyImageFrame.{KittyImageFrame}
 use Rattle.esc_kitty.specs.declared.image.KittyImage.{KittyImage}
 use Rattle.esc_kitty.specs.declared.image.KittyImage.TheVariants as image
 use Rattle.esc_kitty.specs.declared.placement.KittyImagePlacement.{KittyImagePlacement}
@@ -16,15 +12,15 @@ use Rattle.esc_kitty.specs.declared.transmit.KittyImageTransmit.{KittyImageTrans
 use Rattle.esc_kitty.specs.declared.verbosity.KittyImageVerbosity.{KittyImageVerbosity}
 use Rattle.esc_fields.proofs.ImagesFound.{compose_back, count_back, flag_back, frame_back, known_back, placement_back, seek, seen, transmit_back, verbosity_back}
 use Rattle.esc_fields.proofs.Tables.{rows_say}
-use Rattle.esc_fields.proofs.ValuesBack.{Fits, any_bounds, any_fits, any_reading, held_fits}
+use Rattle.esc_fields.proofs.ValuesBack.{Fits, any_bounds, any_fits, any_reading, any_within, held_fits}
 use Rattle.esc_fields.specs.Fields.{Table, named, said, table_of}
 use Rattle.esc_fields.specs.Fields.Value.{Text}
 use Rattle.esc_fields.specs.Found.{Reading, held as held_reading}
 use Rattle.esc_fields.specs.FoundImages.{Numbered, compose_in, count, deleted_in, frame_in, image_form_at, image_in, kept_some, placement_in, transmit_in, verbosity_in}
 use Rattle.esc_fields.specs.Held.{Bounds, types}
-use Rattle.esc_fields.specs.HeldImages.{HasImage, IsCompose, IsContent, IsCount, IsDelete, IsFrame, IsHeldImage, IsImageWithin, IsOrder, IsPlacement, IsTransmit}
+use Rattle.esc_fields.specs.HeldImages.{AreCounts, HasImage, IsDelete, IsHeldImage, IsImageWithin, IsOrder, IsPlacement, IsTransmit, compose_counts, content_parts, delete_counts, frame_counts, placement_counts, transmit_counts}
 use Rattle.esc_fields.specs.ImageKinds.{image_kind, image_number}
-use Rattle.esc_fields.specs.Images.{bytes_of, compose_numbers, delete_numbers, fields_of_image, frame_numbers, id_numbers, number_fields, placement_numbers, transmit_numbers, verbosity_numbers}
+use Rattle.esc_fields.specs.Images.{bytes_of, compose_numbers, delete_numbers, delete_order, fields_of_image, frame_numbers, id_numbers, number_fields, placement_numbers, transmit_numbers, verbosity_numbers}
 use Rattle.esc_fields.specs.declared.field_name.FieldName.TheVariants as name
 use Rattle.esc_fields.specs.declared.image_forms.Deletion.{Deletion}
 use Rattle.esc_fields.specs.declared.image_forms.Deletion.TheVariants as deletion
@@ -77,13 +73,13 @@ module _ (r : Reading) (b : Bounds) (f : Fits r b) {A : Type 0} where
   deletion_back (delete.All d) v h = removed deletion.All (delete.All d) v
       (λ k. delete.All (flag_back d k)) (verbosity_back v)
   deletion_back (delete.ByImageId i p d) v h =
-      let id_is = known_back r b f i h.0 in
-      let placement_is = count_back r b f p h.1 in
+      let id_is = known_back r b f i h.0.0 in
+      let placement_is = count_back r b f p h.0.1.0 in
       removed deletion.ImageId (delete.ByImageId i p d) v
       (λ k. delete.ByImageId (id_is k) (placement_is k) (flag_back d k)) (verbosity_back v)
   deletion_back (delete.ByImageNumber n p d) v h =
-      let number_is = known_back r b f n h.0 in
-      let placement_is = count_back r b f p h.1 in
+      let number_is = known_back r b f n h.0.0 in
+      let placement_is = count_back r b f p h.0.1.0 in
       removed deletion.ImageNumber (delete.ByImageNumber n p d) v
       (λ k. delete.ByImageNumber (number_is k) (placement_is k) (flag_back d k))
       (verbosity_back v)
@@ -94,31 +90,31 @@ module _ (r : Reading) (b : Bounds) (f : Fits r b) {A : Type 0} where
       removed deletion.Frames (delete.AnimationFrames d) v
       (λ k. delete.AnimationFrames (flag_back d k)) (verbosity_back v)
   deletion_back (delete.DeleteAt x y d) v h =
-      let x_is = known_back r b f x h.0 in
-      let y_is = known_back r b f y h.1 in
+      let x_is = known_back r b f x h.0.0 in
+      let y_is = known_back r b f y h.0.1.0 in
       removed deletion.At (delete.DeleteAt x y d) v
       (λ k. delete.DeleteAt (x_is k) (y_is k) (flag_back d k)) (verbosity_back v)
   deletion_back (delete.DeleteAtZ x y z d) v h =
-      let x_is = known_back r b f x h.0 in
-      let y_is = known_back r b f y h.1 in
-      let z_is = f.signed z h.2 in
+      let x_is = known_back r b f x h.0.0 in
+      let y_is = known_back r b f y h.0.1.0 in
+      let z_is = f.signed z h.1 in
       removed deletion.AtZ (delete.DeleteAtZ x y z d) v
       (λ k. delete.DeleteAtZ (x_is k) (y_is k) (z_is k) (flag_back d k)) (verbosity_back v)
   deletion_back (delete.DeleteColumn x d) v h =
-      let x_is = known_back r b f x h in
+      let x_is = known_back r b f x h.0.0 in
       removed deletion.Column (delete.DeleteColumn x d) v
       (λ k. delete.DeleteColumn (x_is k) (flag_back d k)) (verbosity_back v)
   deletion_back (delete.DeleteRow y d) v h =
-      let y_is = known_back r b f y h in
+      let y_is = known_back r b f y h.0.0 in
       removed deletion.Row (delete.DeleteRow y d) v
       (λ k. delete.DeleteRow (y_is k) (flag_back d k)) (verbosity_back v)
   deletion_back (delete.DeleteZ z d) v h =
-      let z_is = f.signed z h in
+      let z_is = f.signed z h.1 in
       removed deletion.Z (delete.DeleteZ z d) v
       (λ k. delete.DeleteZ (z_is k) (flag_back d k)) (verbosity_back v)
   deletion_back (delete.ByImageIdRange x y d) v h =
-      let first_is = known_back r b f x h.0 in
-      let last_is = known_back r b f y h.1 in
+      let first_is = known_back r b f x h.0.0 in
+      let last_is = known_back r b f y h.0.1.0 in
       removed deletion.Range (delete.ByImageIdRange x y d) v
       (λ k. delete.ByImageIdRange (first_is k) (last_is k) (flag_back d k)) (verbosity_back v)
 
@@ -136,9 +132,9 @@ module _ (r : Reading) (b : Bounds) (f : Fits r b) {A : Type 0} where
       ∙ (λ k. Some (image.TransmitDataAndDisplay (transmit_is k) (placement_is k)
       (verbosity_back v k)))
   image_back (image.Display i n p v) h =
-      let id_is = count_back r b f i h.0 in
-      let number_is = count_back r b f n h.1 in
-      let placement_is = placement_back r b f p h.2 in
+      let id_is = count_back r b f i h.0.0 in
+      let number_is = count_back r b f n h.0.1.0 in
+      let placement_is = placement_back r b f p h.1 in
       ap displayed (seen (id_numbers i n ++ (placement_numbers p ++ verbosity_numbers v)))
       ∙ (λ k. Some (image.Display (id_is k) (number_is k) (placement_is k) (verbosity_back v k)))
   image_back (image.Delete w v) h = deletion_back w v h
@@ -158,90 +154,30 @@ module _ (r : Reading) (b : Bounds) (f : Fits r b) {A : Type 0} where
       ∙ (λ k. Some (image.ComposeFrame (frame_is k) (verbosity_back v k)))
 
 -- every part is within no bounds
-any_count : (o : Option ℕ) → IsCount any_bounds o
-any_count None = tt
-any_count (Some n) = tt
+any_counts : (os : List (Option ℕ)) → AreCounts any_bounds os
+any_counts [] = tt
+any_counts (None ∷ os) = (tt, any_counts os)
+any_counts (Some n ∷ os) = (tt, any_counts os)
 
 any_order : (o : Option ℤ) → IsOrder any_bounds o
 any_order None = tt
 any_order (Some z) = tt
 
 any_placement : (p : KittyImagePlacement) → IsPlacement any_bounds p
-any_placement p = record {
-  x = any_count p.x;
-  y = any_count p.y;
-  w = any_count p.w;
-  h = any_count p.h;
-  x_offset = any_count p.x_offset;
-  y_offset = any_count p.y_offset;
-  columns = any_count p.columns;
-  rows = any_count p.rows;
-  placement_id = any_count p.placement_id;
-  z_index = any_order p.z_index;
-}
-
-any_frame : (x : KittyImageFrame) → IsFrame any_bounds x
-any_frame x = record {
-  x = any_count x.x;
-  y = any_count x.y;
-  base_frame = any_count x.base_frame;
-  frame_number = any_count x.frame_number;
-  duration_ms = any_count x.duration_ms;
-  background_pixel = any_count x.background_pixel;
-}
-
-any_compose : (x : KittyImageFrameCompose) → IsCompose any_bounds x
-any_compose x = record {
-  image_id = any_count x.image_id;
-  image_number = any_count x.image_number;
-  target_frame = any_count x.target_frame;
-  source_frame = any_count x.source_frame;
-  x = any_count x.x;
-  y = any_count x.y;
-  w = any_count x.w;
-  h = any_count x.h;
-  src_x = any_count x.src_x;
-  src_y = any_count x.src_y;
-}
-
-any_delete : (w : KittyImageDelete) → IsDelete any_bounds w
-any_delete (delete.All d) = tt
-any_delete (delete.ByImageId i p d) = (tt, any_count p)
-any_delete (delete.ByImageNumber n p d) = (tt, any_count p)
-any_delete (delete.AtCursorPosition d) = tt
-any_delete (delete.AnimationFrames d) = tt
-any_delete (delete.DeleteAt x y d) = (tt, tt)
-any_delete (delete.DeleteAtZ x y z d) = (tt, tt, tt)
-any_delete (delete.DeleteColumn x d) = tt
-any_delete (delete.DeleteRow y d) = tt
-any_delete (delete.DeleteZ z d) = tt
-any_delete (delete.ByImageIdRange x y d) = (tt, tt)
+any_placement p = (any_counts (placement_counts p), any_order p.z_index)
 
 module _ {A : Type 0} where
-  any_content : (c : KittyImageData A) → IsContent any_bounds c
-  any_content (Direct t) = tt
-  any_content (DirectBin t) = tt
-  any_content (File t s o) = (tt, any_count s, any_count o)
-  any_content (TemporaryFile t s o) = (tt, any_count s, any_count o)
-  any_content (SharedMem t s o) = (tt, any_count s, any_count o)
-
   any_transmit : (t : KittyImageTransmit A) → IsTransmit any_bounds t
-  any_transmit t = record {
-    content = any_content t.content;
-    width = any_count t.width;
-    height = any_count t.height;
-    image_id = any_count t.image_id;
-    image_number = any_count t.image_number;
-  }
+  any_transmit t = (any_counts (transmit_counts t), any_within (content_parts t.content))
 
   any_image : (i : KittyImage A) → IsImageWithin any_bounds i
   any_image (image.TransmitData t v) = any_transmit t
   any_image (image.TransmitDataAndDisplay t p v) = (any_transmit t, any_placement p)
-  any_image (image.Display i n p v) = (any_count i, any_count n, any_placement p)
-  any_image (image.Delete w v) = any_delete w
+  any_image (image.Display i n p v) = (any_counts (i ∷ n ∷ []), any_placement p)
+  any_image (image.Delete w v) = (any_counts (delete_counts w), any_order (delete_order w))
   any_image (image.Query t) = any_transmit t
-  any_image (image.TransmitFrame t f v) = (any_transmit t, any_frame f)
-  any_image (image.ComposeFrame f v) = any_compose f
+  any_image (image.TransmitFrame t f v) = (any_transmit t, any_counts (frame_counts f))
+  any_image (image.ComposeFrame f v) = any_counts (compose_counts f)
 
   -- an image, or none, is what its kind and its fields say
   any_back : (o : Option (KittyImage A))

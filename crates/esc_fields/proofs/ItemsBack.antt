@@ -10,13 +10,13 @@ use Rattle.esc_osc_values.specs.declared.dynamic_color_number.DynamicColorNumber
 use Rattle.esc_osc_values.specs.declared.dynamic_color_number.DynamicColorNumber.TheVariants as dynamic
 use Rattle.esc_osc_values.specs.declared.progress.Progress.{Progress}
 use Rattle.esc_osc_values.specs.declared.progress.Progress.TheVariants as progress
-use Rattle.esc_fields.proofs.ValuesBack.{Fits, flag_back, parameters_back}
+use Rattle.esc_fields.proofs.ValuesBack.{Fits, both_within, flag_back, parameters_back}
 use Rattle.esc_fields.specs.Commands.{color_fields, pair_fields, progress_fields}
 use Rattle.esc_fields.specs.Fields.{Field, named}
 use Rattle.esc_fields.specs.Fields.Value.{Number}
 use Rattle.esc_fields.specs.Found.{Reading}
 use Rattle.esc_fields.specs.FoundItems.{colors_after, dynamic_of, link_in, pairs_after, placed, progress_in}
-use Rattle.esc_fields.specs.Held.{AreColors, ArePairs, Bounds, IsColor, IsLink, IsProgress}
+use Rattle.esc_fields.specs.Held.{AreWithin, Bounds, color_parts, link_parts, pair_parts, progress_parts}
 use Rattle.esc_fields.specs.Links.{link_fields}
 use Rattle.esc_fields.specs.declared.read_colors.Known.{Known}
 use Rattle.std.specs.Prelude.{pos}
@@ -36,14 +36,14 @@ dynamic_back dynamic.HighlightForegroundColor = refl
 module _ (r : Reading) (b : Bounds) (f : Fits r b) where
   -- colours of the palette: an item first, where the rest is read whatever is known before it
   pair_first : (k : Known) (n : ℕ) (c : ColorOrQuery) (fs : List Field)
-      (ps : List ChangeColorPair) → b.Number (2 ^ 8) n → IsColor b c
+      (ps : List ChangeColorPair) → b.Number (2 ^ 8) n → AreWithin b (color_parts c)
       → ((j : Known) → pairs_after r j (map named fs) ≡ ps)
       → pairs_after r k (map named (pair_fields (placed n c) ++ fs)) ≡ placed n c ∷ ps
   pair_first k n (Color c) fs ps small held rest =
       let place_is = f.number (2 ^ 8) n small in
       let red_is = f.number (2 ^ 16) c.red held.0 in
-      let green_is = f.number (2 ^ 16) c.green held.1 in
-      let blue_is = f.number (2 ^ 16) c.blue held.2 in
+      let green_is = f.number (2 ^ 16) c.green held.1.0 in
+      let blue_is = f.number (2 ^ 16) c.blue held.1.1.0 in
       let rest_is = rest _ in
       λ i. placed (place_is i)
       (Color (record { red = red_is i; green = green_is i; blue = blue_is i })) ∷ rest_is i
@@ -52,46 +52,48 @@ module _ (r : Reading) (b : Bounds) (f : Fits r b) where
       let rest_is = rest _ in
       λ i. placed (place_is i) Query ∷ rest_is i
 
-  pub pairs_back : (ps : List ChangeColorPair) → ArePairs b ps → (k : Known)
+  pub pairs_back : (ps : List ChangeColorPair) → AreWithin b (flat_map pair_parts ps) → (k : Known)
       → pairs_after r k (map named (flat_map pair_fields ps)) ≡ ps
   pairs_back [] held k = refl
   pairs_back (p ∷ ps) held k =
-      pair_first k p.palette_index p.color (flat_map pair_fields ps) ps held.0 held.1
-      (pairs_back ps held.2)
+      let both = both_within b (color_parts p.color) (flat_map pair_parts ps) held.1 in
+      pair_first k p.palette_index p.color (flat_map pair_fields ps) ps held.0 both.0
+      (pairs_back ps both.1)
 
   -- colours alone
   color_first : (k : Known) (c : ColorOrQuery) (fs : List Field) (cs : List ColorOrQuery)
-      → IsColor b c → ((j : Known) → colors_after r j (map named fs) ≡ cs)
+      → AreWithin b (color_parts c) → ((j : Known) → colors_after r j (map named fs) ≡ cs)
       → colors_after r k (map named (color_fields c ++ fs)) ≡ c ∷ cs
   color_first k (Color c) fs cs held rest =
       let red_is = f.number (2 ^ 16) c.red held.0 in
-      let green_is = f.number (2 ^ 16) c.green held.1 in
-      let blue_is = f.number (2 ^ 16) c.blue held.2 in
+      let green_is = f.number (2 ^ 16) c.green held.1.0 in
+      let blue_is = f.number (2 ^ 16) c.blue held.1.1.0 in
       let rest_is = rest _ in
       λ i. Color (record { red = red_is i; green = green_is i; blue = blue_is i }) ∷ rest_is i
   color_first k Query fs cs held rest = ap (λ more. Query ∷ more) (rest _)
 
-  pub colors_back : (cs : List ColorOrQuery) → AreColors b cs → (k : Known)
+  pub colors_back : (cs : List ColorOrQuery) → AreWithin b (flat_map color_parts cs) → (k : Known)
       → colors_after r k (map named (flat_map color_fields cs)) ≡ cs
   colors_back [] held k = refl
   colors_back (c ∷ cs) held k =
-      color_first k c (flat_map color_fields cs) cs held.0 (colors_back cs held.1)
+      let both = both_within b (color_parts c) (flat_map color_parts cs) held in
+      color_first k c (flat_map color_fields cs) cs both.0 (colors_back cs both.1)
 
-  pub progress_back : (p : Progress) → IsProgress b p
+  pub progress_back : (p : Progress) → AreWithin b (progress_parts p)
       → progress_in r (map named (progress_fields p)) ≡ p
   progress_back progress.None held = refl
   progress_back (progress.SetPercentage n) held =
-      ap progress.SetPercentage (f.number (2 ^ 8) n held)
-  progress_back (progress.SetError n) held = ap progress.SetError (f.number (2 ^ 8) n held)
+      ap progress.SetPercentage (f.number (2 ^ 8) n held.0)
+  progress_back (progress.SetError n) held = ap progress.SetError (f.number (2 ^ 8) n held.0)
   progress_back progress.SetIndeterminate held = refl
   progress_back progress.Paused held = refl
 
-  pub link_back : {A : Type 0} (h : Option (Hyperlink A)) → IsLink b h
+  pub link_back : {A : Type 0} (h : Option (Hyperlink A)) → AreWithin b (link_parts h)
       → link_in r (map named (link_fields h)) ≡ h
   link_back None held = refl
   link_back (Some h) held =
-      let params_are = ap r.parameters (parameters_back r b f h.params held.1)
-      ∙ f.parameters h.params held.2 in
+      let params_are = ap r.parameters (parameters_back r b f h.params held.1.1)
+      ∙ f.parameters h.params held.1.0 in
       let uri_is = f.text h.uri held.0 in
       let implicit_is = flag_back h.implicit in
       λ i. Some (record { params = params_are i; uri = uri_is i; implicit = implicit_is i })

@@ -1,5 +1,5 @@
 -- Values are read back from what rows say, by a reading that gives what is within bounds as it is.
-use Rattle.std.proofs.Common.{ℕ, ℤ, pos, negsuc, ◌≡◌, ◌<◌, ◌^◌, Bool, true, false, if◌then◌else◌, List, [], ◌∷◌, Option, Some, None, refl, map, ap}
+use Rattle.std.proofs.Common.{ℕ, ℤ, pos, negsuc, ◌≡◌, ◌<◌, ◌^◌, Bool, true, false, if◌then◌else◌, List, [], ◌∷◌, ◌++◌, Option, Some, None, refl, map, ap}
 use Rattle.std.proofs.lemmas.Bool.{lt-ltb}
 use Rattle.std.proofs.lemmas.Str.{is_utf8-from_IsUtf8}
 use Rattle.std.specs.List.{flat_map}
@@ -10,7 +10,8 @@ use Rattle.esc_fields.specs.Commands.{index_fields, part_fields}
 use Rattle.esc_fields.specs.Fields.{flag_number, named, text_of}
 use Rattle.esc_fields.specs.Fields.Value.{Number}
 use Rattle.esc_fields.specs.Found.{Reading, below, byte_of, flag_of, held, parameters, signed, string_of, utf8_or_none}
-use Rattle.esc_fields.specs.Held.{AreBytes, ArePairsOfTexts, AreTexts, Bounds, IsOptional, types}
+use Rattle.esc_fields.specs.Held.{AreTexts, AreWithin, Bounds, IsPart, Part, parameter_parts, text_parts, types}
+use Rattle.esc_fields.specs.Held.Part.{Limited, Parameters, Signed, Text}
 use Rattle.esc_fields.specs.Links.{parameter_fields}
 
 -- a reading that gives what is within bounds as it is
@@ -63,6 +64,24 @@ any_fits = record {
   parameters = λ es h. refl;
 }
 
+pub any_part : (p : Part) → IsPart any_bounds p
+any_part (Limited limit n) = tt
+any_part (Signed z) = tt
+any_part (Text t) = tt
+any_part (Parameters es) = tt
+
+pub any_within : (ps : List Part) → AreWithin any_bounds ps
+any_within [] = tt
+any_within (p ∷ ps) = (any_part p, any_within ps)
+
+-- parts within bounds that come one after others
+pub both_within : (b : Bounds) (ps qs : List Part) → AreWithin b (ps ++ qs)
+    → AreWithin b ps × AreWithin b qs
+both_within b [] qs h = (tt, h)
+both_within b (p ∷ ps) qs h =
+    let rest = both_within b ps qs h.1 in
+    ((h.0, rest.0), rest.1)
+
 -- flags, and parts of any bytes
 pub flag_back : (b : Bool) → flag_of (Number (flag_number b)) ≡ b
 flag_back false = refl
@@ -75,9 +94,10 @@ parts_back (t ∷ ts) = ap (λ more. t ∷ more) (parts_back ts)
 
 -- texts and lists
 module _ (r : Reading) (b : Bounds) (f : Fits r b) where
-  pub optional_is : (o : Option (List ℕ)) → IsOptional b o → option_map r.text o ≡ o
+  pub optional_is : (o : Option (List ℕ)) → AreWithin b (text_parts o)
+      → option_map r.text o ≡ o
   optional_is None h = refl
-  optional_is (Some t) h = ap Some (f.text t h)
+  optional_is (Some t) h = ap Some (f.text t h.0)
 
   pub texts_back : (ts : List (List ℕ)) → AreTexts b ts
       → map (λ s. string_of r s.1) (map named (flat_map part_fields ts)) ≡ ts
@@ -87,7 +107,7 @@ module _ (r : Reading) (b : Bounds) (f : Fits r b) where
       let rest = texts_back ts h.1 in
       λ i. first i ∷ rest i
 
-  pub numbers_back : (ns : List ℕ) → AreBytes b ns
+  pub numbers_back : (ns : List ℕ) → AreWithin b (map (Limited (2 ^ 8)) ns)
       → map (λ s. byte_of r s.1) (map named (flat_map index_fields ns)) ≡ ns
   numbers_back [] h = refl
   numbers_back (n ∷ ns) h =
@@ -95,11 +115,12 @@ module _ (r : Reading) (b : Bounds) (f : Fits r b) where
       let rest = numbers_back ns h.1 in
       λ i. first i ∷ rest i
 
-  pub parameters_back : (es : List (List ℕ × List ℕ)) → ArePairsOfTexts b es
+  pub parameters_back : (es : List (List ℕ × List ℕ))
+      → AreWithin b (flat_map parameter_parts es)
       → parameters r (map named (flat_map parameter_fields es)) ≡ es
   parameters_back [] h = refl
   parameters_back (e ∷ es) h =
       let key = f.text e.0 h.0 in
-      let value = f.text e.1 h.1 in
-      let rest = parameters_back es h.2 in
+      let value = f.text e.1 h.1.0 in
+      let rest = parameters_back es h.1.1 in
       λ i. (key i, value i) ∷ rest i

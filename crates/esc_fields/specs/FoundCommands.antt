@@ -1,33 +1,57 @@
 -- The command that a kind and rows say.
 use Rattle.std.specs.Prelude.{ℕ, List, get_or, map}
+use Rattle.esc_iterm.specs.declared.proprietary.ITermProprietary.TheVariants as iterm
+use Rattle.esc_prompts.specs.declared.prompt.FinalTermSemanticPrompt.TheVariants as prompt
 use Rattle.esc_osc.specs.declared.command.OperatingSystemCommand.{OperatingSystemCommand}
 use Rattle.esc_osc.specs.declared.command.OperatingSystemCommand.TheVariants as command
 use Rattle.esc_fields.specs.Fields.{text_of}
 use Rattle.esc_fields.specs.Found.{NamedValue, Reading, after, byte_of, channel_of, first, second, string_of}
 use Rattle.esc_fields.specs.FoundItems.{colors_after, dynamic_of, link_in, nothing, pairs_after, progress_in}
-use Rattle.esc_fields.specs.FoundPrompts.{iterm_in, iterm_marked, iterm_texted, prompt_in}
+use Rattle.esc_fields.specs.FoundPrompts.{iterm_in, prompt_in}
+use Rattle.esc_fields.specs.declared.kinds.BareKind.{BareKind}
+use Rattle.esc_fields.specs.declared.kinds.BareKind.TheVariants as bare
 use Rattle.esc_fields.specs.declared.kinds.Form.{Form}
-use Rattle.esc_fields.specs.declared.kinds.Form.TheVariants.{ITerm, ITermMark, ITermText, Other, Prompt, Title}
+use Rattle.esc_fields.specs.declared.kinds.Form.TheVariants as form
+use Rattle.esc_fields.specs.declared.kinds.Form.TheVariants.{Bare, ITerm, Other, Prompt}
 use Rattle.esc_fields.specs.declared.kinds.OtherKind.{OtherKind}
 use Rattle.esc_fields.specs.declared.kinds.OtherKind.TheVariants as other
+use Rattle.esc_fields.specs.declared.kinds.TextKind.{TextKind}
+use Rattle.esc_fields.specs.declared.kinds.TextKind.TheVariants as text
 use Rattle.esc_fields.specs.declared.kinds.TheConstants.{FORMS}
-use Rattle.esc_fields.specs.declared.kinds.TitleKind.{TitleKind}
-use Rattle.esc_fields.specs.declared.kinds.TitleKind.TheVariants as title
 
 -- how the command of the kind of this number is read
 abbrev pub form_at : ℕ → Form
 form_at n = get_or FORMS n (Other other.Unspecified)
 
 module _ {A : Type 0} where
+  -- the command of a kind that has nothing
+  abbrev pub bared : BareKind → OperatingSystemCommand A
+  bared bare.PromptFreshLine = command.FinalTermSemanticPrompt prompt.FreshLine
+  bared bare.PromptInputUntilNextMarker =
+      command.FinalTermSemanticPrompt prompt.MarkEndOfPromptAndStartOfInputUntilNextMarker
+  bared bare.PromptInputUntilEndOfLine =
+      command.FinalTermSemanticPrompt prompt.MarkEndOfPromptAndStartOfInputUntilEndOfLine
+  bared bare.ITermSetMark = command.ITermProprietary iterm.SetMark
+  bared bare.ITermStealFocus = command.ITermProprietary iterm.StealFocus
+  bared bare.ITermClearScrollback = command.ITermProprietary iterm.ClearScrollback
+  bared bare.ITermEndCopy = command.ITermProprietary iterm.EndCopy
+  bared bare.ITermRequestCellSize = command.ITermProprietary iterm.RequestCellSize
+
   -- the command of a kind that has one text
-  abbrev pub titled : TitleKind → List ℕ → OperatingSystemCommand A
-  titled title.IconNameAndWindowTitle t = command.SetIconNameAndWindowTitle t
-  titled title.WindowTitle t = command.SetWindowTitle t
-  titled title.WindowTitleSun t = command.SetWindowTitleSun t
-  titled title.IconName t = command.SetIconName t
-  titled title.IconNameSun t = command.SetIconNameSun t
-  titled title.Notification t = command.SystemNotification t
-  titled title.WorkingDirectory t = command.CurrentWorkingDirectory t
+  abbrev pub texted : TextKind → List ℕ → OperatingSystemCommand A
+  texted text.IconNameAndWindowTitle t = command.SetIconNameAndWindowTitle t
+  texted text.WindowTitle t = command.SetWindowTitle t
+  texted text.WindowTitleSun t = command.SetWindowTitleSun t
+  texted text.IconName t = command.SetIconName t
+  texted text.IconNameSun t = command.SetIconNameSun t
+  texted text.Notification t = command.SystemNotification t
+  texted text.WorkingDirectory t = command.CurrentWorkingDirectory t
+  texted text.ITermCurrentDir t = command.ITermProprietary (iterm.CurrentDir t)
+  texted text.ITermSetProfile t = command.ITermProprietary (iterm.SetProfile t)
+  texted text.ITermCopyToClipboard t = command.ITermProprietary (iterm.CopyToClipboard t)
+  texted text.ITermCopy t = command.ITermProprietary (iterm.Copy t)
+  texted text.ITermReportVariable t = command.ITermProprietary (iterm.ReportVariable t)
+  texted text.ITermSetBadgeFormat t = command.ITermProprietary (iterm.SetBadgeFormat t)
 
   -- the command of a kind that is no prompt and none of iTerm2, and has more or less than one text
   abbrev pub other_in : Reading → OtherKind → List NamedValue → OperatingSystemCommand A
@@ -49,9 +73,8 @@ module _ {A : Type 0} where
 
   -- the command of a kind
   abbrev pub command_in : Reading → Form → List NamedValue → OperatingSystemCommand A
-  command_in r (Title k) ss = titled k (string_of r (first ss))
+  command_in r (Bare k) ss = bared k
+  command_in r (form.Text k) ss = texted k (string_of r (first ss))
   command_in r (Prompt k) ss = command.FinalTermSemanticPrompt (prompt_in r k ss)
-  command_in r (ITermMark k) ss = command.ITermProprietary (iterm_marked k)
-  command_in r (ITermText k) ss = command.ITermProprietary (iterm_texted k (string_of r (first ss)))
   command_in r (ITerm k) ss = command.ITermProprietary (iterm_in r k ss)
   command_in r (Other k) ss = other_in r k ss

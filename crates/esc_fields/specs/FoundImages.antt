@@ -27,6 +27,8 @@ use Rattle.esc_fields.specs.declared.image_forms.Deletion.{Deletion}
 use Rattle.esc_fields.specs.declared.image_forms.Deletion.TheVariants as deletion
 use Rattle.esc_fields.specs.declared.image_forms.ImageForm.{ImageForm}
 use Rattle.esc_fields.specs.declared.image_forms.ImageForm.TheVariants as form
+use Rattle.esc_fields.specs.declared.image_forms.Sending.{Sending}
+use Rattle.esc_fields.specs.declared.image_forms.Sending.TheVariants as sending
 use Rattle.esc_fields.specs.declared.image_forms.TheConstants.{IMAGE_FORMS}
 
 -- how the image of the kind of this number is read
@@ -173,19 +175,21 @@ deleted_in r deletion.Range l = delete.ByImageIdRange (known r (l name.FirstImag
     (known r (l name.LastImageId)) (flag (l name.DeletesData))
 
 module _ {A : Type 0} where
+  -- an image that has a text, by what is sent
+  abbrev pub sent_in : Reading → Sending → KittyImageTransmit A → Numbered → KittyImage A
+  sent_in r sending.Kept t l = image.TransmitData t (verbosity_in l)
+  sent_in r sending.Shown t l =
+      image.TransmitDataAndDisplay t (placement_in r l) (verbosity_in l)
+  sent_in r sending.Asked t l = image.Query t
+  sent_in r sending.Frame t l = image.TransmitFrame t (frame_in r l) (verbosity_in l)
+
   -- the image of a form: of those that have a text it is the first row
   abbrev pub image_in : Reading → ImageForm → List NamedValue → Option (KittyImage A)
   image_in r form.Nothing ss = None
-  image_in r form.Kept ss = Some (image.TransmitData (transmit_in r (first ss) (look (after ss)))
-      (verbosity_in (look (after ss))))
-  image_in r form.Shown ss = Some (image.TransmitDataAndDisplay
-      (transmit_in r (first ss) (look (after ss))) (placement_in r (look (after ss)))
-      (verbosity_in (look (after ss))))
+  image_in r (form.Sent s) ss = Some (sent_in r s (transmit_in r (first ss) (look (after ss)))
+      (look (after ss)))
   image_in r form.Displayed ss = Some (image.Display (count r (look ss name.ImageId))
       (count r (look ss name.ImageNumber)) (placement_in r (look ss)) (verbosity_in (look ss)))
-  image_in r form.Asked ss = Some (image.Query (transmit_in r (first ss) (look (after ss))))
-  image_in r form.Sent ss = Some (image.TransmitFrame (transmit_in r (first ss) (look (after ss)))
-      (frame_in r (look (after ss))) (verbosity_in (look (after ss))))
   image_in r form.Composed ss = Some (image.ComposeFrame (compose_in r (look ss))
       (verbosity_in (look ss)))
   image_in r (form.Deleted d) ss = Some (image.Delete (deleted_in r d (look ss))

@@ -19,10 +19,6 @@ use Rattle.esc_fields.specs.declared.field_name.FieldName.{FieldName}
 use Rattle.esc_fields.specs.declared.field_name.FieldName.TheVariants as name
 use Rattle.esc_fields.specs.declared.kinds.ITermKind.{ITermKind}
 use Rattle.esc_fields.specs.declared.kinds.ITermKind.TheVariants as other
-use Rattle.esc_fields.specs.declared.kinds.ITermMarkKind.{ITermMarkKind}
-use Rattle.esc_fields.specs.declared.kinds.ITermMarkKind.TheVariants as mark
-use Rattle.esc_fields.specs.declared.kinds.ITermTextKind.{ITermTextKind}
-use Rattle.esc_fields.specs.declared.kinds.ITermTextKind.TheVariants as texted
 use Rattle.esc_fields.specs.declared.kinds.PromptForm.{PromptForm}
 use Rattle.esc_fields.specs.declared.kinds.PromptForm.TheVariants as form
 
@@ -67,6 +63,11 @@ height_in ss = dimension_in name.HeightCells name.HeightPixels name.HeightPercen
 abbrev pub past_height : List NamedValue → List NamedValue
 past_height ss = past name.HeightPercent (past name.HeightPixels (past name.HeightCells ss))
 
+-- where the keys of a prompt begin: after its status, where it has one
+abbrev pub keys_in : PromptForm → List NamedValue → List NamedValue
+keys_in form.CommandStatus ss = after ss
+keys_in k ss = ss
+
 module _ {A : Type 0} where
   -- a file of its name, its size, its dimensions, and what comes after these
   abbrev pub file_with : Option (List ℕ) → Option ℕ → ITermDimension → ITermDimension
@@ -93,38 +94,20 @@ module _ {A : Type 0} where
   abbrev pub file_in : Reading → List NamedValue → ITermFileData A
   file_in r ss = sized_in (text_in r name.Name ss) (past name.Name ss)
 
-  -- the prompt of a kind
+  -- the prompt of a kind, with the name of the application where it has one
+  abbrev pub prompted : Reading → PromptForm → Option (List ℕ) → List NamedValue
+      → FinalTermSemanticPrompt A
+  prompted r form.FreshLineAndStart a ss =
+      prompt.FreshLineAndStartPrompt a (click_in (past name.Application ss))
+  prompted r form.EndOfCommandWithFreshLine a ss =
+      prompt.MarkEndOfCommandWithFreshLine a (click_in (past name.Application ss))
+  prompted r form.Start a ss = prompt.StartPrompt (prompt_kind_of (count_of (first ss)))
+  prompted r form.StartOfOutput a ss = prompt.MarkEndOfInputAndStartOfOutput a
+  prompted r form.CommandStatus a ss =
+      prompt.CommandStatus (r.signed (number_of (first ss))) a
+
   abbrev pub prompt_in : Reading → PromptForm → List NamedValue → FinalTermSemanticPrompt A
-  prompt_in r form.FreshLine ss = prompt.FreshLine
-  prompt_in r form.FreshLineAndStart ss =
-      prompt.FreshLineAndStartPrompt (text_in r name.Application ss)
-      (click_in (past name.Application ss))
-  prompt_in r form.EndOfCommandWithFreshLine ss =
-      prompt.MarkEndOfCommandWithFreshLine (text_in r name.Application ss)
-      (click_in (past name.Application ss))
-  prompt_in r form.Start ss = prompt.StartPrompt (prompt_kind_of (count_of (first ss)))
-  prompt_in r form.InputUntilNextMarker ss = prompt.MarkEndOfPromptAndStartOfInputUntilNextMarker
-  prompt_in r form.InputUntilEndOfLine ss = prompt.MarkEndOfPromptAndStartOfInputUntilEndOfLine
-  prompt_in r form.StartOfOutput ss =
-      prompt.MarkEndOfInputAndStartOfOutput (text_in r name.Application ss)
-  prompt_in r form.CommandStatus ss =
-      prompt.CommandStatus (r.signed (number_of (first ss))) (text_in r name.Application (after ss))
-
-  -- the command of iTerm2 of a kind that has nothing, and of one that has one text
-  abbrev pub iterm_marked : ITermMarkKind → ITermProprietary A
-  iterm_marked mark.SetMark = iterm.SetMark
-  iterm_marked mark.StealFocus = iterm.StealFocus
-  iterm_marked mark.ClearScrollback = iterm.ClearScrollback
-  iterm_marked mark.EndCopy = iterm.EndCopy
-  iterm_marked mark.RequestCellSize = iterm.RequestCellSize
-
-  abbrev pub iterm_texted : ITermTextKind → List ℕ → ITermProprietary A
-  iterm_texted texted.CurrentDir t = iterm.CurrentDir t
-  iterm_texted texted.SetProfile t = iterm.SetProfile t
-  iterm_texted texted.CopyToClipboard t = iterm.CopyToClipboard t
-  iterm_texted texted.Copy t = iterm.Copy t
-  iterm_texted texted.ReportVariable t = iterm.ReportVariable t
-  iterm_texted texted.SetBadgeFormat t = iterm.SetBadgeFormat t
+  prompt_in r k ss = prompted r k (text_in r name.Application (keys_in k ss)) ss
 
   -- the size of a cell
   abbrev pub cell_size_in : Reading → List NamedValue → ITermProprietary A

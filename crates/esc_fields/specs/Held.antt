@@ -1,6 +1,7 @@
 -- What a command's parts are within bounds, and in a program: texts are UTF-8, numbers have the
 -- width of their types, and the parameters of a link are in order, each key once.
-use Rattle.std.specs.Prelude.{ℕ, ℤ, ◌≡◌, ◌<◌, ◌^◌, List, [], ◌∷◌, Option, Some, None}
+use Rattle.std.specs.Prelude.{ℕ, ℤ, ◌≡◌, ◌<◌, ◌^◌, List, [], ◌∷◌, map, Option, Some, None}
+use Rattle.std.specs.List.{flat_map}
 use Rattle.std.specs.Str.{IsUtf8}
 use Rattle.esc_values.specs.Scalars.{IsSigned}
 use Rattle.esc_links.specs.Hyperlinks.{put_all}
@@ -39,104 +40,110 @@ types = record {
   Parameters = λ es. put_all [] es ≡ es;
 }
 
--- texts
-abbrev pub IsOptional : Bounds → Option (List ℕ) → Type 0
-IsOptional b None = Unit {0}
-IsOptional b (Some t) = b.Text t
+-- a part: a number with its limit, one that may be negative, a text, and the parameters of a link
+pub data Part : Type 0 where
+  Limited : ℕ → ℕ → Part
+  Signed : ℤ → Part
+  Text : List ℕ → Part
+  Parameters : List (List ℕ × List ℕ) → Part
+
+abbrev pub IsPart : Bounds → Part → Type 0
+IsPart b (Limited limit n) = b.Number limit n
+IsPart b (Signed z) = b.Signed z
+IsPart b (Text t) = b.Text t
+IsPart b (Parameters es) = b.Parameters es
+
+-- parts within bounds, and texts
+abbrev pub AreWithin : Bounds → List Part → Type 0
+AreWithin b [] = Unit {0}
+AreWithin b (p ∷ ps) = IsPart b p × AreWithin b ps
 
 abbrev pub AreTexts : Bounds → List (List ℕ) → Type 0
-AreTexts b [] = Unit {0}
-AreTexts b (t ∷ ts) = b.Text t × AreTexts b ts
+AreTexts b ts = AreWithin b (map Text ts)
 
-abbrev pub ArePairsOfTexts : Bounds → List (List ℕ × List ℕ) → Type 0
-ArePairsOfTexts b [] = Unit {0}
-ArePairsOfTexts b (e ∷ es) = b.Text e.0 × b.Text e.1 × ArePairsOfTexts b es
+-- the parts that are held within bounds: of what is optional, of colours, of the progress of a task
+abbrev pub text_parts : Option (List ℕ) → List Part
+text_parts None = []
+text_parts (Some t) = Text t ∷ []
 
--- numbers
-abbrev pub AreBytes : Bounds → List ℕ → Type 0
-AreBytes b [] = Unit {0}
-AreBytes b (n ∷ ns) = b.Number (2 ^ 8) n × AreBytes b ns
+abbrev pub scale_parts : Option ℕ → List Part
+scale_parts None = []
+scale_parts (Some s) = Limited (2 ^ 32) s ∷ []
 
-abbrev pub IsScale : Bounds → Option ℕ → Type 0
-IsScale b None = Unit {0}
-IsScale b (Some s) = b.Number (2 ^ 32) s
+abbrev pub color_parts : ColorOrQuery → List Part
+color_parts (Color c) =
+    Limited (2 ^ 16) c.red ∷ Limited (2 ^ 16) c.green ∷ Limited (2 ^ 16) c.blue ∷ []
+color_parts Query = []
 
-abbrev pub IsProgress : Bounds → Progress → Type 0
-IsProgress b (progress.SetPercentage n) = b.Number (2 ^ 8) n
-IsProgress b (progress.SetError n) = b.Number (2 ^ 8) n
-IsProgress b p = Unit {0}
+abbrev pub pair_parts : ChangeColorPair → List Part
+pair_parts p = Limited (2 ^ 8) p.palette_index ∷ color_parts p.color
 
--- colours
-abbrev pub IsColor : Bounds → ColorOrQuery → Type 0
-IsColor b (Color c) =
-    b.Number (2 ^ 16) c.red × b.Number (2 ^ 16) c.green × b.Number (2 ^ 16) c.blue
-IsColor b Query = Unit {0}
+abbrev pub progress_parts : Progress → List Part
+progress_parts (progress.SetPercentage n) = Limited (2 ^ 8) n ∷ []
+progress_parts (progress.SetError n) = Limited (2 ^ 8) n ∷ []
+progress_parts p = []
 
-abbrev pub AreColors : Bounds → List ColorOrQuery → Type 0
-AreColors b [] = Unit {0}
-AreColors b (c ∷ cs) = IsColor b c × AreColors b cs
-
-abbrev pub ArePairs : Bounds → List ChangeColorPair → Type 0
-ArePairs b [] = Unit {0}
-ArePairs b (p ∷ ps) = b.Number (2 ^ 8) p.palette_index × IsColor b p.color × ArePairs b ps
+abbrev pub parameter_parts : List ℕ × List ℕ → List Part
+parameter_parts e = Text e.0 ∷ Text e.1 ∷ []
 
 module _ {A : Type 0} where
-  abbrev pub IsLink : Bounds → Option (Hyperlink A) → Type 0
-  IsLink b None = Unit {0}
-  IsLink b (Some h) = b.Text h.uri × ArePairsOfTexts b h.params × b.Parameters h.params
+  abbrev pub link_parts : Option (Hyperlink A) → List Part
+  link_parts None = []
+  link_parts (Some h) =
+      Text h.uri ∷ Parameters h.params ∷ flat_map parameter_parts h.params
 
-  abbrev pub IsVersion : Bounds → ITermUnicodeVersionOp A → Type 0
-  IsVersion b (version.Set n) = b.Number (2 ^ 8) n
-  IsVersion b (version.Push l) = IsOptional b l
-  IsVersion b (version.Pop l) = IsOptional b l
+  abbrev pub version_parts : ITermUnicodeVersionOp A → List Part
+  version_parts (version.Set n) = Limited (2 ^ 8) n ∷ []
+  version_parts (version.Push l) = text_parts l
+  version_parts (version.Pop l) = text_parts l
 
-  abbrev pub IsITerm : Bounds → ITermProprietary A → Type 0
-  IsITerm b (iterm.CurrentDir t) = b.Text t
-  IsITerm b (iterm.SetProfile t) = b.Text t
-  IsITerm b (iterm.CopyToClipboard t) = b.Text t
-  IsITerm b (iterm.ReportCellSize h w s) =
-      b.Number (2 ^ 32) h × b.Number (2 ^ 32) w × IsScale b s
-  IsITerm b (iterm.Copy t) = b.Text t
-  IsITerm b (iterm.ReportVariable t) = b.Text t
-  IsITerm b (iterm.SetUserVar n t) = b.Text n × b.Text t
-  IsITerm b (iterm.SetBadgeFormat t) = b.Text t
-  IsITerm b (iterm.File f) = IsOptional b f.name
-  IsITerm b (iterm.UnicodeVersion v) = IsVersion b v
-  IsITerm b c = Unit {0}
+  abbrev pub iterm_parts : ITermProprietary A → List Part
+  iterm_parts (iterm.CurrentDir t) = Text t ∷ []
+  iterm_parts (iterm.SetProfile t) = Text t ∷ []
+  iterm_parts (iterm.CopyToClipboard t) = Text t ∷ []
+  iterm_parts (iterm.ReportCellSize h w s) =
+      Limited (2 ^ 32) h ∷ Limited (2 ^ 32) w ∷ scale_parts s
+  iterm_parts (iterm.Copy t) = Text t ∷ []
+  iterm_parts (iterm.ReportVariable t) = Text t ∷ []
+  iterm_parts (iterm.SetUserVar n t) = Text n ∷ Text t ∷ []
+  iterm_parts (iterm.SetBadgeFormat t) = Text t ∷ []
+  iterm_parts (iterm.File f) = text_parts f.name
+  iterm_parts (iterm.UnicodeVersion v) = version_parts v
+  iterm_parts c = []
 
-  abbrev pub IsPrompt : Bounds → FinalTermSemanticPrompt A → Type 0
-  IsPrompt b (prompt.FreshLineAndStartPrompt aid cl) = IsOptional b aid
-  IsPrompt b (prompt.MarkEndOfCommandWithFreshLine aid cl) = IsOptional b aid
-  IsPrompt b (prompt.MarkEndOfInputAndStartOfOutput aid) = IsOptional b aid
-  IsPrompt b (prompt.CommandStatus s aid) = b.Signed s × IsOptional b aid
-  IsPrompt b p = Unit {0}
+  abbrev pub prompt_parts : FinalTermSemanticPrompt A → List Part
+  prompt_parts (prompt.FreshLineAndStartPrompt aid cl) = text_parts aid
+  prompt_parts (prompt.MarkEndOfCommandWithFreshLine aid cl) = text_parts aid
+  prompt_parts (prompt.MarkEndOfInputAndStartOfOutput aid) = text_parts aid
+  prompt_parts (prompt.CommandStatus s aid) = Signed s ∷ text_parts aid
+  prompt_parts p = []
 
-  -- a command whose parts are within bounds
-  abbrev pub IsWithin : Bounds → OperatingSystemCommand A → Type 0
-  IsWithin b (command.SetIconNameAndWindowTitle t) = b.Text t
-  IsWithin b (command.SetWindowTitle t) = b.Text t
-  IsWithin b (command.SetWindowTitleSun t) = b.Text t
-  IsWithin b (command.SetIconName t) = b.Text t
-  IsWithin b (command.SetIconNameSun t) = b.Text t
-  IsWithin b (command.SetHyperlink h) = IsLink b h
-  IsWithin b (command.ClearSelection s) = b.Number (2 ^ 16) s.0
-  IsWithin b (command.QuerySelection s) = b.Number (2 ^ 16) s.0
-  IsWithin b (command.SetSelection s t) = b.Number (2 ^ 16) s.0 × b.Text t
-  IsWithin b (command.SystemNotification t) = b.Text t
-  IsWithin b (command.ITermProprietary c) = IsITerm b c
-  IsWithin b (command.FinalTermSemanticPrompt p) = IsPrompt b p
-  IsWithin b (command.ChangeColorNumber ps) = ArePairs b ps
-  IsWithin b (command.ChangeDynamicColors n cs) = AreColors b cs
-  IsWithin b (command.ResetDynamicColor n) = Unit {0}
-  IsWithin b (command.CurrentWorkingDirectory t) = b.Text t
-  IsWithin b (command.ResetColors ns) = AreBytes b ns
-  IsWithin b (command.RxvtExtension ts) = AreTexts b ts
-  IsWithin b (command.ConEmuProgress p) = IsProgress b p
-  IsWithin b (command.Unspecified ps) = Unit {0}
+  -- the parts of a command that have bounds
+  abbrev pub parts_of : OperatingSystemCommand A → List Part
+  parts_of (command.SetIconNameAndWindowTitle t) = Text t ∷ []
+  parts_of (command.SetWindowTitle t) = Text t ∷ []
+  parts_of (command.SetWindowTitleSun t) = Text t ∷ []
+  parts_of (command.SetIconName t) = Text t ∷ []
+  parts_of (command.SetIconNameSun t) = Text t ∷ []
+  parts_of (command.SetHyperlink h) = link_parts h
+  parts_of (command.ClearSelection s) = Limited (2 ^ 16) s.0 ∷ []
+  parts_of (command.QuerySelection s) = Limited (2 ^ 16) s.0 ∷ []
+  parts_of (command.SetSelection s t) = Limited (2 ^ 16) s.0 ∷ Text t ∷ []
+  parts_of (command.SystemNotification t) = Text t ∷ []
+  parts_of (command.ITermProprietary c) = iterm_parts c
+  parts_of (command.FinalTermSemanticPrompt p) = prompt_parts p
+  parts_of (command.ChangeColorNumber ps) = flat_map pair_parts ps
+  parts_of (command.ChangeDynamicColors n cs) = flat_map color_parts cs
+  parts_of (command.ResetDynamicColor n) = []
+  parts_of (command.CurrentWorkingDirectory t) = Text t ∷ []
+  parts_of (command.ResetColors ns) = map (Limited (2 ^ 8)) ns
+  parts_of (command.RxvtExtension ts) = map Text ts
+  parts_of (command.ConEmuProgress p) = progress_parts p
+  parts_of (command.Unspecified ps) = []
 
   -- one whose parts are as the types of a program hold them
   abbrev pub IsHeld : OperatingSystemCommand A → Type 0
-  IsHeld c = IsWithin types c
+  IsHeld c = AreWithin types (parts_of c)
 
   -- the number of a kind, rows and the texts of their fields are those of a command
   abbrev pub Has : ℕ → Table → OperatingSystemCommand A → Type 0

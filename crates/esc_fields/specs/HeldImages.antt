@@ -1,9 +1,10 @@
 -- What the parts of a kitty image are within bounds, and in a program: texts are UTF-8, and numbers
 -- have 32 bits.
-use Rattle.std.specs.Prelude.{ℕ, ℤ, ◌≡◌, ◌^◌, Option, Some, None}
+use Rattle.std.specs.Prelude.{ℕ, ℤ, ◌≡◌, ◌^◌, List, [], ◌∷◌, Option, Some, None}
+use Rattle.esc_kitty.specs.Texts.{offset_in, size_in}
 use Rattle.esc_kitty.specs.declared.compose.KittyImageFrameCompose.{KittyImageFrameCompose}
 use Rattle.esc_kitty.specs.declared.content.KittyImageData.{KittyImageData}
-use Rattle.esc_kitty.specs.declared.content.KittyImageData.TheVariants.{Direct, DirectBin, File, TemporaryFile, SharedMem}
+use Rattle.esc_kitty.specs.declared.content.KittyImageData.TheVariants.{DirectBin}
 use Rattle.esc_kitty.specs.declared.delete.KittyImageDelete.{KittyImageDelete}
 use Rattle.esc_kitty.specs.declared.delete.KittyImageDelete.TheVariants as delete
 use Rattle.esc_kitty.specs.declared.frame.KittyImageFrame.{KittyImageFrame}
@@ -12,9 +13,10 @@ use Rattle.esc_kitty.specs.declared.image.KittyImage.TheVariants as image
 use Rattle.esc_kitty.specs.declared.placement.KittyImagePlacement.{KittyImagePlacement}
 use Rattle.esc_kitty.specs.declared.transmit.KittyImageTransmit.{KittyImageTransmit}
 use Rattle.esc_fields.specs.Fields.{Table, table_of}
-use Rattle.esc_fields.specs.Held.{Bounds, types}
+use Rattle.esc_fields.specs.Held.{AreWithin, Bounds, Part, types}
+use Rattle.esc_fields.specs.Held.Part.{Text}
 use Rattle.esc_fields.specs.ImageKinds.{image_kind, image_number}
-use Rattle.esc_fields.specs.Images.{fields_of_image}
+use Rattle.esc_fields.specs.Images.{bytes_of, delete_order, fields_of_image}
 
 -- numbers that may be absent
 abbrev pub IsCount : Bounds → Option ℕ → Type 0
@@ -25,78 +27,62 @@ abbrev pub IsOrder : Bounds → Option ℤ → Type 0
 IsOrder b None = Unit {0}
 IsOrder b (Some z) = b.Signed z
 
--- how an image is shown, and frames
-pub record IsPlacement (b : Bounds) (p : KittyImagePlacement) : Type 0 where
-  pub x : IsCount b p.x
-  pub y : IsCount b p.y
-  pub w : IsCount b p.w
-  pub h : IsCount b p.h
-  pub x_offset : IsCount b p.x_offset
-  pub y_offset : IsCount b p.y_offset
-  pub columns : IsCount b p.columns
-  pub rows : IsCount b p.rows
-  pub placement_id : IsCount b p.placement_id
-  pub z_index : IsOrder b p.z_index
+abbrev pub AreCounts : Bounds → List (Option ℕ) → Type 0
+AreCounts b [] = Unit {0}
+AreCounts b (o ∷ os) = IsCount b o × AreCounts b os
 
-pub record IsFrame (b : Bounds) (f : KittyImageFrame) : Type 0 where
-  pub x : IsCount b f.x
-  pub y : IsCount b f.y
-  pub base_frame : IsCount b f.base_frame
-  pub frame_number : IsCount b f.frame_number
-  pub duration_ms : IsCount b f.duration_ms
-  pub background_pixel : IsCount b f.background_pixel
+-- those of how an image is shown, and of frames
+abbrev pub placement_counts : KittyImagePlacement → List (Option ℕ)
+placement_counts p = p.x ∷ p.y ∷ p.w ∷ p.h ∷ p.x_offset ∷ p.y_offset ∷ p.columns ∷ p.rows
+    ∷ p.placement_id ∷ []
 
-pub record IsCompose (b : Bounds) (f : KittyImageFrameCompose) : Type 0 where
-  pub image_id : IsCount b f.image_id
-  pub image_number : IsCount b f.image_number
-  pub target_frame : IsCount b f.target_frame
-  pub source_frame : IsCount b f.source_frame
-  pub x : IsCount b f.x
-  pub y : IsCount b f.y
-  pub w : IsCount b f.w
-  pub h : IsCount b f.h
-  pub src_x : IsCount b f.src_x
-  pub src_y : IsCount b f.src_y
+abbrev pub frame_counts : KittyImageFrame → List (Option ℕ)
+frame_counts f = f.x ∷ f.y ∷ f.base_frame ∷ f.frame_number ∷ f.duration_ms
+    ∷ f.background_pixel ∷ []
+
+abbrev pub compose_counts : KittyImageFrameCompose → List (Option ℕ)
+compose_counts f = f.image_id ∷ f.image_number ∷ f.target_frame ∷ f.source_frame ∷ f.x ∷ f.y
+    ∷ f.w ∷ f.h ∷ f.src_x ∷ f.src_y ∷ []
+
+abbrev pub IsPlacement : Bounds → KittyImagePlacement → Type 0
+IsPlacement b p = AreCounts b (placement_counts p) × IsOrder b p.z_index
 
 -- what is deleted
+abbrev pub delete_counts : KittyImageDelete → List (Option ℕ)
+delete_counts (delete.ByImageId i p d) = Some i ∷ p ∷ []
+delete_counts (delete.ByImageNumber n p d) = Some n ∷ p ∷ []
+delete_counts (delete.DeleteAt x y d) = Some x ∷ Some y ∷ []
+delete_counts (delete.DeleteAtZ x y z d) = Some x ∷ Some y ∷ []
+delete_counts (delete.DeleteColumn x d) = Some x ∷ []
+delete_counts (delete.DeleteRow y d) = Some y ∷ []
+delete_counts (delete.ByImageIdRange f l d) = Some f ∷ Some l ∷ []
+delete_counts w = []
+
 abbrev pub IsDelete : Bounds → KittyImageDelete → Type 0
-IsDelete b (delete.All d) = Unit {0}
-IsDelete b (delete.ByImageId i p d) = b.Number (2 ^ 32) i × IsCount b p
-IsDelete b (delete.ByImageNumber n p d) = b.Number (2 ^ 32) n × IsCount b p
-IsDelete b (delete.AtCursorPosition d) = Unit {0}
-IsDelete b (delete.AnimationFrames d) = Unit {0}
-IsDelete b (delete.DeleteAt x y d) = b.Number (2 ^ 32) x × b.Number (2 ^ 32) y
-IsDelete b (delete.DeleteAtZ x y z d) = b.Number (2 ^ 32) x × b.Number (2 ^ 32) y × b.Signed z
-IsDelete b (delete.DeleteColumn x d) = b.Number (2 ^ 32) x
-IsDelete b (delete.DeleteRow y d) = b.Number (2 ^ 32) y
-IsDelete b (delete.DeleteZ z d) = b.Signed z
-IsDelete b (delete.ByImageIdRange f l d) = b.Number (2 ^ 32) f × b.Number (2 ^ 32) l
+IsDelete b w = AreCounts b (delete_counts w) × IsOrder b (delete_order w)
 
 module _ {A : Type 0} where
   -- what an image is made of, and an image on its way
-  abbrev pub IsContent : Bounds → KittyImageData A → Type 0
-  IsContent b (Direct t) = b.Text t
-  IsContent b (DirectBin t) = Unit {0}
-  IsContent b (File t s o) = b.Text t × IsCount b s × IsCount b o
-  IsContent b (TemporaryFile t s o) = b.Text t × IsCount b s × IsCount b o
-  IsContent b (SharedMem t s o) = b.Text t × IsCount b s × IsCount b o
+  abbrev pub content_parts : KittyImageData A → List Part
+  content_parts (DirectBin t) = []
+  content_parts c = Text (bytes_of c) ∷ []
 
-  pub record IsTransmit (b : Bounds) (t : KittyImageTransmit A) : Type 0 where
-    pub content : IsContent b t.content
-    pub width : IsCount b t.width
-    pub height : IsCount b t.height
-    pub image_id : IsCount b t.image_id
-    pub image_number : IsCount b t.image_number
+  abbrev pub transmit_counts : KittyImageTransmit A → List (Option ℕ)
+  transmit_counts t = t.width ∷ t.height ∷ t.image_id ∷ t.image_number
+      ∷ size_in t.content ∷ offset_in t.content ∷ []
+
+  abbrev pub IsTransmit : Bounds → KittyImageTransmit A → Type 0
+  IsTransmit b t = AreCounts b (transmit_counts t) × AreWithin b (content_parts t.content)
 
   -- an image whose parts are within bounds
   abbrev pub IsImageWithin : Bounds → KittyImage A → Type 0
   IsImageWithin b (image.TransmitData t v) = IsTransmit b t
   IsImageWithin b (image.TransmitDataAndDisplay t p v) = IsTransmit b t × IsPlacement b p
-  IsImageWithin b (image.Display i n p v) = IsCount b i × IsCount b n × IsPlacement b p
+  IsImageWithin b (image.Display i n p v) = AreCounts b (i ∷ n ∷ []) × IsPlacement b p
   IsImageWithin b (image.Delete w v) = IsDelete b w
   IsImageWithin b (image.Query t) = IsTransmit b t
-  IsImageWithin b (image.TransmitFrame t f v) = IsTransmit b t × IsFrame b f
-  IsImageWithin b (image.ComposeFrame f v) = IsCompose b f
+  IsImageWithin b (image.TransmitFrame t f v) = IsTransmit b t × AreCounts b (frame_counts f)
+  IsImageWithin b (image.ComposeFrame f v) = AreCounts b (compose_counts f)
 
   -- one whose parts are as the types of a program hold them
   abbrev pub IsHeldImage : KittyImage A → Type 0

@@ -105,8 +105,8 @@ module _ {A : Type 0} where
       ∷ (name.MoreDataFollows, flagged t.more_data_follows) ∷ []
 
 -- how an image is shown
-abbrev pub placement_numbers : KittyImagePlacement → Numbers
-placement_numbers p =
+abbrev pub placement_sizes : KittyImagePlacement → Numbers
+placement_sizes p =
     (name.X, counted p.x)
     ∷ (name.Y, counted p.y)
     ∷ (name.Width, counted p.w)
@@ -116,9 +116,11 @@ placement_numbers p =
     ∷ (name.Columns, counted p.columns)
     ∷ (name.Rows, counted p.rows)
     ∷ (name.PlacementId, counted p.placement_id)
-    ∷ (name.DoNotMoveCursor, flagged p.do_not_move_cursor)
-    ∷ (name.ZIndex, p.z_index)
-    ∷ (name.UnicodePlaceholder, flagged p.unicode_placeholder) ∷ []
+    ∷ (name.DoNotMoveCursor, flagged p.do_not_move_cursor) ∷ []
+
+abbrev pub placement_numbers : KittyImagePlacement → Numbers
+placement_numbers p = placement_sizes p
+    ++ (name.ZIndex, p.z_index) ∷ (name.UnicodePlaceholder, flagged p.unicode_placeholder) ∷ []
 
 -- a frame that is sent, and frames that are put over others
 abbrev pub frame_numbers : KittyImageFrame → Numbers
@@ -145,28 +147,42 @@ compose_numbers c =
     ∷ (name.SourceY, counted c.src_y)
     ∷ (name.CompositionMode, known (composition_number c.composition_mode)) ∷ []
 
--- what is deleted, and whether its data too
+-- what is deleted: which images, columns or rows, and which order
+abbrev pub delete_places : KittyImageDelete → Numbers
+delete_places (delete.ByImageId i p d) =
+    (name.ImageId, known i) ∷ (name.PlacementId, counted p) ∷ []
+delete_places (delete.ByImageNumber n p d) =
+    (name.ImageNumber, known n) ∷ (name.PlacementId, counted p) ∷ []
+delete_places (delete.DeleteAt x y d) = (name.X, known x) ∷ (name.Y, known y) ∷ []
+delete_places (delete.DeleteAtZ x y z d) = (name.X, known x) ∷ (name.Y, known y) ∷ []
+delete_places (delete.DeleteColumn x d) = (name.X, known x) ∷ []
+delete_places (delete.DeleteRow y d) = (name.Y, known y) ∷ []
+delete_places (delete.ByImageIdRange f l d) =
+    (name.FirstImageId, known f) ∷ (name.LastImageId, known l) ∷ []
+delete_places w = []
+
+abbrev pub delete_order : KittyImageDelete → Option ℤ
+delete_order (delete.DeleteAtZ x y z d) = Some z
+delete_order (delete.DeleteZ z d) = Some z
+delete_order w = None
+
+-- whether the data too
+abbrev pub deletes_data : KittyImageDelete → Bool
+deletes_data (delete.All d) = d
+deletes_data (delete.ByImageId i p d) = d
+deletes_data (delete.ByImageNumber n p d) = d
+deletes_data (delete.AtCursorPosition d) = d
+deletes_data (delete.AnimationFrames d) = d
+deletes_data (delete.DeleteAt x y d) = d
+deletes_data (delete.DeleteAtZ x y z d) = d
+deletes_data (delete.DeleteColumn x d) = d
+deletes_data (delete.DeleteRow y d) = d
+deletes_data (delete.DeleteZ z d) = d
+deletes_data (delete.ByImageIdRange f l d) = d
+
 abbrev pub delete_numbers : KittyImageDelete → Numbers
-delete_numbers (delete.All d) = (name.DeletesData, flagged d) ∷ []
-delete_numbers (delete.ByImageId i p d) =
-    (name.ImageId, known i) ∷ (name.PlacementId, counted p) ∷ (name.DeletesData, flagged d) ∷ []
-delete_numbers (delete.ByImageNumber n p d) =
-    (name.ImageNumber, known n) ∷ (name.PlacementId, counted p) ∷ (name.DeletesData, flagged d)
-    ∷ []
-delete_numbers (delete.AtCursorPosition d) = (name.DeletesData, flagged d) ∷ []
-delete_numbers (delete.AnimationFrames d) = (name.DeletesData, flagged d) ∷ []
-delete_numbers (delete.DeleteAt x y d) =
-    (name.X, known x) ∷ (name.Y, known y) ∷ (name.DeletesData, flagged d) ∷ []
-delete_numbers (delete.DeleteAtZ x y z d) =
-    (name.X, known x) ∷ (name.Y, known y) ∷ (name.ZIndex, Some z)
-    ∷ (name.DeletesData, flagged d) ∷ []
-delete_numbers (delete.DeleteColumn x d) =
-    (name.X, known x) ∷ (name.DeletesData, flagged d) ∷ []
-delete_numbers (delete.DeleteRow y d) = (name.Y, known y) ∷ (name.DeletesData, flagged d) ∷ []
-delete_numbers (delete.DeleteZ z d) = (name.ZIndex, Some z) ∷ (name.DeletesData, flagged d) ∷ []
-delete_numbers (delete.ByImageIdRange f l d) =
-    (name.FirstImageId, known f) ∷ (name.LastImageId, known l) ∷ (name.DeletesData, flagged d)
-    ∷ []
+delete_numbers w = delete_places w
+    ++ (name.ZIndex, delete_order w) ∷ (name.DeletesData, flagged (deletes_data w)) ∷ []
 
 -- the id and the number of an image that is kept
 abbrev pub id_numbers : Option ℕ → Option ℕ → Numbers

@@ -15,15 +15,12 @@ use crate::fields::Fields;
 use esc_osc::OperatingSystemCommand as Command;
 use esc_osc_values::{ColorOrQuery, DynamicColorNumber, Selection};
 use esc_values::Text;
-use std::alloc::{AllocError, Allocator};
+use std::alloc::{AllocError, Global};
 
 // Appends the fields of a command.
-pub(crate) fn append<A: Allocator>(
-    command: &Command<A>,
-    fields: &mut Fields<A>,
-) -> Result<(), AllocError>
+pub(crate) fn append(command: &Command, fields: &mut Fields) -> Result<(), AllocError>
     ensures ok { OnOk result (fields.new ≡ with_fields fields.old (fields_of command.now)) }
-    ensures refused { OnErr result (Refused A) }
+    ensures refused { OnErr result (Refused Global) }
 {
     match command {
         Command::SetIconNameAndWindowTitle(text)
@@ -59,55 +56,45 @@ pub(crate) fn append<A: Allocator>(
 }
 
 // Which selections.
-fn append_selection<A: Allocator>(
-    selection: &Selection,
-    fields: &mut Fields<A>,
-) -> Result<(), AllocError>
+fn append_selection(selection: &Selection, fields: &mut Fields) -> Result<(), AllocError>
     ensures ok { OnOk result (fields.new
-        ≡ with_fields fields.old (fields_of {A = A} (command.ClearSelection selection.now))) }
-    ensures refused { OnErr result (Refused A) }
+        ≡ with_fields fields.old (fields_of {A = Global} (command.ClearSelection selection.now))) }
+    ensures refused { OnErr result (Refused Global) }
 {
     fields.push_number(FieldName::Selection, i64::from(selection.bits()))
 }
 
 // Which selections, and their text.
-fn append_content<A: Allocator>(
-    selection: &Selection,
-    text: &Text<A>,
-    fields: &mut Fields<A>,
-) -> Result<(), AllocError>
+fn append_content(selection: &Selection, text: &Text, fields: &mut Fields) -> Result<(), AllocError>
     ensures ok { OnOk result (fields.new
-        ≡ with_fields fields.old (fields_of {A = A}
+        ≡ with_fields fields.old (fields_of {A = Global}
         (command.SetSelection selection.now text.now))) }
-    ensures refused { OnErr result (Refused A) }
+    ensures refused { OnErr result (Refused Global) }
 {
     append_selection(selection, fields)?;
     fields.push_text(FieldName::Text, text.as_bytes())
 }
 
 // A dynamic colour, and colours for it and those after it.
-fn append_dynamic<A: Allocator>(
+fn append_dynamic(
     number: DynamicColorNumber,
     colors: &[ColorOrQuery],
-    fields: &mut Fields<A>,
+    fields: &mut Fields,
 ) -> Result<(), AllocError>
     ensures ok { OnOk result (fields.new
-        ≡ with_fields fields.old (fields_of {A = A}
+        ≡ with_fields fields.old (fields_of {A = Global}
         (command.ChangeDynamicColors number colors.now))) }
-    ensures refused { OnErr result (Refused A) }
+    ensures refused { OnErr result (Refused Global) }
 {
     append_number(number, fields)?;
     append_each(colors, fields)
 }
 
 // A dynamic colour.
-fn append_number<A: Allocator>(
-    number: DynamicColorNumber,
-    fields: &mut Fields<A>,
-) -> Result<(), AllocError>
+fn append_number(number: DynamicColorNumber, fields: &mut Fields) -> Result<(), AllocError>
     ensures ok { OnOk result (fields.new
-        ≡ with_fields fields.old (fields_of {A = A} (command.ResetDynamicColor number))) }
-    ensures refused { OnErr result (Refused A) }
+        ≡ with_fields fields.old (fields_of {A = Global} (command.ResetDynamicColor number))) }
+    ensures refused { OnErr result (Refused Global) }
 {
     fields.push_number(FieldName::DynamicColor, i64::from(number.number()))
 }

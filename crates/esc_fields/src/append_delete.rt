@@ -1,170 +1,93 @@
 //! The fields of deletions of kitty's images. An error is that memory was refused.
-ghost use Rattle.std.specs.Prelude.{◌≡◌, [], ◌∷◌, OnOk, OnErr, Some};
+ghost use Rattle.std.specs.Prelude.{◌≡◌, OnOk, OnErr};
+ghost use Rattle.std.specs.List.{flat_map};
 ghost use Rattle.esc_fields.specs.Fields.{with_fields};
-ghost use Rattle.esc_fields.specs.Images.{counted, delete_numbers, flagged, known, number_fields};
-ghost use Rattle.esc_fields.specs.declared.field_name.FieldName.TheVariants as name;
+ghost use Rattle.esc_fields.specs.Images.{counted, delete_numbers, delete_order, delete_places, deletes_data, number_fields, optional_field};
 ghost use Rattle.memory.specs.Refusals.{Refused};
 
+use crate::append_numbers::append_order;
 use crate::field_name::FieldName;
 use crate::fielded::append_each;
 use crate::fields::Fields;
-use crate::image_numbers::flagged;
 use esc_kitty::KittyImageDelete as Delete;
-use std::alloc::{AllocError, Allocator};
+use std::alloc::{AllocError, Global};
 
 // What is deleted.
-pub(crate) fn append_delete<A: Allocator>(
-    what: &Delete,
-    fields: &mut Fields<A>,
-) -> Result<(), AllocError>
+pub(crate) fn append_delete(what: &Delete, fields: &mut Fields) -> Result<(), AllocError>
     ensures ok { OnOk result (fields.new
         ≡ with_fields fields.old (number_fields (delete_numbers what.now))) }
-    ensures refused { OnErr result (Refused A) }
+    ensures refused { OnErr result (Refused Global) }
 {
-    let id = FieldName::ImageId;
-    let number = FieldName::ImageNumber;
+    append_each(&places(what), fields)?;
+    append_order(order(what), fields)?;
+    fields.push_flag(FieldName::DeletesData, deletes_data(what))
+}
+
+// Which images, columns or rows.
+fn places(what: &Delete) -> [(FieldName, Option<u32>); 2]
+    ensures { flat_map (λ s. optional_field s.0 (counted s.1)) result
+        ≡ number_fields (delete_places what.now) }
+{
+    let placement = FieldName::PlacementId;
+    let none = (FieldName::Y, None);
     match what {
-        Delete::All { delete }
-        | Delete::AtCursorPosition { delete }
-        | Delete::AnimationFrames { delete } => append_flag(*delete, fields),
-        Delete::DeleteZ { z, delete } => append_order(*z, *delete, fields),
-        Delete::DeleteColumn { x, delete } => append_one(FieldName::X, *x, *delete, fields),
-        Delete::DeleteRow { y, delete } => append_one(FieldName::Y, *y, *delete, fields),
+        Delete::All { .. }
+        | Delete::AtCursorPosition { .. }
+        | Delete::AnimationFrames { .. }
+        | Delete::DeleteZ { .. } => [none, none],
         Delete::ByImageId {
             image_id,
             placement_id,
-            delete,
-        } => append_image_id(id, *image_id, *placement_id, *delete, fields),
+            ..
+        } => [
+            (FieldName::ImageId, Some(*image_id)),
+            (placement, *placement_id),
+        ],
         Delete::ByImageNumber {
             image_number,
             placement_id,
-            delete,
-        } => append_image_id(number, *image_number, *placement_id, *delete, fields),
-        Delete::DeleteAt { x, y, delete } => append_cell(*x, *y, *delete, fields),
-        Delete::DeleteAtZ { x, y, z, delete } => append_cell_at(*x, *y, *z, *delete, fields),
-        Delete::ByImageIdRange {
-            first,
-            last,
-            delete,
-        } => append_range(*first, *last, *delete, fields),
+            ..
+        } => [
+            (FieldName::ImageNumber, Some(*image_number)),
+            (placement, *placement_id),
+        ],
+        Delete::DeleteAt { x, y, .. } | Delete::DeleteAtZ { x, y, .. } => {
+            [(FieldName::X, Some(*x)), (FieldName::Y, Some(*y))]
+        }
+        Delete::DeleteColumn { x, .. } => [(FieldName::X, Some(*x)), none],
+        Delete::DeleteRow { y, .. } => [(FieldName::Y, Some(*y)), none],
+        Delete::ByImageIdRange { first, last, .. } => [
+            (FieldName::FirstImageId, Some(*first)),
+            (FieldName::LastImageId, Some(*last)),
+        ],
     }
 }
 
-// A cell, and whether the data too.
-fn append_cell<A: Allocator>(
-    x: u32,
-    y: u32,
-    delete: bool,
-    fields: &mut Fields<A>,
-) -> Result<(), AllocError>
-    ensures ok { OnOk result (fields.new ≡ with_fields fields.old (number_fields
-        ((name.X, known x) ∷ (name.Y, known y) ∷ (name.DeletesData, flagged delete) ∷ []))) }
-    ensures refused { OnErr result (Refused A) }
+// Which order.
+fn order(what: &Delete) -> Option<i32>
+    ensures { result ≡ delete_order what.now }
 {
-    let numbers = [
-        (FieldName::X, Some(x)),
-        (FieldName::Y, Some(y)),
-        (FieldName::DeletesData, flagged(delete)),
-    ];
-    append_each(&numbers, fields)
-}
-
-// A cell and an order, and whether the data too.
-fn append_cell_at<A: Allocator>(
-    x: u32,
-    y: u32,
-    z: i32,
-    delete: bool,
-    fields: &mut Fields<A>,
-) -> Result<(), AllocError>
-    ensures ok { OnOk result (fields.new ≡ with_fields fields.old (number_fields
-        ((name.X, known x) ∷ (name.Y, known y) ∷ (name.ZIndex, Some z)
-        ∷ (name.DeletesData, flagged delete) ∷ []))) }
-    ensures refused { OnErr result (Refused A) }
-{
-    let numbers = [(FieldName::X, Some(x)), (FieldName::Y, Some(y))];
-    append_each(&numbers, fields)?;
-    append_order(z, delete, fields)
-}
-
-// An order, and whether the data too.
-fn append_order<A: Allocator>(
-    z: i32,
-    delete: bool,
-    fields: &mut Fields<A>,
-) -> Result<(), AllocError>
-    ensures ok { OnOk result (fields.new ≡ with_fields fields.old (number_fields
-        ((name.ZIndex, Some z) ∷ (name.DeletesData, flagged delete) ∷ []))) }
-    ensures refused { OnErr result (Refused A) }
-{
-    fields.push_number(FieldName::ZIndex, i64::from(z))?;
-    append_flag(delete, fields)
-}
-
-// The first id and the last, and whether the data too.
-fn append_range<A: Allocator>(
-    first: u32,
-    last: u32,
-    delete: bool,
-    fields: &mut Fields<A>,
-) -> Result<(), AllocError>
-    ensures ok { OnOk result (fields.new ≡ with_fields fields.old (number_fields
-        ((name.FirstImageId, known first) ∷ (name.LastImageId, known last)
-        ∷ (name.DeletesData, flagged delete) ∷ []))) }
-    ensures refused { OnErr result (Refused A) }
-{
-    let numbers = [
-        (FieldName::FirstImageId, Some(first)),
-        (FieldName::LastImageId, Some(last)),
-        (FieldName::DeletesData, flagged(delete)),
-    ];
-    append_each(&numbers, fields)
+    match what {
+        Delete::DeleteZ { z, .. } | Delete::DeleteAtZ { z, .. } => Some(*z),
+        _ => None,
+    }
 }
 
 // Whether the data too.
-fn append_flag<A: Allocator>(delete: bool, fields: &mut Fields<A>) -> Result<(), AllocError>
-    ensures ok { OnOk result (fields.new
-        ≡ with_fields fields.old (number_fields ((name.DeletesData, flagged delete) ∷ []))) }
-    ensures refused { OnErr result (Refused A) }
+fn deletes_data(what: &Delete) -> bool
+    ensures { result ≡ deletes_data what.now }
 {
-    fields.push_flag(FieldName::DeletesData, delete)
-}
-
-// A number, and whether the data too.
-fn append_one<A: Allocator>(
-    part: FieldName,
-    number: u32,
-    delete: bool,
-    fields: &mut Fields<A>,
-) -> Result<(), AllocError>
-    ensures ok { OnOk result (fields.new ≡ with_fields fields.old (number_fields
-        ((part, known number) ∷ (name.DeletesData, flagged delete) ∷ []))) }
-    ensures refused { OnErr result (Refused A) }
-{
-    let numbers = [
-        (part, Some(number)),
-        (FieldName::DeletesData, flagged(delete)),
-    ];
-    append_each(&numbers, fields)
-}
-
-// An image by its id or its number, a placement of it where one is given, and whether the data too.
-fn append_image_id<A: Allocator>(
-    part: FieldName,
-    number: u32,
-    placement: Option<u32>,
-    delete: bool,
-    fields: &mut Fields<A>,
-) -> Result<(), AllocError>
-    ensures ok { OnOk result (fields.new ≡ with_fields fields.old (number_fields
-        ((part, known number) ∷ (name.PlacementId, counted placement)
-        ∷ (name.DeletesData, flagged delete) ∷ []))) }
-    ensures refused { OnErr result (Refused A) }
-{
-    let numbers = [
-        (part, Some(number)),
-        (FieldName::PlacementId, placement),
-        (FieldName::DeletesData, flagged(delete)),
-    ];
-    append_each(&numbers, fields)
+    match what {
+        Delete::All { delete }
+        | Delete::ByImageId { delete, .. }
+        | Delete::ByImageNumber { delete, .. }
+        | Delete::AtCursorPosition { delete }
+        | Delete::AnimationFrames { delete }
+        | Delete::DeleteAt { delete, .. }
+        | Delete::DeleteAtZ { delete, .. }
+        | Delete::DeleteColumn { delete, .. }
+        | Delete::DeleteRow { delete, .. }
+        | Delete::DeleteZ { delete, .. }
+        | Delete::ByImageIdRange { delete, .. } => *delete,
+    }
 }

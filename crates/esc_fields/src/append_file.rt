@@ -10,16 +10,13 @@ use crate::fielded::append_each;
 use crate::fields::Fields;
 use crate::image_numbers::flagged;
 use esc_iterm::{ITermDimension, ITermFileData};
-use std::alloc::{AllocError, Allocator};
+use std::alloc::{AllocError, Global};
 
 // The fields of a file.
 #[tactic(auto, using(crate::proofs::Tables::with_more))]
-pub(crate) fn append_file<A: Allocator>(
-    file: &ITermFileData<A>,
-    fields: &mut Fields<A>,
-) -> Result<(), AllocError>
+pub(crate) fn append_file(file: &ITermFileData, fields: &mut Fields) -> Result<(), AllocError>
     ensures ok { OnOk result (fields.new ≡ with_fields fields.old (file_fields file.now)) }
-    ensures refused { OnErr result (Refused A) }
+    ensures refused { OnErr result (Refused Global) }
 {
     append_optional(FieldName::Name, &file.name, fields)?;
     append_size(file.size, fields)?;
@@ -41,12 +38,9 @@ pub(crate) fn append_file<A: Allocator>(
 }
 
 // What a file is shown as, and what it holds.
-fn append_shown<A: Allocator>(
-    file: &ITermFileData<A>,
-    fields: &mut Fields<A>,
-) -> Result<(), AllocError>
+fn append_shown(file: &ITermFileData, fields: &mut Fields) -> Result<(), AllocError>
     ensures ok { OnOk result (fields.new ≡ with_fields fields.old (shown_fields file.now)) }
-    ensures refused { OnErr result (Refused A) }
+    ensures refused { OnErr result (Refused Global) }
 {
     let flags = [
         (
@@ -61,9 +55,9 @@ fn append_shown<A: Allocator>(
 }
 
 // Its size, where it is given.
-fn append_size<A: Allocator>(size: Option<usize>, fields: &mut Fields<A>) -> Result<(), AllocError>
+fn append_size(size: Option<usize>, fields: &mut Fields) -> Result<(), AllocError>
     ensures ok { OnOk result (fields.new ≡ with_fields fields.old (size_fields size)) }
-    ensures refused { OnErr result (Refused A) }
+    ensures refused { OnErr result (Refused Global) }
 {
     match size {
         Some(size) => fields.push_size(FieldName::Size, size),
@@ -72,16 +66,16 @@ fn append_size<A: Allocator>(size: Option<usize>, fields: &mut Fields<A>) -> Res
 }
 
 // A dimension, under the name of its unit.
-fn append_dimension<A: Allocator>(
+fn append_dimension(
     dimension: ITermDimension,
     cells: FieldName,
     pixels: FieldName,
     percent: FieldName,
-    fields: &mut Fields<A>,
+    fields: &mut Fields,
 ) -> Result<(), AllocError>
     ensures ok { OnOk result (fields.new
         ≡ with_fields fields.old (dimension_fields cells pixels percent dimension)) }
-    ensures refused { OnErr result (Refused A) }
+    ensures refused { OnErr result (Refused Global) }
 {
     match dimension {
         ITermDimension::Automatic => Ok(()),

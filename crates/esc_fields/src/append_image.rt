@@ -15,16 +15,13 @@ use esc_kitty::{
     KittyImage, KittyImageFrame, KittyImageFrameCompose, KittyImagePlacement, KittyImageTransmit,
     KittyImageVerbosity,
 };
-use std::alloc::{AllocError, Allocator};
+use std::alloc::{AllocError, Global};
 
 // Appends the fields of an image.
 #[tactic(auto, using(crate::proofs::Images::more_numbers))]
-pub(crate) fn append_image<A: Allocator>(
-    image: &KittyImage<A>,
-    fields: &mut Fields<A>,
-) -> Result<(), AllocError>
+pub(crate) fn append_image(image: &KittyImage, fields: &mut Fields) -> Result<(), AllocError>
     ensures ok { OnOk result (fields.new ≡ with_fields fields.old (image_fields image.now)) }
-    ensures refused { OnErr result (Refused A) }
+    ensures refused { OnErr result (Refused Global) }
 {
     match image {
         KittyImage::TransmitData {
@@ -59,42 +56,39 @@ pub(crate) fn append_image<A: Allocator>(
 }
 
 // What is reported.
-fn append_verbosity<A: Allocator>(
-    verbosity: KittyImageVerbosity,
-    fields: &mut Fields<A>,
-) -> Result<(), AllocError>
+fn append_verbosity(verbosity: KittyImageVerbosity, fields: &mut Fields) -> Result<(), AllocError>
     ensures ok { OnOk result (fields.new
         ≡ with_fields fields.old (number_fields (verbosity_numbers verbosity))) }
-    ensures refused { OnErr result (Refused A) }
+    ensures refused { OnErr result (Refused Global) }
 {
     let numbers = [(FieldName::Verbosity, verbosity_number(verbosity))];
     append_each(&numbers, fields)
 }
 
 // An image that is kept.
-fn append_kept<A: Allocator>(
-    transmit: &KittyImageTransmit<A>,
+fn append_kept(
+    transmit: &KittyImageTransmit,
     verbosity: KittyImageVerbosity,
-    fields: &mut Fields<A>,
+    fields: &mut Fields,
 ) -> Result<(), AllocError>
     ensures ok { OnOk result (fields.new
         ≡ with_fields fields.old (image_fields (image.TransmitData transmit.now verbosity))) }
-    ensures refused { OnErr result (Refused A) }
+    ensures refused { OnErr result (Refused Global) }
 {
     append_transmit(transmit, fields)?;
     append_verbosity(verbosity, fields)
 }
 
 // An image that is kept and shown.
-fn append_shown<A: Allocator>(
-    transmit: &KittyImageTransmit<A>,
+fn append_shown(
+    transmit: &KittyImageTransmit,
     placement: &KittyImagePlacement,
     verbosity: KittyImageVerbosity,
-    fields: &mut Fields<A>,
+    fields: &mut Fields,
 ) -> Result<(), AllocError>
     ensures ok { OnOk result (fields.new ≡ with_fields fields.old (image_fields
         (image.TransmitDataAndDisplay transmit.now placement.now verbosity))) }
-    ensures refused { OnErr result (Refused A) }
+    ensures refused { OnErr result (Refused Global) }
 {
     append_transmit(transmit, fields)?;
     append_placement(placement, fields)?;
@@ -102,16 +96,16 @@ fn append_shown<A: Allocator>(
 }
 
 // A kept image that is shown.
-fn append_display<A: Allocator>(
+fn append_display(
     image_id: Option<u32>,
     image_number: Option<u32>,
     placement: &KittyImagePlacement,
     verbosity: KittyImageVerbosity,
-    fields: &mut Fields<A>,
+    fields: &mut Fields,
 ) -> Result<(), AllocError>
-    ensures ok { OnOk result (fields.new ≡ with_fields fields.old (image_fields {A = A}
+    ensures ok { OnOk result (fields.new ≡ with_fields fields.old (image_fields {A = Global}
         (image.Display image_id image_number placement.now verbosity))) }
-    ensures refused { OnErr result (Refused A) }
+    ensures refused { OnErr result (Refused Global) }
 {
     append_ids(image_id, image_number, fields)?;
     append_placement(placement, fields)?;
@@ -119,14 +113,14 @@ fn append_display<A: Allocator>(
 }
 
 // The id and the number of an image, where they are given.
-fn append_ids<A: Allocator>(
+fn append_ids(
     image_id: Option<u32>,
     image_number: Option<u32>,
-    fields: &mut Fields<A>,
+    fields: &mut Fields,
 ) -> Result<(), AllocError>
     ensures ok { OnOk result (fields.new
         ≡ with_fields fields.old (number_fields (id_numbers image_id image_number))) }
-    ensures refused { OnErr result (Refused A) }
+    ensures refused { OnErr result (Refused Global) }
 {
     let ids = [
         (FieldName::ImageId, image_id),
@@ -136,15 +130,15 @@ fn append_ids<A: Allocator>(
 }
 
 // A frame that is kept.
-fn append_sent<A: Allocator>(
-    transmit: &KittyImageTransmit<A>,
+fn append_sent(
+    transmit: &KittyImageTransmit,
     frame: &KittyImageFrame,
     verbosity: KittyImageVerbosity,
-    fields: &mut Fields<A>,
+    fields: &mut Fields,
 ) -> Result<(), AllocError>
     ensures ok { OnOk result (fields.new ≡ with_fields fields.old (image_fields
         (image.TransmitFrame transmit.now frame.now verbosity))) }
-    ensures refused { OnErr result (Refused A) }
+    ensures refused { OnErr result (Refused Global) }
 {
     append_transmit(transmit, fields)?;
     append_frame(frame, fields)?;
@@ -152,14 +146,14 @@ fn append_sent<A: Allocator>(
 }
 
 // Frames that are put over others.
-fn append_composed<A: Allocator>(
+fn append_composed(
     frame: &KittyImageFrameCompose,
     verbosity: KittyImageVerbosity,
-    fields: &mut Fields<A>,
+    fields: &mut Fields,
 ) -> Result<(), AllocError>
     ensures ok { OnOk result (fields.new ≡ with_fields fields.old
-        (image_fields {A = A} (image.ComposeFrame frame.now verbosity))) }
-    ensures refused { OnErr result (Refused A) }
+        (image_fields {A = Global} (image.ComposeFrame frame.now verbosity))) }
+    ensures refused { OnErr result (Refused Global) }
 {
     append_compose(frame, fields)?;
     append_verbosity(verbosity, fields)

@@ -10,13 +10,13 @@ use crate::fielded::{Fielded, append_each};
 use crate::fields::Fields;
 use esc_osc_values::{ChangeColorPair, ColorOrQuery, Progress};
 use esc_values::Items;
-use std::alloc::{AllocError, Allocator};
+use std::alloc::{AllocError, Global};
 
 // A colour, or the question for one.
-impl<A: Allocator> Fielded<A> for ColorOrQuery {
+impl Fielded for ColorOrQuery {
     ghost parts = { color_fields };
 
-    fn append_to(&self, fields: &mut Fields<A>) -> Result<(), AllocError> {
+    fn append_to(&self, fields: &mut Fields) -> Result<(), AllocError> {
         match self {
             ColorOrQuery::Color(color) => {
                 let numbers = [
@@ -32,40 +32,37 @@ impl<A: Allocator> Fielded<A> for ColorOrQuery {
 }
 
 // A place of the palette, and its colour.
-impl<A: Allocator> Fielded<A> for ChangeColorPair {
+impl Fielded for ChangeColorPair {
     ghost parts = { pair_fields };
 
-    fn append_to(&self, fields: &mut Fields<A>) -> Result<(), AllocError> {
+    fn append_to(&self, fields: &mut Fields) -> Result<(), AllocError> {
         fields.push_number(FieldName::PaletteIndex, i64::from(self.palette_index))?;
         self.color.append_to(fields)
     }
 }
 
 // A place of the palette.
-impl<A: Allocator> Fielded<A> for u8 {
+impl Fielded for u8 {
     ghost parts = { index_fields };
 
-    fn append_to(&self, fields: &mut Fields<A>) -> Result<(), AllocError> {
+    fn append_to(&self, fields: &mut Fields) -> Result<(), AllocError> {
         fields.push_number(FieldName::PaletteIndex, i64::from(*self))
     }
 }
 
 // A part of any bytes.
-impl<A: Allocator> Fielded<A> for Items<u8, A> {
+impl Fielded for Items<u8> {
     ghost parts = { part_fields };
 
-    fn append_to(&self, fields: &mut Fields<A>) -> Result<(), AllocError> {
+    fn append_to(&self, fields: &mut Fields) -> Result<(), AllocError> {
         fields.push_text(FieldName::Part, self.as_slice())
     }
 }
 
 // The progress of a task.
-pub(crate) fn append_progress<A: Allocator>(
-    progress: &Progress,
-    fields: &mut Fields<A>,
-) -> Result<(), AllocError>
+pub(crate) fn append_progress(progress: &Progress, fields: &mut Fields) -> Result<(), AllocError>
     ensures ok { OnOk result (fields.new ≡ with_fields fields.old (progress_fields progress.now)) }
-    ensures refused { OnErr result (Refused A) }
+    ensures refused { OnErr result (Refused Global) }
 {
     let (state, percent) = match progress {
         Progress::None => (0, None),

@@ -9,15 +9,12 @@ use crate::field_name::FieldName;
 use crate::fields::Fields;
 use esc_links::Hyperlink;
 use esc_links::params::Iter;
-use std::alloc::{AllocError, Allocator};
+use std::alloc::{AllocError, Global};
 
 // The fields of a link, or of none.
-pub(crate) fn append_link<A: Allocator>(
-    link: &Option<Hyperlink<A>>,
-    fields: &mut Fields<A>,
-) -> Result<(), AllocError>
+pub(crate) fn append_link(link: &Option<Hyperlink>, fields: &mut Fields) -> Result<(), AllocError>
     ensures ok { OnOk result (fields.new ≡ with_fields fields.old (link_fields link.now)) }
-    ensures refused { OnErr result (Refused A) }
+    ensures refused { OnErr result (Refused Global) }
 {
     let Some(link) = link else {
         return Ok(());
@@ -28,13 +25,10 @@ pub(crate) fn append_link<A: Allocator>(
 }
 
 // The keys of a link with their values.
-fn append_parameters<A: Allocator>(
-    mut pairs: Iter<'_, A>,
-    fields: &mut Fields<A>,
-) -> Result<(), AllocError>
+fn append_parameters(mut pairs: Iter<'_>, fields: &mut Fields) -> Result<(), AllocError>
     ensures ok { OnOk result
         (fields.new ≡ with_fields fields.old (flat_map parameter_fields pairs.entry)) }
-    ensures refused { OnErr result (Refused A) }
+    ensures refused { OnErr result (Refused Global) }
 {
     while let Some((key, value)) = pairs.next() {
         fields.push_text(FieldName::Key, key.as_bytes())?;

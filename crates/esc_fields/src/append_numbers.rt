@@ -1,36 +1,25 @@
 //! The fields of numbers by name, and of the parts of kitty's images. An error is that memory was
 //! refused.
-ghost use Rattle.std.specs.Prelude.{◌≡◌, ◌∷◌, OnOk, OnErr};
+ghost use Rattle.std.specs.Prelude.{◌≡◌, [], ◌∷◌, OnOk, OnErr};
 ghost use Rattle.esc_fields.specs.Fields.{with_fields};
-ghost use Rattle.esc_fields.specs.Images.{compose_numbers, content_field, counted, frame_numbers, given, number_fields, optional_field, placement_numbers, transmit_numbers};
+ghost use Rattle.esc_fields.specs.Images.{compose_numbers, content_field, counted, frame_numbers, number_fields, optional_field, placement_numbers, placement_sizes, transmit_numbers};
+ghost use Rattle.esc_fields.specs.declared.field_name.FieldName.TheVariants as name;
 ghost use Rattle.memory.specs.Refusals.{Refused};
 
 use crate::field_name::FieldName;
 use crate::fielded::{Fielded, append_each};
 use crate::fields::Fields;
 use crate::image_numbers::{
-    bytes, composition, compression, counted, data_offset, data_size, flagged, format, medium,
+    bytes, composition, compression, data_offset, data_size, flagged, format, medium,
 };
 use esc_kitty::{KittyImageFrame, KittyImageFrameCompose, KittyImagePlacement, KittyImageTransmit};
-use std::alloc::{AllocError, Allocator};
+use std::alloc::{AllocError, Global};
 
-// A number by name, where it is given.
-impl<A: Allocator> Fielded<A> for (FieldName, Option<i64>) {
-    ghost parts = { given };
-
-    fn append_to(&self, fields: &mut Fields<A>) -> Result<(), AllocError> {
-        match self.1 {
-            Some(number) => fields.push_number(self.0, number),
-            None => Ok(()),
-        }
-    }
-}
-
-// One from 0 up.
-impl<A: Allocator> Fielded<A> for (FieldName, Option<u32>) {
+// A number from 0 up by name, where it is given.
+impl Fielded for (FieldName, Option<u32>) {
     ghost parts = { λ s. optional_field s.0 (counted s.1) };
 
-    fn append_to(&self, fields: &mut Fields<A>) -> Result<(), AllocError> {
+    fn append_to(&self, fields: &mut Fields) -> Result<(), AllocError> {
         match self.1 {
             Some(number) => fields.push_number(self.0, i64::from(number)),
             None => Ok(()),
@@ -39,13 +28,13 @@ impl<A: Allocator> Fielded<A> for (FieldName, Option<u32>) {
 }
 
 // An image on its way to the terminal.
-pub(crate) fn append_transmit<A: Allocator>(
-    transmit: &KittyImageTransmit<A>,
-    fields: &mut Fields<A>,
+pub(crate) fn append_transmit(
+    transmit: &KittyImageTransmit,
+    fields: &mut Fields,
 ) -> Result<(), AllocError>
     ensures ok { OnOk result (fields.new ≡ with_fields fields.old
         (content_field transmit.now ∷ number_fields (transmit_numbers transmit.now))) }
-    ensures refused { OnErr result (Refused A) }
+    ensures refused { OnErr result (Refused Global) }
 {
     let content = &transmit.content;
     fields.push_text(FieldName::Content, bytes(content))?;
@@ -68,49 +57,60 @@ pub(crate) fn append_transmit<A: Allocator>(
 }
 
 // How an image is shown.
-pub(crate) fn append_placement<A: Allocator>(
+pub(crate) fn append_placement(
     placement: &KittyImagePlacement,
-    fields: &mut Fields<A>,
+    fields: &mut Fields,
 ) -> Result<(), AllocError>
     ensures ok { OnOk result (fields.new
         ≡ with_fields fields.old (number_fields (placement_numbers placement.now))) }
-    ensures refused { OnErr result (Refused A) }
+    ensures refused { OnErr result (Refused Global) }
 {
-    let z_index = match placement.z_index {
-        Some(z) => Some(i64::from(z)),
-        None => None,
-    };
-    let numbers = [
-        (FieldName::X, counted(placement.x)),
-        (FieldName::Y, counted(placement.y)),
-        (FieldName::Width, counted(placement.w)),
-        (FieldName::Height, counted(placement.h)),
-        (FieldName::XOffset, counted(placement.x_offset)),
-        (FieldName::YOffset, counted(placement.y_offset)),
-        (FieldName::Columns, counted(placement.columns)),
-        (FieldName::Rows, counted(placement.rows)),
-        (FieldName::PlacementId, counted(placement.placement_id)),
+    append_sizes(placement, fields)?;
+    append_order(placement.z_index, fields)?;
+    fields.push_flag(FieldName::UnicodePlaceholder, placement.unicode_placeholder)
+}
+
+// Where an image is shown and how large, and whether the cursor stays.
+fn append_sizes(placement: &KittyImagePlacement, fields: &mut Fields) -> Result<(), AllocError>
+    ensures ok { OnOk result (fields.new
+        ≡ with_fields fields.old (number_fields (placement_sizes placement.now))) }
+    ensures refused { OnErr result (Refused Global) }
+{
+    let sizes = [
+        (FieldName::X, placement.x),
+        (FieldName::Y, placement.y),
+        (FieldName::Width, placement.w),
+        (FieldName::Height, placement.h),
+        (FieldName::XOffset, placement.x_offset),
+        (FieldName::YOffset, placement.y_offset),
+        (FieldName::Columns, placement.columns),
+        (FieldName::Rows, placement.rows),
+        (FieldName::PlacementId, placement.placement_id),
         (
             FieldName::DoNotMoveCursor,
-            counted(flagged(placement.do_not_move_cursor)),
-        ),
-        (FieldName::ZIndex, z_index),
-        (
-            FieldName::UnicodePlaceholder,
-            counted(flagged(placement.unicode_placeholder)),
+            flagged(placement.do_not_move_cursor),
         ),
     ];
-    append_each(&numbers, fields)
+    append_each(&sizes, fields)
+}
+
+// The order of an image above and below others, where it is given.
+pub(crate) fn append_order(order: Option<i32>, fields: &mut Fields) -> Result<(), AllocError>
+    ensures ok { OnOk result (fields.new
+        ≡ with_fields fields.old (number_fields ((name.ZIndex, order) ∷ []))) }
+    ensures refused { OnErr result (Refused Global) }
+{
+    match order {
+        Some(order) => fields.push_number(FieldName::ZIndex, i64::from(order)),
+        None => Ok(()),
+    }
 }
 
 // A frame that is sent.
-pub(crate) fn append_frame<A: Allocator>(
-    frame: &KittyImageFrame,
-    fields: &mut Fields<A>,
-) -> Result<(), AllocError>
+pub(crate) fn append_frame(frame: &KittyImageFrame, fields: &mut Fields) -> Result<(), AllocError>
     ensures ok { OnOk result (fields.new
         ≡ with_fields fields.old (number_fields (frame_numbers frame.now))) }
-    ensures refused { OnErr result (Refused A) }
+    ensures refused { OnErr result (Refused Global) }
 {
     let numbers = [
         (FieldName::X, frame.x),
@@ -128,13 +128,13 @@ pub(crate) fn append_frame<A: Allocator>(
 }
 
 // Frames that are put over others.
-pub(crate) fn append_compose<A: Allocator>(
+pub(crate) fn append_compose(
     frame: &KittyImageFrameCompose,
-    fields: &mut Fields<A>,
+    fields: &mut Fields,
 ) -> Result<(), AllocError>
     ensures ok { OnOk result (fields.new
         ≡ with_fields fields.old (number_fields (compose_numbers frame.now))) }
-    ensures refused { OnErr result (Refused A) }
+    ensures refused { OnErr result (Refused Global) }
 {
     let numbers = [
         (FieldName::ImageId, frame.image_id),

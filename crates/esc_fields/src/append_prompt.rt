@@ -8,15 +8,12 @@ use crate::field_name::FieldName;
 use crate::fields::Fields;
 use esc_prompts::{FinalTermClick, FinalTermPromptKind, FinalTermSemanticPrompt as Prompt};
 use esc_values::Text;
-use std::alloc::{AllocError, Allocator};
+use std::alloc::{AllocError, Global};
 
 // The fields of a prompt.
-pub(crate) fn append_prompt<A: Allocator>(
-    prompt: &Prompt<A>,
-    fields: &mut Fields<A>,
-) -> Result<(), AllocError>
+pub(crate) fn append_prompt(prompt: &Prompt, fields: &mut Fields) -> Result<(), AllocError>
     ensures ok { OnOk result (fields.new ≡ with_fields fields.old (prompt_fields prompt.now)) }
-    ensures refused { OnErr result (Refused A) }
+    ensures refused { OnErr result (Refused Global) }
 {
     match prompt {
         Prompt::FreshLine
@@ -37,14 +34,14 @@ pub(crate) fn append_prompt<A: Allocator>(
 
 // The keys that are there.
 #[tactic(auto, using(crate::proofs::Tables::with_more))]
-fn append_keys<A: Allocator>(
-    aid: &Option<Text<A>>,
+fn append_keys(
+    aid: &Option<Text>,
     click: Option<FinalTermClick>,
-    fields: &mut Fields<A>,
+    fields: &mut Fields,
 ) -> Result<(), AllocError>
     ensures ok { OnOk result
         (fields.new ≡ with_fields fields.old (aid_fields aid.now ++ click_fields click)) }
-    ensures refused { OnErr result (Refused A) }
+    ensures refused { OnErr result (Refused Global) }
 {
     append_aid(aid, fields)?;
     match click {
@@ -54,9 +51,9 @@ fn append_keys<A: Allocator>(
 }
 
 // The name of the application, where it is given.
-fn append_aid<A: Allocator>(aid: &Option<Text<A>>, fields: &mut Fields<A>) -> Result<(), AllocError>
+fn append_aid(aid: &Option<Text>, fields: &mut Fields) -> Result<(), AllocError>
     ensures ok { OnOk result (fields.new ≡ with_fields fields.old (aid_fields aid.now)) }
-    ensures refused { OnErr result (Refused A) }
+    ensures refused { OnErr result (Refused Global) }
 {
     match aid {
         Some(aid) => fields.push_text(FieldName::Application, aid.as_bytes()),

@@ -10,15 +10,15 @@ use crate::field_name::FieldName;
 use crate::fields::Fields;
 use esc_iterm::{ITermProprietary, ITermUnicodeVersionOp};
 use esc_values::Text;
-use std::alloc::{AllocError, Allocator};
+use std::alloc::{AllocError, Global};
 
 // The fields of a command of iTerm2.
-pub(crate) fn append_proprietary<A: Allocator>(
-    command: &ITermProprietary<A>,
-    fields: &mut Fields<A>,
+pub(crate) fn append_proprietary(
+    command: &ITermProprietary,
+    fields: &mut Fields,
 ) -> Result<(), AllocError>
     ensures ok { OnOk result (fields.new ≡ with_fields fields.old (iterm_fields command.now)) }
-    ensures refused { OnErr result (Refused A) }
+    ensures refused { OnErr result (Refused Global) }
 {
     match command {
         ITermProprietary::SetMark
@@ -54,15 +54,15 @@ pub(crate) fn append_proprietary<A: Allocator>(
 }
 
 // The size of a cell.
-fn append_cell_size<A: Allocator>(
+fn append_cell_size(
     height: u32,
     width: u32,
     scale: Option<u32>,
-    fields: &mut Fields<A>,
+    fields: &mut Fields,
 ) -> Result<(), AllocError>
     ensures ok { OnOk result (fields.new ≡ with_fields fields.old
-        (iterm_fields {A = A} (iterm.ReportCellSize height width scale))) }
-    ensures refused { OnErr result (Refused A) }
+        (iterm_fields {A = Global} (iterm.ReportCellSize height width scale))) }
+    ensures refused { OnErr result (Refused Global) }
 {
     fields.push_number(FieldName::CellHeight, i64::from(height))?;
     fields.push_number(FieldName::CellWidth, i64::from(width))?;
@@ -73,12 +73,9 @@ fn append_cell_size<A: Allocator>(
 }
 
 // The version that is set, or the label under which one is kept or brought back.
-fn append_version<A: Allocator>(
-    version: &ITermUnicodeVersionOp<A>,
-    fields: &mut Fields<A>,
-) -> Result<(), AllocError>
+fn append_version(version: &ITermUnicodeVersionOp, fields: &mut Fields) -> Result<(), AllocError>
     ensures ok { OnOk result (fields.new ≡ with_fields fields.old (version_fields version.now)) }
-    ensures refused { OnErr result (Refused A) }
+    ensures refused { OnErr result (Refused Global) }
 {
     match version {
         ITermUnicodeVersionOp::Set(number) => {
@@ -91,13 +88,13 @@ fn append_version<A: Allocator>(
 }
 
 // A text of this name, where there is one.
-pub(crate) fn append_optional<A: Allocator>(
+pub(crate) fn append_optional(
     name: FieldName,
-    text: &Option<Text<A>>,
-    fields: &mut Fields<A>,
+    text: &Option<Text>,
+    fields: &mut Fields,
 ) -> Result<(), AllocError>
     ensures ok { OnOk result (fields.new ≡ with_fields fields.old (text_fields name text.now)) }
-    ensures refused { OnErr result (Refused A) }
+    ensures refused { OnErr result (Refused Global) }
 {
     match text {
         Some(text) => fields.push_text(name, text.as_bytes()),

@@ -5,7 +5,6 @@ ghost use Rattle.esc_fields.specs.Kinds.{iterm_kind, kind_number, kind_of, promp
 use esc_iterm::{ITermProprietary, ITermUnicodeVersionOp};
 use esc_osc::OperatingSystemCommand as Command;
 use esc_prompts::FinalTermSemanticPrompt as Prompt;
-use std::alloc::Allocator;
 
 /// Which command it is. The commands of iTerm2 and the prompts have a kind each, and so have the
 /// three things that are done to the version of Unicode. Each names the
@@ -108,7 +107,7 @@ pub enum CommandKind {
 
 impl CommandKind {
     /// The kind of this command.
-    pub fn of<A: Allocator>(command: &Command<A>) -> CommandKind
+    pub fn of(command: &Command) -> CommandKind
         ensures { result ≡ kind_of command.now }
     {
         match command {
@@ -144,7 +143,7 @@ impl CommandKind {
 }
 
 // The kind of a command of iTerm2.
-fn proprietary<A: Allocator>(command: &ITermProprietary<A>) -> CommandKind
+fn proprietary(command: &ITermProprietary) -> CommandKind
     ensures { result ≡ iterm_kind command.now }
 {
     match command {
@@ -168,7 +167,7 @@ fn proprietary<A: Allocator>(command: &ITermProprietary<A>) -> CommandKind
 }
 
 // The kind of what is done to the version of Unicode.
-fn versioned<A: Allocator>(version: &ITermUnicodeVersionOp<A>) -> CommandKind
+fn versioned(version: &ITermUnicodeVersionOp) -> CommandKind
     ensures { result ≡ version_kind version.now }
 {
     match version {
@@ -179,7 +178,7 @@ fn versioned<A: Allocator>(version: &ITermUnicodeVersionOp<A>) -> CommandKind
 }
 
 // The kind of a prompt.
-fn prompted<A: Allocator>(prompt: &Prompt<A>) -> CommandKind
+fn prompted(prompt: &Prompt) -> CommandKind
     ensures { result ≡ prompt_kind prompt.now }
 {
     match prompt {

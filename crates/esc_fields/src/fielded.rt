@@ -7,28 +7,25 @@ ghost use Rattle.memory.specs.Refusals.{Refused};
 use crate::field_name::FieldName;
 use crate::fields::Fields;
 use esc_values::Text;
-use std::alloc::{AllocError, Allocator};
+use std::alloc::{AllocError, Global};
 
 // An item that has fields.
-pub(crate) trait Fielded<A: Allocator> {
+pub(crate) trait Fielded {
     ghost use Rattle.std.specs.Prelude.{List};
     ghost use Rattle.esc_fields.specs.Fields.{Field};
 
     ghost parts: { Self → List Field };
 
     // Appends them.
-    fn append_to(&self, fields: &mut Fields<A>) -> Result<(), AllocError>
+    fn append_to(&self, fields: &mut Fields) -> Result<(), AllocError>
         ensures ok { OnOk result (fields.new ≡ with_fields fields.old (parts self.now)) }
-        ensures refused { OnErr result (Refused A) };
+        ensures refused { OnErr result (Refused Global) };
 }
 
 // Appends those of each item.
-pub(crate) fn append_each<A: Allocator, T: Fielded<A>>(
-    items: &[T],
-    fields: &mut Fields<A>,
-) -> Result<(), AllocError>
+pub(crate) fn append_each<T: Fielded>(items: &[T], fields: &mut Fields) -> Result<(), AllocError>
     ensures ok { OnOk result (fields.new ≡ with_fields fields.old (flat_map T.parts items.now)) }
-    ensures refused { OnErr result (Refused A) }
+    ensures refused { OnErr result (Refused Global) }
 {
     for item in items {
         item.append_to(fields)?;
@@ -37,14 +34,14 @@ pub(crate) fn append_each<A: Allocator, T: Fielded<A>>(
 }
 
 // Appends each text, under one name.
-pub(crate) fn append_texts<A: Allocator>(
+pub(crate) fn append_texts(
     name: FieldName,
-    texts: &[Text<A>],
-    fields: &mut Fields<A>,
+    texts: &[Text],
+    fields: &mut Fields,
 ) -> Result<(), AllocError>
     ensures ok { OnOk result (fields.new
         ≡ with_fields fields.old (flat_map (λ t. text_field name t ∷ []) texts.now)) }
-    ensures refused { OnErr result (Refused A) }
+    ensures refused { OnErr result (Refused Global) }
 {
     for text in texts {
         fields.push_text(name, text.as_bytes())?;

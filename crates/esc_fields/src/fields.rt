@@ -14,18 +14,18 @@ use crate::fielded::append_texts;
 use esc_kitty::KittyImage;
 use esc_osc::OperatingSystemCommand;
 use esc_values::Text;
-use std::alloc::{AllocError, Allocator, Global};
+use std::alloc::{AllocError, Global};
 use std::marker::Model;
 
 /// The fields of a command, an image or a query: a row for each, and their texts one after another.
 /// Contracts see the rows and that text.
 #[derive(Drop)]
-pub struct Fields<A: Allocator = Global> {
-    rows: Vec<FieldRow, A>,
-    text: Vec<u8, A>,
+pub struct Fields {
+    rows: Vec<FieldRow>,
+    text: Vec<u8>,
 }
 
-impl<A: Allocator> Model for Fields<A> {
+impl Model for Fields {
     ghost use Rattle.std.specs.Prelude.{ℕ, List};
     ghost use Rattle.esc_fields.specs.declared.field_row.FieldRow.{FieldRow};
 
@@ -34,11 +34,11 @@ impl<A: Allocator> Model for Fields<A> {
     ghost view = { λ f. (f.rows.items, f.text.items) };
 }
 
-impl<A: Allocator + Copy> Fields<A> {
+impl Fields {
     /// The fields of this command. The error is that memory was refused.
-    pub fn of(alloc: A, command: &OperatingSystemCommand<A>) -> Result<Fields<A>, AllocError>
+    pub fn of(alloc: Global, command: &OperatingSystemCommand) -> Result<Fields, AllocError>
         ensures ok { IfOk result (λ f. f ≡ table_of (fields_of command.now)) }
-        ensures refused { OnErr result (Refused A) }
+        ensures refused { OnErr result (Refused Global) }
     {
         let mut fields = Fields::new(alloc);
         append(command, &mut fields)?;
@@ -47,9 +47,9 @@ impl<A: Allocator + Copy> Fields<A> {
 
     /// The fields of this image of kitty's; none where it is none. The error is that memory was
     /// refused.
-    pub fn of_image(alloc: A, image: &Option<KittyImage<A>>) -> Result<Fields<A>, AllocError>
+    pub fn of_image(alloc: Global, image: &Option<KittyImage>) -> Result<Fields, AllocError>
         ensures ok { IfOk result (λ f. f ≡ table_of (fields_of_image image.now)) }
-        ensures refused { OnErr result (Refused A) }
+        ensures refused { OnErr result (Refused Global) }
     {
         let mut fields = Fields::new(alloc);
         if let Some(image) = image {
@@ -59,9 +59,9 @@ impl<A: Allocator + Copy> Fields<A> {
     }
 
     /// The fields of a termcap query for these names. The error is that memory was refused.
-    pub fn of_names(alloc: A, names: &[Text<A>]) -> Result<Fields<A>, AllocError>
+    pub fn of_names(alloc: Global, names: &[Text]) -> Result<Fields, AllocError>
         ensures ok { IfOk result (λ f. f ≡ table_of (query_fields names.now)) }
-        ensures refused { OnErr result (Refused A) }
+        ensures refused { OnErr result (Refused Global) }
     {
         let mut fields = Fields::new(alloc);
         append_texts(FieldName::Name, names, &mut fields)?;
@@ -69,7 +69,7 @@ impl<A: Allocator + Copy> Fields<A> {
     }
 
     // No fields.
-    fn new(alloc: A) -> Fields<A>
+    fn new(alloc: Global) -> Fields
         ensures { result ≡ ([], []) }
     {
         Fields {
@@ -79,7 +79,7 @@ impl<A: Allocator + Copy> Fields<A> {
     }
 }
 
-impl<A: Allocator> Fields<A> {
+impl Fields {
     /// A row for each field, in order.
     pub fn rows(&self) -> &[FieldRow]
         ensures { result.now ≡ self.now.0 }
@@ -97,7 +97,7 @@ impl<A: Allocator> Fields<A> {
     // Appends a number.
     pub(crate) fn push_number(&mut self, name: FieldName, number: i64) -> Result<(), AllocError>
         ensures ok { OnOk result (self.new ≡ with_field self.old (signed_field name number)) }
-        ensures refused { OnErr result (Refused A) }
+        ensures refused { OnErr result (Refused Global) }
     {
         self.push(FieldRow {
             name: name.number(),
@@ -111,7 +111,7 @@ impl<A: Allocator> Fields<A> {
     // Appends a flag.
     pub(crate) fn push_flag(&mut self, name: FieldName, flag: bool) -> Result<(), AllocError>
         ensures ok { OnOk result (self.new ≡ with_field self.old (flag_field name flag)) }
-        ensures refused { OnErr result (Refused A) }
+        ensures refused { OnErr result (Refused Global) }
     {
         self.push_number(name, if flag { 1 } else { 0 })
     }
@@ -119,7 +119,7 @@ impl<A: Allocator> Fields<A> {
     // Appends a size.
     pub(crate) fn push_size(&mut self, name: FieldName, size: usize) -> Result<(), AllocError>
         ensures ok { OnOk result (self.new ≡ with_field self.old (size_field name size)) }
-        ensures refused { OnErr result (Refused A) }
+        ensures refused { OnErr result (Refused Global) }
     {
         self.push(FieldRow {
             name: name.number(),
@@ -133,7 +133,7 @@ impl<A: Allocator> Fields<A> {
     // Appends a text.
     pub(crate) fn push_text(&mut self, name: FieldName, text: &[u8]) -> Result<(), AllocError>
         ensures ok { OnOk result (self.new ≡ with_field self.old (text_field name text.now)) }
-        ensures refused { OnErr result (Refused A) }
+        ensures refused { OnErr result (Refused Global) }
     {
         let offset = self.text.len();
         self.push(FieldRow {
@@ -149,7 +149,7 @@ impl<A: Allocator> Fields<A> {
     // Appends a row.
     fn push(&mut self, row: FieldRow) -> Result<(), AllocError>
         ensures ok { OnOk result (self.new ≡ (self.old.0 ++ row ∷ [], self.old.1)) }
-        ensures refused { OnErr result (Refused A) }
+        ensures refused { OnErr result (Refused Global) }
     {
         match memory::push(&mut self.rows, row) {
             Ok(()) => Ok(()),

@@ -15,21 +15,21 @@ use crate::read_back::are_those;
 use crate::read_image::image;
 use crate::said::said_by;
 use esc_kitty::KittyImage as Image;
-use std::alloc::{AllocError, Allocator};
+use std::alloc::{AllocError, Global};
 
 /// The kitty image of a kind, by its number, with these fields: rows, and their texts one after
 /// another, as [`Fields::of_image`] has them. None where no image has this kind and these fields.
 /// The error is that memory was refused.
-pub fn image_of<A: Allocator + Copy>(
-    alloc: A,
+pub fn image_of(
+    alloc: Global,
     kind: u32,
     rows: &[FieldRow],
     text: &[u8],
-) -> Result<Option<Image<A>>, AllocError>
+) -> Result<Option<Image>, AllocError>
     ensures has { IfOk result (λ o. IfSome o (λ i. HasImage kind (rows.now, text.now) (Some i))) }
-    ensures none { IfOk result (λ o. o ≡ None → (i : KittyImage A) → IsHeldImage i
+    ensures none { IfOk result (λ o. o ≡ None → (i : KittyImage Global) → IsHeldImage i
         → HasImage kind (rows.now, text.now) (Some i) → ⊥) }
-    ensures refused { OnErr result (Refused A) }
+    ensures refused { OnErr result (Refused Global) }
 {
     let image = image_said(alloc, kind, rows, text)?;
     let has = has_image(alloc, &image, kind, rows, text);
@@ -37,15 +37,15 @@ pub fn image_of<A: Allocator + Copy>(
 }
 
 // The image that they say.
-fn image_said<A: Allocator + Copy>(
-    alloc: A,
+fn image_said(
+    alloc: Global,
     kind: u32,
     rows: &[FieldRow],
     text: &[u8],
-) -> Result<Option<Image<A>>, AllocError>
+) -> Result<Option<Image>, AllocError>
     ensures ok { IfOk result (λ i.
         i ≡ image_in held (image_form_at kind) (said (rows.now, text.now))) }
-    ensures refused { OnErr result (Refused A) }
+    ensures refused { OnErr result (Refused Global) }
 {
     let fields = said_by(alloc, rows, text)?;
     image(alloc, image_form_at(kind), fields.as_slice())
@@ -67,15 +67,15 @@ fn kept_some<T: Drop>(
 
 /// Whether a kitty image, or none, has this kind, by its number, and these fields. The error is
 /// that memory was refused.
-pub fn has_image<A: Allocator + Copy>(
-    alloc: A,
-    image: &Option<Image<A>>,
+pub fn has_image(
+    alloc: Global,
+    image: &Option<Image>,
     kind: u32,
     rows: &[FieldRow],
     text: &[u8],
 ) -> Result<bool, AllocError>
     ensures has { IfOk result (λ b. IsTrue b ↔ HasImage kind (rows.now, text.now) image.now) }
-    ensures refused { OnErr result (Refused A) }
+    ensures refused { OnErr result (Refused Global) }
 {
     let fields = Fields::of_image(alloc, image)?;
     let same_kind = ImageKind::of(image).number() == kind;

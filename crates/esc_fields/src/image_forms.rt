@@ -2,27 +2,34 @@
 ghost use Rattle.std.specs.Prelude.{◌≡◌};
 ghost use Rattle.esc_fields.specs.FoundImages.{image_form_at};
 
-use self::ImageForm::Deleted;
+use self::ImageForm::{Deleted, Sent};
 
 // A kind, by how its image is read.
 #[derive(Clone, Copy)]
 pub(crate) enum ImageForm {
     // No image.
     Nothing,
-    // One that is kept.
-    Kept,
-    // One that is kept and shown.
-    Shown,
+    // One with a text.
+    Sent(Sending),
     // A kept one that is shown.
     Displayed,
-    // Whether one could be kept.
-    Asked,
-    // A frame that is kept.
-    Sent,
     // Frames that are put over others.
     Composed,
     // A deletion.
     Deleted(Deletion),
+}
+
+// Those with a text.
+#[derive(Clone, Copy)]
+pub(crate) enum Sending {
+    // An image that is kept.
+    Kept,
+    // One that is kept and shown.
+    Shown,
+    // Whether one could be kept.
+    Asked,
+    // A frame that is kept.
+    Frame,
 }
 
 // The deletions.
@@ -44,11 +51,11 @@ pub(crate) enum Deletion {
 // The kinds in the order of their numbers, which is that of `ImageKind`.
 const IMAGE_FORMS: [ImageForm; 18] = [
     ImageForm::Nothing,
-    ImageForm::Kept,
-    ImageForm::Shown,
+    Sent(Sending::Kept),
+    Sent(Sending::Shown),
     ImageForm::Displayed,
-    ImageForm::Asked,
-    ImageForm::Sent,
+    Sent(Sending::Asked),
+    Sent(Sending::Frame),
     ImageForm::Composed,
     Deleted(Deletion::All),
     Deleted(Deletion::ImageId),

@@ -3,7 +3,6 @@ ghost use Rattle.std.specs.Prelude.{◌≡◌};
 ghost use Rattle.esc_fields.specs.ImageKinds.{delete_kind, image_kind, image_number};
 
 use esc_kitty::{KittyImage, KittyImageDelete};
-use std::alloc::Allocator;
 
 /// Which command of kitty's graphics protocol it is; a deletion has a kind for each of what is
 /// deleted. Each names the [fields](crate::FieldName) that it has, in order: `?` says that one may
@@ -55,7 +54,7 @@ pub enum ImageKind {
 
 impl ImageKind {
     /// The kind of this image, or of none.
-    pub fn of<A: Allocator>(image: &Option<KittyImage<A>>) -> ImageKind
+    pub fn of(image: &Option<KittyImage>) -> ImageKind
         ensures { result ≡ image_kind image.now }
     {
         let Some(image) = image else {

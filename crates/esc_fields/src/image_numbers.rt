@@ -8,17 +8,6 @@ use esc_kitty::{
     KittyFrameCompositionMode, KittyImageCompression, KittyImageData, KittyImageFormat,
     KittyImageVerbosity,
 };
-use std::alloc::Allocator;
-
-// A number from 0 up, where there is one.
-pub(crate) fn counted(number: Option<u32>) -> Option<i64>
-    ensures { result ≡ counted number }
-{
-    match number {
-        Some(number) => Some(i64::from(number)),
-        None => None,
-    }
-}
 
 // A flag.
 pub(crate) fn flagged(flag: bool) -> Option<u32>
@@ -71,7 +60,7 @@ pub(crate) fn composition(mode: KittyFrameCompositionMode) -> Option<u32>
 }
 
 // Which of five it is that an image is made of.
-pub(crate) fn medium<A: Allocator>(content: &KittyImageData<A>) -> Option<u32>
+pub(crate) fn medium(content: &KittyImageData) -> Option<u32>
     ensures { result ≡ Some (medium_number content.now) }
 {
     match content {
@@ -84,7 +73,7 @@ pub(crate) fn medium<A: Allocator>(content: &KittyImageData<A>) -> Option<u32>
 }
 
 // How many bytes it has, where they are given.
-pub(crate) fn data_size<A: Allocator>(content: &KittyImageData<A>) -> Option<u32>
+pub(crate) fn data_size(content: &KittyImageData) -> Option<u32>
     ensures { result ≡ size_in content.now }
 {
     match content {
@@ -96,7 +85,7 @@ pub(crate) fn data_size<A: Allocator>(content: &KittyImageData<A>) -> Option<u32
 }
 
 // How many bytes come before them, where they are given.
-pub(crate) fn data_offset<A: Allocator>(content: &KittyImageData<A>) -> Option<u32>
+pub(crate) fn data_offset(content: &KittyImageData) -> Option<u32>
     ensures { result ≡ offset_in content.now }
 {
     match content {
@@ -108,7 +97,7 @@ pub(crate) fn data_offset<A: Allocator>(content: &KittyImageData<A>) -> Option<u
 }
 
 // Its text.
-pub(crate) fn bytes<A: Allocator>(content: &KittyImageData<A>) -> &[u8]
+pub(crate) fn bytes(content: &KittyImageData) -> &[u8]
     ensures { result.now ≡ bytes_of content.now }
 {
     match content {

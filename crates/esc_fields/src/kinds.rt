@@ -2,28 +2,39 @@
 ghost use Rattle.std.specs.Prelude.{◌≡◌};
 ghost use Rattle.esc_fields.specs.FoundCommands.{form_at};
 
-use self::Form::{ITerm, ITermMark, ITermText, Other, Prompt, Title};
+use self::Form::{Bare, ITerm, Other, Prompt, Text};
 
 // A kind, by how its command is read.
 #[derive(Clone, Copy)]
 pub(crate) enum Form {
     // None of those below.
     Other(OtherKind),
+    // From nothing.
+    Bare(BareKind),
     // From one text.
-    Title(TitleKind),
-    // A prompt.
+    Text(TextKind),
+    // Any other prompt.
     Prompt(PromptForm),
-    // A command of iTerm2 that has nothing.
-    ITermMark(ITermMarkKind),
-    // One that is read from one text.
-    ITermText(ITermTextKind),
     // Any other of iTerm2.
     ITerm(ITermKind),
 }
 
+// The commands that have nothing.
+#[derive(Clone, Copy)]
+pub(crate) enum BareKind {
+    PromptFreshLine,
+    PromptInputUntilNextMarker,
+    PromptInputUntilEndOfLine,
+    ITermSetMark,
+    ITermStealFocus,
+    ITermClearScrollback,
+    ITermEndCopy,
+    ITermRequestCellSize,
+}
+
 // The commands that have one text.
 #[derive(Clone, Copy)]
-pub(crate) enum TitleKind {
+pub(crate) enum TextKind {
     IconNameAndWindowTitle,
     WindowTitle,
     WindowTitleSun,
@@ -31,40 +42,22 @@ pub(crate) enum TitleKind {
     IconNameSun,
     Notification,
     WorkingDirectory,
+    ITermCurrentDir,
+    ITermSetProfile,
+    ITermCopyToClipboard,
+    ITermCopy,
+    ITermReportVariable,
+    ITermSetBadgeFormat,
 }
 
-// The prompts.
+// The other prompts.
 #[derive(Clone, Copy)]
 pub(crate) enum PromptForm {
-    FreshLine,
     FreshLineAndStart,
     EndOfCommandWithFreshLine,
     Start,
-    InputUntilNextMarker,
-    InputUntilEndOfLine,
     StartOfOutput,
     CommandStatus,
-}
-
-// The commands of iTerm2 that have nothing.
-#[derive(Clone, Copy)]
-pub(crate) enum ITermMarkKind {
-    SetMark,
-    StealFocus,
-    ClearScrollback,
-    EndCopy,
-    RequestCellSize,
-}
-
-// Those that have one text.
-#[derive(Clone, Copy)]
-pub(crate) enum ITermTextKind {
-    CurrentDir,
-    SetProfile,
-    CopyToClipboard,
-    Copy,
-    ReportVariable,
-    SetBadgeFormat,
 }
 
 // The others of iTerm2.
@@ -98,45 +91,45 @@ pub(crate) enum OtherKind {
 // The kinds in the order of their numbers, which is that of `CommandKind`.
 const FORMS: [Form; 44] = [
     Other(OtherKind::Unspecified),
-    Title(TitleKind::IconNameAndWindowTitle),
-    Title(TitleKind::WindowTitle),
-    Title(TitleKind::WindowTitleSun),
-    Title(TitleKind::IconName),
-    Title(TitleKind::IconNameSun),
+    Text(TextKind::IconNameAndWindowTitle),
+    Text(TextKind::WindowTitle),
+    Text(TextKind::WindowTitleSun),
+    Text(TextKind::IconName),
+    Text(TextKind::IconNameSun),
     Other(OtherKind::Hyperlink),
     Other(OtherKind::ClearSelection),
     Other(OtherKind::QuerySelection),
     Other(OtherKind::SetSelection),
-    Title(TitleKind::Notification),
+    Text(TextKind::Notification),
     Other(OtherKind::ColorNumber),
     Other(OtherKind::DynamicColors),
     Other(OtherKind::ResetDynamicColor),
-    Title(TitleKind::WorkingDirectory),
+    Text(TextKind::WorkingDirectory),
     Other(OtherKind::ResetColors),
     Other(OtherKind::Rxvt),
     Other(OtherKind::Progress),
-    Prompt(PromptForm::FreshLine),
+    Bare(BareKind::PromptFreshLine),
     Prompt(PromptForm::FreshLineAndStart),
     Prompt(PromptForm::EndOfCommandWithFreshLine),
     Prompt(PromptForm::Start),
-    Prompt(PromptForm::InputUntilNextMarker),
-    Prompt(PromptForm::InputUntilEndOfLine),
+    Bare(BareKind::PromptInputUntilNextMarker),
+    Bare(BareKind::PromptInputUntilEndOfLine),
     Prompt(PromptForm::StartOfOutput),
     Prompt(PromptForm::CommandStatus),
-    ITermMark(ITermMarkKind::SetMark),
-    ITermMark(ITermMarkKind::StealFocus),
-    ITermMark(ITermMarkKind::ClearScrollback),
-    ITermText(ITermTextKind::CurrentDir),
-    ITermText(ITermTextKind::SetProfile),
-    ITermText(ITermTextKind::CopyToClipboard),
-    ITermMark(ITermMarkKind::EndCopy),
+    Bare(BareKind::ITermSetMark),
+    Bare(BareKind::ITermStealFocus),
+    Bare(BareKind::ITermClearScrollback),
+    Text(TextKind::ITermCurrentDir),
+    Text(TextKind::ITermSetProfile),
+    Text(TextKind::ITermCopyToClipboard),
+    Bare(BareKind::ITermEndCopy),
     ITerm(ITermKind::HighlightCursorLine),
-    ITermMark(ITermMarkKind::RequestCellSize),
+    Bare(BareKind::ITermRequestCellSize),
     ITerm(ITermKind::ReportCellSize),
-    ITermText(ITermTextKind::Copy),
-    ITermText(ITermTextKind::ReportVariable),
+    Text(TextKind::ITermCopy),
+    Text(TextKind::ITermReportVariable),
     ITerm(ITermKind::SetUserVar),
-    ITermText(ITermTextKind::SetBadgeFormat),
+    Text(TextKind::ITermSetBadgeFormat),
     ITerm(ITermKind::File),
     ITerm(ITermKind::SetVersion),
     ITerm(ITermKind::PushVersion),

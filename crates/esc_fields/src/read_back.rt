@@ -14,21 +14,21 @@ use crate::kinds::form_at;
 use crate::read_command::command;
 use crate::said::said_by;
 use esc_osc::OperatingSystemCommand as Command;
-use std::alloc::{AllocError, Allocator};
+use std::alloc::{AllocError, Global};
 
 /// The command of a kind, by its number, with these fields: rows, and their texts one after
 /// another, as [`Fields::of`] has them. None where no command has this kind and these fields. The
 /// error is that memory was refused.
-pub fn command_of<A: Allocator + Copy>(
-    alloc: A,
+pub fn command_of(
+    alloc: Global,
     kind: u32,
     rows: &[FieldRow],
     text: &[u8],
-) -> Result<Option<Command<A>>, AllocError>
+) -> Result<Option<Command>, AllocError>
     ensures has { IfOk result (λ o. IfSome o (Has kind (rows.now, text.now))) }
-    ensures none { IfOk result (λ o. o ≡ None → (c : OperatingSystemCommand A) → IsHeld c
+    ensures none { IfOk result (λ o. o ≡ None → (c : OperatingSystemCommand Global) → IsHeld c
         → Has kind (rows.now, text.now) c → ⊥) }
-    ensures refused { OnErr result (Refused A) }
+    ensures refused { OnErr result (Refused Global) }
 {
     let command = command_said(alloc, kind, rows, text)?;
     let has = has_fields(alloc, &command, kind, rows, text);
@@ -36,14 +36,14 @@ pub fn command_of<A: Allocator + Copy>(
 }
 
 // The command that they say.
-fn command_said<A: Allocator + Copy>(
-    alloc: A,
+fn command_said(
+    alloc: Global,
     kind: u32,
     rows: &[FieldRow],
     text: &[u8],
-) -> Result<Command<A>, AllocError>
+) -> Result<Command, AllocError>
     ensures ok { IfOk result (λ c. c ≡ command_in held (form_at kind) (said (rows.now, text.now))) }
-    ensures refused { OnErr result (Refused A) }
+    ensures refused { OnErr result (Refused Global) }
 {
     let fields = said_by(alloc, rows, text)?;
     command(alloc, form_at(kind), fields.as_slice())
@@ -65,15 +65,15 @@ pub(crate) fn kept<T: Drop>(
 
 /// Whether a command has this kind, by its number, and these fields. The error is that memory was
 /// refused.
-pub fn has_fields<A: Allocator + Copy>(
-    alloc: A,
-    command: &Command<A>,
+pub fn has_fields(
+    alloc: Global,
+    command: &Command,
     kind: u32,
     rows: &[FieldRow],
     text: &[u8],
 ) -> Result<bool, AllocError>
     ensures has { IfOk result (λ b. IsTrue b ↔ Has kind (rows.now, text.now) command.now) }
-    ensures refused { OnErr result (Refused A) }
+    ensures refused { OnErr result (Refused Global) }
 {
     let fields = Fields::of(alloc, command)?;
     let same_kind = CommandKind::of(command).number() == kind;
@@ -81,7 +81,7 @@ pub fn has_fields<A: Allocator + Copy>(
 }
 
 /// Whether fields have these rows and texts.
-pub fn are_those<A: Allocator>(fields: &Fields<A>, rows: &[FieldRow], text: &[u8]) -> bool
+pub fn are_those(fields: &Fields, rows: &[FieldRow], text: &[u8]) -> bool
     ensures { IsTrue result ↔ (fields.now ≡ (rows.now, text.now)) }
 {
     are_rows(fields.rows(), rows) && fields.text() == text

@@ -9,7 +9,7 @@ use crate::field_name::FieldName;
 use crate::said::{Said, after, first};
 use esc_osc_values::{ChangeColorPair, Color16, ColorOrQuery, DynamicColorNumber, Progress};
 use esc_values::Items;
-use std::alloc::{AllocError, Allocator};
+use std::alloc::{AllocError, Global};
 
 // What is known of an item before its last row.
 #[derive(Clone, Copy)]
@@ -98,12 +98,12 @@ impl Colored for ColorOrQuery {
 }
 
 // Items, each with its colour.
-pub(crate) fn colored_items<A: Allocator, T: Colored + Drop>(
-    alloc: A,
+pub(crate) fn colored_items<T: Colored + Drop>(
+    alloc: Global,
     fields: &[Said<'_>],
-) -> Result<Items<T, A>, AllocError>
+) -> Result<Items<T>, AllocError>
     ensures ok { IfOk result (λ v. v ≡ items_after held T.colored nothing fields.now) }
-    ensures refused { OnErr result (Refused A) }
+    ensures refused { OnErr result (Refused Global) }
 {
     let mut items = Items::new(alloc);
     let mut before = NOTHING;

@@ -1,66 +1,85 @@
 //! The command that rows say. An error is that memory was refused.
 ghost use Rattle.std.specs.Prelude.{◌≡◌, IfOk, OnErr};
 ghost use Rattle.esc_fields.specs.Found.{channel_of, first, held};
-ghost use Rattle.esc_fields.specs.FoundCommands.{command_in, other_in, titled};
+ghost use Rattle.esc_fields.specs.FoundCommands.{bared, command_in, other_in, texted};
 ghost use Rattle.memory.specs.Refusals.{Refused};
 
-use crate::kinds::{Form, OtherKind, TitleKind};
+use crate::kinds::{BareKind, Form, OtherKind, TextKind};
 use crate::read_colors::{colored_items, dynamic, progress};
-use crate::read_iterm::{iterm, marked, texted};
+use crate::read_iterm::iterm;
 use crate::read_link::link;
 use crate::read_lists::items;
 use crate::read_prompt::prompt;
 use crate::said::{Said, after, first};
+use esc_iterm::ITermProprietary as ITerm;
 use esc_osc::OperatingSystemCommand as Command;
 use esc_osc_values::Selection;
+use esc_prompts::FinalTermSemanticPrompt as Prompt;
 use esc_values::Text;
-use std::alloc::{AllocError, Allocator};
+use std::alloc::{AllocError, Global};
 
 // The command of a kind.
-pub(crate) fn command<A: Allocator + Copy>(
-    alloc: A,
-    form: Form,
-    fields: &[Said<'_>],
-) -> Result<Command<A>, AllocError>
+pub(crate) fn command(alloc: Global, form: Form, fields: &[Said<'_>]) -> Result<Command, AllocError>
     ensures ok { IfOk result (λ c. c ≡ command_in held form fields.now) }
-    ensures refused { OnErr result (Refused A) }
+    ensures refused { OnErr result (Refused Global) }
 {
     match form {
-        Form::Title(kind) => Ok(titled(kind, first(fields).string(alloc)?)),
-        Form::Prompt(kind) => { Ok(Command::FinalTermSemanticPrompt(prompt(alloc, kind, fields)?)) }
-        Form::ITermMark(kind) => Ok(Command::ITermProprietary(marked(kind))),
-        Form::ITermText(kind) => {
+        Form::Bare(kind) => Ok(bare(kind)),
+        Form::Text(kind) => {
             let text = first(fields).string(alloc)?;
-            Ok(Command::ITermProprietary(texted(kind, text)))
+            Ok(texted(kind, text))
         }
+        Form::Prompt(kind) => { Ok(Command::FinalTermSemanticPrompt(prompt(alloc, kind, fields)?)) }
         Form::ITerm(kind) => Ok(Command::ITermProprietary(iterm(alloc, kind, fields)?)),
         Form::Other(kind) => other(alloc, kind, fields),
     }
 }
 
-// The command of a kind that has one text.
-fn titled<A: Allocator>(kind: TitleKind, text: Text<A>) -> Command<A>
-    ensures { result ≡ titled kind text }
+// The command of a kind that has nothing.
+fn bare(kind: BareKind) -> Command
+    ensures { result ≡ bared kind }
 {
     match kind {
-        TitleKind::IconNameAndWindowTitle => Command::SetIconNameAndWindowTitle(text),
-        TitleKind::WindowTitle => Command::SetWindowTitle(text),
-        TitleKind::WindowTitleSun => Command::SetWindowTitleSun(text),
-        TitleKind::IconName => Command::SetIconName(text),
-        TitleKind::IconNameSun => Command::SetIconNameSun(text),
-        TitleKind::Notification => Command::SystemNotification(text),
-        TitleKind::WorkingDirectory => Command::CurrentWorkingDirectory(text),
+        BareKind::PromptFreshLine => Command::FinalTermSemanticPrompt(Prompt::FreshLine),
+        BareKind::PromptInputUntilNextMarker => Command::FinalTermSemanticPrompt(
+            Prompt::MarkEndOfPromptAndStartOfInputUntilNextMarker,
+        ),
+        BareKind::PromptInputUntilEndOfLine => Command::FinalTermSemanticPrompt(
+            Prompt::MarkEndOfPromptAndStartOfInputUntilEndOfLine,
+        ),
+        BareKind::ITermSetMark => Command::ITermProprietary(ITerm::SetMark),
+        BareKind::ITermStealFocus => Command::ITermProprietary(ITerm::StealFocus),
+        BareKind::ITermClearScrollback => Command::ITermProprietary(ITerm::ClearScrollback),
+        BareKind::ITermEndCopy => Command::ITermProprietary(ITerm::EndCopy),
+        BareKind::ITermRequestCellSize => Command::ITermProprietary(ITerm::RequestCellSize),
+    }
+}
+
+// The command of a kind that has one text.
+fn texted(kind: TextKind, text: Text) -> Command
+    ensures { result ≡ texted kind text }
+{
+    match kind {
+        TextKind::IconNameAndWindowTitle => Command::SetIconNameAndWindowTitle(text),
+        TextKind::WindowTitle => Command::SetWindowTitle(text),
+        TextKind::WindowTitleSun => Command::SetWindowTitleSun(text),
+        TextKind::IconName => Command::SetIconName(text),
+        TextKind::IconNameSun => Command::SetIconNameSun(text),
+        TextKind::Notification => Command::SystemNotification(text),
+        TextKind::WorkingDirectory => Command::CurrentWorkingDirectory(text),
+        TextKind::ITermCurrentDir => Command::ITermProprietary(ITerm::CurrentDir(text)),
+        TextKind::ITermSetProfile => Command::ITermProprietary(ITerm::SetProfile(text)),
+        TextKind::ITermCopyToClipboard => Command::ITermProprietary(ITerm::CopyToClipboard(text)),
+        TextKind::ITermCopy => Command::ITermProprietary(ITerm::Copy(text)),
+        TextKind::ITermReportVariable => Command::ITermProprietary(ITerm::ReportVariable(text)),
+        TextKind::ITermSetBadgeFormat => Command::ITermProprietary(ITerm::SetBadgeFormat(text)),
     }
 }
 
 // The command of any other kind that is no prompt and none of iTerm2.
-fn other<A: Allocator + Copy>(
-    alloc: A,
-    kind: OtherKind,
-    fields: &[Said<'_>],
-) -> Result<Command<A>, AllocError>
+fn other(alloc: Global, kind: OtherKind, fields: &[Said<'_>]) -> Result<Command, AllocError>
     ensures ok { IfOk result (λ c. c ≡ other_in held kind fields.now) }
-    ensures refused { OnErr result (Refused A) }
+    ensures refused { OnErr result (Refused Global) }
 {
     match kind {
         OtherKind::Unspecified => Ok(Command::Unspecified(items(alloc, fields)?)),
@@ -85,18 +104,18 @@ fn selection(fields: &[Said<'_>]) -> Selection
 }
 
 // Which selections, and their text.
-fn selected<A: Allocator>(alloc: A, fields: &[Said<'_>]) -> Result<Command<A>, AllocError>
+fn selected(alloc: Global, fields: &[Said<'_>]) -> Result<Command, AllocError>
     ensures ok { IfOk result (λ c. c ≡ other_in held OtherKind.SetSelection fields.now) }
-    ensures refused { OnErr result (Refused A) }
+    ensures refused { OnErr result (Refused Global) }
 {
     let text = first(after(fields)).string(alloc)?;
     Ok(Command::SetSelection(selection(fields), text))
 }
 
 // A dynamic colour, and colours for it and those after it.
-fn dynamic_colors<A: Allocator>(alloc: A, fields: &[Said<'_>]) -> Result<Command<A>, AllocError>
+fn dynamic_colors(alloc: Global, fields: &[Said<'_>]) -> Result<Command, AllocError>
     ensures ok { IfOk result (λ c. c ≡ other_in held OtherKind.DynamicColors fields.now) }
-    ensures refused { OnErr result (Refused A) }
+    ensures refused { OnErr result (Refused Global) }
 {
     let colors = colored_items(alloc, after(fields))?;
     Ok(Command::ChangeDynamicColors(dynamic(&first(fields)), colors))

@@ -9,15 +9,12 @@ use crate::read_optional::{named, past, text};
 use crate::said::{Said, after, first};
 use esc_iterm::{ITermDimension, ITermFileData};
 use esc_values::Items;
-use std::alloc::{AllocError, Allocator};
+use std::alloc::{AllocError, Global};
 
 // A file.
-pub(crate) fn file<A: Allocator + Copy>(
-    alloc: A,
-    fields: &[Said<'_>],
-) -> Result<ITermFileData<A>, AllocError>
+pub(crate) fn file(alloc: Global, fields: &[Said<'_>]) -> Result<ITermFileData, AllocError>
     ensures ok { IfOk result (λ f. f ≡ file_in held fields.now) }
-    ensures refused { OnErr result (Refused A) }
+    ensures refused { OnErr result (Refused Global) }
 {
     let name = text(alloc, FieldName::Name, fields)?;
     let sized = past(FieldName::Name, fields);

@@ -1,11 +1,11 @@
 //! The kitty image that rows say. An error is that memory was refused.
 ghost use Rattle.std.specs.Prelude.{◌≡◌, IfOk, OnErr};
 ghost use Rattle.esc_fields.specs.Found.{after, first, held};
-ghost use Rattle.esc_fields.specs.FoundImages.{compose_in, content_of, deleted_in, frame_in, image_in, look, placement_in, transmit_in};
+ghost use Rattle.esc_fields.specs.FoundImages.{compose_in, content_of, deleted_in, frame_in, image_in, look, placement_in, sent_in, transmit_in};
 ghost use Rattle.memory.specs.Refusals.{Refused};
 
 use crate::field_name::FieldName;
-use crate::image_forms::{Deletion, ImageForm};
+use crate::image_forms::{Deletion, ImageForm, Sending};
 use crate::read_numbers::{
     composition, compression, count, flag, format, known, known_order, natural, order, verbosity,
 };
@@ -15,42 +15,28 @@ use esc_kitty::{
     KittyImagePlacement, KittyImageTransmit,
 };
 use esc_values::Items;
-use std::alloc::{AllocError, Allocator};
+use std::alloc::{AllocError, Global};
 
 // The image of a form, or none.
-pub(crate) fn image<A: Allocator>(
-    alloc: A,
+pub(crate) fn image(
+    alloc: Global,
     form: ImageForm,
     fields: &[Said<'_>],
-) -> Result<Option<KittyImage<A>>, AllocError>
+) -> Result<Option<KittyImage>, AllocError>
     ensures ok { IfOk result (λ i. i ≡ image_in held form fields.now) }
-    ensures refused { OnErr result (Refused A) }
+    ensures refused { OnErr result (Refused Global) }
 {
-    let rest = after(fields);
     match form {
         ImageForm::Nothing => Ok(None),
-        ImageForm::Kept => Ok(Some(KittyImage::TransmitData {
-            transmit: transmit(alloc, fields)?,
-            verbosity: verbosity(rest),
-        })),
-        ImageForm::Shown => Ok(Some(KittyImage::TransmitDataAndDisplay {
-            transmit: transmit(alloc, fields)?,
-            placement: placement(rest),
-            verbosity: verbosity(rest),
-        })),
+        ImageForm::Sent(how) => {
+            let transmit = transmit(alloc, fields)?;
+            Ok(Some(sent(how, transmit, after(fields))))
+        }
         ImageForm::Displayed => Ok(Some(KittyImage::Display {
             image_id: count(FieldName::ImageId, fields),
             image_number: count(FieldName::ImageNumber, fields),
             placement: placement(fields),
             verbosity: verbosity(fields),
-        })),
-        ImageForm::Asked => Ok(Some(KittyImage::Query {
-            transmit: transmit(alloc, fields)?,
-        })),
-        ImageForm::Sent => Ok(Some(KittyImage::TransmitFrame {
-            transmit: transmit(alloc, fields)?,
-            frame: frame(rest),
-            verbosity: verbosity(rest),
         })),
         ImageForm::Composed => Ok(Some(KittyImage::ComposeFrame {
             frame: compose(fields),
@@ -63,14 +49,34 @@ pub(crate) fn image<A: Allocator>(
     }
 }
 
+// An image that has a text, by what is sent.
+fn sent(how: Sending, transmit: KittyImageTransmit, fields: &[Said<'_>]) -> KittyImage
+    ensures { result ≡ sent_in held how transmit (look fields.now) }
+{
+    match how {
+        Sending::Kept => KittyImage::TransmitData {
+            transmit,
+            verbosity: verbosity(fields),
+        },
+        Sending::Shown => KittyImage::TransmitDataAndDisplay {
+            transmit,
+            placement: placement(fields),
+            verbosity: verbosity(fields),
+        },
+        Sending::Asked => KittyImage::Query { transmit },
+        Sending::Frame => KittyImage::TransmitFrame {
+            transmit,
+            frame: frame(fields),
+            verbosity: verbosity(fields),
+        },
+    }
+}
+
 // An image on its way to the terminal, whose text is the first row.
-fn transmit<A: Allocator>(
-    alloc: A,
-    fields: &[Said<'_>],
-) -> Result<KittyImageTransmit<A>, AllocError>
+fn transmit(alloc: Global, fields: &[Said<'_>]) -> Result<KittyImageTransmit, AllocError>
     ensures ok { IfOk result (λ t.
         t ≡ transmit_in held (first fields.now) (look (after fields.now))) }
-    ensures refused { OnErr result (Refused A) }
+    ensures refused { OnErr result (Refused Global) }
 {
     let rest = after(fields);
     let content = content(
@@ -93,16 +99,16 @@ fn transmit<A: Allocator>(
 }
 
 // What an image is made of: which of five it is, and its text.
-fn content<A: Allocator>(
-    alloc: A,
+fn content(
+    alloc: Global,
     medium: u64,
     field: &Said<'_>,
     data_size: Option<u32>,
     data_offset: Option<u32>,
-) -> Result<KittyImageData<A>, AllocError>
+) -> Result<KittyImageData, AllocError>
     ensures ok { IfOk result (λ c.
         c ≡ content_of held medium field.now.1 data_size data_offset) }
-    ensures refused { OnErr result (Refused A) }
+    ensures refused { OnErr result (Refused Global) }
 {
     if medium == 1 {
         return Ok(KittyImageData::DirectBin(Items::from_slice(alloc, field.bytes())?));
@@ -186,47 +192,37 @@ fn compose(fields: &[Said<'_>]) -> KittyImageFrameCompose
 fn deleted(what: Deletion, fields: &[Said<'_>]) -> KittyImageDelete
     ensures { result ≡ deleted_in held what (look fields.now) }
 {
+    let image_id = known(FieldName::ImageId, fields);
+    let image_number = known(FieldName::ImageNumber, fields);
+    let placement_id = count(FieldName::PlacementId, fields);
+    let x = known(FieldName::X, fields);
+    let y = known(FieldName::Y, fields);
+    let z = known_order(FieldName::ZIndex, fields);
+    let first = known(FieldName::FirstImageId, fields);
+    let last = known(FieldName::LastImageId, fields);
     let delete = flag(FieldName::DeletesData, fields);
     match what {
         Deletion::All => KittyImageDelete::All { delete },
         Deletion::ImageId => KittyImageDelete::ByImageId {
-            image_id: known(FieldName::ImageId, fields),
-            placement_id: count(FieldName::PlacementId, fields),
+            image_id,
+            placement_id,
             delete,
         },
         Deletion::ImageNumber => KittyImageDelete::ByImageNumber {
-            image_number: known(FieldName::ImageNumber, fields),
-            placement_id: count(FieldName::PlacementId, fields),
+            image_number,
+            placement_id,
             delete,
         },
         Deletion::AtCursor => KittyImageDelete::AtCursorPosition { delete },
         Deletion::Frames => KittyImageDelete::AnimationFrames { delete },
-        Deletion::At => KittyImageDelete::DeleteAt {
-            x: known(FieldName::X, fields),
-            y: known(FieldName::Y, fields),
-            delete,
-        },
-        Deletion::AtZ => KittyImageDelete::DeleteAtZ {
-            x: known(FieldName::X, fields),
-            y: known(FieldName::Y, fields),
-            z: known_order(FieldName::ZIndex, fields),
-            delete,
-        },
-        Deletion::Column => KittyImageDelete::DeleteColumn {
-            x: known(FieldName::X, fields),
-            delete,
-        },
-        Deletion::Row => KittyImageDelete::DeleteRow {
-            y: known(FieldName::Y, fields),
-            delete,
-        },
-        Deletion::Z => KittyImageDelete::DeleteZ {
-            z: known_order(FieldName::ZIndex, fields),
-            delete,
-        },
+        Deletion::At => KittyImageDelete::DeleteAt { x, y, delete },
+        Deletion::AtZ => KittyImageDelete::DeleteAtZ { x, y, z, delete },
+        Deletion::Column => KittyImageDelete::DeleteColumn { x, delete },
+        Deletion::Row => KittyImageDelete::DeleteRow { y, delete },
+        Deletion::Z => KittyImageDelete::DeleteZ { z, delete },
         Deletion::Range => KittyImageDelete::ByImageIdRange {
-            first: known(FieldName::FirstImageId, fields),
-            last: known(FieldName::LastImageId, fields),
+            first,
+            last,
             delete,
         },
     }

@@ -1,54 +1,27 @@
 //! Commands of iTerm2 that rows say. An error is that memory was refused.
 ghost use Rattle.std.specs.Prelude.{◌≡◌, IfOk, OnErr};
 ghost use Rattle.esc_fields.specs.Found.{first, held, second, string_of};
-ghost use Rattle.esc_fields.specs.FoundPrompts.{cell_size_in, iterm_in, iterm_marked, iterm_texted, scale_in};
+ghost use Rattle.esc_fields.specs.FoundPrompts.{cell_size_in, iterm_in, scale_in};
 ghost use Rattle.esc_iterm.specs.declared.proprietary.ITermProprietary.TheVariants as iterm;
 ghost use Rattle.memory.specs.Refusals.{Refused};
 
 use crate::field_name::FieldName;
-use crate::kinds::{ITermKind, ITermMarkKind, ITermTextKind};
+use crate::kinds::ITermKind;
 use crate::read_file::file;
 use crate::read_optional::{named, text};
 use crate::said::{Said, after, first};
 use esc_iterm::{ITermProprietary, ITermUnicodeVersionOp};
-use esc_values::{Boxed, Text};
-use std::alloc::{AllocError, Allocator};
-
-// The command of a kind that has nothing.
-pub(crate) fn marked<A: Allocator>(kind: ITermMarkKind) -> ITermProprietary<A>
-    ensures { result ≡ iterm_marked kind }
-{
-    match kind {
-        ITermMarkKind::SetMark => ITermProprietary::SetMark,
-        ITermMarkKind::StealFocus => ITermProprietary::StealFocus,
-        ITermMarkKind::ClearScrollback => ITermProprietary::ClearScrollback,
-        ITermMarkKind::EndCopy => ITermProprietary::EndCopy,
-        ITermMarkKind::RequestCellSize => ITermProprietary::RequestCellSize,
-    }
-}
-
-// The command of a kind that has one text.
-pub(crate) fn texted<A: Allocator>(kind: ITermTextKind, text: Text<A>) -> ITermProprietary<A>
-    ensures { result ≡ iterm_texted kind text }
-{
-    match kind {
-        ITermTextKind::CurrentDir => ITermProprietary::CurrentDir(text),
-        ITermTextKind::SetProfile => ITermProprietary::SetProfile(text),
-        ITermTextKind::CopyToClipboard => ITermProprietary::CopyToClipboard(text),
-        ITermTextKind::Copy => ITermProprietary::Copy(text),
-        ITermTextKind::ReportVariable => ITermProprietary::ReportVariable(text),
-        ITermTextKind::SetBadgeFormat => ITermProprietary::SetBadgeFormat(text),
-    }
-}
+use esc_values::Boxed;
+use std::alloc::{AllocError, Global};
 
 // The command of any other kind of iTerm2.
-pub(crate) fn iterm<A: Allocator + Copy>(
-    alloc: A,
+pub(crate) fn iterm(
+    alloc: Global,
     kind: ITermKind,
     fields: &[Said<'_>],
-) -> Result<ITermProprietary<A>, AllocError>
+) -> Result<ITermProprietary, AllocError>
     ensures ok { IfOk result (λ c. c ≡ iterm_in held kind fields.now) }
-    ensures refused { OnErr result (Refused A) }
+    ensures refused { OnErr result (Refused Global) }
 {
     match kind {
         ITermKind::HighlightCursorLine => {
@@ -73,7 +46,7 @@ pub(crate) fn iterm<A: Allocator + Copy>(
 }
 
 // The size of a cell.
-fn cell_size<A: Allocator>(fields: &[Said<'_>]) -> ITermProprietary<A>
+fn cell_size(fields: &[Said<'_>]) -> ITermProprietary
     ensures { result ≡ cell_size_in held fields.now }
 {
     ITermProprietary::ReportCellSize {
@@ -84,14 +57,11 @@ fn cell_size<A: Allocator>(fields: &[Said<'_>]) -> ITermProprietary<A>
 }
 
 // A variable.
-fn variable<A: Allocator + Copy>(
-    alloc: A,
-    fields: &[Said<'_>],
-) -> Result<ITermProprietary<A>, AllocError>
+fn variable(alloc: Global, fields: &[Said<'_>]) -> Result<ITermProprietary, AllocError>
     ensures ok { IfOk result (λ c. c
         ≡ iterm.SetUserVar (string_of held (first fields.now))
         (string_of held (second fields.now))) }
-    ensures refused { OnErr result (Refused A) }
+    ensures refused { OnErr result (Refused Global) }
 {
     let name = first(fields).string(alloc)?;
     let value = first(after(fields)).string(alloc)?;

@@ -7,15 +7,12 @@ ghost use Rattle.memory.specs.Refusals.{Refused};
 
 use crate::said::Said;
 use esc_links::{Hyperlink, Params};
-use std::alloc::{AllocError, Allocator};
+use std::alloc::{AllocError, Global};
 
 // A link, or none.
-pub(crate) fn link<A: Allocator + Copy>(
-    alloc: A,
-    fields: &[Said<'_>],
-) -> Result<Option<Hyperlink<A>>, AllocError>
+pub(crate) fn link(alloc: Global, fields: &[Said<'_>]) -> Result<Option<Hyperlink>, AllocError>
     ensures ok { IfOk result (λ h. h ≡ link_in held fields.now) }
-    ensures refused { OnErr result (Refused A) }
+    ensures refused { OnErr result (Refused Global) }
 {
     let [uri, implicit, pairs @ ..] = fields else {
         return Ok(None);
@@ -30,9 +27,9 @@ pub(crate) fn link<A: Allocator + Copy>(
 }
 
 // The keys of a link with their values.
-fn params<A: Allocator + Copy>(alloc: A, fields: &[Said<'_>]) -> Result<Params<A>, AllocError>
+fn params(alloc: Global, fields: &[Said<'_>]) -> Result<Params, AllocError>
     ensures ok { IfOk result (λ p. p ≡ put_all [] (parameters held fields.now)) }
-    ensures refused { OnErr result (Refused A) }
+    ensures refused { OnErr result (Refused Global) }
 {
     let mut params = Params::new(alloc);
     let mut rest = fields;
@@ -44,15 +41,15 @@ fn params<A: Allocator + Copy>(alloc: A, fields: &[Said<'_>]) -> Result<Params<A
 }
 
 // Puts a key with its value among the others.
-fn insert<A: Allocator + Copy>(
-    alloc: A,
+fn insert(
+    alloc: Global,
     key: &Said<'_>,
     value: &Said<'_>,
-    params: &mut Params<A>,
+    params: &mut Params,
 ) -> Result<(), AllocError>
     ensures ok { OnOk result
         (params.new ≡ put (string_of held key.now.1) (string_of held value.now.1) params.old) }
-    ensures refused { OnErr result (Refused A) }
+    ensures refused { OnErr result (Refused Global) }
 {
     let key = key.string(alloc)?;
     let value = value.string(alloc)?;

@@ -6,54 +6,54 @@ ghost use Rattle.memory.specs.Refusals.{Refused};
 
 use crate::said::Said;
 use esc_values::{Items, Text};
-use std::alloc::{AllocError, Allocator};
+use std::alloc::{AllocError, Global};
 
 // An item that a row says.
-pub(crate) trait Read<A: Allocator> {
+pub(crate) trait Read {
     ghost use Rattle.esc_fields.specs.Fields.{Value};
 
     ghost read: { Value → Self };
 
     // That of this row.
-    fn of(alloc: A, field: &Said<'_>) -> Result<Self, AllocError>
+    fn of(alloc: Global, field: &Said<'_>) -> Result<Self, AllocError>
         ensures ok { IfOk result (λ v. v ≡ read field.now.1) }
-        ensures refused { OnErr result (Refused A) };
+        ensures refused { OnErr result (Refused Global) };
 }
 
 // A part of any bytes.
-impl<A: Allocator> Read<A> for Items<u8, A> {
+impl Read for Items<u8> {
     ghost read = { text_of };
 
-    fn of(alloc: A, field: &Said<'_>) -> Result<Items<u8, A>, AllocError> {
+    fn of(alloc: Global, field: &Said<'_>) -> Result<Items<u8>, AllocError> {
         Items::from_slice(alloc, field.bytes())
     }
 }
 
 // A text.
-impl<A: Allocator> Read<A> for Text<A> {
+impl Read for Text {
     ghost read = { string_of held };
 
-    fn of(alloc: A, field: &Said<'_>) -> Result<Text<A>, AllocError> {
+    fn of(alloc: Global, field: &Said<'_>) -> Result<Text, AllocError> {
         field.string(alloc)
     }
 }
 
 // A place of the palette.
-impl<A: Allocator> Read<A> for u8 {
+impl Read for u8 {
     ghost read = { byte_of held };
 
-    fn of(_alloc: A, field: &Said<'_>) -> Result<u8, AllocError> {
+    fn of(_alloc: Global, field: &Said<'_>) -> Result<u8, AllocError> {
         Ok(field.byte())
     }
 }
 
 // The items that these rows say.
-pub(crate) fn items<A: Allocator + Copy, T: Read<A> + Drop>(
-    alloc: A,
+pub(crate) fn items<T: Read + Drop>(
+    alloc: Global,
     fields: &[Said<'_>],
-) -> Result<Items<T, A>, AllocError>
+) -> Result<Items<T>, AllocError>
     ensures ok { IfOk result (λ v. v ≡ map (λ s. T.read s.1) fields.now) }
-    ensures refused { OnErr result (Refused A) }
+    ensures refused { OnErr result (Refused Global) }
 {
     let mut items = Items::new(alloc);
     for field in fields {

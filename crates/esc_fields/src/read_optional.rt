@@ -8,7 +8,7 @@ ghost use Rattle.memory.specs.Refusals.{Refused};
 use crate::field_name::FieldName;
 use crate::said::Said;
 use esc_values::Text;
-use std::alloc::{AllocError, Allocator};
+use std::alloc::{AllocError, Global};
 
 // The first, where it has this name.
 pub(crate) fn named<'b, 'a>(name: FieldName, fields: &'b [Said<'a>]) -> Option<&'b Said<'a>>
@@ -31,13 +31,13 @@ pub(crate) fn past<'b, 'a>(name: FieldName, fields: &'b [Said<'a>]) -> &'b [Said
 }
 
 // The text of the first, where it has this name.
-pub(crate) fn text<A: Allocator>(
-    alloc: A,
+pub(crate) fn text(
+    alloc: Global,
     name: FieldName,
     fields: &[Said<'_>],
-) -> Result<Option<Text<A>>, AllocError>
+) -> Result<Option<Text>, AllocError>
     ensures ok { IfOk result (λ t. t ≡ text_in held name fields.now) }
-    ensures refused { OnErr result (Refused A) }
+    ensures refused { OnErr result (Refused Global) }
 {
     match named(name, fields) {
         Some(field) => Ok(Some(field.string(alloc)?)),

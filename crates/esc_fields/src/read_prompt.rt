@@ -1,7 +1,7 @@
 //! Prompts that rows say. An error is that memory was refused.
 ghost use Rattle.std.specs.Prelude.{◌≡◌, IfOk, OnErr};
 ghost use Rattle.esc_fields.specs.Found.{held};
-ghost use Rattle.esc_fields.specs.FoundPrompts.{click_in, click_of, prompt_in, prompt_kind_of};
+ghost use Rattle.esc_fields.specs.FoundPrompts.{click_in, click_of, keys_in, prompt_in, prompt_kind_of, prompted};
 ghost use Rattle.memory.specs.Refusals.{Refused};
 
 use crate::field_name::FieldName;
@@ -9,41 +9,51 @@ use crate::kinds::PromptForm;
 use crate::read_optional::{named, past, text};
 use crate::said::{Said, after, first, signed};
 use esc_prompts::{FinalTermClick, FinalTermPromptKind, FinalTermSemanticPrompt as Prompt};
-use std::alloc::{AllocError, Allocator};
+use esc_values::Text;
+use std::alloc::{AllocError, Global};
 
 // The prompt of a kind.
-pub(crate) fn prompt<A: Allocator>(
-    alloc: A,
+pub(crate) fn prompt(
+    alloc: Global,
     kind: PromptForm,
     fields: &[Said<'_>],
-) -> Result<Prompt<A>, AllocError>
+) -> Result<Prompt, AllocError>
     ensures ok { IfOk result (λ p. p ≡ prompt_in held kind fields.now) }
-    ensures refused { OnErr result (Refused A) }
+    ensures refused { OnErr result (Refused Global) }
+{
+    let aid = text(alloc, FieldName::Application, keys(kind, fields))?;
+    Ok(prompted(kind, aid, fields))
+}
+
+// Where its keys begin.
+fn keys<'b, 'a>(kind: PromptForm, fields: &'b [Said<'a>]) -> &'b [Said<'a>]
+    ensures { result.now ≡ keys_in kind fields.now }
 {
     match kind {
-        PromptForm::FreshLineAndStart => Ok(Prompt::FreshLineAndStartPrompt {
-            aid: text(alloc, FieldName::Application, fields)?,
+        PromptForm::CommandStatus => after(fields),
+        _ => fields,
+    }
+}
+
+// The prompt of a kind, with the name of the application where it has one.
+fn prompted(kind: PromptForm, aid: Option<Text>, fields: &[Said<'_>]) -> Prompt
+    ensures { result ≡ prompted held kind aid fields.now }
+{
+    match kind {
+        PromptForm::FreshLineAndStart => Prompt::FreshLineAndStartPrompt {
+            aid,
             cl: click(past(FieldName::Application, fields)),
-        }),
-        PromptForm::EndOfCommandWithFreshLine => Ok(Prompt::MarkEndOfCommandWithFreshLine {
-            aid: text(alloc, FieldName::Application, fields)?,
+        },
+        PromptForm::EndOfCommandWithFreshLine => Prompt::MarkEndOfCommandWithFreshLine {
+            aid,
             cl: click(past(FieldName::Application, fields)),
-        }),
-        PromptForm::Start => Ok(Prompt::StartPrompt(prompt_kind(first(fields).count()))),
-        PromptForm::InputUntilNextMarker => {
-            Ok(Prompt::MarkEndOfPromptAndStartOfInputUntilNextMarker)
-        }
-        PromptForm::InputUntilEndOfLine => {
-            Ok(Prompt::MarkEndOfPromptAndStartOfInputUntilEndOfLine)
-        }
-        PromptForm::StartOfOutput => Ok(Prompt::MarkEndOfInputAndStartOfOutput {
-            aid: text(alloc, FieldName::Application, fields)?,
-        }),
-        PromptForm::CommandStatus => Ok(Prompt::CommandStatus {
+        },
+        PromptForm::Start => Prompt::StartPrompt(prompt_kind(first(fields).count())),
+        PromptForm::StartOfOutput => Prompt::MarkEndOfInputAndStartOfOutput { aid },
+        PromptForm::CommandStatus => Prompt::CommandStatus {
             status: signed(first(fields).number()),
-            aid: text(alloc, FieldName::Application, after(fields))?,
-        }),
-        PromptForm::FreshLine => Ok(Prompt::FreshLine),
+            aid,
+        },
     }
 }
 

@@ -8,7 +8,7 @@ use crate::field_name::FieldName;
 use crate::field_row::{FieldRow, NUMBER, SIZE, TEXT};
 use esc_values::Text;
 use esc_values::scalar::text_in;
-use std::alloc::{AllocError, Allocator};
+use std::alloc::{AllocError, Global};
 use std::marker::Model;
 
 // What a row says: the number of a name; a number, a text or a size. Contracts see the name and the
@@ -121,9 +121,9 @@ impl<'a> Said<'a> {
 
     // Its text; the empty one where it is none, or is not UTF-8. The error is that memory was
     // refused.
-    pub(crate) fn string<A: Allocator>(&self, alloc: A) -> Result<Text<A>, AllocError>
+    pub(crate) fn string(&self, alloc: Global) -> Result<Text, AllocError>
         ensures ok { IfOk result (λ t. t ≡ string_of held self.now.1) }
-        ensures refused { OnErr result (Refused A) }
+        ensures refused { OnErr result (Refused Global) }
     {
         match text_in(self.bytes()) {
             Some(text) => Text::from_str(alloc, text),
@@ -163,13 +163,13 @@ fn part(text: &[u8], offset: usize, length: usize) -> &[u8]
 }
 
 // What these rows say.
-pub(crate) fn said_by<'a, A: Allocator>(
-    alloc: A,
+pub(crate) fn said_by<'a>(
+    alloc: Global,
     rows: &[FieldRow],
     text: &'a [u8],
-) -> Result<Vec<Said<'a>, A>, AllocError>
+) -> Result<Vec<Said<'a>>, AllocError>
     ensures ok { IfOk result (λ v. v.items ≡ said (rows.now, text.now)) }
-    ensures refused { OnErr result (Refused A) }
+    ensures refused { OnErr result (Refused Global) }
 {
     let mut all = Vec::new(alloc);
     for row in rows {

@@ -4,7 +4,7 @@ use Rattle.esc_fields.specs.Images.{content_field, frame_numbers, transmit_numbe
 use Rattle.esc_fields.proofs.append_image.append_sent.Goals as goal
 
 pub returns-clause-ok : goal.returns-clause-ok
-returns-clause-ok g c =
+returns-clause-ok c =
     let transmit = c.args.transmit.now in
     on_ok_weaker c.append_verbosity.result (two_more_after_content c.args.fields.now _ _ _
     (content_field transmit) (transmit_numbers transmit) (frame_numbers c.args.frame.now)

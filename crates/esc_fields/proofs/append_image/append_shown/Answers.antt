@@ -4,7 +4,7 @@ use Rattle.esc_fields.specs.Images.{content_field, placement_numbers, transmit_n
 use Rattle.esc_fields.proofs.append_image.append_shown.Goals as goal
 
 pub returns-clause-ok : goal.returns-clause-ok
-returns-clause-ok g c =
+returns-clause-ok c =
     let transmit = c.args.transmit.now in
     on_ok_weaker c.append_verbosity.result (two_more_after_content c.args.fields.now _ _ _
     (content_field transmit) (transmit_numbers transmit) (placement_numbers c.args.placement.now)

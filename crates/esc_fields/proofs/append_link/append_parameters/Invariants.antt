@@ -6,8 +6,8 @@ use Rattle.esc_fields.proofs.append_link.append_parameters.Given as goal
 
 -- with the fields of the pairs that are left it is what it is to be
 abbrev pub invariant-loop-key : goal.invariant-loop-key
-invariant-loop-key g l = with_fields l.initial.fields (flat_map parameter_fields l.initial.pairs)
+invariant-loop-key l = with_fields l.initial.fields (flat_map parameter_fields l.initial.pairs)
     ≡ with_fields l.fields (flat_map parameter_fields l.pairs)
 
 abbrev pub decreases-loop-key : goal.decreases-loop-key
-decreases-loop-key g l = length l.pairs
+decreases-loop-key l = length l.pairs

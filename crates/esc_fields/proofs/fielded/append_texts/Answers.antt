@@ -4,7 +4,7 @@ use Rattle.esc_fields.specs.Fields.{text_field, with_field}
 use Rattle.esc_fields.proofs.fielded.append_texts.Goals as goal
 
 pub loop-text-preserved : goal.loop-text-preserved
-loop-text-preserved g c =
+loop-text-preserved c =
     after_item (λ t. text_field c.args.name t ∷ []) c.loop-text.fields c.push_text.new.self _
     c.args.texts.now c.loop-text.text-index c.text-item.result c.loop-text-test.true c.text-item.is
     c.loop-text.invariant

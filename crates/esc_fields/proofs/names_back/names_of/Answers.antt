@@ -4,7 +4,7 @@ use Rattle.esc_fields.specs.FoundNames.{HasNames}
 use Rattle.esc_fields.proofs.names_back.names_of.Goals as goal
 
 pub returns-clause-none : goal.returns-clause-none
-returns-clause-none g c =
+returns-clause-none c =
     let told = subst (λ ns. IfOk c.has_names-has.result (λ b. IsTrue b
     ↔ HasNames (c.args.rows.now, c.args.text.now) ns)) c.as_slice.ensures
     c.has_names-has.ensures.has in
