@@ -48,7 +48,7 @@ fn is_list(alloc: Global, heap: &Refusing<Global>, row: &(&str, &str, &str)) -> 
     let refused = append_all(&mut list, letters);
     let is_refused = heap.has_refused();
     let wanted = if is_refused { shorter } else { whole };
-    refused == usize::from(is_refused) && is_shown(alloc, list, wanted)
+    (refused == usize::from(is_refused)) & is_shown(alloc, list, wanted)
 }
 
 // Appends one after another, and returns how many came back.

@@ -1,8 +1,9 @@
 //! Which actions and lists are writable.
+use crate::reading::Reading;
 use escape_stream::csi::Unspecified;
 use escape_stream::{
-    Action, Boxed, CSI, ControlCode, Esc, Items, OperatingSystemCommand, Parser, Sixel, SixelData,
-    Text, are_writable, is_writable,
+    Action, Boxed, CSI, ControlCode, Esc, Items, OperatingSystemCommand, Sixel, SixelData, Text,
+    are_writable, is_writable,
 };
 use refusing::Refusing;
 use std::alloc::{AllocError, Allocator, Global};
@@ -195,10 +196,15 @@ fn part<T>(items: &[T], from: usize, to: usize) -> Option<&[T]> {
 
 // Whether some of the actions of a stream are a writable list; none where there are too few.
 fn answer(alloc: Global, stream: &[u8], from: usize, to: usize) -> Option<bool> {
-    match &Parser::new(alloc).parse_as_vec(stream) {
-        Ok(actions) => are_writable(alloc, part(actions, from, to)?).ok(),
+    match Reading::Whole.read(alloc, stream) {
+        Ok(actions) => answer_of(alloc, part(&actions, from, to)),
         Err(_) => None,
     }
+}
+
+// Whether these are a writable list; none where there are none.
+fn answer_of(alloc: Global, actions: Option<&[Action]>) -> Option<bool> {
+    are_writable(alloc, actions?).ok()
 }
 
 /// Whether each list is writable or not, as its row says.

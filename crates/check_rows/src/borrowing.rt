@@ -2,6 +2,7 @@
 ghost use Rattle.std.specs.Prelude.{◌⊎◌, MatchResult, OnOk, ⊤};
 ghost use Rattle.escape_stream.specs.Borrowed.{HasClearText};
 
+use crate::reading::Reading;
 use crate::texts::shown;
 use escape_stream::{
     Action, ActionRef, BorrowingSink, ParseError, Parser, parse_borrowed, parse_borrowed_into,
@@ -27,7 +28,7 @@ fn is_shown(alloc: Global, bytes: &[u8], wanted: &str) -> bool {
             is_written &= write!(shown, "{space}{action:?}").is_ok();
         },
     );
-    ending.is_ok() && is_written && shown.as_str() == wanted
+    ending.is_ok() & is_written & (shown.as_str() == wanted)
 }
 
 // Appends what it is given to a list.
@@ -104,9 +105,9 @@ fn are_always_appended(alloc: Global, bytes: &[u8], meant: &str) -> bool {
 /// Whether a stream has borrowed actions of these texts, which are its actions where they are
 /// appended.
 pub fn are_borrowed(alloc: Global, bytes: &[u8], wanted: &str) -> bool {
-    match &shown(alloc, Parser::new(alloc).parse_as_vec(bytes)) {
+    match shown(alloc, Reading::Whole.read(alloc, bytes)) {
         Ok(meant) => {
-            is_shown(alloc, bytes, wanted) && are_always_appended(alloc, bytes, meant.as_str())
+            is_shown(alloc, bytes, wanted) & are_always_appended(alloc, bytes, meant.as_str())
         }
         Err(_) => false,
     }

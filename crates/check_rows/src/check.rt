@@ -49,17 +49,19 @@ fn check_parts(alloc: Global, row: &Row, report: &mut Report) {
     let parts = row.bytes(alloc, "parts", report);
     let actions = row.actions(alloc, report);
     let text = row.text(alloc, "text", report);
-    let got = command_of(alloc, &parts);
     match format!(in alloc; "{actions} {text}") {
-        Ok(wanted) => report.expect(row.name, "a command", wanted.as_str(), &got),
+        Ok(wanted) => {
+            let got = command_of(alloc, &parts);
+            report.expect(row.name, "a command", wanted.as_str(), got);
+        }
         Err(_) => report.note(row.name, "out of memory"),
     }
 }
 
 // The Debug text of a list of the command that these parts are, and its Display text.
 fn command_of(alloc: Global, text: &[u8]) -> Result<String, AllocError> {
-    match &parts_of(alloc, text) {
-        Ok(parts) => both(alloc, OperatingSystemCommand::parse(alloc, parts)),
+    match parts_of(alloc, text) {
+        Ok(parts) => both(alloc, OperatingSystemCommand::parse(alloc, &parts)),
         Err(_) => Err(AllocError),
     }
 }

@@ -16,7 +16,7 @@ fn is_read_by_bytes(alloc: Global, stream: &[u8], events: &str) -> bool {
     for byte in stream {
         is_right &= parser.parse_byte(*byte, &mut recorder).is_ok();
     }
-    is_right && parser.is_ground() && recorder.has(events)
+    is_right & parser.is_ground() & recorder.has(events)
 }
 
 // Whether these are the events of the stream that comes whole, where the first request for memory
@@ -26,7 +26,7 @@ fn is_read_whole(alloc: Global, stream: &[u8], events: &str, takes_memory: bool)
     heap.refuse_at(u64::from(!takes_memory));
     let mut recorder = Recorder::new(alloc);
     let is_read = VTParser::new(&heap).parse(stream, &mut recorder).is_ok();
-    is_read && recorder.has(events) && !heap.has_refused()
+    is_read & recorder.has(events) & !heap.has_refused()
 }
 
 // Whether these are the events of its segments, where the first request for memory is refused, then
@@ -79,7 +79,7 @@ fn has_failed(alloc: Global, heap: &Refusing<Global>) -> bool {
     let mut is_right = parser.parse(b"\x1b]2;t", &mut recorder) == Err(ParseError::Memory);
     is_right &= parser.parse_byte(b'a', &mut recorder) == Err(ParseError::Failed);
     is_right &= parser.parse(b"", &mut recorder) == Err(ParseError::Failed);
-    is_right && !parser.is_ground() && recorder.has("")
+    is_right & !parser.is_ground() & recorder.has("")
 }
 
 /// Whether a parser that was refused memory is not at ground.

@@ -20,18 +20,25 @@ const MOST_REQUESTS: u64 = 10_000;
 
 const POLICIES: [Policy; 4] = [Policy::Text, Policy::Color, Policy::Screen, Policy::All];
 
-// What can be written of characters that deceive, and the words before what is.
-const CHARACTERS: [(Unicode, &str); 3] = [
-    (Unicode::Join, "joined"),
-    (Unicode::Show, "shown"),
-    (Unicode::Drop, "dropped"),
-];
+// A filter of a stream.
+#[derive(Clone, Copy)]
+enum Way {
+    // That of a policy.
+    Policy(Policy),
+    // One that admits all actions, and writes characters that deceive in this way.
+    Characters(Unicode),
+    // One by lines that admits all actions, and writes carriage returns within a line in this way.
+    Lines(Returns),
+}
 
-// How carriage returns within a line may be written, and the word for each way.
-const RETURNS: [(Returns, &str); 3] = [
-    (Returns::Keep, "lines-kept"),
-    (Returns::Show, "lines-shown"),
-    (Returns::Drop, "lines-dropped"),
+// The ways of which a row need not say what is written, and the word before what is.
+const WAYS: [(Way, &str); 6] = [
+    (Way::Characters(Unicode::Join), "joined"),
+    (Way::Characters(Unicode::Show), "shown"),
+    (Way::Characters(Unicode::Drop), "dropped"),
+    (Way::Lines(Returns::Keep), "lines-kept"),
+    (Way::Lines(Returns::Show), "lines-shown"),
+    (Way::Lines(Returns::Drop), "lines-dropped"),
 ];
 
 /// What each policy lets through of a stream, read whole and byte by byte, that it is flushed, and
@@ -42,44 +49,26 @@ pub fn check_filtered(alloc: Global, row: &Row, report: &mut Report) {
     let stream = bytes.as_slice();
     for policy in POLICIES {
         let word = word_of(row, policy);
-        expect(alloc, row, word, filtered(alloc, stream, policy), report);
-        let by_bytes = byte_by_byte(stream, 0);
-        expect(alloc, row, word, filtered(alloc, by_bytes, policy), report);
+        check_way(alloc, row, (Way::Policy(policy), word), stream, report);
     }
-    for (unicode, word) in CHARACTERS {
+    for (way, word) in WAYS {
         if row.has(word) {
-            expect(alloc, row, word, written_as(alloc, stream, unicode), report);
-            let by_bytes = byte_by_byte(stream, 0);
-            expect(
-                alloc,
-                row,
-                word,
-                written_as(alloc, by_bytes, unicode),
-                report,
-            );
-        }
-    }
-    for (returns, word) in RETURNS {
-        if row.has(word) {
-            expect(alloc, row, word, lines_as(alloc, stream, returns), report);
-            let by_bytes = byte_by_byte(stream, 0);
-            expect(alloc, row, word, lines_as(alloc, by_bytes, returns), report);
+            check_way(alloc, row, (way, word), stream, report);
         }
     }
     let wanted = row.text(alloc, word_of(row, Policy::All), report);
     check_faults(alloc, row.name, stream, wanted.as_str(), report);
 }
 
-// Notes where what was written is not the text after this word.
-fn expect(
-    alloc: Global,
-    row: &Row,
-    word: &str,
-    got: Result<String, AllocError>,
-    report: &mut Report,
-) {
+// Notes where what is written in this way, of the stream whole or byte by byte, is not the text
+// after this word.
+fn check_way(alloc: Global, row: &Row, named: (Way, &str), stream: &[u8], report: &mut Report) {
+    let (way, word) = named;
     let wanted = row.text(alloc, word, report);
-    report.expect(row.name, word, wanted.as_str(), &got);
+    let whole = way.written(alloc, stream);
+    report.expect(row.name, word, wanted.as_str(), whole);
+    let by_bytes = way.written(alloc, byte_by_byte(stream, 0));
+    report.expect(row.name, word, wanted.as_str(), by_bytes);
 }
 
 // The word before what a policy lets through: that of the one before it, where it has no line.
@@ -94,21 +83,24 @@ fn word_of(row: &Row, policy: Policy) -> &'static str {
 
 // What is written where something fails, and what a policy is asked.
 fn check_faults(alloc: Global, name: &str, stream: &[u8], wanted: &str, report: &mut Report) {
-    if !are_read_faults(alloc, stream, wanted) {
-        report.note(name, "a read that fails changes what is written");
-    }
-    if !are_write_faults(alloc, stream, wanted) {
-        report.note(name, "a write that fails changes what is written");
-    }
-    if !is_flushed(alloc, stream, wanted) {
-        report.note(name, "what a read adds is not flushed");
-    }
-    if !is_asked_once(alloc, stream, LIMIT) {
-        report.note(name, "a policy is not asked of each action once");
-    }
-    if !are_requests_right(alloc, stream, wanted) {
-        report.note(name, "a refused request changes what is written");
-    }
+    let is_read = are_read_faults(alloc, stream, wanted);
+    report.note_unless(is_read, name, "a read that fails changes what is written");
+    let is_written = are_write_faults(alloc, stream, wanted);
+    report.note_unless(
+        is_written,
+        name,
+        "a write that fails changes what is written",
+    );
+    let is_flushed = is_flushed(alloc, stream, wanted);
+    report.note_unless(is_flushed, name, "what a read adds is not flushed");
+    let is_asked = is_asked_once(alloc, stream, LIMIT);
+    report.note_unless(is_asked, name, "a policy is not asked of each action once");
+    let is_refused = are_requests_right(alloc, stream, wanted);
+    report.note_unless(
+        is_refused,
+        name,
+        "a refused request changes what is written",
+    );
 }
 
 fn byte_by_byte(stream: &[u8], fails_at: usize) -> ByteReader<'_> {
@@ -119,28 +111,25 @@ fn byte_by_byte(stream: &[u8], fails_at: usize) -> ByteReader<'_> {
     }
 }
 
-// What is written of all actions where characters that deceive are not kept.
-fn written_as<R: Read + Drop>(
-    alloc: Global,
-    reader: R,
-    unicode: Unicode,
-) -> Result<String, AllocError> {
-    let filter = Filter::with_unicode(alloc, LIMIT, Policy::All, unicode);
-    written_by(alloc, reader, filter)
-}
-
-// Writes all actions by lines, and carriage returns within a line in this way.
-fn lines_as<R: Read + Drop>(
-    alloc: Global,
-    reader: R,
-    returns: Returns,
-) -> Result<String, AllocError> {
-    let guard = Guard {
-        characters: Unicode::Keep,
-        returns,
-    };
-    let filter = LineFilter::with_guard(alloc, LIMIT, Policy::All, guard);
-    written_by(alloc, reader, filter)
+impl Way {
+    // What is written of a stream.
+    fn written<R: Read + Drop>(self, alloc: Global, reader: R) -> Result<String, AllocError> {
+        match self {
+            Way::Policy(policy) => filtered(alloc, reader, policy),
+            Way::Characters(unicode) => {
+                let filter = Filter::with_unicode(alloc, LIMIT, Policy::All, unicode);
+                written_by(alloc, reader, filter)
+            }
+            Way::Lines(returns) => {
+                let guard = Guard {
+                    characters: Unicode::Keep,
+                    returns,
+                };
+                let filter = LineFilter::with_guard(alloc, LIMIT, Policy::All, guard);
+                written_by(alloc, reader, filter)
+            }
+        }
+    }
 }
 
 // What this filter writes.
@@ -192,7 +181,7 @@ fn are_read_faults(alloc: Global, stream: &[u8], wanted: &str) -> bool {
 fn is_read_fault(alloc: Global, stream: &[u8], at: usize, wanted: &str) -> bool {
     let reader = byte_by_byte(stream, at);
     let (ending, text) = run(alloc, reader, Vec::new(alloc), Policy::All);
-    ending == Err(FilterError::Read) && wanted.as_bytes().starts_with(&text)
+    (ending == Err(FilterError::Read)) & wanted.as_bytes().starts_with(&text)
 }
 
 // Whether a writer that fails, of one byte a call, is an error, and holds what it took before.
@@ -208,7 +197,7 @@ fn are_write_faults(alloc: Global, stream: &[u8], wanted: &str) -> bool {
 fn is_write_fault(alloc: Global, stream: &[u8], wanted: &[u8]) -> bool {
     let writer = FixedWriter::new(64, 1, wanted.len().saturating_add(1));
     let (ending, held) = run(alloc, stream, writer, Policy::All);
-    ending == Err(FilterError::Write) && held.holds(wanted)
+    (ending == Err(FilterError::Write)) & held.holds(wanted)
 }
 
 // Whether what a read adds is flushed before the next read, and what the end adds. A longer text is
@@ -216,7 +205,8 @@ fn is_write_fault(alloc: Global, stream: &[u8], wanted: &[u8]) -> bool {
 fn is_flushed(alloc: Global, stream: &[u8], wanted: &str) -> bool {
     let writer = FixedWriter::new(64, 64, 0);
     let (ending, held) = run(alloc, byte_by_byte(stream, 0), writer, Policy::All);
-    wanted.len() > 64 || ending.is_ok() && held.flushes == stream.len().saturating_add(1)
+    let is_each = held.flushes == stream.len().saturating_add(1);
+    (wanted.len() > 64) | (ending.is_ok() & is_each)
 }
 
 // Whether each request for memory that is refused is an error or changes nothing, and there are not
@@ -239,5 +229,5 @@ fn is_unchanged<A: Allocator + Copy>(alloc: Global, heap: A, stream: &[u8], want
     if ending.is_ok() {
         return text.as_slice() == wanted.as_bytes();
     }
-    ending == Err(FilterError::Memory) && wanted.as_bytes().starts_with(&text)
+    (ending == Err(FilterError::Memory)) & wanted.as_bytes().starts_with(&text)
 }

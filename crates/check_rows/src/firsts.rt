@@ -35,12 +35,12 @@ fn is_first<T: PartialEq + Drop>(
     none: Result<Vec<T>, ParseError>,
     some: Result<Vec<T>, ParseError>,
 ) -> bool {
-    let is_quiet = match &none {
+    let is_quiet = match none {
         Ok(none) => none.is_empty(),
         Err(_) => false,
     };
-    match &some {
-        Ok(some) => is_quiet && begins(some, &first),
+    match some {
+        Ok(some) => is_quiet & begins(&some, &first),
         Err(_) => false,
     }
 }

@@ -81,8 +81,8 @@ pub fn is_same<T: PartialEq + Drop, A: Allocator>(
     one: Result<Vec<T, A>, ParseError>,
     other: Result<Vec<T, A>, ParseError>,
 ) -> bool {
-    match &one {
-        Ok(one) => is_list(one, &other),
+    match one {
+        Ok(one) => is_list(&one, &other),
         Err(_) => false,
     }
 }

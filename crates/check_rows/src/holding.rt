@@ -23,9 +23,8 @@ pub fn check_holding(alloc: Global, row: &Row, report: &mut Report) {
     let holds = row.text(alloc, "holds", report);
     let input = row.bytes(alloc, "input", report);
     let gives = row.text(alloc, "gives", report);
-    if !does_hold(alloc, holds.as_str(), &input, gives.as_str()) {
-        report.note(row.name, "it does not hold");
-    }
+    let is_right = does_hold(alloc, holds.as_str(), &input, gives.as_str());
+    report.note_unless(is_right, row.name, "it does not hold");
 }
 
 // Whether what has this name holds, of an input and what it gives, where there is one.

@@ -66,22 +66,21 @@ fn check_text(alloc: Global, name: &str, stream: &str, report: &mut Report) {
     let bytes = stream.as_bytes();
     for (reading, how) in READINGS {
         let got = encoded(alloc, alloc, reading.read(alloc, bytes));
-        report.expect(name, how, stream, &got);
+        report.expect(name, how, stream, got);
     }
     let got = encoded(alloc, alloc, by_calls(alloc, bytes));
-    report.expect(name, "given to a closure", stream, &got);
-    report.expect(name, "normalised", stream, &normalised(alloc, alloc, bytes));
+    report.expect(name, "given to a closure", stream, got);
+    report.expect(name, "normalised", stream, normalised(alloc, alloc, bytes));
     for call in [Call::First, Call::Prefix] {
-        if !begins_rightly(alloc, call, bytes) {
-            report.note(name, "no first action");
-        }
+        let is_right = begins_rightly(alloc, call, bytes);
+        report.note_unless(is_right, name, "no first action");
     }
 }
 
 // Whether this call of a new parser returns an action where there are bytes.
 fn begins_rightly(alloc: Global, call: Call, bytes: &[u8]) -> bool {
     let mut parser = Parser::new(alloc);
-    match &call.shown(alloc, &mut parser, bytes) {
+    match call.shown(alloc, &mut parser, bytes) {
         Ok(first) => first.starts_with("Ok(Some(") != bytes.is_empty(),
         Err(_) => false,
     }

@@ -27,15 +27,13 @@ impl Limited<'_> {
             ..
         } = self.stream;
         let got = shown(alloc, self.by_bytes(alloc));
-        report.expect(name, "read byte by byte", actions, &got);
-        report.expect(name, "normalised", text, &self.normalised(alloc));
-        if !self.is_compared(alloc) {
-            report.note(name, "compared with its normal form otherwise");
-        }
+        report.expect(name, "read byte by byte", actions, got);
+        report.expect(name, "normalised", text, self.normalised(alloc));
+        let is_compared = self.is_compared(alloc);
+        report.note_unless(is_compared, name, "compared with its normal form otherwise");
         // without the limit, by a parser and by its segments
-        if !is_read_alike(alloc, bytes) {
-            report.note(name, "read otherwise by segments");
-        }
+        let is_alike = is_read_alike(alloc, bytes);
+        report.note_unless(is_alike, name, "read otherwise by segments");
     }
 
     // In two pieces, cut at each place.
@@ -44,7 +42,7 @@ impl Limited<'_> {
         for at in 0..=stream.bytes.len() {
             let (begins, ends) = stream.bytes.split_at(at);
             let got = shown(alloc, self.in_pieces(alloc, begins, ends));
-            report.expect(stream.name, "read in two pieces", stream.actions, &got);
+            report.expect(stream.name, "read in two pieces", stream.actions, got);
         }
     }
 

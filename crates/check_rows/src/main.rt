@@ -42,8 +42,8 @@ mod unescaped;
 mod watching;
 
 use crate::check::check_table;
+use crate::reading::Reading;
 use crate::report::Report;
-use escape_stream::Parser;
 use std::fmt::Debug;
 use std::io::Read;
 use std::process::ExitCode;
@@ -75,13 +75,16 @@ fn check_named(rt: &HostRuntime, table: &str) -> io::Result<usize> {
 fn show_actions(rt: &HostRuntime) -> io::Result<usize> {
     let mut bytes = Vec::new(rt.alloc());
     rt.stdin().read_to_end(&mut bytes)?;
-    match &Parser::new(rt.alloc()).parse_as_vec(&bytes) {
-        Ok(actions) => show_all(rt, actions),
-        Err(_) => {
-            println!(rt; "the parser failed")?;
-            Ok(1)
-        }
+    match Reading::Whole.read(rt.alloc(), &bytes) {
+        Ok(actions) => show_all(rt, &actions),
+        Err(_) => show_fault(rt),
     }
+}
+
+// Says that there are no actions.
+fn show_fault(rt: &HostRuntime) -> io::Result<usize> {
+    println!(rt; "the parser failed")?;
+    Ok(1)
 }
 
 // Prints a line of a row for each action.

@@ -76,8 +76,8 @@ impl Admit<Global> for Expecting<'_> {
 /// shown each other one; a policy that admits none is asked of the same, and shown each: once, in
 /// order. At the end it may be asked whether the cursor may be saved and restored.
 pub fn is_asked_once(alloc: Global, stream: &[u8], limit: usize) -> bool {
-    match &Reading::Whole.read(alloc, stream) {
-        Ok(actions) => are_asked_once(alloc, stream, limit, actions),
+    match Reading::Whole.read(alloc, stream) {
+        Ok(actions) => are_asked_once(alloc, stream, limit, &actions),
         Err(_) => false,
     }
 }
@@ -86,7 +86,7 @@ pub fn is_asked_once(alloc: Global, stream: &[u8], limit: usize) -> bool {
 fn are_asked_once(alloc: Global, stream: &[u8], limit: usize, actions: &[Action]) -> bool {
     let all = asked_of(alloc, stream, limit, actions, true);
     let none = asked_of(alloc, stream, limit, actions, false);
-    !all.differs && all.done == actions.len() && all == none
+    !all.differs & (all.done == actions.len()) & (all == none)
 }
 
 // What a policy that admits all or nothing is asked of.

@@ -118,9 +118,9 @@ pub fn is_read_alike(alloc: Global, bytes: &[u8]) -> bool {
 
 // The same of these bytes with those that come next.
 fn is_alike_before(alloc: Global, bytes: &[u8], next: &[u8]) -> bool {
-    match &joined(alloc, bytes, next) {
+    match joined(alloc, bytes, next) {
         Ok(stream) => {
-            is_alike(alloc, stream, Reading::Whole) && is_alike(alloc, stream, Reading::Bytes)
+            is_alike(alloc, &stream, Reading::Whole) & is_alike(alloc, &stream, Reading::Bytes)
         }
         Err(_) => false,
     }

@@ -31,6 +31,13 @@ impl Report {
         let _ = writeln!(self.lines, "  {row}: {fault}");
     }
 
+    /// Notes a fault of a row, where what it is about is not right.
+    pub fn note_unless(&mut self, is_right: bool, row: &str, fault: &str) {
+        if !is_right {
+            self.note(row, fault);
+        }
+    }
+
     /// Notes why a row cannot be read, where it cannot.
     pub fn note_fault(&mut self, row: &str, reading: Result<(), Fault>) {
         match reading {
@@ -51,14 +58,9 @@ impl Report {
     }
 
     /// Notes a difference, where what the library gives is not the wanted text. Of a long text the
-    /// beginning is shown.
-    pub fn expect(
-        &mut self,
-        row: &str,
-        what: &str,
-        wanted: &str,
-        got: &Result<String, AllocError>,
-    ) {
+    /// beginning is shown. It takes what is given, since a caller that has it to drop is dearer to
+    /// prove.
+    pub fn expect(&mut self, row: &str, what: &str, wanted: &str, got: Result<String, AllocError>) {
         match got {
             Ok(got) => self.compare(row, what, wanted, got.as_str()),
             Err(_) => self.note(row, "out of memory"),

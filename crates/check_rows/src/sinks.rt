@@ -13,20 +13,20 @@ const SHOWN: &str =
 // Whether each sink is given the stream's actions.
 fn is_collected(alloc: Global) -> bool {
     let (result, sink) = Parser::new(alloc).parse_into(STREAM, Collect::new(alloc));
-    result.is_ok() && is_shown(alloc, sink.actions, SHOWN)
+    result.is_ok() & is_shown(alloc, sink.actions, SHOWN)
 }
 
 fn is_spelled(alloc: Global) -> bool {
     let (result, sink) = Parser::new(alloc).parse_into(STREAM, Spell::new(alloc));
-    result.is_ok() && is_shown(alloc, sink.text, TEXT)
+    result.is_ok() & is_shown(alloc, sink.text, TEXT)
 }
 
 fn is_first_taken(alloc: Global) -> bool {
     let (result, sink) = Parser::new(alloc).parse_into(STREAM, First { action: None });
-    result.is_ok() && is_shown(alloc, sink.action, "Some(Print('a'))")
+    result.is_ok() & is_shown(alloc, sink.action, "Some(Print('a'))")
 }
 
 /// Whether each sink takes them.
 pub fn are_taken(alloc: Global) -> bool {
-    is_collected(alloc) && is_spelled(alloc) && is_first_taken(alloc)
+    is_collected(alloc) & is_spelled(alloc) & is_first_taken(alloc)
 }

@@ -37,15 +37,10 @@ fn check_step(
     };
     match unescaped(alloc, line.text) {
         Ok(bytes) => {
-            report.expect(
-                name,
-                "the calls",
-                wanted,
-                &call.shown(alloc, parser, &bytes),
-            );
-            if !is_read_alike(alloc, &bytes) {
-                report.note(name, "read otherwise by segments");
-            }
+            let got = call.shown(alloc, parser, &bytes);
+            report.expect(name, "the calls", wanted, got);
+            let is_alike = is_read_alike(alloc, &bytes);
+            report.note_unless(is_alike, name, "read otherwise by segments");
         }
         Err(fault) => report.note(name, fault.0),
     }

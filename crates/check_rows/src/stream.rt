@@ -89,10 +89,9 @@ impl Stream<'_> {
             self.is_read(alloc, "read by prefixes", Reading::Prefixes, report);
         }
         let got = shown(alloc, by_calls(alloc, self.bytes));
-        report.expect(self.name, "given to a closure", self.actions, &got);
-        if !finds_firsts(alloc, self.bytes) {
-            report.note(self.name, "first actions differ");
-        }
+        report.expect(self.name, "given to a closure", self.actions, got);
+        let is_found = finds_firsts(alloc, self.bytes);
+        report.note_unless(is_found, self.name, "first actions differ");
     }
 
     // Each prefix, the stream itself too, also with a byte after it, by its segments and a parser.
@@ -112,14 +111,13 @@ impl Stream<'_> {
     // The text of the actions, and what is read of it again.
     fn check_text(&self, alloc: Global, report: &mut Report) {
         let actions = Reading::Whole.read(alloc, self.bytes);
-        self.is_written("written", &encoded(alloc, alloc, actions), report);
+        self.is_written("written", encoded(alloc, alloc, actions), report);
         let again = Reading::Bytes.read(alloc, self.text.as_bytes());
-        self.is_written("written again", &encoded(alloc, alloc, again), report);
-        self.is_written("normalised", &normalised(alloc, alloc, self.bytes), report);
+        self.is_written("written again", encoded(alloc, alloc, again), report);
+        self.is_written("normalised", normalised(alloc, alloc, self.bytes), report);
         let actions = Reading::Halves.read(alloc, self.bytes);
-        if !is_displayed(alloc, actions, self.text) {
-            report.note(self.name, "displayed otherwise");
-        }
+        let is_displayed = is_displayed(alloc, actions, self.text);
+        report.note_unless(is_displayed, self.name, "displayed otherwise");
     }
 
     // Each request for memory is refused in turn.
@@ -129,20 +127,19 @@ impl Stream<'_> {
         }
         for asked in Asked::ALL {
             let errors = asked.refuse_each(alloc, self, report);
-            if errors == 0 && asked.grows(self) {
-                report.note(self.name, "no refused request makes an error");
-            }
+            let is_seen = errors > 0 || !asked.grows(self);
+            report.note_unless(is_seen, self.name, "no refused request makes an error");
         }
     }
 
     // Whether the stream has these actions, read in this way.
     fn is_read(&self, alloc: Global, how: &str, reading: Reading, report: &mut Report) {
         let got = shown(alloc, reading.read(alloc, self.bytes));
-        report.expect(self.name, how, self.actions, &got);
+        report.expect(self.name, how, self.actions, got);
     }
 
     // Whether what is written of the stream in this way is its text.
-    fn is_written(&self, how: &str, got: &Result<String, AllocError>, report: &mut Report) {
+    fn is_written(&self, how: &str, got: Result<String, AllocError>, report: &mut Report) {
         report.expect(self.name, how, self.text, got);
     }
 }

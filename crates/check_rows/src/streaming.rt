@@ -20,7 +20,7 @@ fn ends(
     let mut from = reader(STREAM, fails_at);
     let result = normalise_stream(alloc, &mut from, &mut to, None);
     let is_held = to.into_inner().holds(TEXT.get(..written).unwrap_or(STREAM));
-    result.err() == fault && is_held
+    (result.err() == fault) & is_held
 }
 
 /// Whether it ends rightly where a read or a write fails, and where the writer is full. The string
@@ -35,7 +35,7 @@ pub fn are_stream_faults_told(alloc: Global) -> bool {
         is_right &= ends(alloc, 0, writer(64, 1, at), write, at - 1);
     }
     is_right &= ends(alloc, 0, writer(3, 3, 0), write, 3);
-    is_right && ends(alloc, 0, writer(64, 1, 0), None, TEXT.len())
+    is_right & ends(alloc, 0, writer(64, 1, 0), None, TEXT.len())
 }
 
 // Takes all that is written, and cannot be flushed.
@@ -56,7 +56,7 @@ impl Write for Unflushed {
 pub fn is_flush_told(alloc: Global) -> bool {
     let mut to = Watched::new(Unflushed);
     let result = normalise_stream(alloc, &mut Watched::new(STREAM), &mut to, None);
-    result == Err(FilterError::Write) && to.failed()
+    (result == Err(FilterError::Write)) & to.failed()
 }
 
 // Whether the stream ends as it has to where this request is refused: with the fault, or where it
@@ -68,9 +68,9 @@ fn is_refused_at(heap: &Refusing<Global>, at: u64) -> bool {
     let held = to.into_inner();
     if heap.has_refused() {
         let prefix = TEXT.get(..held.len).unwrap_or(STREAM);
-        result == Err(FilterError::Memory) && held.holds(prefix)
+        (result == Err(FilterError::Memory)) & held.holds(prefix)
     } else {
-        result.is_ok() && held.holds(TEXT)
+        result.is_ok() & held.holds(TEXT)
     }
 }
 

@@ -22,8 +22,8 @@ pub fn encoded<A: Allocator + Copy>(
     heap: A,
     actions: Result<Vec<Action<A>, A>, ParseError>,
 ) -> Result<String, AllocError> {
-    match &actions {
-        Ok(actions) => text_of(alloc, encode(heap, actions)),
+    match actions {
+        Ok(actions) => text_of(alloc, encode(heap, &actions)),
         Err(error) => shown(alloc, error),
     }
 }
@@ -61,8 +61,8 @@ pub fn is_displayed<T: Display + Drop>(
     items: Result<Vec<T>, ParseError>,
     text: &str,
 ) -> bool {
-    match &items {
-        Ok(items) => are_displayed(alloc, items, text),
+    match items {
+        Ok(items) => are_displayed(alloc, &items, text),
         Err(_) => false,
     }
 }

@@ -25,13 +25,16 @@ fn after_call<R: Read>(from: &mut Watched<R>) -> (Option<ErrorKind>, bool) {
 fn is_read_on() -> bool {
     let mut from = Watched::new(STREAM);
     let mut prefix = [0u8; 2];
-    let is_read = from.read_exact(&mut prefix).is_ok() && !from.failed();
-    is_read && prefix.as_slice() == b"\x1b]".as_slice() && from.into_inner().len() == 5
+    let mut is_right = from.read_exact(&mut prefix).is_ok();
+    is_right &= !from.failed();
+    is_right &= from.into_inner().len() == 5;
+    is_right & (prefix.as_slice() == b"\x1b]".as_slice())
 }
 
 // Whether the error of a read comes back as it is, and is remembered.
 fn is_remembered<R: Read>(from: &mut Watched<R>, kind: ErrorKind) -> bool {
-    after_call(from) == (Some(kind), true) && after_call(from) == (None, true)
+    let is_first = after_call(from) == (Some(kind), true);
+    is_first & (after_call(from) == (None, true))
 }
 
 fn failing_reader() -> Watched<ByteReader<'static>> {
@@ -46,7 +49,7 @@ fn failing_reader() -> Watched<ByteReader<'static>> {
 pub fn is_reader_passed_on() -> bool {
     let mut from = failing_reader();
     let is_first = after_call(&mut from) == (None, false);
-    is_first && is_read_on() && is_remembered(&mut from, ErrorKind::Other)
+    is_first & is_read_on() & is_remembered(&mut from, ErrorKind::Other)
 }
 
 // Reads of a stream, of which the first is interrupted.
@@ -78,28 +81,34 @@ fn is_read_fault(alloc: Global) -> bool {
     let mut from = interrupted_reader();
     let mut to = writer(64, 64, 0);
     let result = normalise(alloc, &mut from, &mut to);
-    result == Err(NormaliseError::Read) && from.failed() && to.into_inner().calls == 0
+    let is_unwritten = to.into_inner().calls == 0;
+    (result == Err(NormaliseError::Read)) & from.failed() & is_unwritten
 }
 
 /// Whether an interrupted read is remembered, and is a read fault.
 pub fn is_interruption_told(alloc: Global) -> bool {
-    is_remembered(&mut interrupted_reader(), ErrorKind::Interrupted) && is_read_fault(alloc)
+    is_remembered(&mut interrupted_reader(), ErrorKind::Interrupted) & is_read_fault(alloc)
 }
 
 // Whether a writer is given what is written, and flushed.
 fn is_passed_on() -> bool {
     let mut to = writer(64, 64, 0);
-    let is_written = to.write_all(b"ab").is_ok() && to.flush().is_ok() && !to.failed();
+    let mut is_right = to.write_all(b"ab").is_ok();
+    is_right &= to.flush().is_ok();
+    is_right &= !to.failed();
     let held = to.into_inner();
-    is_written && held.flushes == 1 && held.holds(b"ab")
+    is_right & (held.flushes == 1) & held.holds(b"ab")
 }
 
 // Whether a full writer is remembered, once it has taken nothing of what it was given.
 fn is_full_remembered() -> bool {
     let mut to = writer(1, 64, 0);
-    let is_empty = is_taken(&mut to, b"", 0) && !to.failed();
-    let is_taken_first = is_taken(&mut to, b"ab", 1) && !to.failed();
-    is_empty && is_taken_first && is_taken(&mut to, b"b", 0) && to.failed()
+    let mut is_right = is_taken(&mut to, b"", 0);
+    is_right &= !to.failed();
+    is_right &= is_taken(&mut to, b"ab", 1);
+    is_right &= !to.failed();
+    is_right &= is_taken(&mut to, b"b", 0);
+    is_right & to.failed()
 }
 
 // Whether a write takes so many bytes.
@@ -112,7 +121,7 @@ fn is_taken(to: &mut Watched<FixedWriter>, bytes: &[u8], count: usize) -> bool {
 
 /// Whether the calls of a writer are passed on, and a full one is remembered.
 pub fn is_writer_passed_on() -> bool {
-    is_passed_on() && is_full_remembered()
+    is_passed_on() & is_full_remembered()
 }
 
 // Takes one byte, and fails with this kind of error from then on.
@@ -142,21 +151,26 @@ fn broken_writer(kind: ErrorKind) -> Watched<Broken> {
 
 // Whether errors of this kind come back from each call of a writer.
 fn comes_back(kind: ErrorKind) -> bool {
-    let (mut flushed, mut written, mut whole) = (
-        broken_writer(kind),
-        broken_writer(kind),
-        broken_writer(kind),
-    );
-    let is_flush = kind_of(flushed.flush()) == Some(kind) && flushed.failed();
-    let is_first = kind_of(written.write(b"ab")).is_none() && !written.failed();
-    let is_second = kind_of(written.write(b"b")) == Some(kind) && written.failed();
-    let is_whole = kind_of(whole.write_all(b"ab")) == Some(kind) && whole.failed();
-    is_flush && is_first && is_second && is_whole
+    let mut flushed = broken_writer(kind);
+    let mut is_right = kind_of(flushed.flush()) == Some(kind);
+    is_right &= flushed.failed();
+    let mut whole = broken_writer(kind);
+    is_right &= kind_of(whole.write_all(b"ab")) == Some(kind);
+    is_right & whole.failed() & comes_back_of_a_write(kind)
+}
+
+// Whether one comes back from the second write, and none from the first.
+fn comes_back_of_a_write(kind: ErrorKind) -> bool {
+    let mut written = broken_writer(kind);
+    let mut is_right = kind_of(written.write(b"ab")).is_none();
+    is_right &= !written.failed();
+    is_right &= kind_of(written.write(b"b")) == Some(kind);
+    is_right & written.failed()
 }
 
 /// Whether the errors of a writer come back.
 pub fn are_errors_passed_on() -> bool {
-    comes_back(ErrorKind::BrokenPipe) && comes_back(ErrorKind::TimedOut)
+    comes_back(ErrorKind::BrokenPipe) & comes_back(ErrorKind::TimedOut)
 }
 
 const WORD: &[u8] = b"abcd";
@@ -165,7 +179,8 @@ const WORD: &[u8] = b"abcd";
 fn is_prefix_held(to: Watched<FixedWriter>, at: usize) -> bool {
     let has_failed = to.failed();
     let held = to.into_inner();
-    has_failed && held.calls == at && held.holds(WORD.get(..at.saturating_sub(1)).unwrap_or(STREAM))
+    let is_prefix = held.holds(WORD.get(..at.saturating_sub(1)).unwrap_or(STREAM));
+    has_failed & is_prefix & (held.calls == at)
 }
 
 /// Whether a writer that fails holds a prefix of what it was to be given.
@@ -173,8 +188,9 @@ pub fn is_prefix_kept() -> bool {
     let mut is_right = true;
     for at in 1..5usize {
         let (mut whole, mut all) = (writer(64, 1, at), writer(64, 1, at));
-        is_right &= !whole.write_whole(WORD) && all.write_all(WORD).is_err();
-        is_right &= is_prefix_held(whole, at) && is_prefix_held(all, at);
+        is_right &= !whole.write_whole(WORD);
+        is_right &= all.write_all(WORD).is_err();
+        is_right &= is_prefix_held(whole, at) & is_prefix_held(all, at);
     }
     is_right
 }
