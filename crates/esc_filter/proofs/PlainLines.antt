@@ -177,7 +177,8 @@ module _ (A : Type 0) (u : Guard) (limit : ℕ) (admits : Value A → Bool)
       alone (encode_utf8 c) (print c) (Print c) does.0 (does.1 (Some limit)) refl refl
       (texts (print c) w.shown) (λ l. plain_one u l c w.plain) (λ f. refl) w.inner
 
-  pub wides : (cs : List ℕ) → list_all is_wide cs ≡ true → Passed (encode_utf8_all cs) (map print cs)
+  pub wides : (cs : List ℕ) → list_all is_wide cs ≡ true
+      → Passed (encode_utf8_all cs) (map print cs)
   wides [] h = nothing
   wides (c ∷ cs) h =
       let q = and_parts (is_wide c) (list_all is_wide cs) h in
@@ -351,7 +352,8 @@ module _ (A : Type 0) (u : Guard) (limit : ℕ) (admits : Value A → Bool)
       ∙ ap (λ z. z ++ By (b.last ++ end_of r)) b.same
       ∙ ap (λ z. b.ended ++ z) (one_line b.last b.line r) ∙ sym both
 
-  pub quiet_ended : (s : List ℕ) → Begun false s → (r : Bool) → IsQuiet u limit admits (s ++ end_of r)
+  pub quiet_ended : (s : List ℕ) → Begun false s → (r : Bool)
+      → IsQuiet u limit admits (s ++ end_of r)
   quiet_ended s b r =
       let (ls, e, quiet) = b.quiet in
       let l = b.last ++ end_of r in (

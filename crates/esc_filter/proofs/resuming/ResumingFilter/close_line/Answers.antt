@@ -22,7 +22,8 @@ returns-in-Ok-clause-given g c = λ u limit l h.
       c.in-Ok.ensures.noted
           ∙ ap (λ t. if old.resumes then opening t old.lines.filter.written.pen else []) h.1.1
           ∙ ap (λ p. if old.resumes then opening (after_values
-          (passed_as u (Some limit) (in_lines true (g.P.Admit.admits (policy_of_lines old.lines))) l)
+          (passed_as u (Some limit)
+          (in_lines true (g.P.Admit.admits (policy_of_lines old.lines))) l)
           unchanged) p else []) h.1.5,
     ))
     (subst (λ z. WasFedIn u true limit (g.P.Admit.admits (policy_of_lines z)) l z.filter

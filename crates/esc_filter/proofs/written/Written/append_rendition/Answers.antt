@@ -14,8 +14,8 @@ returns-in-Ok-clause-taken g c = λ _.
       (
         v,
         one,
-        one_written (csi_of es false 0x6d) v p _ c.pen_after_final-self.result c.write_short.new.self
-            one after (c.pen_after_final-self.ensures ∙ pens p.pen)
+        one_written (csi_of es false 0x6d) v p _ c.pen_after_final-self.result
+            c.write_short.new.self one after (c.pen_after_final-self.ensures ∙ pens p.pen)
             (plain_given p.spell c.write_short.new.self es false 0x6d
             (c.in-Some.ensures.plain false) (
               c.in-Ok.ensures.ok.0
