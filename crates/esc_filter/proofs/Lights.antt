@@ -281,9 +281,12 @@ other_pens es f p other = rw (ne_eqb f 0x6d other) refl
 
 pub other_sequence : (es : List CsiParam) (f : ℕ) (t u : Terminal) → f ≢ 0x6d
     → u ≡ after_body es f t → IsAfter es f t u
-other_sequence es f t u other after =
-    (unspecified es false f, rw (ne_eqb f 0x6d other) refl, after,
-        λ p. sym (other_pens es f p other))
+other_sequence es f t u other after = (
+  unspecified es false f,
+  rw (ne_eqb f 0x6d other) refl,
+  after,
+  λ p. sym (other_pens es f p other),
+)
 
 -- ---- a semicolon at the end
 
