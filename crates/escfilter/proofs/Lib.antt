@@ -1,8 +1,3 @@
-mod OtherWords
-pub mod Left
-mod Seen
 mod Chosen
-mod OfPieces
+mod Within
 mod Failures
-mod Following
-mod Auditing

@@ -1,6 +1,8 @@
 -- What the options that name groups let pass.
 use Rattle.std.specs.Prelude.{ℕ, ◌≡◌, ◌-◌, ◌/◌, ◌%◌, ◌^◌, ◌==◌, ◌&&◌, ◌||◌, nat_lt, Bool, true, if◌then◌else◌, List, Option, Some, None}
-use Rattle.esc_filter.specs.Groups.{IsWithSchemes, groups_of, has, place, with_group}
+use Rattle.esc_actions.specs.Values.{Value}
+use Rattle.esc_filter.specs.Groups.{IsWithSchemes, admits_groups, groups_of, has, place, with_group}
+use Rattle.esc_filter.specs.Rules.{admits}
 use Rattle.esc_filter.specs.declared.group.Group.{Group}
 use Rattle.esc_filter.specs.declared.group.Group.TheVariants as group
 use Rattle.esc_filter.specs.declared.groups.Groups.{Groups}
@@ -15,6 +17,18 @@ groups_by (Some g) p = g
 
 abbrev pub groups_in : Choice → Groups
 groups_in c = groups_by c.groups c.policy
+
+-- what is of the chosen groups, or where none were named what the policy admits
+abbrev pub admits_by : {A : Type 0} → Option Groups → Policy → Value A → Bool
+admits_by None p v = admits p v
+admits_by (Some g) p v = admits_groups g v
+
+abbrev pub admits_choice : {A : Type 0} → Choice → Value A → Bool
+admits_choice c v = admits_by c.groups c.policy v
+
+-- the groups of the choice are some of the policy's
+abbrev pub IsWithin : Policy → Choice → Type 0
+IsWithin p c = (g : Group) → has (groups_in c) g ≡ true → has (groups_of p) g ≡ true
 
 -- whether the word of this number, from 0, is among those whose bits are set
 abbrev pub has_word : ℕ → ℕ → Bool
@@ -35,10 +49,14 @@ policy_named words =
     else if has_word 0 words then Some policy.Text
     else None
 
+-- what a policy admits
+abbrev pub begun : Policy → Choice
+begun p = record { policy = p; groups = None }
+
 -- the choice that a policy begins, where one is named
 abbrev pub begun_by : Option Policy → Choice → Choice
 begun_by None c = c
-begun_by (Some p) c = record { policy = p; groups = None }
+begun_by (Some p) c = begun p
 
 -- d is the choice c with the named groups, or without them, and with the same links
 pub record IsChanged (words : ℕ) (passes : Bool) (c d : Choice) : Type 0 where

@@ -1,8 +1,4 @@
-pub mod Written
-pub mod Adding
 pub mod Choices
+pub mod Settings
 pub mod Fates
 pub mod Failures
-pub mod Judged
-pub mod Hearings
-pub mod Audits

@@ -1,13 +1,13 @@
 //! A recording, from its reader to the output.
 
-use crate::options::Options;
-use crate::stream::COLUMNS;
+use crate::named_groups::Choice;
 use esc_account::{Audience, Audited};
 use esc_cast::{CastError, Recording};
 use esc_filter::{Feeding, Filter, FilterError, LineFilter};
 use esc_lines::Collapsing;
 use esc_normal::Watched;
 use esc_reveal::{Reveal, Revealing};
+use esc_sanitize::{COLUMNS, FilterOptions};
 use memchr::memchr;
 use std::alloc::Global;
 use std::fmt::{Display, Formatter};
@@ -102,17 +102,17 @@ impl<F: Feeding<Global>> Lines<F> {
 /// reads. The audience hears the texts of its events of output.
 pub fn filter_recording<R: Read, W: Write, K: Audience<Global> + Drop>(
     alloc: Global,
-    options: &Options<'_>,
+    options: FilterOptions<Choice<'_>>,
     audience: K,
     reader: &mut Watched<R>,
     writer: &mut Watched<W>,
 ) -> Result<(), CastFault> {
     let by_lines = options.by_lines;
     if by_lines {
-        let filter = LineFilter::with_guard(alloc, options.limit, options.choice, options.guard);
+        let filter = LineFilter::with_guard(alloc, options.limit, options.policy, options.guard);
         filter_shown(alloc, options, filter, audience, reader, writer)
     } else {
-        let filter = Filter::with_guard(alloc, options.limit, options.choice, options.guard);
+        let filter = Filter::with_guard(alloc, options.limit, options.policy, options.guard);
         filter_shown(alloc, options, filter, audience, reader, writer)
     }
 }
@@ -120,26 +120,24 @@ pub fn filter_recording<R: Read, W: Write, K: Audience<Global> + Drop>(
 // The same by this filter, where what does not pass may be shown.
 fn filter_shown<R: Read, W: Write, F: Feeding<Global> + Drop, K: Audience<Global> + Drop>(
     alloc: Global,
-    options: &Options<'_>,
+    options: FilterOptions<Choice<'_>>,
     filter: F,
     audience: K,
     reader: &mut Watched<R>,
     writer: &mut Watched<W>,
 ) -> Result<(), CastFault> {
-    let shows = options.shows;
-    if shows {
-        let reveal = Reveal::with_marking(
-            alloc,
-            options.limit,
-            options.choice,
-            options.by_lines,
-            options.marking,
-        );
-        let filter = Revealing::new(alloc, reveal, filter);
-        filter_rows(alloc, options.rows, filter, audience, reader, writer)
-    } else {
-        filter_rows(alloc, options.rows, filter, audience, reader, writer)
-    }
+    let Some(marking) = options.show else {
+        return filter_rows(alloc, options.rows, filter, audience, reader, writer);
+    };
+    let reveal = Reveal::with_marking(
+        alloc,
+        options.limit,
+        options.policy,
+        options.by_lines,
+        marking,
+    );
+    let filter = Revealing::new(alloc, reveal, filter);
+    filter_rows(alloc, options.rows, filter, audience, reader, writer)
 }
 
 // The same by this filter, of which these rows may be written again.

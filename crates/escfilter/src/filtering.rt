@@ -1,20 +1,22 @@
 //! Streams that are filtered to one output, each with its report.
 
-use crate::auditor::Auditor;
+use crate::PROGRAM;
 use crate::cast::{CastFault, filter_recording};
 use crate::events::Events;
 use crate::json::tell_json;
+use crate::laws::choices_admit_less;
 use crate::listing::{Names, Passage, write_name};
+use crate::named_groups::Choice;
 use crate::options::{Form, Options};
 use crate::report::tell_text;
 use crate::rows::Rows;
-use crate::stream::{PROGRAM, filter_by};
 use crate::told::Told;
 use command_line::{Ended, Noting, Place, Reason, Work, ended_by, unwritten};
 use esc_account::Account;
 use esc_decode::Input;
 use esc_filter::FilterError;
 use esc_normal::Watched;
+use esc_sanitize::{Auditor, Sanitized, sanitize_stream};
 use std::alloc::Global;
 use std::io::{Read, Write};
 
@@ -60,17 +62,19 @@ impl<'a, W: Write, E: Write> Filtering<'a, W, E> {
         input: R,
         events: Option<Events>,
     ) -> (Ended, bool, Option<Events>) {
-        let mut auditor = Auditor::new(self.alloc, self.options, events);
+        choices_admit_less::<Global>();
+        let rows = Rows::new(self.alloc, self.options, events);
         let input = Input::new(self.alloc, self.options.order, input);
         let mut reader = Watched::new(Noting::new(input));
         let mut writer = Watched::new(Noting::new(Passage {
             output: &mut *self.output,
             is_open: !self.options.is_list,
         }));
-        let outcome = filter_by(
+        let options = self.options.filter;
+        let Sanitized { outcome, auditor } = sanitize_stream(
             self.alloc,
-            &self.options,
-            &mut auditor,
+            options,
+            rows,
             &mut reader,
             &mut writer,
         );
@@ -84,7 +88,7 @@ impl<'a, W: Write, E: Write> Filtering<'a, W, E> {
             _ => Place::Input(name),
         };
         let ended = ended_by(PROGRAM, outcome, place, reason, &mut self.faults);
-        (ended, is_failure, auditor.into_events())
+        (ended, is_failure, events_of(auditor))
     }
 
     // The same of a recording.
@@ -94,20 +98,16 @@ impl<'a, W: Write, E: Write> Filtering<'a, W, E> {
         input: R,
         events: Option<Events>,
     ) -> (Ended, bool, Option<Events>) {
-        let mut auditor = Auditor::new(self.alloc, self.options, events);
+        let rows = Rows::new(self.alloc, self.options, events);
         let input = Input::new(self.alloc, self.options.order, input);
         let mut reader = Watched::new(Noting::new(input));
         let mut writer = Watched::new(Noting::new(Passage {
             output: &mut *self.output,
             is_open: !self.options.is_list,
         }));
-        let outcome = filter_recording(
-            self.alloc,
-            &self.options,
-            &mut auditor,
-            &mut reader,
-            &mut writer,
-        );
+        let options = self.options.filter;
+        let mut auditor = Auditor::new(self.alloc, options, rows);
+        let outcome = filter_recording(self.alloc, options, &mut auditor, &mut reader, &mut writer);
         let reason = reader
             .into_inner()
             .reason()
@@ -118,7 +118,7 @@ impl<'a, W: Write, E: Write> Filtering<'a, W, E> {
             _ => Place::Input(name),
         };
         let ended = ended_by(PROGRAM, outcome, place, reason, &mut self.faults);
-        (ended, is_failure, auditor.into_events())
+        (ended, is_failure, events_of(auditor))
     }
 
     // Writes the name of a stream, which ended so.
@@ -134,7 +134,12 @@ impl<'a, W: Write, E: Write> Filtering<'a, W, E> {
 
     // Reports what did not pass of the stream of this name, where the options ask for it. It
     // returns whether some byte of it had a fate that is a failure.
-    fn report(&mut self, name: &str, auditor: &Auditor<'_>, is_complete: bool) -> bool {
+    fn report(
+        &mut self,
+        name: &str,
+        auditor: &Auditor<Choice<'_>, Rows<'_>>,
+        is_complete: bool,
+    ) -> bool {
         let Some((account, rows)) = auditor.account() else {
             return false;
         };
@@ -184,6 +189,14 @@ fn stopped(events: Option<Events>) -> Option<Events> {
             events.end();
             Some(events)
         }
+        None => None,
+    }
+}
+
+// Where what did not pass of a stream is told, of which this is the auditor.
+fn events_of(auditor: Auditor<Choice<'_>, Rows<'_>>) -> Option<Events> {
+    match auditor.into_book() {
+        Some(rows) => rows.into_events(),
         None => None,
     }
 }

@@ -1,22 +1,19 @@
-//! A law of what is written.
-ghost use Rattle.escfilter.specs.Written.{IsOfPieces};
-ghost use Rattle.escfilter.specs.declared.options.Options.{Options};
+//! A law of what passes.
+ghost use Rattle.esc_filter.specs.Pieces.{AdmitsAtMost};
+ghost use Rattle.esc_filter.specs.declared.policy.Policy.{Policy};
+ghost use Rattle.escfilter.specs.Choices.{IsWithin, admits_choice};
+ghost use Rattle.escfilter.specs.declared.named_groups.Choice.{Choice};
 
-use esc_filter::{
-    policies_are_groups, some_groups_admit_less, writes_color_text, writes_plain_text,
-};
-use esc_lines::leaves_color_text;
+use esc_filter::{policies_are_groups, some_groups_admit_less};
 use std::alloc::Allocator;
 
-/// Under groups that are some of those of `Policy::Text`, or of `Policy::Color`, what is written is
-/// text without a control but tabs and line ends, or of such text, renditions and links: whatever
-/// the stream is, and also where what does not pass is shown, or rows are written again.
-pub fn writes_pieces<A: Allocator>()
-    ensures { (o : Options) → IsOfPieces A o }
+/// Groups that are some of those of a policy admit no more than the policy does. So by the law
+/// `writes_pieces` of `esc_sanitize`, under some of the groups of `Policy::Text` what is written is
+/// plain text, where rows are not written again, and under some of those of `Policy::Color` it is
+/// text of characters, renditions and links.
+pub fn choices_admit_less<A: Allocator>()
+    ensures { (p : Policy) (c : Choice) → IsWithin p c → AdmitsAtMost {A = A} p (admits_choice c) }
 {
-    writes_plain_text::<A>();
-    writes_color_text::<A>();
     some_groups_admit_less::<A>();
     policies_are_groups::<A>();
-    leaves_color_text::<A>();
 }

@@ -4,14 +4,11 @@
 #![tactic(auto)]
 
 mod aside;
-mod auditor;
 mod cast;
 mod events;
 mod failing;
 mod filtering;
-mod hearing;
 mod json;
-mod judging;
 mod laws;
 mod listing;
 mod name;
@@ -20,7 +17,7 @@ mod options;
 mod report;
 mod rows;
 mod saying;
-mod stream;
+mod settings;
 mod told;
 mod values;
 
@@ -37,7 +34,6 @@ use std::fs::File;
 use std::io;
 use std::io::{IsTerminal, Stderr, Write};
 use std::process::ExitCode;
-use stream::PROGRAM;
 use told::Told;
 
 const USAGE: &str = "\
@@ -107,6 +103,9 @@ A value follows its option, or '='. FILE - is standard input.
 Status: 0 all was filtered, 1 a fault, 2 usage, 3 by --fail, 141 the output was closed.
 
 Groups (text is layout, color is that with sgr, hidden and links, screen is all up to palette):";
+
+// The program's name.
+pub(crate) const PROGRAM: &str = "escfilter";
 
 const VERSION: &str = "escfilter 0.1.0";
 

@@ -1,7 +1,7 @@
 //! The groups of actions that the options name.
 ghost use Rattle.std.specs.Prelude.{◌≡◌, ◌<◌, ◌^◌, ◌/◌, false, true};
 ghost use Rattle.esc_filter.specs.Groups.{with_group};
-ghost use Rattle.escfilter.specs.Choices.{IsChanged, IsLinked, IsMoving, begun_by, groups_in, has_word, policy_named};
+ghost use Rattle.escfilter.specs.Choices.{IsChanged, IsLinked, IsMoving, begun, begun_by, groups_in, has_word, policy_named};
 
 use esc_actions::Action;
 use esc_filter::{Admit, Group, Groups, Known, Policy};
@@ -81,16 +81,23 @@ pub struct Choice<'a> {
 }
 
 impl<'a> Choice<'a> {
+    /// What this policy admits.
+    pub fn of(policy: Policy) -> Choice<'a>
+        ensures { result ≡ begun policy }
+    {
+        Choice {
+            policy,
+            groups: None,
+        }
+    }
+
     /// What passes besides, by the bits of the words in `ALLOWED`. Where a policy is among them, it
     /// is what it admits and the groups, and nothing of what was there.
     pub fn and(self, words: u64) -> Choice<'a>
         ensures { IsChanged (words / 2 ^ 5) true (begun_by (policy_named words) self.entry) result }
     {
         let begun = match policy_of(words) {
-            Some(policy) => Choice {
-                policy,
-                groups: None,
-            },
+            Some(policy) => Choice::of(policy),
             None => self,
         };
         begun.with(words >> POLICIES, true)
@@ -163,7 +170,7 @@ impl<'a> Choice<'a> {
 
 // One policy for both, so that the program has one filter.
 impl<'a, A: Allocator> Admit<A> for Choice<'a> {
-    ghost use Rattle.escfilter.specs.Written.{admits_choice};
+    ghost use Rattle.escfilter.specs.Choices.{admits_choice};
 
     ghost admits = { λ c v. admits_choice c v };
 

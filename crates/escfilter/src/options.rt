@@ -1,37 +1,23 @@
 //! What the program's words ask for.
 ghost use Rattle.std.specs.Prelude.{◌≡◌};
-ghost use Rattle.escfilter.specs.Audits.{has_names, is_audited};
+ghost use Rattle.escfilter.specs.Settings.{has_names, is_audited};
 
 use crate::failing::{FAILING, Failing};
 use crate::named_groups::{ALLOWED, Choice, DENIED};
-use crate::values::{apart_of, rows_of, wrong_value};
+use crate::settings::Settings;
+use crate::values::{apart_of, wrong_value};
 use command_line::{Apart, Found, Given, Known, Takes, Wrong, read};
-use esc_decode::{ByteOrder, CodePage, ENCODINGS, Encoding, encoding_of, order_of, page_of};
-use esc_filter::{Guard, Policy, Returns, Unicode};
-use esc_reveal::Marking;
+use esc_decode::{ByteOrder, ENCODINGS, order_of, page_of};
+use esc_sanitize::FilterOptions;
 use std::alloc::Global;
 
-/// How streams are filtered.
+/// How streams are filtered, and what is told of them.
 #[derive(Clone, Copy)]
 pub struct Options<'a> {
-    /// What passes.
-    pub choice: Choice<'a>,
+    /// How they are filtered.
+    pub filter: FilterOptions<Choice<'a>>,
     /// Which byte of a unit comes first, where a stream is in UTF-16; then it is read as UTF-8.
     pub order: Option<ByteOrder>,
-    /// How the bytes of a stream are read.
-    pub encoding: Encoding,
-    /// How many bytes are kept of an unfinished segment.
-    pub limit: usize,
-    /// Whether each line is a stream of its own.
-    pub by_lines: bool,
-    /// What is written of what hides or reorders text.
-    pub guard: Guard,
-    /// Whether what does not pass is shown in place.
-    pub shows: bool,
-    /// How it is told from text that passes.
-    pub marking: Marking,
-    /// How many rows may be written again, where what is left of them is written.
-    pub rows: Option<usize>,
     /// Whether the input is a recording, of which the events of output are filtered.
     pub is_cast: bool,
     /// In which form it is reported what was left out.
@@ -98,42 +84,13 @@ pub struct Task<'a> {
 }
 
 impl<'a> Options<'a> {
-    /// Whether an account of a stream is kept.
-    pub fn is_audited(&self) -> bool
-        ensures { result ≡ is_audited self.now }
-    {
-        self.has_names() || self.is_list || self.fails.is_some()
-    }
-
     /// Whether names are asked for of what did not pass.
     pub fn has_names(&self) -> bool
         ensures { result ≡ has_names self.now }
     {
         self.report.is_some() || self.has_events
     }
-
-    // Takes an option more, where it is one of these.
-    fn take(&mut self, given: &Given<'a>) {
-        match given.name {
-            "--allow" => self.choice = self.choice.and(given.some),
-            "--deny" => self.choice = self.choice.without(given.some),
-            "--limit" => self.limit = given.size,
-            "--show" => {
-                self.shows = true;
-                self.marking = marking_of(given.word);
-            }
-            "--collapse" => self.rows = rows_of(given.word),
-            "--cast" => self.is_cast = true,
-            "--list" => self.is_list = true,
-            "--null" => self.is_null = true,
-            "--report" => self.report = Some(form_of(given.word)),
-            "--fail" => self.fails = Some(Failing::named(given.some)),
-            _ => {}
-        }
-    }
 }
-
-const DEFAULT_LIMIT: usize = 1_048_576;
 
 const KNOWN: &[Known] = &[
     Known {
@@ -263,7 +220,7 @@ impl<'a> Task<'a> {
         Task {
             kind: asked.kind,
             target: asked.target(),
-            options: asked.settled(),
+            options: asked.options(),
             report_to: asked.report_to,
             events: asked.events,
             files: found.files,
@@ -272,22 +229,19 @@ impl<'a> Task<'a> {
     }
 }
 
-// What the options ask for. Where one is missing, the policy may decide.
+// What the options ask for.
 #[derive(Drop)]
 struct Asked<'a> {
     kind: Kind,
     target: Target<'a>,
-    options: Options<'a>,
+    settings: Settings<'a>,
+    order: Option<ByteOrder>,
+    report: Option<Form>,
     report_to: Option<&'a str>,
     events: Option<&'a str>,
-    by_lines: Option<bool>,
-    schemes: Option<&'a str>,
-    unicode: Option<Unicode>,
-    returns: Option<Returns>,
-    // an 8-bit encoding
-    page: Option<CodePage>,
-    // whether bytes are controls of C1
-    obeys: bool,
+    is_list: bool,
+    is_null: bool,
+    fails: Option<Failing>,
 }
 
 impl<'a> Asked<'a> {
@@ -296,169 +250,71 @@ impl<'a> Asked<'a> {
         Asked {
             kind: Kind::Filter,
             target: Target::Output,
-            options: Options {
-                choice: Choice {
-                    policy: Policy::Color,
-                    groups: None,
-                },
-                order: None,
-                encoding: Encoding::Utf8,
-                limit: DEFAULT_LIMIT,
-                by_lines: false,
-                guard: Guard::of_unicode(Unicode::Keep),
-                shows: false,
-                marking: Marking::Plain,
-                rows: None,
-                is_cast: false,
-                report: None,
-                has_events: false,
-                is_list: false,
-                is_null: false,
-                fails: None,
-            },
+            settings: Settings::nothing(),
+            order: None,
+            report: None,
             report_to: None,
             events: None,
-            by_lines: None,
-            schemes: None,
-            unicode: None,
-            returns: None,
-            page: None,
-            obeys: false,
+            is_list: false,
+            is_null: false,
+            fails: None,
         }
     }
 
     // Takes an option more.
     fn take(&mut self, given: &Given<'a>) {
         match given.name {
-            "--links" => self.schemes = Some(given.word),
-            "--lines" => self.by_lines = Some(true),
-            "--whole" => self.by_lines = Some(false),
-            "--c1" => self.obeys = given.word == "obey",
             "--encoding" => {
-                self.page = page_of(given.word);
-                self.options.order = order_of(given.word);
+                self.settings.page = page_of(given.word);
+                self.order = order_of(given.word);
             }
-            "--unicode" => self.unicode = Some(unicode_of(given.word)),
-            "--returns" => self.returns = Some(returns_of(given.word)),
+            "--report" => self.report = Some(form_of(given.word)),
             "--report-to" => self.report_to = Some(given.word),
             "--events" => self.events = Some(given.word),
+            "--fail" => self.fails = Some(Failing::named(given.some)),
+            "--list" => self.is_list = true,
+            "--null" => self.is_null = true,
             "--output" => self.target = Target::File(given.word),
             "--in-place" => self.target = Target::InPlace(given.word),
             "--help" => self.kind = Kind::Help,
             "--version" => self.kind = Kind::Version,
-            _ => self.options.take(given),
+            _ => self.settings.take(given),
         }
     }
 
-    // How streams are filtered.
-    fn settled(&self) -> Options<'a> {
-        let mut options = self.options;
-        options.by_lines = self.by_lines.unwrap_or(is_by_lines(options.choice.policy));
-        options.guard = Guard {
-            characters: self.unicode.unwrap_or(unicode_in(options)),
-            returns: returns_in(self.returns, options),
-        };
-        options.encoding = self.encoding();
-        options.report = self.report();
-        options.has_events = self.events.is_some();
-        options.choice = settled(options.choice, self.schemes, options.rows);
-        options
+    // How streams are filtered, and what is told of them.
+    fn options(&self) -> Options<'a>
+        ensures { result.filter.audits ≡ is_audited result }
+    {
+        let report = self.report();
+        let has_names = report.is_some() || self.events.is_some();
+        let audits = has_names || self.is_list || self.fails.is_some();
+        Options {
+            filter: self.settings.filter_options(audits),
+            order: self.order,
+            is_cast: self.settings.is_cast,
+            report,
+            has_events: self.events.is_some(),
+            is_list: self.is_list,
+            is_null: self.is_null,
+            fails: self.fails,
+        }
     }
 
     // Where the output goes. A list changes no file that is read.
     fn target(&self) -> Target<'a> {
         match self.target {
-            Target::InPlace(_) if self.options.is_list => Target::Output,
+            Target::InPlace(_) if self.is_list => Target::Output,
             target => target,
         }
     }
 
     // In which form it is reported what was left out. A file for the report asks for one.
     fn report(&self) -> Option<Form> {
-        match (self.options.report, self.report_to) {
+        match (self.report, self.report_to) {
             (None, Some(_)) => Some(Form::Text),
             (report, _) => report,
         }
-    }
-
-    // How the bytes of a stream are read. The texts of a recording are characters, and where bytes
-    // are shown none is replaced.
-    fn encoding(&self) -> Encoding {
-        if self.options.is_cast {
-            return Encoding::EightBit;
-        }
-        encoding_of(self.page, self.obeys || self.options.shows)
-    }
-}
-
-// What passes where links have these schemes, and so many rows may be written again.
-fn settled<'a>(choice: Choice<'a>, schemes: Option<&'a str>, rows: Option<usize>) -> Choice<'a> {
-    let choice = match schemes {
-        Some(schemes) => choice.with_schemes(schemes),
-        None => choice,
-    };
-    match rows {
-        Some(_) => choice.with_movements(),
-        None => choice,
-    }
-}
-
-// Whether each line is a stream of its own under this policy, where the words do not say so: one
-// that passes text and its colours alone is for logs.
-fn is_by_lines(policy: Policy) -> bool {
-    match policy {
-        Policy::Text | Policy::Color => true,
-        Policy::Screen | Policy::All => false,
-    }
-}
-
-// What is written of characters that hide or reorder text, where the words do not say so: a policy
-// that passes text and its colours alone is for people who read it. Where text is written over
-// other text, the character before one may become another.
-fn unicode_in(options: Options<'_>) -> Unicode {
-    match options.choice.policy {
-        Policy::Text | Policy::Color if options.rows.is_some() => Unicode::Show,
-        Policy::Text | Policy::Color => Unicode::Join,
-        Policy::Screen | Policy::All => Unicode::Keep,
-    }
-}
-
-// What is written of bare carriage returns: they are kept in a stream that is one, and, where the
-// words do not say so, where they move what is written, as in a recording; else it is as with
-// characters.
-fn returns_in(asked: Option<Returns>, options: Options<'_>) -> Returns {
-    let moves = options.is_cast || options.rows.is_some();
-    match (options.by_lines, asked, options.choice.policy) {
-        (true, Some(returns), _) => returns,
-        (true, None, Policy::Text | Policy::Color) if !moves => Returns::Show,
-        _ => Returns::Keep,
-    }
-}
-
-fn returns_of(name: &str) -> Returns {
-    match name {
-        "show" => Returns::Show,
-        "drop" => Returns::Drop,
-        _ => Returns::Keep,
-    }
-}
-
-// The way of this name, which is one of those in the table.
-fn unicode_of(name: &str) -> Unicode {
-    match name {
-        "join" => Unicode::Join,
-        "show" => Unicode::Show,
-        "drop" => Unicode::Drop,
-        _ => Unicode::Keep,
-    }
-}
-
-// How what is shown is told by this word, which is one of those in the table, or none.
-fn marking_of(name: &str) -> Marking {
-    match name {
-        "escaped" => Marking::Escaped,
-        "color" => Marking::Reversed,
-        _ => Marking::Plain,
     }
 }
 

@@ -3,10 +3,10 @@
 ghost use Rattle.std.specs.Prelude.{◌≡◌, ◌↔◌, false};
 ghost use Rattle.escfilter.specs.Fates.{IsComplete};
 
+use crate::PROGRAM;
 use crate::name::Name;
 use crate::rows::{Open, Place, Row, Rows};
 use crate::saying::{put, put_number};
-use crate::stream::PROGRAM;
 use command_line::Shown;
 use esc_account::{Account, Fate, Sums};
 use std::io::Write;

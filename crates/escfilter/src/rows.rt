@@ -4,11 +4,12 @@ ghost use Rattle.std.specs.Global.{Global};
 ghost use Rattle.memory.specs.Refusals.{Refused};
 
 use crate::events::Events;
-use crate::judging::Judging;
 use crate::name::{Name, kind_name, name_of};
+use crate::named_groups::Choice;
 use crate::options::Options;
 use crate::report::bytes_of;
 use esc_account::{Account, Book, Entry, Fate, read_segment};
+use esc_sanitize::Judging;
 use esc_segments::Segment;
 use std::alloc::{AllocError, Global};
 
@@ -51,7 +52,7 @@ pub struct Rows<'a> {
     alloc: Global,
     options: Options<'a>,
     events: Option<Events>,
-    judge: Judging<'a>,
+    judge: Judging<Choice<'a>>,
     pub rows: Vec<Row>,
     // the row of the entry that came last
     last: usize,
@@ -65,7 +66,7 @@ impl<'a> Rows<'a> {
             alloc,
             options,
             events,
-            judge: Judging::new(alloc, options),
+            judge: Judging::new(alloc, options.filter),
             rows: Vec::new(alloc),
             last: 0,
             open: None,
@@ -136,7 +137,7 @@ impl<'a> Rows<'a> {
     // What the segment, which has this name and place, would leave unfinished at the end of the
     // stream: by lines a line feed ends it.
     fn open_of(&self, segment: Segment<'_>, name: Name, first: Place) -> Option<Open> {
-        let ends = self.options.by_lines && segment.bytes.last() == Some(&b'\n');
+        let ends = self.options.filter.by_lines && segment.bytes.last() == Some(&b'\n');
         if segment.finished || ends {
             return None;
         }
@@ -176,7 +177,7 @@ impl<'a> Rows<'a> {
         ensures { OnErr result (Refused Global) }
     {
         if fate == Fate::LeftOut || fate == Fate::Shown {
-            let actions = read_segment(self.alloc, self.options.limit, segment)?;
+            let actions = read_segment(self.alloc, self.options.filter.limit, segment)?;
             for action in &actions {
                 if !self.judge.writes(action) {
                     return Ok(name_of(action));

@@ -1,11 +1,10 @@
 //! What is told of streams, beside the output.
 
-use crate::NEW;
 use crate::aside::Aside;
 use crate::events::Events;
 use crate::failing::{Failing, Gate};
 use crate::options::{Options, Target, Task};
-use crate::stream::PROGRAM;
+use crate::{NEW, PROGRAM};
 use command_line::{FAULT, unwritable};
 use new_file::{Output, are_one};
 use output_file::is_output;

@@ -1,0 +1,169 @@
+//! How streams are filtered by the program's words.
+ghost use Rattle.std.specs.Prelude.{◌≡◌};
+
+use crate::named_groups::Choice;
+use crate::values::rows_of;
+use command_line::Given;
+use esc_decode::{CodePage, Encoding, encoding_of};
+use esc_filter::{Guard, Policy, Returns, Unicode};
+use esc_reveal::Marking;
+use esc_sanitize::FilterOptions;
+
+/// What the words say of how streams are filtered. Where they do not say something, the policy may
+/// decide.
+#[derive(Clone, Copy)]
+pub struct Settings<'a> {
+    /// What passes, by the policies and groups that are named.
+    pub choice: Choice<'a>,
+    /// The schemes that the addresses of links have to have.
+    pub schemes: Option<&'a str>,
+    /// How many bytes are kept of an unfinished segment.
+    pub limit: usize,
+    /// Whether each line is a stream of its own.
+    pub by_lines: Option<bool>,
+    /// What is written of characters that hide or reorder text.
+    pub unicode: Option<Unicode>,
+    /// What is written of bare carriage returns.
+    pub returns: Option<Returns>,
+    /// An 8-bit encoding.
+    pub page: Option<CodePage>,
+    /// Whether bytes 80 to 9F that are part of no character are controls of C1.
+    pub obeys: bool,
+    /// How what does not pass is shown in place.
+    pub show: Option<Marking>,
+    /// How many rows may be written again, where what is left of them is written.
+    pub rows: Option<usize>,
+    /// Whether the input is a recording, of which the events of output are filtered.
+    pub is_cast: bool,
+}
+
+impl<'a> Settings<'a> {
+    /// What no word says.
+    pub fn nothing() -> Settings<'a> {
+        Settings {
+            choice: Choice::of(Policy::Color),
+            schemes: None,
+            limit: FilterOptions::new(Policy::Color).limit,
+            by_lines: None,
+            unicode: None,
+            returns: None,
+            page: None,
+            obeys: false,
+            show: None,
+            rows: None,
+            is_cast: false,
+        }
+    }
+
+    /// Takes an option more, where it is one of these.
+    pub fn take(&mut self, given: &Given<'a>) {
+        match given.name {
+            "--allow" => self.choice = self.choice.and(given.some),
+            "--deny" => self.choice = self.choice.without(given.some),
+            "--links" => self.schemes = Some(given.word),
+            "--lines" => self.by_lines = Some(true),
+            "--whole" => self.by_lines = Some(false),
+            "--limit" => self.limit = given.size,
+            "--c1" => self.obeys = given.word == "obey",
+            "--unicode" => self.unicode = Some(unicode_of(given.word)),
+            "--returns" => self.returns = Some(returns_of(given.word)),
+            "--show" => self.show = Some(marking_of(given.word)),
+            "--collapse" => self.rows = rows_of(given.word),
+            "--cast" => self.is_cast = true,
+            _ => {}
+        }
+    }
+
+    /// How streams are filtered then, with an account or without.
+    pub fn filter_options(self, audits: bool) -> FilterOptions<Choice<'a>>
+        ensures { result.audits ≡ audits }
+    {
+        let defaults = FilterOptions::new(self.choice.policy);
+        let by_lines = self.by_lines.unwrap_or(defaults.by_lines);
+        FilterOptions {
+            policy: self.policy(),
+            limit: self.limit,
+            by_lines,
+            guard: Guard {
+                characters: self.characters(defaults.guard.characters),
+                returns: self.bare_returns(by_lines, defaults.guard.returns),
+            },
+            encoding: self.encoding(),
+            show: self.show,
+            rows: self.rows,
+            audits,
+        }
+    }
+
+    // What passes where links have these schemes, and so many rows may be written again.
+    fn policy(self) -> Choice<'a> {
+        let choice = match self.schemes {
+            Some(schemes) => self.choice.with_schemes(schemes),
+            None => self.choice,
+        };
+        match self.rows {
+            Some(_) => choice.with_movements(),
+            None => choice,
+        }
+    }
+
+    // What is written of characters that hide or reorder text, where this is the policy's way.
+    // Where text is written over other text, the character before one may become another.
+    fn characters(self, default: Unicode) -> Unicode {
+        match (self.unicode, default) {
+            (Some(way), _) => way,
+            (None, Unicode::Join) if self.rows.is_some() => Unicode::Show,
+            (None, way) => way,
+        }
+    }
+
+    // What is written of bare carriage returns, where this is the policy's way: they are kept in a
+    // stream that is one, and, where the words do not say so, where they move what is written, as
+    // in a recording.
+    fn bare_returns(self, by_lines: bool, default: Returns) -> Returns {
+        match self.returns {
+            _ if !by_lines => Returns::Keep,
+            Some(way) => way,
+            None if self.is_cast || self.rows.is_some() => Returns::Keep,
+            None => default,
+        }
+    }
+
+    // How the bytes of a stream are read. The texts of a recording are characters, and where bytes
+    // are shown none is replaced.
+    fn encoding(self) -> Encoding {
+        let obeys = self.obeys || self.show.is_some();
+        match self.page {
+            _ if self.is_cast => Encoding::EightBit,
+            None if !obeys => Encoding::Utf8,
+            page => encoding_of(page, obeys),
+        }
+    }
+}
+
+fn returns_of(name: &str) -> Returns {
+    match name {
+        "show" => Returns::Show,
+        "drop" => Returns::Drop,
+        _ => Returns::Keep,
+    }
+}
+
+// The way of this name, which is one of those in the table.
+fn unicode_of(name: &str) -> Unicode {
+    match name {
+        "join" => Unicode::Join,
+        "show" => Unicode::Show,
+        "drop" => Unicode::Drop,
+        _ => Unicode::Keep,
+    }
+}
+
+// How what is shown is told by this word, which is one of those in the table, or none.
+fn marking_of(name: &str) -> Marking {
+    match name {
+        "escaped" => Marking::Escaped,
+        "color" => Marking::Reversed,
+        _ => Marking::Plain,
+    }
+}
