@@ -15,10 +15,10 @@ from rows import TOP
 from escape_stream import CommandKind, FieldName, ImageKind, Medium, Policy, SixelKind, _library
 
 STRUCTS: dict[str, type[ctypes.Structure]] = {
-    "escape_stream_filter": _library.RawFilter,
+    "escape_stream_filter_state": _library.RawFilter,
     "escape_stream_html": _library.RawPage,
     "escape_stream_normalizer": _library.RawNormalizer,
-    "escape_stream_function": _library.RawFunction,
+    "escape_stream_function_info": _library.RawFunction,
     "escape_stream_field": _library.RawField,
     "escape_stream_osc": _library.RawOsc,
     "escape_stream_image": _library.RawImage,
