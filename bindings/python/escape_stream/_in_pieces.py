@@ -13,7 +13,7 @@ _Self = TypeVar("_Self", bound="InPieces")
 
 
 class InPieces:
-    """A filter or a normalizer. It stays in the thread that made it."""
+    """A filter, a sanitizer or a normalizer. It stays in the thread that made it."""
 
     # What it is called, and the calls of the library: these take its struct first.
     _name: ClassVar[str]
