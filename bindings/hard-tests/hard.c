@@ -72,6 +72,8 @@ static void check_stream(uint64_t seed) {
     at_hand.streams++;
     at_hand.bytes += at_hand.stream.length;
     check_texts(at_hand.stream, check_events(at_hand.stream));
+    if (one_in(4))
+        check_logs(at_hand.stream);
 }
 
 static void begin(void) {
@@ -80,6 +82,7 @@ static void begin(void) {
     begin_events();
     begin_texts();
     begin_pieces();
+    begin_logs();
     begin_commands();
     begin_writes();
 }

@@ -67,6 +67,8 @@ void begin_texts(void);
 void check_texts(struct bytes stream, struct bytes shown);
 void begin_pieces(void);
 void check_pieces(const struct text_call *call, struct bytes text);
+void begin_logs(void);
+void check_logs(struct bytes stream);
 void check_functions(void);
 void begin_commands(void);
 enum reading { COMMANDS, IMAGES, QUERIES };

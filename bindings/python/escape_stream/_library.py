@@ -30,6 +30,8 @@ Bytes = bytes | bytearray | memoryview | mmap
 """What has the bytes of a stream."""
 
 DONE, NO_MEMORY, UNKNOWN_POLICY, NOT_BEGUN, NO_COMMAND, NOT_WRITABLE = range(6)
+UNKNOWN_SIZE, UNKNOWN_GROUP, UNKNOWN_LINKS, UNKNOWN_FRAMING, UNKNOWN_CHARACTERS = range(6, 11)
+UNKNOWN_RETURNS, UNKNOWN_ENCODING, UNKNOWN_SHOW, TOO_MANY_ROWS = range(11, 15)
 
 NONE, TEXT, CHARACTER, CONTROL, ESCAPE, CSI, OSC = range(7)
 DCS, DATA, DATA_BYTE, DCS_END, APC, FAILED, LIMIT = range(7, 14)
@@ -41,6 +43,47 @@ class RawFilter(Structure):
     """`struct escape_stream_filter_state`."""
 
     _fields_ = [("is_begun", c_bool), ("state", c_void_p)]
+
+
+class RawSanitizer(Structure):
+    """`struct escape_stream_sanitizer`."""
+
+    _fields_ = [("is_begun", c_bool), ("state", c_void_p)]
+
+
+class RawSanitizerOptions(Structure):
+    """`struct escape_stream_sanitizer_options`."""
+
+    _fields_ = [
+        ("size", c_uint32),
+        ("policy", c_uint32),
+        ("limit", c_uint64),
+        ("allowed", c_uint32),
+        ("denied", c_uint32),
+        ("links", c_uint32),
+        ("framing", c_uint32),
+        ("characters", c_uint32),
+        ("returns", c_uint32),
+        ("encoding", c_uint32),
+        ("show", c_uint32),
+        ("rows", c_uint32),
+        ("account", c_uint32),
+    ]
+
+
+class RawAccount(Structure):
+    """`struct escape_stream_account`."""
+
+    _fields_ = [
+        ("passed", c_uint64),
+        ("respelled", c_uint64),
+        ("shown", c_uint64),
+        ("replaced", c_uint64),
+        ("left_out", c_uint64),
+        ("swallowed", c_uint64),
+        ("overwritten", c_uint64),
+        ("length", c_uint64),
+    ]
 
 
 class RawPage(Structure):
@@ -186,6 +229,30 @@ filter_text.restype = c_size_t
 filter_end = _short.escape_stream_filter_end
 filter_end.argtypes = (POINTER(RawFilter),)
 filter_end.restype = None
+
+sanitizer_begin = _short.escape_stream_sanitizer_begin
+sanitizer_begin.argtypes = (POINTER(RawSanitizer), POINTER(RawSanitizerOptions))
+sanitizer_begin.restype = c_uint32
+
+sanitizer_feed = _long.escape_stream_sanitizer_feed
+sanitizer_feed.argtypes = (POINTER(RawSanitizer), *_length)
+sanitizer_feed.restype = c_uint32
+
+sanitizer_finish = _short.escape_stream_sanitizer_finish
+sanitizer_finish.argtypes = (POINTER(RawSanitizer),)
+sanitizer_finish.restype = c_uint32
+
+sanitizer_text = _short.escape_stream_sanitizer_text
+sanitizer_text.argtypes = (POINTER(RawSanitizer), c_size_t, *_room)
+sanitizer_text.restype = c_size_t
+
+sanitizer_account = _short.escape_stream_sanitizer_account
+sanitizer_account.argtypes = (POINTER(RawSanitizer), POINTER(RawAccount))
+sanitizer_account.restype = c_uint32
+
+sanitizer_end = _short.escape_stream_sanitizer_end
+sanitizer_end.argtypes = (POINTER(RawSanitizer),)
+sanitizer_end.restype = None
 
 html_begin = _short.escape_stream_html_begin
 html_begin.argtypes = (POINTER(RawPage), c_bool, c_bool, c_size_t)

@@ -6,16 +6,34 @@ import ctypes
 import os
 import shutil
 import subprocess
-from enum import IntEnum
+from enum import IntEnum, IntFlag
 from pathlib import Path
 
 import pytest
 from rows import TOP
 
-from escape_stream import CommandKind, FieldName, ImageKind, Medium, Policy, SixelKind, _library
+from escape_stream import (
+    Characters,
+    CommandKind,
+    Encoding,
+    FieldName,
+    Framing,
+    Group,
+    ImageKind,
+    Links,
+    Medium,
+    Policy,
+    Returns,
+    Show,
+    SixelKind,
+    _library,
+)
 
 STRUCTS: dict[str, type[ctypes.Structure]] = {
     "escape_stream_filter_state": _library.RawFilter,
+    "escape_stream_sanitizer": _library.RawSanitizer,
+    "escape_stream_sanitizer_options": _library.RawSanitizerOptions,
+    "escape_stream_account": _library.RawAccount,
     "escape_stream_html": _library.RawPage,
     "escape_stream_normalizer": _library.RawNormalizer,
     "escape_stream_function_info": _library.RawFunction,
@@ -26,13 +44,24 @@ STRUCTS: dict[str, type[ctypes.Structure]] = {
     "escape_stream_sixel": _library.RawSixel,
     "escape_stream_sixel_item": _library.RawSixelItem,
 }
-STATUSES = ("DONE", "NO_MEMORY", "UNKNOWN_POLICY", "NOT_BEGUN", "NO_COMMAND", "NOT_WRITABLE")
+STATUSES = (
+    *("DONE", "NO_MEMORY", "UNKNOWN_POLICY", "NOT_BEGUN", "NO_COMMAND", "NOT_WRITABLE"),
+    *("UNKNOWN_SIZE", "UNKNOWN_GROUP", "UNKNOWN_LINKS", "UNKNOWN_FRAMING", "UNKNOWN_CHARACTERS"),
+    *("UNKNOWN_RETURNS", "UNKNOWN_ENCODING", "UNKNOWN_SHOW", "TOO_MANY_ROWS"),
+)
 VALUES = ("VALUE_NUMBER", "VALUE_TEXT", "VALUE_SIZE")
 KINDS = (
     "NONE TEXT CHARACTER CONTROL ESCAPE CSI OSC DCS DATA DATA_BYTE DCS_END APC FAILED LIMIT".split()
 )
-ENUMS: dict[str, type[IntEnum]] = {
+ENUMS: dict[str, type[IntEnum] | type[IntFlag]] = {
     "POLICY": Policy,
+    "GROUP": Group,
+    "LINKS": Links,
+    "FRAMING": Framing,
+    "CHARACTERS": Characters,
+    "RETURNS": Returns,
+    "ENCODING": Encoding,
+    "SHOW": Show,
     "OSC": CommandKind,
     "KITTY": ImageKind,
     "MEDIUM": Medium,
@@ -54,7 +83,7 @@ def declared() -> dict[str, int]:
         found[f"ESCAPE_STREAM_{word}"] = getattr(_library, word)
     for prefix, enum in ENUMS.items():
         for it in enum:
-            found[f"ESCAPE_STREAM_{prefix}_{it.name}"] = it
+            found[f"ESCAPE_STREAM_{prefix}_{it.name}"] = int(it.value)
     return found
 
 

@@ -3,8 +3,8 @@
 //! origin.
 //!
 //! A stream is bytes as a program writes them to a terminal. Any bytes are a stream; each call
-//! takes one whole, but those of a [`Filter`], a writer, of a [`FilterReader`], of a
-//! [`NormalWriter`] and a [`NormalReader`], of an [`html::PiecePage`], which gives HTML of it, and of
+//! takes one whole, but those of a [`Sanitizer`], which is for logs, and of its writer and reader,
+//! of a [`Filter`], a writer, of a [`FilterReader`], of a [`NormalWriter`] and a [`NormalReader`], of an [`html::PiecePage`], which gives HTML of it, and of
 //! a [`Parser`], which take it in pieces. The module [`vte`] has that parser with the calls of the
 //! crate `vte`.
 //! [`ControlFunction`] and [`EscapeFunction`] name what sequences ask for, by tables that are made
@@ -72,6 +72,12 @@ mod parser;
 mod pieces;
 #[cfg(all(feature = "oneshot", feature = "std"))]
 mod reader;
+#[cfg(feature = "oneshot")]
+mod sanitizer;
+#[cfg(all(feature = "oneshot", feature = "std"))]
+mod sanitizer_io;
+#[cfg(feature = "oneshot")]
+mod sanitizer_options;
 #[cfg(feature = "serde")]
 mod serial;
 mod string_end;
@@ -95,6 +101,14 @@ pub use parameters::{Parameters, dcs_numbers, osc_number, osc_parts};
 pub use parser::{Entry, Event, Parser};
 #[cfg(all(feature = "oneshot", feature = "std"))]
 pub use reader::{FilterReader, NormalReader};
+#[cfg(feature = "oneshot")]
+pub use sanitizer::{Account, Sanitizer};
+#[cfg(all(feature = "oneshot", feature = "std"))]
+pub use sanitizer_io::{SanitizerReader, SanitizerWriter};
+#[cfg(feature = "oneshot")]
+pub use sanitizer_options::{
+    Characters, Encoding, Framing, Group, Marking, Returns, SanitizerOptions, Scheme,
+};
 pub use string_end::StringEnd;
 #[cfg(all(feature = "oneshot", feature = "std"))]
 pub use writer::{Filter, FilterWriter, NormalWriter};
@@ -117,6 +131,8 @@ pub enum Error {
     /// The bytes of a command or another action would not read back as it, as those of a title with
     /// a control. Nothing was written.
     NotWritable,
+    /// The options of a [`Sanitizer`] let more than 4,096 rows be written again.
+    TooManyRows,
 }
 
 impl fmt::Display for Error {
@@ -125,6 +141,7 @@ impl fmt::Display for Error {
             Error::Memory => f.write_str("out of memory"),
             Error::Failed => f.write_str("an earlier call failed"),
             Error::NotWritable => f.write_str("what is written would not read back"),
+            Error::TooManyRows => f.write_str("more than 4096 rows may be written again"),
         }
     }
 }

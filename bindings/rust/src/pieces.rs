@@ -1,5 +1,6 @@
 // SPDX-License-Identifier: MIT
-//! What takes a stream in pieces, and has the text of each: a filter, a page and a normalizer.
+//! What takes a stream in pieces, and has the text of each: a filter, a sanitizer, a page and a
+//! normalizer.
 #[cfg(feature = "std")]
 use crate::Error;
 
@@ -23,13 +24,13 @@ pub(crate) fn in_parts(
     }
 }
 
-/// A filter or a normalizer, for readers and writers.
+/// A filter, a sanitizer or a normalizer, for readers and writers.
 #[cfg(feature = "std")]
 pub(crate) trait InPieces {
     /// Takes the next piece.
     fn feed(&mut self, piece: &[u8]) -> Result<(), Error>;
 
-    /// Ends the stream, and begins the next.
+    /// Ends the stream, and begins the next, where there is one.
     fn finish(&mut self) -> Result<(), Error>;
 
     /// Writes the text that the last call added, from a byte of it on, and says how much.
@@ -53,6 +54,21 @@ impl InPieces for crate::PieceFilter {
 
 #[cfg(feature = "std")]
 impl InPieces for crate::Normalizer {
+    fn feed(&mut self, piece: &[u8]) -> Result<(), Error> {
+        self.feed(piece)
+    }
+
+    fn finish(&mut self) -> Result<(), Error> {
+        self.finish()
+    }
+
+    fn text_from(&mut self, from: usize, out: &mut [u8]) -> usize {
+        self.text_from(from, out)
+    }
+}
+
+#[cfg(feature = "std")]
+impl InPieces for crate::Sanitizer {
     fn feed(&mut self, piece: &[u8]) -> Result<(), Error> {
         self.feed(piece)
     }

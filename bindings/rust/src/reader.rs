@@ -156,9 +156,9 @@ impl<R: Read> Read for NormalReader<R> {
 
 // Reads what a filter or a normalizer has of what another reader gives.
 #[derive(Debug)]
-struct PieceReader<R, P> {
-    inner: R,
-    pieces: P,
+pub(crate) struct PieceReader<R, P> {
+    pub(crate) inner: R,
+    pub(crate) pieces: P,
     piece: Vec<u8>,
     // How much of the text that the last piece added was read.
     read: usize,
@@ -166,7 +166,7 @@ struct PieceReader<R, P> {
 }
 
 impl<R: Read, P: InPieces> PieceReader<R, P> {
-    fn new(inner: R, pieces: P) -> PieceReader<R, P> {
+    pub(crate) fn new(inner: R, pieces: P) -> PieceReader<R, P> {
         PieceReader {
             inner,
             pieces,
@@ -176,7 +176,7 @@ impl<R: Read, P: InPieces> PieceReader<R, P> {
         }
     }
 
-    fn read(&mut self, out: &mut [u8]) -> io::Result<usize> {
+    pub(crate) fn read(&mut self, out: &mut [u8]) -> io::Result<usize> {
         loop {
             let count = self.pieces.text_from(self.read, out);
             self.read += count;

@@ -187,9 +187,9 @@ impl<W: Write> Write for NormalWriter<W> {
 
 // Writes to another writer what a filter or a normalizer has of what is written to it.
 #[derive(Debug)]
-struct PieceWriter<W, P> {
-    inner: W,
-    pieces: P,
+pub(crate) struct PieceWriter<W, P> {
+    pub(crate) inner: W,
+    pub(crate) pieces: P,
     // How much of the text that the last piece added was written.
     written: usize,
     // Room for a part of the text.
@@ -197,7 +197,7 @@ struct PieceWriter<W, P> {
 }
 
 impl<W: Write, P: InPieces> PieceWriter<W, P> {
-    fn new(inner: W, pieces: P) -> PieceWriter<W, P> {
+    pub(crate) fn new(inner: W, pieces: P) -> PieceWriter<W, P> {
         PieceWriter {
             inner,
             pieces,
@@ -206,7 +206,7 @@ impl<W: Write, P: InPieces> PieceWriter<W, P> {
         }
     }
 
-    fn write(&mut self, bytes: &[u8]) -> io::Result<usize> {
+    pub(crate) fn write(&mut self, bytes: &[u8]) -> io::Result<usize> {
         self.write_text()?;
         self.written = 0;
         self.pieces.feed(bytes)?;
@@ -215,16 +215,21 @@ impl<W: Write, P: InPieces> PieceWriter<W, P> {
         Ok(bytes.len())
     }
 
-    fn flush(&mut self) -> io::Result<()> {
+    pub(crate) fn flush(&mut self) -> io::Result<()> {
         self.write_text()?;
         self.inner.flush()
     }
 
     fn finish(&mut self) -> io::Result<()> {
         self.write_text()?;
-        self.written = 0;
-        self.pieces.finish()?;
+        self.close()?;
         self.flush()
+    }
+
+    // Ends the stream, once the text is written.
+    pub(crate) fn close(&mut self) -> Result<(), Error> {
+        self.written = 0;
+        self.pieces.finish()
     }
 
     // Writes what is left of the text.
@@ -248,7 +253,7 @@ impl From<Error> for io::Error {
     fn from(error: Error) -> io::Error {
         let kind = match error {
             Error::Memory => ErrorKind::OutOfMemory,
-            Error::NotWritable => ErrorKind::InvalidInput,
+            Error::NotWritable | Error::TooManyRows => ErrorKind::InvalidInput,
             Error::Failed => ErrorKind::Other,
         };
         io::Error::new(kind, error)

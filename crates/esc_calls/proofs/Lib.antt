@@ -1,5 +1,6 @@
 pub mod Known
 pub mod AsBox
+mod Bits
 pub mod Keeping
 pub mod Outputs
 pub mod Rows

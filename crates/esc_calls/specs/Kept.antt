@@ -7,8 +7,10 @@ use Rattle.esc_filter.specs.declared.policy.Policy.{Policy}
 use Rattle.esc_html.specs.Fed.{added_by as added_by_page, closing_of}
 use Rattle.esc_normal.specs.Normalising.{added_by as added_by_form}
 use Rattle.esc_normal.specs.declared.normaliser.Normaliser.{Normaliser}
+use Rattle.esc_sanitize.specs.Sanitized.{added_by as added_by_sanitizer}
 use Rattle.esc_calls.specs.declared.kept.Kept.{Kept}
 use Rattle.esc_calls.specs.declared.kept.Kept.TheVariants as kept
+use Rattle.esc_calls.specs.Sanitizers.{Sanitizing, chain}
 use Rattle.esc_calls.specs.declared.page_state.PageState.{PageState}
 
 -- the text of a page: what the last piece added, or what closes it
@@ -20,22 +22,33 @@ abbrev pub kept_text : Kept → List ℕ
 kept_text (kept.Filter f) = added_by_filter f
 kept_text (kept.Page p) = state_text p
 kept_text (kept.Normal n) = added_by_form n
+kept_text (kept.Sanitizer z) = added_by_sanitizer chain z
 
--- the filter, the page and the normaliser that is kept, where it is one
+-- the filter, the page, the normaliser and the sanitizer that is kept, where it is one
 abbrev pub filter_in : Option Kept → Option (Filter Policy Global)
 filter_in None = None
 filter_in (Some (kept.Filter f)) = Some f
 filter_in (Some (kept.Page p)) = None
 filter_in (Some (kept.Normal n)) = None
+filter_in (Some (kept.Sanitizer z)) = None
 
 abbrev pub page_in : Option Kept → Option PageState
 page_in None = None
 page_in (Some (kept.Filter f)) = None
 page_in (Some (kept.Page p)) = Some p
 page_in (Some (kept.Normal n)) = None
+page_in (Some (kept.Sanitizer z)) = None
 
 abbrev pub normaliser_in : Option Kept → Option (Normaliser Global)
 normaliser_in None = None
 normaliser_in (Some (kept.Filter f)) = None
 normaliser_in (Some (kept.Page p)) = None
 normaliser_in (Some (kept.Normal n)) = Some n
+normaliser_in (Some (kept.Sanitizer z)) = None
+
+abbrev pub sanitizer_in : Option Kept → Option Sanitizing
+sanitizer_in None = None
+sanitizer_in (Some (kept.Filter f)) = None
+sanitizer_in (Some (kept.Page p)) = None
+sanitizer_in (Some (kept.Normal n)) = None
+sanitizer_in (Some (kept.Sanitizer z)) = Some z

@@ -1,3 +1,4 @@
+pub mod AccountRows
 pub mod FilterPieces
 pub mod Filtered
 pub mod FunctionRows
@@ -13,6 +14,10 @@ pub mod PageStates
 pub mod Policies
 pub mod QueryValues
 pub mod Reads
+pub mod SanitizerGroups
+pub mod SanitizerOptions
+pub mod SanitizerPieces
+pub mod Sanitizers
 pub mod SixelValues
 pub mod Written
 pub mod WrittenImages

@@ -8,7 +8,8 @@ use crate::parts::Parts;
 use std::alloc::Global;
 use std::mem;
 
-/// A filter, a page or a normaliser of a stream that comes in pieces, in the memory of its caller.
+/// A filter, a page, a normaliser or a sanitizer of a stream that comes in pieces, in the memory of
+/// its caller.
 #[repr(C)]
 #[derive(Drop)]
 pub struct InPieces {

@@ -3,8 +3,9 @@ ghost use Rattle.std.specs.Prelude.{◌≡◌};
 ghost use Rattle.esc_calls.specs.Kept.{kept_text};
 
 use crate::page_state::PageState;
-use esc_filter::{Filter, Policy};
+use esc_filter::{Filter, Groups, Policy};
 use esc_normal::Normaliser;
+use esc_sanitize::Sanitizer;
 
 /// What a stream in pieces keeps, in a block of its own.
 #[derive(Drop)]
@@ -15,6 +16,8 @@ pub enum Kept {
     Page(PageState),
     /// A normaliser.
     Normal(Normaliser),
+    /// A sanitizer.
+    Sanitizer(Sanitizer<Groups<'static>>),
 }
 
 impl Kept {
@@ -26,6 +29,7 @@ impl Kept {
             Kept::Filter(filter) => filter.text(),
             Kept::Page(page) => page.text(),
             Kept::Normal(normaliser) => normaliser.text(),
+            Kept::Sanitizer(sanitizer) => sanitizer.text(),
         }
     }
 }

@@ -2,9 +2,11 @@
 //! which runs again wherever it is built, only hands on what is promised here.
 #![tactic(auto)]
 
+pub mod account_row;
 mod change_kept;
 mod clear;
 mod common;
+pub mod fault;
 pub mod filter;
 pub mod filter_pieces;
 pub mod function;
@@ -25,6 +27,11 @@ mod page_state;
 mod parts;
 pub mod query_value;
 mod refusal;
+mod said;
+mod said_groups;
+mod said_guard;
+pub mod sanitizer_options;
+pub mod sanitizer_pieces;
 mod shown;
 pub mod sixel;
 pub mod sixel_value;
@@ -44,7 +51,8 @@ pub const NO_MEMORY: u32 = 1;
 /// No policy has this number. Nothing was written.
 pub const UNKNOWN_POLICY: u32 = 2;
 
-/// The filter, the page or the normaliser in pieces was not begun, or has ended. Nothing was taken.
+/// The filter, the page, the normaliser or the sanitizer in pieces was not begun, or has ended.
+/// Nothing was taken.
 pub const NOT_BEGUN: u32 = 3;
 
 /// No command, image or query has this kind, these fields or this value. Nothing was written.
@@ -52,3 +60,30 @@ pub const NO_COMMAND: u32 = 4;
 
 /// The text of the command, image or query would not read back as it. Nothing was written.
 pub const NOT_WRITABLE: u32 = 5;
+
+/// The options of a sanitizer have another size than this version knows.
+pub const UNKNOWN_SIZE: u32 = 6;
+
+/// No group has one of the bits that options allow or deny.
+pub const UNKNOWN_GROUP: u32 = 7;
+
+/// No schemes of links have the number that options have.
+pub const UNKNOWN_LINKS: u32 = 8;
+
+/// No framing has the number that options have.
+pub const UNKNOWN_FRAMING: u32 = 9;
+
+/// The number that options have of characters that hide or reorder text says nothing.
+pub const UNKNOWN_CHARACTERS: u32 = 10;
+
+/// The number that options have of carriage returns says nothing.
+pub const UNKNOWN_RETURNS: u32 = 11;
+
+/// No encoding has the number that options have.
+pub const UNKNOWN_ENCODING: u32 = 12;
+
+/// No way to show what does not pass has the number that options have.
+pub const UNKNOWN_SHOW: u32 = 13;
+
+/// Options let more rows be written again than 4096.
+pub const TOO_MANY_ROWS: u32 = 14;

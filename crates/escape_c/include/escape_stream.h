@@ -7,7 +7,8 @@
  * control functions of ECMA-48 and xterm, such as colours, cursor movements and titles. Any bytes
  * are a stream. Each of the first three calls takes one whole, and keeps nothing. A filter in
  * pieces, escape_stream_filter_begin and the calls after it, takes one as it comes, and so do a
- * page, escape_stream_html_begin and the calls after it, and a normalizer,
+ * sanitizer, escape_stream_sanitizer_begin and the calls after it, which is for logs: line by line,
+ * with an account; a page, escape_stream_html_begin and the calls after it, and a normalizer,
  * escape_stream_normal_begin and the calls after it. The calls escape_stream_read_.. take the text
  * of one command, query or image, and the calls escape_stream_write_.. write one.
  *
@@ -25,19 +26,19 @@
  *     during the call; of the calls escape_stream_write_.. so are the `text_length` bytes of
  *     `text`, the `count` fields or items, and `sixel`.
  *   - `out` is `capacity` initialized bytes that can be read and written; `needed`, `answer`,
- *     `osc`, `image`, `query` and `sixel` point to initialized objects of their types, `fields` to
- *     `field_room` of them, `items` to `item_room`, and `params` to `count`. No two of these and of
- *     `bytes` or `text` overlap, but `params` and `text`, and nobody else reads or writes them
- *     during the call.
+ *     `options`, `account`, `osc`, `image`, `query` and `sixel` point to initialized objects of
+ *     their types, `fields` to `field_room` of them, `items` to `item_room`, and `params` to
+ *     `count`. No two of these and of `bytes` or `text` overlap, but `params` and `text`, and
+ *     nobody else reads or writes them during the call.
  *   - No object has more than PTRDIFF_MAX bytes.
  *   - malloc, realloc and free are of one allocator, and align a block to each power of two up to
  *     16 that divides its size.
  *   - The call is made neither in a signal handler, nor in the child of a process with threads that
  *     has only forked.
  *
- * Calls may run in several threads at once, but those of one filter, page or normalizer one after
- * another: it may go from thread to thread, as a stream of zlib may. No call keeps anything of a
- * thread, starts one, takes a lock, reads a clock or touches a file.
+ * Calls may run in several threads at once, but those of one filter, sanitizer, page or normalizer
+ * one after another: it may go from thread to thread, as a stream of zlib may. No call keeps
+ * anything of a thread, starts one, takes a lock, reads a clock or touches a file.
  */
 #ifndef ESCAPE_STREAM_H
 #define ESCAPE_STREAM_H
@@ -70,11 +71,22 @@ const char *escape_stream_version(void);
 #define ESCAPE_STREAM_DONE 0           /* the call was done */
 #define ESCAPE_STREAM_NO_MEMORY 1      /* a request for memory was refused */
 #define ESCAPE_STREAM_UNKNOWN_POLICY 2 /* no policy has this number */
-/* the filter, page or normalizer was not begun, or has ended */
+/* the filter, sanitizer, page or normalizer was not begun, or has ended */
 #define ESCAPE_STREAM_NOT_BEGUN 3
 /* no command, image or query has this kind and these fields, or this value */
 #define ESCAPE_STREAM_NO_COMMAND 4
 #define ESCAPE_STREAM_NOT_WRITABLE 5   /* its text would not read back as it */
+
+/* Which of the options of escape_stream_sanitizer_begin is none, beside UNKNOWN_POLICY. */
+#define ESCAPE_STREAM_UNKNOWN_SIZE 6       /* `size` is not that of this version */
+#define ESCAPE_STREAM_UNKNOWN_GROUP 7      /* `allowed` or `denied` has a bit of no group */
+#define ESCAPE_STREAM_UNKNOWN_LINKS 8      /* `links` has a bit of no scheme */
+#define ESCAPE_STREAM_UNKNOWN_FRAMING 9    /* no framing has this number */
+#define ESCAPE_STREAM_UNKNOWN_CHARACTERS 10 /* `characters` says nothing */
+#define ESCAPE_STREAM_UNKNOWN_RETURNS 11   /* `returns` says nothing */
+#define ESCAPE_STREAM_UNKNOWN_ENCODING 12  /* no encoding has this number */
+#define ESCAPE_STREAM_UNKNOWN_SHOW 13      /* `show` says nothing */
+#define ESCAPE_STREAM_TOO_MANY_ROWS 14     /* `rows` is more than 4096 */
 
 /*
  * The policies of escape_stream_filter and escape_stream_filter_begin. Each admits all that the one
@@ -273,6 +285,210 @@ size_t escape_stream_filter_text(
 
 /* Ends a filter, and gives back what it took. One that is not begun stays so. */
 void escape_stream_filter_end(struct escape_stream_filter_state *filter);
+
+/*
+ * A filter of a log, or of another stream of unknown origin, that comes in pieces: what the program
+ * `escfilter` writes. Where a stream goes line by line, as it does by the policies TEXT and COLOR,
+ * a string that nobody ends takes away the rest of its line, and no line after it. It lies in the
+ * caller's memory as a filter does: set it to zero before the first call, as by = {0}.
+ */
+struct escape_stream_sanitizer {
+    bool is_begun;
+    void *state;
+};
+
+/*
+ * The groups of what a stream does, each a bit of `allowed` and of `denied`. The policy TEXT passes
+ * CHARACTERS and LAYOUT, COLOR those and SGR, HIDDEN and LINKS, SCREEN those and all up to PALETTE,
+ * and ALL all.
+ */
+#define ESCAPE_STREAM_GROUP_CHARACTERS 0x1 /* characters but DEL */
+#define ESCAPE_STREAM_GROUP_LAYOUT 0x2     /* tab, line feed and carriage return */
+#define ESCAPE_STREAM_GROUP_SGR 0x4        /* renditions, but those of HIDDEN */
+#define ESCAPE_STREAM_GROUP_HIDDEN 0x8     /* renditions that conceal text (SGR 8) */
+#define ESCAPE_STREAM_GROUP_LINKS 0x10     /* hyperlinks (OSC 8) */
+#define ESCAPE_STREAM_GROUP_CONTROLS 0x20  /* bell, backspace, VT and form feed */
+#define ESCAPE_STREAM_GROUP_CURSOR 0x40    /* cursor movement, tab stops */
+#define ESCAPE_STREAM_GROUP_ERASE 0x80     /* erasing, inserting, deleting, filling */
+#define ESCAPE_STREAM_GROUP_SCROLL 0x100   /* scrolling, index and next line, margins */
+#define ESCAPE_STREAM_GROUP_MODES 0x200    /* modes of what is shown */
+#define ESCAPE_STREAM_GROUP_CHARSETS 0x400 /* character sets, shifts, wide lines */
+#define ESCAPE_STREAM_GROUP_PALETTE 0x800  /* colours of the palette */
+#define ESCAPE_STREAM_GROUP_TITLES 0x1000  /* titles of the window and of the icon */
+#define ESCAPE_STREAM_GROUP_CLIPBOARD 0x2000 /* the clipboard, set and cleared */
+#define ESCAPE_STREAM_GROUP_IMAGES 0x4000  /* images of kitty and sixel */
+#define ESCAPE_STREAM_GROUP_OTHER 0x8000   /* anything else, queries too */
+
+/* The schemes of links that pass, each a bit of `links`; those of any where no bit is set. */
+#define ESCAPE_STREAM_LINKS_HTTP 1
+#define ESCAPE_STREAM_LINKS_HTTPS 2
+#define ESCAPE_STREAM_LINKS_MAILTO 4
+
+/* Whether each line is a stream of its own; 0: where the policy is TEXT or COLOR. */
+#define ESCAPE_STREAM_FRAMING_LINES 1
+#define ESCAPE_STREAM_FRAMING_WHOLE 2
+
+/*
+ * What is written of characters that hide or reorder text: themselves, themselves where they belong
+ * to the character before them and else their number as <U+202E>, their number, or nothing; 0: JOIN
+ * by TEXT and COLOR, but SHOW with `rows`, and else KEEP.
+ */
+#define ESCAPE_STREAM_CHARACTERS_KEEP 1
+#define ESCAPE_STREAM_CHARACTERS_JOIN 2
+#define ESCAPE_STREAM_CHARACTERS_SHOW 3
+#define ESCAPE_STREAM_CHARACTERS_DROP 4
+
+/*
+ * What is written of a carriage return within a line: itself, ^M, or nothing; 0: SHOW by TEXT and
+ * COLOR without `rows`, and else KEEP. A stream that is one keeps it.
+ */
+#define ESCAPE_STREAM_RETURNS_KEEP 1
+#define ESCAPE_STREAM_RETURNS_SHOW 2
+#define ESCAPE_STREAM_RETURNS_DROP 3
+
+/*
+ * How bytes are read. A byte 80 to 9F that is no part of a character is replaced by U+FFFD, and by
+ * an encoding .._C1 it is a control, as it is wherever `show` is not 0.
+ */
+#define ESCAPE_STREAM_ENCODING_UTF_8 0
+#define ESCAPE_STREAM_ENCODING_UTF_8_C1 1
+#define ESCAPE_STREAM_ENCODING_LATIN_1 2
+#define ESCAPE_STREAM_ENCODING_LATIN_1_C1 3
+#define ESCAPE_STREAM_ENCODING_WINDOWS_1250 4 /* and so on up to windows-1258, 12 */
+#define ESCAPE_STREAM_ENCODING_WINDOWS_1251 5
+#define ESCAPE_STREAM_ENCODING_WINDOWS_1252 6
+#define ESCAPE_STREAM_ENCODING_WINDOWS_1253 7
+#define ESCAPE_STREAM_ENCODING_WINDOWS_1254 8
+#define ESCAPE_STREAM_ENCODING_WINDOWS_1255 9
+#define ESCAPE_STREAM_ENCODING_WINDOWS_1256 10
+#define ESCAPE_STREAM_ENCODING_WINDOWS_1257 11
+#define ESCAPE_STREAM_ENCODING_WINDOWS_1258 12
+
+/*
+ * How what does not pass is shown in its place, as ^[]0;title^G; 0: it is left out. ESCAPED shows
+ * each ^ and < of other text too, as <5E> and <3C>, so that all can be read back, and REVERSED
+ * shows in reverse video, where that passes.
+ */
+#define ESCAPE_STREAM_SHOW_PLAIN 1
+#define ESCAPE_STREAM_SHOW_ESCAPED 2
+#define ESCAPE_STREAM_SHOW_REVERSED 3
+
+/*
+ * How a stream is sanitized: what the options of `escfilter` say of that. Begin with the value
+ * ESCAPE_STREAM_SANITIZER_OPTIONS_INIT, and set what is to be otherwise. A later version may add
+ * fields at the end: it takes `size` from an older header too, and then has what is usual of them.
+ */
+struct escape_stream_sanitizer_options {
+    uint32_t size;       /* sizeof(struct escape_stream_sanitizer_options) */
+    uint32_t policy;     /* what passes: ESCAPE_STREAM_POLICY_.. */
+    uint64_t limit;      /* how many bytes are kept of an unfinished sequence, string or line */
+    uint32_t allowed;    /* the groups that pass besides: ESCAPE_STREAM_GROUP_.. */
+    uint32_t denied;     /* the groups of all these that do not pass */
+    uint32_t links;      /* the schemes of the links that pass: ESCAPE_STREAM_LINKS_.. */
+    uint32_t framing;    /* ESCAPE_STREAM_FRAMING_.. */
+    uint32_t characters; /* ESCAPE_STREAM_CHARACTERS_.. */
+    uint32_t returns;    /* ESCAPE_STREAM_RETURNS_.. */
+    uint32_t encoding;   /* ESCAPE_STREAM_ENCODING_.. */
+    uint32_t show;       /* ESCAPE_STREAM_SHOW_.. */
+    uint32_t rows;       /* how many rows may be written again, up to 4096: of text that is, as of
+                            a progress bar, what a terminal has at the end is written; 0: all is */
+    uint32_t account;    /* whether an account is kept, which costs time and memory: 0 is no */
+};
+
+/* The policy COLOR, a limit of 1 MiB, an account, and of all else what is usual: `escfilter`. */
+#define ESCAPE_STREAM_SANITIZER_OPTIONS_INIT                                                       \
+    {(uint32_t)sizeof(struct escape_stream_sanitizer_options),                                     \
+     ESCAPE_STREAM_POLICY_COLOR, 1048576, 0, 0, 0, 0, 0, 0, 0, 0, 0, 1}
+
+/*
+ * Begins a stream, which is sanitized as the options say; they are not looked at after the call. A
+ * sanitizer that was begun before is ended first.
+ *
+ * ESCAPE_STREAM_DONE and ESCAPE_STREAM_NO_MEMORY are statuses, and where an option is none,
+ * ESCAPE_STREAM_UNKNOWN_POLICY and ESCAPE_STREAM_UNKNOWN_SIZE to ESCAPE_STREAM_TOO_MANY_ROWS, which
+ * say which. After any but the first the sanitizer is not begun, and keeps nothing.
+ */
+uint32_t escape_stream_sanitizer_begin(struct escape_stream_sanitizer *sanitizer,
+                                       const struct escape_stream_sanitizer_options *options);
+
+/*
+ * Takes the next piece of the stream, in whatever pieces it comes. What it adds to the text is then
+ * what escape_stream_sanitizer_text gives; that of the piece before is gone. The texts of all
+ * pieces and of the end, one after another, are what `escfilter` writes.
+ *
+ * By the policy TEXT without `rows` the text holds the bytes 09, 0A, 0D, 20 to 7E and well-formed
+ * UTF-8 from U+00A0 on, and no others; by COLOR, and with `rows`, whole renditions and links too.
+ *
+ * ESCAPE_STREAM_NO_MEMORY: the sanitizer has ended, as by escape_stream_sanitizer_end. The texts
+ * before it are the beginning of what the whole stream would have given. ESCAPE_STREAM_NOT_BEGUN,
+ * also after the end of the stream, which gives the sanitizer back, is the only other status but
+ * ESCAPE_STREAM_DONE.
+ */
+uint32_t escape_stream_sanitizer_feed(struct escape_stream_sanitizer *sanitizer,
+                                      const uint8_t *bytes, size_t length);
+
+/*
+ * Ends the stream. What that adds to the text is then what escape_stream_sanitizer_text gives: what
+ * was unfinished, as far as it is shown, what takes back what the stream left changed at a
+ * terminal, and the rows that are left. The account is then that of the whole stream.
+ *
+ * The statuses are those of escape_stream_sanitizer_feed. For another stream, begin again.
+ */
+uint32_t escape_stream_sanitizer_finish(struct escape_stream_sanitizer *sanitizer);
+
+/*
+ * Writes the text that the last piece or the end of the stream added, from its byte `from` on, to
+ * the beginning of `out`, as escape_stream_filter_text does.
+ */
+size_t escape_stream_sanitizer_text(struct escape_stream_sanitizer *sanitizer, size_t from,
+                                    uint8_t *out, size_t capacity);
+
+/* What became of the bytes of a stream: how many of them, in UTF-8 where an encoding has others. */
+struct escape_stream_account {
+    uint64_t passed;      /* are in the text as they came */
+    uint64_t respelled;   /* are in the text in another spelling */
+    uint64_t shown;       /* are in the text as visible characters */
+    uint64_t replaced;    /* have U+FFFD in the text for them */
+    uint64_t left_out;    /* mean something that does not pass */
+    uint64_t swallowed;   /* mean nothing, as of a string that nobody ended */
+    uint64_t overwritten; /* have other text in their place */
+    uint64_t length;      /* there are in all: the sum of these */
+};
+
+/*
+ * Writes what became of the bytes of the stream: of the lines, or of the parts of a stream that is
+ * one, that have ended; and of all, once the stream has ended. The sums are then as many as the
+ * stream has bytes, where it has fewer than 2^62. Zeros where the options ask for no account.
+ *
+ * ESCAPE_STREAM_NOT_BEGUN is the only other status but ESCAPE_STREAM_DONE: nothing was written.
+ *
+ * Example: a log from standard input, safe to print, and how much of it was not.
+ *
+ *     struct escape_stream_sanitizer log = {0};
+ *     struct escape_stream_sanitizer_options options = ESCAPE_STREAM_SANITIZER_OPTIONS_INIT;
+ *     struct escape_stream_account account = {0};
+ *     uint8_t bytes[4096], out[4096] = {0};
+ *     size_t length, count;
+ *     uint32_t status = escape_stream_sanitizer_begin(&log, &options);
+ *     while (status == ESCAPE_STREAM_DONE) {
+ *         length = fread(bytes, 1, sizeof bytes, stdin);
+ *         status = length > 0 ? escape_stream_sanitizer_feed(&log, bytes, length)
+ *                             : escape_stream_sanitizer_finish(&log);
+ *         for (size_t at = 0;
+ *              (count = escape_stream_sanitizer_text(&log, at, out, sizeof out)) > 0; at += count)
+ *             fwrite(out, 1, count, stdout);
+ *         if (length == 0)
+ *             break;
+ *     }
+ *     if (escape_stream_sanitizer_account(&log, &account) == ESCAPE_STREAM_DONE)
+ *         fprintf(stderr, "%" PRIu64 " bytes were left out\n", account.left_out);
+ *     escape_stream_sanitizer_end(&log);
+ */
+uint32_t escape_stream_sanitizer_account(struct escape_stream_sanitizer *sanitizer,
+                                         struct escape_stream_account *account);
+
+/* Ends a sanitizer, and gives back what it took. One that is not begun stays so. */
+void escape_stream_sanitizer_end(struct escape_stream_sanitizer *sanitizer);
 
 /*
  * A stream that comes in pieces, as HTML: its characters, tabs and line feeds, with colours and

@@ -3,9 +3,9 @@
 //!
 //! A call that takes a stream whole returns a status: `DONE`, or why nothing was written. A text
 //! goes into the caller's buffer, as much of it as fits, and its whole length into `needed`.
-//! The filter, the HTML and the normal form of a stream in pieces are each an `InPieces` of the
-//! caller's. Other calls name a function, or read and write commands, images and queries. The crate
-//! `esc_calls` does what each call says.
+//! The filter, the sanitizer, the HTML and the normal form of a stream in pieces are each an
+//! `InPieces` of the caller's. Other calls name a function, or read and write commands, images and
+//! queries. The crate `esc_calls` does what each call says.
 //!
 //! ```text
 //! const uint8_t stream[] = "a\x1b]0;a title\x07 \x1b[1;31mred";
@@ -19,18 +19,25 @@ mod function;
 mod html;
 mod normal;
 mod read;
+mod sanitizer;
 mod write_kitty;
 mod write_osc;
 mod write_sixel;
 mod write_tcap;
 
+pub use esc_calls::account_row::AccountRow;
 pub use esc_calls::function_row::FunctionRow;
 pub use esc_calls::image_value::ImageValue;
 pub use esc_calls::in_pieces::InPieces;
 pub use esc_calls::osc_value::OscValue;
 pub use esc_calls::query_value::QueryValue;
+pub use esc_calls::sanitizer_options::SanitizerOptions;
 pub use esc_calls::sixel_value::SixelValue;
-pub use esc_calls::{DONE, NO_COMMAND, NO_MEMORY, NOT_BEGUN, NOT_WRITABLE, UNKNOWN_POLICY};
+pub use esc_calls::{
+    DONE, NO_COMMAND, NO_MEMORY, NOT_BEGUN, NOT_WRITABLE, TOO_MANY_ROWS, UNKNOWN_CHARACTERS,
+    UNKNOWN_ENCODING, UNKNOWN_FRAMING, UNKNOWN_GROUP, UNKNOWN_LINKS, UNKNOWN_POLICY,
+    UNKNOWN_RETURNS, UNKNOWN_SHOW, UNKNOWN_SIZE,
+};
 pub use filter::{
     escape_stream_filter, escape_stream_filter_begin, escape_stream_filter_end,
     escape_stream_filter_feed, escape_stream_filter_finish, escape_stream_filter_text,
@@ -50,6 +57,10 @@ pub use normal::{
 pub use read::{
     escape_stream_read_kitty, escape_stream_read_osc, escape_stream_read_sixel,
     escape_stream_read_tcap,
+};
+pub use sanitizer::{
+    escape_stream_sanitizer_account, escape_stream_sanitizer_begin, escape_stream_sanitizer_end,
+    escape_stream_sanitizer_feed, escape_stream_sanitizer_finish, escape_stream_sanitizer_text,
 };
 pub use write_kitty::escape_stream_write_kitty;
 pub use write_osc::escape_stream_write_osc;

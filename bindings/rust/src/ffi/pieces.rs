@@ -1,7 +1,7 @@
 // SPDX-License-Identifier: MIT
-//! The calls that take a stream in pieces: a filter, a page and a normalizer.
+//! The calls that take a stream in pieces: a filter, a sanitizer, a page and a normalizer.
 use super::{NOT_BEGUN, done, number};
-use crate::{Error, Policy};
+use crate::{Account, Error, Policy};
 
 extern "C" {
     fn escape_stream_filter_begin(filter: *mut Filter, policy: u32, limit: usize) -> u32;
@@ -43,9 +43,29 @@ extern "C" {
         capacity: usize,
     ) -> usize;
     fn escape_stream_normal_end(normalizer: *mut Normalizer);
+    fn escape_stream_sanitizer_begin(
+        sanitizer: *mut Sanitizer,
+        options: *const SanitizerOptions,
+    ) -> u32;
+    fn escape_stream_sanitizer_feed(
+        sanitizer: *mut Sanitizer,
+        bytes: *const u8,
+        length: usize,
+    ) -> u32;
+    fn escape_stream_sanitizer_finish(sanitizer: *mut Sanitizer) -> u32;
+    fn escape_stream_sanitizer_text(
+        sanitizer: *mut Sanitizer,
+        from: usize,
+        out: *mut u8,
+        capacity: usize,
+    ) -> usize;
+    fn escape_stream_sanitizer_account(sanitizer: *mut Sanitizer, account: *mut Account) -> u32;
+    fn escape_stream_sanitizer_end(sanitizer: *mut Sanitizer);
 }
 
-// What the three have in common: the struct, whose fields are the library's, and the calls but that
+const TOO_MANY_ROWS: u32 = 14;
+
+// What they have in common: the struct, whose fields are the library's, and the calls but that
 // which begins it. What it points to is in use by it alone, since it is never copied.
 macro_rules! in_pieces {
     ($(#[$doc:meta])* $name:ident, $feed:ident, $finish:ident, $text:ident, $end:ident) => {
@@ -134,6 +154,15 @@ in_pieces! {
     escape_stream_normal_end
 }
 
+in_pieces! {
+    /// A sanitizer of a stream in pieces.
+    Sanitizer,
+    escape_stream_sanitizer_feed,
+    escape_stream_sanitizer_finish,
+    escape_stream_sanitizer_text,
+    escape_stream_sanitizer_end
+}
+
 impl Filter {
     /// Begins a stream.
     pub fn begin(&mut self, policy: Policy, limit: usize) -> Result<(), Error> {
@@ -159,5 +188,69 @@ impl Normalizer {
         // SAFETY: as of a filter.
         let status = unsafe { escape_stream_normal_begin(self, limit) };
         done(status, ())
+    }
+}
+
+impl Sanitizer {
+    /// Begins a stream.
+    pub fn begin(&mut self, options: &SanitizerOptions) -> Result<(), Error> {
+        // SAFETY: as of a filter; the options are what the type asks for. By clause `wrong` each
+        // other status says which of them is none, and of those that are made here the rows alone
+        // can be.
+        match unsafe { escape_stream_sanitizer_begin(self, options) } {
+            TOO_MANY_ROWS => Err(Error::TooManyRows),
+            status => done(status, ()),
+        }
+    }
+
+    /// The account of the stream.
+    pub fn account(&mut self) -> Result<Account, Error> {
+        let mut account = Account::default();
+        // SAFETY: as in `begin`; the account is what the type asks for. By clause `refused` there is
+        // no other status than these, and the account is as it was after the last.
+        match unsafe { escape_stream_sanitizer_account(self, &mut account) } {
+            NOT_BEGUN => Err(Error::Failed),
+            status => done(status, account),
+        }
+    }
+}
+
+/// How a stream is sanitized.
+#[repr(C)]
+#[derive(Clone, Copy, Debug)]
+pub struct SanitizerOptions {
+    size: u32,
+    policy: u32,
+    pub limit: u64,
+    pub allowed: u32,
+    pub denied: u32,
+    pub links: u32,
+    pub framing: u32,
+    pub characters: u32,
+    pub returns: u32,
+    pub encoding: u32,
+    pub show: u32,
+    pub rows: u32,
+    pub account: u32,
+}
+
+impl SanitizerOptions {
+    /// What is usual by this policy, without a limit.
+    pub fn of(policy: Policy) -> SanitizerOptions {
+        SanitizerOptions {
+            size: core::mem::size_of::<SanitizerOptions>() as u32,
+            policy: number(policy),
+            limit: 0,
+            allowed: 0,
+            denied: 0,
+            links: 0,
+            framing: 0,
+            characters: 0,
+            returns: 0,
+            encoding: 0,
+            show: 0,
+            rows: 0,
+            account: 0,
+        }
     }
 }

@@ -1,0 +1,167 @@
+// SPDX-License-Identifier: MIT
+//! A writer and a reader that filter logs.
+use crate::reader::PieceReader;
+use crate::writer::PieceWriter;
+use crate::{Account, Error, Sanitizer, SanitizerOptions};
+use std::io::{self, ErrorKind, Read, Write};
+
+/// Writes to another writer what a [`Sanitizer`] makes of the log that is written to it, as it
+/// comes.
+///
+/// When it writes, and which errors it reports, is as of a [`Filter`](crate::Filter). The end of
+/// the log, of which a line may be unfinished, is [`finish`](SanitizerWriter::finish).
+///
+/// ```
+/// use escape_stream::{Policy, SanitizerOptions, SanitizerWriter};
+/// use std::io::Write;
+///
+/// let options = SanitizerOptions::new(Policy::Text);
+/// let mut log = SanitizerWriter::new(Vec::new(), options)?;
+/// writeln!(log, "one\x1b]0;not ended")?;
+/// write!(log, "two\x1b[31m")?;
+/// log.finish()?;
+/// assert_eq!(log.get_ref(), b"one\ntwo");
+/// assert_eq!(log.account()?.swallowed, 13);
+/// # Ok::<(), std::io::Error>(())
+/// ```
+#[derive(Debug)]
+pub struct SanitizerWriter<W: Write> {
+    writer: PieceWriter<W, Sanitizer>,
+    has_ended: bool,
+}
+
+impl<W: Write> SanitizerWriter<W> {
+    /// A sanitizer at the beginning of a log.
+    ///
+    /// # Errors
+    ///
+    /// Those of [`Sanitizer::new`].
+    pub fn new(inner: W, options: SanitizerOptions) -> Result<SanitizerWriter<W>, Error> {
+        Ok(SanitizerWriter {
+            writer: PieceWriter::new(inner, Sanitizer::new(options)?),
+            has_ended: false,
+        })
+    }
+
+    /// The inner writer.
+    pub fn get_ref(&self) -> &W {
+        &self.writer.inner
+    }
+
+    /// The inner writer. What is written to it here is not filtered.
+    pub fn get_mut(&mut self) -> &mut W {
+        &mut self.writer.inner
+    }
+
+    /// The inner writer, without what is unfinished, or was not taken by it.
+    pub fn into_inner(self) -> W {
+        self.writer.inner
+    }
+
+    /// Ends the log: writes what that adds, and flushes the inner writer. Nothing can be written
+    /// after it. Where the inner writer fails, another call goes on.
+    ///
+    /// # Errors
+    ///
+    /// What the inner writer reports, and `OutOfMemory` where memory is refused, now or before.
+    pub fn finish(&mut self) -> io::Result<()> {
+        self.writer.flush()?;
+        if !self.has_ended {
+            self.writer.close()?;
+            self.has_ended = true;
+        }
+        self.writer.flush()
+    }
+
+    /// What became of the bytes of the log, as [`Sanitizer::account`] says.
+    ///
+    /// # Errors
+    ///
+    /// Those of [`Sanitizer::account`].
+    pub fn account(&mut self) -> Result<Account, Error> {
+        self.writer.pieces.account()
+    }
+}
+
+impl<W: Write> Write for SanitizerWriter<W> {
+    /// Takes all of `bytes`, once what was left before is written. Where memory is refused, now or
+    /// before, the error is of kind `OutOfMemory`, and after the end of the log of kind
+    /// `InvalidInput`.
+    fn write(&mut self, bytes: &[u8]) -> io::Result<usize> {
+        if self.has_ended {
+            return Err(io::Error::new(ErrorKind::InvalidInput, "the log has ended"));
+        }
+        self.writer.write(bytes)
+    }
+
+    fn flush(&mut self) -> io::Result<()> {
+        self.writer.flush()
+    }
+}
+
+/// Reads from another reader what a [`Sanitizer`] makes of its log, as it comes.
+///
+/// An error of the inner reader is handed on, and reading goes on after it, as where it gives bytes
+/// at the next call.
+///
+/// ```
+/// use escape_stream::{Policy, SanitizerOptions, SanitizerReader};
+/// use std::io::Read;
+///
+/// let mut text = String::new();
+/// let log = &b"one\x1b]0;not ended\n\x1b[31mtwo"[..];
+/// let mut reader = SanitizerReader::new(log, SanitizerOptions::new(Policy::Color))?;
+/// reader.read_to_string(&mut text)?;
+/// assert_eq!(text, "one\n\x1b[31mtwo\x1b[0m");
+/// assert_eq!(reader.account()?.length, 25);
+/// # Ok::<(), std::io::Error>(())
+/// ```
+#[derive(Debug)]
+pub struct SanitizerReader<R> {
+    reader: PieceReader<R, Sanitizer>,
+}
+
+impl<R: Read> SanitizerReader<R> {
+    /// A sanitizer at the beginning of a log.
+    ///
+    /// # Errors
+    ///
+    /// Those of [`Sanitizer::new`].
+    pub fn new(inner: R, options: SanitizerOptions) -> Result<SanitizerReader<R>, Error> {
+        Ok(SanitizerReader {
+            reader: PieceReader::new(inner, Sanitizer::new(options)?),
+        })
+    }
+
+    /// The inner reader.
+    pub fn get_ref(&self) -> &R {
+        &self.reader.inner
+    }
+
+    /// The inner reader. What is read from it here is not filtered.
+    pub fn get_mut(&mut self) -> &mut R {
+        &mut self.reader.inner
+    }
+
+    /// The inner reader, without what is unfinished, or was not read yet.
+    pub fn into_inner(self) -> R {
+        self.reader.inner
+    }
+
+    /// What became of the bytes of the log, as [`Sanitizer::account`] says.
+    ///
+    /// # Errors
+    ///
+    /// Those of [`Sanitizer::account`].
+    pub fn account(&mut self) -> Result<Account, Error> {
+        self.reader.pieces.account()
+    }
+}
+
+impl<R: Read> Read for SanitizerReader<R> {
+    /// Reads from the inner reader until it has something to give, or the log has ended. Where
+    /// memory is refused, now or before, the error is of kind `OutOfMemory`.
+    fn read(&mut self, out: &mut [u8]) -> io::Result<usize> {
+        self.reader.read(out)
+    }
+}

@@ -1,0 +1,70 @@
+-- The sanitizers that are kept: by groups.
+use Rattle.std.specs.Prelude.{ℕ, ◌≡◌, List, Some, false, string_bytes}
+use Rattle.std.specs.Global.{Global}
+use Rattle.esc_filter.specs.Fed.{WasFedIn, added_by, policy_of}
+use Rattle.esc_filter.specs.Groups.{admits_groups}
+use Rattle.esc_filter.specs.Lines.{WasFedLines, added_by as added_by_lines, closed_by_lines_as, policy_of_lines, text_by_lines_as}
+use Rattle.esc_filter.specs.Passing.{closed_text_as, passed_text_as}
+use Rattle.esc_filter.specs.declared.admit.Admit.{Ghosts as Admitter}
+use Rattle.esc_filter.specs.declared.filter.Filter.{Filter}
+use Rattle.esc_filter.specs.declared.groups.Groups.{Groups}
+use Rattle.esc_filter.specs.declared.guard.Guard.{Guard}
+use Rattle.esc_filter.specs.declared.line_filter.LineFilter.{LineFilter}
+use Rattle.esc_normal.specs.declared.feeding.Feeding.{Ghosts as Feeder}
+use Rattle.esc_reveal.specs.Through.{GivesThrough}
+use Rattle.esc_reveal.specs.declared.revealing.Revealing.{Revealing}
+use Rattle.esc_sanitize.specs.Chains.{added_either, ended_either, gives_either}
+use Rattle.esc_sanitize.specs.Sanitized.{Chain}
+use Rattle.esc_sanitize.specs.declared.either.Either.{Either}
+use Rattle.esc_sanitize.specs.declared.options.FilterOptions.{FilterOptions}
+use Rattle.esc_sanitize.specs.declared.sanitizer.Sanitizer.{Sanitizer}
+
+abbrev pub Settings : Type 0
+Settings = FilterOptions Groups
+
+abbrev pub Sanitizing : Type 0
+Sanitizing = Sanitizer Groups Global
+
+-- what groups admit
+abbrev pub admitter : Admitter Groups Global
+admitter = record { admits = admits_groups }
+
+-- ---- the filters of a sanitizer, as what takes a stream in pieces
+
+abbrev pub lines : Feeder (LineFilter Groups Global) Global
+lines = record {
+  gives = λ f m c s. (u : Guard) × (limit : ℕ)
+      × WasFedLines u limit (admits_groups (policy_of_lines f)) s f
+      × (m ≡ text_by_lines_as {A = Global} u limit (admits_groups (policy_of_lines f)))
+      × (c ≡ closed_by_lines_as {A = Global} u limit (admits_groups (policy_of_lines f)));
+  added = λ f. added_by_lines f;
+  has_ended = λ _ _ _. Unit {0};
+}
+
+abbrev pub whole : Feeder (Filter Groups Global) Global
+whole = record {
+  gives = λ f m c s. (u : Guard) × (limit : ℕ)
+      × WasFedIn u false limit (admits_groups (policy_of f)) s f
+      × (m ≡ passed_text_as {A = Global} u (Some limit) (admits_groups (policy_of f)))
+      × (c ≡ closed_text_as {A = Global} u (Some limit) (admits_groups (policy_of f)));
+  added = λ f. added_by f;
+  has_ended = λ _ _ _. Unit {0};
+}
+
+abbrev either : {F G : Type 0} → Feeder F Global → Feeder G Global → Feeder (Either F G) Global
+either G H = record {
+  gives = λ f m c s. gives_either G H f m c s;
+  added = λ f. added_either G H f;
+  has_ended = λ f c s. ended_either G H f c s;
+}
+
+abbrev revealing : {F : Type 0} → Feeder F Global
+    → Feeder (Revealing F Groups Global) Global
+revealing G = record {
+  gives = λ f m c s. GivesThrough G admitter f.reveal f.filter m c s;
+  added = λ f. string_bytes f.text;
+  has_ended = λ f _ _. (c : List ℕ → List ℕ) × (s : List ℕ) × G.has_ended f.filter c s;
+}
+
+abbrev pub chain : Feeder (Chain Groups Global) Global
+chain = either (either lines whole) (revealing (either lines whole))

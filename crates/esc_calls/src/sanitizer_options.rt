@@ -1,0 +1,111 @@
+//! How a stream is sanitized, as numbers.
+ghost use Rattle.std.specs.Prelude.{◌≡◌, IfErr, IfOk};
+ghost use Rattle.esc_calls.specs.SanitizerOptions.{IsFault, IsSaid, Says, rows_numbered};
+
+use crate::fault::Fault;
+use crate::filter::policy_of;
+use crate::said::{encoding_of, framing_of, marking_of, usual_guard};
+use crate::said_groups::groups_said;
+use crate::said_guard::guard_said;
+use esc_filter::{Groups, Policy};
+use esc_sanitize::FilterOptions;
+
+/// The size of [`SanitizerOptions`] in bytes.
+pub const OPTIONS_SIZE: u32 = 56;
+
+/// How many rows may be written again at most.
+pub const MOST_ROWS: u32 = 4096;
+
+/// How a stream is sanitized: what the options of the program `escfilter` say of that, as numbers.
+/// Where a field but the first three is 0, it is as the program has it without the option.
+#[repr(C)]
+#[derive(Clone, Copy)]
+pub struct SanitizerOptions {
+    /// Its size in bytes, [`OPTIONS_SIZE`]. A later version that adds fields takes this size too.
+    pub size: u32,
+    /// The number of a policy: what passes.
+    pub policy: u32,
+    /// How many bytes are kept of an unfinished sequence or string.
+    pub limit: u64,
+    /// The groups that pass besides, a bit each.
+    pub allowed: u32,
+    /// The groups of these that do not pass, a bit each.
+    pub denied: u32,
+    /// The schemes of the links that pass: http 1, https 2, mailto 4, or sums of these.
+    pub links: u32,
+    /// Whether each line is a stream of its own, 1, or the whole is, 2.
+    pub framing: u32,
+    /// What is written of characters that hide or reorder text: keep 1, join 2, show 3, drop 4.
+    pub characters: u32,
+    /// What is written of carriage returns within a line: keep 1, show 2, drop 3.
+    pub returns: u32,
+    /// How bytes are read.
+    pub encoding: u32,
+    /// How what does not pass is shown: plain 1, escaped 2, reversed 3.
+    pub show: u32,
+    /// How many rows may be written again.
+    pub rows: u32,
+    /// Whether an account is kept.
+    pub account: u32,
+}
+
+impl SanitizerOptions {
+    /// What the numbers say, or which of them says nothing.
+    pub(crate) fn read(&self) -> Result<FilterOptions<Groups<'static>>, Fault>
+        ensures said { IfOk result (IsSaid self.now) }
+        ensures fault { IfErr result (IsFault self.now) }
+    {
+        if self.size != OPTIONS_SIZE {
+            return Err(Fault::Size);
+        }
+        match policy_of(self.policy) {
+            Some(policy) => self.read_by(policy),
+            None => Err(Fault::Policy),
+        }
+    }
+
+    // The same, where this is the policy.
+    fn read_by(&self, policy: Policy) -> Result<FilterOptions<Groups<'static>>, Fault>
+        ensures said { IfOk result (Says self.now policy) }
+        ensures fault { IfErr result (IsFault self.now) }
+    {
+        let groups = match groups_said(self, policy) {
+            Ok(groups) => groups,
+            Err(fault) => return Err(fault),
+        };
+        let usual = FilterOptions::new(policy);
+        let Some(by_lines) = framing_of(self.framing, usual.by_lines) else {
+            return Err(Fault::Framing);
+        };
+        let guard = match guard_said(self, usual_guard(policy, self.rows), by_lines) {
+            Ok(guard) => guard,
+            Err(fault) => return Err(fault),
+        };
+        let Some(show) = marking_of(self.show) else {
+            return Err(Fault::Show);
+        };
+        let Some(encoding) = encoding_of(self.encoding, show.is_some()) else {
+            return Err(Fault::Encoding);
+        };
+        if self.rows > MOST_ROWS {
+            return Err(Fault::Rows);
+        }
+        Ok(FilterOptions {
+            policy: groups,
+            limit: self.limit as usize,
+            by_lines,
+            guard,
+            encoding,
+            show,
+            rows: rows_of(self.rows),
+            audits: self.account != 0,
+        })
+    }
+}
+
+// How many rows may be written again, where some may.
+fn rows_of(rows: u32) -> Option<usize>
+    ensures { result ≡ rows_numbered rows }
+{
+    if rows == 0 { None } else { Some(rows as usize) }
+}
