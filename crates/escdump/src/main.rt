@@ -55,7 +55,7 @@ use whole::Whole;
 
 const USAGE: &str = "\
 usage: escdump [-e|--explain text] [--segments] [--escape] [--json] [--stats] [--input] \
-[--timing file] [--only kind,..] [--skip kind,..] [--limit size] [--width size] \
+[--cast] [--timing file] [--only kind,..] [--skip kind,..] [--limit size] [--width size] \
 [--color auto|always|never] [-h|--help] [-V|--version] [--] [FILE..]";
 
 const HELP: &str = "\n\
@@ -70,8 +70,9 @@ Prints each FILE, or standard input, as a readable line for each sequence and ru
   --stats         a line for each name that came: how often, with how many bytes, how many
                   the longest has, and where the first is
   --input         a stream is what a terminal sends: keys, the mouse, pastes and answers
-  --timing file   the timing of FILE, a typescript of script(1): a line has its time too, in
-                  seconds
+  --cast          each FILE is a recording of asciinema, version 2 or 3: a line has its time too,
+                  in seconds
+  --timing file   the timing of FILE, a typescript of script(1), as with --cast
   --only kind,..  prints lines of these names alone, as 'OSC 52', SGR or 'DECSET 1049', or of
                   these kinds: text control escape csi dcs osc apc sos pm st cut broken stray key
                   mouse

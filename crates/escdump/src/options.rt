@@ -24,6 +24,8 @@ pub enum Form {
 pub enum Recorded {
     /// A stream.
     Stream,
+    /// A recording of asciinema.
+    Cast,
     /// A typescript of script(1) that has a timing file.
     Typescript,
 }
@@ -134,6 +136,11 @@ const KNOWN: &[Known] = &[
         takes: Takes::Nothing,
     },
     Known {
+        name: "--cast",
+        letter: "",
+        takes: Takes::Nothing,
+    },
+    Known {
         name: "--timing",
         letter: "",
         takes: Takes::OneOf("file", &[]),
@@ -210,6 +217,7 @@ impl<'a> Task<'a> {
             "--json" => options.form = Form::Json,
             "--stats" => options.form = Form::Stats,
             "--input" => options.is_input = true,
+            "--cast" => options.recorded = Recorded::Cast,
             "--timing" => {
                 options.recorded = Recorded::Typescript;
                 self.timing = Some(given.word);

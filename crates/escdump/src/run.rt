@@ -146,7 +146,7 @@ fn dump<R: Read, W: Write>(
     ensures { OnOk result (AppendsPage (W.contents output.old) (W.contents output.new)) }
 {
     let mut dump = Dump::new(alloc, options, name);
-    let mut source = Source::new(options);
+    let mut source = Source::new(alloc, options);
     dump_all(&mut source, &mut dump, input, output)
 }
 

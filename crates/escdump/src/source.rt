@@ -2,20 +2,26 @@
 
 use crate::dump::Dump;
 use crate::options::{Options, Recorded};
-use dump_time::{TimeError, Typescript};
+use dump_time::{Cast, TimeError, Typescript};
+use std::alloc::Global;
 
 /// What reads the bytes of a file as they come.
 #[derive(Drop)]
 pub struct Source<'t> {
     recorded: Recorded,
+    // Whether what was typed is asked for.
+    is_input: bool,
+    cast: Cast,
     typescript: Typescript<'t>,
 }
 
 impl<'t> Source<'t> {
     /// A file of which nothing was read. Takes no memory.
-    pub fn new(options: Options<'t>) -> Source<'t> {
+    pub fn new(alloc: Global, options: Options<'t>) -> Source<'t> {
         Source {
             recorded: options.recorded,
+            is_input: options.is_input,
+            cast: Cast::new(alloc),
             typescript: Typescript::new(options.timing, options.is_input),
         }
     }
@@ -33,6 +39,7 @@ impl<'t> Source<'t> {
                 dump.take(bytes, has_more);
                 Ok(())
             }
+            Recorded::Cast => take_lines(&mut self.cast, self.is_input, bytes, dump),
             Recorded::Typescript => take_runs(&mut self.typescript, bytes, dump),
         }
     }
@@ -41,9 +48,42 @@ impl<'t> Source<'t> {
     pub fn finish(&mut self, dump: &mut Dump<'_>) -> Result<(), TimeError> {
         match self.recorded {
             Recorded::Stream => Ok(()),
+            Recorded::Cast if self.cast.has_rest() => {
+                take_line(&mut self.cast, self.is_input, dump)
+            }
+            Recorded::Cast => Ok(()),
             Recorded::Typescript => self.typescript.finish(),
         }
     }
+}
+
+// Takes bytes of a recording of asciinema.
+fn take_lines(
+    cast: &mut Cast,
+    is_input: bool,
+    bytes: &[u8],
+    dump: &mut Dump<'_>,
+) -> Result<(), TimeError> {
+    let mut rest = bytes;
+    for _ in 0..u64::MAX {
+        match cast.take(rest)? {
+            Some(after) => rest = after,
+            None => break,
+        }
+        take_line(cast, is_input, dump)?;
+    }
+    Ok(())
+}
+
+// Gives the dump the text of a line, where that is of the direction that is asked for.
+fn take_line(cast: &mut Cast, is_input: bool, dump: &mut Dump<'_>) -> Result<(), TimeError> {
+    if let Some(heard) = cast.heard()? {
+        if heard.is_input == is_input {
+            dump.set_time(heard.time);
+            dump.take(heard.text.as_bytes(), false);
+        }
+    }
+    Ok(())
 }
 
 // Takes bytes of a typescript.

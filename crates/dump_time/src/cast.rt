@@ -1,0 +1,145 @@
+//! Recordings of asciinema, line by line.
+
+use crate::clock::Clock;
+use crate::time_error::TimeError;
+use esc_cast::{Event, event_in};
+use json::Scratch;
+use memchr::memchr;
+use std::alloc::Global;
+use std::str;
+
+/// A text of a recording, with its time.
+#[derive(Clone, Copy)]
+pub struct Heard<'a> {
+    /// When it came.
+    pub time: u64,
+    /// What came.
+    pub text: &'a str,
+    /// Whether it was typed, and not written to the terminal.
+    pub is_input: bool,
+}
+
+/// A recording of asciinema, version 2 or 3, whose lines come in chunks.
+#[derive(Drop)]
+pub struct Cast {
+    alloc: Global,
+    scratch: Scratch<Global>,
+    // What came of a line.
+    line: Vec<u8>,
+    // Whether it is whole.
+    is_whole: bool,
+    // How many lines were read.
+    count: u64,
+    clock: Clock,
+}
+
+impl Cast {
+    /// A recording of which nothing came. Takes no memory.
+    pub fn new(alloc: Global) -> Cast {
+        Cast {
+            alloc,
+            scratch: Scratch::new(alloc),
+            line: Vec::new(alloc),
+            is_whole: false,
+            count: 0,
+            clock: Clock::new(false),
+        }
+    }
+
+    /// Takes the bytes up to a line feed, after which the line can be [`heard`](Cast::heard), and
+    /// returns those after it; none, where there is no line feed, and all are taken.
+    pub fn take<'b>(&mut self, bytes: &'b [u8]) -> Result<Option<&'b [u8]>, TimeError> {
+        if self.is_whole {
+            self.is_whole = false;
+            self.line.clear();
+        }
+        match memchr(b'\n', bytes) {
+            Some(at) => {
+                self.grow(&bytes[..at])?;
+                self.is_whole = true;
+                Ok(Some(&bytes[at + 1..]))
+            }
+            None => {
+                self.grow(bytes)?;
+                Ok(None)
+            }
+        }
+    }
+
+    // Makes the line longer.
+    fn grow(&mut self, bytes: &[u8]) -> Result<(), TimeError> {
+        match self.line.extend_from_slice(bytes) {
+            Ok(()) => Ok(()),
+            Err(_) => Err(TimeError::Memory),
+        }
+    }
+
+    /// Whether a line came that has no line feed: the last one may have none.
+    pub fn has_rest(&self) -> bool {
+        !self.is_whole && !self.line.is_empty()
+    }
+
+    /// The text that the line tells, where it tells one.
+    pub fn heard(&mut self) -> Result<Option<Heard<'_>>, TimeError> {
+        self.count = self.count.saturating_add(1);
+        self.is_whole = true;
+        let count = self.count;
+        let alloc = self.alloc;
+        heard_in(alloc, count, &self.line, &mut self.scratch, &mut self.clock)
+    }
+}
+
+// The text that the line of this number tells, where it tells one.
+fn heard_in<'a>(
+    alloc: Global,
+    count: u64,
+    line: &'a [u8],
+    scratch: &'a mut Scratch<Global>,
+    clock: &mut Clock,
+) -> Result<Option<Heard<'a>>, TimeError> {
+    let event = event_at(alloc, count, line, scratch)?;
+    Ok(heard_by(event, clock))
+}
+
+// What the line of this number tells.
+fn event_at<'a>(
+    alloc: Global,
+    count: u64,
+    line: &'a [u8],
+    scratch: &'a mut Scratch<Global>,
+) -> Result<Event<'a>, TimeError> {
+    let Ok(line) = str::from_utf8(line) else {
+        return Err(TimeError::Line(count));
+    };
+    match event_in(alloc, line, scratch) {
+        Ok(Event::Wrong) => Err(TimeError::Line(count)),
+        Ok(event) => Ok(event),
+        Err(_) => Err(TimeError::Memory),
+    }
+}
+
+// The text of an event, where it has one, with the time that it has by the clock.
+fn heard_by<'a>(event: Event<'a>, clock: &mut Clock) -> Option<Heard<'a>> {
+    match event {
+        Event::Output(time, text) => Some(heard_at(clock.next(time), text, false)),
+        Event::Input(time, text) => Some(heard_at(clock.next(time), text, true)),
+        Event::Passed(time) => {
+            clock.next(time);
+            None
+        }
+        Event::Header(is_relative) => {
+            *clock = Clock::new(is_relative);
+            None
+        }
+        Event::Nothing | Event::Wrong => None,
+    }
+}
+
+// A text at this time.
+fn heard_at<'a>(time: u64, text: &'a str, is_input: bool) -> Heard<'a> {
+    Heard {
+        time,
+        text,
+        is_input,
+    }
+}
