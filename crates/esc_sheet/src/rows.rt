@@ -1,0 +1,106 @@
+//! The rows of a screen as text.
+
+use crate::sheet::Sheet;
+use crate::view::View;
+use esc_looks::Look;
+use esc_screen::{Cell, Content, Marks};
+use std::alloc::AllocError;
+
+/// Adds the rows of a screen, a line each, without the last ones of which nothing is seen.
+pub fn push_rows(sheet: &mut Sheet, view: View<'_>) -> Result<(), AllocError> {
+    let mut missing: u16 = 0;
+    for at in 0..view.screen.height() {
+        let cells = view.row(at);
+        if view.hides_all(cells) {
+            missing = missing.saturating_add(1);
+        } else {
+            end_lines(sheet, missing)?;
+            missing = 0;
+            push_row(sheet, cells, view)?;
+            sheet.end_line()?;
+        }
+    }
+    Ok(())
+}
+
+// Adds so many empty lines.
+fn end_lines(sheet: &mut Sheet, count: u16) -> Result<(), AllocError> {
+    for _ in 0..count {
+        sheet.end_line()?;
+    }
+    Ok(())
+}
+
+// Adds a row, without the last cells of which nothing is seen.
+fn push_row(sheet: &mut Sheet, cells: &[Cell], view: View<'_>) -> Result<(), AllocError> {
+    let mut held: Option<u16> = None;
+    let mut blanks: u16 = 0;
+    for cell in cells {
+        if view.hides(cell) {
+            blanks = blanks.saturating_add(1);
+        } else if !cell.content.is_rest() {
+            if blanks > 0 {
+                push_blanks(sheet, view, held, blanks)?;
+                held = None;
+                blanks = 0;
+            }
+            push_seen(sheet, view, held, cell)?;
+            held = Some(cell.look);
+        }
+    }
+    sheet.push_change(&held_look(view, held), &Look::plain())
+}
+
+// The look that holds, where it has this number: the plain one, where it has none.
+fn held_look(view: View<'_>, held: Option<u16>) -> Look {
+    match held {
+        Some(number) => view.look_at(number),
+        None => Look::plain(),
+    }
+}
+
+// Adds so many blank cells after characters of a look.
+fn push_blanks(
+    sheet: &mut Sheet,
+    view: View<'_>,
+    held: Option<u16>,
+    count: u16,
+) -> Result<(), AllocError> {
+    sheet.push_change(&held_look(view, held), &Look::plain())?;
+    for _ in 0..count {
+        sheet.push(' ')?;
+    }
+    Ok(())
+}
+
+// Adds a cell after characters of a look.
+fn push_seen(
+    sheet: &mut Sheet,
+    view: View<'_>,
+    held: Option<u16>,
+    cell: &Cell,
+) -> Result<(), AllocError> {
+    sheet.push_change(&held_look(view, held), &view.look_of(cell))?;
+    push_content(sheet, cell.content)
+}
+
+/// Adds what stands in a cell: a space where it is blank, and nothing for the second column of a
+/// character.
+pub(crate) fn push_content(sheet: &mut Sheet, content: Content) -> Result<(), AllocError> {
+    match content {
+        Content::Blank => sheet.push(' '),
+        Content::Rest => Ok(()),
+        Content::Narrow(c, marks) | Content::Wide(c, marks) => push_marked(sheet, c, marks),
+    }
+}
+
+// Adds a character with its marks.
+fn push_marked(sheet: &mut Sheet, c: char, marks: Marks) -> Result<(), AllocError> {
+    sheet.push(c)?;
+    for mark in [marks.first, marks.second] {
+        if let Some(mark) = mark {
+            sheet.push(mark)?;
+        }
+    }
+    Ok(())
+}

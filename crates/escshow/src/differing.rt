@@ -1,0 +1,55 @@
+//! In which cells the screens of two streams differ.
+
+use crate::fault::{Fault, ended};
+use crate::options::Options;
+use crate::reading::terminal_of;
+use crate::showing::{print, view_of};
+use command_line::{Ended, Work};
+use esc_sheet::{Sheet, push_differences};
+use esc_terminal::Terminal;
+use std::alloc::Global;
+use std::io::{Read, Write};
+
+/// Compares the screens of two streams, one after the other.
+#[derive(Drop)]
+pub struct Differing<'a, W, E> {
+    pub alloc: Global,
+    pub options: Options,
+    /// What the output is called.
+    pub output_name: &'a str,
+    pub output: &'a mut W,
+    /// Where what hinders goes.
+    pub faults: E,
+    /// The terminal of the first.
+    pub first: Option<Terminal>,
+    /// Whether they differ.
+    pub differ: bool,
+}
+
+impl<'a, W: Write, E: Write> Work for Differing<'a, W, E> {
+    fn take<R: Read + Drop>(&mut self, name: &str, input: R) -> Ended {
+        let done = match terminal_of(self.alloc, self.options, input) {
+            Ok(terminal) => self.take_terminal(terminal),
+            Err(fault) => Err(fault),
+        };
+        ended(done, name, self.output_name, &mut self.faults)
+    }
+}
+
+impl<'a, W: Write, E: Write> Differing<'a, W, E> {
+    // Takes the terminal of a stream: keeps the first, and compares the second with it.
+    fn take_terminal(&mut self, terminal: Terminal) -> Result<(), Fault> {
+        let Some(first) = self.first.take() else {
+            self.first = Some(terminal);
+            return Ok(());
+        };
+        let mut sheet = Sheet::new(self.alloc);
+        push_differences(
+            &mut sheet,
+            view_of(&first, true)?,
+            view_of(&terminal, true)?,
+        )?;
+        self.differ = !sheet.as_str().is_empty();
+        print(sheet.as_str(), self.output)
+    }
+}

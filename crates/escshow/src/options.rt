@@ -1,0 +1,243 @@
+//! What the program's words ask for.
+
+use command_line::{Found, Given, Known, Takes, Wrong, read};
+use std::alloc::Global;
+
+/// How a screen is written.
+#[derive(Clone, Copy, PartialEq, Eq)]
+pub enum Form {
+    /// As rows of text.
+    Text,
+    /// As rows of text with the sequences that make their looks.
+    Color,
+    /// As HTML.
+    Html,
+    /// As an object of JSON.
+    Json,
+}
+
+/// How many columns and rows a screen has.
+#[derive(Clone, Copy, PartialEq, Eq)]
+pub struct Size {
+    /// The columns.
+    pub columns: u16,
+    /// The rows.
+    pub rows: u16,
+}
+
+/// How streams are shown.
+#[derive(Clone, Copy)]
+pub struct Options {
+    /// How a screen is written.
+    pub form: Form,
+    /// How many columns and rows it has, where that is given.
+    pub size: Option<Size>,
+    /// Whether a line feed goes to the first column too, as in a file of text.
+    pub has_new_lines: bool,
+    /// Whether a file is a recording.
+    pub is_cast: bool,
+    /// The time of a recording at which its screen is shown, in seconds; at its end, where there is
+    /// none.
+    pub at: Option<f64>,
+}
+
+/// What the program does.
+#[derive(Clone, Copy)]
+pub enum Kind {
+    /// It shows files, or standard input where there is none.
+    Show,
+    /// It compares the screens of two.
+    Compare,
+    /// It prints what it does.
+    Help,
+    /// It prints its version.
+    Version,
+}
+
+/// What the program's words ask for.
+#[derive(Drop)]
+pub struct Task<'a> {
+    /// What the program does.
+    pub kind: Kind,
+    /// How streams are shown.
+    pub options: Options,
+    /// The file that the output goes to; standard output, where there is none.
+    pub output: Option<&'a str>,
+    /// The files.
+    pub files: Vec<&'a str>,
+}
+
+/// The size of a screen where none is given.
+pub const DEFAULT_SIZE: Size = Size {
+    columns: 80,
+    rows: 24,
+};
+
+// The most columns, and the most rows.
+const MOST: u16 = 1000;
+
+const KNOWN: &[Known] = &[
+    Known {
+        name: "--size",
+        letter: "",
+        takes: Takes::OneOf("size of a screen, as 80x24", &[]),
+    },
+    Known {
+        name: "--newline",
+        letter: "",
+        takes: Takes::Nothing,
+    },
+    Known {
+        name: "--color",
+        letter: "",
+        takes: Takes::Nothing,
+    },
+    Known {
+        name: "--html",
+        letter: "",
+        takes: Takes::Nothing,
+    },
+    Known {
+        name: "--json",
+        letter: "",
+        takes: Takes::Nothing,
+    },
+    Known {
+        name: "--cast",
+        letter: "",
+        takes: Takes::Nothing,
+    },
+    Known {
+        name: "--at",
+        letter: "",
+        takes: Takes::OneOf("time in seconds, as 12.5", &[]),
+    },
+    Known {
+        name: "--diff",
+        letter: "",
+        takes: Takes::Nothing,
+    },
+    Known::OUTPUT,
+    Known::HELP,
+    Known::VERSION,
+];
+
+impl Size {
+    /// The size that a word names: columns, `x` and rows, from 1 to 1000 each.
+    pub fn of(word: &str) -> Option<Size> {
+        let (columns, rows) = word.split_once('x')?;
+        Some(Size {
+            columns: count_of(columns)?,
+            rows: count_of(rows)?,
+        })
+    }
+
+    /// The size of so many columns and rows, but 1 at least and 1000 at most of each.
+    pub fn within(columns: u64, rows: u64) -> Size {
+        Size {
+            columns: limited(columns),
+            rows: limited(rows),
+        }
+    }
+}
+
+// How many columns or rows a word names.
+fn count_of(word: &str) -> Option<u16> {
+    match word.parse::<u16>() {
+        Ok(count) if 0 < count && count <= MOST => Some(count),
+        _ => None,
+    }
+}
+
+// So many, but 1 at least and 1000 at most.
+fn limited(count: u64) -> u16 {
+    if count < 1 {
+        1
+    } else if count < 1000 {
+        count as u16
+    } else {
+        MOST
+    }
+}
+
+impl<'a> Task<'a> {
+    /// The task that these words, the program's arguments, name; of an option that is given twice,
+    /// and of the forms, the last counts.
+    pub fn of(alloc: Global, words: &'a [String]) -> Result<Task<'a>, Wrong<'a>> {
+        match read(alloc, KNOWN, words) {
+            Ok(found) => Task::from_found(found),
+            Err(wrong) => Err(wrong),
+        }
+    }
+
+    // The task that these options and files name.
+    fn from_found(found: Found<'a>) -> Result<Task<'a>, Wrong<'a>> {
+        let mut task = Task {
+            kind: Kind::Show,
+            options: Options {
+                form: Form::Text,
+                size: None,
+                has_new_lines: false,
+                is_cast: false,
+                at: None,
+            },
+            output: None,
+            files: found.files,
+        };
+        for given in &found.options {
+            task.take(*given)?;
+        }
+        match task.kind {
+            Kind::Compare => task.with_two_files(),
+            Kind::Show | Kind::Help | Kind::Version => Ok(task),
+        }
+    }
+
+    // Takes an option.
+    fn take(&mut self, given: Given<'a>) -> Result<(), Wrong<'a>> {
+        match given.name {
+            "--size" => self.options.size = Some(size_named(given.word)?),
+            "--newline" => self.options.has_new_lines = true,
+            "--color" => self.options.form = Form::Color,
+            "--html" => self.options.form = Form::Html,
+            "--json" => self.options.form = Form::Json,
+            "--cast" => self.options.is_cast = true,
+            "--at" => {
+                self.options.is_cast = true;
+                self.options.at = Some(time_named(given.word)?);
+            }
+            "--diff" => self.kind = Kind::Compare,
+            "--output" => self.output = Some(given.word),
+            "--help" => self.kind = Kind::Help,
+            "--version" => self.kind = Kind::Version,
+            _ => {}
+        }
+        Ok(())
+    }
+
+    // The task, where it has two files.
+    fn with_two_files(self) -> Result<Task<'a>, Wrong<'a>> {
+        match self.files.as_slice() {
+            [_, _] => Ok(self),
+            [_, _, third, ..] => Err(Wrong::Value("--diff", "third file", *third, None)),
+            [_] => Err(Wrong::Nothing("--diff", "second file")),
+            [] => Err(Wrong::Nothing("--diff", "first file")),
+        }
+    }
+}
+
+// The size that a word names.
+fn size_named(word: &str) -> Result<Size, Wrong<'_>> {
+    match Size::of(word) {
+        Some(size) => Ok(size),
+        None => Err(Wrong::Value("--size", "size of a screen", word, None)),
+    }
+}
+
+// The time that a word names, in seconds.
+fn time_named(word: &str) -> Result<f64, Wrong<'_>> {
+    match word.parse::<f64>() {
+        Ok(time) if time >= 0.0 => Ok(time),
+        _ => Err(Wrong::Value("--at", "time in seconds", word, None)),
+    }
+}

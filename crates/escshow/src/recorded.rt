@@ -1,0 +1,181 @@
+//! A recording that is played.
+
+use crate::fault::Fault;
+use crate::options::{DEFAULT_SIZE, Options, Size};
+use crate::reading::blank;
+use esc_cast::{Event, event_in};
+use esc_terminal::Terminal;
+use json::{Scratch, Value};
+use memchr::memchr;
+use std::alloc::Global;
+use std::{mem, str};
+
+/// A recording, line by line, and the terminal that got the texts of its events.
+#[derive(Drop)]
+pub struct Recorded {
+    alloc: Global,
+    options: Options,
+    scratch: Scratch,
+    // what came of the line that is unfinished
+    line: Vec<u8>,
+    // how many lines were taken
+    count: u64,
+    clock: Clock,
+    // none before the header
+    terminal: Option<Terminal>,
+}
+
+// The time of a recording.
+#[derive(Clone, Copy)]
+struct Clock {
+    // of the last event, in seconds
+    now: f64,
+    // whether the time of an event is counted from the event before
+    is_relative: bool,
+    // whether an event came after the time that is asked for
+    is_over: bool,
+}
+
+impl Recorded {
+    /// A recording of which nothing came. Takes no memory.
+    pub fn new(alloc: Global, options: Options) -> Recorded {
+        Recorded {
+            alloc,
+            options,
+            scratch: Scratch::new(alloc),
+            line: Vec::new(alloc),
+            count: 0,
+            clock: Clock {
+                now: 0.0,
+                is_relative: false,
+                is_over: false,
+            },
+            terminal: None,
+        }
+    }
+
+    /// Whether an event came after the time that is asked for.
+    pub fn is_over(&self) -> bool {
+        self.clock.is_over
+    }
+
+    /// Takes bytes more.
+    pub fn take(&mut self, bytes: &[u8]) -> Result<(), Fault> {
+        let mut rest = bytes;
+        while let Some(at) = memchr(b'\n', rest) {
+            self.line.extend_from_slice(&rest[..at])?;
+            self.end_line()?;
+            rest = &rest[at + 1..];
+        }
+        self.line.extend_from_slice(rest)?;
+        Ok(())
+    }
+
+    /// Takes the last line, where it has no line feed.
+    pub fn end(&mut self) -> Result<(), Fault> {
+        if self.line.is_empty() {
+            return Ok(());
+        }
+        self.end_line()
+    }
+
+    /// The terminal. The error is that there was no header.
+    pub fn into_terminal(mut self) -> Result<Terminal, Fault> {
+        match self.terminal.take() {
+            Some(terminal) => Ok(terminal),
+            None => Err(Fault::Line(self.count.saturating_add(1))),
+        }
+    }
+
+    // Takes the line, where the recording goes on.
+    fn end_line(&mut self) -> Result<(), Fault> {
+        self.count = self.count.saturating_add(1);
+        let line = mem::replace(&mut self.line, Vec::new(self.alloc));
+        if self.clock.is_over {
+            return Ok(());
+        }
+        match str::from_utf8(&line) {
+            Ok(text) => self.take_line(text),
+            Err(_) => Err(Fault::Line(self.count)),
+        }
+    }
+
+    // Takes a line.
+    fn take_line(&mut self, line: &str) -> Result<(), Fault> {
+        let mut scratch = mem::replace(&mut self.scratch, Scratch::new(self.alloc));
+        let event = event_in(self.alloc, line, &mut scratch)?;
+        match event {
+            Event::Output(time, text) => {
+                self.clock.pass(time, self.options.at);
+                self.print(text)
+            }
+            Event::Input(time, _) | Event::Passed(time) => {
+                self.clock.pass(time, self.options.at);
+                Ok(())
+            }
+            Event::Header(is_relative) => {
+                self.clock.is_relative = is_relative;
+                self.begin(line)
+            }
+            Event::Nothing => Ok(()),
+            Event::Wrong => Err(Fault::Line(self.count)),
+        }
+    }
+
+    // Gives the terminal a text, where that is not too late.
+    fn print(&mut self, text: &str) -> Result<(), Fault> {
+        if self.clock.is_over {
+            return Ok(());
+        }
+        match &mut self.terminal {
+            Some(terminal) => Ok(terminal.feed(text.as_bytes())?),
+            None => Err(Fault::Line(self.count)),
+        }
+    }
+
+    // Makes the terminal, by the header.
+    fn begin(&mut self, line: &str) -> Result<(), Fault> {
+        let size = match self.options.size {
+            Some(size) => size,
+            None => size_in(self.alloc, line)?,
+        };
+        self.terminal = Some(blank(self.alloc, size, self.options.has_new_lines)?);
+        Ok(())
+    }
+}
+
+impl Clock {
+    // Passes to the time of an event.
+    fn pass(&mut self, time: &str, end: Option<f64>) {
+        let time = time.parse::<f64>().unwrap_or(0.0);
+        self.now = if self.is_relative {
+            self.now + time
+        } else {
+            time
+        };
+        if let Some(end) = end {
+            self.is_over = self.is_over || end < self.now;
+        }
+    }
+}
+
+// The size that a header has: `width` and `height`, and from version 3 on `cols` and `rows` of
+// `term`.
+fn size_in(alloc: Global, header: &str) -> Result<Size, Fault> {
+    let mut scratch = Scratch::new(alloc);
+    let Ok(value) = Value::parse(alloc, header, &mut scratch) else {
+        return Err(Fault::Memory);
+    };
+    let size = match value.get("term") {
+        Some(term) => size_of(term, "cols", "rows"),
+        None => size_of(&value, "width", "height"),
+    };
+    Ok(size.unwrap_or(DEFAULT_SIZE))
+}
+
+// The size that an object has under these names.
+fn size_of(value: &Value<'_>, columns: &str, rows: &str) -> Option<Size> {
+    let columns = value.get(columns)?.as_u64()?;
+    let rows = value.get(rows)?.as_u64()?;
+    Some(Size::within(columns, rows))
+}

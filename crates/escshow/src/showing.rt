@@ -1,0 +1,92 @@
+//! Screens of streams that are written to one output, one after another.
+ghost use Rattle.std.specs.Prelude.{OnOk};
+ghost use Rattle.std.specs.Io.KnownBytes.{Appends};
+
+use crate::fault::{Fault, ended};
+use crate::html::{HEAD, html_of};
+use crate::options::{Form, Options};
+use crate::reading::terminal_of;
+use command_line::{Ended, Reason, Work};
+use esc_sheet::{Sheet, View, push_object, push_rows};
+use esc_terminal::Terminal;
+use std::alloc::{AllocError, Global};
+use std::io::{Read, Write};
+
+/// A writer of the screens of streams to one output.
+#[derive(Drop)]
+pub struct Showing<'a, W, E> {
+    pub alloc: Global,
+    pub options: Options,
+    /// What the output is called.
+    pub output_name: &'a str,
+    pub output: &'a mut W,
+    /// Where what hinders goes.
+    pub faults: E,
+    /// Whether nothing was written yet.
+    pub is_first: bool,
+}
+
+impl<'a, W: Write, E: Write> Work for Showing<'a, W, E> {
+    fn take<R: Read + Drop>(&mut self, name: &str, input: R) -> Ended {
+        let done = match terminal_of(self.alloc, self.options, input) {
+            Ok(terminal) => self.write(&terminal),
+            Err(fault) => Err(fault),
+        };
+        ended(done, name, self.output_name, &mut self.faults)
+    }
+}
+
+impl<'a, W: Write, E: Write> Showing<'a, W, E> {
+    // Writes the screen of a terminal.
+    fn write(&mut self, terminal: &Terminal) -> Result<(), Fault> {
+        let sheet = sheet_of(self.alloc, terminal, self.options.form)?;
+        if self.options.form != Form::Html {
+            return print(sheet.as_str(), self.output);
+        }
+        if self.is_first {
+            self.is_first = false;
+            print(HEAD, self.output)?;
+        }
+        let html = html_of(self.alloc, sheet.as_str())?;
+        print(html.as_str(), self.output)
+    }
+}
+
+/// What is seen of a terminal's screen, with looks or without.
+pub fn view_of(terminal: &Terminal, has_looks: bool) -> Result<View<'_>, AllocError> {
+    match terminal.screen() {
+        Some(screen) => Ok(View {
+            screen,
+            looks: terminal.looks(),
+            title: terminal.title(),
+            has_looks,
+        }),
+        None => Err(AllocError),
+    }
+}
+
+// The sheet of a terminal's screen in this form; for HTML, that of which it is made.
+fn sheet_of(alloc: Global, terminal: &Terminal, form: Form) -> Result<Sheet, AllocError> {
+    let mut sheet = Sheet::new(alloc);
+    match form {
+        Form::Json => push_object(&mut sheet, view_of(terminal, true)?)?,
+        Form::Text => push_rows(&mut sheet, view_of(terminal, false)?)?,
+        Form::Color | Form::Html => push_rows(&mut sheet, view_of(terminal, true)?)?,
+    }
+    Ok(sheet)
+}
+
+/// Writes a text, and flushes: no more is written.
+#[tactic(auto, using(crate::proofs::Printed::appends_kept))]
+pub fn print<W: Write>(text: &str, output: &mut W) -> Result<(), Fault>
+    ensures { OnOk result (Appends (W.contents output.old) (W.contents output.new) text.now) }
+{
+    match output.write_all(text.as_bytes()) {
+        Ok(()) => {}
+        Err(error) => return Err(Fault::Write(Reason::of(&error))),
+    }
+    match output.flush() {
+        Ok(()) => Ok(()),
+        Err(error) => Err(Fault::Write(Reason::of(&error))),
+    }
+}
