@@ -161,8 +161,9 @@ class Sanitizer(InPieces):
     [b'one', b'\\ntwo', b'\\x1b[31m\\x1b[0m\\n']
     (b'', 13, 11)
 
-    `finish` ends the log; `account` is then that of the whole. Any thread may use it, and one at a time. What it keeps of the log is
-    given back by `close`, by the end of a `with`, or when nothing names it any more.
+    `finish` ends the log; `account` is then that of the whole. Any thread may use it, and one at a
+    time. What it keeps of the log is given back by `close`, by the end of a `with`, or when nothing
+    names it any more.
     """
 
     _name = "sanitizer"
