@@ -159,7 +159,7 @@ class Sanitizer(InPieces):
     ...     [log.feed(piece) for piece in (b"one\\x1b]0;a ti", b"tle\\ntwo\\x1b[3", b"1m\\n")]
     ...     (log.finish(), log.account().passed, log.account().swallowed)
     [b'one', b'\\ntwo', b'\\x1b[31m\\x1b[0m\\n']
-    (b'', 13, 11)
+    (b'', 12, 12)
 
     `finish` ends the log; `account` is then that of the whole. Any thread may use it, and one at a
     time. What it keeps of the log is given back by `close`, by the end of a `with`, or when nothing

@@ -21,8 +21,8 @@ def test_frames_of_pandas() -> None:
     assert list(kept.index) == [3, 1, 4, 2]
     assert list(kept["host"]) == list("abcd")
     assert list(kept["log"]) == [b"one\n", b"red\n", b"two\nthree\n", b""]
-    # (the title has 10 bytes, the rendition 5, and the title without an end 10)
-    assert list(kept["passed"]) == [4, 4, 10, 0]
+    # (the title has 10 bytes, the rendition 5, and the title without an end 10 and its line feed)
+    assert list(kept["passed"]) == [4, 4, 9, 0]
     assert list(kept["left_out"]) == [10, 5, 0, 0]
-    assert list(kept["swallowed"]) == [0, 0, 10, 0]
+    assert list(kept["swallowed"]) == [0, 0, 11, 0]
     assert list(kept["length"]) == [len(log) for log in LOGS]

@@ -8,7 +8,7 @@ from pathlib import Path
 import pytest
 
 from escape_stream import Page, __version__, filter, html
-from rows import rows
+from rows import TOP, rows
 
 LOG = (
     b"building \x1b[32mok\x1b[0m\x1b]0;pwned\x07\n\x1b]52;c;Y3VybCBldmlsfHNo\x07see "
@@ -59,5 +59,4 @@ def test_a_page_that_has_ended() -> None:
 
 
 def test_version() -> None:
-    text = (Path(__file__).parent.parent / "pyproject.toml").read_text()
-    assert f'\nversion = "{__version__}"\n' in text
+    assert __version__ == (TOP / "VERSION").read_text().strip()

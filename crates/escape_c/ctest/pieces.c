@@ -11,7 +11,7 @@
  * given back.
  */
 #define PROGRAM "pieces"
-#define IN_PIECES escape_stream_filter
+#define IN_PIECES escape_stream_filter_state
 #define ADDED escape_stream_filter_text
 #include "added.h"
 #include "streams.h"
