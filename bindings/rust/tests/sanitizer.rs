@@ -88,6 +88,10 @@ fn sums_add_up_to_the_length() {
     assert_eq!(none, Account::default());
 }
 
+// Bytes that open strings and sequences, that end them, and text.
+const OPENERS: &[u8] =
+    b"\x1b\x1b\x1b]0;[P_X^\\\x07\x18\x9b\x9c\x9d\xc2\xc3\xa9\xe2\x80\xff\n\r\taz8mh";
+
 #[test]
 fn text_is_plain() {
     let mut streams = vec![STREAM.to_vec()];
@@ -95,8 +99,7 @@ fn text_is_plain() {
     for _ in 0..200 {
         let mut bytes = || {
             seed = seed.wrapping_mul(1_664_525).wrapping_add(1_013_904_223);
-            b"\x1b\x1b\x1b]0;[P_X^\\\x07\x18\x9b\x9c\x9d\xc2\xc3\xa9\xe2\x80\xff\n\r\taz8mh"
-                [(seed >> 16) as usize % 33]
+            OPENERS[(seed >> 16) as usize % OPENERS.len()]
         };
         streams.push((0..300).map(|_| bytes()).collect());
     }
