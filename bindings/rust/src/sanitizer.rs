@@ -49,8 +49,8 @@ pub struct Account {
 /// assert_eq!(text, b"one\ntwo three\n");
 ///
 /// let account = log.account()?;
-/// assert_eq!((account.length, account.passed), (30, 14));
-/// assert_eq!((account.swallowed, account.left_out), (11, 5));
+/// assert_eq!((account.length, account.passed), (30, 13));
+/// assert_eq!((account.swallowed, account.left_out), (12, 5));
 /// # Ok::<(), escape_stream::Error>(())
 /// ```
 #[derive(Debug)]

@@ -21,7 +21,7 @@ use std::io::{self, ErrorKind, Read, Write};
 /// write!(log, "two\x1b[31m")?;
 /// log.finish()?;
 /// assert_eq!(log.get_ref(), b"one\ntwo");
-/// assert_eq!(log.account()?.swallowed, 13);
+/// assert_eq!(log.account()?.swallowed, 14);
 /// # Ok::<(), std::io::Error>(())
 /// ```
 #[derive(Debug)]
