@@ -36,7 +36,7 @@ func BenchmarkFilter(b *testing.B) {
 func BenchmarkWriter(b *testing.B) {
 	bench(b, func(log []byte) {
 		w, _ := NewWriter(io.Discard, Color)
-		pieces(log, 32768, func(piece []byte) { w.Write(piece) })
+		chunks(log, 32768, func(chunk []byte) { w.Write(chunk) })
 		w.Close()
 	})
 }
@@ -48,8 +48,8 @@ func BenchmarkToHTML(b *testing.B) {
 func BenchmarkParser(b *testing.B) {
 	bench(b, func(log []byte) {
 		p, _ := NewParser()
-		pieces(log, 65536, func(piece []byte) {
-			p.Feed(piece)
+		chunks(log, 65536, func(chunk []byte) {
+			p.Feed(chunk)
 			for p.Next() {
 			}
 		})

@@ -39,8 +39,8 @@ func ExampleParser() {
 	if err != nil {
 		panic(err)
 	}
-	for _, piece := range []string{"a\x1b[2;", "5H\x1b]2;tit", "le\x07"} {
-		p.Feed([]byte(piece))
+	for _, chunk := range []string{"a\x1b[2;", "5H\x1b]2;tit", "le\x07"} {
+		p.Feed([]byte(chunk))
 		for p.Next() {
 			e := p.Event()
 			switch e.Kind {

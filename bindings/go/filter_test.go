@@ -40,7 +40,7 @@ func TestFilter(t *testing.T) {
 	}
 }
 
-// written returns what a writer passes on of a stream in pieces, with its end and without.
+// written returns what a writer passes on of a stream in chunks, with its end and without.
 func written(
 	t testing.TB, stream []byte, size int, policy Policy, options ...Option,
 ) (whole, withEnd []byte) {
@@ -49,8 +49,8 @@ func written(
 	if err != nil {
 		t.Fatal(err)
 	}
-	pieces(stream, size, func(piece []byte) {
-		if n, err := w.Write(piece); err != nil || n != len(piece) {
+	chunks(stream, size, func(chunk []byte) {
+		if n, err := w.Write(chunk); err != nil || n != len(chunk) {
 			t.Fatal(n, err)
 		}
 	})
@@ -214,12 +214,12 @@ func TestGoroutinesThatChangeTheirThread(t *testing.T) {
 				t.Error(err)
 				return
 			}
-			pieces(long, 100, func(piece []byte) {
+			chunks(long, 100, func(chunk []byte) {
 				done := make(chan struct{})
 				go func() {
 					runtime.LockOSThread()
 					defer runtime.UnlockOSThread()
-					w.Write(piece)
+					w.Write(chunk)
 					close(done)
 				}()
 				<-done

@@ -104,7 +104,7 @@ func (w *HTMLWriter) pass(p []byte) error {
 	return err
 }
 
-// A page of a stream in pieces. The library took its block.
+// A page of a stream in chunks. The library took its block.
 type page struct {
 	raw  C.struct_escape_stream_html
 	room []byte

@@ -27,7 +27,7 @@ func TestToHTML(t *testing.T) {
 	}
 }
 
-func TestHTMLInPieces(t *testing.T) {
+func TestHTMLInChunks(t *testing.T) {
 	all := []HTMLOptions{{}, {PerLine: true}, {Inline: true}, {PerLine: true, Inline: true}}
 	for _, options := range all {
 		long := bytes.Repeat([]byte(stream+"\n"), 2000)
@@ -41,7 +41,7 @@ func TestHTMLInPieces(t *testing.T) {
 			if err != nil {
 				t.Fatal(err)
 			}
-			pieces(long, size, func(piece []byte) { w.Write(piece) })
+			chunks(long, size, func(chunk []byte) { w.Write(chunk) })
 			if err := w.Close(); err != nil || !bytes.Equal(out.Bytes(), want) {
 				t.Error(options, size, err)
 			}

@@ -20,10 +20,10 @@ func entriesAreAlike() bool {
 		unsafe.Offsetof(one.IsByte) == unsafe.Offsetof(other.is_byte)
 }
 
-// A Parser gives the events of a stream that comes in pieces. It takes no memory but when it is
+// A Parser gives the events of a stream that comes in chunks. It takes no memory but when it is
 // made: two bytes for each of its limit.
 //
-//	p.Feed(piece)
+//	p.Feed(chunk)
 //	for p.Next() {
 //		event := p.Event()
 //	}
@@ -31,7 +31,7 @@ type Parser struct {
 	raw    C.struct_escape_stream_parser
 	event  C.struct_escape_stream_event
 	buffer []byte
-	piece  []byte
+	chunk  []byte
 	noted  Event
 	short  [utf8.UTFMax]byte
 	marks  [2]byte
@@ -48,23 +48,23 @@ func NewParser(options ...Option) (*Parser, error) {
 	return p, nil
 }
 
-// Feed gives the parser the next piece of the stream. Events of the piece before that were not
-// taken are taken first, and are lost. The piece is not to be written while its events are taken.
+// Feed gives the parser the next chunk of the stream. Events of the chunk before that were not
+// taken are taken first, and are lost. The chunk is not to be written while its events are taken.
 //
 // However a stream is cut, its events are the same, but that a run of text or of data may come in
 // several.
-func (p *Parser) Feed(piece []byte) {
-	for len(p.piece) > 0 && p.Next() {
+func (p *Parser) Feed(chunk []byte) {
+	for len(p.chunk) > 0 && p.Next() {
 	}
-	p.piece = piece
+	p.chunk = chunk
 }
 
-// Next notes the next event of the piece, and says whether there is one.
+// Next notes the next event of the chunk, and says whether there is one.
 func (p *Parser) Next() bool {
-	bytes := p.piece
+	bytes := p.chunk
 	taken := C.escape_stream_next(&p.raw, first(p.buffer), C.size_t(len(p.buffer)), first(bytes),
 		C.size_t(len(bytes)), &p.event)
-	p.piece = bytes[taken:]
+	p.chunk = bytes[taken:]
 	if p.event.kind == C.ESCAPE_STREAM_NONE {
 		return false
 	}

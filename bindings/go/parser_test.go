@@ -12,7 +12,7 @@ import (
 	"testing"
 )
 
-// events returns the events of a stream in pieces as lines, with each run of text or data as one.
+// events returns the events of a stream in chunks as lines, with each run of text or data as one.
 func events(t testing.TB, stream []byte, size int) []string {
 	p, err := NewParser(WithLimit(4096))
 	if err != nil {
@@ -20,8 +20,8 @@ func events(t testing.TB, stream []byte, size int) []string {
 	}
 	var found []string
 	last := Kind(0)
-	pieces(stream, size, func(piece []byte) {
-		p.Feed(piece)
+	chunks(stream, size, func(chunk []byte) {
+		p.Feed(chunk)
 		for p.Next() {
 			e := p.Event()
 			if e.Kind == last && (last == KindText || last == KindData) {
@@ -123,14 +123,14 @@ func TestLimit(t *testing.T) {
 func TestGround(t *testing.T) {
 	p, _ := NewParser()
 	for _, it := range []struct {
-		piece string
+		chunk string
 		want  bool
 	}{{"a", true}, {"\x1b[", false}, {"1", false}, {"m", true}} {
-		p.Feed([]byte(it.piece))
+		p.Feed([]byte(it.chunk))
 		for p.Next() {
 		}
 		if p.IsGround() != it.want {
-			t.Errorf("%q", it.piece)
+			t.Errorf("%q", it.chunk)
 		}
 	}
 	p.Feed([]byte("ab\x1b[1m"))
@@ -204,7 +204,7 @@ func FuzzStreams(f *testing.F) {
 }
 
 // checkFilter checks that a text is its own normal form, that a filter leaves it as it is, and that
-// it is the same in pieces.
+// it is the same in chunks.
 func checkFilter(t *testing.T, stream []byte, size int, policy Policy) {
 	text, err := Filter(policy, stream)
 	if err != nil {

@@ -8,8 +8,8 @@ import "io"
 type Reader struct {
 	from  io.Reader
 	f     *filter
-	piece []byte
-	text  []byte // what the last pieces added
+	chunk []byte
+	text  []byte // what the last chunks added
 	due   []byte // the end of it, which is not read yet
 	err   error
 }
@@ -21,7 +21,7 @@ func NewReader(r io.Reader, policy Policy, options ...Option) (*Reader, error) {
 	if err != nil {
 		return nil, err
 	}
-	return &Reader{from: r, f: f, piece: make([]byte, room)}, nil
+	return &Reader{from: r, f: f, chunk: make([]byte, room)}, nil
 }
 
 // Read reads what is admitted, as soon as there is some.
@@ -48,12 +48,12 @@ func (r *Reader) Close() error {
 	return nil
 }
 
-// fill reads a piece. What it adds is due before its error.
+// fill reads a chunk. What it adds is due before its error.
 func (r *Reader) fill() {
-	n, err := r.from.Read(r.piece)
+	n, err := r.from.Read(r.chunk)
 	r.text = r.text[:0]
 	if n > 0 {
-		if refused := r.f.feed(r.piece[:n]); refused != nil {
+		if refused := r.f.feed(r.chunk[:n]); refused != nil {
 			err = refused
 		} else {
 			_ = r.f.text(r.keep)

@@ -74,8 +74,8 @@ func rowOf(block string) row {
 	return r
 }
 
-// pieces calls f with each piece of a stream, so many bytes each.
-func pieces(stream []byte, size int, f func(piece []byte)) {
+// chunks calls f with each chunk of a stream, so many bytes each.
+func chunks(stream []byte, size int, f func(chunk []byte)) {
 	for len(stream) > size {
 		f(stream[:size])
 		stream = stream[size:]
@@ -83,7 +83,7 @@ func pieces(stream []byte, size int, f func(piece []byte)) {
 	f(stream)
 }
 
-// sizes returns the lengths of pieces that are tried.
+// sizes returns the lengths of chunks that are tried.
 func sizes(stream []byte) []int {
 	if len(stream) > 2000 {
 		return []int{4096}

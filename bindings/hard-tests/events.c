@@ -1,6 +1,6 @@
 /* SPDX-License-Identifier: MIT */
 /*
- * The parser: the events of a stream in pieces, over a buffer of any length, are those of the whole
+ * The parser: the events of a stream in chunks, over a buffer of any length, are those of the whole
  * over a large one, but that of a string that is longer than half the buffer there is an event
  * ESCAPE_STREAM_LIMIT.
  */
@@ -148,13 +148,13 @@ check_event(const struct escape_stream_event *event, size_t room, size_t taken, 
         fails("a string longer than half the buffer", event->length);
 }
 
-/* A piece of a stream. The half of the buffer that is not the parser's is overwritten between two
+/* A chunk of a stream. The half of the buffer that is not the parser's is overwritten between two
  * calls. */
 static void feed(struct log *log, struct escape_stream_parser *parser, uint8_t *buffer, size_t room,
-                 struct bytes piece) {
+                 struct bytes chunk) {
     struct escape_stream_event *event = (void *)placed(&events, sizeof *event);
-    struct bytes rest = lent(piece);
-    size_t events_left = 2 * piece.length + 3;
+    struct bytes rest = lent(chunk);
+    size_t events_left = 2 * chunk.length + 3;
     for (;;) {
         size_t taken = escape_stream_next(parser, buffer, room, rest.at, rest.length, event);
         at_hand.calls++;
@@ -164,7 +164,7 @@ static void feed(struct log *log, struct escape_stream_parser *parser, uint8_t *
         if (event->kind == ESCAPE_STREAM_NONE)
             return;
         if (--events_left == 0)
-            fails("more events than two for each byte", piece.length);
+            fails("more events than two for each byte", chunk.length);
         add_event(log, event, escape_stream_text(event, buffer, room, rest.at));
         if (room < BUFFER_ROOM)
             memset(buffer + room / 2, JUNK, room - room / 2);
@@ -173,9 +173,9 @@ static void feed(struct log *log, struct escape_stream_parser *parser, uint8_t *
     }
 }
 
-/* How long the next piece is: the way 0 is whole, 1 at random, and each other in pieces of one byte
+/* How long the next chunk is: the way 0 is whole, 1 at random, and each other in chunks of one byte
  * less than its number. */
-size_t piece_length(size_t way, size_t rest) {
+size_t chunk_length(size_t way, size_t rest) {
     size_t wanted = way == 0 ? rest : way > 1 ? way - 1 : one_in(16) ? below(rest + 1) : below(9);
     return wanted < rest ? wanted : rest;
 }
@@ -187,7 +187,7 @@ static void feed_all(struct log *log, size_t room, struct bytes stream, size_t w
     memset(parser, 0, sizeof *parser);
     escape_stream_begin(parser);
     do {
-        size_t length = piece_length(way, stream.length);
+        size_t length = chunk_length(way, stream.length);
         feed(log, parser, buffer, room, (struct bytes){stream.at, length});
         stream.at += length;
         stream.length -= length;
@@ -266,7 +266,7 @@ struct bytes check_events(struct bytes stream) {
         limited(room / 2);
         feed_all(&cut, room, stream, way);
         if (cut.length != expected.length || memcmp(cut.at, expected.at, cut.length) != 0)
-            fails("other events in pieces, over a buffer of", room);
+            fails("other events in chunks, over a buffer of", room);
     }
     check_commands();
     return shown_text();

@@ -6,7 +6,7 @@
  *     hard functions
  *
  * COUNT streams, the first from the number SEED, each further one from the next number, so `hard 1
- * SEED` runs one of them again, with the same pieces and in the same room. Each buffer that a call
+ * SEED` runs one of them again, with the same chunks and in the same room. Each buffer that a call
  * is given ends where memory ends, or begins where it begins, the bytes of a stream cannot be
  * written, and each block that the library asks for ends where memory ends. It says what it ran;
  * where a call does something else than its header says, or faults, it prints the seed and the
@@ -81,7 +81,7 @@ static void begin(void) {
     begin_blocks();
     begin_events();
     begin_texts();
-    begin_pieces();
+    begin_chunks();
     begin_logs();
     begin_commands();
     begin_writes();

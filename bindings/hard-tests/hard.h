@@ -60,13 +60,13 @@ struct text_call {
 };
 
 /* The checks: a file each. */
-size_t piece_length(size_t way, size_t rest);
+size_t chunk_length(size_t way, size_t rest);
 void begin_events(void);
 struct bytes check_events(struct bytes stream);
 void begin_texts(void);
 void check_texts(struct bytes stream, struct bytes shown);
-void begin_pieces(void);
-void check_pieces(const struct text_call *call, struct bytes text);
+void begin_chunks(void);
+void check_chunks(const struct text_call *call, struct bytes text);
 void begin_logs(void);
 void check_logs(struct bytes stream);
 void check_functions(void);

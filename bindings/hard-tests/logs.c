@@ -1,5 +1,5 @@
 /* SPDX-License-Identifier: MIT */
-/* The sanitizer: what it writes of a stream, and its account, do not depend on the pieces; the sums
+/* The sanitizer: what it writes of a stream, and its account, do not depend on the chunks; the sums
  * add up; refused memory ends it. */
 #include "hard.h"
 #include "escape_stream.h"
@@ -46,7 +46,7 @@ static size_t add_text(struct escape_stream_sanitizer *it, uint8_t *to, size_t l
     return length;
 }
 
-/* Sanitizes the stream in pieces. The request for memory with the number `at` is refused, where
+/* Sanitizes the stream in chunks. The request for memory with the number `at` is refused, where
  * that is not 0. */
 static uint32_t sanitize(
     const struct escape_stream_sanitizer_options *options, struct bytes stream, size_t way,
@@ -59,7 +59,7 @@ static uint32_t sanitize(
     refused = at;
     status = escape_stream_sanitizer_begin(it, options);
     while (stream.length > 0 && status == ESCAPE_STREAM_DONE) {
-        size_t count = piece_length(way, stream.length);
+        size_t count = chunk_length(way, stream.length);
         at_hand.calls++;
         status = escape_stream_sanitizer_feed(it, lent((struct bytes){stream.at, count}).at, count);
         *length = add_text(it, to, *length);
@@ -99,7 +99,7 @@ void check_logs(struct bytes stream) {
     if (sanitize(&options, stream, below(40), 0, given[1], &count, &other) != ESCAPE_STREAM_DONE ||
         count != length || memcmp(given[0], given[1], length) != 0 ||
         memcmp(&account, &other, sizeof account) != 0)
-        fails("another text or account in other pieces, after bytes", count);
+        fails("another text or account in other chunks, after bytes", count);
     status = sanitize(&options, stream, below(40), at, given[1], &count, &other);
     if (status == ESCAPE_STREAM_NO_MEMORY)
         at_hand.refusals++;

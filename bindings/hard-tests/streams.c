@@ -1,5 +1,5 @@
 /* SPDX-License-Identifier: MIT */
-/* A stream for each seed, of pieces that matter to a parser. */
+/* A stream for each seed, of chunks that matter to a parser. */
 #include "hard.h"
 #include "escape_stream_parser.h"
 
@@ -8,7 +8,7 @@
 static uint8_t stream[STREAM_ROOM];
 static size_t length;
 
-static const char *const PIECES[] = {
+static const char *const CHUNKS[] = {
     /* what opens and closes, in seven bits, raw and in UTF-8 */
     "\x1b", "\x1b[", "\x1b]", "\x1bP", "\x1b_", "\x1bX", "\x1b^", "\x1b\\", "\x1b(B", "\x1b#8", "\x1b $%&'x", "\033c",
     "\x9b", "\x9d", "\x90", "\x9f", "\x98", "\x9e", "\x9c", "\x85", "\x84", "\x8e",
@@ -82,8 +82,8 @@ static void add_of_table(bool is_whole) {
     add(row.at + from, to - from);
 }
 
-static void add_piece(void) {
-    const char *piece = PIECES[below(sizeof PIECES / sizeof *PIECES)];
+static void add_chunk(void) {
+    const char *chunk = CHUNKS[below(sizeof CHUNKS / sizeof *CHUNKS)];
     switch (below(16)) {
     case 0:
         add_run();
@@ -107,7 +107,7 @@ static void add_piece(void) {
         add_of_table(one_in(4));
         return;
     default:
-        add(piece, strlen(piece));
+        add(chunk, strlen(chunk));
     }
 }
 
@@ -119,6 +119,6 @@ struct bytes random_stream(uint64_t seed) {
         add_of_table(true);
     else
         for (size_t count = below(one_in(256) ? 400 : 16); count > 0; count--)
-            add_piece();
+            add_chunk();
     return (struct bytes){stream, length};
 }

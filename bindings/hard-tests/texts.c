@@ -148,7 +148,7 @@ static void check_normal(struct bytes stream) {
     check_rooms(&call, normal);
     if (one_in(4))
         check_refusal(&call);
-    check_pieces(&(struct text_call){false, 0, LARGE, stream}, normal);
+    check_chunks(&(struct text_call){false, 0, LARGE, stream}, normal);
 }
 
 /* What shows text alone has neither an escape, nor another control, nor DEL. */
@@ -177,7 +177,7 @@ static void check_filter(uint32_t policy, struct bytes stream, struct bytes show
     check_rooms(&call, text);
     if (one_in(4))
         check_refusal(&call);
-    check_pieces(&call, text);
+    check_chunks(&call, text);
 }
 
 /* Of a policy that is unknown nothing is written. */

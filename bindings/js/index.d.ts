@@ -9,8 +9,8 @@ declare global {
 
 /** Bytes of a stream. */
 export type Bytes = ArrayBufferLike | ArrayBufferView;
-/** A piece of a stream: bytes, or a string, which is taken as its UTF-8. */
-export type Piece = string | Bytes;
+/** A chunk of a stream: bytes, or a string, which is taken as its UTF-8. */
+export type Chunk = string | Bytes;
 
 /**
  * What a filter lets through. Each policy admits all that the one before it does: `text`
@@ -59,7 +59,7 @@ export function normal(stream: Bytes, options?: Limit): Uint8Array;
  * Returns a stream as HTML: spans, links to http, https and mailto, and characters. It goes into a
  * `pre`, with stream.css, or without it where it is `inline`.
  */
-export function toHtml(stream: Piece, options?: HtmlOptions): string;
+export function toHtml(stream: Chunk, options?: HtmlOptions): string;
 
 /** What keeps memory of the module until it is disposed of, or nothing names it any more. */
 declare class Kept {
@@ -68,37 +68,37 @@ declare class Kept {
   [Symbol.dispose](): void;
 }
 
-/** A filter of a stream that comes in pieces: what `filter` returns of the whole, as it comes. */
+/** A filter of a stream that comes in chunks: what `filter` returns of the whole, as it comes. */
 export class Filter extends Kept {
   constructor(policy?: Policy, options?: Limit);
-  /** Takes the next piece of the stream, and returns what it adds. */
-  feed(piece: string): string;
-  feed(piece: Bytes): Uint8Array;
-  feed(piece: Piece): string | Uint8Array;
+  /** Takes the next chunk of the stream, and returns what it adds. */
+  feed(chunk: string): string;
+  feed(chunk: Bytes): Uint8Array;
+  feed(chunk: Chunk): string | Uint8Array;
   /**
    * Ends the stream, and begins the next. Returns what takes back what the stream left changed at a
-   * terminal, as a colour: a string, where the last piece was one.
+   * terminal, as a colour: a string, where the last chunk was one.
    */
   finish(): string | Uint8Array;
 }
 
-/** The normal form of a stream that comes in pieces. */
+/** The normal form of a stream that comes in chunks. */
 export class Normalizer extends Kept {
   constructor(options?: Limit);
-  /** Takes the next piece of the stream, and returns what it adds. */
-  feed(piece: string): string;
-  feed(piece: Bytes): Uint8Array;
-  feed(piece: Piece): string | Uint8Array;
+  /** Takes the next chunk of the stream, and returns what it adds. */
+  feed(chunk: string): string;
+  feed(chunk: Bytes): Uint8Array;
+  feed(chunk: Chunk): string | Uint8Array;
   /** Ends the stream, and begins the next. */
   finish(): string | Uint8Array;
 }
 
-/** HTML of a stream that comes in pieces. */
+/** HTML of a stream that comes in chunks. */
 export class HtmlWriter extends Kept {
   constructor(options?: HtmlOptions);
-  /** Takes the next piece of the stream, and returns what it adds. */
-  feed(piece: Piece): string;
-  /** Ends the stream, and returns what closes the tags that are open. No piece follows. */
+  /** Takes the next chunk of the stream, and returns what it adds. */
+  feed(chunk: Chunk): string;
+  /** Ends the stream, and returns what closes the tags that are open. No chunk follows. */
   finish(): string;
 }
 
@@ -178,48 +178,48 @@ export type Event =
   | ApcEvent
   | LimitPassed;
 
-/** A parser of a stream that comes in pieces. Of one stream take the events or the actions. */
+/** A parser of a stream that comes in chunks. Of one stream take the events or the actions. */
 export class Parser extends Kept {
   constructor(options?: ParserOptions);
   /**
-   * Takes the next piece of the stream, and returns the events that it adds. However a stream is
+   * Takes the next chunk of the stream, and returns the events that it adds. However a stream is
    * cut, they are the same, but that a run of text or of data may come in several.
    */
-  events(piece: Piece): Event[];
+  events(chunk: Chunk): Event[];
   /** The events of half a character that strings left, at the end of a stream of strings. */
   endEvents(): Event[];
-  /** Takes the next piece of the stream, and returns the actions that it adds. */
-  actions(piece: Piece): Action[];
+  /** Takes the next chunk of the stream, and returns the actions that it adds. */
+  actions(chunk: Chunk): Action[];
   endActions(): Action[];
   /** Whether no character, sequence or string of the stream so far is unfinished. */
   readonly isGround: boolean;
 }
 
-/** Yields the events of a stream, or of its pieces. What is unfinished at its end adds nothing. */
-export function events(stream: Piece | Iterable<Piece>, options?: ParserOptions): Generator<Event>;
-/** Yields the actions of a stream, or of its pieces. */
+/** Yields the events of a stream, or of its chunks. What is unfinished at its end adds nothing. */
+export function events(stream: Chunk | Iterable<Chunk>, options?: ParserOptions): Generator<Event>;
+/** Yields the actions of a stream, or of its chunks. */
 export function actions(
-  stream: Piece | Iterable<Piece>,
+  stream: Chunk | Iterable<Chunk>,
   options?: ParserOptions,
 ): Generator<Action>;
 
 type Out<P> = P extends string ? string : Uint8Array;
 /** The same as transformers, for `pipeThrough`: strings of strings, and bytes of bytes. */
-export function filterStream<P extends Piece = Uint8Array>(
+export function filterStream<P extends Chunk = Uint8Array>(
   policy?: Policy,
   options?: Limit,
 ): TransformStream<P, Out<P>>;
-export function stripStream<P extends Piece = Uint8Array>(
+export function stripStream<P extends Chunk = Uint8Array>(
   options?: Limit,
 ): TransformStream<P, Out<P>>;
-export function normalStream<P extends Piece = Uint8Array>(
+export function normalStream<P extends Chunk = Uint8Array>(
   options?: Limit,
 ): TransformStream<P, Out<P>>;
-export function htmlStream(options?: HtmlOptions): TransformStream<Piece, string>;
+export function htmlStream(options?: HtmlOptions): TransformStream<Chunk, string>;
 /** A chunk an event. */
-export function eventStream(options?: ParserOptions): TransformStream<Piece, Event>;
+export function eventStream(options?: ParserOptions): TransformStream<Chunk, Event>;
 /** A chunk an action. */
-export function actionStream(options?: ParserOptions): TransformStream<Piece, Action>;
+export function actionStream(options?: ParserOptions): TransformStream<Chunk, Action>;
 
 /** A row of docs/FUNCTIONS.md. */
 export interface FunctionRow {

@@ -1,5 +1,5 @@
 // SPDX-License-Identifier: MIT
-//! What the parser of actions of the crate `escape-stream` takes for a stream: `actions FILE PIECE
+//! What the parser of actions of the crate `escape-stream` takes for a stream: `actions FILE CHUNK
 //! PASSES`, as vte.rs says. Each action is counted, and the lengths of texts are added up; then it
 //! is dropped, with the memory that it took. It is built with one of `--cfg parse`, `parse_kept`,
 //! `parse_borrowed` and `parse_borrowed_kept`: with one call of the parser alone, whose closure is
@@ -65,22 +65,22 @@ impl Count {
 
 fn main() {
     let words: Vec<String> = env::args().collect();
-    let [_, path, piece, passes] = &words[..] else {
-        panic!("actions FILE PIECE PASSES")
+    let [_, path, chunk, passes] = &words[..] else {
+        panic!("actions FILE CHUNK PASSES")
     };
     let data = fs::read(path).unwrap();
     let mut count = Count::default();
     for _ in 0..passes.parse().unwrap() {
         let mut parser = Parser::new();
-        for piece in data.chunks(piece.parse().unwrap()) {
+        for chunk in data.chunks(chunk.parse().unwrap()) {
             #[cfg(parse)]
-            parser.parse(piece, |action| count.add(action));
+            parser.parse(chunk, |action| count.add(action));
             #[cfg(parse_kept)]
-            parser.parse(piece, |action| count.add(black_box(action)));
+            parser.parse(chunk, |action| count.add(black_box(action)));
             #[cfg(parse_borrowed)]
-            parser.parse_borrowed(piece, |action| count.add(action));
+            parser.parse_borrowed(chunk, |action| count.add(action));
             #[cfg(parse_borrowed_kept)]
-            parser.parse_borrowed(piece, |action| count.add(black_box(action)));
+            parser.parse_borrowed(chunk, |action| count.add(black_box(action)));
         }
         assert_eq!(parser.failure(), None);
     }

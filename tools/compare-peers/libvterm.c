@@ -1,5 +1,5 @@
 // SPDX-License-Identifier: MIT
-// What the parser of libvterm takes for a stream: `libvterm FILE PIECE PASSES`, as vte.rs says. The
+// What the parser of libvterm takes for a stream: `libvterm FILE CHUNK PASSES`, as vte.rs says. The
 // parser alone: no state and no screen. libvterm hands its text callback all that is left, and
 // takes the number of bytes that it took; its own next layer decodes UTF-8 there and stops at a
 // control, so this does too.
@@ -95,7 +95,7 @@ int main(int argc, char **argv)
     FILE *file = fopen(argv[1], "rb");
     if (!file || fseek(file, 0, SEEK_END))
         return 1;
-    size_t size = ftell(file), piece = strtoul(argv[2], NULL, 10);
+    size_t size = ftell(file), chunk = strtoul(argv[2], NULL, 10);
     char *data = malloc(size + 1);
     rewind(file);
     if (!data || fread(data, 1, size, file) != size)
@@ -105,8 +105,8 @@ int main(int argc, char **argv)
         VTerm *terminal = vterm_new(25, 80);
         vterm_set_utf8(terminal, 1);
         vterm_parser_set_callbacks(terminal, &callbacks, &count);
-        for (size_t at = 0; at < size; at += piece)
-            vterm_input_write(terminal, data + at, size - at < piece ? size - at : piece);
+        for (size_t at = 0; at < size; at += chunk)
+            vterm_input_write(terminal, data + at, size - at < chunk ? size - at : chunk);
         vterm_free(terminal);
     }
     printf("%lu %lu %lu\n", count.characters, count.events, count.sum);

@@ -1,5 +1,5 @@
 // SPDX-License-Identifier: MIT
-// What the parser for C takes for a stream: `next FILE PIECE PASSES`, as vte.rs says, by
+// What the parser for C takes for a stream: `next FILE CHUNK PASSES`, as vte.rs says, by
 // escape_stream_next with a buffer of 64 KiB. Of an event it adds up what the program over vte
 // does: of a control sequence the count of its parameters and the final byte.
 #include "escape_stream_parser.h"
@@ -54,7 +54,7 @@ int main(int argc, char **argv)
     FILE *file = fopen(argv[1], "rb");
     if (!file || fseek(file, 0, SEEK_END))
         return 1;
-    size_t size = ftell(file), piece = strtoul(argv[2], NULL, 10);
+    size_t size = ftell(file), chunk = strtoul(argv[2], NULL, 10);
     uint8_t *data = malloc(size + 1);
     rewind(file);
     if (!data || fread(data, 1, size, file) != size)
@@ -63,8 +63,8 @@ int main(int argc, char **argv)
     struct count count = {0};
     for (int pass = atoi(argv[3]); pass > 0; pass--) {
         escape_stream_begin(&parser);
-        for (size_t at = 0; at < size; at += piece)
-            feed(&parser, data + at, size - at < piece ? size - at : piece, &count);
+        for (size_t at = 0; at < size; at += chunk)
+            feed(&parser, data + at, size - at < chunk ? size - at : chunk, &count);
     }
     printf("%lu %lu\n", count.events, count.sum);
     return 0;

@@ -1,6 +1,6 @@
 // SPDX-License-Identifier: MIT
-//! What vte, the parser of Alacritty, takes for a stream: `vte FILE PIECE PASSES` reads the file and
-//! gives it to a new parser in pieces of so many bytes, so many times. Each call of the actor is
+//! What vte, the parser of Alacritty, takes for a stream: `vte FILE CHUNK PASSES` reads the file and
+//! gives it to a new parser in chunks of so many bytes, so many times. Each call of the actor is
 //! counted and what it gets added up, as the actor of `bench` does, so nothing of the work is
 //! optimised away. With `--cfg per_byte` the parser has the calls of vte before 0.14.
 use std::{env, fs};
@@ -54,20 +54,20 @@ impl vte::Perform for Count {
 
 fn main() {
     let words: Vec<String> = env::args().collect();
-    let [_, path, piece, passes] = &words[..] else {
-        panic!("vte FILE PIECE PASSES")
+    let [_, path, chunk, passes] = &words[..] else {
+        panic!("vte FILE CHUNK PASSES")
     };
     let data = fs::read(path).unwrap();
     let mut count = Count::default();
     for _ in 0..passes.parse().unwrap() {
         let mut parser = vte::Parser::new();
-        for piece in data.chunks(piece.parse().unwrap()) {
+        for chunk in data.chunks(chunk.parse().unwrap()) {
             #[cfg(per_byte)]
-            for byte in piece {
+            for byte in chunk {
                 parser.advance(&mut count, *byte);
             }
             #[cfg(not(per_byte))]
-            parser.advance(&mut count, piece);
+            parser.advance(&mut count, chunk);
         }
     }
     println!("{} {} {}", count.characters, count.events, count.sum);

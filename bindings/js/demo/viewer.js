@@ -3,7 +3,7 @@ import { HtmlWriter, Parser, strip, toHtml } from "../index.js";
 import { Account } from "./account.js";
 import { streamOf } from "./recording.js";
 
-const PIECE = 262_144;
+const CHUNK = 262_144;
 // What a page begins with that is saved: nothing in it is loaded or run.
 const HEAD = `<!DOCTYPE html>
 <meta charset="utf-8">
@@ -84,8 +84,8 @@ async function pause(mine) {
   return mine === run;
 }
 
-/* Shows a stream piece by piece. Returns its account, or undefined where another stream came. */
-async function showPieces(bytes, name, mine) {
+/* Shows a stream chunk by chunk. Returns its account, or undefined where another stream came. */
+async function showChunks(bytes, name, mine) {
   const writer = new HtmlWriter({ perLine: true });
   const parser = new Parser();
   const account = new Account();
@@ -96,10 +96,10 @@ async function showPieces(bytes, name, mine) {
     lines.put(text);
   };
   try {
-    for (let from = 0; from < bytes.length; from += PIECE) {
-      const piece = bytes.subarray(from, from + PIECE);
-      put(writer.feed(piece));
-      account.take(parser.actions(piece));
+    for (let from = 0; from < bytes.length; from += CHUNK) {
+      const chunk = bytes.subarray(from, from + CHUNK);
+      put(writer.feed(chunk));
+      account.take(parser.actions(chunk));
       say(`${name}: ${Math.floor((100 * from) / bytes.length)} per cent`);
       if (!(await pause(mine))) return undefined;
     }
@@ -116,7 +116,7 @@ async function showPieces(bytes, name, mine) {
 async function show(file, name) {
   const mine = ++run;
   const { bytes, isRecording } = streamOf(file);
-  const account = await showPieces(bytes, name, mine);
+  const account = await showChunks(bytes, name, mine);
   if (account === undefined) return;
   listRows(account.rows());
   at("plain").checked = false;

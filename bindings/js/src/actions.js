@@ -2,7 +2,7 @@
 // A stream as actions: its events, with what each string says, under the names of termwiz.
 import { command } from "./commands.js";
 import { image, sixel, termcapQuery } from "./images.js";
-import { Bytes } from "./pieces.js";
+import { Bytes } from "./chunks.js";
 
 const C0 = `Null StartOfHeading StartOfText EndOfText EndOfTransmission Enquiry Acknowledge Bell
   Backspace HorizontalTab LineFeed VerticalTab FormFeed CarriageReturn ShiftOut ShiftIn

@@ -1,7 +1,7 @@
 // SPDX-License-Identifier: MIT
 // Operating system commands as plain objects, under the names of termwiz.
 import { read } from "./fields.js";
-import { bytesOf } from "./pieces.js";
+import { bytesOf } from "./chunks.js";
 import { calls } from "./wasm.js";
 
 const DYNAMIC_COLORS = `TextForegroundColor TextBackgroundColor TextCursorColor MouseForegroundColor

@@ -1,7 +1,7 @@
 // SPDX-License-Identifier: MIT
 // The fields of a command or an image, taken one after another. The numbers are those of
 // escape_stream.h.
-import { textOf } from "./pieces.js";
+import { textOf } from "./chunks.js";
 import { done, give, memory, take } from "./wasm.js";
 
 const NAMES = `TEXT PART DIRECTORY URI IMPLICIT KEY VALUE SELECTION PALETTE_INDEX DYNAMIC_COLOR RED

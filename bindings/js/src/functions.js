@@ -1,7 +1,7 @@
 // SPDX-License-Identifier: MIT
 // Control functions by name.
 import { headOf } from "./fields.js";
-import { textOf } from "./pieces.js";
+import { textOf } from "./chunks.js";
 import { calls, memory } from "./wasm.js";
 
 // The rows that were asked for before, which are few.

@@ -2,7 +2,7 @@
 // Images of kitty's graphics protocol, sixel images and termcap queries as plain objects, under the
 // names of termwiz.
 import { headOf, placed, read, rowsOf, shrink } from "./fields.js";
-import { bytesOf, textOf } from "./pieces.js";
+import { bytesOf, textOf } from "./chunks.js";
 import { calls, done, give, memory, take } from "./wasm.js";
 
 const VERBOSITIES = ["Verbose", "OnlyErrors", "Quiet"];

@@ -1,7 +1,7 @@
 // SPDX-License-Identifier: MIT
-// A parser of a stream that comes in pieces: its events, and its actions.
+// A parser of a stream that comes in chunks: its events, and its actions.
 import { ActionTaker } from "./actions.js";
-import { PIECE, Pieces, bytesOf, rooms, textOf } from "./pieces.js";
+import { CHUNK, Chunks, bytesOf, rooms, textOf } from "./chunks.js";
 import { Kept, calls, give, limitOf, memory, take } from "./wasm.js";
 
 // The kinds of events, as wasm/events.h lists them with what goes with each.
@@ -37,12 +37,12 @@ const LIMIT_EVENT = Object.freeze({ type: "LimitPassed" });
 
 /* The events of a call, one after another. */
 class Batch {
-  constructor(at, buffer, piece) {
+  constructor(at, buffer, chunk) {
     const { bytes, words } = memory();
     this.bytes = bytes;
     this.words = words;
     this.buffer = buffer;
-    this.piece = piece;
+    this.chunk = chunk;
     this.at = (at + RECORDS) >> 2;
     this.end = this.at + words[(at >> 2) + 1];
     const length = words[(at >> 2) + 2];
@@ -78,7 +78,7 @@ class Batch {
       case DCS:
         return this.device();
       case DATA: {
-        const from = this.piece + words[this.at++];
+        const from = this.chunk + words[this.at++];
         return { type: "Data", data: this.bytes.slice(from, from + words[this.at++]) };
       }
       case DATA_BYTE:
@@ -159,7 +159,7 @@ export class Parser extends Kept {
   #at;
   #buffer;
   #size;
-  #pieces = new Pieces();
+  #chunks = new Chunks();
   #taker;
 
   constructor({ limit, dataLimit } = {}) {
@@ -184,22 +184,22 @@ export class Parser extends Kept {
     this.#taker = new ActionTaker(dataLimit);
   }
 
-  events(piece) {
+  events(chunk) {
     this.check();
     const found = [];
-    this.#pieces.put(piece, (length) => this.#take(length, found));
+    this.#chunks.put(chunk, (length) => this.#take(length, found));
     return found;
   }
 
   endEvents() {
     this.check();
     const found = [];
-    this.#pieces.end((length) => this.#take(length, found));
+    this.#chunks.end((length) => this.#take(length, found));
     return found;
   }
 
-  actions(piece) {
-    return this.#taker.take(this.events(piece));
+  actions(chunk) {
+    return this.#taker.take(this.events(chunk));
   }
 
   endActions() {
@@ -211,13 +211,13 @@ export class Parser extends Kept {
     return calls.is_ground(this.#at) !== 0;
   }
 
-  /* The events of a piece that lies in the room for pieces. */
+  /* The events of a chunk that lies in the room for chunks. */
   #take(length, found) {
     const first = this.#at >> 2;
-    const { piece } = rooms();
+    const { chunk } = rooms();
     for (let from = 0; ; ) {
-      calls.next(this.#at, this.#buffer, this.#size, piece + from, length - from);
-      const batch = new Batch(this.#at, this.#buffer + this.#size / 2, piece + from);
+      calls.next(this.#at, this.#buffer, this.#size, chunk + from, length - from);
+      const batch = new Batch(this.#at, this.#buffer + this.#size / 2, chunk + from);
       batch.read(found);
       const { words } = memory();
       if (words[first + 3] !== 0) return;
@@ -226,24 +226,24 @@ export class Parser extends Kept {
   }
 }
 
-/* The pieces of a stream that is given whole, or in pieces. */
-function* piecesOf(stream) {
-  const isPiece = typeof stream === "string" || typeof stream?.[Symbol.iterator] !== "function"
+/* The chunks of a stream that is given whole, or in chunks. */
+function* chunksOf(stream) {
+  const isChunk = typeof stream === "string" || typeof stream?.[Symbol.iterator] !== "function"
     || ArrayBuffer.isView(stream);
-  if (!isPiece) {
+  if (!isChunk) {
     yield* stream;
   } else if (typeof stream === "string") {
-    for (let at = 0; at < stream.length; at += PIECE) yield stream.slice(at, at + PIECE);
+    for (let at = 0; at < stream.length; at += CHUNK) yield stream.slice(at, at + CHUNK);
   } else {
     const bytes = bytesOf(stream);
-    for (let at = 0; at < bytes.length; at += PIECE) yield bytes.subarray(at, at + PIECE);
+    for (let at = 0; at < bytes.length; at += CHUNK) yield bytes.subarray(at, at + CHUNK);
   }
 }
 
 export function* events(stream, options) {
   const parser = new Parser(options);
   try {
-    for (const piece of piecesOf(stream)) yield* parser.events(piece);
+    for (const chunk of chunksOf(stream)) yield* parser.events(chunk);
     yield* parser.endEvents();
   } finally {
     parser.dispose();
@@ -253,7 +253,7 @@ export function* events(stream, options) {
 export function* actions(stream, options) {
   const parser = new Parser(options);
   try {
-    for (const piece of piecesOf(stream)) yield* parser.actions(piece);
+    for (const chunk of chunksOf(stream)) yield* parser.actions(chunk);
     yield* parser.endActions();
   } finally {
     parser.dispose();

@@ -4,8 +4,8 @@ import { Parser } from "./parser.js";
 import { Filter, HtmlWriter, Normalizer } from "./texts.js";
 
 /*
- * A stream over what `make` returns: `take` gives the chunks of its next piece, and `end` those of
- * its end.
+ * A stream over what `make` returns: `take` gives what the next chunk adds, and `end` what the end
+ * adds.
  */
 function over(make, take, end) {
   let it;
@@ -13,11 +13,11 @@ function over(make, take, end) {
     start() {
       it = make();
     },
-    transform(piece, to) {
-      for (const chunk of take(it, piece)) to.enqueue(chunk);
+    transform(chunk, to) {
+      for (const added of take(it, chunk)) to.enqueue(added);
     },
     flush(to) {
-      for (const chunk of end(it)) to.enqueue(chunk);
+      for (const added of end(it)) to.enqueue(added);
       it.dispose();
     },
     cancel() {
@@ -26,10 +26,10 @@ function over(make, take, end) {
   });
 }
 
-const some = (chunk) => (chunk.length > 0 ? [chunk] : []);
+const some = (added) => (added.length > 0 ? [added] : []);
 
 const texts = (make) => {
-  const take = (it, piece) => some(it.feed(piece));
+  const take = (it, chunk) => some(it.feed(chunk));
   return over(make, take, (it) => some(it.finish()));
 };
 
@@ -43,10 +43,10 @@ export const htmlStream = (options) => texts(() => new HtmlWriter(options));
 
 export const eventStream = (options) => {
   const make = () => new Parser(options);
-  return over(make, (it, piece) => it.events(piece), (it) => it.endEvents());
+  return over(make, (it, chunk) => it.events(chunk), (it) => it.endEvents());
 };
 
 export const actionStream = (options) => {
   const make = () => new Parser(options);
-  return over(make, (it, piece) => it.actions(piece), (it) => it.endActions());
+  return over(make, (it, chunk) => it.actions(chunk), (it) => it.endActions());
 };

@@ -1,6 +1,6 @@
 // SPDX-License-Identifier: MIT
-// What takes a stream in pieces and gives a text for each: a filter, a page, the normal form.
-import { Bytes, PIECE, Pieces, Text, rooms } from "./pieces.js";
+// What takes a stream in chunks and gives a text for each: a filter, a page, the normal form.
+import { Bytes, CHUNK, Chunks, Text, rooms } from "./chunks.js";
 import { Kept, calls, done, give, limitOf, memory, take } from "./wasm.js";
 
 // How many bytes the struct of each has.
@@ -13,11 +13,11 @@ function policyOf(policy) {
 }
 
 /* What the three have in common. */
-class InPieces extends Kept {
+class InChunks extends Kept {
   #name;
   #what;
   #at;
-  #pieces = new Pieces();
+  #chunks = new Chunks();
 
   constructor(name, what, begin) {
     const at = take(STRUCT);
@@ -38,17 +38,17 @@ class InPieces extends Kept {
     }
   }
 
-  /* Takes a piece, and puts the text that it adds into `to`. */
-  fed(piece, to) {
+  /* Takes a chunk, and puts the text that it adds into `to`. */
+  fed(chunk, to) {
     this.check();
-    this.#pieces.put(piece, (length) => this.#feed(length, to));
+    this.#chunks.put(chunk, (length) => this.#feed(length, to));
     return to.all();
   }
 
   /* Ends the stream, and puts the text that its end adds into `to`. */
   finished(to) {
     this.check();
-    this.#pieces.end((length) => this.#feed(length, to));
+    this.#chunks.end((length) => this.#feed(length, to));
     done(calls[`${this.#name}_finish`](this.#at), this.#what);
     this.#push(to);
     return to.all();
@@ -56,7 +56,7 @@ class InPieces extends Kept {
 
   #feed(length, to) {
     const feed = calls[`${this.#name}_feed`];
-    done(feed(this.#at, rooms().piece, length), this.#what);
+    done(feed(this.#at, rooms().chunk, length), this.#what);
     this.#push(to);
   }
 
@@ -64,7 +64,7 @@ class InPieces extends Kept {
     const text = calls[`${this.#name}_text`];
     const { text: room } = rooms();
     for (let from = 0; ; ) {
-      const count = text(this.#at, from, room, PIECE);
+      const count = text(this.#at, from, room, CHUNK);
       if (count === 0) return;
       to.push(memory().bytes.subarray(room, room + count));
       from += count;
@@ -72,15 +72,15 @@ class InPieces extends Kept {
   }
 }
 
-const sinkOf = (piece) => (typeof piece === "string" ? new Text() : new Bytes());
+const sinkOf = (chunk) => (typeof chunk === "string" ? new Text() : new Bytes());
 
 /* One that gives strings for strings, and bytes for bytes. */
-class AsGiven extends InPieces {
+class AsGiven extends InChunks {
   #isText = false;
 
-  feed(piece) {
-    this.#isText = typeof piece === "string";
-    return this.fed(piece, sinkOf(piece));
+  feed(chunk) {
+    this.#isText = typeof chunk === "string";
+    return this.fed(chunk, sinkOf(chunk));
   }
 
   /** Ends the stream, and begins the next: what its end adds, as a string after a string. */
@@ -104,14 +104,14 @@ export class Normalizer extends AsGiven {
   }
 }
 
-export class HtmlWriter extends InPieces {
+export class HtmlWriter extends InChunks {
   constructor({ perLine = false, inline = false, limit } = {}) {
     const flags = [perLine ? 1 : 0, inline ? 1 : 0, limitOf(limit)];
     super("html", "page", (at) => calls.html_begin(at, ...flags));
   }
 
-  feed(piece) {
-    return this.fed(piece, new Text());
+  feed(chunk) {
+    return this.fed(chunk, new Text());
   }
 
   finish() {

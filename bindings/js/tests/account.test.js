@@ -31,10 +31,10 @@ test("every action has a request, or asks for nothing", () => {
   }
 });
 
-test("lines are counted also where pieces cut them", () => {
+test("lines are counted also where chunks cut them", () => {
   const parser = new Parser();
   const account = new Account();
-  for (const piece of ["a\n", "\n\x1b[", "J\n"]) account.take(parser.actions(piece));
+  for (const chunk of ["a\n", "\n\x1b[", "J\n"]) account.take(parser.actions(chunk));
   parser.dispose();
   assert.equal(account.line, 4);
   assert.deepEqual(account.rows()[0].lines, [3]);

@@ -4,7 +4,7 @@ import assert from "node:assert/strict";
 import test from "node:test";
 import { Parser, actions, command, functionOf, image, sixel, termcapQuery } from "../index.js";
 import { lines } from "./debug.js";
-import { pieces, rows, unescaped } from "./rows.js";
+import { chunks, rows, unescaped } from "./rows.js";
 
 // The actions of a row. A line `kept` is a command that is kept as its parts.
 function wanted(row) {
@@ -32,9 +32,9 @@ test("actions are as in the tables", () => {
     if (!stream || row.bytes("limit") || expected.length === 0) continue;
     for (const size of stream.length < 10_000 ? [stream.length, 1, 3] : [stream.length]) {
       const parser = new Parser({ limit: 1 << 24, dataLimit: 1 << 24 });
-      const found = pieces(stream, size || 1).flatMap((it) => parser.actions(it));
+      const found = chunks(stream, size || 1).flatMap((it) => parser.actions(it));
       parser.dispose();
-      assert.deepEqual(found.flatMap(lines), expected, `${row.name}, in pieces of ${size}`);
+      assert.deepEqual(found.flatMap(lines), expected, `${row.name}, in chunks of ${size}`);
     }
     count++;
   }

@@ -3,7 +3,7 @@ import assert from "node:assert/strict";
 import { readFileSync } from "node:fs";
 import test from "node:test";
 import { Parser, events, functionOf } from "../index.js";
-import { TOP, pieces, rows } from "./rows.js";
+import { TOP, chunks, rows } from "./rows.js";
 
 /* The events with each run of text, and of data, as one. */
 function joined(found) {
@@ -60,7 +60,7 @@ test("events are the same however a stream is cut", () => {
     if (!stream || stream.length > 2000) continue;
     const whole = joined(events(stream));
     for (const size of [1, 2, 3, 5, 7, 11, 40]) {
-      assert.deepEqual(joined(events(pieces(stream, size))), whole, `${row.name}, ${size}`);
+      assert.deepEqual(joined(events(chunks(stream, size))), whole, `${row.name}, ${size}`);
     }
     count++;
   }
@@ -74,14 +74,14 @@ test("text of every length, and text that is cut", () => {
   const wanted = `${text.repeat(9000)}|m|${text}`;
   assert.equal(textOf(events(long)), wanted);
   assert.equal(textOf(events(Buffer.from(long))), wanted);
-  assert.equal(textOf(events(pieces(Buffer.from(long), 4093))), wanted);
+  assert.equal(textOf(events(chunks(Buffer.from(long), 4093))), wanted);
   assert.equal(textOf(events(Array.from({ length: long.length }, (_, at) => long[at]))), wanted);
   const broken = joined(events(new Uint8Array(100_000).fill(0xff)));
   assert.equal(broken.length, 1);
   assert.equal(broken[0].text, "\ufffd".repeat(100_000));
 });
 
-test("many events of a piece", () => {
+test("many events of a chunk", () => {
   const found = [...events("\x1b[1;2;3;4;5;6;7;8m".repeat(20_000))];
   assert.equal(found.length, 20_000);
   assert.ok(found.every((it) => it.parameters.length === 8));
@@ -105,8 +105,8 @@ test("what is no stream", () => {
 
 test("whether something is unfinished", () => {
   const parser = new Parser();
-  for (const [piece, isGround] of [["a", true], ["\x1b[", false], ["4:3", false], ["m", true]]) {
-    parser.events(piece);
+  for (const [chunk, isGround] of [["a", true], ["\x1b[", false], ["4:3", false], ["m", true]]) {
+    parser.events(chunk);
     assert.equal(parser.isGround, isGround);
   }
   parser.dispose();

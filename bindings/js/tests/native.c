@@ -2,9 +2,9 @@
 /*
  * Writes what the native archives give of each stream of standard input: its length in four bytes,
  * the lowest first, and its bytes. Each text that is written has its length in front so, too:
- * the filter by four policies, whole and in pieces of 7 bytes with the end; the normal form, whole
- * and in pieces of 3; the page, and the page by lines with styles in pieces of 5; and the events in
- * pieces of 11, in the words of native.test.js.
+ * the filter by four policies, whole and in chunks of 7 bytes with the end; the normal form, whole
+ * and in chunks of 3; the page, and the page by lines with styles in chunks of 5; and the events in
+ * chunks of 11, in the words of native.test.js.
  */
 #include "escape_stream.h"
 #include "escape_stream_parser.h"
@@ -74,7 +74,7 @@ static void check(uint32_t status)
             put(room, count);                                                                    \
     } while (0)
 
-#define IN_PIECES(name, it, bytes, length, size)                                               \
+#define IN_CHUNKS(name, it, bytes, length, size)                                               \
     do {                                                                                       \
         for (size_t at = 0; at < (length); at += (size)) {                                     \
             size_t part = (length) - at < (size) ? (length) - at : (size);                     \
@@ -100,7 +100,7 @@ static void write_filters(const uint8_t *bytes, size_t length)
         free(out);
         write_text();
         check(escape_stream_filter_begin(&it, policy, LIMIT));
-        IN_PIECES(filter, &it, bytes, length, 7);
+        IN_CHUNKS(filter, &it, bytes, length, 7);
     }
 }
 
@@ -116,16 +116,16 @@ static void write_normals(const uint8_t *bytes, size_t length)
     free(out);
     write_text();
     check(escape_stream_normal_begin(&it, LIMIT));
-    IN_PIECES(normal, &it, bytes, length, 3);
+    IN_CHUNKS(normal, &it, bytes, length, 3);
 }
 
 static void write_pages(const uint8_t *bytes, size_t length)
 {
     struct escape_stream_html it = {0};
     check(escape_stream_html_begin(&it, false, false, LIMIT));
-    IN_PIECES(html, &it, bytes, length, 4096);
+    IN_CHUNKS(html, &it, bytes, length, 4096);
     check(escape_stream_html_begin(&it, true, true, LIMIT));
-    IN_PIECES(html, &it, bytes, length, 5);
+    IN_CHUNKS(html, &it, bytes, length, 5);
 }
 
 /* Puts the entries of a control sequence: each number, and each byte as its number less 256. */

@@ -5,13 +5,13 @@ import assert from "node:assert/strict";
 import { spawnSync } from "node:child_process";
 import test from "node:test";
 import { Filter, HtmlWriter, Normalizer, Parser, filter, normal, toHtml } from "../index.js";
-import { pieces, streams } from "./rows.js";
+import { chunks, streams } from "./rows.js";
 
 const POLICIES = ["text", "color", "screen", "all"];
 
-/* What a taker gives of a stream in pieces. */
-function inPieces(taker, stream, size) {
-  const found = pieces(stream, size).map((it) => Buffer.from(taker.feed(it)));
+/* What a taker gives of a stream in chunks. */
+function inChunks(taker, stream, size) {
+  const found = chunks(stream, size).map((it) => Buffer.from(taker.feed(it)));
   found.push(Buffer.from(taker.finish()));
   taker.dispose();
   return Buffer.concat(found);
@@ -52,7 +52,7 @@ function lineOf(it) {
 
 function eventsOf(stream) {
   const parser = new Parser();
-  const found = pieces(stream, 11).flatMap((it) => parser.events(it).map(lineOf));
+  const found = chunks(stream, 11).flatMap((it) => parser.events(it).map(lineOf));
   parser.dispose();
   return Buffer.concat(found);
 }
@@ -61,12 +61,12 @@ function eventsOf(stream) {
 function* textsOf(stream) {
   for (const policy of POLICIES) {
     yield [`filter ${policy}`, filter(stream, policy)];
-    yield [`filter ${policy} in pieces`, inPieces(new Filter(policy), stream, 7)];
+    yield [`filter ${policy} in chunks`, inChunks(new Filter(policy), stream, 7)];
   }
   yield ["normal", normal(stream, { limit: stream.length })];
-  yield ["normal in pieces", inPieces(new Normalizer(), stream, 3)];
+  yield ["normal in chunks", inChunks(new Normalizer(), stream, 3)];
   yield ["html", toHtml(stream)];
-  yield ["html by lines", inPieces(new HtmlWriter({ perLine: true, inline: true }), stream, 5)];
+  yield ["html by lines", inChunks(new HtmlWriter({ perLine: true, inline: true }), stream, 5)];
   yield ["events", eventsOf(stream)];
 }
 

@@ -38,8 +38,8 @@ export function* rows() {
   }
 }
 
-/** The pieces of a stream, each of so many bytes. */
-export function pieces(stream, size) {
+/** The chunks of a stream, each of so many bytes. */
+export function chunks(stream, size) {
   const found = [];
   for (let at = 0; at < stream.length; at += size) found.push(stream.subarray(at, at + size));
   return found;

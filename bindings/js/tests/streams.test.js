@@ -7,23 +7,23 @@ import {
 
 const bytes = (text) => new Uint8Array(Buffer.from(text));
 
-/* The chunks that a transformer makes of some pieces. */
-async function through(transformer, pieces) {
+/* What a transformer makes of some chunks. */
+async function through(transformer, chunks) {
   const source = new ReadableStream({
     start(to) {
-      for (const piece of pieces) to.enqueue(piece);
+      for (const chunk of chunks) to.enqueue(chunk);
       to.close();
     },
   });
   const found = [];
-  for await (const chunk of source.pipeThrough(transformer)) found.push(chunk);
+  for await (const added of source.pipeThrough(transformer)) found.push(added);
   return found;
 }
 
-const PIECES = ["a\x1b]0;ti", "tle\x07b\x1b[3", "1mc\ud83d", "\ude00"];
+const CHUNKS = ["a\x1b]0;ti", "tle\x07b\x1b[3", "1mc\ud83d", "\ude00"];
 
 test("strings give strings", async () => {
-  const text = async (transformer) => (await through(transformer, PIECES)).join("");
+  const text = async (transformer) => (await through(transformer, CHUNKS)).join("");
   assert.equal(await text(filterStream("color")), "ab\x1b[31mc\u{1f600}\x1b[0m");
   assert.equal(await text(stripStream()), "abc\u{1f600}");
   assert.equal(await text(normalStream()), "a\x1b]0;title\x1b\\b\x1b[31mc\u{1f600}");
@@ -37,13 +37,13 @@ test("bytes give bytes", async () => {
 });
 
 test("events and actions", async () => {
-  const types = async (transformer) => (await through(transformer, PIECES)).map((it) => it.type);
+  const types = async (transformer) => (await through(transformer, CHUNKS)).map((it) => it.type);
   assert.deepEqual(await types(eventStream()), ["Text", "Osc", "Text", "Csi", "Text", "Text"]);
   const text = "PrintString";
   const wanted = [text, "OperatingSystemCommand", text, "CSI", text, text];
   assert.deepEqual(await types(actionStream()), wanted);
 });
 
-test("a piece that is no stream ends it", async () => {
+test("a chunk that is no stream ends it", async () => {
   await assert.rejects(through(stripStream(), [5]), TypeError);
 });

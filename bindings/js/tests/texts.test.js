@@ -4,15 +4,15 @@ import { execFileSync } from "node:child_process";
 import { readFileSync } from "node:fs";
 import test from "node:test";
 import { Filter, HtmlWriter, Normalizer, filter, normal, strip, toHtml } from "../index.js";
-import { pieces, rows } from "./rows.js";
+import { chunks, rows } from "./rows.js";
 
 const POLICIES = { "as-text": "text", "as-color": "color", "as-screen": "screen", "as-all": "all" };
 const bytes = (text) => new Uint8Array(Buffer.from(text));
 const STREAM = "a\x1b]0;a title\x07 \x1b[1;31mred\x1b[2;5Hcaf\u00e9\x1b]8;;https://x.org\x1b\\link";
 
-/* What pieces add, together, and what the end adds. */
+/* What chunks add, together, and what the end adds. */
 function fed(it, cut) {
-  const found = cut.map((piece) => Buffer.from(it.feed(piece)));
+  const found = cut.map((chunk) => Buffer.from(it.feed(chunk)));
   const end = Buffer.from(it.finish());
   it.dispose();
   return [Buffer.concat(found), end];
@@ -28,7 +28,7 @@ test("normal forms of the tables", () => {
     const text = row.bytes("text") ?? stream;
     assert.deepEqual(Buffer.from(normal(stream, { limit: stream.length })), text, row.name);
     for (const size of sizesOf(stream)) {
-      const [found, end] = fed(new Normalizer({ limit: stream.length }), pieces(stream, size));
+      const [found, end] = fed(new Normalizer({ limit: stream.length }), chunks(stream, size));
       assert.deepEqual(Buffer.concat([found, end]), text, `${row.name}, ${size}`);
     }
     count++;
@@ -45,7 +45,7 @@ test("what policies admit of the tables", () => {
     for (const [word, policy] of Object.entries(POLICIES)) {
       text = row.bytes(word) ?? text;
       for (const size of sizesOf(stream)) {
-        const [found, end] = fed(new Filter(policy), pieces(stream, size));
+        const [found, end] = fed(new Filter(policy), chunks(stream, size));
         assert.deepEqual(Buffer.from(filter(stream, policy)), found, `${row.name}, ${word}`);
         assert.deepEqual(Buffer.concat([found, end]), text, `${row.name}, ${word}, ${size}`);
       }
@@ -63,7 +63,7 @@ test("limits of the tables", () => {
     if (!stream || !limit || !text) continue;
     for (const size of sizesOf(stream)) {
       const it = new Filter("all", { limit: Number(limit) });
-      assert.deepEqual(Buffer.concat(fed(it, pieces(stream, size))), text, row.name);
+      assert.deepEqual(Buffer.concat(fed(it, chunks(stream, size))), text, row.name);
     }
     count++;
   }

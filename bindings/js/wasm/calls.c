@@ -62,7 +62,7 @@ NUMBER host_take(NUMBER length) { return (NUMBER)(size_t)heap_take(length); }
 void host_give(NUMBER at) { heap_give(BYTES(at)); }
 
 /* The four calls that a filter, a page and a normalizer have in common. */
-#define IN_PIECES(name, type)                                                              \
+#define IN_CHUNKS(name, type)                                                              \
     EXPORTED(name##_feed, "(i32, i32, i32) -> (i32)");                                     \
     EXPORTED(name##_finish, "(i32) -> (i32)");                                             \
     EXPORTED(name##_text, "(i32, i32, i32, i32) -> (i32)");                                \
@@ -81,9 +81,9 @@ void host_give(NUMBER at) { heap_give(BYTES(at)); }
     }                                                                                      \
     void host_##name##_end(NUMBER it) { escape_stream_##name##_end(AT(type, it)); }
 
-IN_PIECES(filter, struct escape_stream_filter_state)
-IN_PIECES(html, struct escape_stream_html)
-IN_PIECES(normal, struct escape_stream_normalizer)
+IN_CHUNKS(filter, struct escape_stream_filter_state)
+IN_CHUNKS(html, struct escape_stream_html)
+IN_CHUNKS(normal, struct escape_stream_normalizer)
 
 EXPORTED(filter_begin, "(i32, i32, i32) -> (i32)");
 NUMBER host_filter_begin(NUMBER it, NUMBER policy, NUMBER limit)

@@ -9,7 +9,7 @@
  * How many bytes a call takes at most, and how many words an event needs at most. A byte that is no
  * UTF-8 is three bytes of text, and a character may be left of the call before.
  */
-enum { PIECE = 32768, WORDS = 16384, MOST_WORDS = 1024, TEXT = 3 * PIECE + 16 };
+enum { CHUNK = 32768, WORDS = 16384, MOST_WORDS = 1024, TEXT = 3 * CHUNK + 16 };
 
 /* A parser, and the events of a call. */
 struct events {
@@ -24,7 +24,7 @@ struct events {
 };
 
 /*
- * Takes at most PIECE bytes of a stream, and notes their events, as many as there is room for: the
+ * Takes at most CHUNK bytes of a stream, and notes their events, as many as there is room for: the
  * last is the first one whose string lies in the upper half of the buffer. Each is its kind and
  *
  * TEXT                 how many units of UTF-16 it has; CHARACTER is part of a TEXT

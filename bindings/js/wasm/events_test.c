@@ -1,7 +1,7 @@
 /* SPDX-License-Identifier: MIT */
 /*
- * Tests events.c over random streams in random pieces: what it notes is what escape_stream_next
- * gives, event by event. Each piece lies in a block of its own.
+ * Tests events.c over random streams in random chunks: what it notes is what escape_stream_next
+ * gives, event by event. Each chunk lies in a block of its own.
  */
 #include "events.h"
 
@@ -9,7 +9,7 @@
 #include <stdlib.h>
 #include <string.h>
 
-enum { SIZE = 2 * 4096, LONGEST = 3 * PIECE, MOST_NOTED = 1 << 22 };
+enum { SIZE = 2 * 4096, LONGEST = 3 * CHUNK, MOST_NOTED = 1 << 22 };
 
 /* What a stream gives: of text and data the bytes, of other events their numbers. */
 struct log {
@@ -84,7 +84,7 @@ static bool has_string(uint32_t kind)
     return kind == ESCAPE_STREAM_OSC || kind == ESCAPE_STREAM_APC || kind == ESCAPE_STREAM_DCS;
 }
 
-/* Notes what escape_stream_next gives of a piece. */
+/* Notes what escape_stream_next gives of a chunk. */
 static void note_directly(struct escape_stream_parser *parser, const uint8_t *bytes, size_t length)
 {
     static struct escape_stream_event event;
@@ -183,7 +183,7 @@ static const uint32_t *note_record(const uint32_t *word, const uint8_t **text, c
     return word;
 }
 
-/* Notes what next_events notes of a piece. */
+/* Notes what next_events notes of a chunk. */
 static void note_batches(struct events *it, const uint8_t *bytes, size_t length)
 {
     do {
@@ -199,12 +199,12 @@ static void note_batches(struct events *it, const uint8_t *bytes, size_t length)
     check(length == 0, "bytes are left");
 }
 
-/* Cuts a stream into pieces, each in a block of its own, and calls one of the two on each. */
+/* Cuts a stream into chunks, each in a block of its own, and calls one of the two on each. */
 static void cut(const uint8_t *stream, size_t length, struct events *it,
                 struct escape_stream_parser *parser)
 {
     while (length > 0) {
-        size_t part = some(3) ? 1 + some(40) : PIECE;
+        size_t part = some(3) ? 1 + some(40) : CHUNK;
         uint8_t *block;
         part = part < length ? part : length;
         block = malloc(part);

@@ -1,19 +1,19 @@
 # SPDX-License-Identifier: MIT
-"""A filter of a stream that comes in pieces."""
+"""A filter of a stream that comes in chunks."""
 
 from ctypes import byref
 
 from escape_stream import _library
-from escape_stream._in_pieces import InPieces
+from escape_stream._in_chunks import InChunks
 from escape_stream._whole import DEFAULT_LIMIT, Policy
 
 
-class Filter(InPieces):
-    """A filter of a stream that comes in pieces: what `filter` returns of the whole, as it comes.
+class Filter(InChunks):
+    """A filter of a stream that comes in chunks: what `filter` returns of the whole, as it comes.
 
     >>> from escape_stream import Filter, Policy
     >>> with Filter(Policy.COLOR) as filter:
-    ...     [filter.feed(piece) for piece in (b"a\\x1b]0;a ti", b"tle\\x07b\\x1b[3", b"1m")]
+    ...     [filter.feed(chunk) for chunk in (b"a\\x1b]0;a ti", b"tle\\x07b\\x1b[3", b"1m")]
     [b'a', b'b', b'\\x1b[31m']
 
     `finish` ends a stream with what takes back what it left changed at a terminal, as renditions

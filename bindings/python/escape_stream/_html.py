@@ -4,18 +4,18 @@
 from ctypes import byref
 
 from escape_stream import _library
-from escape_stream._in_pieces import InPieces
+from escape_stream._in_chunks import InChunks
 from escape_stream._whole import DEFAULT_LIMIT
 
 
-class Page(InPieces):
-    """A stream that comes in pieces, as HTML: its characters, tabs and line feeds, with colours and
+class Page(InChunks):
+    """A stream that comes in chunks, as HTML: its characters, tabs and line feeds, with colours and
     renditions as spans and links to `http`, `https` and `mailto`. A browser reads from it, inside
     the body of a page in UTF-8, these spans and links and nothing else, whatever the stream is.
 
     >>> from escape_stream import Page
     >>> with Page() as page:
-    ...     [page.feed(piece) for piece in (b"a <b>\\x1b[", b"1mbold")] + [page.finish()]
+    ...     [page.feed(chunk) for chunk in (b"a <b>\\x1b[", b"1mbold")] + [page.finish()]
     [b'a &lt;b&gt;', b'<span style="font-weight:bold;">bold', b'</span>']
 
     Any thread may use it, and one at a time. What it keeps of the stream is given back by `close`,

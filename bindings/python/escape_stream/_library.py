@@ -184,7 +184,7 @@ class RawSixel(Structure):
 
 
 _PLACE = str(Path(__file__).parent / "libescape_stream.so")
-# The calls that take a whole stream, or a piece of any length, let other threads run meanwhile.
+# The calls that take a whole stream, or a chunk of any length, let other threads run meanwhile.
 _long = ctypes.CDLL(_PLACE)
 # The others do not, so of one parser no two run at the same time.
 _short = ctypes.PyDLL(_PLACE)

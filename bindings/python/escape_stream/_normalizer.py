@@ -1,20 +1,20 @@
 # SPDX-License-Identifier: MIT
-"""The normal form of a stream that comes in pieces."""
+"""The normal form of a stream that comes in chunks."""
 
 from ctypes import byref
 
 from escape_stream import _library
-from escape_stream._in_pieces import InPieces
+from escape_stream._in_chunks import InChunks
 from escape_stream._whole import DEFAULT_LIMIT
 
 
-class Normalizer(InPieces):
-    """The normal form of a stream that comes in pieces: what `normal` returns of the whole, as it
+class Normalizer(InChunks):
+    """The normal form of a stream that comes in chunks: what `normal` returns of the whole, as it
     comes.
 
     >>> from escape_stream import Normalizer
     >>> with Normalizer() as normalizer:
-    ...     [normalizer.feed(piece) for piece in (b"a\\x1b]0;a ti", b"tle\\x07b\\x1b[03", b"1m")]
+    ...     [normalizer.feed(chunk) for chunk in (b"a\\x1b]0;a ti", b"tle\\x07b\\x1b[03", b"1m")]
     [b'a', b'\\x1b]0;a title\\x1b\\\\b', b'\\x1b[31m']
 
     `finish` ends a stream, and adds nothing. Any thread may use it, and one at a time. What it

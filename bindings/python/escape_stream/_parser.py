@@ -1,5 +1,5 @@
 # SPDX-License-Identifier: MIT
-"""A parser of a stream that comes in pieces."""
+"""A parser of a stream that comes in chunks."""
 
 import ctypes
 import threading
@@ -24,7 +24,7 @@ from escape_stream._events import (
 )
 from escape_stream._whole import DEFAULT_LIMIT
 
-_PIECE = 65_536
+_CHUNK = 65_536
 # How many control sequences are kept, so that one that comes again is not made again.
 _MOST_KEPT = 4096
 # What begins each byte, and each long number, among the words of a control sequence.
@@ -32,7 +32,7 @@ _BYTE, _LONG = 1 << 31, 1 << 30
 
 
 class Parser:
-    """A parser of a stream that comes in pieces. It takes memory when it is made: two bytes for
+    """A parser of a stream that comes in chunks. It takes memory when it is made: two bytes for
     each of its limit, and 0.3 MB. Any thread may use it, and one at a time."""
 
     def __init__(self, limit: int = DEFAULT_LIMIT) -> None:
@@ -44,31 +44,31 @@ class Parser:
         self._sequences: dict[bytes, Csi] = {}
         _library.many_begin(ctypes.addressof(self._many))
 
-    def feed(self, piece: _library.Bytes) -> list[Event]:
-        """Takes the next piece of the stream, and returns the events that it adds.
+    def feed(self, chunk: _library.Bytes) -> list[Event]:
+        """Takes the next chunk of the stream, and returns the events that it adds.
 
         However a stream is cut, its events are the same, but that a run of text or data may come in
         several: `joined` joins them.
 
         Raises RuntimeError while another thread uses it.
         """
-        piece = _library.bytes_of(piece)
+        chunk = _library.bytes_of(chunk)
         with _library.used(self._in_use, "parser"):
-            return self._events_of(piece)
+            return self._events_of(chunk)
 
     def is_ground(self) -> bool:
         """Returns whether no character, sequence or string of the stream so far is unfinished."""
         return bool(_library.many_is_ground(ctypes.addressof(self._many)))
 
-    def _events_of(self, piece: bytes) -> list[Event]:
-        start = ctypes.cast(ctypes.c_char_p(piece), ctypes.c_void_p).value or 0
+    def _events_of(self, chunk: bytes) -> list[Event]:
+        start = ctypes.cast(ctypes.c_char_p(chunk), ctypes.c_void_p).value or 0
         many, buffer = ctypes.addressof(self._many), ctypes.addressof(self._buffer)
         found: list[Event] = []
         at, is_done = 0, False
-        while not is_done or at < len(piece):
-            _library.many_next(many, buffer, self._size, start + at, len(piece) - at)
+        while not is_done or at < len(chunk):
+            _library.many_next(many, buffer, self._size, start + at, len(chunk) - at)
             taken, words, text, strings, done, is_lent = _library.MANY.unpack_from(self._many)
-            self._note(found, piece[at : at + taken], words, text, strings, bool(is_lent))
+            self._note(found, chunk[at : at + taken], words, text, strings, bool(is_lent))
             at, is_done = at + taken, bool(done)
         return found
 
@@ -200,16 +200,16 @@ def _control_sequence(words: list[int]) -> Csi:
 def events(
     stream: _library.Bytes | Iterable[_library.Bytes], limit: int = DEFAULT_LIMIT
 ) -> Iterator[Event]:
-    """Yields the events of a stream: of bytes, or of pieces as they come, such as those of
+    """Yields the events of a stream: of bytes, or of chunks as they come, such as those of
     `iter(lambda: file.read(65536), b"")`.
 
     What is unfinished at its end adds nothing.
     """
     parser = Parser(limit)
-    pieces = [stream] if isinstance(stream, bytes | bytearray | memoryview | mmap) else stream
-    for piece in pieces:
-        for at in range(0, len(piece), _PIECE):
-            yield from parser.feed(piece[at : at + _PIECE])
+    chunks = [stream] if isinstance(stream, bytes | bytearray | memoryview | mmap) else stream
+    for chunk in chunks:
+        for at in range(0, len(chunk), _CHUNK):
+            yield from parser.feed(chunk[at : at + _CHUNK])
 
 
 def joined(found: Iterable[Event]) -> Iterator[Event]:

@@ -1,12 +1,12 @@
 # SPDX-License-Identifier: MIT
-"""A filter of a log that comes in pieces."""
+"""A filter of a log that comes in chunks."""
 
 from ctypes import byref, sizeof
 from dataclasses import dataclass
 from enum import IntEnum, IntFlag
 
 from escape_stream import _library
-from escape_stream._in_pieces import InPieces
+from escape_stream._in_chunks import InChunks
 from escape_stream._whole import DEFAULT_LIMIT, Policy
 
 MOST_ROWS = 4096
@@ -147,8 +147,8 @@ class Account:
     """How many there are: the sum of these."""
 
 
-class Sanitizer(InPieces):
-    """The filter of a log that comes in pieces: what the program `escfilter` writes, and the
+class Sanitizer(InChunks):
+    """The filter of a log that comes in chunks: what the program `escfilter` writes, and the
     account of every byte.
 
     Where each line is a stream of its own, as by TEXT and COLOR, a string that nobody ends takes
@@ -156,7 +156,7 @@ class Sanitizer(InPieces):
 
     >>> from escape_stream import Policy, Sanitizer
     >>> with Sanitizer(Policy.COLOR) as log:
-    ...     [log.feed(piece) for piece in (b"one\\x1b]0;a ti", b"tle\\ntwo\\x1b[3", b"1m\\n")]
+    ...     [log.feed(chunk) for chunk in (b"one\\x1b]0;a ti", b"tle\\ntwo\\x1b[3", b"1m\\n")]
     ...     (log.finish(), log.account().passed, log.account().swallowed)
     [b'one', b'\\ntwo', b'\\x1b[31m\\x1b[0m\\n']
     (b'', 12, 12)

@@ -21,7 +21,7 @@ from dask.distributed import Client
 import escape_stream
 from escape_stream import Control, Csi, Escape, Filter, Policy
 
-PIECE = 1 << 20
+CHUNK = 1 << 20
 
 
 def name_of(event: escape_stream.Event) -> str | None:
@@ -43,10 +43,10 @@ def filter_file(source: str, target: str, policy: int) -> tuple[int, int, Counte
     counts: Counter[str] = Counter()
     parser = escape_stream.Parser()
     with open(source, "rb") as read, open(target, "wb") as write, Filter(Policy(policy)) as kept:
-        while piece := read.read(PIECE):
-            size += len(piece)
-            passed += write.write(kept.feed(piece))
-            counts.update(name for event in parser.feed(piece) if (name := name_of(event)))
+        while chunk := read.read(CHUNK):
+            size += len(chunk)
+            passed += write.write(kept.feed(chunk))
+            counts.update(name for event in parser.feed(chunk) if (name := name_of(event)))
         passed += write.write(kept.finish())
     return size, passed, counts
 

@@ -48,7 +48,7 @@ def rows() -> Iterator[Row]:
 
 
 def cuts(stream: bytes) -> Iterator[list[bytes]]:
-    """Yields the stream whole, and in pieces of each size up to 40 bytes."""
+    """Yields the stream whole, and in chunks of each size up to 40 bytes."""
     yield [stream]
     for size in range(1, min(len(stream), 41)):
         yield [stream[at : at + size] for at in range(0, len(stream), size)]

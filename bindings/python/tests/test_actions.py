@@ -111,8 +111,8 @@ def test_actions_are_as_in_the_tables() -> None:
         ]
         kinds = tuple(NAMES.values())
         streams: list[bytes | list[bytes]] = [stream, [bytes([it]) for it in stream]]
-        for pieces in streams:
-            found = [it for it in actions(pieces) if isinstance(it, kinds)]
+        for chunks in streams:
+            found = [it for it in actions(chunks) if isinstance(it, kinds)]
             # Three controls have no name, and are no actions of the tables.
             named = [
                 type(it)

@@ -1,5 +1,5 @@
 # SPDX-License-Identifier: MIT
-"""The events of streams, by ECMA-48 and docs/DEFINITIONS.md, in pieces of every size."""
+"""The events of streams, by ECMA-48 and docs/DEFINITIONS.md, in chunks of every size."""
 
 import pytest
 from rows import cuts
@@ -55,8 +55,8 @@ STREAMS: list[tuple[bytes, list[Event]]] = [
 
 @pytest.mark.parametrize(("stream", "wanted"), STREAMS)
 def test_streams(stream: bytes, wanted: list[Event]) -> None:
-    for pieces in cuts(stream):
-        assert list(joined(events(pieces))) == wanted, pieces
+    for chunks in cuts(stream):
+        assert list(joined(events(chunks))) == wanted, chunks
     assert list(joined(events(bytearray(stream)))) == wanted
     assert list(joined(events(memoryview(stream)))) == wanted
 
@@ -67,8 +67,8 @@ def test_more_entries_than_are_kept() -> None:
     assert isinstance(cut, Csi) and cut.has_more
 
 
-# A piece, and whether nothing is unfinished after it.
-PIECES: list[tuple[bytes, bool]] = [
+# A chunk, and whether nothing is unfinished after it.
+CHUNKS: list[tuple[bytes, bool]] = [
     (b"a", True),
     (b"\x1b", False),
     (b"[1;3", False),
@@ -83,16 +83,16 @@ PIECES: list[tuple[bytes, bool]] = [
 def test_ground() -> None:
     parser = Parser()
     assert parser.is_ground()
-    for piece, wanted in PIECES:
-        parser.feed(piece)
+    for chunk, wanted in CHUNKS:
+        parser.feed(chunk)
         assert parser.is_ground() == wanted
 
 
 def test_limits() -> None:
     stream = b"\x1b]0;ab\x07\x1b]0;abc\x07c\x1bP12345qdata\x1b\\"
     wanted = [Osc(b"0;ab"), LimitPassed(), Text("c"), LimitPassed(), ST]
-    for pieces in cuts(stream):
-        assert list(joined(events(pieces, limit=4))) == wanted, pieces
+    for chunks in cuts(stream):
+        assert list(joined(events(chunks, limit=4))) == wanted, chunks
     assert list(events(b"\x1b]\x07\x1b]a\x07", limit=0)) == [Osc(b""), LimitPassed()]
     for limit in (-1, 1 << 62):
         with pytest.raises(ValueError, match="limit"):

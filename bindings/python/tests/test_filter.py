@@ -1,5 +1,5 @@
 # SPDX-License-Identifier: MIT
-"""The filter and the normal form in pieces beside the tables: their end, their threads, and wrong
+"""The filter and the normal form in chunks beside the tables: their end, their threads, and wrong
 arguments."""
 
 import asyncio
@@ -58,8 +58,8 @@ def test_a_closed_normalizer() -> None:
 def test_a_filter_goes_from_thread_to_thread() -> None:
     async def feed_all() -> list[bytes]:
         it = Filter(Policy.COLOR)
-        pieces = (b"a\x1b]0;a ti", b"tle\x07b\x1b[3", b"1m")
-        return [await asyncio.to_thread(it.feed, piece) for piece in pieces]
+        chunks = (b"a\x1b]0;a ti", b"tle\x07b\x1b[3", b"1m")
+        return [await asyncio.to_thread(it.feed, chunk) for chunk in chunks]
 
     assert asyncio.run(feed_all()) == [b"a", b"b", b"\x1b[31m"]
 

@@ -1,5 +1,5 @@
 # SPDX-License-Identifier: MIT
-"""HTML of streams, whole and in pieces; and the version."""
+"""HTML of streams, whole and in chunks; and the version."""
 
 import mmap
 import re

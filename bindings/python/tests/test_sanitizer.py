@@ -59,7 +59,7 @@ def test_a_string_that_nobody_ends_takes_one_line() -> None:
         assert text_of(log, policy, framing=Framing.WHOLE) == b"one\n"
 
 
-def test_pieces_and_sums() -> None:
+def test_chunks_and_sums() -> None:
     ways: list[dict[str, Any]] = [
         {},
         {"framing": Framing.WHOLE},

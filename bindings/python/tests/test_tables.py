@@ -1,5 +1,5 @@
 # SPDX-License-Identifier: MIT
-"""The calls against the tables of streams, whole and in pieces of every size up to 40 bytes."""
+"""The calls against the tables of streams, whole and in chunks of every size up to 40 bytes."""
 
 from rows import cuts, rows
 
@@ -11,11 +11,11 @@ POLICIES = {
     "as-screen": Policy.SCREEN,
     "as-all": Policy.ALL,
 }
-# Of longer streams the pieces are of one byte, and not of every size.
+# Of longer streams the chunks are of one byte, and not of every size.
 EACH_SIZE_UP_TO = 2000
 
 
-def pieces_of(stream: bytes) -> list[list[bytes]]:
+def chunks_of(stream: bytes) -> list[list[bytes]]:
     """Returns the ways to cut a stream that are tried."""
     if len(stream) > EACH_SIZE_UP_TO:
         return [[stream], [stream[at : at + 4096] for at in range(0, len(stream), 4096)]]
@@ -32,9 +32,9 @@ def test_normal_forms() -> None:
         text = stream if text is None else text
         assert normal(stream) == text, row.name
         assert is_normal(stream) == (text == stream), row.name
-        for pieces in pieces_of(stream):
+        for chunks in chunks_of(stream):
             with Normalizer(len(stream)) as it:
-                assert b"".join(map(it.feed, pieces)) + it.finish() == text, (row.name, len(pieces))
+                assert b"".join(map(it.feed, chunks)) + it.finish() == text, (row.name, len(chunks))
         count += 1
     assert count > 300
 
@@ -48,11 +48,11 @@ def test_what_policies_admit() -> None:
         for word, policy in POLICIES.items():
             said = row.bytes(word)
             text = text if said is None else said
-            for pieces in pieces_of(stream):
+            for chunks in chunks_of(stream):
                 with Filter(policy) as it:
-                    passed = b"".join(map(it.feed, pieces))
-                    assert passed == filter(stream, policy), (row.name, word, len(pieces))
-                    assert passed + it.finish() == text, (row.name, word, len(pieces))
+                    passed = b"".join(map(it.feed, chunks))
+                    assert passed == filter(stream, policy), (row.name, word, len(chunks))
+                    assert passed + it.finish() == text, (row.name, word, len(chunks))
         count += 1
     assert count > 30
 
@@ -66,11 +66,11 @@ def test_limits() -> None:
         text = text if written is None else written
         if stream is None or limit is None or text is None:
             continue
-        for pieces in pieces_of(stream):
+        for chunks in chunks_of(stream):
             with Filter(Policy.ALL, int(limit)) as it:
-                passed = b"".join(map(it.feed, pieces))
-                assert passed == filter(stream, Policy.ALL, int(limit)), (row.name, len(pieces))
-                assert passed + it.finish() == text, (row.name, len(pieces))
+                passed = b"".join(map(it.feed, chunks))
+                assert passed == filter(stream, Policy.ALL, int(limit)), (row.name, len(chunks))
+                assert passed + it.finish() == text, (row.name, len(chunks))
         count += 1
     assert count > 10
 
@@ -82,7 +82,7 @@ def test_events_however_a_stream_is_cut() -> None:
         if stream is None or len(stream) > EACH_SIZE_UP_TO:
             continue
         whole = list(joined(events(stream)))
-        for pieces in cuts(stream):
-            assert list(joined(events(pieces))) == whole, (row.name, len(pieces))
+        for chunks in cuts(stream):
+            assert list(joined(events(chunks))) == whole, (row.name, len(chunks))
         count += 1
     assert count > 300

@@ -1,18 +1,18 @@
 // SPDX-License-Identifier: MIT
-//! A filter of a stream that comes in pieces.
-use crate::pieces::{DEFAULT_LIMIT, in_parts};
+//! A filter of a stream that comes in chunks.
+use crate::chunks::{DEFAULT_LIMIT, in_parts};
 use crate::{Error, Policy, ffi};
 
-/// A filter of a stream that comes in pieces. It keeps what is unfinished, at most its limit. It
+/// A filter of a stream that comes in chunks. It keeps what is unfinished, at most its limit. It
 /// may move between threads. With the feature `std` there is [`Filter`](crate::Filter), a writer.
 ///
 /// ```
-/// use escape_stream::{PieceFilter, Policy};
+/// use escape_stream::{ChunkFilter, Policy};
 ///
 /// let mut text = Vec::new();
-/// let mut filter = PieceFilter::new(Policy::Color)?;
-/// for piece in [&b"a\x1b]0;a ti"[..], b"tle\x07\x1b[3", b"1mred"] {
-///     filter.feed(piece)?;
+/// let mut filter = ChunkFilter::new(Policy::Color)?;
+/// for chunk in [&b"a\x1b]0;a ti"[..], b"tle\x07\x1b[3", b"1mred"] {
+///     filter.feed(chunk)?;
 ///     filter.text(|part| text.extend_from_slice(part));
 /// }
 /// filter.finish()?;
@@ -21,18 +21,18 @@ use crate::{Error, Policy, ffi};
 /// # Ok::<(), escape_stream::Error>(())
 /// ```
 #[derive(Debug)]
-pub struct PieceFilter {
+pub struct ChunkFilter {
     raw: ffi::Filter,
 }
 
-impl PieceFilter {
+impl ChunkFilter {
     /// A filter at the beginning of a stream, which keeps at most 1,048,576 bytes of a string.
     ///
     /// # Errors
     ///
     /// [`Error::Memory`] where a request for memory was refused.
-    pub fn new(policy: Policy) -> Result<PieceFilter, Error> {
-        PieceFilter::with_limit(policy, DEFAULT_LIMIT)
+    pub fn new(policy: Policy) -> Result<ChunkFilter, Error> {
+        ChunkFilter::with_limit(policy, DEFAULT_LIMIT)
     }
 
     /// The same with another limit: of a string with more bytes nothing is written.
@@ -40,25 +40,25 @@ impl PieceFilter {
     /// # Errors
     ///
     /// [`Error::Memory`] where a request for memory was refused.
-    pub fn with_limit(policy: Policy, limit: usize) -> Result<PieceFilter, Error> {
+    pub fn with_limit(policy: Policy, limit: usize) -> Result<ChunkFilter, Error> {
         let mut raw = ffi::Filter::ended();
         raw.begin(policy, limit)?;
-        Ok(PieceFilter { raw })
+        Ok(ChunkFilter { raw })
     }
 
-    /// Takes the next piece of the stream. What it adds to the text is then what
-    /// [`text`](PieceFilter::text) gives, and that of the piece before is gone.
+    /// Takes the next chunk of the stream. What it adds to the text is then what
+    /// [`text`](ChunkFilter::text) gives, and that of the chunk before is gone.
     ///
     /// # Errors
     ///
     /// [`Error::Memory`] where a request for memory was refused, and from then on
     /// [`Error::Failed`]. The texts before are the beginning of what the stream would have given.
-    pub fn feed(&mut self, piece: &[u8]) -> Result<(), Error> {
-        self.raw.feed(piece)
+    pub fn feed(&mut self, chunk: &[u8]) -> Result<(), Error> {
+        self.raw.feed(chunk)
     }
 
     /// Ends the stream, and begins the next. What takes back what the stream left changed at a
-    /// terminal, as renditions and a link, is then what [`text`](PieceFilter::text) gives. What is
+    /// terminal, as renditions and a link, is then what [`text`](ChunkFilter::text) gives. What is
     /// unfinished is dropped.
     ///
     /// # Errors
@@ -69,7 +69,7 @@ impl PieceFilter {
         self.raw.finish()
     }
 
-    /// Calls `act` with the text that the last piece or the end of the stream added, in parts.
+    /// Calls `act` with the text that the last chunk or the end of the stream added, in parts.
     pub fn text(&mut self, act: impl FnMut(&[u8])) {
         in_parts(|from, out| self.text_from(from, out), act);
     }
@@ -81,7 +81,7 @@ impl PieceFilter {
     }
 }
 
-impl Drop for PieceFilter {
+impl Drop for ChunkFilter {
     fn drop(&mut self) {
         self.raw.end();
     }

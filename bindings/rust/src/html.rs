@@ -1,6 +1,6 @@
 // SPDX-License-Identifier: MIT
 //! Streams as HTML that cannot come alive in a page.
-use crate::pieces::{DEFAULT_LIMIT, in_parts};
+use crate::chunks::{DEFAULT_LIMIT, in_parts};
 use crate::{Error, ffi};
 
 /// How a page is laid out.
@@ -15,18 +15,18 @@ pub struct Layout {
     pub inline: bool,
 }
 
-/// A stream that comes in pieces, as HTML: its characters, tabs and line feeds, with colours and
+/// A stream that comes in chunks, as HTML: its characters, tabs and line feeds, with colours and
 /// renditions as spans and links to `http`, `https` and `mailto`. A browser reads from it, inside
 /// the body of a page in UTF-8, these spans and links and nothing else, whatever the stream is. It
 /// may move between threads.
 ///
 /// ```
-/// use escape_stream::html::{Layout, PiecePage};
+/// use escape_stream::html::{Layout, ChunkPage};
 ///
 /// let mut html = Vec::new();
-/// let mut page = PiecePage::new(Layout::default())?;
-/// for piece in [&b"a <b>\x1b[1"[..], b";31mred"] {
-///     page.feed(piece)?;
+/// let mut page = ChunkPage::new(Layout::default())?;
+/// for chunk in [&b"a <b>\x1b[1"[..], b";31mred"] {
+///     page.feed(chunk)?;
 ///     page.text(|part| html.extend_from_slice(part));
 /// }
 /// page.finish()?;
@@ -35,18 +35,18 @@ pub struct Layout {
 /// # Ok::<(), escape_stream::Error>(())
 /// ```
 #[derive(Debug)]
-pub struct PiecePage {
+pub struct ChunkPage {
     raw: ffi::Page,
 }
 
-impl PiecePage {
+impl ChunkPage {
     /// The page of a stream, at its beginning, which keeps at most 1,048,576 bytes of a string.
     ///
     /// # Errors
     ///
     /// [`Error::Memory`] where a request for memory was refused.
-    pub fn new(layout: Layout) -> Result<PiecePage, Error> {
-        PiecePage::with_limit(layout, DEFAULT_LIMIT)
+    pub fn new(layout: Layout) -> Result<ChunkPage, Error> {
+        ChunkPage::with_limit(layout, DEFAULT_LIMIT)
     }
 
     /// The same with another limit: a string with more bytes, such as a link, shows nothing.
@@ -54,25 +54,25 @@ impl PiecePage {
     /// # Errors
     ///
     /// [`Error::Memory`] where a request for memory was refused.
-    pub fn with_limit(layout: Layout, limit: usize) -> Result<PiecePage, Error> {
+    pub fn with_limit(layout: Layout, limit: usize) -> Result<ChunkPage, Error> {
         let mut raw = ffi::Page::ended();
         raw.begin(layout.per_line, layout.inline, limit)?;
-        Ok(PiecePage { raw })
+        Ok(ChunkPage { raw })
     }
 
-    /// Takes the next piece of the stream. What it adds to the page is then what
-    /// [`text`](PiecePage::text) gives, and that of the piece before is gone.
+    /// Takes the next chunk of the stream. What it adds to the page is then what
+    /// [`text`](ChunkPage::text) gives, and that of the chunk before is gone.
     ///
     /// # Errors
     ///
     /// [`Error::Memory`] where a request for memory was refused, and from then on, and after the
     /// end of the stream, [`Error::Failed`]. The texts before are the beginning of the page.
-    pub fn feed(&mut self, piece: &[u8]) -> Result<(), Error> {
-        self.raw.feed(piece)
+    pub fn feed(&mut self, chunk: &[u8]) -> Result<(), Error> {
+        self.raw.feed(chunk)
     }
 
-    /// Ends the stream. What closes the tags that are open is then what [`text`](PiecePage::text)
-    /// gives: with it the texts of all pieces, one after another, are a page. It takes no memory.
+    /// Ends the stream. What closes the tags that are open is then what [`text`](ChunkPage::text)
+    /// gives: with it the texts of all chunks, one after another, are a page. It takes no memory.
     ///
     /// # Errors
     ///
@@ -81,7 +81,7 @@ impl PiecePage {
         self.raw.finish()
     }
 
-    /// Calls `act` with the text that the last piece or the end of the stream added, in parts.
+    /// Calls `act` with the text that the last chunk or the end of the stream added, in parts.
     pub fn text(&mut self, act: impl FnMut(&[u8])) {
         in_parts(|from, out| self.text_from(from, out), act);
     }
@@ -93,7 +93,7 @@ impl PiecePage {
     }
 }
 
-impl Drop for PiecePage {
+impl Drop for ChunkPage {
     fn drop(&mut self) {
         self.raw.end();
     }

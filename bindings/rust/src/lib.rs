@@ -4,8 +4,8 @@
 //!
 //! A stream is bytes as a program writes them to a terminal. Any bytes are a stream; each call
 //! takes one whole, but those of a [`Sanitizer`], which is for logs, and of its writer and reader,
-//! of a [`Filter`], a writer, of a [`FilterReader`], of a [`NormalWriter`] and a [`NormalReader`], of an [`html::PiecePage`], which gives HTML of it, and of
-//! a [`Parser`], which take it in pieces. The module [`vte`] has that parser with the calls of the
+//! of a [`Filter`], a writer, of a [`FilterReader`], of a [`NormalWriter`] and a [`NormalReader`], of an [`html::ChunkPage`], which gives HTML of it, and of
+//! a [`Parser`], which take it in chunks. The module [`vte`] has that parser with the calls of the
 //! crate `vte`.
 //! [`ControlFunction`] and [`EscapeFunction`] name what sequences ask for, by tables that are made
 //! from those of the library. [`osc::OperatingSystemCommand`] is what a command says,
@@ -16,7 +16,7 @@
 //!
 //! The work is done by a library that is proved: what each call writes is what its contract says,
 //! for every stream. This crate is not proved. Its module `ffi` is its one place with unsafe code.
-//! Without the feature `std`, a default, it is `no_std`, over `alloc`, and has [`PieceFilter`] and
+//! Without the feature `std`, a default, it is `no_std`, over `alloc`, and has [`ChunkFilter`] and
 //! [`Normalizer`] in the place of the readers and writers.
 //!
 //! Without the feature `oneshot`, a default, there are the parsers alone, and of the archive
@@ -47,6 +47,8 @@ pub mod apc;
 #[cfg(feature = "oneshot")]
 pub mod borrowed;
 #[cfg(feature = "oneshot")]
+mod chunks;
+#[cfg(feature = "oneshot")]
 pub mod dcs;
 #[allow(unsafe_code)]
 mod ffi;
@@ -68,8 +70,6 @@ pub mod osc;
 mod parameters;
 mod params;
 mod parser;
-#[cfg(feature = "oneshot")]
-mod pieces;
 #[cfg(all(feature = "oneshot", feature = "std"))]
 mod reader;
 #[cfg(feature = "oneshot")]
@@ -90,7 +90,7 @@ mod writer;
 mod written;
 
 #[cfg(feature = "oneshot")]
-pub use filter::PieceFilter;
+pub use filter::ChunkFilter;
 pub use function::Effect;
 pub use function_rows::{C0, ControlFunction, EscapeFunction};
 #[cfg(feature = "oneshot")]
@@ -124,7 +124,7 @@ pub enum Error {
     /// A request for memory was refused. Nothing was written.
     Memory,
     /// A [`Parser`] failed, and gives nothing any more: the clause `sound` of the library's call
-    /// excludes it. Or a filter, a page or a normalizer in pieces was refused memory before, or has
+    /// excludes it. Or a filter, a page or a normalizer in chunks was refused memory before, or has
     /// ended. Or the fields of a command are none that its kind has, which the library's call
     /// excludes too.
     Failed,

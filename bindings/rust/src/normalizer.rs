@@ -1,9 +1,9 @@
 // SPDX-License-Identifier: MIT
-//! The normal form of a stream that comes in pieces.
-use crate::pieces::{DEFAULT_LIMIT, in_parts};
+//! The normal form of a stream that comes in chunks.
+use crate::chunks::{DEFAULT_LIMIT, in_parts};
 use crate::{Error, ffi};
 
-/// The normal form of a stream that comes in pieces: what [`normal`](crate::normal) gives of all of
+/// The normal form of a stream that comes in chunks: what [`normal`](crate::normal) gives of all of
 /// them, where no string is longer than the limit. It keeps what is unfinished, at most its limit,
 /// and may move between threads. With the feature `std` there are
 /// [`NormalReader`](crate::NormalReader) and [`NormalWriter`](crate::NormalWriter).
@@ -13,8 +13,8 @@ use crate::{Error, ffi};
 ///
 /// let mut text = Vec::new();
 /// let mut normalizer = Normalizer::new()?;
-/// for piece in [&b"a\x1b]0;a ti"[..], b"tle\x07\x1b[0", b"1m"] {
-///     normalizer.feed(piece)?;
+/// for chunk in [&b"a\x1b]0;a ti"[..], b"tle\x07\x1b[0", b"1m"] {
+///     normalizer.feed(chunk)?;
 ///     normalizer.text(|part| text.extend_from_slice(part));
 /// }
 /// assert_eq!(text, b"a\x1b]0;a title\x1b\\\x1b[1m");
@@ -46,15 +46,15 @@ impl Normalizer {
         Ok(Normalizer { raw })
     }
 
-    /// Takes the next piece of the stream. What it adds to the normal form is then what
-    /// [`text`](Normalizer::text) gives, and that of the piece before is gone.
+    /// Takes the next chunk of the stream. What it adds to the normal form is then what
+    /// [`text`](Normalizer::text) gives, and that of the chunk before is gone.
     ///
     /// # Errors
     ///
     /// [`Error::Memory`] where a request for memory was refused, and from then on
     /// [`Error::Failed`]. The texts before are the beginning of what the stream would have given.
-    pub fn feed(&mut self, piece: &[u8]) -> Result<(), Error> {
-        self.raw.feed(piece)
+    pub fn feed(&mut self, chunk: &[u8]) -> Result<(), Error> {
+        self.raw.feed(chunk)
     }
 
     /// Ends the stream, and begins the next. The end adds no text, and what is unfinished is
@@ -67,7 +67,7 @@ impl Normalizer {
         self.raw.finish()
     }
 
-    /// Calls `act` with the text that the last piece added, in parts.
+    /// Calls `act` with the text that the last chunk added, in parts.
     pub fn text(&mut self, act: impl FnMut(&[u8])) {
         in_parts(|from, out| self.text_from(from, out), act);
     }

@@ -1,5 +1,5 @@
 // SPDX-License-Identifier: MIT
-//! A parser that takes a stream in pieces.
+//! A parser that takes a stream in chunks.
 use crate::ffi::kind;
 use crate::{Error, ffi};
 use alloc::boxed::Box;
@@ -7,15 +7,15 @@ use alloc::vec;
 use alloc::vec::Vec;
 use core::fmt;
 
-/// A parser of a stream that comes in pieces. It takes memory when it is made, and none after that.
+/// A parser of a stream that comes in chunks. It takes memory when it is made, and none after that.
 ///
 /// ```
 /// use escape_stream::{Event, Parser};
 ///
 /// let mut text = String::new();
 /// let mut parser = Parser::new();
-/// for piece in [&b"caf\xc3"[..], b"\xa9 \x1b[1;3", b"1mred"] {
-///     parser.advance(piece, |event| match event {
+/// for chunk in [&b"caf\xc3"[..], b"\xa9 \x1b[1;3", b"1mred"] {
+///     parser.advance(chunk, |event| match event {
 ///         Event::Text(run) => text.push_str(run),
 ///         Event::Character(c) => text.push(c),
 ///         Event::Csi { entries, byte, .. } => {
@@ -42,7 +42,7 @@ pub struct Parser {
 pub enum Event<'a> {
     /// A run of characters, none of them a control.
     Text(&'a str),
-    /// A character that two pieces share, or U+FFFD for bytes that are no UTF-8.
+    /// A character that two chunks share, or U+FFFD for bytes that are no UTF-8.
     Character(char),
     /// A control character of C0 or C1.
     Control(u8),
@@ -97,8 +97,8 @@ impl<'a> Event<'a> {
     ///
     /// let mut text = String::new();
     /// let mut parser = Parser::new();
-    /// for piece in [&b"caf\xc3"[..], b"\xa9\x1b[m\xff"] {
-    ///     parser.advance(piece, |event| {
+    /// for chunk in [&b"caf\xc3"[..], b"\xa9\x1b[m\xff"] {
+    ///     parser.advance(chunk, |event| {
     ///         text += event.text(&mut [0; 4]).unwrap_or_default();
     ///     })?;
     /// }
@@ -265,9 +265,9 @@ impl Parser {
                 kind::FAILED => return Err(Error::Failed),
                 _ => {}
             }
-            let (piece, after) = rest.split_at(taken);
+            let (chunk, after) = rest.split_at(taken);
             count += taken;
-            rest = if act(self.noted(rest), piece) {
+            rest = if act(self.noted(rest), chunk) {
                 after
             } else {
                 &[]

@@ -1,12 +1,12 @@
 // SPDX-License-Identifier: MIT
 //! Readers that filter, and that normalise.
-use crate::pieces::InPieces;
-use crate::{Error, Normalizer, PieceFilter, Policy};
+use crate::chunks::InChunks;
+use crate::{ChunkFilter, Error, Normalizer, Policy};
 use std::io::{self, Read};
 use std::vec;
 use std::vec::Vec;
 
-const PIECE: usize = 8192;
+const CHUNK: usize = 8192;
 
 /// Reads from another reader what a policy admits of its stream, and nothing else, as it comes.
 ///
@@ -28,7 +28,7 @@ const PIECE: usize = 8192;
 /// ```
 #[derive(Debug)]
 pub struct FilterReader<R> {
-    reader: PieceReader<R, PieceFilter>,
+    reader: ChunkReader<R, ChunkFilter>,
 }
 
 impl<R: Read> FilterReader<R> {
@@ -38,7 +38,7 @@ impl<R: Read> FilterReader<R> {
     ///
     /// [`Error::Memory`] where a request for memory was refused.
     pub fn new(inner: R, policy: Policy) -> Result<FilterReader<R>, Error> {
-        Ok(FilterReader::over(inner, PieceFilter::new(policy)?))
+        Ok(FilterReader::over(inner, ChunkFilter::new(policy)?))
     }
 
     /// The same with another limit: of a string with more bytes nothing is read.
@@ -49,13 +49,13 @@ impl<R: Read> FilterReader<R> {
     pub fn with_limit(inner: R, policy: Policy, limit: usize) -> Result<FilterReader<R>, Error> {
         Ok(FilterReader::over(
             inner,
-            PieceFilter::with_limit(policy, limit)?,
+            ChunkFilter::with_limit(policy, limit)?,
         ))
     }
 
-    fn over(inner: R, filter: PieceFilter) -> FilterReader<R> {
+    fn over(inner: R, filter: ChunkFilter) -> FilterReader<R> {
         FilterReader {
-            reader: PieceReader::new(inner, filter),
+            reader: ChunkReader::new(inner, filter),
         }
     }
 
@@ -102,7 +102,7 @@ impl<R: Read> Read for FilterReader<R> {
 /// ```
 #[derive(Debug)]
 pub struct NormalReader<R> {
-    reader: PieceReader<R, Normalizer>,
+    reader: ChunkReader<R, Normalizer>,
 }
 
 impl<R: Read> NormalReader<R> {
@@ -126,7 +126,7 @@ impl<R: Read> NormalReader<R> {
 
     fn over(inner: R, normalizer: Normalizer) -> NormalReader<R> {
         NormalReader {
-            reader: PieceReader::new(inner, normalizer),
+            reader: ChunkReader::new(inner, normalizer),
         }
     }
 
@@ -156,21 +156,21 @@ impl<R: Read> Read for NormalReader<R> {
 
 // Reads what a filter or a normalizer has of what another reader gives.
 #[derive(Debug)]
-pub(crate) struct PieceReader<R, P> {
+pub(crate) struct ChunkReader<R, P> {
     pub(crate) inner: R,
-    pub(crate) pieces: P,
-    piece: Vec<u8>,
-    // How much of the text that the last piece added was read.
+    pub(crate) chunks: P,
+    chunk: Vec<u8>,
+    // How much of the text that the last chunk added was read.
     read: usize,
     has_ended: bool,
 }
 
-impl<R: Read, P: InPieces> PieceReader<R, P> {
-    pub(crate) fn new(inner: R, pieces: P) -> PieceReader<R, P> {
-        PieceReader {
+impl<R: Read, P: InChunks> ChunkReader<R, P> {
+    pub(crate) fn new(inner: R, chunks: P) -> ChunkReader<R, P> {
+        ChunkReader {
             inner,
-            pieces,
-            piece: vec![0; PIECE],
+            chunks,
+            chunk: vec![0; CHUNK],
             read: 0,
             has_ended: false,
         }
@@ -178,7 +178,7 @@ impl<R: Read, P: InPieces> PieceReader<R, P> {
 
     pub(crate) fn read(&mut self, out: &mut [u8]) -> io::Result<usize> {
         loop {
-            let count = self.pieces.text_from(self.read, out);
+            let count = self.chunks.text_from(self.read, out);
             self.read += count;
             if count > 0 || out.is_empty() || self.has_ended {
                 return Ok(count);
@@ -187,15 +187,15 @@ impl<R: Read, P: InPieces> PieceReader<R, P> {
         }
     }
 
-    // Takes the next piece, or the end of the stream.
+    // Takes the next chunk, or the end of the stream.
     fn take(&mut self) -> io::Result<()> {
-        let count = self.inner.read(&mut self.piece)?;
+        let count = self.inner.read(&mut self.chunk)?;
         self.read = 0;
         if count == 0 {
-            self.pieces.finish()?;
+            self.chunks.finish()?;
             self.has_ended = true;
         } else {
-            self.pieces.feed(&self.piece[..count])?;
+            self.chunks.feed(&self.chunk[..count])?;
         }
         Ok(())
     }

@@ -1,6 +1,6 @@
 // SPDX-License-Identifier: MIT
-//! A filter of a log that comes in pieces.
-use crate::pieces::in_parts;
+//! A filter of a log that comes in chunks.
+use crate::chunks::in_parts;
 use crate::{Error, SanitizerOptions, ffi};
 
 /// What became of the bytes of a stream: how many had each fate, in UTF-8 where the encoding of the
@@ -26,7 +26,7 @@ pub struct Account {
     pub length: u64,
 }
 
-/// The filter of a log, or of another stream of unknown origin, that comes in pieces: what the
+/// The filter of a log, or of another stream of unknown origin, that comes in chunks: what the
 /// program `escfilter` writes, by its options, and the account of every byte. Where each line is a
 /// stream of its own, as by [`Policy::Text`](crate::Policy::Text) and
 /// [`Policy::Color`](crate::Policy::Color), a string that nobody ends takes away the rest of its
@@ -40,8 +40,8 @@ pub struct Account {
 ///
 /// let mut text = Vec::new();
 /// let mut log = Sanitizer::new(SanitizerOptions::new(Policy::Text))?;
-/// for piece in [&b"one\x1b]0;a ti"[..], b"tle\ntwo\x1b[3", b"1m three\n"] {
-///     log.feed(piece)?;
+/// for chunk in [&b"one\x1b]0;a ti"[..], b"tle\ntwo\x1b[3", b"1m three\n"] {
+///     log.feed(chunk)?;
 ///     log.text(|part| text.extend_from_slice(part));
 /// }
 /// log.finish()?;
@@ -71,16 +71,16 @@ impl Sanitizer {
         Ok(Sanitizer { raw })
     }
 
-    /// Takes the next piece of the stream. What it adds to the text is then what
-    /// [`text`](Sanitizer::text) gives, and that of the piece before is gone.
+    /// Takes the next chunk of the stream. What it adds to the text is then what
+    /// [`text`](Sanitizer::text) gives, and that of the chunk before is gone.
     ///
     /// # Errors
     ///
     /// [`Error::Memory`] where a request for memory was refused, and from then on, and after the
     /// end of the stream, [`Error::Failed`]. The texts before are the beginning of what the stream
     /// would have given.
-    pub fn feed(&mut self, piece: &[u8]) -> Result<(), Error> {
-        self.raw.feed(piece)
+    pub fn feed(&mut self, chunk: &[u8]) -> Result<(), Error> {
+        self.raw.feed(chunk)
     }
 
     /// Ends the stream. What that adds to the text is then what [`text`](Sanitizer::text) gives,
@@ -93,7 +93,7 @@ impl Sanitizer {
         self.raw.finish()
     }
 
-    /// Calls `act` with the text that the last piece or the end of the stream added, in parts.
+    /// Calls `act` with the text that the last chunk or the end of the stream added, in parts.
     pub fn text(&mut self, act: impl FnMut(&[u8])) {
         in_parts(|from, out| self.text_from(from, out), act);
     }

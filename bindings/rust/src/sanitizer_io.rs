@@ -1,7 +1,7 @@
 // SPDX-License-Identifier: MIT
 //! A writer and a reader that filter logs.
-use crate::reader::PieceReader;
-use crate::writer::PieceWriter;
+use crate::reader::ChunkReader;
+use crate::writer::ChunkWriter;
 use crate::{Account, Error, Sanitizer, SanitizerOptions};
 use std::io::{self, ErrorKind, Read, Write};
 
@@ -26,7 +26,7 @@ use std::io::{self, ErrorKind, Read, Write};
 /// ```
 #[derive(Debug)]
 pub struct SanitizerWriter<W: Write> {
-    writer: PieceWriter<W, Sanitizer>,
+    writer: ChunkWriter<W, Sanitizer>,
     has_ended: bool,
 }
 
@@ -38,7 +38,7 @@ impl<W: Write> SanitizerWriter<W> {
     /// Those of [`Sanitizer::new`].
     pub fn new(inner: W, options: SanitizerOptions) -> Result<SanitizerWriter<W>, Error> {
         Ok(SanitizerWriter {
-            writer: PieceWriter::new(inner, Sanitizer::new(options)?),
+            writer: ChunkWriter::new(inner, Sanitizer::new(options)?),
             has_ended: false,
         })
     }
@@ -79,7 +79,7 @@ impl<W: Write> SanitizerWriter<W> {
     ///
     /// Those of [`Sanitizer::account`].
     pub fn account(&mut self) -> Result<Account, Error> {
-        self.writer.pieces.account()
+        self.writer.chunks.account()
     }
 }
 
@@ -118,7 +118,7 @@ impl<W: Write> Write for SanitizerWriter<W> {
 /// ```
 #[derive(Debug)]
 pub struct SanitizerReader<R> {
-    reader: PieceReader<R, Sanitizer>,
+    reader: ChunkReader<R, Sanitizer>,
 }
 
 impl<R: Read> SanitizerReader<R> {
@@ -129,7 +129,7 @@ impl<R: Read> SanitizerReader<R> {
     /// Those of [`Sanitizer::new`].
     pub fn new(inner: R, options: SanitizerOptions) -> Result<SanitizerReader<R>, Error> {
         Ok(SanitizerReader {
-            reader: PieceReader::new(inner, Sanitizer::new(options)?),
+            reader: ChunkReader::new(inner, Sanitizer::new(options)?),
         })
     }
 
@@ -154,7 +154,7 @@ impl<R: Read> SanitizerReader<R> {
     ///
     /// Those of [`Sanitizer::account`].
     pub fn account(&mut self) -> Result<Account, Error> {
-        self.reader.pieces.account()
+        self.reader.chunks.account()
     }
 }
 

@@ -1,6 +1,6 @@
 // SPDX-License-Identifier: MIT
 //! How a stream is sanitized.
-use crate::pieces::DEFAULT_LIMIT;
+use crate::chunks::DEFAULT_LIMIT;
 use crate::{Policy, ffi};
 
 /// How a [`Sanitizer`](crate::Sanitizer) filters a stream: what the options of the program

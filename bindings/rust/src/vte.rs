@@ -29,8 +29,8 @@
 //!
 //! let mut screen = Screen::default();
 //! let mut parser = Parser::new();
-//! for piece in [&b"caf\xc3"[..], b"\xa9 \x1b[1;3", b"1mred"] {
-//!     parser.advance(&mut screen, piece);
+//! for chunk in [&b"caf\xc3"[..], b"\xa9 \x1b[1;3", b"1mred"] {
+//!     parser.advance(&mut screen, chunk);
 //! }
 //! assert_eq!((&screen.text[..], &screen.colors[..]), ("caf\u{e9} red", &[1, 31][..]));
 //! ```
@@ -98,7 +98,7 @@ pub trait Perform {
     }
 }
 
-/// A parser of a stream that comes in pieces. It takes memory when it is made, and none after that.
+/// A parser of a stream that comes in chunks. It takes memory when it is made, and none after that.
 ///
 /// The number is the limit of a parser that [`Parser::new_with_size`] makes, and says nothing of
 /// any other: in `vte` too it has no meaning with the feature `std`.

@@ -1,7 +1,7 @@
 // SPDX-License-Identifier: MIT
 //! Writers that filter, and that normalise.
-use crate::pieces::InPieces;
-use crate::{Error, Normalizer, PieceFilter, Policy};
+use crate::chunks::InChunks;
+use crate::{ChunkFilter, Error, Normalizer, Policy};
 use std::io::{self, ErrorKind, Write};
 use std::vec;
 use std::vec::Vec;
@@ -13,7 +13,7 @@ const ROOM: usize = 4096;
 /// else, as it comes.
 ///
 /// What is written to the inner writer is what [`filter`](crate::filter) gives of all that was
-/// taken, in whatever pieces it came, or where it reported an error the beginning of that. A
+/// taken, in whatever chunks it came, or where it reported an error the beginning of that. A
 /// sequence that is unfinished waits for its end. Each write tries to write at once all that it
 /// adds. What the inner writer did not take then, it is given at the next write or flush, which
 /// reports the error if it still does not; so a last [`flush`](Write::flush) shows whether all was
@@ -31,7 +31,7 @@ const ROOM: usize = 4096;
 /// ```
 #[derive(Debug)]
 pub struct Filter<W: Write> {
-    writer: PieceWriter<W, PieceFilter>,
+    writer: ChunkWriter<W, ChunkFilter>,
 }
 
 /// [`Filter`], by the name that goes with [`FilterReader`](crate::FilterReader).
@@ -44,7 +44,7 @@ impl<W: Write> Filter<W> {
     ///
     /// [`Error::Memory`] where a request for memory was refused.
     pub fn new(inner: W, policy: Policy) -> Result<Filter<W>, Error> {
-        Ok(Filter::over(inner, PieceFilter::new(policy)?))
+        Ok(Filter::over(inner, ChunkFilter::new(policy)?))
     }
 
     /// The same with another limit: of a string with more bytes nothing is written.
@@ -53,12 +53,12 @@ impl<W: Write> Filter<W> {
     ///
     /// [`Error::Memory`] where a request for memory was refused.
     pub fn with_limit(inner: W, policy: Policy, limit: usize) -> Result<Filter<W>, Error> {
-        Ok(Filter::over(inner, PieceFilter::with_limit(policy, limit)?))
+        Ok(Filter::over(inner, ChunkFilter::with_limit(policy, limit)?))
     }
 
-    fn over(inner: W, filter: PieceFilter) -> Filter<W> {
+    fn over(inner: W, filter: ChunkFilter) -> Filter<W> {
         Filter {
-            writer: PieceWriter::new(inner, filter),
+            writer: ChunkWriter::new(inner, filter),
         }
     }
 
@@ -119,7 +119,7 @@ impl<W: Write> Write for Filter<W> {
 /// ```
 #[derive(Debug)]
 pub struct NormalWriter<W: Write> {
-    writer: PieceWriter<W, Normalizer>,
+    writer: ChunkWriter<W, Normalizer>,
 }
 
 impl<W: Write> NormalWriter<W> {
@@ -143,7 +143,7 @@ impl<W: Write> NormalWriter<W> {
 
     fn over(inner: W, normalizer: Normalizer) -> NormalWriter<W> {
         NormalWriter {
-            writer: PieceWriter::new(inner, normalizer),
+            writer: ChunkWriter::new(inner, normalizer),
         }
     }
 
@@ -187,20 +187,20 @@ impl<W: Write> Write for NormalWriter<W> {
 
 // Writes to another writer what a filter or a normalizer has of what is written to it.
 #[derive(Debug)]
-pub(crate) struct PieceWriter<W, P> {
+pub(crate) struct ChunkWriter<W, P> {
     pub(crate) inner: W,
-    pub(crate) pieces: P,
-    // How much of the text that the last piece added was written.
+    pub(crate) chunks: P,
+    // How much of the text that the last chunk added was written.
     written: usize,
     // Room for a part of the text.
     room: Vec<u8>,
 }
 
-impl<W: Write, P: InPieces> PieceWriter<W, P> {
-    pub(crate) fn new(inner: W, pieces: P) -> PieceWriter<W, P> {
-        PieceWriter {
+impl<W: Write, P: InChunks> ChunkWriter<W, P> {
+    pub(crate) fn new(inner: W, chunks: P) -> ChunkWriter<W, P> {
+        ChunkWriter {
             inner,
-            pieces,
+            chunks,
             written: 0,
             room: vec![0; ROOM],
         }
@@ -209,7 +209,7 @@ impl<W: Write, P: InPieces> PieceWriter<W, P> {
     pub(crate) fn write(&mut self, bytes: &[u8]) -> io::Result<usize> {
         self.write_text()?;
         self.written = 0;
-        self.pieces.feed(bytes)?;
+        self.chunks.feed(bytes)?;
         // (what is not taken now is tried again at the next call, since `bytes` were taken)
         let _ = self.write_text();
         Ok(bytes.len())
@@ -229,13 +229,13 @@ impl<W: Write, P: InPieces> PieceWriter<W, P> {
     // Ends the stream, once the text is written.
     pub(crate) fn close(&mut self) -> Result<(), Error> {
         self.written = 0;
-        self.pieces.finish()
+        self.chunks.finish()
     }
 
     // Writes what is left of the text.
     fn write_text(&mut self) -> io::Result<()> {
         loop {
-            let count = self.pieces.text_from(self.written, &mut self.room);
+            let count = self.chunks.text_from(self.written, &mut self.room);
             if count == 0 {
                 return Ok(());
             }

@@ -5,12 +5,12 @@ mod rows;
 use escape_stream::action::{Action, Parser};
 use rows::{Row, count_rows, unescaped};
 
-// The actions of a stream, in pieces of a length, as the tables write them, but for sequences.
+// The actions of a stream, in chunks of a length, as the tables write them, but for sequences.
 fn actions(stream: &[u8], length: usize) -> Vec<String> {
     let mut found = Vec::new();
     let mut parser = Parser::with_limits(1 << 24, 1 << 24);
-    for piece in stream.chunks(length) {
-        parser.parse(piece, |action| note(&action, &mut found));
+    for chunk in stream.chunks(length) {
+        parser.parse(chunk, |action| note(&action, &mut found));
     }
     assert_eq!(parser.failure(), None);
     found
@@ -60,7 +60,7 @@ fn actions_are_as_in_the_tables() {
         if wanted.is_empty() {
             return false;
         }
-        // In pieces only where there are not millions of them.
+        // In chunks only where there are not millions of them.
         let lengths = [stream.len().max(1), 1, 3];
         for length in &lengths[..if stream.len() < 10_000 { 3 } else { 1 }] {
             assert_eq!(actions(&stream, *length), wanted, "{}", row.name());

@@ -1,6 +1,6 @@
 // SPDX-License-Identifier: MIT
 //! Borrowed actions are those that `parse` gives: over the tables, and over random streams in
-//! random pieces.
+//! random chunks.
 mod rows;
 mod streams;
 
@@ -10,16 +10,16 @@ use rows::count_rows;
 use std::mem::size_of;
 use streams::Random;
 
-// What a stream gives in these pieces by `parse_borrowed`, each action made owned, once it was
+// What a stream gives in these chunks by `parse_borrowed`, each action made owned, once it was
 // compared with what `parse` gives.
-fn compared<'a>(limit: usize, pieces: impl Iterator<Item = &'a [u8]>) -> Vec<Action> {
+fn compared<'a>(limit: usize, chunks: impl Iterator<Item = &'a [u8]>) -> Vec<Action> {
     let [mut owning, mut borrowing] = [(); 2].map(|()| Parser::with_limits(limit, limit));
     let (mut wanted, mut found) = (Vec::new(), Vec::new());
-    for piece in pieces {
-        owning.parse(piece, |action| wanted.push(action));
-        borrowing.parse_borrowed(piece, |action| {
+    for chunk in chunks {
+        owning.parse(chunk, |action| wanted.push(action));
+        borrowing.parse_borrowed(chunk, |action| {
             if let borrowed::Action::PrintString(text) = action {
-                assert!(piece.as_ptr_range().contains(&text.as_ptr()));
+                assert!(chunk.as_ptr_range().contains(&text.as_ptr()));
             }
             found.push(action.into_owned());
         });
@@ -68,20 +68,20 @@ fn over_the_tables() {
 }
 
 #[test]
-fn over_random_streams_in_random_pieces() {
+fn over_random_streams_in_random_chunks() {
     let mut random = Random(4);
     let mut count = 0;
     for _ in 0..100_000 {
         let stream = random.stream();
         let limit = if random.below(8) == 0 { 5 } else { 1 << 10 };
-        let mut pieces = Vec::new();
+        let mut chunks = Vec::new();
         let mut rest = &stream[..];
         while !rest.is_empty() {
-            let (piece, after) = rest.split_at(random.below(rest.len().min(30) + 1));
-            pieces.push(piece);
+            let (chunk, after) = rest.split_at(random.below(rest.len().min(30) + 1));
+            chunks.push(chunk);
             rest = after;
         }
-        count += compared(limit, pieces.into_iter()).len();
+        count += compared(limit, chunks.into_iter()).len();
     }
     assert!(count > 900_000, "{count} actions");
 }

@@ -1,6 +1,6 @@
 // SPDX-License-Identifier: MIT
-//! A stream that is filtered in pieces gives what it gives whole, over writers of all kinds.
-use escape_stream::{Error, Filter, PieceFilter, Policy, filter};
+//! A stream that is filtered in chunks gives what it gives whole, over writers of all kinds.
+use escape_stream::{ChunkFilter, Error, Filter, Policy, filter};
 use std::io::{self, ErrorKind, Write};
 
 const POLICIES: [Policy; 4] = [Policy::Text, Policy::Color, Policy::Screen, Policy::All];
@@ -42,13 +42,13 @@ impl Write for Slow {
 }
 
 #[test]
-fn in_pieces() {
+fn in_chunks() {
     for policy in POLICIES {
         let whole = filter(policy, 1000, STREAM).unwrap();
         for size in 1..40 {
             let mut log = Filter::with_limit(Slow::new([]), policy, 1000).unwrap();
-            for piece in STREAM.chunks(size) {
-                log.write_all(piece).unwrap();
+            for chunk in STREAM.chunks(size) {
+                log.write_all(chunk).unwrap();
             }
             assert_eq!(log.into_inner().text, whole, "{policy:?}, {size}");
         }
@@ -82,15 +82,15 @@ fn an_error_is_reported_before_more_is_taken() {
 
 #[test]
 fn a_text_is_read_in_parts() {
-    let mut pieces = PieceFilter::new(Policy::Text).unwrap();
+    let mut chunks = ChunkFilter::new(Policy::Text).unwrap();
     let mut out = [0; 4];
-    assert_eq!(pieces.text_from(0, &mut out), 0);
-    pieces.feed(b"abcdef").unwrap();
-    assert_eq!((pieces.text_from(0, &mut out), &out), (4, b"abcd"));
-    assert_eq!((pieces.text_from(4, &mut out), &out), (2, b"efcd"));
-    assert_eq!(pieces.text_from(usize::MAX, &mut out), 0);
-    pieces.feed(b"\x1b]0;").unwrap();
-    assert_eq!(pieces.text_from(0, &mut out), 0);
+    assert_eq!(chunks.text_from(0, &mut out), 0);
+    chunks.feed(b"abcdef").unwrap();
+    assert_eq!((chunks.text_from(0, &mut out), &out), (4, b"abcd"));
+    assert_eq!((chunks.text_from(4, &mut out), &out), (2, b"efcd"));
+    assert_eq!(chunks.text_from(usize::MAX, &mut out), 0);
+    chunks.feed(b"\x1b]0;").unwrap();
+    assert_eq!(chunks.text_from(0, &mut out), 0);
 }
 
 #[test]

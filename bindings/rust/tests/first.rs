@@ -96,9 +96,9 @@ fn actions_one_after_another() {
         for length in [1, 7, stream.len().max(1)] {
             let mut parser = parser();
             let mut found = Vec::new();
-            for piece in stream.chunks(length) {
+            for chunk in stream.chunks(length) {
                 parser
-                    .actions(piece)
+                    .actions(chunk)
                     .for_each(|it| it.append_to(&mut found));
             }
             let mut wanted = Vec::new();
@@ -143,7 +143,7 @@ fn further_actions_of_the_last_byte() {
 }
 
 #[test]
-fn a_sequence_in_pieces() {
+fn a_sequence_in_chunks() {
     let mut parser = Parser::new();
     assert_eq!(parser.parse_first(b"\x1b[1"), None);
     let (first, count) = parser.parse_first(b"mab").unwrap();

@@ -1,17 +1,17 @@
 // SPDX-License-Identifier: MIT
-//! A stream in pieces gives the same page whatever the pieces are, in each layout.
+//! A stream in chunks gives the same page whatever the chunks are, in each layout.
 #![cfg(feature = "oneshot")]
 use escape_stream::Error;
-use escape_stream::html::{Layout, PiecePage};
+use escape_stream::html::{ChunkPage, Layout};
 
 const STREAM: &[u8] =
     b"<b>\x1b[1;31mred\n\x1b]8;;http://a/?b&c=\"\x1b\\x\x1b]8;;\x07\x1b[m\x1b]0;t\x07 \xff\x1b[4m_";
 
 fn page(layout: Layout, size: usize) -> String {
     let mut html = Vec::new();
-    let mut page = PiecePage::with_limit(layout, 1000).unwrap();
-    for piece in STREAM.chunks(size) {
-        page.feed(piece).unwrap();
+    let mut page = ChunkPage::with_limit(layout, 1000).unwrap();
+    for chunk in STREAM.chunks(size) {
+        page.feed(chunk).unwrap();
         page.text(|part| html.extend_from_slice(part));
     }
     page.finish().unwrap();
@@ -50,7 +50,7 @@ fn with_styles_line_by_line() {
 
 #[test]
 fn after_the_end() {
-    let mut page = PiecePage::new(Layout::default()).unwrap();
+    let mut page = ChunkPage::new(Layout::default()).unwrap();
     page.feed(b"\x1b[1ma").unwrap();
     page.finish().unwrap();
     let mut closing = [0; 16];

@@ -54,8 +54,8 @@ fn borrowed_actions_take_none() {
     let mut requests = [0; 2];
     for pass in 0..2 {
         let before = REQUESTS.with(Cell::get);
-        for piece in stream.chunks(7) {
-            parser.parse_borrowed(piece, |action| {
+        for chunk in stream.chunks(7) {
+            parser.parse_borrowed(chunk, |action| {
                 counts[pass] += usize::from(!matches!(action, Action::Esc(_)));
             });
         }

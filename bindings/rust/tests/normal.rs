@@ -1,5 +1,5 @@
 // SPDX-License-Identifier: MIT
-//! The normal form of a stream in pieces, through readers and writers too, is that of the whole.
+//! The normal form of a stream in chunks, through readers and writers too, is that of the whole.
 use escape_stream::{Error, NormalReader, NormalWriter, Normalizer, normal};
 use std::io::{Read, Write};
 
@@ -8,13 +8,13 @@ const STREAM: &[u8] =
     link\x1b]8;;\x07\x1b\\\x1b[?25;1004h\x1bP+q544e\x1b\\\x1b_Gi=1,a=q;AAAA\x1b\\\x9b7m\x1b]0;cut";
 
 #[test]
-fn in_pieces() {
+fn in_chunks() {
     let whole = normal(STREAM).unwrap();
     let mut normalizer = Normalizer::with_limit(1000).unwrap();
     for size in 1..=STREAM.len() {
         let mut text = Vec::new();
-        for piece in STREAM.chunks(size) {
-            normalizer.feed(piece).unwrap();
+        for chunk in STREAM.chunks(size) {
+            normalizer.feed(chunk).unwrap();
             normalizer.text(|part| text.extend_from_slice(part));
         }
         assert_eq!(text, whole, "{size}");
@@ -28,8 +28,8 @@ fn written() {
     let whole = normal(STREAM).unwrap();
     for size in 1..40 {
         let mut log = NormalWriter::with_limit(Vec::new(), 1000).unwrap();
-        for piece in STREAM.chunks(size) {
-            log.write_all(piece).unwrap();
+        for chunk in STREAM.chunks(size) {
+            log.write_all(chunk).unwrap();
         }
         assert_eq!(*log.get_ref(), whole, "{size}");
         log.finish().unwrap();

@@ -11,12 +11,12 @@ fn parser() -> Parser {
     Parser::with_limits(1 << 12, 1 << 12)
 }
 
-// The actions of a stream in pieces of a length, with what is printed joined.
-fn in_pieces(stream: &[u8], length: usize) -> Vec<Action> {
+// The actions of a stream in chunks of a length, with what is printed joined.
+fn in_chunks(stream: &[u8], length: usize) -> Vec<Action> {
     let mut parser = parser();
     let mut actions = Vec::new();
-    for piece in stream.chunks(length) {
-        parser.parse(piece, |action| action.append_to(&mut actions));
+    for chunk in stream.chunks(length) {
+        parser.parse(chunk, |action| action.append_to(&mut actions));
     }
     assert_eq!(parser.failure(), None);
     actions
@@ -27,17 +27,17 @@ fn however_they_are_taken() {
     let mut random = Random(1);
     for _ in 0..4000 {
         let stream = random.stream();
-        let wanted = in_pieces(&stream, 1);
+        let wanted = in_chunks(&stream, 1);
         let shown = stream.escape_ascii();
         for length in [2, 3, 7, 16, 64, 1000] {
-            assert_eq!(in_pieces(&stream, length), wanted, "{shown} by {length}");
+            assert_eq!(in_chunks(&stream, length), wanted, "{shown} by {length}");
         }
         let mut found = Vec::new();
         let mut parser = parser();
         let (first, second) = stream.split_at(random.below(stream.len() + 1));
-        for piece in [first, second] {
+        for chunk in [first, second] {
             parser
-                .actions(piece)
+                .actions(chunk)
                 .for_each(|it| it.append_to(&mut found));
         }
         assert_eq!(found, wanted, "{shown}");
@@ -57,7 +57,7 @@ fn by_first_actions() {
             rest = &rest[count..];
         }
         // What the last bytes give is dropped where they leave something unfinished.
-        let wanted = in_pieces(&stream[..stream.len() - rest.len()], 1000);
+        let wanted = in_chunks(&stream[..stream.len() - rest.len()], 1000);
         assert_eq!(found, wanted, "{}", stream.escape_ascii());
     }
 }
@@ -78,7 +78,7 @@ fn what_is_written_is_the_normal_form() {
     let mut count = 0;
     for _ in 0..4000 {
         let stream = random.stream();
-        let actions = in_pieces(&stream, 1000);
+        let actions = in_chunks(&stream, 1000);
         if !are_whole(&actions) {
             continue;
         }

@@ -1,6 +1,6 @@
 // SPDX-License-Identifier: MIT
-//! What is read through a filter, in pieces of all kinds, is what it gives of the whole.
-use escape_stream::{FilterReader, FilterWriter, PieceFilter, Policy};
+//! What is read through a filter, in chunks of all kinds, is what it gives of the whole.
+use escape_stream::{ChunkFilter, FilterReader, FilterWriter, Policy};
 use std::io::{self, ErrorKind, Read, Write};
 
 const POLICIES: [Policy; 4] = [Policy::Text, Policy::Color, Policy::Screen, Policy::All];
@@ -40,7 +40,7 @@ impl Read for Slow<'_> {
 // The text of a stream that has ended.
 fn whole(policy: Policy) -> Vec<u8> {
     let mut text = Vec::new();
-    let mut filter = PieceFilter::with_limit(policy, 1000).unwrap();
+    let mut filter = ChunkFilter::with_limit(policy, 1000).unwrap();
     filter.feed(STREAM).unwrap();
     filter.text(|part| text.extend_from_slice(part));
     filter.finish().unwrap();
@@ -49,7 +49,7 @@ fn whole(policy: Policy) -> Vec<u8> {
 }
 
 #[test]
-fn in_pieces() {
+fn in_chunks() {
     for policy in POLICIES {
         let wanted = whole(policy);
         for size in 1..40 {

@@ -16,8 +16,8 @@ const STREAM: &[u8] =
 fn sanitized(options: SanitizerOptions, stream: &[u8], size: usize) -> (Vec<u8>, Account) {
     let mut text = Vec::new();
     let mut log = Sanitizer::new(options).unwrap();
-    for piece in stream.chunks(size) {
-        log.feed(piece).unwrap();
+    for chunk in stream.chunks(size) {
+        log.feed(chunk).unwrap();
         log.text(|part| text.extend_from_slice(part));
     }
     log.finish().unwrap();
@@ -54,7 +54,7 @@ fn a_string_that_nobody_ends_takes_one_line() {
 }
 
 #[test]
-fn any_size_of_pieces_gives_the_same() {
+fn any_size_of_chunks_gives_the_same() {
     for policy in POLICIES {
         for options in [
             SanitizerOptions::new(policy),
@@ -177,8 +177,8 @@ fn writers_and_readers_give_the_same() {
     let options = SanitizerOptions::new(Policy::Color);
     let (wanted, account) = sanitized(options, STREAM, 7);
     let mut writer = SanitizerWriter::new(Vec::new(), options).unwrap();
-    for piece in STREAM.chunks(5) {
-        writer.write_all(piece).unwrap();
+    for chunk in STREAM.chunks(5) {
+        writer.write_all(chunk).unwrap();
     }
     writer.finish().unwrap();
     writer.finish().unwrap();

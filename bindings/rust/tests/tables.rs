@@ -4,14 +4,14 @@
 mod rows;
 
 use escape_stream::{
-    Normalizer, PieceFilter, Policy, filter, filter_into, is_normal, normal, normal_into,
+    ChunkFilter, Normalizer, Policy, filter, filter_into, is_normal, normal, normal_into,
 };
 use rows::{Row, count_rows};
 use std::str;
 
 const LIMIT: usize = 1_048_576;
 
-// Of longer texts only some capacities are tried, and of longer streams large pieces alone.
+// Of longer texts only some capacities are tried, and of longer streams large chunks alone.
 const EACH_CAPACITY_UP_TO: usize = 2000;
 
 const POLICIES: [(&str, Policy); 4] = [
@@ -38,22 +38,22 @@ fn check_capacities(row: &Row, text: &[u8], call: impl Fn(&mut [u8]) -> usize) {
     }
 }
 
-// What takes back what a stream leaves changed, which a filter in pieces gives when it is finished.
+// What takes back what a stream leaves changed, which a filter in chunks gives when it is finished.
 fn end_of(policy: Policy, limit: usize, stream: &[u8]) -> Vec<u8> {
     let mut end = Vec::new();
-    let mut filter = PieceFilter::with_limit(policy, limit).unwrap();
+    let mut filter = ChunkFilter::with_limit(policy, limit).unwrap();
     filter.feed(stream).unwrap();
     filter.finish().unwrap();
     filter.text(|part| end.extend_from_slice(part));
     end
 }
 
-// The normal form of a stream in pieces of this size, within a limit that no string of it passes.
-fn normal_in_pieces(stream: &[u8], size: usize) -> Vec<u8> {
+// The normal form of a stream in chunks of this size, within a limit that no string of it passes.
+fn normal_in_chunks(stream: &[u8], size: usize) -> Vec<u8> {
     let mut text = Vec::new();
     let mut normalizer = Normalizer::with_limit(stream.len()).unwrap();
-    for piece in stream.chunks(size) {
-        normalizer.feed(piece).unwrap();
+    for chunk in stream.chunks(size) {
+        normalizer.feed(chunk).unwrap();
         normalizer.text(|part| text.extend_from_slice(part));
     }
     text
@@ -83,7 +83,7 @@ fn normal_forms() {
         };
         for size in [short, 5 * short] {
             assert!(
-                normal_in_pieces(&stream, size) == text,
+                normal_in_chunks(&stream, size) == text,
                 "{}: {size}",
                 row.name()
             );

@@ -1,9 +1,9 @@
 // SPDX-License-Identifier: MIT
 //! What may move between threads, be copied, and be shown; and the kinds of errors.
-use escape_stream::html::PiecePage;
+use escape_stream::html::ChunkPage;
 use escape_stream::{
-    Error, Event, Filter, FilterReader, NormalReader, NormalWriter, Normalizer, Parser,
-    PieceFilter, Policy, action, vte,
+    ChunkFilter, Error, Event, Filter, FilterReader, NormalReader, NormalWriter, Normalizer,
+    Parser, Policy, action, vte,
 };
 use std::fmt::Debug;
 use std::io::{self, ErrorKind, Write};
@@ -19,8 +19,8 @@ fn types() {
     is_free::<action::Parser>();
     is_free::<vte::Parser>();
     is_free::<vte::by_byte::Parser>();
-    is_free::<PieceFilter>();
-    is_free::<PiecePage>();
+    is_free::<ChunkFilter>();
+    is_free::<ChunkPage>();
     is_free::<Normalizer>();
     is_free::<Filter<Vec<u8>>>();
     is_free::<NormalWriter<Vec<u8>>>();
@@ -34,9 +34,9 @@ fn types() {
 #[test]
 fn moved_between_calls() {
     let mut filter = Filter::new(Vec::new(), Policy::Color).unwrap();
-    for piece in [&b"a\x1b]0;a ti"[..], b"tle\x07\x1b[3", b"1mred"] {
+    for chunk in [&b"a\x1b]0;a ti"[..], b"tle\x07\x1b[3", b"1mred"] {
         let fed = thread::spawn(move || {
-            filter.write_all(piece).unwrap();
+            filter.write_all(chunk).unwrap();
             filter
         });
         filter = fed.join().unwrap();

@@ -68,11 +68,11 @@ impl Perform for Log {
     }
 }
 
-fn calls<'a>(pieces: impl IntoIterator<Item = &'a [u8]>) -> Vec<String> {
+fn calls<'a>(chunks: impl IntoIterator<Item = &'a [u8]>) -> Vec<String> {
     let mut log = Log::default();
     let mut parser = Parser::new();
-    for piece in pieces {
-        parser.advance(&mut log, piece);
+    for chunk in chunks {
+        parser.advance(&mut log, chunk);
     }
     assert!(!parser.has_failed());
     log.calls
@@ -87,7 +87,7 @@ fn calls_by_byte(stream: &[u8]) -> Vec<String> {
     log.calls
 }
 
-// Whole, byte by byte, in pieces of one byte, and cut once at each place.
+// Whole, byte by byte, in chunks of one byte, and cut once at each place.
 fn check(stream: &[u8], told: &[&str]) {
     assert_eq!(calls([stream]), told, "{}", bytes(stream));
     assert_eq!(calls_by_byte(stream), told, "{}", bytes(stream));
@@ -189,7 +189,7 @@ const OTHERWISE: &[Row] = &[
     (b"\x1bPq\xc3\xa9\xff\x1bM", &["hook [0]q", "put c3", "put a9", "put ff", "unhook", "esc M"]),
     // A header with a colon opens nothing.
     (b"\x1bP1:2qabc\x1b\\x", &["esc \\", "print 'x'"]),
-    // Characters and controls that two pieces share: there it loses the `n`, or prints U+0085.
+    // Characters and controls that two chunks share: there it loses the `n`, or prints U+0085.
     (b"\xc3\xa9n\xc3\xaf\xc2\x85", &["print '\u{e9}'", "print 'n'", "print '\u{ef}'", "execute 85"]),
 ];
 

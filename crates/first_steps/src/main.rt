@@ -1,4 +1,4 @@
-//! Reads a stream that comes in two pieces, and writes it again.
+//! Reads a stream that comes in two chunks, and writes it again.
 #![tactic(auto)]
 
 use anyhow::Result;
@@ -6,9 +6,9 @@ use escape_stream::{Parser, encode};
 
 fn main(rt: HostRuntime) -> Result<()> {
     let mut parser = Parser::new(rt.alloc());
-    for piece in [b"\x1b]0;a ti".as_slice(), b"tle\x07x".as_slice()] {
-        println!(rt; "{} bytes:", piece.len())?;
-        parser.parse(piece, |action| {
+    for chunk in [b"\x1b]0;a ti".as_slice(), b"tle\x07x".as_slice()] {
+        println!(rt; "{} bytes:", chunk.len())?;
+        parser.parse(chunk, |action| {
             let _ = println!(rt; "  {action:?}");
         })?;
     }

@@ -10,7 +10,7 @@ use alloc::vec::Vec;
 use core::fmt;
 use core::iter::FusedIterator;
 
-/// A parser of a stream that comes in pieces, and is given as actions. Its calls are those of
+/// A parser of a stream that comes in chunks, and is given as actions. Its calls are those of
 /// `termwiz`, so none of them returns an [`Error`]: [`failure`](Parser::failure) does.
 ///
 /// ```
@@ -19,8 +19,8 @@ use core::iter::FusedIterator;
 ///
 /// let mut parser = Parser::new();
 /// let mut titles = Vec::new();
-/// for piece in [&b"a\x1b]2;so"[..], b"me\x07\x1b[1mb"] {
-///     parser.parse(piece, |action| {
+/// for chunk in [&b"a\x1b]2;so"[..], b"me\x07\x1b[1mb"] {
+///     parser.parse(chunk, |action| {
 ///         if let Action::OperatingSystemCommand(command) = action {
 ///             titles.push(*command);
 ///         }
@@ -228,8 +228,8 @@ impl Parser {
             } else {
                 count + 1
             };
-            let piece = bytes.get(count..length).filter(|it| !it.is_empty())?;
-            count += self.take(piece, |taker, event, _| {
+            let chunk = bytes.get(count..length).filter(|it| !it.is_empty())?;
+            count += self.take(chunk, |taker, event, _| {
                 let push = |action| actions.push(action);
                 taker.take(event, &mut Owned(push)).map(|()| false)
             });

@@ -12,7 +12,7 @@ use alloc::string::String;
 #[derive(Clone, Copy, Debug, PartialEq)]
 #[non_exhaustive]
 pub enum Action<'a> {
-    /// Prints a character that comes by itself: two pieces share it, or it is U+FFFD for bytes that
+    /// Prints a character that comes by itself: two chunks share it, or it is U+FFFD for bytes that
     /// are no UTF-8.
     Print(char),
     /// Prints characters, one or more.

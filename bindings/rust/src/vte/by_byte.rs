@@ -25,7 +25,7 @@ use super::Perform;
 /// ```
 #[derive(Clone, Debug, Default)]
 pub struct Parser {
-    pieces: super::Parser,
+    chunks: super::Parser,
 }
 
 impl Parser {
@@ -39,6 +39,6 @@ impl Parser {
     /// After a [failure](super::Parser::has_failed) it makes none.
     #[inline]
     pub fn advance<P: Perform>(&mut self, performer: &mut P, byte: u8) {
-        self.pieces.advance(performer, &[byte]);
+        self.chunks.advance(performer, &[byte]);
     }
 }

@@ -1,9 +1,9 @@
 // SPDX-License-Identifier: MIT
-// Streams as pieces: strings and bytes, and the places in the memory that they go through.
+// Streams as chunks: strings and bytes, and the places in the memory that they go through.
 import { memory, take } from "./wasm.js";
 
 /** How many bytes of a stream the library is given at once, and of a text it gives at once. */
-export const PIECE = 32_768;
+export const CHUNK = 32_768;
 
 const encoder = new TextEncoder();
 // With ignoreBOM U+FEFF stays, which a stream may begin with as with any other character.
@@ -13,44 +13,44 @@ const decoder = decoderOf();
 /** Returns the text of bytes. */
 export const textOf = (bytes) => decoder.decode(bytes);
 
-// A room for pieces and one for texts, of all streams: no call is made during another.
+// A room for chunks and one for texts, of all streams: no call is made during another.
 let made;
 export function rooms() {
-  made ??= { piece: take(PIECE), text: take(PIECE) };
+  made ??= { chunk: take(CHUNK), text: take(CHUNK) };
   return made;
 }
 
 /** Returns the bytes of what has bytes: no copy. */
-export function bytesOf(piece) {
-  if (piece instanceof Uint8Array) return piece;
-  if (ArrayBuffer.isView(piece)) {
-    return new Uint8Array(piece.buffer, piece.byteOffset, piece.byteLength);
+export function bytesOf(chunk) {
+  if (chunk instanceof Uint8Array) return chunk;
+  if (ArrayBuffer.isView(chunk)) {
+    return new Uint8Array(chunk.buffer, chunk.byteOffset, chunk.byteLength);
   }
-  if (piece instanceof ArrayBuffer) return new Uint8Array(piece);
-  if (typeof SharedArrayBuffer === "function" && piece instanceof SharedArrayBuffer) {
-    return new Uint8Array(piece);
+  if (chunk instanceof ArrayBuffer) return new Uint8Array(chunk);
+  if (typeof SharedArrayBuffer === "function" && chunk instanceof SharedArrayBuffer) {
+    return new Uint8Array(chunk);
   }
   throw new TypeError("escape-stream: a stream is a string, an ArrayBuffer or a view of one");
 }
 
 /*
- * Puts a piece into the room for pieces, as many bytes at once as fit, and calls `act` with how
+ * Puts a chunk into the room for chunks, as many bytes at once as fit, and calls `act` with how
  * many there are.
  */
-function inParts(piece, act) {
-  const at = rooms().piece;
-  if (typeof piece === "string") {
-    for (let rest = piece; rest.length > 0; ) {
-      const room = memory().bytes.subarray(at, at + PIECE);
+function inParts(chunk, act) {
+  const at = rooms().chunk;
+  if (typeof chunk === "string") {
+    for (let rest = chunk; rest.length > 0; ) {
+      const room = memory().bytes.subarray(at, at + CHUNK);
       const { read, written } = encoder.encodeInto(rest, room);
       rest = rest.slice(read);
       act(written);
     }
     return;
   }
-  const bytes = bytesOf(piece);
-  for (let from = 0; from < bytes.length; from += PIECE) {
-    const part = bytes.subarray(from, from + PIECE);
+  const bytes = bytesOf(chunk);
+  for (let from = 0; from < bytes.length; from += CHUNK) {
+    const part = bytes.subarray(from, from + CHUNK);
     memory().bytes.set(part, at);
     act(part.length);
   }
@@ -59,20 +59,20 @@ function inParts(piece, act) {
 const isHalf = (code) => code >= 0xd800 && code < 0xdc00;
 
 /**
- * The pieces of a stream, in the room for pieces. The halves of a character that lie in two strings
+ * The chunks of a stream, in the room for chunks. The halves of a character that lie in two strings
  * are joined, as TextEncoderStream does it.
  */
-export class Pieces {
+export class Chunks {
   #half = "";
 
-  /** Puts a piece into the room, and calls `act` with how many bytes there are; maybe often. */
-  put(piece, act) {
-    if (typeof piece !== "string") {
+  /** Puts a chunk into the room, and calls `act` with how many bytes there are; maybe often. */
+  put(chunk, act) {
+    if (typeof chunk !== "string") {
       this.end(act);
-      inParts(piece, act);
+      inParts(chunk, act);
       return;
     }
-    const text = this.#half + piece;
+    const text = this.#half + chunk;
     const rest = isHalf(text.charCodeAt(text.length - 1)) ? 1 : 0;
     this.#half = text.slice(text.length - rest);
     inParts(text.slice(0, text.length - rest), act);

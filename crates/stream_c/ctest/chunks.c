@@ -11,7 +11,7 @@
 #include <stdlib.h>
 #include <string.h>
 
-enum { GUARD = 32, MOST_PIECE = 40, NOISES = 2000, NOISE_PIECES = 60, ROOM = 1 << 16 };
+enum { GUARD = 32, MOST_CHUNK = 40, NOISES = 2000, NOISE_CHUNKS = 60, ROOM = 1 << 16 };
 
 static unsigned long differences;
 
@@ -174,7 +174,7 @@ static void compare(const uint8_t *stream, size_t length, size_t room) {
     static struct log whole, cut;
     whole.length = 0;
     feed(stream, length, length, room, &whole);
-    for (size_t size = 1; size <= MOST_PIECE; size++) {
+    for (size_t size = 1; size <= MOST_CHUNK; size++) {
         cut.length = 0;
         feed(stream, length, size, room, &cut);
         if (cut.length != whole.length || memcmp(cut.at, whole.at, cut.length) != 0) {
@@ -313,9 +313,9 @@ int main(void) {
         compare(stream, length, 64);
     }
     for (int i = 0; i < NOISES; i++) {
-        uint8_t noise[NOISE_PIECES * 16];
+        uint8_t noise[NOISE_CHUNKS * 16];
         size_t length = 0;
-        for (int k = 0; k < NOISE_PIECES; k++) {
+        for (int k = 0; k < NOISE_CHUNKS; k++) {
             const char *piece = PIECES[next_number() % (sizeof PIECES / sizeof PIECES[0])];
             memcpy(noise + length, piece, strlen(piece));
             length += strlen(piece);

@@ -1,5 +1,5 @@
 # SPDX-License-Identifier: MIT
-"""What takes a stream in pieces and returns the text that each adds."""
+"""What takes a stream in chunks and returns the text that each adds."""
 
 import threading
 from ctypes import Structure, byref, c_ubyte
@@ -9,10 +9,10 @@ from typing import Any, ClassVar, TypeVar
 from escape_stream import _library
 
 _ROOM = 65_536
-_Self = TypeVar("_Self", bound="InPieces")
+_Self = TypeVar("_Self", bound="InChunks")
 
 
-class InPieces:
+class InChunks:
     """A filter, a sanitizer or a normalizer. Any thread may use it, and one at a time."""
 
     # What it is called, and the calls of the library: these take its struct first.
@@ -27,16 +27,16 @@ class InPieces:
         self._raw = raw
         self._room = (c_ubyte * _ROOM)()
 
-    def feed(self, piece: _library.Bytes) -> bytes:
-        """Takes the next piece of the stream, and returns the text that it adds.
+    def feed(self, chunk: _library.Bytes) -> bytes:
+        """Takes the next chunk of the stream, and returns the text that it adds.
 
         Raises MemoryError where a request for memory was refused: it is then closed, and the texts
         before are the beginning of what the stream would have given. Raises ValueError where it is
         closed, and RuntimeError while another thread uses it.
         """
-        piece = _library.bytes_of(piece)
+        chunk = _library.bytes_of(chunk)
         with _library.used(self._in_use, self._name):
-            return self._text_after(self._feed(byref(self._raw), piece, len(piece)))
+            return self._text_after(self._feed(byref(self._raw), chunk, len(chunk)))
 
     def finish(self) -> bytes:
         """Ends the stream, and begins the next. Returns the text that the end adds. What is

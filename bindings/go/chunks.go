@@ -10,7 +10,7 @@ import "runtime"
 // How many bytes of a text are copied at once.
 const room = 1 << 16
 
-// A filter of a stream in pieces. The library took its block.
+// A filter of a stream in chunks. The library took its block.
 type filter struct {
 	raw  C.struct_escape_stream_filter_state
 	room []byte
@@ -29,7 +29,7 @@ func newFilter(policy Policy, options []Option) (*filter, error) {
 	return f, nil
 }
 
-// feed takes a piece of the stream.
+// feed takes a chunk of the stream.
 func (f *filter) feed(p []byte) error {
 	return errorOf(C.escape_stream_filter_feed(&f.raw, first(p), C.size_t(len(p))))
 }

@@ -1,5 +1,5 @@
 // SPDX-License-Identifier: MIT
-//! The events of streams in pieces of each size are those of the whole.
+//! The events of streams in chunks of each size are those of the whole.
 use escape_stream::{Event, Parameters, Parser, StringEnd, dcs_numbers, osc_number, osc_parts};
 
 // What was handed out, in a form in which a run is the same as its characters or bytes by
@@ -7,14 +7,14 @@ use escape_stream::{Event, Parameters, Parser, StringEnd, dcs_numbers, osc_numbe
 fn log(stream: &[u8], size: usize, limit: usize) -> Vec<String> {
     let mut log = Vec::new();
     let mut parser = Parser::with_limit(limit);
-    for piece in stream.chunks(size) {
+    for chunk in stream.chunks(size) {
         let act = |event: Event<'_>| match event {
             Event::Text(run) => log.extend(run.chars().map(|c| format!("{c:?}"))),
             Event::Character(c) => log.push(format!("{c:?}")),
             Event::Data(bytes) => log.extend(bytes.iter().map(|b| format!("data {b}"))),
             other => log.push(format!("{other:?}")),
         };
-        parser.advance(piece, act).unwrap();
+        parser.advance(chunk, act).unwrap();
     }
     log
 }
@@ -30,7 +30,7 @@ const STREAMS: [&[u8]; 7] = [
 ];
 
 #[test]
-fn in_pieces() {
+fn in_chunks() {
     for stream in STREAMS {
         for limit in [0, 1, 8, 4096] {
             let whole = log(stream, stream.len().max(1), limit);
@@ -38,7 +38,7 @@ fn in_pieces() {
                 assert_eq!(
                     log(stream, size, limit),
                     whole,
-                    "pieces of {size} of {stream:?}"
+                    "chunks of {size} of {stream:?}"
                 );
             }
         }
@@ -60,7 +60,7 @@ fn past_the_limit() {
         "Escape { intermediates: [], has_more: false, byte: 92 }",
     ];
     for size in 1..=stream.len() {
-        assert_eq!(log(stream, size, 8), found, "pieces of {size}");
+        assert_eq!(log(stream, size, 8), found, "chunks of {size}");
     }
 }
 
@@ -158,12 +158,12 @@ fn how_strings_end() {
         for size in 1..=stream.len() {
             let mut found = Vec::new();
             let mut parser = Parser::with_limit(8);
-            for piece in stream.chunks(size) {
+            for chunk in stream.chunks(size) {
                 let act = |event: Event<'_>, taken: &[u8]| {
                     found.extend(StringEnd::of(&event, taken));
                     true
                 };
-                assert_eq!(parser.advance_while(piece, act), Ok(piece.len()));
+                assert_eq!(parser.advance_while(chunk, act), Ok(chunk.len()));
             }
             assert_eq!(found, ends, "{} by {size}", stream.escape_ascii());
         }

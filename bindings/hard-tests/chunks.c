@@ -1,5 +1,5 @@
 /* SPDX-License-Identifier: MIT */
-/* The filter and the normal form in pieces: what they write of a stream in any pieces is what the
+/* The filter and the normal form in chunks: what they write of a stream in any chunks is what the
  * call that takes it whole writes. */
 #include "hard.h"
 #include "escape_stream.h"
@@ -7,7 +7,7 @@
 #include <string.h>
 
 /* A filter or a normalizer, which has the same fields. */
-union in_pieces {
+union in_chunks {
     bool is_begun;
     struct escape_stream_filter_state filter;
     struct escape_stream_normalizer normalizer;
@@ -16,32 +16,32 @@ union in_pieces {
 static struct area areas[2], outs;
 static uint8_t given[TEXT_ROOM];
 
-void begin_pieces(void) {
+void begin_chunks(void) {
     areas[0] = guarded(PAGE);
     areas[1] = guarded(PAGE);
     outs = guarded(TEXT_ROOM);
 }
 
-static uint32_t begin_it(const struct text_call *call, union in_pieces *it) {
+static uint32_t begin_it(const struct text_call *call, union in_chunks *it) {
     at_hand.calls++;
     return call->filters ? escape_stream_filter_begin(&it->filter, call->policy, call->limit)
                          : escape_stream_normal_begin(&it->normalizer, call->limit);
 }
 
-static uint32_t feed_it(const struct text_call *call, union in_pieces *it, struct bytes piece) {
+static uint32_t feed_it(const struct text_call *call, union in_chunks *it, struct bytes chunk) {
     at_hand.calls++;
-    return call->filters ? escape_stream_filter_feed(&it->filter, piece.at, piece.length)
-                         : escape_stream_normal_feed(&it->normalizer, piece.at, piece.length);
+    return call->filters ? escape_stream_filter_feed(&it->filter, chunk.at, chunk.length)
+                         : escape_stream_normal_feed(&it->normalizer, chunk.at, chunk.length);
 }
 
 static size_t text_of(
-    const struct text_call *call, union in_pieces *it, size_t from, uint8_t *out, size_t capacity) {
+    const struct text_call *call, union in_chunks *it, size_t from, uint8_t *out, size_t capacity) {
     at_hand.calls++;
     return call->filters ? escape_stream_filter_text(&it->filter, from, out, capacity)
                          : escape_stream_normal_text(&it->normalizer, from, out, capacity);
 }
 
-static void end_it(const struct text_call *call, union in_pieces *it) {
+static void end_it(const struct text_call *call, union in_chunks *it) {
     at_hand.calls++;
     if (call->filters)
         escape_stream_filter_end(&it->filter);
@@ -50,9 +50,9 @@ static void end_it(const struct text_call *call, union in_pieces *it) {
 }
 
 /* A copy at another place is the same filter or normalizer; the one before it is overwritten. */
-static union in_pieces *moved(union in_pieces *it) {
+static union in_chunks *moved(union in_chunks *it) {
     static size_t next;
-    union in_pieces *copy = (void *)placed(&areas[next++ % 2], sizeof *copy);
+    union in_chunks *copy = (void *)placed(&areas[next++ % 2], sizeof *copy);
     if (copy == it)
         return it;
     memmove(copy, it, sizeof *copy);
@@ -62,7 +62,7 @@ static union in_pieces *moved(union in_pieces *it) {
 
 /* A text can be read twice, from each of its bytes; past its end there is none. */
 static void
-check_again(const struct text_call *call, union in_pieces *it, struct bytes text, size_t capacity) {
+check_again(const struct text_call *call, union in_chunks *it, struct bytes text, size_t capacity) {
     size_t from = below(text.length + 3), rest = from < text.length ? text.length - from : 0;
     size_t fits = rest < capacity ? rest : capacity;
     uint8_t *out = placed(&outs, capacity);
@@ -73,9 +73,9 @@ check_again(const struct text_call *call, union in_pieces *it, struct bytes text
     memset(out, JUNK, fits);
 }
 
-/* Adds what the last piece wrote, read in room for so many bytes at a time, to what was given. */
+/* Adds what the last chunk wrote, read in room for so many bytes at a time, to what was given. */
 static size_t
-add_text(const struct text_call *call, union in_pieces *it, size_t capacity, size_t length) {
+add_text(const struct text_call *call, union in_chunks *it, size_t capacity, size_t length) {
     size_t count, from = 0, before = length;
     do {
         uint8_t *out = placed(&outs, capacity);
@@ -96,7 +96,7 @@ add_text(const struct text_call *call, union in_pieces *it, size_t capacity, siz
 }
 
 /* The end of a stream adds nothing to its normal form, and takes no memory. */
-static void check_finish(union in_pieces *it) {
+static void check_finish(union in_chunks *it) {
     requests = 0;
     at_hand.calls++;
     if (escape_stream_normal_finish(&it->normalizer) != ESCAPE_STREAM_DONE || requests != 0)
@@ -107,13 +107,13 @@ static void check_finish(union in_pieces *it) {
 
 /* Feeds the stream. The request for memory with the number `at` is refused, where that is not 0. */
 static size_t
-feed(const struct text_call *call, union in_pieces *it, size_t way, size_t at, uint32_t *status) {
+feed(const struct text_call *call, union in_chunks *it, size_t way, size_t at, uint32_t *status) {
     size_t length = 0, capacity = one_in(4) ? 1 + below(4096) : 1 + below(40);
     struct bytes stream = call->stream;
     requests = 0;
     refused = at;
     while (stream.length > 0 && *status == ESCAPE_STREAM_DONE) {
-        size_t count = piece_length(way, stream.length);
+        size_t count = chunk_length(way, stream.length);
         *status = feed_it(call, it, lent((struct bytes){stream.at, count}));
         length = add_text(call, it, capacity, length);
         stream.at += count;
@@ -134,27 +134,27 @@ feed(const struct text_call *call, union in_pieces *it, size_t way, size_t at, u
 }
 
 /* Begins a filter or a normalizer. One that was begun before, and fed, is ended first. */
-static void begin(const struct text_call *call, union in_pieces *it) {
+static void begin(const struct text_call *call, union in_chunks *it) {
     memset(it, 0, sizeof *it);
     for (size_t times = one_in(8) ? 2 : 1; times > 0; times--) {
-        struct bytes piece = lent((struct bytes){call->stream.at, below(call->stream.length + 1)});
+        struct bytes chunk = lent((struct bytes){call->stream.at, below(call->stream.length + 1)});
         if (begin_it(call, it) != ESCAPE_STREAM_DONE)
             fails("it was not begun", call->policy);
-        if (times > 1 && feed_it(call, it, piece) != ESCAPE_STREAM_DONE)
-            fails("it was not fed", piece.length);
+        if (times > 1 && feed_it(call, it, chunk) != ESCAPE_STREAM_DONE)
+            fails("it was not fed", chunk.length);
     }
 }
 
-/* Checks that `text` is written of the stream of a call, in pieces. */
-void check_pieces(const struct text_call *call, struct bytes text) {
-    union in_pieces *it = (void *)placed(&areas[0], sizeof *it);
+/* Checks that `text` is written of the stream of a call, in chunks. */
+void check_chunks(const struct text_call *call, struct bytes text) {
+    union in_chunks *it = (void *)placed(&areas[0], sizeof *it);
     size_t at = one_in(8) ? 1 + below(16) : 0, way = one_in(4) ? below(40) : 1, length;
     uint32_t status = ESCAPE_STREAM_DONE;
     at_hand.call = call->filters ? "escape_stream_filter_feed" : "escape_stream_normal_feed";
     begin(call, it);
     length = feed(call, it, way, at, &status);
     if (length > text.length || memcmp(given, text.at, length) != 0)
-        fails("another text in pieces, after bytes", length);
+        fails("another text in chunks, after bytes", length);
     if (status == ESCAPE_STREAM_NO_MEMORY && at != 0)
         at_hand.refusals++;
     else if (status != ESCAPE_STREAM_DONE || length != text.length)

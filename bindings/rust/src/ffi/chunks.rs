@@ -1,5 +1,5 @@
 // SPDX-License-Identifier: MIT
-//! The calls that take a stream in pieces: a filter, a sanitizer, a page and a normalizer.
+//! The calls that take a stream in chunks: a filter, a sanitizer, a page and a normalizer.
 use super::{NOT_BEGUN, done, number};
 use crate::{Account, Error, Policy};
 
@@ -67,7 +67,7 @@ const TOO_MANY_ROWS: u32 = 14;
 
 // What they have in common: the struct, whose fields are the library's, and the calls but that
 // which begins it. What it points to is in use by it alone, since it is never copied.
-macro_rules! in_pieces {
+macro_rules! in_chunks {
     ($(#[$doc:meta])* $name:ident, $feed:ident, $finish:ident, $text:ident, $end:ident) => {
         $(#[$doc])*
         #[repr(C)]
@@ -93,7 +93,7 @@ macro_rules! in_pieces {
                 }
             }
 
-            /// Takes a piece.
+            /// Takes a chunk.
             pub fn feed(&mut self, bytes: &[u8]) -> Result<(), Error> {
                 // SAFETY: as in `begin`. By clause `refused` there is no other status than these.
                 match unsafe { $feed(self, bytes.as_ptr(), bytes.len()) } {
@@ -127,8 +127,8 @@ macro_rules! in_pieces {
     };
 }
 
-in_pieces! {
-    /// A filter of a stream in pieces.
+in_chunks! {
+    /// A filter of a stream in chunks.
     Filter,
     escape_stream_filter_feed,
     escape_stream_filter_finish,
@@ -136,8 +136,8 @@ in_pieces! {
     escape_stream_filter_end
 }
 
-in_pieces! {
-    /// A page of a stream in pieces.
+in_chunks! {
+    /// A page of a stream in chunks.
     Page,
     escape_stream_html_feed,
     escape_stream_html_finish,
@@ -145,8 +145,8 @@ in_pieces! {
     escape_stream_html_end
 }
 
-in_pieces! {
-    /// The normal form of a stream in pieces.
+in_chunks! {
+    /// The normal form of a stream in chunks.
     Normalizer,
     escape_stream_normal_feed,
     escape_stream_normal_finish,
@@ -154,8 +154,8 @@ in_pieces! {
     escape_stream_normal_end
 }
 
-in_pieces! {
-    /// A sanitizer of a stream in pieces.
+in_chunks! {
+    /// A sanitizer of a stream in chunks.
     Sanitizer,
     escape_stream_sanitizer_feed,
     escape_stream_sanitizer_finish,

@@ -1,5 +1,5 @@
 // SPDX-License-Identifier: MIT
-//! What takes a stream in pieces, and has the text of each: a filter, a sanitizer, a page and a
+//! What takes a stream in chunks, and has the text of each: a filter, a sanitizer, a page and a
 //! normalizer.
 #[cfg(feature = "std")]
 use crate::Error;
@@ -26,9 +26,9 @@ pub(crate) fn in_parts(
 
 /// A filter, a sanitizer or a normalizer, for readers and writers.
 #[cfg(feature = "std")]
-pub(crate) trait InPieces {
-    /// Takes the next piece.
-    fn feed(&mut self, piece: &[u8]) -> Result<(), Error>;
+pub(crate) trait InChunks {
+    /// Takes the next chunk.
+    fn feed(&mut self, chunk: &[u8]) -> Result<(), Error>;
 
     /// Ends the stream, and begins the next, where there is one.
     fn finish(&mut self) -> Result<(), Error>;
@@ -38,9 +38,9 @@ pub(crate) trait InPieces {
 }
 
 #[cfg(feature = "std")]
-impl InPieces for crate::PieceFilter {
-    fn feed(&mut self, piece: &[u8]) -> Result<(), Error> {
-        self.feed(piece)
+impl InChunks for crate::ChunkFilter {
+    fn feed(&mut self, chunk: &[u8]) -> Result<(), Error> {
+        self.feed(chunk)
     }
 
     fn finish(&mut self) -> Result<(), Error> {
@@ -53,9 +53,9 @@ impl InPieces for crate::PieceFilter {
 }
 
 #[cfg(feature = "std")]
-impl InPieces for crate::Normalizer {
-    fn feed(&mut self, piece: &[u8]) -> Result<(), Error> {
-        self.feed(piece)
+impl InChunks for crate::Normalizer {
+    fn feed(&mut self, chunk: &[u8]) -> Result<(), Error> {
+        self.feed(chunk)
     }
 
     fn finish(&mut self) -> Result<(), Error> {
@@ -68,9 +68,9 @@ impl InPieces for crate::Normalizer {
 }
 
 #[cfg(feature = "std")]
-impl InPieces for crate::Sanitizer {
-    fn feed(&mut self, piece: &[u8]) -> Result<(), Error> {
-        self.feed(piece)
+impl InChunks for crate::Sanitizer {
+    fn feed(&mut self, chunk: &[u8]) -> Result<(), Error> {
+        self.feed(chunk)
     }
 
     fn finish(&mut self) -> Result<(), Error> {
