@@ -1,6 +1,6 @@
 // SPDX-License-Identifier: MIT
 
-// Package escapestream filters, normalizes and parses streams of terminal escape sequences of
+// Package escapestream filters, normalises and parses streams of terminal escape sequences of
 // unknown origin, and writes them as HTML, over the proved library escape_stream by cgo.
 //
 // A stream is bytes as a program writes them to a terminal: UTF-8 text, control characters, and the

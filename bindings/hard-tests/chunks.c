@@ -6,11 +6,11 @@
 
 #include <string.h>
 
-/* A filter or a normalizer, which has the same fields. */
+/* A filter or a normaliser, which has the same fields. */
 union in_chunks {
     bool is_begun;
     struct escape_stream_filter_state filter;
-    struct escape_stream_normalizer normalizer;
+    struct escape_stream_normaliser normaliser;
 };
 
 static struct area areas[2], outs;
@@ -25,20 +25,20 @@ void begin_chunks(void) {
 static uint32_t begin_it(const struct text_call *call, union in_chunks *it) {
     at_hand.calls++;
     return call->filters ? escape_stream_filter_begin(&it->filter, call->policy, call->limit)
-                         : escape_stream_normal_begin(&it->normalizer, call->limit);
+                         : escape_stream_normal_begin(&it->normaliser, call->limit);
 }
 
 static uint32_t feed_it(const struct text_call *call, union in_chunks *it, struct bytes chunk) {
     at_hand.calls++;
     return call->filters ? escape_stream_filter_feed(&it->filter, chunk.at, chunk.length)
-                         : escape_stream_normal_feed(&it->normalizer, chunk.at, chunk.length);
+                         : escape_stream_normal_feed(&it->normaliser, chunk.at, chunk.length);
 }
 
 static size_t text_of(
     const struct text_call *call, union in_chunks *it, size_t from, uint8_t *out, size_t capacity) {
     at_hand.calls++;
     return call->filters ? escape_stream_filter_text(&it->filter, from, out, capacity)
-                         : escape_stream_normal_text(&it->normalizer, from, out, capacity);
+                         : escape_stream_normal_text(&it->normaliser, from, out, capacity);
 }
 
 static void end_it(const struct text_call *call, union in_chunks *it) {
@@ -46,10 +46,10 @@ static void end_it(const struct text_call *call, union in_chunks *it) {
     if (call->filters)
         escape_stream_filter_end(&it->filter);
     else
-        escape_stream_normal_end(&it->normalizer);
+        escape_stream_normal_end(&it->normaliser);
 }
 
-/* A copy at another place is the same filter or normalizer; the one before it is overwritten. */
+/* A copy at another place is the same filter or normaliser; the one before it is overwritten. */
 static union in_chunks *moved(union in_chunks *it) {
     static size_t next;
     union in_chunks *copy = (void *)placed(&areas[next++ % 2], sizeof *copy);
@@ -99,9 +99,9 @@ add_text(const struct text_call *call, union in_chunks *it, size_t capacity, siz
 static void check_finish(union in_chunks *it) {
     requests = 0;
     at_hand.calls++;
-    if (escape_stream_normal_finish(&it->normalizer) != ESCAPE_STREAM_DONE || requests != 0)
+    if (escape_stream_normal_finish(&it->normaliser) != ESCAPE_STREAM_DONE || requests != 0)
         fails("another status of an end, or a request for memory", (size_t)requests);
-    if (escape_stream_normal_text(&it->normalizer, 0, placed(&outs, 1), 1) != 0)
+    if (escape_stream_normal_text(&it->normaliser, 0, placed(&outs, 1), 1) != 0)
         fails("the end added a text", 0);
 }
 
@@ -133,7 +133,7 @@ feed(const struct text_call *call, union in_chunks *it, size_t way, size_t at, u
     return length;
 }
 
-/* Begins a filter or a normalizer. One that was begun before, and fed, is ended first. */
+/* Begins a filter or a normaliser. One that was begun before, and fed, is ended first. */
 static void begin(const struct text_call *call, union in_chunks *it) {
     memset(it, 0, sizeof *it);
     for (size_t times = one_in(8) ? 2 : 1; times > 0; times--) {

@@ -12,5 +12,5 @@ export {
   normalStream,
   stripStream,
 } from "./src/streams.js";
-export { Filter, HtmlWriter, Normalizer, filter, normal, strip, toHtml } from "./src/texts.js";
+export { Filter, HtmlWriter, Normaliser, filter, normal, strip, toHtml } from "./src/texts.js";
 export { DEFAULT_LIMIT, use } from "./src/wasm.js";

@@ -83,7 +83,7 @@ export class Filter extends Kept {
 }
 
 /** The normal form of a stream that comes in chunks. */
-export class Normalizer extends Kept {
+export class Normaliser extends Kept {
   constructor(options?: Limit);
   /** Takes the next chunk of the stream, and returns what it adds. */
   feed(chunk: string): string;

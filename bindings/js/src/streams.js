@@ -1,7 +1,7 @@
 // SPDX-License-Identifier: MIT
 // The same as transformers of streams, for `pipeThrough`.
 import { Parser } from "./parser.js";
-import { Filter, HtmlWriter, Normalizer } from "./texts.js";
+import { Filter, HtmlWriter, Normaliser } from "./texts.js";
 
 /*
  * A stream over what `make` returns: `take` gives what the next chunk adds, and `end` what the end
@@ -37,7 +37,7 @@ export const filterStream = (policy, options) => texts(() => new Filter(policy, 
 
 export const stripStream = (options) => filterStream("text", options);
 
-export const normalStream = (options) => texts(() => new Normalizer(options));
+export const normalStream = (options) => texts(() => new Normaliser(options));
 
 export const htmlStream = (options) => texts(() => new HtmlWriter(options));
 

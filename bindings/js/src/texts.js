@@ -97,10 +97,10 @@ export class Filter extends AsGiven {
   }
 }
 
-export class Normalizer extends AsGiven {
+export class Normaliser extends AsGiven {
   constructor({ limit } = {}) {
     const most = limitOf(limit);
-    super("normal", "normalizer", (at) => calls.normal_begin(at, most));
+    super("normal", "normaliser", (at) => calls.normal_begin(at, most));
   }
 }
 
@@ -133,6 +133,6 @@ export const filter = (stream, policy, options) => whole(new Filter(policy, opti
 
 export const strip = (stream, options) => filter(stream, "text", options);
 
-export const normal = (stream, options) => whole(new Normalizer(options), stream);
+export const normal = (stream, options) => whole(new Normaliser(options), stream);
 
 export const toHtml = (stream, options) => whole(new HtmlWriter(options), stream, true);

@@ -2,14 +2,14 @@
 // What is taken is given back, and a refusal of memory leaves the module as it was.
 import assert from "node:assert/strict";
 import test from "node:test";
-import { Filter, HtmlWriter, Normalizer, Parser, actions, strip, toHtml } from "../index.js";
+import { Filter, HtmlWriter, Normaliser, Parser, actions, strip, toHtml } from "../index.js";
 import { calls } from "../src/wasm.js";
 
 const size = () => calls.memory.buffer.byteLength;
 
 test("objects that were disposed of keep nothing", () => {
   const round = () => {
-    for (const it of [new Filter("all"), new Normalizer(), new HtmlWriter(), new Parser()]) {
+    for (const it of [new Filter("all"), new Normaliser(), new HtmlWriter(), new Parser()]) {
       if (it instanceof Parser) it.actions("\x1b]2;" + "x".repeat(10_000));
       else it.feed("\x1b]2;" + "x".repeat(10_000));
       it.dispose();

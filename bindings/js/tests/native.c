@@ -64,7 +64,7 @@ static void check(uint32_t status)
         exit(4);
 }
 
-/* Puts the text of a filter, a page or a normalizer. */
+/* Puts the text of a filter, a page or a normaliser. */
 #define PUT_TEXT(name, it)                                                                       \
     do {                                                                                         \
         static uint8_t room[4096];                                                               \
@@ -106,7 +106,7 @@ static void write_filters(const uint8_t *bytes, size_t length)
 
 static void write_normals(const uint8_t *bytes, size_t length)
 {
-    struct escape_stream_normalizer it = {0};
+    struct escape_stream_normaliser it = {0};
     size_t needed = 0;
     uint8_t none = 0, *out;
     check(escape_stream_normal(bytes, length, &none, 0, &needed));

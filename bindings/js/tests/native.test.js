@@ -4,7 +4,7 @@
 import assert from "node:assert/strict";
 import { spawnSync } from "node:child_process";
 import test from "node:test";
-import { Filter, HtmlWriter, Normalizer, Parser, filter, normal, toHtml } from "../index.js";
+import { Filter, HtmlWriter, Normaliser, Parser, filter, normal, toHtml } from "../index.js";
 import { chunks, streams } from "./rows.js";
 
 const POLICIES = ["text", "color", "screen", "all"];
@@ -64,7 +64,7 @@ function* textsOf(stream) {
     yield [`filter ${policy} in chunks`, inChunks(new Filter(policy), stream, 7)];
   }
   yield ["normal", normal(stream, { limit: stream.length })];
-  yield ["normal in chunks", inChunks(new Normalizer(), stream, 3)];
+  yield ["normal in chunks", inChunks(new Normaliser(), stream, 3)];
   yield ["html", toHtml(stream)];
   yield ["html by lines", inChunks(new HtmlWriter({ perLine: true, inline: true }), stream, 5)];
   yield ["events", eventsOf(stream)];

@@ -3,7 +3,7 @@ import assert from "node:assert/strict";
 import { execFileSync } from "node:child_process";
 import { readFileSync } from "node:fs";
 import test from "node:test";
-import { Filter, HtmlWriter, Normalizer, filter, normal, strip, toHtml } from "../index.js";
+import { Filter, HtmlWriter, Normaliser, filter, normal, strip, toHtml } from "../index.js";
 import { chunks, rows } from "./rows.js";
 
 const POLICIES = { "as-text": "text", "as-color": "color", "as-screen": "screen", "as-all": "all" };
@@ -28,7 +28,7 @@ test("normal forms of the tables", () => {
     const text = row.bytes("text") ?? stream;
     assert.deepEqual(Buffer.from(normal(stream, { limit: stream.length })), text, row.name);
     for (const size of sizesOf(stream)) {
-      const [found, end] = fed(new Normalizer({ limit: stream.length }), chunks(stream, size));
+      const [found, end] = fed(new Normaliser({ limit: stream.length }), chunks(stream, size));
       assert.deepEqual(Buffer.concat([found, end]), text, `${row.name}, ${size}`);
     }
     count++;
@@ -147,7 +147,7 @@ test("what is no stream, no policy and no limit", () => {
 });
 
 test("what is disposed of", () => {
-  for (const make of [() => new Filter(), () => new Normalizer(), () => new HtmlWriter()]) {
+  for (const make of [() => new Filter(), () => new Normaliser(), () => new HtmlWriter()]) {
     const it = make();
     it.dispose();
     it.dispose();

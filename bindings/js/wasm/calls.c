@@ -21,7 +21,7 @@
 /* What JavaScript reads and writes by its place. */
 _Static_assert(sizeof(struct escape_stream_filter_state) == 16, "a filter");
 _Static_assert(sizeof(struct escape_stream_html) == 16, "a page");
-_Static_assert(sizeof(struct escape_stream_normalizer) == 16, "a normalizer");
+_Static_assert(sizeof(struct escape_stream_normaliser) == 16, "a normaliser");
 _Static_assert(sizeof(struct escape_stream_function_info) == 98, "a function");
 _Static_assert(offsetof(struct escape_stream_function_info, phrase) == 16, "its phrase");
 _Static_assert(offsetof(struct escape_stream_function_info, changes_screen) == 96, "its first flag");
@@ -61,7 +61,7 @@ EXPORTED(give, "(i32) -> ()");
 NUMBER host_take(NUMBER length) { return (NUMBER)(size_t)heap_take(length); }
 void host_give(NUMBER at) { heap_give(BYTES(at)); }
 
-/* The four calls that a filter, a page and a normalizer have in common. */
+/* The four calls that a filter, a page and a normaliser have in common. */
 #define IN_CHUNKS(name, type)                                                              \
     EXPORTED(name##_feed, "(i32, i32, i32) -> (i32)");                                     \
     EXPORTED(name##_finish, "(i32) -> (i32)");                                             \
@@ -83,7 +83,7 @@ void host_give(NUMBER at) { heap_give(BYTES(at)); }
 
 IN_CHUNKS(filter, struct escape_stream_filter_state)
 IN_CHUNKS(html, struct escape_stream_html)
-IN_CHUNKS(normal, struct escape_stream_normalizer)
+IN_CHUNKS(normal, struct escape_stream_normaliser)
 
 EXPORTED(filter_begin, "(i32, i32, i32) -> (i32)");
 NUMBER host_filter_begin(NUMBER it, NUMBER policy, NUMBER limit)
@@ -101,7 +101,7 @@ NUMBER host_html_begin(NUMBER it, NUMBER per_line, NUMBER is_inline, NUMBER limi
 EXPORTED(normal_begin, "(i32, i32) -> (i32)");
 NUMBER host_normal_begin(NUMBER it, NUMBER limit)
 {
-    return escape_stream_normal_begin(AT(struct escape_stream_normalizer, it), limit);
+    return escape_stream_normal_begin(AT(struct escape_stream_normaliser, it), limit);
 }
 
 EXPORTED(function, "(i32, i32, i32, i32, i32) -> (i32)");

@@ -39,7 +39,7 @@ from escape_stream._functions import Function, function
 from escape_stream._html import Page, html
 from escape_stream._images import Image, ImageKind, Medium, image
 from escape_stream._library import VERSION as __version__
-from escape_stream._normalizer import Normalizer
+from escape_stream._normaliser import Normaliser
 from escape_stream._parser import Parser, events, joined
 from escape_stream._sanitizer import (
     MOST_ROWS,
@@ -83,7 +83,7 @@ __all__ = [
     "LimitPassed",
     "Links",
     "Medium",
-    "Normalizer",
+    "Normaliser",
     "Osc",
     "Page",
     "Parser",

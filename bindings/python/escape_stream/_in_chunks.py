@@ -13,7 +13,7 @@ _Self = TypeVar("_Self", bound="InChunks")
 
 
 class InChunks:
-    """A filter, a sanitizer or a normalizer. Any thread may use it, and one at a time."""
+    """A filter, a sanitizer or a normaliser. Any thread may use it, and one at a time."""
 
     # What it is called, and the calls of the library: these take its struct first.
     _name: ClassVar[str]

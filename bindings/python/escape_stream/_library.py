@@ -92,8 +92,8 @@ class RawPage(Structure):
     _fields_ = [("is_begun", c_bool), ("state", c_void_p)]
 
 
-class RawNormalizer(Structure):
-    """`struct escape_stream_normalizer`."""
+class RawNormaliser(Structure):
+    """`struct escape_stream_normaliser`."""
 
     _fields_ = [("is_begun", c_bool), ("state", c_void_p)]
 
@@ -275,23 +275,23 @@ html_end.argtypes = (POINTER(RawPage),)
 html_end.restype = None
 
 normal_begin = _short.escape_stream_normal_begin
-normal_begin.argtypes = (POINTER(RawNormalizer), c_size_t)
+normal_begin.argtypes = (POINTER(RawNormaliser), c_size_t)
 normal_begin.restype = c_uint32
 
 normal_feed = _long.escape_stream_normal_feed
-normal_feed.argtypes = (POINTER(RawNormalizer), *_length)
+normal_feed.argtypes = (POINTER(RawNormaliser), *_length)
 normal_feed.restype = c_uint32
 
 normal_finish = _short.escape_stream_normal_finish
-normal_finish.argtypes = (POINTER(RawNormalizer),)
+normal_finish.argtypes = (POINTER(RawNormaliser),)
 normal_finish.restype = c_uint32
 
 normal_text = _short.escape_stream_normal_text
-normal_text.argtypes = (POINTER(RawNormalizer), c_size_t, *_room)
+normal_text.argtypes = (POINTER(RawNormaliser), c_size_t, *_room)
 normal_text.restype = c_size_t
 
 normal_end = _short.escape_stream_normal_end
-normal_end.argtypes = (POINTER(RawNormalizer),)
+normal_end.argtypes = (POINTER(RawNormaliser),)
 normal_end.restype = None
 
 # Many events at one call: the calls and the struct `many` of events.c. It begins with how many bytes

@@ -8,7 +8,7 @@ import threading
 
 import pytest
 
-from escape_stream import Filter, Normalizer, Parser, Policy, filter, is_normal, normal
+from escape_stream import Filter, Normaliser, Parser, Policy, filter, is_normal, normal
 
 HOSTILE = b"a\x1b]0;a title\x07 \x1b[1;31mred\x1b[2J"
 
@@ -41,18 +41,18 @@ def test_a_closed_filter() -> None:
         other.feed(b"a")
 
 
-def test_a_closed_normalizer() -> None:
-    it = Normalizer(limit=3)
+def test_a_closed_normaliser() -> None:
+    it = Normaliser(limit=3)
     assert it.feed(b"a\x1b[01") == b"a"
     assert it.finish() == b""
     assert it.feed(b"m\x1b]2;ab\x07\x1b]2;a\x07") == b"m\x1b]2;a\x1b\\"
     it.close()
     it.close()
     for call in (lambda: it.feed(b"a"), it.finish):
-        with pytest.raises(ValueError, match="the normalizer is closed"):
+        with pytest.raises(ValueError, match="the normaliser is closed"):
             call()
     with pytest.raises(ValueError, match="limit"):
-        Normalizer(-1)
+        Normaliser(-1)
 
 
 def test_a_filter_goes_from_thread_to_thread() -> None:
@@ -104,7 +104,7 @@ def test_texts_longer_than_their_streams() -> None:
 
 def test_what_is_no_stream() -> None:
     for wrong in (5, "text", None):
-        for call in (filter, normal, is_normal, Filter().feed, Normalizer().feed):
+        for call in (filter, normal, is_normal, Filter().feed, Normaliser().feed):
             with pytest.raises(TypeError):
                 call(wrong)  # type: ignore[operator]
     with pytest.raises(ValueError, match="limit"):

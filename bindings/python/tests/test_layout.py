@@ -35,7 +35,7 @@ STRUCTS: dict[str, type[ctypes.Structure]] = {
     "escape_stream_sanitizer_options": _library.RawSanitizerOptions,
     "escape_stream_account": _library.RawAccount,
     "escape_stream_html": _library.RawPage,
-    "escape_stream_normalizer": _library.RawNormalizer,
+    "escape_stream_normaliser": _library.RawNormaliser,
     "escape_stream_function_info": _library.RawFunction,
     "escape_stream_field": _library.RawField,
     "escape_stream_osc": _library.RawOsc,

@@ -3,7 +3,7 @@
 
 from rows import cuts, rows
 
-from escape_stream import Filter, Normalizer, Policy, events, filter, is_normal, joined, normal
+from escape_stream import Filter, Normaliser, Policy, events, filter, is_normal, joined, normal
 
 POLICIES = {
     "as-text": Policy.TEXT,
@@ -33,7 +33,7 @@ def test_normal_forms() -> None:
         assert normal(stream) == text, row.name
         assert is_normal(stream) == (text == stream), row.name
         for chunks in chunks_of(stream):
-            with Normalizer(len(stream)) as it:
+            with Normaliser(len(stream)) as it:
                 assert b"".join(map(it.feed, chunks)) + it.finish() == text, (row.name, len(chunks))
         count += 1
     assert count > 300

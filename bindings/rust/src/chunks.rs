@@ -1,6 +1,6 @@
 // SPDX-License-Identifier: MIT
 //! What takes a stream in chunks, and has the text of each: a filter, a sanitizer, a page and a
-//! normalizer.
+//! normaliser.
 #[cfg(feature = "std")]
 use crate::Error;
 
@@ -24,7 +24,7 @@ pub(crate) fn in_parts(
     }
 }
 
-/// A filter, a sanitizer or a normalizer, for readers and writers.
+/// A filter, a sanitizer or a normaliser, for readers and writers.
 #[cfg(feature = "std")]
 pub(crate) trait InChunks {
     /// Takes the next chunk.
@@ -53,7 +53,7 @@ impl InChunks for crate::ChunkFilter {
 }
 
 #[cfg(feature = "std")]
-impl InChunks for crate::Normalizer {
+impl InChunks for crate::Normaliser {
     fn feed(&mut self, chunk: &[u8]) -> Result<(), Error> {
         self.feed(chunk)
     }

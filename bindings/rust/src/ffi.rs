@@ -16,7 +16,7 @@ mod chunks;
 #[cfg(feature = "oneshot")]
 mod texts;
 #[cfg(feature = "oneshot")]
-pub use chunks::{Filter, Normalizer, Page, Sanitizer, SanitizerOptions};
+pub use chunks::{Filter, Normaliser, Page, Sanitizer, SanitizerOptions};
 #[cfg(feature = "oneshot")]
 pub use texts::{
     Field, NO_FIELD, NO_ITEM, Said, Sixel, SixelItem, read_kitty, read_osc, read_sixel, read_tcap,

@@ -17,7 +17,7 @@
 //! The work is done by a library that is proved: what each call writes is what its contract says,
 //! for every stream. This crate is not proved. Its module `ffi` is its one place with unsafe code.
 //! Without the feature `std`, a default, it is `no_std`, over `alloc`, and has [`ChunkFilter`] and
-//! [`Normalizer`] in the place of the readers and writers.
+//! [`Normaliser`] in the place of the readers and writers.
 //!
 //! Without the feature `oneshot`, a default, there are the parsers alone, and of the archive
 //! nothing else is linked.
@@ -61,7 +61,7 @@ mod function_rows;
 #[cfg(feature = "oneshot")]
 pub mod html;
 #[cfg(feature = "oneshot")]
-mod normalizer;
+mod normaliser;
 mod numbered;
 #[cfg(feature = "oneshot")]
 mod oneshot;
@@ -94,7 +94,7 @@ pub use filter::ChunkFilter;
 pub use function::Effect;
 pub use function_rows::{C0, ControlFunction, EscapeFunction};
 #[cfg(feature = "oneshot")]
-pub use normalizer::Normalizer;
+pub use normaliser::Normaliser;
 #[cfg(feature = "oneshot")]
 pub use oneshot::{Policy, filter, filter_into, is_normal, normal, normal_into};
 pub use parameters::{Parameters, dcs_numbers, osc_number, osc_parts};
@@ -124,7 +124,7 @@ pub enum Error {
     /// A request for memory was refused. Nothing was written.
     Memory,
     /// A [`Parser`] failed, and gives nothing any more: the clause `sound` of the library's call
-    /// excludes it. Or a filter, a page or a normalizer in chunks was refused memory before, or has
+    /// excludes it. Or a filter, a page or a normaliser in chunks was refused memory before, or has
     /// ended. Or the fields of a command are none that its kind has, which the library's call
     /// excludes too.
     Failed,

@@ -1,7 +1,7 @@
 // SPDX-License-Identifier: MIT
 //! Readers that filter, and that normalise.
 use crate::chunks::InChunks;
-use crate::{ChunkFilter, Error, Normalizer, Policy};
+use crate::{ChunkFilter, Error, Normaliser, Policy};
 use std::io::{self, Read};
 use std::vec;
 use std::vec::Vec;
@@ -102,17 +102,17 @@ impl<R: Read> Read for FilterReader<R> {
 /// ```
 #[derive(Debug)]
 pub struct NormalReader<R> {
-    reader: ChunkReader<R, Normalizer>,
+    reader: ChunkReader<R, Normaliser>,
 }
 
 impl<R: Read> NormalReader<R> {
-    /// A normalizer at the beginning of a stream, which keeps at most 1,048,576 bytes of a string.
+    /// A normaliser at the beginning of a stream, which keeps at most 1,048,576 bytes of a string.
     ///
     /// # Errors
     ///
     /// [`Error::Memory`] where a request for memory was refused.
     pub fn new(inner: R) -> Result<NormalReader<R>, Error> {
-        Ok(NormalReader::over(inner, Normalizer::new()?))
+        Ok(NormalReader::over(inner, Normaliser::new()?))
     }
 
     /// The same with another limit: of a string with more bytes nothing is read.
@@ -121,12 +121,12 @@ impl<R: Read> NormalReader<R> {
     ///
     /// [`Error::Memory`] where a request for memory was refused.
     pub fn with_limit(inner: R, limit: usize) -> Result<NormalReader<R>, Error> {
-        Ok(NormalReader::over(inner, Normalizer::with_limit(limit)?))
+        Ok(NormalReader::over(inner, Normaliser::with_limit(limit)?))
     }
 
-    fn over(inner: R, normalizer: Normalizer) -> NormalReader<R> {
+    fn over(inner: R, normaliser: Normaliser) -> NormalReader<R> {
         NormalReader {
-            reader: ChunkReader::new(inner, normalizer),
+            reader: ChunkReader::new(inner, normaliser),
         }
     }
 
@@ -154,7 +154,7 @@ impl<R: Read> Read for NormalReader<R> {
     }
 }
 
-// Reads what a filter or a normalizer has of what another reader gives.
+// Reads what a filter or a normaliser has of what another reader gives.
 #[derive(Debug)]
 pub(crate) struct ChunkReader<R, P> {
     pub(crate) inner: R,

@@ -1,7 +1,7 @@
 // SPDX-License-Identifier: MIT
 //! Writers that filter, and that normalise.
 use crate::chunks::InChunks;
-use crate::{ChunkFilter, Error, Normalizer, Policy};
+use crate::{ChunkFilter, Error, Normaliser, Policy};
 use std::io::{self, ErrorKind, Write};
 use std::vec;
 use std::vec::Vec;
@@ -119,17 +119,17 @@ impl<W: Write> Write for Filter<W> {
 /// ```
 #[derive(Debug)]
 pub struct NormalWriter<W: Write> {
-    writer: ChunkWriter<W, Normalizer>,
+    writer: ChunkWriter<W, Normaliser>,
 }
 
 impl<W: Write> NormalWriter<W> {
-    /// A normalizer at the beginning of a stream, which keeps at most 1,048,576 bytes of a string.
+    /// A normaliser at the beginning of a stream, which keeps at most 1,048,576 bytes of a string.
     ///
     /// # Errors
     ///
     /// [`Error::Memory`] where a request for memory was refused.
     pub fn new(inner: W) -> Result<NormalWriter<W>, Error> {
-        Ok(NormalWriter::over(inner, Normalizer::new()?))
+        Ok(NormalWriter::over(inner, Normaliser::new()?))
     }
 
     /// The same with another limit: of a string with more bytes nothing is written.
@@ -138,12 +138,12 @@ impl<W: Write> NormalWriter<W> {
     ///
     /// [`Error::Memory`] where a request for memory was refused.
     pub fn with_limit(inner: W, limit: usize) -> Result<NormalWriter<W>, Error> {
-        Ok(NormalWriter::over(inner, Normalizer::with_limit(limit)?))
+        Ok(NormalWriter::over(inner, Normaliser::with_limit(limit)?))
     }
 
-    fn over(inner: W, normalizer: Normalizer) -> NormalWriter<W> {
+    fn over(inner: W, normaliser: Normaliser) -> NormalWriter<W> {
         NormalWriter {
-            writer: ChunkWriter::new(inner, normalizer),
+            writer: ChunkWriter::new(inner, normaliser),
         }
     }
 
@@ -185,7 +185,7 @@ impl<W: Write> Write for NormalWriter<W> {
     }
 }
 
-// Writes to another writer what a filter or a normalizer has of what is written to it.
+// Writes to another writer what a filter or a normaliser has of what is written to it.
 #[derive(Debug)]
 pub(crate) struct ChunkWriter<W, P> {
     pub(crate) inner: W,

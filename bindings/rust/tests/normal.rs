@@ -1,6 +1,6 @@
 // SPDX-License-Identifier: MIT
 //! The normal form of a stream in chunks, through readers and writers too, is that of the whole.
-use escape_stream::{Error, NormalReader, NormalWriter, Normalizer, normal};
+use escape_stream::{Error, NormalReader, NormalWriter, Normaliser, normal};
 use std::io::{Read, Write};
 
 const STREAM: &[u8] =
@@ -10,16 +10,16 @@ const STREAM: &[u8] =
 #[test]
 fn in_chunks() {
     let whole = normal(STREAM).unwrap();
-    let mut normalizer = Normalizer::with_limit(1000).unwrap();
+    let mut normaliser = Normaliser::with_limit(1000).unwrap();
     for size in 1..=STREAM.len() {
         let mut text = Vec::new();
         for chunk in STREAM.chunks(size) {
-            normalizer.feed(chunk).unwrap();
-            normalizer.text(|part| text.extend_from_slice(part));
+            normaliser.feed(chunk).unwrap();
+            normaliser.text(|part| text.extend_from_slice(part));
         }
         assert_eq!(text, whole, "{size}");
-        normalizer.finish().unwrap();
-        assert_eq!(normalizer.text_from(0, &mut [0; 8]), 0, "{size}");
+        normaliser.finish().unwrap();
+        assert_eq!(normaliser.text_from(0, &mut [0; 8]), 0, "{size}");
     }
 }
 
@@ -70,13 +70,13 @@ fn read() {
 #[test]
 fn past_the_limit() -> Result<(), Error> {
     let mut out = [0; 16];
-    let mut normalizer = Normalizer::with_limit(3)?;
-    normalizer.feed(b"a\x1b]2;bc\x07d")?;
-    assert_eq!(normalizer.text_from(0, &mut out), 2);
+    let mut normaliser = Normaliser::with_limit(3)?;
+    normaliser.feed(b"a\x1b]2;bc\x07d")?;
+    assert_eq!(normaliser.text_from(0, &mut out), 2);
     assert_eq!(&out[..2], b"ad");
-    normalizer.feed(b"\x1b]2;b\x07")?;
-    assert_eq!(normalizer.text_from(0, &mut out), 7);
+    normaliser.feed(b"\x1b]2;b\x07")?;
+    assert_eq!(normaliser.text_from(0, &mut out), 7);
     assert_eq!(&out[..7], b"\x1b]2;b\x1b\\");
-    assert_eq!(normalizer.text_from(7, &mut out), 0);
+    assert_eq!(normaliser.text_from(7, &mut out), 0);
     Ok(())
 }

@@ -4,7 +4,7 @@
 mod rows;
 
 use escape_stream::{
-    ChunkFilter, Normalizer, Policy, filter, filter_into, is_normal, normal, normal_into,
+    ChunkFilter, Normaliser, Policy, filter, filter_into, is_normal, normal, normal_into,
 };
 use rows::{Row, count_rows};
 use std::str;
@@ -51,10 +51,10 @@ fn end_of(policy: Policy, limit: usize, stream: &[u8]) -> Vec<u8> {
 // The normal form of a stream in chunks of this size, within a limit that no string of it passes.
 fn normal_in_chunks(stream: &[u8], size: usize) -> Vec<u8> {
     let mut text = Vec::new();
-    let mut normalizer = Normalizer::with_limit(stream.len()).unwrap();
+    let mut normaliser = Normaliser::with_limit(stream.len()).unwrap();
     for chunk in stream.chunks(size) {
-        normalizer.feed(chunk).unwrap();
-        normalizer.text(|part| text.extend_from_slice(part));
+        normaliser.feed(chunk).unwrap();
+        normaliser.text(|part| text.extend_from_slice(part));
     }
     text
 }

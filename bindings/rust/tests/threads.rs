@@ -2,7 +2,7 @@
 //! What may move between threads, be copied, and be shown; and the kinds of errors.
 use escape_stream::html::ChunkPage;
 use escape_stream::{
-    ChunkFilter, Error, Event, Filter, FilterReader, NormalReader, NormalWriter, Normalizer,
+    ChunkFilter, Error, Event, Filter, FilterReader, NormalReader, NormalWriter, Normaliser,
     Parser, Policy, action, vte,
 };
 use std::fmt::Debug;
@@ -21,7 +21,7 @@ fn types() {
     is_free::<vte::by_byte::Parser>();
     is_free::<ChunkFilter>();
     is_free::<ChunkPage>();
-    is_free::<Normalizer>();
+    is_free::<Normaliser>();
     is_free::<Filter<Vec<u8>>>();
     is_free::<NormalWriter<Vec<u8>>>();
     is_free::<FilterReader<&'static [u8]>>();

@@ -1,14 +1,14 @@
 /* SPDX-License-Identifier: MIT */
 /*
- * The text that a call in pieces added. What includes it defines PROGRAM, its name, IN_PIECES, the
- * struct of what is in pieces, and ADDED, the call that copies its text.
+ * The text that a call in chunks added. What includes it defines PROGRAM, its name, IN_CHUNKS, the
+ * struct of what is in chunks, and ADDED, the call that copies its text.
  */
 #include "memory.h"
 
 enum { MOST = 4096, LIMIT = 1000 };
 
 /* Appends the text that the last call added, read in this capacity, with guards beside it. */
-static size_t append(struct IN_PIECES *it, size_t capacity, uint8_t *text, size_t length) {
+static size_t append(struct IN_CHUNKS *it, size_t capacity, uint8_t *text, size_t length) {
     uint8_t area[64];
     size_t count, from = 0;
     do {

@@ -1,22 +1,22 @@
 /* SPDX-License-Identifier: MIT */
 /*
- * Checks the filter in pieces of escape_stream.h against the call that takes a stream whole.
+ * Checks the filter in chunks of escape_stream.h against the call that takes a stream whole.
  *
- *     pieces
+ *     chunks
  *
- * Streams in pieces of each size give the same text, read in each capacity; each request for memory
+ * Streams in chunks of each size give the same text, read in each capacity; each request for memory
  * is refused in turn; filters that are not begun, ended twice or begun again. Prints a line for
  * each difference; the status is 1 where there is one. Link it with
  * -Wl,--wrap=malloc,--wrap=realloc,--wrap=free, by which it counts, refuses, and sees that all was
  * given back.
  */
-#define PROGRAM "pieces"
-#define IN_PIECES escape_stream_filter_state
+#define PROGRAM "chunks"
+#define IN_CHUNKS escape_stream_filter_state
 #define ADDED escape_stream_filter_text
 #include "added.h"
 #include "streams.h"
 
-/* The stream in pieces of this size. Returns the status; the text is the beginning of what is
+/* The stream in chunks of this size. Returns the status; the text is the beginning of what is
  * wanted, and where it is done all of it. */
 static uint32_t feed_all(
     uint32_t policy, const uint8_t *bytes, size_t length, size_t size, size_t capacity,
@@ -88,7 +88,7 @@ static void check_states(void) {
                 ESCAPE_STREAM_DONE,
             "begun again", "", 0);
         wants(
-            escape_stream_filter_text(&filter, 0, out, 8) == 0, "a text before the first piece", "",
+            escape_stream_filter_text(&filter, 0, out, 8) == 0, "a text before the first chunk", "",
             0);
         wants(escape_stream_filter_feed(&filter, bytes, 3) == ESCAPE_STREAM_DONE, "fed", "", 0);
         wants(

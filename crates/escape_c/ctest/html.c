@@ -1,17 +1,17 @@
 /* SPDX-License-Identifier: MIT */
 /*
- * Checks the pages in pieces of escape_stream.h.
+ * Checks the pages in chunks of escape_stream.h.
  *
  *     html
  *
- * A stream in pieces of each size gives the page that is wanted in each layout, read in each
+ * A stream in chunks of each size gives the page that is wanted in each layout, read in each
  * capacity; each request for memory is refused in turn; pages that are not begun, ended twice or
  * begun again. Prints a line for each difference; the status is 1 where there is one. Link it with
  * -Wl,--wrap=malloc,--wrap=realloc,--wrap=free, by which it refuses, and sees that all was given
  * back.
  */
 #define PROGRAM "html"
-#define IN_PIECES escape_stream_html
+#define IN_CHUNKS escape_stream_html
 #define ADDED escape_stream_html_text
 #include "added.h"
 
@@ -42,7 +42,7 @@ static const char *const PAGES[] = {
     "style=\"font-style:italic;\">s</span>",
 };
 
-/* The stream in pieces of this size. Returns the status; the text is the beginning of what is
+/* The stream in chunks of this size. Returns the status; the text is the beginning of what is
  * wanted, and where it is done all of it. */
 static uint32_t page_of(unsigned layout, size_t size, size_t capacity) {
     struct escape_stream_html page = {0};
@@ -106,7 +106,7 @@ static void check_states(void) {
             escape_stream_html_begin(&page, false, false, LIMIT) == ESCAPE_STREAM_DONE,
             "begun again", "", 0);
         wants(
-            escape_stream_html_text(&page, 0, out, 8) == 0, "a text before the first piece", "", 0);
+            escape_stream_html_text(&page, 0, out, 8) == 0, "a text before the first chunk", "", 0);
         wants(escape_stream_html_feed(&page, bytes, 5) == ESCAPE_STREAM_DONE, "fed", "", 0);
         wants(
             escape_stream_html_text(&page, 0, out, sizeof out) == 23 &&

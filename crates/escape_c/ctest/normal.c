@@ -1,26 +1,26 @@
 /* SPDX-License-Identifier: MIT */
 /*
- * Checks the normal form in pieces of escape_stream.h against the call that takes a stream whole.
+ * Checks the normal form in chunks of escape_stream.h against the call that takes a stream whole.
  *
  *     normal
  *
- * Streams in pieces of each size give the same text, read in each capacity; each request for memory
- * is refused in turn; a normalizer that is not begun, ended twice or begun again, and that of
+ * Streams in chunks of each size give the same text, read in each capacity; each request for memory
+ * is refused in turn; a normaliser that is not begun, ended twice or begun again, and that of
  * another call. Prints a line for each difference; the status is 1 where there is one. Link it with
  * -Wl,--wrap=malloc,--wrap=realloc,--wrap=free, by which it counts, refuses, and sees that all was
  * given back.
  */
 #define PROGRAM "normal"
-#define IN_PIECES escape_stream_normalizer
+#define IN_CHUNKS escape_stream_normaliser
 #define ADDED escape_stream_normal_text
 #include "added.h"
 #include "streams.h"
 
-/* The stream in pieces of this size. Returns the status; the text is the beginning of what is
+/* The stream in chunks of this size. Returns the status; the text is the beginning of what is
  * wanted, and where it is done all of it. */
 static uint32_t
 feed_all(const char *stream, size_t size, size_t capacity, const uint8_t *wanted, size_t needed) {
-    struct escape_stream_normalizer it = {0};
+    struct escape_stream_normaliser it = {0};
     const uint8_t *bytes = (const uint8_t *)stream;
     uint8_t text[MOST];
     size_t count = 0, length = strlen(stream);
@@ -36,7 +36,7 @@ feed_all(const char *stream, size_t size, size_t capacity, const uint8_t *wanted
         wants(escape_stream_normal_finish(&it) == ESCAPE_STREAM_DONE, "another end", stream, size);
         wants(append(&it, capacity, text, 0) == 0, "a text of the end", stream, size);
     } else {
-        wants(!it.is_begun, "a normalizer that was refused memory goes on", stream, size);
+        wants(!it.is_begun, "a normaliser that was refused memory goes on", stream, size);
         wants(blocks == 0, "blocks are kept after memory was refused", stream, (size_t)blocks);
         wants(
             escape_stream_normal_feed(&it, bytes, length) == ESCAPE_STREAM_NOT_BEGUN,
@@ -70,7 +70,7 @@ static void check_stream(const char *stream) {
 }
 
 static void check_states(void) {
-    struct escape_stream_normalizer it = {0};
+    struct escape_stream_normaliser it = {0};
     const uint8_t bytes[] = {0xff, 0x1b, ']'};
     uint8_t out[8] = {0};
     escape_stream_normal_end(&it);
@@ -84,7 +84,7 @@ static void check_states(void) {
     for (int i = 0; i < 3; i++) {
         wants(escape_stream_normal_begin(&it, LIMIT) == ESCAPE_STREAM_DONE, "begun again", "", 0);
         wants(
-            escape_stream_normal_text(&it, 0, out, 8) == 0, "a text before the first piece", "", 0);
+            escape_stream_normal_text(&it, 0, out, 8) == 0, "a text before the first chunk", "", 0);
         wants(escape_stream_normal_feed(&it, bytes, 3) == ESCAPE_STREAM_DONE, "fed", "", 0);
         wants(
             escape_stream_normal_text(&it, 0, out, 8) == 3 && memcmp(out, "\xef\xbf\xbd", 3) == 0,
@@ -101,7 +101,7 @@ static void check_states(void) {
 /* The end of a stream drops what is unfinished, and a terminator that comes next ends no string of
  * the stream before. */
 static void check_finish(void) {
-    struct escape_stream_normalizer it = {0};
+    struct escape_stream_normaliser it = {0};
     uint8_t out[40] = {0};
     wants(escape_stream_normal_begin(&it, 3) == ESCAPE_STREAM_DONE, "begun", "", 0);
     wants(
@@ -124,12 +124,12 @@ static void check_finish(void) {
     escape_stream_normal_end(&it);
 }
 
-/* What the calls of a filter began is no normalizer. It is given back. */
+/* What the calls of a filter began is no normaliser. It is given back. */
 static void check_others(void) {
     union {
         struct escape_stream_filter_state filter;
         struct escape_stream_html page;
-        struct escape_stream_normalizer normalizer;
+        struct escape_stream_normaliser normaliser;
     } it = {{0}};
     const uint8_t byte = 'a';
     wants(
@@ -137,21 +137,21 @@ static void check_others(void) {
             ESCAPE_STREAM_DONE,
         "begun", "", 0);
     wants(
-        escape_stream_normal_feed(&it.normalizer, &byte, 1) == ESCAPE_STREAM_NOT_BEGUN,
+        escape_stream_normal_feed(&it.normaliser, &byte, 1) == ESCAPE_STREAM_NOT_BEGUN,
         "a filter is fed", "", 0);
     wants(!it.filter.is_begun && blocks == 0, "a filter is kept", "", (size_t)blocks);
     wants(
         escape_stream_html_begin(&it.page, false, false, LIMIT) == ESCAPE_STREAM_DONE, "begun", "",
         0);
     wants(
-        escape_stream_normal_finish(&it.normalizer) == ESCAPE_STREAM_NOT_BEGUN, "a page is ended",
+        escape_stream_normal_finish(&it.normaliser) == ESCAPE_STREAM_NOT_BEGUN, "a page is ended",
         "", 0);
     wants(!it.page.is_begun && blocks == 0, "a page is kept", "", (size_t)blocks);
-    wants(escape_stream_normal_begin(&it.normalizer, LIMIT) == ESCAPE_STREAM_DONE, "begun", "", 0);
+    wants(escape_stream_normal_begin(&it.normaliser, LIMIT) == ESCAPE_STREAM_DONE, "begun", "", 0);
     wants(
         escape_stream_html_feed(&it.page, &byte, 1) == ESCAPE_STREAM_NOT_BEGUN,
-        "a normalizer is fed as a page", "", 0);
-    wants(!it.normalizer.is_begun && blocks == 0, "a normalizer is kept", "", (size_t)blocks);
+        "a normaliser is fed as a page", "", 0);
+    wants(!it.normaliser.is_begun && blocks == 0, "a normaliser is kept", "", (size_t)blocks);
 }
 
 int main(void) {

@@ -4,7 +4,7 @@
  *
  *     sanitizer
  *
- * A string that nobody ends loses one line; streams in pieces of each size give the same text and
+ * A string that nobody ends loses one line; streams in chunks of each size give the same text and
  * the same account, whose sums add up to the length; by the policy TEXT the text is plain; each
  * request for memory is refused in turn; each option that is none has its status; sanitizers that
  * are not begun, ended twice or begun again. Prints a line for each difference; the status is 1
@@ -12,7 +12,7 @@
  * counts, refuses, and sees that all was given back.
  */
 #define PROGRAM "sanitizer"
-#define IN_PIECES escape_stream_sanitizer
+#define IN_CHUNKS escape_stream_sanitizer
 #define ADDED escape_stream_sanitizer_text
 #include "added.h"
 #include "streams.h"
@@ -26,7 +26,7 @@ struct written {
     struct escape_stream_account account;
 };
 
-/* The stream in pieces of this size. Returns the first status that is not DONE, or DONE. */
+/* The stream in chunks of this size. Returns the first status that is not DONE, or DONE. */
 static uint32_t feed_all(
     const struct escape_stream_sanitizer_options *options, const uint8_t *bytes, size_t length,
     size_t size, size_t capacity, struct written *written) {
@@ -252,7 +252,7 @@ static void check_states(void) {
         wants(
             escape_stream_sanitizer_begin(&it, &INIT) == ESCAPE_STREAM_DONE, "begun again", "", 0);
         wants(
-            escape_stream_sanitizer_text(&it, 0, out, 8) == 0, "a text before the first piece", "",
+            escape_stream_sanitizer_text(&it, 0, out, 8) == 0, "a text before the first chunk", "",
             0);
         wants(escape_stream_sanitizer_feed(&it, bytes, 3) == ESCAPE_STREAM_DONE, "fed", "", 0);
         wants(

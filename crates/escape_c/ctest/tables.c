@@ -210,7 +210,7 @@ static bool joined(char **lines, size_t count, const char *word, struct bytes *t
 }
 
 /* The text without what takes back, at its end, what the stream leaves changed, which a filter in
- * pieces gives when it is finished. */
+ * chunks gives when it is finished. */
 static struct bytes
 without_end(uint32_t policy, size_t limit, struct bytes stream, struct bytes text) {
     struct escape_stream_filter_state filter = {0};
@@ -220,7 +220,7 @@ without_end(uint32_t policy, size_t limit, struct bytes stream, struct bytes tex
     if (escape_stream_filter_begin(&filter, policy, limit) != ESCAPE_STREAM_DONE ||
         escape_stream_filter_feed(&filter, stream.at, stream.length) != ESCAPE_STREAM_DONE ||
         escape_stream_filter_finish(&filter) != ESCAPE_STREAM_DONE)
-        differs("another status of a filter in pieces", policy);
+        differs("another status of a filter in chunks", policy);
     length = escape_stream_filter_text(&filter, 0, end, text.length + 1);
     if (length > text.length || memcmp(text.at + text.length - length, end, length) != 0)
         differs("another end", length);

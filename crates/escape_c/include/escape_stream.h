@@ -6,9 +6,9 @@
  * A stream is bytes as a program writes them to a terminal: UTF-8 text, control characters, and the
  * control functions of ECMA-48 and xterm, such as colours, cursor movements and titles. Any bytes
  * are a stream. Each of the first three calls takes one whole, and keeps nothing. A filter in
- * pieces, escape_stream_filter_begin and the calls after it, takes one as it comes, and so do a
+ * chunks, escape_stream_filter_begin and the calls after it, takes one as it comes, and so do a
  * sanitizer, escape_stream_sanitizer_begin and the calls after it, which is for logs: line by line,
- * with an account; a page, escape_stream_html_begin and the calls after it, and a normalizer,
+ * with an account; a page, escape_stream_html_begin and the calls after it, and a normaliser,
  * escape_stream_normal_begin and the calls after it. The calls escape_stream_read_.. take the text
  * of one command, query or image, and the calls escape_stream_write_.. write one.
  *
@@ -36,7 +36,7 @@
  *   - The call is made neither in a signal handler, nor in the child of a process with threads that
  *     has only forked.
  *
- * Calls may run in several threads at once, but those of one filter, sanitizer, page or normalizer
+ * Calls may run in several threads at once, but those of one filter, sanitizer, page or normaliser
  * one after another: it may go from thread to thread, as a stream of zlib may. No call keeps
  * anything of a thread, starts one, takes a lock, reads a clock or touches a file.
  */
@@ -71,7 +71,7 @@ const char *escape_stream_version(void);
 #define ESCAPE_STREAM_DONE 0           /* the call was done */
 #define ESCAPE_STREAM_NO_MEMORY 1      /* a request for memory was refused */
 #define ESCAPE_STREAM_UNKNOWN_POLICY 2 /* no policy has this number */
-/* the filter, sanitizer, page or normalizer was not begun, or has ended */
+/* the filter, sanitizer, page or normaliser was not begun, or has ended */
 #define ESCAPE_STREAM_NOT_BEGUN 3
 /* no command, image or query has this kind and these fields, or this value */
 #define ESCAPE_STREAM_NO_COMMAND 4
@@ -209,7 +209,7 @@ uint32_t escape_stream_filter(
     size_t capacity, size_t *needed);
 
 /*
- * A filter of a stream that comes in pieces. It lies in the caller's memory; what it keeps of the
+ * A filter of a stream that comes in chunks. It lies in the caller's memory; what it keeps of the
  * stream is in blocks that it takes and escape_stream_filter_end gives back. Its fields are its
  * own: read and write nothing of it, but set it to zero before the first call, as by = {0}. A copy
  * of it is the same filter, so go on with one of the two.
@@ -230,9 +230,9 @@ uint32_t escape_stream_filter_begin(
     struct escape_stream_filter_state *filter, uint32_t policy, size_t limit);
 
 /*
- * Takes the next piece of the stream, in whatever pieces it comes. What it adds to the text is then
- * what escape_stream_filter_text gives; that of the piece before is gone. The texts of all pieces,
- * one after another, are what escape_stream_filter writes of the pieces one after another. A
+ * Takes the next chunk of the stream, in whatever chunks it comes. What it adds to the text is then
+ * what escape_stream_filter_text gives; that of the chunk before is gone. The texts of all chunks,
+ * one after another, are what escape_stream_filter writes of the chunks one after another. A
  * sequence that the end of the stream cuts adds nothing.
  *
  * ESCAPE_STREAM_NO_MEMORY: the filter has ended, as by escape_stream_filter_end. The texts before
@@ -255,7 +255,7 @@ uint32_t escape_stream_filter_feed(
 uint32_t escape_stream_filter_finish(struct escape_stream_filter_state *filter);
 
 /*
- * Writes the text that the last piece or the end of the stream added, from its byte `from` on, to
+ * Writes the text that the last chunk or the end of the stream added, from its byte `from` on, to
  * the beginning of `out`, as much as there is room for, and returns how many bytes these are: 0 at
  * the end of the text, and where the filter is not begun. Every other byte of `out` is as it was.
  * It changes nothing, so a text can be read twice.
@@ -287,7 +287,7 @@ size_t escape_stream_filter_text(
 void escape_stream_filter_end(struct escape_stream_filter_state *filter);
 
 /*
- * A filter of a log, or of another stream of unknown origin, that comes in pieces: what the program
+ * A filter of a log, or of another stream of unknown origin, that comes in chunks: what the program
  * `escfilter` writes. Where a stream goes line by line, as it does by the policies TEXT and COLOR,
  * a string that nobody ends takes away the rest of its line, and no line after it. It lies in the
  * caller's memory as a filter does: set it to zero before the first call, as by = {0}.
@@ -412,9 +412,9 @@ uint32_t escape_stream_sanitizer_begin(struct escape_stream_sanitizer *sanitizer
                                        const struct escape_stream_sanitizer_options *options);
 
 /*
- * Takes the next piece of the stream, in whatever pieces it comes. What it adds to the text is then
- * what escape_stream_sanitizer_text gives; that of the piece before is gone. The texts of all
- * pieces and of the end, one after another, are what `escfilter` writes.
+ * Takes the next chunk of the stream, in whatever chunks it comes. What it adds to the text is then
+ * what escape_stream_sanitizer_text gives; that of the chunk before is gone. The texts of all
+ * chunks and of the end, one after another, are what `escfilter` writes.
  *
  * By the policy TEXT without `rows` the text holds the bytes 09, 0A, 0D, 20 to 7E and well-formed
  * UTF-8 from U+00A0 on, and no others; by COLOR, and with `rows`, whole renditions and links too.
@@ -437,7 +437,7 @@ uint32_t escape_stream_sanitizer_feed(struct escape_stream_sanitizer *sanitizer,
 uint32_t escape_stream_sanitizer_finish(struct escape_stream_sanitizer *sanitizer);
 
 /*
- * Writes the text that the last piece or the end of the stream added, from its byte `from` on, to
+ * Writes the text that the last chunk or the end of the stream added, from its byte `from` on, to
  * the beginning of `out`, as escape_stream_filter_text does.
  */
 size_t escape_stream_sanitizer_text(struct escape_stream_sanitizer *sanitizer, size_t from,
@@ -491,7 +491,7 @@ uint32_t escape_stream_sanitizer_account(struct escape_stream_sanitizer *sanitiz
 void escape_stream_sanitizer_end(struct escape_stream_sanitizer *sanitizer);
 
 /*
- * A stream that comes in pieces, as HTML: its characters, tabs and line feeds, with colours and
+ * A stream that comes in chunks, as HTML: its characters, tabs and line feeds, with colours and
  * renditions as spans and links to http, https and mailto. A browser reads from the text, inside
  * the body of a page in UTF-8, these spans and links and nothing else, whatever the stream is. It
  * lies in the caller's memory as a filter does: set it to zero before the first call.
@@ -518,8 +518,8 @@ uint32_t escape_stream_html_begin(
     struct escape_stream_html *page, bool per_line, bool is_inline, size_t limit);
 
 /*
- * Takes the next piece of the stream. What it adds to the page is then what escape_stream_html_text
- * gives; that of the piece before is gone.
+ * Takes the next chunk of the stream. What it adds to the page is then what escape_stream_html_text
+ * gives; that of the chunk before is gone.
  *
  * ESCAPE_STREAM_NO_MEMORY: the page was given back. The texts before it are the beginning of the
  * page. ESCAPE_STREAM_NOT_BEGUN, also after the end of the stream, which gives the page back, is
@@ -530,7 +530,7 @@ uint32_t escape_stream_html_feed(
 
 /*
  * Ends the stream. What closes the tags that are open is then what escape_stream_html_text gives:
- * with it the texts of all pieces, one after another, are a page, in which each tag is closed. It
+ * with it the texts of all chunks, one after another, are a page, in which each tag is closed. It
  * takes no memory.
  *
  * ESCAPE_STREAM_NOT_BEGUN is the only other status but ESCAPE_STREAM_DONE.
@@ -538,7 +538,7 @@ uint32_t escape_stream_html_feed(
 uint32_t escape_stream_html_finish(struct escape_stream_html *page);
 
 /*
- * Writes the text that the last piece or the end of the stream added, from its byte `from` on, to
+ * Writes the text that the last chunk or the end of the stream added, from its byte `from` on, to
  * the beginning of `out`, as escape_stream_filter_text does.
  */
 size_t escape_stream_html_text(
@@ -548,36 +548,36 @@ size_t escape_stream_html_text(
 void escape_stream_html_end(struct escape_stream_html *page);
 
 /*
- * The normal form of a stream that comes in pieces. It lies in the caller's memory as a filter
+ * The normal form of a stream that comes in chunks. It lies in the caller's memory as a filter
  * does: set it to zero before the first call, as by = {0}.
  */
-struct escape_stream_normalizer {
+struct escape_stream_normaliser {
     bool is_begun;
     void *state;
 };
 
 /*
  * Begins a stream, of which at most `limit` bytes are kept of a string; of one with more nothing is
- * written. 1048576 will do. A normalizer that was begun before is ended first.
+ * written. 1048576 will do. A normaliser that was begun before is ended first.
  *
- * ESCAPE_STREAM_DONE and ESCAPE_STREAM_NO_MEMORY are the statuses. After the last the normalizer is
+ * ESCAPE_STREAM_DONE and ESCAPE_STREAM_NO_MEMORY are the statuses. After the last the normaliser is
  * not begun, and keeps nothing.
  */
-uint32_t escape_stream_normal_begin(struct escape_stream_normalizer *normalizer, size_t limit);
+uint32_t escape_stream_normal_begin(struct escape_stream_normaliser *normaliser, size_t limit);
 
 /*
- * Takes the next piece of the stream, in whatever pieces it comes. What it adds to the normal form
- * is then what escape_stream_normal_text gives; that of the piece before is gone. The texts of all
- * pieces, one after another, are what escape_stream_normal writes of the pieces one after another,
+ * Takes the next chunk of the stream, in whatever chunks it comes. What it adds to the normal form
+ * is then what escape_stream_normal_text gives; that of the chunk before is gone. The texts of all
+ * chunks, one after another, are what escape_stream_normal writes of the chunks one after another,
  * where no string is longer than the limit. Of a sequence that the end of the stream cuts, only
  * what it has done so far is written.
  *
- * ESCAPE_STREAM_NO_MEMORY: the normalizer has ended, as by escape_stream_normal_end. The texts
+ * ESCAPE_STREAM_NO_MEMORY: the normaliser has ended, as by escape_stream_normal_end. The texts
  * before it are the beginning of the normal form of the whole stream. ESCAPE_STREAM_NOT_BEGUN is
  * the only other status but ESCAPE_STREAM_DONE.
  */
 uint32_t escape_stream_normal_feed(
-    struct escape_stream_normalizer *normalizer, const uint8_t *bytes, size_t length);
+    struct escape_stream_normaliser *normaliser, const uint8_t *bytes, size_t length);
 
 /*
  * Ends the stream, and begins the next, within the same limit. The end adds nothing to the normal
@@ -586,32 +586,32 @@ uint32_t escape_stream_normal_feed(
  *
  * ESCAPE_STREAM_NOT_BEGUN is the only other status but ESCAPE_STREAM_DONE.
  */
-uint32_t escape_stream_normal_finish(struct escape_stream_normalizer *normalizer);
+uint32_t escape_stream_normal_finish(struct escape_stream_normaliser *normaliser);
 
 /*
- * Writes the text that the last piece added, from its byte `from` on, to the beginning of `out`, as
+ * Writes the text that the last chunk added, from its byte `from` on, to the beginning of `out`, as
  * escape_stream_filter_text does.
  *
  * Example: the normal form of standard input, as it comes.
  *
- *     struct escape_stream_normalizer normalizer = {0};
+ *     struct escape_stream_normaliser normaliser = {0};
  *     uint8_t bytes[4096], out[4096] = {0};
  *     size_t length, count;
- *     uint32_t status = escape_stream_normal_begin(&normalizer, 1048576);
+ *     uint32_t status = escape_stream_normal_begin(&normaliser, 1048576);
  *     while (status == ESCAPE_STREAM_DONE && (length = fread(bytes, 1, sizeof bytes, stdin)) > 0) {
- *         status = escape_stream_normal_feed(&normalizer, bytes, length);
+ *         status = escape_stream_normal_feed(&normaliser, bytes, length);
  *         for (size_t from = 0;
- *              (count = escape_stream_normal_text(&normalizer, from, out, sizeof out)) > 0;
+ *              (count = escape_stream_normal_text(&normaliser, from, out, sizeof out)) > 0;
  *              from += count)
  *             fwrite(out, 1, count, stdout);
  *     }
- *     escape_stream_normal_end(&normalizer);
+ *     escape_stream_normal_end(&normaliser);
  */
 size_t escape_stream_normal_text(
-    struct escape_stream_normalizer *normalizer, size_t from, uint8_t *out, size_t capacity);
+    struct escape_stream_normaliser *normaliser, size_t from, uint8_t *out, size_t capacity);
 
-/* Ends a normalizer, and gives back what it took. One that is not begun stays so. */
-void escape_stream_normal_end(struct escape_stream_normalizer *normalizer);
+/* Ends a normaliser, and gives back what it took. One that is not begun stays so. */
+void escape_stream_normal_end(struct escape_stream_normaliser *normaliser);
 
 /*
  * What a control function is: a row of docs/FUNCTIONS.md. Where there is none, all of it is 0.

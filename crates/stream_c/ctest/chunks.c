@@ -1,6 +1,6 @@
 /* SPDX-License-Identifier: MIT */
 /*
- * Checks escape_stream_parser.h: the events of streams in pieces of each size, and those of each
+ * Checks escape_stream_parser.h: the events of streams in chunks of each size, and those of each
  * stream by itself.
  *
  * Prints a line for each difference; the status is 1 where there is one.
@@ -127,7 +127,7 @@ check_event(const struct escape_stream_event *event, size_t room, size_t taken, 
         abort();
 }
 
-/* Feeds a stream in pieces, each in a block of its own, over a buffer with guards round it. */
+/* Feeds a stream in chunks, each in a block of its own, over a buffer with guards round it. */
 static void feed(const uint8_t *stream, size_t length, size_t size, size_t room, struct log *log) {
     struct escape_stream_parser parser;
     struct escape_stream_event event;
@@ -139,17 +139,17 @@ static void feed(const uint8_t *stream, size_t length, size_t size, size_t room,
     memset(&event, 0, sizeof event);
     escape_stream_begin(&parser);
     for (size_t from = 0; from < length; from += size) {
-        size_t piece = length - from < size ? length - from : size, at = 0;
-        uint8_t *bytes = malloc(piece);
+        size_t chunk = length - from < size ? length - from : size, at = 0;
+        uint8_t *bytes = malloc(chunk);
         if (bytes == NULL)
             abort();
-        memcpy(bytes, stream + from, piece);
+        memcpy(bytes, stream + from, chunk);
         for (;;) {
             size_t taken =
-                escape_stream_next(&parser, buffer, room, bytes + at, piece - at, &event);
-            check_event(&event, room - room / 2, taken, piece - at);
+                escape_stream_next(&parser, buffer, room, bytes + at, chunk - at, &event);
+            check_event(&event, room - room / 2, taken, chunk - at);
             if (event.kind == ESCAPE_STREAM_NONE) {
-                if (taken != piece - at)
+                if (taken != chunk - at)
                     abort();
                 break;
             }
@@ -169,7 +169,7 @@ static void feed(const uint8_t *stream, size_t length, size_t size, size_t room,
     free(block);
 }
 
-/* The same events in pieces of each size. */
+/* The same events in chunks of each size. */
 static void compare(const uint8_t *stream, size_t length, size_t room) {
     static struct log whole, cut;
     whole.length = 0;
@@ -179,7 +179,7 @@ static void compare(const uint8_t *stream, size_t length, size_t room) {
         feed(stream, length, size, room, &cut);
         if (cut.length != whole.length || memcmp(cut.at, whole.at, cut.length) != 0) {
             fprintf(
-                stderr, "in pieces of %zu, with room for %zu: %.*s\nand not: %.*s\n", size, room,
+                stderr, "in chunks of %zu, with room for %zu: %.*s\nand not: %.*s\n", size, room,
                 (int)cut.length, cut.at, (int)whole.length, whole.at);
             differences++;
             return;
@@ -215,7 +215,7 @@ static const struct row ROWS[] = {
     {"", ""},
 };
 
-static const char *const PIECES[] = {
+static const char *const CHUNKS[] = {
     "\x1b",
     "[",
     "]",
@@ -316,9 +316,9 @@ int main(void) {
         uint8_t noise[NOISE_CHUNKS * 16];
         size_t length = 0;
         for (int k = 0; k < NOISE_CHUNKS; k++) {
-            const char *piece = PIECES[next_number() % (sizeof PIECES / sizeof PIECES[0])];
-            memcpy(noise + length, piece, strlen(piece));
-            length += strlen(piece);
+            const char *chunk = CHUNKS[next_number() % (sizeof CHUNKS / sizeof CHUNKS[0])];
+            memcpy(noise + length, chunk, strlen(chunk));
+            length += strlen(chunk);
         }
         compare(noise, length, ROOMS[next_number() % (sizeof ROOMS / sizeof ROOMS[0])]);
     }

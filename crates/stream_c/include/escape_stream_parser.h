@@ -1,6 +1,6 @@
 /* SPDX-License-Identifier: MIT */
 /*
- * escape_stream_parser.h - a parser of terminal escape sequences that takes a stream in pieces and
+ * escape_stream_parser.h - a parser of terminal escape sequences that takes a stream in chunks and
  * takes no memory
  *
  * A stream is bytes as a program writes them to a terminal: UTF-8 text, control characters, and the
@@ -13,7 +13,7 @@
  * x86-64 or, built for it, on every aarch64, with the C library of GNU of any version, or musl.
  *
  * The calls need nothing but memcpy, memmove and memset. What the calls do is proved, for every
- * stream, in any pieces; docs/EMBEDDING.md says what the proof covers and what it takes for
+ * stream, in any chunks; docs/EMBEDDING.md says what the proof covers and what it takes for
  * granted. Nothing checks the caller, who owes this:
  *
  *   - No pointer is NULL, also where its length is 0, and nothing that a call is given overlaps
@@ -140,7 +140,7 @@ void escape_stream_begin(struct escape_stream_parser *parser);
  * Takes bytes of the stream up to the next event, notes it in `event`, and returns how many bytes
  * were taken. Call it again with the bytes after them until the kind is ESCAPE_STREAM_NONE, for
  * which all bytes were taken; a call may take none and give an event. Then go on with the next
- * piece of the stream. However a stream is cut, its events are the same, but that a run may come in
+ * chunk of the stream. However a stream is cut, its events are the same, but that a run may come in
  * several, or its characters one by one.
  *
  * A string, which is the text of an OSC or an APC or the parameter bytes of a DCS, of more than

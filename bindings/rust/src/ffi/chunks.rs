@@ -1,5 +1,5 @@
 // SPDX-License-Identifier: MIT
-//! The calls that take a stream in chunks: a filter, a sanitizer, a page and a normalizer.
+//! The calls that take a stream in chunks: a filter, a sanitizer, a page and a normaliser.
 use super::{NOT_BEGUN, done, number};
 use crate::{Account, Error, Policy};
 
@@ -29,20 +29,20 @@ extern "C" {
         capacity: usize,
     ) -> usize;
     fn escape_stream_html_end(page: *mut Page);
-    fn escape_stream_normal_begin(normalizer: *mut Normalizer, limit: usize) -> u32;
+    fn escape_stream_normal_begin(normaliser: *mut Normaliser, limit: usize) -> u32;
     fn escape_stream_normal_feed(
-        normalizer: *mut Normalizer,
+        normaliser: *mut Normaliser,
         bytes: *const u8,
         length: usize,
     ) -> u32;
-    fn escape_stream_normal_finish(normalizer: *mut Normalizer) -> u32;
+    fn escape_stream_normal_finish(normaliser: *mut Normaliser) -> u32;
     fn escape_stream_normal_text(
-        normalizer: *mut Normalizer,
+        normaliser: *mut Normaliser,
         from: usize,
         out: *mut u8,
         capacity: usize,
     ) -> usize;
-    fn escape_stream_normal_end(normalizer: *mut Normalizer);
+    fn escape_stream_normal_end(normaliser: *mut Normaliser);
     fn escape_stream_sanitizer_begin(
         sanitizer: *mut Sanitizer,
         options: *const SanitizerOptions,
@@ -147,7 +147,7 @@ in_chunks! {
 
 in_chunks! {
     /// The normal form of a stream in chunks.
-    Normalizer,
+    Normaliser,
     escape_stream_normal_feed,
     escape_stream_normal_finish,
     escape_stream_normal_text,
@@ -182,7 +182,7 @@ impl Page {
     }
 }
 
-impl Normalizer {
+impl Normaliser {
     /// Begins a stream.
     pub fn begin(&mut self, limit: usize) -> Result<(), Error> {
         // SAFETY: as of a filter.

@@ -9,30 +9,30 @@ use crate::{Error, ffi};
 /// [`NormalReader`](crate::NormalReader) and [`NormalWriter`](crate::NormalWriter).
 ///
 /// ```
-/// use escape_stream::Normalizer;
+/// use escape_stream::Normaliser;
 ///
 /// let mut text = Vec::new();
-/// let mut normalizer = Normalizer::new()?;
+/// let mut normaliser = Normaliser::new()?;
 /// for chunk in [&b"a\x1b]0;a ti"[..], b"tle\x07\x1b[0", b"1m"] {
-///     normalizer.feed(chunk)?;
-///     normalizer.text(|part| text.extend_from_slice(part));
+///     normaliser.feed(chunk)?;
+///     normaliser.text(|part| text.extend_from_slice(part));
 /// }
 /// assert_eq!(text, b"a\x1b]0;a title\x1b\\\x1b[1m");
 /// # Ok::<(), escape_stream::Error>(())
 /// ```
 #[derive(Debug)]
-pub struct Normalizer {
-    raw: ffi::Normalizer,
+pub struct Normaliser {
+    raw: ffi::Normaliser,
 }
 
-impl Normalizer {
-    /// A normalizer at the beginning of a stream, which keeps at most 1,048,576 bytes of a string.
+impl Normaliser {
+    /// A normaliser at the beginning of a stream, which keeps at most 1,048,576 bytes of a string.
     ///
     /// # Errors
     ///
     /// [`Error::Memory`] where a request for memory was refused.
-    pub fn new() -> Result<Normalizer, Error> {
-        Normalizer::with_limit(DEFAULT_LIMIT)
+    pub fn new() -> Result<Normaliser, Error> {
+        Normaliser::with_limit(DEFAULT_LIMIT)
     }
 
     /// The same with another limit: of a string with more bytes nothing is written.
@@ -40,14 +40,14 @@ impl Normalizer {
     /// # Errors
     ///
     /// [`Error::Memory`] where a request for memory was refused.
-    pub fn with_limit(limit: usize) -> Result<Normalizer, Error> {
-        let mut raw = ffi::Normalizer::ended();
+    pub fn with_limit(limit: usize) -> Result<Normaliser, Error> {
+        let mut raw = ffi::Normaliser::ended();
         raw.begin(limit)?;
-        Ok(Normalizer { raw })
+        Ok(Normaliser { raw })
     }
 
     /// Takes the next chunk of the stream. What it adds to the normal form is then what
-    /// [`text`](Normalizer::text) gives, and that of the chunk before is gone.
+    /// [`text`](Normaliser::text) gives, and that of the chunk before is gone.
     ///
     /// # Errors
     ///
@@ -79,7 +79,7 @@ impl Normalizer {
     }
 }
 
-impl Drop for Normalizer {
+impl Drop for Normaliser {
     fn drop(&mut self) {
         self.raw.end();
     }

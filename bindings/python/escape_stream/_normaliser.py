@@ -8,13 +8,13 @@ from escape_stream._in_chunks import InChunks
 from escape_stream._whole import DEFAULT_LIMIT
 
 
-class Normalizer(InChunks):
+class Normaliser(InChunks):
     """The normal form of a stream that comes in chunks: what `normal` returns of the whole, as it
     comes.
 
-    >>> from escape_stream import Normalizer
-    >>> with Normalizer() as normalizer:
-    ...     [normalizer.feed(chunk) for chunk in (b"a\\x1b]0;a ti", b"tle\\x07b\\x1b[03", b"1m")]
+    >>> from escape_stream import Normaliser
+    >>> with Normaliser() as normaliser:
+    ...     [normaliser.feed(chunk) for chunk in (b"a\\x1b]0;a ti", b"tle\\x07b\\x1b[03", b"1m")]
     [b'a', b'\\x1b]0;a title\\x1b\\\\b', b'\\x1b[31m']
 
     `finish` ends a stream, and adds nothing. Any thread may use it, and one at a time. What it
@@ -22,7 +22,7 @@ class Normalizer(InChunks):
     any more.
     """
 
-    _name = "normalizer"
+    _name = "normaliser"
     _feed = _library.normal_feed
     _finish = _library.normal_finish
     _text_from = _library.normal_text
@@ -34,5 +34,5 @@ class Normalizer(InChunks):
 
         Raises MemoryError where a request for memory was refused.
         """
-        super().__init__(_library.RawNormalizer())
+        super().__init__(_library.RawNormaliser())
         _library.done(_library.normal_begin(byref(self._raw), _library.limit_of(limit)))
