@@ -38,7 +38,7 @@ fn data_of_words() {
     for _ in 0..100_000 {
         let mut data = Vec::new();
         for _ in 0..next(16) {
-            // Raster attributes come seldom: after the first piece of data the library reads all.
+            // Raster attributes come seldom: after the first part of data the library reads all.
             let word = WORDS[next(WORDS.len())];
             if word != b"\"" || next(8) == 0 {
                 data.extend_from_slice(word);

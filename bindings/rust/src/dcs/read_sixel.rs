@@ -12,26 +12,26 @@ const KEPT_ROOM: usize = 1 << 14;
 ///
 /// Six pixels, `$` and `-` are bytes of their own. These, a colour that is selected and a repeat
 /// come most often: they are read here. The library reads what else is between bytes of their own,
-/// each piece up to the first such byte, which may belong to it: after such a byte no command is
-/// open. A `"` in a later piece than the first can drop what came before: then the library reads
+/// each part up to the first such byte, which may belong to it: after such a byte no command is
+/// open. A `"` in a later part than the first can drop what came before: then the library reads
 /// all. In debug builds it does so each time, and the two are compared.
 pub fn read_sixel(params: &[i64], data: &[u8], room: &mut Room) -> Result<Sixel, Error> {
-    let first = piece(data);
+    let first = part(data);
     let whole = if data[first..].contains(&b'"') {
         data.len()
     } else {
         first
     };
-    let mut sixel = read_piece(params, &data[..whole], room)?;
+    let mut sixel = read_whole(params, &data[..whole], room)?;
     read_on(&data[whole..], &mut sixel.data, room)?;
-    debug_assert!(read_piece(params, data, room).map_or(true, |it| it == sixel));
+    debug_assert!(read_whole(params, data, room).map_or(true, |it| it == sixel));
     room.items.truncate(KEPT_ROOM);
     room.items.shrink_to(KEPT_ROOM);
     Ok(sixel)
 }
 
 // How many bytes there are up to the first that is one of its own, and with it.
-fn piece(data: &[u8]) -> usize {
+fn part(data: &[u8]) -> usize {
     let is_alone = |byte: &u8| matches!(byte, b'?'..=b'~' | b'$' | b'-');
     let place = data.iter().position(is_alone);
     place.map_or(data.len(), |place| place + 1)
@@ -52,7 +52,7 @@ fn read_on(data: &[u8], items: &mut Vec<SixelData>, room: &mut Room) -> Result<(
                     items.extend(both);
                     count
                 }
-                None => push_piece(rest, items, room)?,
+                None => push_part(rest, items, room)?,
             },
         };
         rest = &rest[count..];
@@ -112,9 +112,9 @@ fn push_pixels(data: &[u8], items: &mut Vec<SixelData>) -> Result<usize, Error> 
     Ok(count)
 }
 
-// Appends what the library reads of the piece that comes first, and returns how many bytes it has.
-fn push_piece(data: &[u8], items: &mut Vec<SixelData>, room: &mut Room) -> Result<usize, Error> {
-    let count = piece(data);
+// Appends what the library reads of the part that comes first, and returns how many bytes it has.
+fn push_part(data: &[u8], items: &mut Vec<SixelData>, room: &mut Room) -> Result<usize, Error> {
+    let count = part(data);
     let (_, rows) = read_raw(&[], &data[..count], room)?;
     push_rows(rows, items)?;
     Ok(count)
@@ -148,7 +148,7 @@ fn read_raw<'a>(
     Ok((raw, rows.get(..count).unwrap_or_default()))
 }
 
-fn read_piece(params: &[i64], data: &[u8], room: &mut Room) -> Result<Sixel, Error> {
+fn read_whole(params: &[i64], data: &[u8], room: &mut Room) -> Result<Sixel, Error> {
     let mut items = room.pixels();
     let (raw, rows) = read_raw(params, data, room)?;
     push_rows(rows, &mut items)?;

@@ -29,7 +29,7 @@ pub struct Sixel {
 /// pixel.
 pub type SixelValue = u8;
 
-/// A piece of sixel data.
+/// One command of sixel data, or six pixels.
 #[derive(Clone, Copy, Debug, PartialEq, Eq)]
 #[cfg_attr(feature = "serde", derive(serde::Serialize, serde::Deserialize))]
 pub enum SixelData {
@@ -132,7 +132,7 @@ impl Sixel {
 }
 
 impl SixelData {
-    // The piece of data of a row. Kinds are as the header has them.
+    // The item of a row. Kinds are as the header has them.
     pub(super) fn of(row: &ffi::SixelItem) -> Option<SixelData> {
         Some(match row.kind {
             0 => SixelData::Data(row.pixels),
