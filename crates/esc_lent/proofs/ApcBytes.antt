@@ -1,4 +1,4 @@
--- Bytes of an application program command that lie in a later piece than its opener.
+-- Bytes of an application program command that lie in a later chunk than its opener.
 use Rattle.std.proofs.Common.{ℕ, ◌≡◌, true, false, List, [], ◌∷◌, ◌++◌, take, length, refl, ap, sym, ◌∙◌, subst, Some, if◌then◌else◌}
 use Rattle.std.specs.List.{list_all}
 use Rattle.std.proofs.lemmas.List.{append-nil}

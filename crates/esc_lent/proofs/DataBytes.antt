@@ -1,4 +1,4 @@
--- Bytes of data, and of what is passed over, that lie in a later piece than the opener.
+-- Bytes of data, and of what is passed over, that lie in a later chunk than the opener.
 use Rattle.std.proofs.Common.{ℕ, ◌≡◌, Bool, true, false, not, ◌&&◌, List, [], ◌∷◌, ◌++◌, length, refl, ap, sym, ◌∙◌, subst, Some, Option, if◌then◌else◌}
 use Rattle.std.specs.List.{list_all}
 use Rattle.esc_frame.specs.declared.classes.Class.{Class}

@@ -1,4 +1,4 @@
--- Bytes of the header of a device control string that lie in a later piece than its opener.
+-- Bytes of the header of a device control string that lie in a later chunk than its opener.
 use Rattle.std.proofs.Common.{ℕ, ◌≡◌, ◌≢◌, ◌≤◌, Bool, true, false, ◌&&◌, List, [], ◌∷◌, ◌++◌, take, length, length-take, refl, ap, sym, ◌∙◌, subst, Some, Option, min, if◌then◌else◌, arith}
 use Rattle.std.proofs.lemmas.Bool.Decides.{nat_tests}
 use Rattle.std.proofs.lemmas.List.Elements.{filter-append}

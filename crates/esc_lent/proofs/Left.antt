@@ -1,4 +1,4 @@
--- Controls that end a string, where it came in pieces.
+-- Controls that end a string, where it came in chunks.
 use Rattle.std.proofs.Common.{ℕ, ◌≡◌, true, false, List, [], ◌∷◌, ◌++◌, take, length, refl, ap, sym, ◌∙◌, subst, Some, if◌then◌else◌}
 use Rattle.esc_frame.specs.Classes.{class_of, those, is_text, is_breaker}
 use Rattle.esc_frame.specs.Events.{Event}

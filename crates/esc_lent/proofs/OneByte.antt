@@ -1,4 +1,4 @@
--- What a byte does where it lies in a later piece than the bytes before it.
+-- What a byte does where it lies in a later chunk than the bytes before it.
 use Rattle.std.proofs.Common.{ℕ, ◌≡◌, ◌≢◌, ◌≤◌, ◌<◌, Bool, true, false, List, [], ◌∷◌, ◌++◌, map, take, length, get_or, refl, ap, sym, ◌∙◌, subst, Some, None, Option, min, if◌then◌else◌, arith}
 use Rattle.std.proofs.lemmas.List.{append-nil}
 use Rattle.esc_values.specs.declared.csi_param.CsiParam.{CsiParam}

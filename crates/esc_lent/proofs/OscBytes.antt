@@ -1,4 +1,4 @@
--- Bytes of an operating system command that lie in a later piece than its opener.
+-- Bytes of an operating system command that lie in a later chunk than its opener.
 use Rattle.std.proofs.Common.{ℕ, ◌≡◌, Bool, true, false, not, List, [], ◌∷◌, ◌++◌, take, length, refl, ap, sym, ◌∙◌, subst, Some, Option, if◌then◌else◌}
 use Rattle.std.proofs.lemmas.List.{append-nil}
 use Rattle.std.proofs.lemmas.List.Concat.{flat_map-append}

@@ -1,4 +1,4 @@
--- Bytes of an escape sequence that lie in a later piece than its ESC, and noise in a sequence.
+-- Bytes of an escape sequence that lie in a later chunk than its ESC, and noise in a sequence.
 use Rattle.std.proofs.Common.{ℕ, ◌≡◌, ◌≢◌, ◌⊎◌, inl, inr, true, false, not, List, [], ◌∷◌, ◌++◌, take, length, length-take, refl, ap, sym, ◌∙◌, subst, Some, Option, min, if◌then◌else◌, arith}
 use Rattle.std.proofs.lemmas.List.Elements.{filter-append}
 use Rattle.esc_frame.specs.declared.classes.Class.{Class}

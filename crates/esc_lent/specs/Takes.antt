@@ -178,7 +178,7 @@ pub record TakesWhole (parser : Changed EscParser) (event : Changed EscEvent) (b
 
 -- Bytes that continue a sequence, a string or a character, or begin one, were taken, from the first
 -- on, or none.
-pub record TakesPiece (parser : Changed EscParser) (memory out : Changed (List ℕ))
+pub record TakesPart (parser : Changed EscParser) (memory out : Changed (List ℕ))
     (event : Changed EscEvent) (bytes : List ℕ) (taken : ℕ) : Type 0 where
   -- no more than there are
   pub few : taken ≤ length bytes
@@ -194,7 +194,7 @@ pub record TakesPiece (parser : Changed EscParser) (memory out : Changed (List �
       memory.exit.now (take taken bytes)
 
 -- The same, where what breaks something off is taken too, so that a second event may be queued.
-pub record GivesPiece (parser : Changed EscParser) (memory out : Changed (List ℕ))
+pub record GivesPart (parser : Changed EscParser) (memory out : Changed (List ℕ))
     (event : Changed EscEvent) (bytes : List ℕ) (taken : ℕ) : Type 0 where
   -- no more than there are
   pub few : taken ≤ length bytes
@@ -251,9 +251,9 @@ pub record NotesText (kind room : ℕ) (event : Changed EscEvent) (is_taken : Ty
   pub within : IsCountedAs event.exit.now event.entry.now
 
 -- Bytes of a string were taken, and the event is none, or of this kind, that of its text.
-pub record TakesPieceOf (text : ℕ) (parser : Changed EscParser) (memory out : Changed (List ℕ))
+pub record TakesPartOf (text : ℕ) (parser : Changed EscParser) (memory out : Changed (List ℕ))
     (event : Changed EscEvent) (bytes : List ℕ) (taken : ℕ) : Type 0 where
-  pub takes : TakesPiece parser memory out event bytes taken
+  pub takes : TakesPart parser memory out event bytes taken
   pub kind : (event.exit.now.kind ≡ NONE) ⊎ (event.exit.now.kind ≡ text)
   pub within : IsCountedAs event.exit.now event.entry.now
       × (event.exit.now.length ≤ length out.entry.now)

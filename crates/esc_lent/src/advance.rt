@@ -10,10 +10,11 @@ ghost use Rattle.esc_lent.specs.Asked.{Asked, AskedWithin};
 ghost use Rattle.esc_lent.specs.Next.{Advances, IsReady, both};
 ghost use Rattle.esc_lent.specs.Takes.{IsInRoom};
 
+use crate::chunks::note_part;
 use crate::event::{CHARACTER, CONTROL, DATA, EscEvent, FAILED, NONE, TEXT};
 use crate::limited::{Place, note_limited};
+use crate::numbers::{DATA_STATE, GROUND};
 use crate::parser::EscParser;
-use crate::pieces::note_piece;
 use crate::quick::note_quick;
 use crate::runs::text_run;
 use crate::step::step;
@@ -27,9 +28,9 @@ fn run_ahead(parser: &EscParser, bytes: &[u8], event: &mut EscEvent) -> usize
     requires { Asked event.old bytes.now }
     ensures { NotesRun parser.now event bytes.now result }
 {
-    if parser.state == 0 && parser.pending == 0 {
+    if parser.state == GROUND && parser.pending == 0 {
         note_run(event, TEXT, text_run(bytes))
-    } else if parser.state == 5 {
+    } else if parser.state == DATA_STATE {
         note_run(event, DATA, data_run(bytes))
     } else {
         0
@@ -111,9 +112,9 @@ pub fn advance(
     if first > 0 {
         return first;
     }
-    let piece = note_piece(parser, memory, out, bytes, event);
-    if piece > 0 {
-        return piece;
+    let part = note_part(parser, memory, out, bytes, event);
+    if part > 0 {
+        return part;
     }
     by_machine(parser, memory, out, bytes, event)
 }

@@ -1,4 +1,4 @@
-//! Control sequences that come in pieces: each byte of a body changes what the parser keeps of it,
+//! Control sequences that come in chunks: each byte of a body changes what the parser keeps of it,
 //! in its place.
 #![tactic(auto)]
 

@@ -1,4 +1,4 @@
-//! Characters whose bytes come in pieces.
+//! Characters whose bytes come in chunks.
 #![tactic(auto)]
 
 ghost use Rattle.std.specs.Prelude.{◌≡◌, true, false};

@@ -1,4 +1,4 @@
-//! Operating system and application program commands whose text comes in pieces: it is appended
+//! Operating system and application program commands whose text comes in chunks: it is appended
 //! where the parser keeps it.
 #![tactic(auto)]
 
@@ -9,7 +9,7 @@ ghost use Rattle.esc_frame.specs.Machine.TextRuns.{IsTextRun};
 ghost use Rattle.esc_frame.specs.Machine.Prefixes.{prefix_of};
 ghost use Rattle.esc_lent.specs.Runs.{Passes};
 ghost use Rattle.esc_lent.specs.Asked.{GoesOn};
-ghost use Rattle.esc_lent.specs.Takes.{Appends, NotesText, TakesEnd, TakesPieceOf, TakesText};
+ghost use Rattle.esc_lent.specs.Takes.{Appends, NotesText, TakesEnd, TakesPartOf, TakesText};
 
 use crate::characters::put_pending;
 use crate::event::{APC, EscEvent, OSC};
@@ -130,7 +130,7 @@ pub fn note_in_osc(
     event: &mut EscEvent,
 ) -> usize
     requires { GoesOn OSC_STATE parser.old event.old bytes.now (event.old.length ≤ length out.old) }
-    ensures { TakesPieceOf OSC parser memory out event bytes.now result }
+    ensures { TakesPartOf OSC parser memory out event bytes.now result }
 {
     if parser.pending == 0 {
         let run = units_run(bytes);
@@ -237,7 +237,7 @@ pub fn note_in_apc(
     event: &mut EscEvent,
 ) -> usize
     requires { GoesOn APC_STATE parser.old event.old bytes.now (event.old.length ≤ length out.old) }
-    ensures { TakesPieceOf APC parser memory out event bytes.now result }
+    ensures { TakesPartOf APC parser memory out event bytes.now result }
 {
     let run = ascii_run(bytes);
     if run > 0 {

@@ -1,4 +1,4 @@
-//! The data of a device control string, and what is passed over, where they come in pieces.
+//! The data of a device control string, and what is passed over, where they come in chunks.
 #![tactic(auto)]
 
 ghost use Rattle.std.specs.Prelude.{◌≡◌, ◌∷◌, [], true, false};

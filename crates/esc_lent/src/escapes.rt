@@ -1,4 +1,4 @@
-//! Escape sequences that come in pieces, and controls in the middle of a sequence.
+//! Escape sequences that come in chunks, and controls in the middle of a sequence.
 #![tactic(auto)]
 
 ghost use Rattle.std.specs.Prelude.{◌≡◌, ◌≤◌, ◌⊎◌, ◌++◌, ◌∷◌, [], ℕ, List, true, false};

@@ -1,4 +1,4 @@
-//! Headers of device control strings that come in pieces.
+//! Headers of device control strings that come in chunks.
 #![tactic(auto)]
 
 ghost use Rattle.std.specs.Prelude.{◌≡◌, ◌⊎◌, ◌++◌, ◌∷◌, [], ℕ, List, true, false, length, min};

@@ -1,5 +1,5 @@
 //! Controls that end a string and do what they do between sequences, where the string came in
-//! pieces.
+//! chunks.
 #![tactic(auto)]
 
 ghost use Rattle.std.specs.Prelude.{◌≡◌, ◌≢◌, ◌⊎◌, true, false, length};
@@ -90,11 +90,11 @@ pub fn note_left(
     ensures some { result ≡ true → event.new.kind ≢ NONE }
     ensures sound { IsSound event.new (length out.old) }
 {
-    if parser.state == 3 && parser.pending == 0 {
+    if parser.state == OSC_STATE && parser.pending == 0 {
         leave_text(parser, memory, out, byte, event, OSC)
-    } else if parser.state == 7 {
+    } else if parser.state == APC_STATE {
         leave_text(parser, memory, out, byte, event, APC)
-    } else if parser.state == 5 {
+    } else if parser.state == DATA_STATE {
         leave_data(parser, byte, event);
         true
     } else {

@@ -9,7 +9,7 @@ ghost use Rattle.esc_lent.specs.States.{FirstIn, HeaderIn, KeptIn};
 use crate::csi_params::body_in;
 use crate::named::Named;
 use crate::no_memory::NoMemory;
-use crate::numbers::{form_of, pending_in, state_of};
+use crate::numbers::{CSI_STATE, form_of, pending_in, state_of};
 use crate::parser::EscParser;
 use crate::text::BorrowedText;
 use esc_frame::machine::Machine;
@@ -57,7 +57,7 @@ pub fn load<'a, N: Named>(
         state: state_of(parser.state),
         pending: pending_in(parser),
         intermediates: first_in(parser),
-        body: if parser.state == 2 {
+        body: if parser.state == CSI_STATE {
             body_in(parser)
         } else {
             CsiBody::new()

@@ -1,4 +1,4 @@
-//! A parser that takes a stream in pieces, in its caller's memory.
+//! A parser that takes a stream in chunks, in its caller's memory.
 #![tactic(auto)]
 
 ghost use Rattle.std.specs.Prelude.{◌≡◌, ◌≤◌, ◌<◌, length, true, false, IsTrue, slice_index};
@@ -8,6 +8,7 @@ ghost use Rattle.esc_lent.specs.Ahead.{GivesQueued};
 
 use crate::advance::{advance, ahead};
 use crate::event::{CHARACTER, CONTROL, EscEvent, FAILED, NONE};
+use crate::numbers::GROUND;
 use crate::parser::EscParser;
 use crate::quick::{note_csi, note_plain};
 
@@ -211,7 +212,10 @@ fn next_on(
 fn is_idle(parser: &EscParser) -> bool
     ensures { IsTrue result → IsPlain parser.now }
 {
-    !parser.has_failed & (parser.queued_kind == NONE) & (parser.state == 0) & (parser.pending == 0)
+    !parser.has_failed
+        & (parser.queued_kind == NONE)
+        & (parser.state == GROUND)
+        & (parser.pending == 0)
 }
 
 // From this many bytes on a first look needs no check for their end.

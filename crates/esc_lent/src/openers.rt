@@ -1,4 +1,4 @@
-//! What begins a sequence or a string, where its bytes come in pieces.
+//! What begins a sequence or a string, where its bytes come in chunks.
 #![tactic(auto)]
 
 ghost use Rattle.std.specs.Prelude.{◌≡◌, ℕ, List, false};

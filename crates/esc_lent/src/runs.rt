@@ -89,7 +89,7 @@ fn before_cut(bytes: &[u8], end: usize) -> usize
     }
 }
 
-// A run that is well-formed, or nothing. A character at its end that goes on in the next piece is
+// A run that is well-formed, or nothing. A character at its end that goes on in the next chunk is
 // left out.
 #[inline(never)]
 fn wide_text(bytes: &[u8]) -> usize

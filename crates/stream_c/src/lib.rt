@@ -1,5 +1,5 @@
 //! A parser of terminal escape sequences for C, and for programs that link C's libraries: it takes
-//! a stream in pieces, keeps all in its caller's memory, and takes none itself. `esc_lent` is that
+//! a stream in chunks, keeps all in its caller's memory, and takes none itself. `esc_lent` is that
 //! parser.
 //!
 //! `include/escape_stream_parser.h` declares the calls for C. The archive needs no other.

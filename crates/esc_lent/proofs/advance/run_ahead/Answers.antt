@@ -3,8 +3,8 @@ use Rattle.esc_lent.proofs.TextRuns.{text_utf8, data_utf8}
 use Rattle.esc_lent.proofs.Kept.{text_keeps, text_emits, data_keeps, data_emits}
 use Rattle.esc_lent.proofs.advance.run_ahead.Goals as goal
 
-pub returns-then-parser-eq0-2 : goal.returns-then-parser-eq0-2
-returns-then-parser-eq0-2 c = record {
+pub returns-then-parser-eq0 : goal.returns-then-parser-eq0
+returns-then-parser-eq0 c = record {
   few = search rules;
   none = search rules;
   some = search rules;
@@ -14,38 +14,40 @@ returns-then-parser-eq0-2 c = record {
       c.text_run.result c.note_run.ensures.some c.note_run.ensures.none
       c.text_run.ensures.run;
   kept = λ some u memory h.
-      text_keeps c.args.parser.now memory c.if-parser-eq0.true c.if-parser-eq0-2.true
+      text_keeps c.args.parser.now memory c.if-parser-eq-GROUND.true c.if-parser-eq0.true
       c.args.bytes.now
       c.text_run.result c.note_run.result
       c.note_run.ensures.length c.text_run.ensures.run u h;
   emitted = λ some u memory out h.
       let k = c.note_run.ensures.some (subst (λ n. 0 < n) c.note_run.ensures.length some) in
-      text_emits c.args.parser.now memory c.if-parser-eq0.true c.if-parser-eq0-2.true
+      text_emits c.args.parser.now memory c.if-parser-eq-GROUND.true c.if-parser-eq0.true
       c.args.bytes.now
       c.text_run.result c.note_run.result
       c.note_run.ensures.length c.text_run.ensures.run u h c.note_run.new.event out k.0 k.1;
 }
 
-pub returns-then-parser-eq5 : goal.returns-then-parser-eq5
-returns-then-parser-eq5 c = record {
+pub returns-then-parser-eq-DATA_STATE : goal.returns-then-parser-eq-DATA_STATE
+returns-then-parser-eq-DATA_STATE c = record {
   few = search rules;
   none = search rules;
   some = search rules;
   within = search rules;
   utf8 =
-      data_utf8 c.note_run-then-parser-eq5.new.event c.args.event.now c.args.bytes.now
+      data_utf8 c.note_run-then-parser-eq-DATA_STATE.new.event c.args.event.now c.args.bytes.now
       c.requires.none
-      c.data_run.result c.note_run-then-parser-eq5.ensures.some
-      c.note_run-then-parser-eq5.ensures.none;
+      c.data_run.result c.note_run-then-parser-eq-DATA_STATE.ensures.some
+      c.note_run-then-parser-eq-DATA_STATE.ensures.none;
   kept = λ some u memory h.
-      data_keeps c.args.parser.now memory c.if-parser-eq5.true c.args.bytes.now c.data_run.result
-      c.note_run-then-parser-eq5.result
-      c.note_run-then-parser-eq5.ensures.length c.data_run.ensures.run u h;
+      data_keeps c.args.parser.now memory c.if-parser-eq-DATA_STATE.true c.args.bytes.now
+      c.data_run.result
+      c.note_run-then-parser-eq-DATA_STATE.result
+      c.note_run-then-parser-eq-DATA_STATE.ensures.length c.data_run.ensures.run u h;
   emitted = λ some u memory out h.
-      let k = c.note_run-then-parser-eq5.ensures.some
-      (subst (λ n. 0 < n) c.note_run-then-parser-eq5.ensures.length some) in
-      data_emits c.args.parser.now memory c.if-parser-eq5.true c.args.bytes.now c.data_run.result
-      c.note_run-then-parser-eq5.result
-      c.note_run-then-parser-eq5.ensures.length c.data_run.ensures.run u h
-      c.note_run-then-parser-eq5.new.event out k.0 k.1;
+      let k = c.note_run-then-parser-eq-DATA_STATE.ensures.some
+      (subst (λ n. 0 < n) c.note_run-then-parser-eq-DATA_STATE.ensures.length some) in
+      data_emits c.args.parser.now memory c.if-parser-eq-DATA_STATE.true c.args.bytes.now
+      c.data_run.result
+      c.note_run-then-parser-eq-DATA_STATE.result
+      c.note_run-then-parser-eq-DATA_STATE.ensures.length c.data_run.ensures.run u h
+      c.note_run-then-parser-eq-DATA_STATE.new.event out k.0 k.1;
 }

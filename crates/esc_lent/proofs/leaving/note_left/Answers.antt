@@ -1,8 +1,9 @@
 use Rattle.std.proofs.Common.{rules}
 use Rattle.esc_lent.proofs.leaving.note_left.Goals as goal
 
-pub returns-then-parser-eq5-clause-takes : goal.returns-then-parser-eq5-clause-takes
-returns-then-parser-eq5-clause-takes c = record {
+pub returns-then-parser-eq-DATA_STATE-clause-takes :
+    goal.returns-then-parser-eq-DATA_STATE-clause-takes
+returns-then-parser-eq-DATA_STATE-clause-takes c = record {
   other = search rules;
   failed = search rules;
   gives =

@@ -1,6 +1,6 @@
 use Rattle.std.proofs.Common.{rules}
 use Rattle.esc_lent.proofs.Sequences.{between_notes}
-use Rattle.esc_lent.proofs.pieces.note_in_ground.Goals as goal
+use Rattle.esc_lent.proofs.chunks.note_in_ground.Goals as goal
 
 pub returns-then-parser-eq0-clause-takes : goal.returns-then-parser-eq0-clause-takes
 returns-then-parser-eq0-clause-takes c = record {

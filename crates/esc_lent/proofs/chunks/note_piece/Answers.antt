@@ -2,7 +2,7 @@ use Rattle.std.proofs.Common.{rules, ◌≡◌, ◌∷◌, [], get_or, sym, subs
 use Rattle.esc_lent.specs.Runs.{Gives}
 use Rattle.esc_lent.proofs.Kept.{given_still}
 use Rattle.esc_lent.proofs.OneByte.{first_taken}
-use Rattle.esc_lent.proofs.pieces.note_piece.Goals as goal
+use Rattle.esc_lent.proofs.chunks.note_part.Goals as goal
 
 pub returns-then-is_broken-clause-takes : goal.returns-then-is_broken-clause-takes
 returns-then-is_broken-clause-takes c = record {

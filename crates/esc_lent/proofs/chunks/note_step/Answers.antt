@@ -1,7 +1,7 @@
 use Rattle.std.proofs.Common.{rules, length, refl, sym, subst}
 use Rattle.esc_lent.specs.Runs.{Steps}
 use Rattle.esc_lent.proofs.OneByte.{first_taken}
-use Rattle.esc_lent.proofs.pieces.note_step.Goals as goal
+use Rattle.esc_lent.proofs.chunks.note_step.Goals as goal
 
 pub returns-then-note_byte-clause-takes : goal.returns-then-note_byte-clause-takes
 returns-then-note_byte-clause-takes c = record {

@@ -1,10 +1,10 @@
-//! What lies in two pieces of the stream, taken without a machine.
+//! What lies in two chunks of the stream, taken without a machine.
 #![tactic(auto)]
 
 ghost use Rattle.std.specs.Prelude.{◌≡◌, ◌≤◌, ◌<◌, true, false, length};
 ghost use Rattle.esc_lent.specs.Asked.{AskedWithin, GoesOn, IsFresh};
 ghost use Rattle.esc_lent.specs.Emitted.{is_run};
-ghost use Rattle.esc_lent.specs.Takes.{GivesPiece, IsInRoom, NotesSingle, TakesByte, TakesPiece};
+ghost use Rattle.esc_lent.specs.Takes.{GivesPart, IsInRoom, NotesSingle, TakesByte, TakesPart};
 ghost use Rattle.esc_lent.specs.Noted.{IsSound};
 ghost use Rattle.esc_lent.specs.Next.{IsReady};
 
@@ -17,7 +17,9 @@ use crate::escapes::note_in_escape;
 use crate::event::{CHARACTER, CONTROL, EscEvent, FAILED, NONE};
 use crate::headers::note_in_header;
 use crate::leaving::{is_breaker, note_left};
-use crate::numbers::{GROUND, HEADER_STATE};
+use crate::numbers::{
+    APC_STATE, CSI_STATE, DATA_STATE, ESCAPED, GROUND, HEADER_STATE, IGNORED_STATE, OSC_STATE,
+};
 use crate::parser::EscParser;
 
 // Takes a byte between sequences, or one of a character. False where the byte breaks the character
@@ -46,13 +48,13 @@ fn note_byte(parser: &mut EscParser, byte: u8, event: &mut EscEvent) -> bool
     ensures within { (event.new.count ≤ 256) × (event.new.kept ≤ 2)
         × (event.new.length ≡ event.old.length) }
 {
-    if parser.state == 2 {
+    if parser.state == CSI_STATE {
         note_in_csi(parser, byte, event)
-    } else if parser.state == 0 {
+    } else if parser.state == GROUND {
         note_in_ground(parser, byte, event)
-    } else if parser.state == 1 {
+    } else if parser.state == ESCAPED {
         note_in_escape(parser, byte, event)
-    } else if parser.state == 5 {
+    } else if parser.state == DATA_STATE {
         note_in_data(parser, byte, event)
     } else {
         false
@@ -71,7 +73,7 @@ fn note_header(
     requires { GoesOn HEADER_STATE parser.old event.old bytes.now
         (IsInRoom event.old (length out.old)) }
     ensures few { result ≤ 1 }
-    ensures takes { TakesPiece parser memory out event bytes.now result }
+    ensures takes { TakesPart parser memory out event bytes.now result }
     ensures sound { IsSound event.new (length out.old) }
 {
     if note_in_header(parser, memory, out, bytes[0], event) {
@@ -92,16 +94,16 @@ fn note_step(
     event: &mut EscEvent,
 ) -> usize
     requires { AskedWithin event.old bytes.now (IsInRoom event.old (length out.old)) }
-    ensures takes { TakesPiece parser memory out event bytes.now result }
+    ensures takes { TakesPart parser memory out event bytes.now result }
     ensures sound { IsSound event.new (length out.old) }
 {
-    if parser.state == 3 {
+    if parser.state == OSC_STATE {
         note_in_osc(parser, memory, out, bytes, event)
-    } else if parser.state == 6 {
+    } else if parser.state == IGNORED_STATE {
         note_ignored(parser, bytes)
-    } else if parser.state == 7 {
+    } else if parser.state == APC_STATE {
         note_in_apc(parser, memory, out, bytes, event)
-    } else if parser.state == 4 {
+    } else if parser.state == HEADER_STATE {
         note_header(parser, memory, out, bytes, event)
     } else if note_byte(parser, bytes[0], event) {
         1
@@ -114,7 +116,7 @@ fn note_step(
 /// breaks it off: at least a byte. Nothing where something else comes, which is left to the
 /// machine.
 #[inline(always)]
-pub fn note_piece(
+pub fn note_part(
     parser: &mut EscParser,
     memory: &mut [u8],
     out: &mut [u8],
@@ -123,7 +125,7 @@ pub fn note_piece(
 ) -> usize
     requires some { 0 < length bytes.now }
     requires ready { IsReady parser.old event.old (length out.old) }
-    ensures takes { GivesPiece parser memory out event bytes.now result }
+    ensures takes { GivesPart parser memory out event bytes.now result }
     ensures sound { IsSound event.new (length out.old) }
 {
     let step = note_step(parser, memory, out, bytes, event);
@@ -131,7 +133,7 @@ pub fn note_piece(
         return step;
     }
     let byte = bytes[0];
-    if parser.state == 0 && is_broken(parser, byte) {
+    if parser.state == GROUND && is_broken(parser, byte) {
         note_broken(parser, byte, event);
         1
     } else if is_breaker(byte) && note_left(parser, memory, out, byte, event) {
