@@ -1,0 +1,10 @@
+pub mod Singles
+pub mod Given
+pub mod Normals
+pub mod Steady
+pub mod Twice
+pub mod Returns
+pub mod OneLine
+pub mod AllLines
+pub mod Tints
+pub mod Policies

@@ -1,0 +1,57 @@
+// SPDX-License-Identifier: MIT
+//! Laws of filters that read what they wrote: they write it again as it is. Each holds for every
+//! allocator `A`, which the type of the actions names.
+#![tactic(auto)]
+
+ghost use Rattle.std.specs.Prelude.{◌≡◌, ℕ, Bool, List, None, Option};
+ghost use Rattle.esc_actions.specs.Values.{Value};
+ghost use Rattle.esc_filter.specs.Known.{IsPassedText};
+ghost use Rattle.esc_filter.specs.Lines.{closed_by_lines_as, lines};
+ghost use Rattle.esc_filter.specs.Openings.{resumed_closed};
+ghost use Rattle.esc_filter.specs.Passing.{closed_text_as, passed_text_as};
+ghost use Rattle.esc_filter.specs.declared.guard.Guard.{Guard};
+ghost use Rattle.esc_filter.specs.declared.policy.Policy.{Policy};
+ghost use Rattle.esc_idempotent.specs.Again.{AdmitsAs, AdmitsInstead, AdmitsItsClosing, AreKept, IsKept};
+
+use esc_filter::{lines_written, written_reads_back};
+use std::alloc::Allocator;
+
+/// A filter writes what it wrote of a stream again as it is, whatever its policy admits, where that
+/// is text or all is written as it is, and the limit of the second filter leaves nothing out. Where
+/// the stream has ended, the policy has to admit what gives back what it admits leaves changed.
+pub fn filters_twice<A: Allocator>()
+    ensures goes_on { (u : Guard) (limit again : Option ℕ) (f : Value A → Bool)
+        → AdmitsInstead u f → (s : List ℕ) → IsKept A again (passed_text_as u limit f s)
+        → passed_text_as u again f (passed_text_as u limit f s) ≡ passed_text_as u limit f s }
+    ensures ended { (u : Guard) (limit again : Option ℕ) (f : Value A → Bool)
+        → AdmitsInstead u f → AdmitsItsClosing f
+        → (s : List ℕ) → IsKept A again (closed_text_as u limit f s)
+        → closed_text_as u again f (closed_text_as u limit f s) ≡ closed_text_as u limit f s }
+{
+    written_reads_back::<A>();
+}
+
+/// The same by lines, and where the renditions that go on are written again: none goes on over a
+/// line feed that was written.
+pub fn filters_lines_twice<A: Allocator>()
+    ensures by_lines { (u : Guard) (limit again : ℕ) (f : Value A → Bool)
+        → AdmitsInstead u f → AdmitsItsClosing f
+        → (s : List ℕ) → AreKept A again (lines (closed_by_lines_as u limit f s))
+        → closed_by_lines_as u again f (closed_by_lines_as u limit f s)
+        ≡ closed_by_lines_as u limit f s }
+    ensures resumed { (k : Bool) (u : Guard) (limit again : ℕ) (f : Value A → Bool)
+        → AdmitsInstead u f → AdmitsItsClosing f
+        → (s : List ℕ) → AreKept A again (lines (resumed_closed k u limit f s))
+        → resumed_closed k u again f (resumed_closed k u limit f s)
+        ≡ resumed_closed k u limit f s }
+{
+    written_reads_back::<A>();
+    lines_written::<A>();
+}
+
+/// Each of the policies, and what admits exactly what it does, admits text, and what gives back
+/// what it admits leaves changed.
+pub fn policies_close<A: Allocator>()
+    ensures texts { (p : Policy) (f : Value A → Bool) → AdmitsAs p f → IsPassedText f }
+    ensures closes { (p : Policy) (f : Value A → Bool) → AdmitsAs p f → AdmitsItsClosing f }
+{}
