@@ -168,7 +168,10 @@ edit_step (edits.EraseInDisplay p) = display_step p
 edit_step (edits.SelectiveEraseInDisplay p) = display_step p
 edit_step (edits.EraseInLine p) = line_step p
 edit_step (edits.SelectiveEraseInLine p) = line_step p
-edit_step _ = Nothing
+edit_step (edits.ScrollLeft n) = Edited (change.ScrollLeft (count n))
+edit_step (edits.ScrollRight n) = Edited (change.ScrollRight (count n))
+edit_step (edits.InsertColumn n) = Edited (change.InsertColumns (count n))
+edit_step (edits.DeleteColumn n) = Edited (change.DeleteColumns (count n))
 
 -- DECSTR
 abbrev pub device_step : Device → Step

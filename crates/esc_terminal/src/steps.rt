@@ -187,10 +187,10 @@ pub fn edit_step(edit: Edit) -> Step
         Edit::Repeat(n) => Step::Repeat(count(n)),
         Edit::EraseInDisplay(part) | Edit::SelectiveEraseInDisplay(part) => display_step(part),
         Edit::EraseInLine(part) | Edit::SelectiveEraseInLine(part) => line_step(part),
-        Edit::ScrollLeft(_)
-        | Edit::ScrollRight(_)
-        | Edit::InsertColumn(_)
-        | Edit::DeleteColumn(_) => Step::Nothing,
+        Edit::ScrollLeft(n) => Step::Edit(Change::ScrollLeft(count(n))),
+        Edit::ScrollRight(n) => Step::Edit(Change::ScrollRight(count(n))),
+        Edit::InsertColumn(n) => Step::Edit(Change::InsertColumns(count(n))),
+        Edit::DeleteColumn(n) => Step::Edit(Change::DeleteColumns(count(n))),
     }
 }
 
