@@ -291,6 +291,15 @@ function_steps ls k (tabs c ns) = choice_steps c ns
 function_steps ls k (renditions rs) = selected (look_by_all (look_at k.look ls) rs) ls
 function_steps ls k _ = []
 
+-- the step that a function is, where it is one and asks for no look
+abbrev pub one_step : Place → Function → Option Step
+one_step k (cursor c) = Some (cursor_step k c)
+one_step k (edit e) = Some (edit_step e)
+one_step k (device d) = Some (device_step d)
+one_step k (charset c) = Some (charset_step c)
+one_step k (escape e) = Some (escape_step e)
+one_step k _ = None
+
 -- and the looks after it
 abbrev pub function_looks : List Look → Place → Function → List Look
 function_looks ls k (renditions rs) = selected_looks (look_by_all (look_at k.look ls) rs) ls
