@@ -6,3 +6,5 @@ pub mod Free
 pub mod Sounds
 pub mod StaysSound
 pub mod Painted
+pub mod Scrolling
+pub mod Logged

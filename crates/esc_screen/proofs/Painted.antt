@@ -31,7 +31,7 @@ put_first n j c p e =
     ∙ ap (λ z. set z n (plain c)) (cut_same (n + 1) xs next)
     ∙ set_at p b (replicate j b) (plain c) n e
 
-put_blank : (n k : ℕ) (cs : List ℕ) (p : List Cell) → length p ≡ n → length cs ≤ k
+pub put_blank : (n k : ℕ) (cs : List ℕ) (p : List Cell) → length p ≡ n → length cs ≤ k
     → put_all n 0 cs (p ++ replicate k (blank 0))
     ≡ p ++ (map plain cs ++ replicate (k - length cs) (blank 0))
 put_blank n k [] p e h = ap (λ z. p ++ replicate z (blank 0)) all

@@ -76,7 +76,7 @@ narrow_direct s c g h =
     then in_row (inserted g.cursor.erased 1 g.cursor.column s.columns) g
     else g)) k.0
 
-landed_in : (s : Size) (b : Bool) (n : ℕ) (g : Grid) → n < s.columns
+pub landed_in : (s : Size) (b : Bool) (n : ℕ) (g : Grid) → n < s.columns
     → landed s.columns b n g.cursor ≡ record (g.cursor) { column = n }
 landed_in s b n g within = rw (tests n s.columns within) refl
   where

@@ -2,7 +2,8 @@
 use Rattle.std.proofs.Common.{ℕ, suc, zero, ◌≡◌, ◌+◌, ◌-◌, ◌<◌, ◌≤◌, max, Bool, true, false, List, [], ◌∷◌, ◌++◌, length, map, set, take, drop, get_or, if◌then◌else◌, refl, ap, sym, ◌∙◌, length-append, arith}
 use Rattle.std.proofs.lemmas.List.{length-map, length-replicate, length-set, take-append-drop}
 use Rattle.esc_screen.specs.Lists.{in_part, moved_down, moved_up}
-use Rattle.esc_screen.specs.Cells.{blank, cleared, cut, deleted, emptied, erased, filled, inserted, is_rest, marked, put, put_wide, start_of}
+use Rattle.esc_screen.specs.Cells.{blank, cleared, cut, deleted, emptied, erased, filled, inserted, is_rest, marked, put, put_wide, shifted, start_of}
+use Rattle.esc_screen.specs.Changes.{columns_moved}
 use Rattle.esc_screen.specs.Cursors.{at}
 use Rattle.esc_screen.specs.Grids.{Grid, Size, in_row, moved, rows_down, rows_erased, rows_up, with_cursor, with_margins, with_rows}
 use Rattle.esc_screen.specs.Sound.{AreWide, IsFull, IsOn, IsSound}
@@ -84,6 +85,11 @@ length_inserted l k m n xs =
     (λ ys. length_down k (cleared l) ys (length_cleared l))
     ∙ length_cut (max m (n - k)) (cut m xs) ∙ length_cut m xs
 
+length_shifted : (more : Bool) (l k m n : ℕ) (xs : List Cell)
+    → length (shifted more l k m n xs) ≡ length xs
+length_shifted more l k m n xs =
+    if_same length (length xs) more _ _ (length_inserted l k m n xs) (length_deleted l k m n xs)
+
 -- ---- widths
 
 wide_append : (n : ℕ) (xs ys : List (List Cell)) → AreWide n xs → AreWide n ys
@@ -101,10 +107,10 @@ wide_drop n zero xs h = h
 wide_drop n (suc k) [] h = omega arith
 wide_drop n (suc k) (x ∷ xs) h = wide_drop n k xs h.1
 
-wide_filled : (n : ℕ) (x : Cell) (xs : List (List Cell)) → AreWide n xs
-    → AreWide n (map (filled x) xs)
-wide_filled n x [] h = h
-wide_filled n x (y ∷ ys) h = (length_filled x y ∙ h.0, wide_filled n x ys h.1)
+wide_each : (n : ℕ) (f : List Cell → List Cell) (xs : List (List Cell))
+    → ((ys : List Cell) → length (f ys) ≡ length ys) → AreWide n xs → AreWide n (map f xs)
+wide_each n f [] e h = h
+wide_each n f (y ∷ ys) e h = (e y ∙ h.0, wide_each n f ys e h.1)
 
 -- a row that is changed and stays as long
 wide_changed : (n r : ℕ) (f : List Cell → List Cell) (xs : List (List Cell))
@@ -119,11 +125,15 @@ pub record Keeps (n : ℕ) (f : List (List Cell) → List (List Cell)) : Type 0 
   pub height : (ys : List (List Cell)) → length (f ys) ≡ length ys
   pub width : (ys : List (List Cell)) → AreWide n ys → AreWide n (f ys)
 
-pub keeps_filled : (n : ℕ) (x : Cell) → Keeps n (map (filled x))
-keeps_filled n x = record {
-  height = λ ys. length-map ys (filled x);
-  width = wide_filled n x;
+keeps_each : (n : ℕ) (f : List Cell → List Cell)
+    → ((ys : List Cell) → length (f ys) ≡ length ys) → Keeps n (map f)
+keeps_each n f e = record {
+  height = λ ys. length-map ys f;
+  width = λ ys w. wide_each n f ys e w;
 }
+
+pub keeps_filled : (n : ℕ) (x : Cell) → Keeps n (map (filled x))
+keeps_filled n x = keeps_each n (filled x) (length_filled x)
 
 keeps_up : (n k : ℕ) (f : List (List Cell) → List (List Cell)) → Keeps n f
     → Keeps n (moved_up k f)
@@ -226,6 +236,15 @@ sound_down s g k m n h =
     sound_rows s g (in_part m n (moved_down k (map (cleared g.cursor.erased))))
     (keeps_part s.columns m n _ (keeps_down s.columns k _
     (keeps_filled s.columns (blank g.cursor.erased)))) h
+
+pub sound_columns : (s : Size) (g : Grid) (more : Bool) (n c : ℕ) → IsSound s g
+    → IsSound s (columns_moved s more n c g)
+sound_columns s g more n c h =
+    let e = g.cursor.erased in
+    sound_rows s g (in_part g.top g.bottom (map (shifted more e n c s.columns)))
+    (keeps_part s.columns g.top g.bottom _
+    (keeps_each s.columns (shifted more e n c s.columns)
+    (length_shifted more e n c s.columns))) h
 
 pub sound_if : (s : Size) (b : Bool) (g h : Grid) → IsSound s g → IsSound s h
     → IsSound s (if b then g else h)

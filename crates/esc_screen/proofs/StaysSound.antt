@@ -23,7 +23,7 @@ use Rattle.esc_screen.specs.declared.setting.Setting.{Setting}
 use Rattle.esc_screen.specs.declared.setting.Setting.TheVariants as setting
 use Rattle.esc_screen.specs.declared.step.Step.{Step}
 use Rattle.esc_screen.specs.declared.step.Step.TheVariants as step
-use Rattle.esc_screen.proofs.Sounds.{keeps_filled, length_deleted, length_erased, length_inserted, length_marked, length_put, length_put_wide, less_if, sound_down, sound_erased, sound_if, sound_in_row, sound_moved, sound_rows, sound_up, with_on, with_scrolling}
+use Rattle.esc_screen.proofs.Sounds.{keeps_filled, length_deleted, length_erased, length_inserted, length_marked, length_put, length_put_wide, less_if, sound_columns, sound_down, sound_erased, sound_if, sound_in_row, sound_moved, sound_rows, sound_up, with_on, with_scrolling}
 use Rattle.esc_screen.proofs.Stops.{length_eighths}
 
 -- ---- lines
@@ -250,6 +250,12 @@ sound_change s g (change.DeleteRows n) h = sound_if s (is_within g) _ _
     (sound_up s (moved g.cursor.row 0 g) n g.cursor.row g.bottom (sound_start s g h)) h
 sound_change s g (change.ScrollUp n) h = sound_up s g n g.top g.bottom h
 sound_change s g (change.ScrollDown n) h = sound_down s g n g.top g.bottom h
+sound_change s g (change.ScrollLeft n) h = sound_columns s g false n 0 h
+sound_change s g (change.ScrollRight n) h = sound_columns s g true n 0 h
+sound_change s g (change.InsertColumns n) h =
+    sound_if s (is_within g) _ _ (sound_columns s g true n g.cursor.column h) h
+sound_change s g (change.DeleteColumns n) h =
+    sound_if s (is_within g) _ _ (sound_columns s g false n g.cursor.column h) h
 sound_change s g change.Align h = sound_aligned s g h
 
 -- ---- settings

@@ -128,3 +128,7 @@ deleted l k m n xs = in_part m n (moved_up k (cleared l)) (cut (m + k) (cut m xs
 -- so many blank cells come in at one column, and those that would be past another are gone
 abbrev pub inserted : ℕ → ℕ → ℕ → ℕ → List Cell → List Cell
 inserted l k m n xs = in_part m n (moved_down k (cleared l)) (cut (max m (n - k)) (cut m xs))
+
+-- with so many cells more from one column on, and before another, or fewer
+abbrev pub shifted : Bool → ℕ → ℕ → ℕ → ℕ → List Cell → List Cell
+shifted more l k m n xs = if more then inserted l k m n xs else deleted l k m n xs

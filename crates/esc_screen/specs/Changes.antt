@@ -1,7 +1,7 @@
 -- What changes cells, other than printing.
-use Rattle.std.specs.Prelude.{ℕ, ◌+◌, nat_lt, Bool, false, if◌then◌else◌, map}
-use Rattle.esc_screen.specs.Cells.{deleted, drawn, erased, filled, inserted}
-use Rattle.esc_screen.specs.Grids.{Grid, Size, in_row, line_fed, line_fed_back, moved, next_line, rows_down, rows_erased, rows_up, settled, with_margins, with_rows}
+use Rattle.std.specs.Prelude.{ℕ, ◌+◌, nat_lt, Bool, true, false, if◌then◌else◌, map}
+use Rattle.esc_screen.specs.Cells.{deleted, drawn, erased, filled, inserted, shifted}
+use Rattle.esc_screen.specs.Grids.{Grid, Size, in_row, in_rows, line_fed, line_fed_back, moved, next_line, rows_down, rows_erased, rows_up, settled, with_margins, with_rows}
 use Rattle.esc_screen.specs.declared.change.Change.{Change}
 use Rattle.esc_screen.specs.declared.change.Change.TheVariants as change
 
@@ -30,6 +30,15 @@ rows_inserted n g = if is_within g
     then rows_down n g.cursor.row g.bottom (moved g.cursor.row 0 g)
     else g
 
+-- the rows within the margins with so many columns more from one on, or fewer
+abbrev pub columns_moved : Size → Bool → ℕ → ℕ → Grid → Grid
+columns_moved s more n c g =
+    in_rows g.top g.bottom (map (shifted more g.cursor.erased n c s.columns)) g
+
+-- from the column of the cursor on, where it is within the margins
+abbrev pub columns_here : Size → Bool → ℕ → Grid → Grid
+columns_here s more n g = if is_within g then columns_moved s more n g.cursor.column g else g
+
 -- a picture of the letter E
 abbrev pub aligned : Size → Grid → Grid
 aligned s g = moved 0 0 (with_margins 0 s.rows (with_rows (map (filled (drawn 0 0x45)) g.rows) g))
@@ -55,4 +64,8 @@ grid_by_change s g (change.InsertRows n) = rows_inserted n g
 grid_by_change s g (change.DeleteRows n) = rows_deleted n g
 grid_by_change s g (change.ScrollUp n) = rows_up n g.top g.bottom g
 grid_by_change s g (change.ScrollDown n) = rows_down n g.top g.bottom g
+grid_by_change s g (change.ScrollLeft n) = columns_moved s false n 0 g
+grid_by_change s g (change.ScrollRight n) = columns_moved s true n 0 g
+grid_by_change s g (change.InsertColumns n) = columns_here s true n g
+grid_by_change s g (change.DeleteColumns n) = columns_here s false n g
 grid_by_change s g change.Align = aligned s g

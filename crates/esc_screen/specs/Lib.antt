@@ -10,3 +10,5 @@ pub mod Steps
 pub mod Screens
 pub mod Paints
 pub mod Sound
+pub mod Scrolled
+pub mod Logs

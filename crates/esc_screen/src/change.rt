@@ -39,6 +39,14 @@ pub enum Change {
     ScrollUp(u16),
     /// The rows within the margins move down by so many: SD.
     ScrollDown(u16),
+    /// The cells of the rows within the margins move so many columns back: SL.
+    ScrollLeft(u16),
+    /// The cells of the rows within the margins move so many columns on: SR.
+    ScrollRight(u16),
+    /// So many blank columns are put in at the cursor, within the margins: DECIC.
+    InsertColumns(u16),
+    /// So many columns from the cursor on go, within the margins: DECDC.
+    DeleteColumns(u16),
     /// An `E` in every cell, no margins, and the cursor at home: DECALN.
     Align,
 }

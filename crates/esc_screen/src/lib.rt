@@ -29,6 +29,7 @@ mod row;
 mod rows;
 pub mod screen;
 pub mod setting;
+mod shift;
 pub mod step;
 mod tabs;
 

@@ -1,10 +1,11 @@
 //! A row of cells.
 ghost use Rattle.std.specs.Prelude.{◌≡◌, ◌+◌, ◌<◌, ◌^◌, IfOk, length};
-ghost use Rattle.esc_screen.specs.Cells.{blank_row, content_at, deleted, erased, filled, inserted, marked, put, put_all, put_wide};
+ghost use Rattle.esc_screen.specs.Cells.{blank_row, content_at, deleted, erased, filled, inserted, marked, put, put_all, put_wide, shifted};
 
 use crate::cell::Cell;
 use crate::cells;
 use crate::content::Content;
+use crate::shift::Shift;
 use std::alloc::{AllocError, Allocator, Global};
 use std::marker::Model;
 
@@ -100,6 +101,26 @@ impl<A: Allocator> Row<A> {
         ensures { self.new ≡ inserted look count from to self.old }
     {
         cells::insert(&mut self.cells, count, from, to, look);
+    }
+
+    /// Puts in so many blank cells, or takes as many out.
+    pub fn shift(&mut self, shift: Shift)
+        requires { shift.column + shift.count < 2 ^ 64 }
+        ensures { self.new ≡ shifted shift.more shift.look shift.count shift.column shift.end
+            self.old }
+    {
+        let Shift {
+            more,
+            count,
+            column,
+            end,
+            look,
+        } = shift;
+        if more {
+            self.insert(count, column, end, look);
+        } else {
+            self.delete(count, column, end, look);
+        }
     }
 
     /// Makes all cells this one.

@@ -1,10 +1,11 @@
 //! The rows of a screen.
-ghost use Rattle.std.specs.Prelude.{◌≡◌, map};
-ghost use Rattle.esc_screen.specs.Cells.{cleared, filled};
+ghost use Rattle.std.specs.Prelude.{◌≡◌, ◌+◌, ◌<◌, ◌^◌, map};
+ghost use Rattle.esc_screen.specs.Cells.{cleared, filled, shifted};
 ghost use Rattle.esc_screen.specs.Lists.{in_part, moved_down, moved_up};
 
 use crate::cell::Cell;
 use crate::row::Row;
+use crate::shift::Shift;
 use std::alloc::Allocator;
 
 /// Makes all cells of rows this one.
@@ -87,5 +88,28 @@ pub(crate) fn clear_part<A: Allocator>(rows: &mut [Row<A>], from: usize, to: usi
     let end = to.min(rows.len());
     if from < end {
         clear(&mut rows[from..end], look);
+    }
+}
+
+// Puts columns into rows, or takes them out.
+fn shift<A: Allocator>(rows: &mut [Row<A>], shift: Shift)
+    requires { shift.column + shift.count < 2 ^ 64 }
+    ensures { rows.new ≡ map (shifted shift.more shift.look shift.count shift.column shift.end)
+        rows.old }
+{
+    for i in 0..rows.len() {
+        rows[i].shift(shift);
+    }
+}
+
+/// Puts columns into the rows from one to before another, or takes them out.
+pub(crate) fn shift_part<A: Allocator>(rows: &mut [Row<A>], from: usize, to: usize, columns: Shift)
+    requires { columns.column + columns.count < 2 ^ 64 }
+    ensures { rows.new ≡ in_part from to (map (shifted columns.more columns.look columns.count
+        columns.column columns.end)) rows.old }
+{
+    let end = to.min(rows.len());
+    if from < end {
+        shift(&mut rows[from..end], columns);
     }
 }

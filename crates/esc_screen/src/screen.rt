@@ -1,5 +1,5 @@
 //! The screen.
-ghost use Rattle.std.specs.Prelude.{◌≡◌, IfOk};
+ghost use Rattle.std.specs.Prelude.{◌≡◌, [], IfOk, get_or};
 ghost use Rattle.esc_screen.specs.Screens.{Becomes, Takes, grid_of, size_of};
 ghost use Rattle.esc_screen.specs.Grids.{first_grid, line_fed, line_fed_back, moved, next_line, rows_down, rows_erased, rows_up, settled};
 ghost use Rattle.esc_screen.specs.Steps.{grid_from};
@@ -13,6 +13,7 @@ use crate::{rows, tabs};
 use std::alloc::{AllocError, Allocator, Global};
 
 mod changing;
+mod leaving;
 mod moving;
 mod printing;
 mod setting;
@@ -85,7 +86,9 @@ impl<A: Allocator> Screen<A> {
     }
 
     /// The cells of a row, from 0 on; none where there is no such row.
-    pub fn row(&self, at: usize) -> &[Cell] {
+    pub fn row(&self, at: usize) -> &[Cell]
+        ensures { result.now ≡ get_or self.now.rows.items at [] }
+    {
         match self.rows.get(at) {
             Some(row) => row.cells(),
             None => &[],

@@ -1,3 +1,5 @@
 pub mod Kept
 pub mod Runs
 pub mod Streams
+pub mod Handed
+pub mod Stepping

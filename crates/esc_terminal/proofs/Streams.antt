@@ -31,7 +31,7 @@ pub record Did {A : Type 0} (p : State A) (vs : List (Value A)) (q : State A) : 
   pub requests : requests_in q ≡ requests_in p ++ asked_by vs
 
 -- what one does
-one_shown : {A : Type 0} (p : State A) (v : Value A) (q : State A) → TakesValue p v q
+pub one_shown : {A : Type 0} (p : State A) (v : Value A) (q : State A) → TakesValue p v q
     → shown_in q ≡ shown_by (size_of p.screen) (shown_in p) v
 one_shown p v q k =
     let t = shown_by (size_of p.screen) (shown_in p) v in

@@ -5,3 +5,5 @@ pub mod Streams
 pub mod Laws
 pub mod Rows
 pub mod Fed
+pub mod Scrolled
+pub mod Kept

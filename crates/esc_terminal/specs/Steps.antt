@@ -168,7 +168,10 @@ edit_step (edits.EraseInDisplay p) = display_step p
 edit_step (edits.SelectiveEraseInDisplay p) = display_step p
 edit_step (edits.EraseInLine p) = line_step p
 edit_step (edits.SelectiveEraseInLine p) = line_step p
-edit_step _ = Nothing
+edit_step (edits.ScrollLeft n) = Edited (change.ScrollLeft (count n))
+edit_step (edits.ScrollRight n) = Edited (change.ScrollRight (count n))
+edit_step (edits.InsertColumn n) = Edited (change.InsertColumns (count n))
+edit_step (edits.DeleteColumn n) = Edited (change.DeleteColumns (count n))
 
 -- DECSTR
 abbrev pub device_step : Device → Step
@@ -287,6 +290,15 @@ function_steps ls k (modes c ms) = mode_steps c ms
 function_steps ls k (tabs c ns) = choice_steps c ns
 function_steps ls k (renditions rs) = selected (look_by_all (look_at k.look ls) rs) ls
 function_steps ls k _ = []
+
+-- the step that a function is, where it is one and asks for no look
+abbrev pub one_step : Place → Function → Option Step
+one_step k (cursor c) = Some (cursor_step k c)
+one_step k (edit e) = Some (edit_step e)
+one_step k (device d) = Some (device_step d)
+one_step k (charset c) = Some (charset_step c)
+one_step k (escape e) = Some (escape_step e)
+one_step k _ = None
 
 -- and the looks after it
 abbrev pub function_looks : List Look → Place → Function → List Look

@@ -1,5 +1,6 @@
 //! What holds of terminals, for every allocator `A`, which the type of the actions names.
 ghost use Rattle.esc_terminal.specs.Laws.{GoesOn, IsAlwaysSound};
+ghost use Rattle.esc_terminal.specs.Scrolled.{GoesOffOn};
 
 use std::alloc::Allocator;
 
@@ -12,4 +13,9 @@ pub fn is_always_sound<A: Allocator>()
 /// A stream in two pieces does what the first does and then the second.
 pub fn goes_on<A: Allocator>()
     ensures { GoesOn A }
+{}
+
+/// What comes after a stream scrolls off more, after what the stream does.
+pub fn goes_off_on<A: Allocator>()
+    ensures { GoesOffOn A }
 {}

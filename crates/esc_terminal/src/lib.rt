@@ -11,15 +11,18 @@
 #![tactic(auto)]
 
 mod counts;
+mod keeping;
 pub mod laws;
 mod looks;
 mod receiving;
 pub mod request;
 pub mod row_text;
+pub mod rows;
 mod state;
 pub mod steps;
 pub mod terminal;
 
 pub use request::Request;
 pub use row_text::push_row;
+pub use rows::Rows;
 pub use terminal::Terminal;

@@ -179,8 +179,8 @@ impl<A: Allocator> State<A> {
         Ok(())
     }
 
-    // Notes what is asked for, where something is.
-    fn ask(&mut self, request: Option<Request>) -> Result<(), AllocError>
+    /// Notes what is asked for, where something is.
+    pub fn ask(&mut self, request: Option<Request>) -> Result<(), AllocError>
         ensures ok { OnOk result (Does self.old [] (looks_in self.old) self.old.title
             (listed request) self.new) }
         ensures refused { OnErr result (Refused A) }

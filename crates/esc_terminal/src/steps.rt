@@ -1,13 +1,14 @@
 //! What a value of a stream does to a screen.
 ghost use Rattle.std.specs.Prelude.{◌≡◌};
-ghost use Rattle.esc_terminal.specs.Steps.{after_step, before_step, charset_step, choice_step, chosen, clear_step, control_step, cursor_step, device_step, display_step, edit_step, escape_step, is_drawing, line_step, margins_step, mode_step, print_step, private_step, standard_step, tab_step};
+ghost use Rattle.esc_typed.specs.Functions.{value_of as function_value};
+ghost use Rattle.esc_terminal.specs.Steps.{after_step, before_step, charset_step, choice_step, chosen, clear_step, control_step, cursor_step, device_step, display_step, edit_step, escape_step, is_drawing, line_step, margins_step, mode_step, one_step, print_step, private_step, standard_step, tab_step};
 
 use crate::counts::{count, place};
 use esc_actions::ControlCode;
 use esc_screen::{Change, Cursor as Place, Mode, Motion, Setting, Step};
 use esc_typed::{
     Charset, Charset94, Cursor, CursorTabulationControl, Device, Edit, EraseInDisplay, EraseInLine,
-    Escape, ModeChange, OneBased, TabChange, TabulationClear,
+    Escape, Function, ModeChange, OneBased, TabChange, TabulationClear,
 };
 use unicode_width::UnicodeWidthChar;
 
@@ -187,10 +188,10 @@ pub fn edit_step(edit: Edit) -> Step
         Edit::Repeat(n) => Step::Repeat(count(n)),
         Edit::EraseInDisplay(part) | Edit::SelectiveEraseInDisplay(part) => display_step(part),
         Edit::EraseInLine(part) | Edit::SelectiveEraseInLine(part) => line_step(part),
-        Edit::ScrollLeft(_)
-        | Edit::ScrollRight(_)
-        | Edit::InsertColumn(_)
-        | Edit::DeleteColumn(_) => Step::Nothing,
+        Edit::ScrollLeft(n) => Step::Edit(Change::ScrollLeft(count(n))),
+        Edit::ScrollRight(n) => Step::Edit(Change::ScrollRight(count(n))),
+        Edit::InsertColumn(n) => Step::Edit(Change::InsertColumns(count(n))),
+        Edit::DeleteColumn(n) => Step::Edit(Change::DeleteColumns(count(n))),
     }
 }
 
@@ -308,6 +309,20 @@ fn private_step(on: bool, number: u64) -> Step
         1049 => Step::Set(chosen(on, Setting::EnterAlternate, Setting::LeaveAlternate)),
         2026 => Step::Set(Setting::Mode(Mode::Synchronized, on)),
         _ => Step::Nothing,
+    }
+}
+
+/// The step that a function is, where it is one and asks for no look; the cursor is at this place.
+pub fn one_step(from: Place, function: Function<'_>) -> Option<Step>
+    ensures { result ≡ one_step from (function_value function.entry) }
+{
+    match function {
+        Function::Cursor(cursor) => Some(cursor_step(from, cursor)),
+        Function::Edit(edit) => Some(edit_step(edit)),
+        Function::Device(device) => Some(device_step(device)),
+        Function::Charset(charset) => Some(charset_step(charset)),
+        Function::Escape(escape) => Some(escape_step(escape)),
+        _ => None,
     }
 }
 

@@ -1,10 +1,12 @@
 //! A terminal.
-ghost use Rattle.std.specs.Prelude.{◌≡◌, [], IfOk, IfSome, IsErr, IsSomeAnd, OnErr, OnOk};
+ghost use Rattle.std.specs.Prelude.{◌≡◌, ◌⊎◌, [], IfOk, IfSome, IsErr, IsSomeAnd, OnErr, OnOk};
 ghost use Rattle.std.specs.Option.{option_map};
 ghost use Rattle.esc_terminal.specs.Fed.{asked_in, looks_at, title_in};
 ghost use Rattle.memory.specs.Refusals.{Refused};
 
+use crate::keeping::Keeping;
 use crate::request::Request;
+use crate::rows::Rows;
 use crate::state::State;
 use esc_looks::Look;
 use esc_parse::Parser;
@@ -26,6 +28,7 @@ pub struct Terminal<A: Allocator = Global> {
 
 impl<A: Allocator + Copy> Terminal<A> {
     ghost use Rattle.esc_terminal.specs.Fed.{After, IsBroken, TakesIn, WasFed, requests_now, sized};
+    ghost use Rattle.esc_terminal.specs.Kept.{KeepsIn};
 
     /// A terminal of so many columns and rows at the beginning of a stream: each should be 1 at
     /// least.
@@ -62,6 +65,35 @@ impl<A: Allocator + Copy> Terminal<A> {
                 Ok(())
             }
             Err(_) => Err(AllocError),
+        }
+    }
+
+    /// Takes `bytes`, as [`feed`](Self::feed) does, and hands each row that is scrolled off the top
+    /// of the main screen to `rows`, as it was then, which it returns.
+    ///
+    /// The error is that of `feed`, or that `rows` returned one: there is no screen from then on.
+    pub fn feed_into<R: Rows>(&mut self, bytes: &[u8], rows: R) -> (Result<(), AllocError>, R)
+        ensures given { After self.old (λ z s. OnOk result.0
+            (KeepsIn R.takes z s bytes.now rows self.new result.1)) }
+        ensures refused { After self.old (λ z s. OnErr result.0 (Refused A ⊎ R.fails)) }
+        ensures broken { OnErr result.0 (IsBroken self.new) }
+        ensures failed { IsBroken self.old → IsErr result.0 × IsBroken self.new }
+    {
+        let Some(state) = self.state.take() else {
+            return (Err(AllocError), rows);
+        };
+        let keeping = Keeping {
+            state: state.cleared(),
+            rows,
+        };
+        let (result, keeping) = self.parser.parse_into(bytes, keeping);
+        let Keeping { state, rows } = keeping;
+        match result {
+            Ok(()) => {
+                self.state = Some(state);
+                (Ok(()), rows)
+            }
+            Err(_) => (Err(AllocError), rows),
         }
     }
 }

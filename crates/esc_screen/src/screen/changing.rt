@@ -1,13 +1,14 @@
 //! Changes of cells.
 ghost use Rattle.std.specs.Prelude.{◌≡◌};
 ghost use Rattle.esc_screen.specs.Screens.{Becomes, grid_of, size_of};
-ghost use Rattle.esc_screen.specs.Changes.{aligned, cells_deleted, cells_erased, cells_inserted, grid_by_change, is_within, rows_deleted, rows_inserted};
+ghost use Rattle.esc_screen.specs.Changes.{aligned, cells_deleted, cells_erased, cells_inserted, columns_here, columns_moved, grid_by_change, is_within, rows_deleted, rows_inserted};
 
 use crate::cell::Cell;
 use crate::change::Change;
 use crate::cursor::Cursor;
 use crate::rows;
 use crate::screen::Screen;
+use crate::shift::Shift;
 use std::alloc::Allocator;
 
 impl<A: Allocator> Screen<A> {
@@ -84,6 +85,30 @@ impl<A: Allocator> Screen<A> {
         }
     }
 
+    fn move_columns(&mut self, more: bool, count: u16, column: u16)
+        ensures { Becomes self.old (columns_moved (size_of self.old) more count column
+            (grid_of self.old)) self.new }
+    {
+        let columns = Shift {
+            more,
+            count: count as usize,
+            column: column as usize,
+            end: self.max_columns as usize,
+            look: self.cursor.erased,
+        };
+        let from = self.top as usize;
+        rows::shift_part(&mut self.rows, from, self.bottom as usize, columns);
+    }
+
+    fn move_columns_here(&mut self, more: bool, count: u16)
+        ensures { Becomes self.old (columns_here (size_of self.old) more count (grid_of self.old))
+            self.new }
+    {
+        if self.is_within() {
+            self.move_columns(more, count, self.cursor.column);
+        }
+    }
+
     fn align(&mut self)
         ensures { Becomes self.old (aligned (size_of self.old) (grid_of self.old)) self.new }
     {
@@ -153,6 +178,10 @@ impl<A: Allocator> Screen<A> {
             Change::DeleteRows(n) => self.delete_rows(n),
             Change::ScrollUp(n) => self.rows_up(n as usize, self.top, self.bottom),
             Change::ScrollDown(n) => self.rows_down(n as usize, self.top, self.bottom),
+            Change::ScrollLeft(n) => self.move_columns(false, n, 0),
+            Change::ScrollRight(n) => self.move_columns(true, n, 0),
+            Change::InsertColumns(n) => self.move_columns_here(true, n),
+            Change::DeleteColumns(n) => self.move_columns_here(false, n),
             Change::Align => self.align(),
         }
     }

@@ -121,7 +121,7 @@ impl<A: Allocator> Screen<A> {
         self.put_shown(c);
     }
 
-    fn has_room(&self) -> bool
+    pub(crate) fn has_room(&self) -> bool
         ensures { result ≡ has_room (size_of self.now) (grid_of self.now) }
     {
         1 < self.max_columns
@@ -175,7 +175,7 @@ impl<A: Allocator> Screen<A> {
     }
 
     // What stands before the cursor.
-    fn before(&self) -> Content
+    pub(crate) fn before(&self) -> Content
         ensures { result ≡ before (grid_of self.now) }
     {
         if !self.has_before() {

@@ -1,0 +1,5 @@
+use Rattle.esc_screen.proofs.Scrolling.{in_parts}
+use Rattle.esc_screen.proofs.laws.is_in_parts.Goals as goal
+
+pub returns : goal.returns
+returns c = in_parts

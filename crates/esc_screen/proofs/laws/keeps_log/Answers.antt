@@ -1,0 +1,5 @@
+use Rattle.esc_screen.proofs.Logged.{keeps_log}
+use Rattle.esc_screen.proofs.laws.keeps_log.Goals as goal
+
+pub returns : goal.returns
+returns c = keeps_log

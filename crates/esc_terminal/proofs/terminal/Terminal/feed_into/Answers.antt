@@ -1,0 +1,33 @@
+use Rattle.std.proofs.Common.{IsSomeAnd, Some, inl, sym, subst, ◌∙◌}
+use Rattle.std.proofs.lemmas.Result.{IfErr-at_err}
+use Rattle.esc_parse.proofs.Lists.{on_ok_at}
+use Rattle.esc_terminal.specs.Fed.{Shows}
+use Rattle.esc_terminal.proofs.Stepping.{all_kept, rows_given}
+use Rattle.esc_terminal.proofs.Streams.{shows_cleared, shows_more, stops_refused}
+use Rattle.esc_terminal.proofs.terminal.Terminal.feed_into.Goals as goal
+
+pub returns-in-Ok-clause-given : goal.returns-in-Ok-clause-given
+returns-in-Ok-clause-given g c = λ z s h.
+    let k = on_ok_at _ c.in-Ok.is (c.parse_into-result.ensures.given (Some 0x1000) s h.parser) in
+    let at = subst (λ x. IsSomeAnd x (Shows z s))
+    (sym c.take.ensures.value ∙ c.in-Some.is) h.state in
+    let old = shows_cleared z s _ c.cleared.result c.cleared.ensures.screen
+    c.cleared.ensures.looks c.cleared.ensures.title at in
+    let all = all_kept g.R.Rows.takes _ _ _ k.1 in
+    let m = shows_more z s c.args.bytes.now c.cleared.result _ c.cleared.ensures.requests old
+    all.0 in (
+      (
+        record {
+          parser = k.0;
+          state = m.0;
+        },
+        m.1,
+      ),
+      rows_given g.R.Rows.takes z s c.args.bytes.now c.cleared.result _ _ old all.1,
+    )
+
+pub returns-in-Err-clause-refused : goal.returns-in-Err-clause-refused
+returns-in-Err-clause-refused g c = λ z s h.
+    let f = IfErr-at_err _ c.in-Err.is
+    (c.parse_into-result.ensures.refused (Some 0x1000) s h.parser) in
+    stops_refused _ _ _ _ (λ o. inl o.1) (λ p v q r. r.2) _ _ _ f.2

@@ -1,0 +1,53 @@
+-- A terminal that hands out the rows that are scrolled off.
+use Rattle.std.specs.Prelude.{◌≡◌, ℕ, List, [], ◌∷◌, Some}
+use Rattle.std.specs.List.{FoldsTo}
+use Rattle.esc_actions.specs.Values.{value_of}
+use Rattle.esc_actions.specs.Meaning.{yield_within}
+use Rattle.esc_actions.specs.declared.action.Action.{Action}
+use Rattle.esc_typed.specs.Functions.{Value as Function}
+use Rattle.esc_screen.specs.Grids.{Size}
+use Rattle.esc_screen.specs.Screens.{grid_of, size_of}
+use Rattle.esc_screen.specs.Scrolled.{off_from}
+use Rattle.esc_screen.specs.declared.cell.Cell.{Cell}
+use Rattle.esc_screen.specs.declared.step.Step.{Step}
+use Rattle.esc_terminal.specs.Fed.{Takes, TakesAll, TakesIn, TakesSteps, looks_in, shown_in}
+use Rattle.esc_terminal.specs.Scrolled.{Row, off_after, off_by_value, with_looks}
+use Rattle.esc_terminal.specs.Steps.{function_steps}
+use Rattle.esc_terminal.specs.Streams.{shown_of}
+use Rattle.esc_terminal.specs.declared.keeping.Keeping.{Keeping}
+use Rattle.esc_terminal.specs.declared.terminal.Terminal.{Terminal}
+
+-- these rows are handed out, and nothing else is done
+abbrev pub HandsOut : {R A : Type 0} → (R → Row → R → Type 0) → Keeping R A → List (List Cell)
+    → Keeping R A → Type 0
+HandsOut takes p rs q =
+    (q.state ≡ p.state) × FoldsTo takes p.rows (with_looks (looks_in p.state) rs) q.rows
+
+-- it takes a step, and hands out what that scrolls off
+abbrev pub KeepsStep : {R A : Type 0} → (R → Row → R → Type 0) → Keeping R A → Step
+    → Keeping R A → Type 0
+KeepsStep takes p x q = TakesSteps p.state (x ∷ []) q.state
+    × FoldsTo takes p.rows (with_looks (looks_in p.state)
+    (off_from (size_of p.state.screen) (grid_of p.state.screen) (x ∷ []))) q.rows
+
+-- the same of a function
+abbrev pub KeepsFunction : {R A : Type 0} → (R → Row → R → Type 0) → Keeping R A → Function
+    → Keeping R A → Type 0
+KeepsFunction takes p f q = TakesAll p.state f q.state
+    × FoldsTo takes p.rows (with_looks (looks_in p.state)
+    (off_from (size_of p.state.screen) (grid_of p.state.screen)
+    (function_steps (looks_in p.state) p.state.screen.cursor f))) q.rows
+
+-- and of an action
+abbrev pub KeepsAction : {R A : Type 0} → (R → Row → R → Type 0) → Keeping R A → Action A
+    → Keeping R A → Type 0
+KeepsAction takes p a q = Takes p.state a q.state
+    × FoldsTo takes p.rows (off_by_value (size_of p.state.screen) (shown_in p.state) (value_of a))
+    q.rows
+
+-- the terminal, which was fed s, was fed b too, and handed out what b scrolls off
+abbrev pub KeepsIn : {R A : Type 0} → (R → Row → R → Type 0) → Size → List ℕ → List ℕ → R
+    → Terminal A → R → Type 0
+KeepsIn {A = A} takes z s b old t new = TakesIn z s b t
+    × FoldsTo takes old
+    (off_after z (shown_of A z s) (yield_within {A = A} (Some 0x1000) s b)) new

@@ -1,0 +1,35 @@
+-- The rows that a stream scrolls off a terminal's screen.
+use Rattle.std.specs.Prelude.{ℕ, ◌≡◌, List, [], ◌∷◌, ◌++◌, Some, map}
+use Rattle.esc_actions.specs.Meaning.{yield_within}
+use Rattle.esc_actions.specs.Values.{Value}
+use Rattle.esc_looks.specs.declared.look.Look.{Look}
+use Rattle.esc_screen.specs.Grids.{Size}
+use Rattle.esc_screen.specs.Scrolled.{off_from}
+use Rattle.esc_screen.specs.declared.cell.Cell.{Cell}
+use Rattle.esc_terminal.specs.Steps.{steps_of}
+use Rattle.esc_terminal.specs.Streams.{Shown, first_shown, shown_by, shown_of, values_of}
+
+-- the cells of a row, and the looks that they have the numbers of
+abbrev pub Row : Type 0
+Row = List Cell × List Look
+
+abbrev pub with_looks : List Look → List (List Cell) → List Row
+with_looks ls rs = map (λ r. (r, ls)) rs
+
+-- what a value scrolls off
+abbrev pub off_by_value : {A : Type 0} → Size → Shown → Value A → List Row
+off_by_value z t v = with_looks t.looks (off_from z t.grid (steps_of t.looks t.grid.cursor v))
+
+-- and values, one after another
+abbrev pub off_after : {A : Type 0} → Size → Shown → List (Value A) → List Row
+off_after z t [] = []
+off_after z t (v ∷ vs) = off_by_value z t v ++ off_after z (shown_by z t v) vs
+
+-- what a stream scrolls off a terminal of this size
+abbrev pub off_of : Type 0 → Size → List ℕ → List Row
+off_of A z s = off_after z (first_shown z) (values_of A s)
+
+-- what comes after a stream scrolls off more
+abbrev pub GoesOffOn : Type 0 → Type 0
+GoesOffOn A = (z : Size) (s b : List ℕ) → off_of A z (s ++ b)
+    ≡ off_of A z s ++ off_after z (shown_of A z s) (yield_within {A = A} (Some 0x1000) s b)

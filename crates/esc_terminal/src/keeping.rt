@@ -1,0 +1,95 @@
+//! A terminal that hands out the rows that are scrolled off.
+ghost use Rattle.std.specs.Prelude.{◌⊎◌, OnErr, OnOk, take};
+ghost use Rattle.esc_screen.specs.Scrolled.{gone_by};
+ghost use Rattle.esc_screen.specs.Screens.{grid_of, size_of};
+ghost use Rattle.esc_terminal.specs.Kept.{HandsOut, KeepsAction, KeepsFunction, KeepsStep};
+ghost use Rattle.esc_typed.specs.Functions.{value_of as function_value};
+ghost use Rattle.memory.specs.Refusals.{Refused};
+
+use crate::request::request_of;
+use crate::rows::Rows;
+use crate::state::State;
+use crate::steps::{control_step, one_step, print_step};
+use esc_actions::Action;
+use esc_parse::Sink;
+use esc_screen::Step;
+use esc_typed::Function;
+use std::alloc::{AllocError, Allocator, Global};
+
+/// What a terminal holds, and what takes the rows that are scrolled off its screen.
+#[derive(Drop)]
+pub(crate) struct Keeping<R, A: Allocator = Global> {
+    /// What it holds.
+    pub state: State<A>,
+    /// What takes the rows.
+    pub rows: R,
+}
+
+impl<R: Rows, A: Allocator + Copy> Keeping<R, A> {
+    // Hands out the rows that a step is going to scroll off, other than REP.
+    fn hand_out(&mut self, step: Step) -> Result<(), AllocError>
+        ensures ok { OnOk result (HandsOut R.takes self.old
+            (take (gone_by (size_of self.old.state.screen) (grid_of self.old.state.screen) step)
+            self.old.state.screen.rows.items) self.new) }
+        ensures failed { OnErr result R.fails }
+    {
+        for at in 0..self.state.screen.leaving(step) {
+            self.rows
+                .take_row(self.state.screen.row(at), &self.state.looks)?;
+        }
+        Ok(())
+    }
+
+    // Takes a step, once the rows that it scrolls off are handed out.
+    fn take_step(&mut self, step: Step) -> Result<(), AllocError>
+        ensures ok { OnOk result (KeepsStep R.takes self.old step self.new) }
+        ensures failed { OnErr result R.fails }
+    {
+        let (part, count) = self.state.screen.parts(step);
+        for _ in 0..count {
+            self.hand_out(part)?;
+            self.state.screen.take(part);
+        }
+        Ok(())
+    }
+
+    // Takes what a function asks for.
+    fn take_function(&mut self, function: Function<'_>) -> Result<(), AllocError>
+        ensures ok { OnOk result (KeepsFunction R.takes self.old (function_value function.entry)
+            self.new) }
+        ensures failed { OnErr result (Refused A ⊎ R.fails) }
+    {
+        match one_step(self.state.screen.cursor(), function) {
+            Some(step) => {
+                self.take_step(step)?;
+                self.state.ask(request_of(function))
+            }
+            None => self.state.take_function(function),
+        }
+    }
+}
+
+/// Each action does what its value does.
+impl<R: Rows, A: Allocator + Copy> Sink<Action<A>> for Keeping<R, A> {
+    ghost is_ready = { λ _. Unit {0} };
+
+    ghost may = { λ _ _. Unit {0} };
+
+    ghost takes = { KeepsAction R.takes };
+
+    ghost refuses = { λ p a q. Refused A ⊎ R.fails };
+
+    fn receive(&mut self, action: Action<A>) -> Result<(), AllocError> {
+        match action {
+            Action::Print(c) => self.take_step(print_step(c)),
+            Action::Control(code) => self.take_step(control_step(code)),
+            Action::Esc(esc) => self.take_function(Function::of_escape(esc)),
+            Action::CSI(csi) => self.take_function(Function::of(&csi)),
+            other => self.state.take(other),
+        }
+    }
+
+    fn drops_images(&self) -> bool {
+        true
+    }
+}

@@ -1,0 +1,49 @@
+//! What takes the rows that are scrolled off a screen.
+ghost use Rattle.std.specs.Prelude.{◌≡◌, [], ◌∷◌, ◌++◌, List, OnErr, OnOk, string_bytes};
+ghost use Rattle.esc_looks.specs.declared.look.Look.{Look as TheLook};
+ghost use Rattle.esc_screen.specs.declared.cell.Cell.{Cell as TheCell};
+ghost use Rattle.esc_terminal.specs.Rows.{row_text};
+ghost use Rattle.memory.specs.Refusals.{Refused};
+
+use crate::row_text::push_row;
+use esc_looks::Look;
+use esc_screen::Cell;
+use memory::push_char;
+use std::alloc::{AllocError, Allocator};
+
+/// Takes the rows that are scrolled off a screen, one after another: a text or a list of them.
+pub trait Rows {
+    // what it becomes with a row
+    ghost takes: { Self → List TheCell × List TheLook → Self → Type 0 };
+
+    // what an error of it says
+    ghost fails: { Type 0 };
+
+    /// Takes a row: its cells, which have the numbers of these looks.
+    fn take_row(&mut self, cells: &[Cell], looks: &[Look]) -> Result<(), AllocError>
+        ensures given { OnOk result (takes self.old (cells.now, looks.now) self.new) }
+        ensures failed { OnErr result fails };
+}
+
+// What is lent.
+impl<R: Rows> Rows for &mut R {
+    ghost takes = { λ p r q. R.takes p.now r q.now };
+
+    ghost fails = { R.fails };
+
+    fn take_row(&mut self, cells: &[Cell], looks: &[Look]) -> Result<(), AllocError> {
+        (**self).take_row(cells, looks)
+    }
+}
+
+/// Appends the text of each row, and a line feed.
+impl<A: Allocator> Rows for String<A> {
+    ghost takes = { λ p r q. string_bytes q ≡ string_bytes p ++ (row_text r.0 ++ 0x0a ∷ []) };
+
+    ghost fails = { Refused A };
+
+    fn take_row(&mut self, cells: &[Cell], _looks: &[Look]) -> Result<(), AllocError> {
+        push_row(self, cells)?;
+        push_char(self, '\n')
+    }
+}
