@@ -21,7 +21,7 @@ static struct escape_stream_sanitizer_options some_options(void) {
     options.allowed = one_in(4) ? (uint32_t)below(0x10000) : 0;
     options.denied = one_in(4) ? (uint32_t)below(0x10000) : 0;
     options.links = (uint32_t)below(8);
-    options.framing = (uint32_t)below(3);
+    options.framing = (uint32_t)below(4);
     options.characters = (uint32_t)below(5);
     options.returns = (uint32_t)below(4);
     options.encoding = one_in(4) ? (uint32_t)below(13) : 0;

@@ -63,9 +63,12 @@ class Framing(IntEnum):
     """What a stream of its own is."""
 
     LINES = 1
-    """Each line: what it leaves unfinished hides nothing of the lines after it."""
+    """Each line: what it leaves unfinished hides nothing of the lines after it. A rendition that
+    goes on over a line feed is written again where the next line begins."""
     WHOLE = 2
     """The whole."""
+    LINES_RESET = 3
+    """Each line, which begins plain: no rendition goes on over a line feed."""
 
 
 class Characters(IntEnum):

@@ -63,6 +63,7 @@ def test_chunks_and_sums() -> None:
     ways: list[dict[str, Any]] = [
         {},
         {"framing": Framing.WHOLE},
+        {"framing": Framing.LINES_RESET},
         {"show": Show.ESCAPED},
         {"rows": 8},
     ]
@@ -94,7 +95,9 @@ def test_text_is_plain() -> None:
 
 
 def test_options() -> None:
-    assert text_of(b"\x1b[1mb\nc") == b"\x1b[1mb\x1b[0m\nc"
+    assert text_of(b"\x1b[1mb\nc\x1b[0m\nd") == b"\x1b[1mb\x1b[0m\n\x1b[1mc\x1b[0m\nd"
+    reset = text_of(b"\x1b[1mb\nc", framing=Framing.LINES_RESET)
+    assert reset == b"\x1b[1mb\x1b[0m\nc"
     assert text_of(b"\x1b[1mb", deny=Group.SGR | Group.HIDDEN) == b"b"
     assert text_of(b"\x1b]2;t\x1b\\x", allow=Group.TITLES) == b"\x1b]2;t\x1b\\x"
     link = b"\x1b]8;;http://a\x1b\\x\x1b]8;;\x1b\\"
@@ -120,6 +123,7 @@ def test_the_program(tmp_path: Path) -> None:
         ({"policy": Policy.TEXT}, ["--allow=text"]),
         ({"policy": Policy.SCREEN}, ["--allow=screen"]),
         ({"policy": Policy.ALL, "framing": Framing.LINES}, ["--allow=all", "--lines"]),
+        ({"framing": Framing.LINES_RESET}, ["--line-reset"]),
         ({"framing": Framing.WHOLE, "returns": Returns.SHOW}, ["--whole", "--returns=show"]),
         (
             {"allow": Group.TITLES | Group.CURSOR, "deny": Group.SGR},
@@ -166,7 +170,7 @@ def test_misuse() -> None:
         {"allow": 0x10000},
         {"links": 8},
     ]
-    for wrong in [*options, {"framing": 3}, {"encoding": 13}, {"limit": -1}]:
+    for wrong in [*options, {"framing": 4}, {"encoding": 13}, {"limit": -1}]:
         with pytest.raises(ValueError):
             Sanitizer(**wrong)
     for no_policy in (-1, 4):

@@ -156,10 +156,13 @@ pub enum Scheme {
 /// What a stream of its own is.
 #[derive(Clone, Copy, Debug, PartialEq, Eq, Hash)]
 pub enum Framing {
-    /// Each line: what it leaves unfinished hides nothing of the lines after it.
+    /// Each line: what it leaves unfinished hides nothing of the lines after it. A rendition that
+    /// goes on over a line feed is written again where the next line begins.
     Lines,
     /// The whole.
     Whole,
+    /// Each line, which begins plain: no rendition goes on over a line feed.
+    LinesReset,
 }
 
 /// What is written of a character that hides or reorders text.

@@ -59,6 +59,7 @@ fn any_size_of_chunks_gives_the_same() {
         for options in [
             SanitizerOptions::new(policy),
             SanitizerOptions::new(policy).framing(Framing::Whole),
+            SanitizerOptions::new(policy).framing(Framing::LinesReset),
             SanitizerOptions::new(policy).show(Marking::Escaped),
             SanitizerOptions::new(policy).rows(4),
         ] {
@@ -77,7 +78,7 @@ fn any_size_of_chunks_gives_the_same() {
 #[test]
 fn sums_add_up_to_the_length() {
     for policy in POLICIES {
-        for framing in [Framing::Lines, Framing::Whole] {
+        for framing in [Framing::Lines, Framing::Whole, Framing::LinesReset] {
             let options = SanitizerOptions::new(policy).framing(framing);
             let (_, account) = sanitized(options, STREAM, 7);
             assert_eq!(account.length, STREAM.len() as u64);
@@ -121,7 +122,10 @@ fn text_is_plain() {
 #[test]
 fn each_option_says_what_it_says() {
     let color = SanitizerOptions::new(Policy::Color);
-    assert_eq!(text_of(color, b"\x1b[1mb\nc"), b"\x1b[1mb\x1b[0m\nc");
+    let goes_on = b"\x1b[1mb\x1b[0m\n\x1b[1mc\x1b[0m\nd";
+    assert_eq!(text_of(color, b"\x1b[1mb\nc\x1b[0m\nd"), goes_on);
+    let reset = color.framing(Framing::LinesReset);
+    assert_eq!(text_of(reset, b"\x1b[1mb\nc"), b"\x1b[1mb\x1b[0m\nc");
     assert_eq!(text_of(color.deny(Group::Sgr), b"\x1b[1mb"), b"b");
     let title = b"\x1b]2;t\x1b\\x";
     assert_eq!(text_of(text().allow(Group::Titles), title), title);

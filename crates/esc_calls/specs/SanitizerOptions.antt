@@ -26,7 +26,15 @@ use Rattle.esc_calls.specs.declared.sanitizer_options.TheConstants.{MOST_ROWS, O
 
 abbrev pub framing_numbered : ℕ → Bool → Option Bool
 framing_numbered n usual =
-    if n == 0 then Some usual else if n == 1 then Some true else if n == 2 then Some false else None
+    if n == 0 then Some usual
+    else if n == 1 then Some true
+    else if n == 2 then Some false
+    else if n == 3 then Some true
+    else None
+
+-- whether, by lines, renditions go on over line feeds
+abbrev pub resumes_numbered : ℕ → Bool
+resumes_numbered n = not (n == 3)
 
 abbrev pub characters_numbered : ℕ → Unicode → Option Unicode
 characters_numbered n usual =
@@ -105,6 +113,7 @@ pub record Says (r : SanitizerOptions) (p : Policy) (o : FilterOptions Groups) :
   pub groups : AreSaid r p o.policy
   pub limit : o.limit ≡ r.limit
   pub framing : framing_numbered r.framing (is_for_reading p) ≡ Some o.by_lines
+  pub resumes : o.resumes ≡ resumes_numbered r.framing
   pub guard : SaysGuard r (usual_guard p r.rows) o.by_lines o.guard
   pub show : marking_numbered r.show ≡ Some o.show
   pub encoding : encoding_numbered r.encoding (is_some o.show) ≡ Some o.encoding

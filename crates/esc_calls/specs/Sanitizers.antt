@@ -1,20 +1,23 @@
 -- The sanitizers that are kept: by groups.
-use Rattle.std.specs.Prelude.{ℕ, ◌≡◌, List, Some, false, string_bytes}
+use Rattle.std.specs.Prelude.{ℕ, ◌≡◌, Bool, List, Some, false, string_bytes}
 use Rattle.std.specs.Global.{Global}
 use Rattle.esc_filter.specs.Fed.{WasFedIn, added_by, policy_of}
 use Rattle.esc_filter.specs.Groups.{admits_groups}
 use Rattle.esc_filter.specs.Lines.{WasFedLines, added_by as added_by_lines, closed_by_lines_as, policy_of_lines, text_by_lines_as}
+use Rattle.esc_filter.specs.Openings.{resumed_closed, resumed_text}
 use Rattle.esc_filter.specs.Passing.{closed_text_as, passed_text_as}
+use Rattle.esc_filter.specs.Resumed.{WasFedResumed, added_by as added_by_resuming, policy_of_resuming}
 use Rattle.esc_filter.specs.declared.admit.Admit.{Ghosts as Admitter}
 use Rattle.esc_filter.specs.declared.filter.Filter.{Filter}
 use Rattle.esc_filter.specs.declared.groups.Groups.{Groups}
 use Rattle.esc_filter.specs.declared.guard.Guard.{Guard}
 use Rattle.esc_filter.specs.declared.line_filter.LineFilter.{LineFilter}
+use Rattle.esc_filter.specs.declared.resuming.ResumingFilter.{ResumingFilter}
 use Rattle.esc_normal.specs.declared.feeding.Feeding.{Ghosts as Feeder}
 use Rattle.esc_reveal.specs.Through.{GivesThrough}
 use Rattle.esc_reveal.specs.declared.revealing.Revealing.{Revealing}
 use Rattle.esc_sanitize.specs.Chains.{added_either, ended_either, gives_either}
-use Rattle.esc_sanitize.specs.Sanitized.{Chain}
+use Rattle.esc_sanitize.specs.Sanitized.{Chain, Framed}
 use Rattle.esc_sanitize.specs.declared.either.Either.{Either}
 use Rattle.esc_sanitize.specs.declared.options.FilterOptions.{FilterOptions}
 use Rattle.esc_sanitize.specs.declared.sanitizer.Sanitizer.{Sanitizer}
@@ -30,6 +33,16 @@ abbrev pub admitter : Admitter Groups Global
 admitter = record { admits = admits_groups }
 
 -- ---- the filters of a sanitizer, as what takes a stream in pieces
+
+abbrev pub resuming : Feeder (ResumingFilter Groups Global) Global
+resuming = record {
+  gives = λ f m c s. (k : Bool) × (u : Guard) × (limit : ℕ)
+      × WasFedResumed k u limit (admits_groups (policy_of_resuming f)) s f
+      × (m ≡ resumed_text {A = Global} k u limit (admits_groups (policy_of_resuming f)))
+      × (c ≡ resumed_closed {A = Global} k u limit (admits_groups (policy_of_resuming f)));
+  added = λ f. added_by_resuming f;
+  has_ended = λ _ _ _. Unit {0};
+}
 
 abbrev pub lines : Feeder (LineFilter Groups Global) Global
 lines = record {
@@ -66,5 +79,8 @@ revealing G = record {
   has_ended = λ f _ _. (c : List ℕ → List ℕ) × (s : List ℕ) × G.has_ended f.filter c s;
 }
 
+abbrev pub framed : Feeder (Framed Groups Global) Global
+framed = either (either resuming lines) whole
+
 abbrev pub chain : Feeder (Chain Groups Global) Global
-chain = either (either lines whole) (revealing (either lines whole))
+chain = either framed (revealing framed)

@@ -12,7 +12,7 @@ pub(crate) fn framing_of(number: u32, usual: bool) -> Option<bool>
 {
     match number {
         0 => Some(usual),
-        1 => Some(true),
+        1 | 3 => Some(true),
         2 => Some(false),
         _ => None,
     }

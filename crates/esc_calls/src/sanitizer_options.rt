@@ -1,6 +1,6 @@
 //! How a stream is sanitized, as numbers.
 ghost use Rattle.std.specs.Prelude.{◌≡◌, IfErr, IfOk};
-ghost use Rattle.esc_calls.specs.SanitizerOptions.{IsFault, IsSaid, Says, rows_numbered};
+ghost use Rattle.esc_calls.specs.SanitizerOptions.{IsFault, IsSaid, Says, resumes_numbered, rows_numbered};
 
 use crate::fault::Fault;
 use crate::filter::policy_of;
@@ -33,7 +33,9 @@ pub struct SanitizerOptions {
     pub denied: u32,
     /// The schemes of the links that pass: http 1, https 2, mailto 4, or sums of these.
     pub links: u32,
-    /// Whether each line is a stream of its own, 1, or the whole is, 2.
+    /// Whether each line is a stream of its own, 1, or the whole is, 2; or each line, which begins
+    /// plain, 3: else a rendition that goes on over a line feed is written again where the next
+    /// line begins.
     pub framing: u32,
     /// What is written of characters that hide or reorder text: keep 1, join 2, show 3, drop 4.
     pub characters: u32,
@@ -94,6 +96,7 @@ impl SanitizerOptions {
             policy: groups,
             limit: self.limit as usize,
             by_lines,
+            resumes: resumes_of(self.framing),
             guard,
             encoding,
             show,
@@ -101,6 +104,13 @@ impl SanitizerOptions {
             audits: self.account != 0,
         })
     }
+}
+
+// Whether renditions go on over line feeds.
+fn resumes_of(framing: u32) -> bool
+    ensures { result ≡ resumes_numbered framing }
+{
+    framing != 3
 }
 
 // How many rows may be written again, where some may.

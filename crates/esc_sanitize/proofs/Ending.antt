@@ -11,22 +11,22 @@ use Rattle.esc_filter.specs.declared.guard.Guard.{Guard}
 use Rattle.esc_normal.specs.Io.{Borrowed}
 use Rattle.esc_normal.specs.Streams.{Filters, IsEither}
 use Rattle.esc_normal.specs.declared.filter_error.FilterError.{FilterError}
-use Rattle.esc_sanitize.specs.Written.{IsWritten, closed_by, going_by, going_of, is_passed_by, passed_of, passing_of, seen_by, text_of}
+use Rattle.esc_sanitize.specs.Written.{IsWritten, closed_by, going_by, going_of, is_passed_by, lined, passed_of, passing_of, seen_by, text_of}
 use Rattle.esc_sanitize.specs.declared.options.FilterOptions.{FilterOptions}
 
-passed_by : {A : Type 0} (u : Guard) (b : Bool) (limit : ℕ) (p : Value A → Bool)
+passed_by : {A : Type 0} (r : Bool) (u : Guard) (b : Bool) (limit : ℕ) (p : Value A → Bool)
     → ((s : List ℕ) → IsFilteredByLinesAs true u limit p s (closed_by_lines_as u limit p s))
     → ((s : List ℕ) → IsFilteredAs u true (Some limit) p s (closed_text_as u (Some limit) p s))
-    → (s : List ℕ) → is_passed_by u b true limit p s (closed_by u b limit p s)
-passed_by u true limit p lines all s = lines s
-passed_by u false limit p lines all s = all s
+    → (s : List ℕ) → is_passed_by r u b true limit p s (closed_by r u b limit p s)
+passed_by r u true limit p lines all s = lines (lined r u limit p s)
+passed_by r u false limit p lines all s = all s
 
-passing_by : {A : Type 0} (u : Guard) (b : Bool) (limit : ℕ) (p : Value A → Bool)
+passing_by : {A : Type 0} (r : Bool) (u : Guard) (b : Bool) (limit : ℕ) (p : Value A → Bool)
     → ((s : List ℕ) → IsFilteredByLinesAs false u limit p s (text_by_lines_as u limit p s))
     → ((s : List ℕ) → IsFilteredAs u false (Some limit) p s (passed_text_as u (Some limit) p s))
-    → (s : List ℕ) → is_passed_by u b false limit p s (going_by u b limit p s)
-passing_by u true limit p lines all s = lines s
-passing_by u false limit p lines all s = all s
+    → (s : List ℕ) → is_passed_by r u b false limit p s (going_by r u b limit p s)
+passing_by r u true limit p lines all s = lines (lined r u limit p s)
+passing_by r u false limit p lines all s = all s
 
 module _ {P A : Type 0} (V : Admitter P A) (o : FilterOptions P) where
   pub text_is : ((s : List ℕ) → IsFilteredByLinesAs true o.guard o.limit (V.admits o.policy) s
@@ -36,7 +36,8 @@ module _ {P A : Type 0} (V : Admitter P A) (o : FilterOptions P) where
       → (s : List ℕ) → IsWritten V o true s (text_of V o s)
   text_is lines all s = (
     passed_of V o s,
-    passed_by o.guard o.by_lines o.limit (V.admits o.policy) lines all (seen_by V o true s),
+    passed_by o.resumes o.guard o.by_lines o.limit (V.admits o.policy) lines all
+        (seen_by V o true s),
     refl,
   )
 
@@ -47,7 +48,8 @@ module _ {P A : Type 0} (V : Admitter P A) (o : FilterOptions P) where
       → (s : List ℕ) → IsWritten V o false s (going_of V o s)
   going_is lines all s = (
     passing_of V o s,
-    passing_by o.guard o.by_lines o.limit (V.admits o.policy) lines all (seen_by V o false s),
+    passing_by o.resumes o.guard o.by_lines o.limit (V.admits o.policy) lines all
+        (seen_by V o false s),
     refl,
   )
 

@@ -9,7 +9,7 @@ use Rattle.esc_filter.specs.declared.admit.Admit.{Ghosts as Admitter}
 use Rattle.esc_filter.specs.declared.guard.Guard.{Guard}
 use Rattle.esc_lines.specs.Streams.{final_of, left_of, values_of}
 use Rattle.esc_lines.specs.Windows.{Size}
-use Rattle.esc_sanitize.specs.Written.{OfAllWritten, closed_by, final_text, going_by, is_left_by, is_passed_by, left_text, passed_of, passing_of, seen_by, size_of}
+use Rattle.esc_sanitize.specs.Written.{OfAllWritten, closed_by, final_text, going_by, is_left_by, is_passed_by, left_text, lined, passed_of, passing_of, seen_by, size_of}
 use Rattle.esc_sanitize.specs.declared.options.FilterOptions.{FilterOptions}
 
 -- ---- what passes
@@ -24,26 +24,27 @@ module _ (A : Type 0) (k : Bool)
     (ended_by_lines : (u : Guard) (limit : ℕ) (f : Value A → Bool) → AdmitsAtMost (least k) f
     → (s : List ℕ) → IsOfPieces k (closed_by_lines_as u limit f s))
   where
-    closed_pieces : (u : Guard) (b : Bool) (limit : ℕ) (f : Value A → Bool)
-        → AdmitsAtMost (least k) f → (s : List ℕ) → IsOfPieces k (closed_by u b limit f s)
-    closed_pieces u true limit f most s = ended_by_lines u limit f most s
-    closed_pieces u false limit f most s = ended u (Some limit) f most s
+    closed_pieces : (r : Bool) (u : Guard) (b : Bool) (limit : ℕ) (f : Value A → Bool)
+        → AdmitsAtMost (least k) f → (s : List ℕ) → IsOfPieces k (closed_by r u b limit f s)
+    closed_pieces r u true limit f most s =
+        ended_by_lines u limit f most (lined r u limit f s)
+    closed_pieces r u false limit f most s = ended u (Some limit) f most s
 
-    going_pieces : (u : Guard) (b : Bool) (limit : ℕ) (f : Value A → Bool)
-        → AdmitsAtMost (least k) f → (s : List ℕ) → IsOfPieces k (going_by u b limit f s)
-    going_pieces u true limit f most s = by_lines u limit f most s
-    going_pieces u false limit f most s = goes_on u (Some limit) f most s
+    going_pieces : (r : Bool) (u : Guard) (b : Bool) (limit : ℕ) (f : Value A → Bool)
+        → AdmitsAtMost (least k) f → (s : List ℕ) → IsOfPieces k (going_by r u b limit f s)
+    going_pieces r u true limit f most s = by_lines u limit f most (lined r u limit f s)
+    going_pieces r u false limit f most s = goes_on u (Some limit) f most s
 
-    passed_pieces : (u : Guard) (b e : Bool) (limit : ℕ) (f : Value A → Bool)
-        → AdmitsAtMost (least k) f → (s t : List ℕ) → is_passed_by u b e limit f s t
+    passed_pieces : (r : Bool) (u : Guard) (b e : Bool) (limit : ℕ) (f : Value A → Bool)
+        → AdmitsAtMost (least k) f → (s t : List ℕ) → is_passed_by r u b e limit f s t
         → IsOfPieces k t
-    passed_pieces u true true limit f most s t h =
-        subst (IsOfPieces k) (sym h.text) (ended_by_lines u limit f most s)
-    passed_pieces u true false limit f most s t h =
-        subst (IsOfPieces k) (sym h.text) (by_lines u limit f most s)
-    passed_pieces u false true limit f most s t h =
+    passed_pieces r u true true limit f most s t h =
+        subst (IsOfPieces k) (sym h.text) (ended_by_lines u limit f most (lined r u limit f s))
+    passed_pieces r u true false limit f most s t h =
+        subst (IsOfPieces k) (sym h.text) (by_lines u limit f most (lined r u limit f s))
+    passed_pieces r u false true limit f most s t h =
         subst (IsOfPieces k) (sym h.text) (ended u (Some limit) f most s)
-    passed_pieces u false false limit f most s t h =
+    passed_pieces r u false false limit f most s t h =
         subst (IsOfPieces k) (sym h.text) (goes_on u (Some limit) f most s)
 
     -- where no rows are written again
@@ -55,16 +56,17 @@ module _ (A : Type 0) (k : Bool)
         → AdmitsAtMost {A = A} (least k) (V.admits o.policy) → OfAllWritten V o (IsOfPieces k)
     written_pieces V o none most = (
       λ s. subst (λ r. IsOfPieces k (left_text A r (passed_of V o s))) (sym none)
-          (closed_pieces o.guard o.by_lines o.limit (V.admits o.policy) most (seen_by V o true s)),
+          (closed_pieces o.resumes o.guard o.by_lines o.limit (V.admits o.policy) most
+          (seen_by V o true s)),
       λ s. subst (λ r. IsOfPieces k (final_text A r (passing_of V o s))) (sym none)
-          (going_pieces o.guard o.by_lines o.limit (V.admits o.policy) most
+          (going_pieces o.resumes o.guard o.by_lines o.limit (V.admits o.policy) most
           (seen_by V o false s)),
       λ b s t h.
           let same : t ≡ h.0 =
           left_alone b h.0 t (subst (λ r. is_left_by A r b h.0 t) none h.2) in
           subst (IsOfPieces k) (sym same)
-          (passed_pieces o.guard o.by_lines b o.limit (V.admits o.policy) most (seen_by V o b s)
-          h.0 h.1),
+          (passed_pieces o.resumes o.guard o.by_lines b o.limit (V.admits o.policy) most
+          (seen_by V o b s) h.0 h.1),
     )
 
 -- ---- what is left of lines

@@ -1,5 +1,5 @@
 -- A filter with its auditor, and what is left of the lines of its text.
-use Rattle.std.proofs.Common.{ℕ, ◌≡◌, List, [], ◌++◌, sym, ap, ◌∙◌, subst}
+use Rattle.std.proofs.Common.{ℕ, ◌≡◌, List, [], ◌++◌, refl, sym, ap, ◌∙◌, subst}
 use Rattle.esc_account.specs.Ways.{Way}
 use Rattle.esc_account.specs.declared.book.Book.{Ghosts as Writer}
 use Rattle.esc_decode.specs.Decodings.{decoded}
@@ -11,7 +11,7 @@ use Rattle.esc_sanitize.proofs.Texts.{rows_end, rows_longer, rows_none}
 use Rattle.esc_sanitize.specs.Audits.{HeardAll, way_by}
 use Rattle.esc_sanitize.specs.Hearings.{Follows, HasHeard}
 use Rattle.esc_sanitize.specs.Rows.{HasLeft, left_added}
-use Rattle.esc_sanitize.specs.Stages.{HasListened, IsRun, Runs, auditor_of, options_of}
+use Rattle.esc_sanitize.specs.Stages.{Gives, HasListened, IsRun, Runs, auditor_of, options_of}
 use Rattle.esc_sanitize.specs.Written.{final_text, going_of, left_text, passed_of, passing_of, text_of}
 use Rattle.esc_sanitize.specs.declared.hearing.Hearing.{Hearing}
 use Rattle.esc_sanitize.specs.declared.left.Left.{Left}
@@ -47,6 +47,20 @@ module _ {F P B A : Type 0} (G : Feeder F A) (V : Admitter P A) (W : Writer B A)
   runs_end n t more added = ap (left_text A o.rows) more ∙ added
 
 -- ---- as what takes a stream in pieces
+
+-- what it gives by its options
+pub runs_by : {F P B A : Type 0} (G : Feeder F A) (V : Admitter P A) (W : Writer B A)
+    (k : Staged F P B A) (m c : List ℕ → List ℕ) (s : List ℕ) → Gives G V W k m c s
+    → IsRun G V W (options_of k).encoding (way_by V (options_of k)) (passed_of V (options_of k)) k
+    m c s
+runs_by G V W k m c s (runs, goes_on, ends) = record {
+  runs = runs;
+  goes_on = goes_on;
+  ends = ends;
+  coding = refl;
+  way = refl;
+  passed = λ x. refl;
+}
 
 module _ {F P B A : Type 0} (G : Feeder F A) (V : Admitter P A) (W : Writer B A)
     (e : Encoding) (w : Way) (text m c : List ℕ → List ℕ) (k : Staged F P B A) (s : List ℕ)

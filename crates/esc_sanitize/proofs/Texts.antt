@@ -1,5 +1,5 @@
 -- The texts of filters by options.
-use Rattle.std.proofs.Common.{ℕ, ◌≡◌, Bool, false, List, [], ◌++◌, Option, None, Some, refl, ap, sym, subst, ◌∙◌, append_assoc}
+use Rattle.std.proofs.Common.{ℕ, ◌≡◌, Bool, true, false, List, [], ◌++◌, Option, None, Some, refl, ap, sym, subst, ◌∙◌, append_assoc}
 use Rattle.esc_actions.specs.Texts.{list_text, texts_after}
 use Rattle.esc_actions.specs.Values.{Value}
 use Rattle.esc_decode.specs.Decodings.{OnlyAdds, decoded}
@@ -7,9 +7,11 @@ use Rattle.esc_decode.specs.declared.encoding.Encoding.{Encoding}
 use Rattle.esc_decode.specs.declared.encoding.Encoding.TheVariants.{CodePage, EightBit, Utf8}
 use Rattle.esc_filter.proofs.ByLines.{by_more, closed_longer}
 use Rattle.esc_filter.proofs.Closers.{closed_more}
+use Rattle.esc_filter.proofs.Resumes.{resumed_longer, resumed_more}
 use Rattle.esc_filter.proofs.Texts.{added_as, text_longer_as}
 use Rattle.esc_filter.specs.Closing.{closing}
 use Rattle.esc_filter.specs.Lines.{closed_by_lines_as, text_by_lines_as}
+use Rattle.esc_filter.specs.Openings.{resumed_closed, resumed_text}
 use Rattle.esc_filter.specs.Passing.{closed_text_as, passed_as, passed_text_as}
 use Rattle.esc_filter.specs.declared.admit.Admit.{Ghosts as Admitter}
 use Rattle.esc_filter.specs.declared.guard.Guard.{Guard}
@@ -82,6 +84,14 @@ pub lines_add : {A : Type 0} (u : Guard) (limit : ℕ) (p : Value A → Bool)
 lines_add u limit p = record {
   more = λ s b. by_more u limit p s b;
   end = closed_longer u limit p;
+}
+
+-- of lines in which renditions go on
+pub resumed_add : {A : Type 0} (u : Guard) (limit : ℕ) (p : Value A → Bool)
+    → OnlyAdds (resumed_text {A = A} true u limit p) (resumed_closed {A = A} true u limit p)
+resumed_add u limit p = record {
+  more = λ s b. resumed_more true u limit p s b;
+  end = λ s. resumed_longer true u limit p s;
 }
 
 -- to what is final of its lines

@@ -6,6 +6,7 @@ use Rattle.esc_account.specs.declared.book.NoBook.{NoBook}
 use Rattle.esc_filter.specs.declared.admit.Admit.{Ghosts as Admitter}
 use Rattle.esc_filter.specs.declared.filter.Filter.{Filter}
 use Rattle.esc_filter.specs.declared.line_filter.LineFilter.{LineFilter}
+use Rattle.esc_filter.specs.declared.resuming.ResumingFilter.{ResumingFilter}
 use Rattle.esc_normal.specs.declared.feeding.Feeding.{Ghosts as Feeder}
 use Rattle.esc_reveal.specs.declared.revealing.Revealing.{Revealing}
 use Rattle.esc_sanitize.specs.Audits.{IsAudited, account_of, account_or_none}
@@ -16,8 +17,11 @@ use Rattle.esc_sanitize.specs.declared.options.FilterOptions.{FilterOptions}
 use Rattle.esc_sanitize.specs.declared.sanitizer.Sanitizer.{Sanitizer}
 
 -- its filters
+abbrev pub Lined : Type 0 → Type 0 → Type 0
+Lined P A = Either (ResumingFilter P A) (LineFilter P A)
+
 abbrev pub Framed : Type 0 → Type 0 → Type 0
-Framed P A = Either (LineFilter P A) (Filter P A)
+Framed P A = Either (Lined P A) (Filter P A)
 
 abbrev pub Chain : Type 0 → Type 0 → Type 0
 Chain P A = Either (Framed P A) (Revealing (Framed P A) P A)

@@ -33,6 +33,12 @@ Runs G V W k s = Follows G V W k.hearing s
 
 -- ---- as what takes a stream in pieces
 
+-- it was fed this stream, and gives these texts, by its options
+abbrev pub Gives : {F P B A : Type 0} → Feeder F A → Admitter P A → Writer B A → Staged F P B A
+    → (List ℕ → List ℕ) → (List ℕ → List ℕ) → List ℕ → Type 0
+Gives G V W k m c s = Runs G V W k s × ((x : List ℕ) → m x ≡ going_of V (options_of k) x)
+    × ((x : List ℕ) → c x ≡ text_of V (options_of k) x)
+
 -- It was fed this stream, and gives these texts, by its options: in this encoding, with an account
 -- by this, and with this text of what passes of a stream that has ended.
 pub record IsRun {F P B A : Type 0} (G : Feeder F A) (V : Admitter P A) (W : Writer B A)

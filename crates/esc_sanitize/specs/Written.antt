@@ -3,6 +3,7 @@ use Rattle.std.specs.Prelude.{ℕ, ◌≡◌, Bool, true, false, List, Option, S
 use Rattle.esc_actions.specs.Values.{Value}
 use Rattle.esc_decode.specs.Decodings.{decoded}
 use Rattle.esc_filter.specs.Lines.{IsFilteredByLinesAs, closed_by_lines_as, text_by_lines_as}
+use Rattle.esc_filter.specs.Openings.{resumed}
 use Rattle.esc_filter.specs.Passing.{IsFilteredAs, closed_text_as, passed_text_as}
 use Rattle.esc_filter.specs.Pieces.{AdmitsAtMost, IsColorText, IsPlainText}
 use Rattle.esc_filter.specs.declared.admit.Admit.{Ghosts as Admitter}
@@ -37,30 +38,38 @@ seen_by V o false s = revealed_by V o o.show (decoded o.encoding s)
 
 -- ---- what passes
 
--- the text t is what passes of the stream s, which has ended or goes on: of each of its lines, or
--- of the whole
-abbrev pub is_passed_by : {A : Type 0} → Guard → Bool → Bool → ℕ → (Value A → Bool) → List ℕ
-    → List ℕ → Type 0
-is_passed_by u true b limit p s t = IsFilteredByLinesAs b u limit p s t
-is_passed_by u false b limit p s t = IsFilteredAs u b (Some limit) p s t
+-- The lines that are filtered: those of the stream, of which, where r, each but a blank one begins
+-- with the renditions that the lines before it leave on, as they are written.
+abbrev pub lined : {A : Type 0} → Bool → Guard → ℕ → (Value A → Bool) → List ℕ → List ℕ
+lined {A} true u limit p s = resumed {A = A} true u limit p s
+lined {A} false u limit p s = s
+
+-- the text t is what passes of the stream s, which has ended or goes on: of each of its lines, in
+-- which renditions go on where r, or of the whole
+abbrev pub is_passed_by : {A : Type 0} → Bool → Guard → Bool → Bool → ℕ → (Value A → Bool)
+    → List ℕ → List ℕ → Type 0
+is_passed_by r u true b limit p s t = IsFilteredByLinesAs b u limit p (lined r u limit p s) t
+is_passed_by r u false b limit p s t = IsFilteredAs u b (Some limit) p s t
 
 -- the text of a stream that goes on, and of one that has ended
-abbrev pub going_by : {A : Type 0} → Guard → Bool → ℕ → (Value A → Bool) → List ℕ → List ℕ
-going_by {A} u true limit p s = text_by_lines_as {A = A} u limit p s
-going_by {A} u false limit p s = passed_text_as {A = A} u (Some limit) p s
+abbrev pub going_by : {A : Type 0} → Bool → Guard → Bool → ℕ → (Value A → Bool) → List ℕ → List ℕ
+going_by {A} r u true limit p s = text_by_lines_as {A = A} u limit p (lined r u limit p s)
+going_by {A} r u false limit p s = passed_text_as {A = A} u (Some limit) p s
 
-abbrev pub closed_by : {A : Type 0} → Guard → Bool → ℕ → (Value A → Bool) → List ℕ → List ℕ
-closed_by {A} u true limit p s = closed_by_lines_as {A = A} u limit p s
-closed_by {A} u false limit p s = closed_text_as {A = A} u (Some limit) p s
+abbrev pub closed_by : {A : Type 0} → Bool → Guard → Bool → ℕ → (Value A → Bool) → List ℕ
+    → List ℕ
+closed_by {A} r u true limit p s = closed_by_lines_as {A = A} u limit p (lined r u limit p s)
+closed_by {A} r u false limit p s = closed_text_as {A = A} u (Some limit) p s
 
 -- by the options, of what a stream becomes by its encoding
 abbrev pub opened_of : {P A : Type 0} → Admitter P A → FilterOptions P → List ℕ → List ℕ
 opened_of V o s =
-    going_by o.guard o.by_lines o.limit (V.admits o.policy) (revealed_by V o o.show s)
+    going_by o.resumes o.guard o.by_lines o.limit (V.admits o.policy) (revealed_by V o o.show s)
 
 abbrev pub closed_of : {P A : Type 0} → Admitter P A → FilterOptions P → List ℕ → List ℕ
 closed_of V o s =
-    closed_by o.guard o.by_lines o.limit (V.admits o.policy) (revealed_whole_by V o o.show s)
+    closed_by o.resumes o.guard o.by_lines o.limit (V.admits o.policy)
+    (revealed_whole_by V o o.show s)
 
 -- and of the stream
 abbrev pub passing_of : {P A : Type 0} → Admitter P A → FilterOptions P → List ℕ → List ℕ
@@ -97,7 +106,8 @@ is_left_by A r false u t = t ≡ final_text A r u
 abbrev pub IsWritten : {P A : Type 0} → Admitter P A → FilterOptions P → Bool → List ℕ → List ℕ
     → Type 0
 IsWritten {A = A} V o b s t = (u : List ℕ)
-    × is_passed_by {A = A} o.guard o.by_lines b o.limit (V.admits o.policy) (seen_by V o b s) u
+    × is_passed_by {A = A} o.resumes o.guard o.by_lines b o.limit (V.admits o.policy)
+    (seen_by V o b s) u
     × is_left_by A o.rows b u t
 
 -- the text of a stream that goes on, and of one that has ended

@@ -1,5 +1,5 @@
 //! The filters of a stream, by options.
-ghost use Rattle.std.specs.Prelude.{◌≡◌, []};
+ghost use Rattle.std.specs.Prelude.{◌≡◌, [], true};
 ghost use Rattle.esc_sanitize.specs.Chains.{Begins};
 ghost use Rattle.esc_sanitize.specs.Stages.{Runs, options_of};
 ghost use Rattle.esc_sanitize.specs.Written.{closed_by, closed_of, going_by, opened_of};
@@ -10,23 +10,31 @@ use crate::hearing::Hearing;
 use crate::options::FilterOptions;
 use crate::staged::Staged;
 use esc_account::Book;
-use esc_filter::{Admit, Feeding, Filter, LineFilter};
+use esc_filter::{Admit, Feeding, Filter, LineFilter, ResumingFilter};
 use esc_reveal::{Reveal, Revealing};
-use std::alloc::Allocator;
+use std::alloc::{Allocator, Global};
+
+/// A filter of lines, in which renditions go on, or do not.
+pub type Lined<P, A> = Either<ResumingFilter<P, A>, LineFilter<P, A>>;
 
 /// A filter of lines, or of a whole stream.
-pub type Framed<P, A> = Either<LineFilter<P, A>, Filter<P, A>>;
+pub type Framed<P, A> = Either<Lined<P, A>, Filter<P, A>>;
 
 /// The same, where what does not pass may be shown.
 pub type Chain<P, A> = Either<Framed<P, A>, Revealing<Framed<P, A>, P, A>>;
 
+/// A filter by options, with an auditor, as what takes a stream in pieces: that of a program that
+/// gets its stream in a format of its own, such as a recording.
+pub type Sanitizing<P, B, A = Global> = Staged<Chain<P, A>, P, B, A>;
+
 /// A filter by these options, with an auditor who writes what did not pass into this book; at the
-/// beginning of a stream. It takes no memory but for rows that may be written again.
-pub fn staged<P: Admit<A> + Copy + Drop, B: Book<A> + Drop, A: Allocator + Copy>(
+/// beginning of a stream. It takes no memory but for rows that may be written again: where that is
+/// refused, the first call says so.
+pub fn sanitizing<P: Admit<A> + Copy + Drop, B: Book<A> + Drop, A: Allocator + Copy>(
     alloc: A,
     options: FilterOptions<P>,
     book: B,
-) -> Staged<Chain<P, A>, P, B, A>
+) -> Sanitizing<P, B, A>
     ensures begins { B.was_given book []
         → Runs ⟦<Chain<P, A> as Feeding<A>>⟧ P.Admit B.Book result [] }
     ensures options { options_of result ≡ options }
@@ -66,19 +74,44 @@ fn framed<P: Admit<A> + Copy, A: Allocator + Copy>(
     options: FilterOptions<P>,
 ) -> Framed<P, A>
     ensures { Begins ⟦<Framed<P, A> as Feeding<A>>⟧ result
-        (going_by options.guard options.by_lines options.limit (P.admits options.policy))
-        (closed_by options.guard options.by_lines options.limit (P.admits options.policy)) }
+        (going_by options.resumes options.guard options.by_lines options.limit
+        (P.admits options.policy))
+        (closed_by options.resumes options.guard options.by_lines options.limit
+        (P.admits options.policy)) }
+{
+    let by_lines = options.by_lines;
+    if by_lines {
+        Either::First(lined(alloc, options))
+    } else {
+        let FilterOptions {
+            policy,
+            limit,
+            guard,
+            ..
+        } = options;
+        Either::Second(Filter::with_guard(alloc, limit, policy, guard))
+    }
+}
+
+// The filter of lines.
+fn lined<P: Admit<A> + Copy, A: Allocator + Copy>(
+    alloc: A,
+    options: FilterOptions<P>,
+) -> Lined<P, A>
+    ensures { Begins ⟦<Lined<P, A> as Feeding<A>>⟧ result
+        (going_by options.resumes options.guard true options.limit (P.admits options.policy))
+        (closed_by options.resumes options.guard true options.limit (P.admits options.policy)) }
 {
     let FilterOptions {
         policy,
         limit,
-        by_lines,
+        resumes,
         guard,
         ..
     } = options;
-    if by_lines {
-        Either::First(LineFilter::with_guard(alloc, limit, policy, guard))
+    if resumes {
+        Either::First(ResumingFilter::new(alloc, limit, policy, guard, true))
     } else {
-        Either::Second(Filter::with_guard(alloc, limit, policy, guard))
+        Either::Second(LineFilter::with_guard(alloc, limit, policy, guard))
     }
 }

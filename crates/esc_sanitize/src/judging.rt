@@ -29,6 +29,7 @@ impl<P: Admit<A>, A: Allocator + Copy> Judging<P, A> {
             policy,
             limit,
             by_lines,
+            resumes: _,
             guard,
             show,
             encoding: _,

@@ -30,6 +30,7 @@ mod stream;
 mod told;
 
 pub use auditor::Auditor;
+pub use chain::{Sanitizing, sanitizing};
 pub use judging::Judging;
 pub use laws::writes_pieces;
 pub use left::COLUMNS;

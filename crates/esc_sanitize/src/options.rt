@@ -18,6 +18,10 @@ pub struct FilterOptions<P> {
     pub limit: usize,
     /// Whether each line is a stream of its own, so that no string takes away the lines after it.
     pub by_lines: bool,
+    /// Whether, by lines, a rendition that goes on over a line feed is written again where the next
+    /// line begins, so that a line looks as it does in the stream, and also by itself; else each
+    /// line begins plain.
+    pub resumes: bool,
     /// What is written of characters and carriage returns that hide or reorder text.
     pub guard: Guard,
     /// How the bytes are read. In `Encoding::Utf8` bytes 80 to 9F that are no part of a character
@@ -45,6 +49,7 @@ impl FilterOptions<Policy> {
             policy,
             limit: DEFAULT_LIMIT,
             by_lines: is_for_reading(policy),
+            resumes: true,
             guard: guard_of(policy),
             encoding: Encoding::Utf8,
             show: None,
@@ -65,6 +70,7 @@ impl<P> FilterOptions<P> {
             policy,
             limit: self.limit,
             by_lines: self.by_lines,
+            resumes: self.resumes,
             guard: self.guard,
             encoding: self.encoding,
             show: self.show,

@@ -2,9 +2,8 @@
 ghost use Rattle.std.specs.Prelude.{◌≡◌, ◌++◌, Err, ℕ, List, [], OnErr, OnOk};
 ghost use Rattle.memory.specs.Refusals.{Refused};
 
-use crate::chain::{Chain, staged};
+use crate::chain::{Chain, Sanitizing, sanitizing};
 use crate::options::FilterOptions;
-use crate::staged::Staged;
 use esc_account::{Account, NoBook};
 use esc_filter::{Admit, Feeding};
 use esc_frame::ParseError;
@@ -18,7 +17,7 @@ use std::alloc::{Allocator, Global};
 /// its text, or the unfinished segment; and where rows may be written again these.
 #[derive(Drop)]
 pub struct Sanitizer<P, A: Allocator = Global> {
-    staged: Staged<Chain<P, A>, P, NoBook, A>,
+    staged: Sanitizing<P, NoBook, A>,
     // nothing failed, and the stream has not ended
     is_open: bool,
     has_failed: bool,
@@ -37,7 +36,7 @@ impl<P: Admit<A> + Drop, A: Allocator + Copy> Sanitizer<P, A> {
         ensures options { options_of result ≡ options }
     {
         Sanitizer {
-            staged: staged(alloc, options, NoBook),
+            staged: sanitizing(alloc, options, NoBook),
             is_open: true,
             has_failed: false,
         }

@@ -68,6 +68,30 @@ impl<F: Feeding<A>, P: Admit<A>, B: Book<A>, A: Allocator + Copy> Staged<F, P, B
     }
 }
 
+impl<F: Feeding<A>, P: Admit<A>, B: Book<A>, A: Allocator + Copy> Feeding<A>
+    for Staged<F, P, B, A> {
+    ghost use Rattle.esc_sanitize.specs.Hearings.{HasHeard};
+    ghost use Rattle.esc_sanitize.specs.Stages.{Gives, staged_added};
+
+    ghost gives = { λ f m c s. Gives F.Feeding P.Admit B.Book f m c s };
+
+    ghost added = { λ f. staged_added F.Feeding f };
+
+    ghost has_ended = { λ f _ s. HasHeard P.Admit B.Book f.hearing s };
+
+    fn feed_piece(&mut self, bytes: &[u8]) -> Result<(), AllocError> {
+        self.feed(bytes)
+    }
+
+    fn finish_all(&mut self) -> Result<(), AllocError> {
+        self.finish()
+    }
+
+    fn added_text(&self) -> &str {
+        Staged::added_text(self)
+    }
+}
+
 impl<F, P, B, A: Allocator> Staged<F, P, B, A> {
     ghost use Rattle.esc_sanitize.specs.Stages.{auditor_of, options_of};
 

@@ -8,7 +8,7 @@ ghost use Rattle.esc_sanitize.specs.Stages.{Runs, options_of};
 ghost use Rattle.esc_sanitize.specs.Written.{IsOfPieces, IsWritten, going_of, passed_of, text_of};
 
 use crate::auditor::Auditor;
-use crate::chain::staged;
+use crate::chain::sanitizing;
 use crate::laws::writes_pieces;
 use crate::options::FilterOptions;
 use crate::staged::Staged;
@@ -65,7 +65,7 @@ pub fn sanitize_stream<
     writes_pieces::<P, A>();
     written_lines_read_back::<A>();
     written_reads_back::<A>();
-    let staged = staged(alloc, options, book);
+    let staged = sanitizing(alloc, options, book);
     told::<_, _, _, Brand, _, _, _>(alloc, staged, reader, writer)
 }
 

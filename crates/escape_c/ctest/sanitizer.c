@@ -129,7 +129,7 @@ static void check_streams(const struct escape_stream_sanitizer_options *options)
 /* Policies by lines and whole, with what does not pass shown or not, and with rows. */
 static void check_options(void) {
     for (uint32_t policy = 0; policy < 4; policy++)
-        for (uint32_t framing = 0; framing < 3; framing++)
+        for (uint32_t framing = 0; framing < 4; framing++)
             for (uint32_t show = 0; show < 4; show++) {
                 struct escape_stream_sanitizer_options options = INIT;
                 options.policy = policy;
@@ -166,7 +166,12 @@ static void check_texts(void) {
     gives(
         "the same in a stream that is one",
         WITH(.policy = 0, .framing = ESCAPE_STREAM_FRAMING_WHOLE), unended, "one\n");
-    gives("a rendition", WITH(.policy = 1), "\x1b[1mb\nc", "\x1b[1mb\x1b[0m\nc");
+    gives(
+        "a rendition that goes on", WITH(.policy = 1), "\x1b[1mb\n\nc\x1b[0m\nd",
+        "\x1b[1mb\x1b[0m\n\n\x1b[1mc\x1b[0m\nd");
+    gives(
+        "one that does not", WITH(.policy = 1, .framing = ESCAPE_STREAM_FRAMING_LINES_RESET),
+        "\x1b[1mb\nc", "\x1b[1mb\x1b[0m\nc");
     gives(
         "a group more", WITH(.policy = 0, .allowed = ESCAPE_STREAM_GROUP_TITLES), "\x1b]2;t\x1b\\x",
         "\x1b]2;t\x1b\\x");
@@ -222,7 +227,7 @@ static void check_faults(void) {
     refuses(WITH(.allowed = 0x10000), ESCAPE_STREAM_UNKNOWN_GROUP);
     refuses(WITH(.denied = 0x10000), ESCAPE_STREAM_UNKNOWN_GROUP);
     refuses(WITH(.links = 8), ESCAPE_STREAM_UNKNOWN_LINKS);
-    refuses(WITH(.framing = 3), ESCAPE_STREAM_UNKNOWN_FRAMING);
+    refuses(WITH(.framing = 4), ESCAPE_STREAM_UNKNOWN_FRAMING);
     refuses(WITH(.characters = 5), ESCAPE_STREAM_UNKNOWN_CHARACTERS);
     refuses(WITH(.returns = 4), ESCAPE_STREAM_UNKNOWN_RETURNS);
     refuses(WITH(.encoding = 13), ESCAPE_STREAM_UNKNOWN_ENCODING);

@@ -324,9 +324,14 @@ struct escape_stream_sanitizer {
 #define ESCAPE_STREAM_LINKS_HTTPS 2
 #define ESCAPE_STREAM_LINKS_MAILTO 4
 
-/* Whether each line is a stream of its own; 0: where the policy is TEXT or COLOR. */
+/*
+ * Whether each line is a stream of its own, or the whole; 0: LINES where the policy is TEXT or
+ * COLOR, and else WHOLE. By LINES a rendition that goes on over a line feed is written again where
+ * the next line begins; by LINES_RESET each line begins plain.
+ */
 #define ESCAPE_STREAM_FRAMING_LINES 1
 #define ESCAPE_STREAM_FRAMING_WHOLE 2
+#define ESCAPE_STREAM_FRAMING_LINES_RESET 3
 
 /*
  * What is written of characters that hide or reorder text: themselves, themselves where they belong

@@ -1,13 +1,11 @@
 //! A recording, from its reader to the output.
 
 use crate::named_groups::Choice;
-use esc_account::{Audience, Audited};
+use crate::rows::Rows;
 use esc_cast::{CastError, Recording};
-use esc_filter::{Feeding, Filter, FilterError, LineFilter};
-use esc_lines::Collapsing;
+use esc_filter::FilterError;
 use esc_normal::Watched;
-use esc_reveal::{Reveal, Revealing};
-use esc_sanitize::{COLUMNS, FilterOptions};
+use esc_sanitize::{Auditor, FilterOptions, Sanitizing, sanitizing};
 use memchr::memchr;
 use std::alloc::Global;
 use std::fmt::{Display, Formatter};
@@ -32,19 +30,28 @@ impl Display for CastFault {
     }
 }
 
+/// How a recording was filtered.
+#[derive(Drop)]
+pub struct Filtered<'a> {
+    /// Whether that failed.
+    pub outcome: Result<(), CastFault>,
+    /// The account of the texts of its events of output.
+    pub auditor: Auditor<Choice<'a>, Rows<'a>>,
+}
+
 /// A recording whose lines come in pieces.
 #[derive(Drop)]
-pub struct Lines<F> {
-    recording: Recording<F>,
+pub struct Lines<'a> {
+    recording: Recording<Sanitizing<Choice<'a>, Rows<'a>>>,
     // what came of the line that is unfinished
     line: Vec<u8>,
     // how many lines were taken
     count: u64,
 }
 
-impl<F: Feeding<Global>> Lines<F> {
+impl<'a> Lines<'a> {
     /// A recording of which nothing came, for a filter that was fed nothing. Takes no memory.
-    pub fn new(alloc: Global, feeding: F) -> Lines<F> {
+    pub fn new(alloc: Global, feeding: Sanitizing<Choice<'a>, Rows<'a>>) -> Lines<'a> {
         Lines {
             recording: Recording::new(alloc, feeding),
             line: Vec::new(alloc),
@@ -86,6 +93,11 @@ impl<F: Feeding<Global>> Lines<F> {
         write(writer, self.recording.text())
     }
 
+    /// The account, of a recording of which nothing more comes.
+    pub fn into_auditor(self) -> Auditor<Choice<'a>, Rows<'a>> {
+        self.recording.into_feeding().into_auditor()
+    }
+
     // Takes the last line, where it has no line feed, and ends the recording.
     fn end<W: Write>(&mut self, writer: &mut Watched<W>) -> Result<(), CastFault> {
         if !self.line.is_empty() {
@@ -99,86 +111,39 @@ impl<F: Feeding<Global>> Lines<F> {
 }
 
 /// Reads a recording to its end, and writes what is given for its lines by the options, as it
-/// reads. The audience hears the texts of its events of output.
-pub fn filter_recording<R: Read, W: Write, K: Audience<Global> + Drop>(
+/// reads; what did not pass of the texts of its events of output goes into these rows.
+pub fn filter_recording<'a, R: Read, W: Write>(
     alloc: Global,
-    options: FilterOptions<Choice<'_>>,
-    audience: K,
+    options: FilterOptions<Choice<'a>>,
+    rows: Rows<'a>,
     reader: &mut Watched<R>,
     writer: &mut Watched<W>,
-) -> Result<(), CastFault> {
-    let by_lines = options.by_lines;
-    if by_lines {
-        let filter = LineFilter::with_guard(alloc, options.limit, options.policy, options.guard);
-        filter_shown(alloc, options, filter, audience, reader, writer)
-    } else {
-        let filter = Filter::with_guard(alloc, options.limit, options.policy, options.guard);
-        filter_shown(alloc, options, filter, audience, reader, writer)
-    }
-}
-
-// The same by this filter, where what does not pass may be shown.
-fn filter_shown<R: Read, W: Write, F: Feeding<Global> + Drop, K: Audience<Global> + Drop>(
-    alloc: Global,
-    options: FilterOptions<Choice<'_>>,
-    filter: F,
-    audience: K,
-    reader: &mut Watched<R>,
-    writer: &mut Watched<W>,
-) -> Result<(), CastFault> {
-    let Some(marking) = options.show else {
-        return filter_rows(alloc, options.rows, filter, audience, reader, writer);
-    };
-    let reveal = Reveal::with_marking(
-        alloc,
-        options.limit,
-        options.policy,
-        options.by_lines,
-        marking,
-    );
-    let filter = Revealing::new(alloc, reveal, filter);
-    filter_rows(alloc, options.rows, filter, audience, reader, writer)
-}
-
-// The same by this filter, of which these rows may be written again.
-fn filter_rows<R: Read, W: Write, F: Feeding<Global> + Drop, K: Audience<Global> + Drop>(
-    alloc: Global,
-    rows: Option<usize>,
-    inner: F,
-    audience: K,
-    reader: &mut Watched<R>,
-    writer: &mut Watched<W>,
-) -> Result<(), CastFault> {
-    let filter = Audited { inner, audience };
-    let Some(rows) = rows else {
-        return filter_lines(alloc, Lines::new(alloc, filter), reader, writer);
-    };
-    match Collapsing::new(alloc, filter, rows, COLUMNS) {
-        Ok(filter) => filter_lines(alloc, Lines::new(alloc, filter), reader, writer),
+) -> Filtered<'a> {
+    let mut lines = Lines::new(alloc, sanitizing(alloc, options, rows));
+    let outcome = match memory::read_buffer(alloc) {
+        Ok(mut chunk) => filter_lines(&mut lines, reader, writer, chunk.as_mut_slice()),
         Err(_) => Err(CastFault::Stream(FilterError::Memory)),
+    };
+    Filtered {
+        outcome,
+        auditor: lines.into_auditor(),
     }
 }
 
-// Reads to the end, and writes what is given for the lines.
-fn filter_lines<R: Read, W: Write, F: Feeding<Global> + Drop>(
-    alloc: Global,
-    lines: Lines<F>,
+// Reads to the end by way of this chunk, and writes what is given for the lines.
+fn filter_lines<R: Read, W: Write>(
+    lines: &mut Lines<'_>,
     reader: &mut Watched<R>,
     writer: &mut Watched<W>,
+    chunk: &mut [u8],
 ) -> Result<(), CastFault> {
-    let Ok(mut chunk) = memory::read_buffer(alloc) else {
-        return Err(CastFault::Stream(FilterError::Memory));
-    };
-    let mut lines = lines;
-    match take_all(&mut lines, reader, writer, chunk.as_mut_slice()) {
-        Ok(()) => end(&mut lines, writer),
-        Err(fault) => Err(fault),
-    }
+    take_all(lines, reader, writer, chunk)?;
+    end(lines, writer)
 }
 
 // The same by way of this chunk, but for the end of the recording.
-fn take_all<R: Read, W: Write, F: Feeding<Global>>(
-    lines: &mut Lines<F>,
+fn take_all<R: Read, W: Write>(
+    lines: &mut Lines<'_>,
     reader: &mut Watched<R>,
     writer: &mut Watched<W>,
     chunk: &mut [u8],
@@ -194,8 +159,8 @@ fn take_all<R: Read, W: Write, F: Feeding<Global>>(
 }
 
 // Takes bytes more, and flushes what is written of the lines that they end.
-fn pass_on<W: Write, F: Feeding<Global>>(
-    lines: &mut Lines<F>,
+fn pass_on<W: Write>(
+    lines: &mut Lines<'_>,
     bytes: &[u8],
     writer: &mut Watched<W>,
 ) -> Result<(), CastFault> {
@@ -204,10 +169,7 @@ fn pass_on<W: Write, F: Feeding<Global>>(
 }
 
 // Ends the recording, and flushes what is written then.
-fn end<W: Write, F: Feeding<Global>>(
-    lines: &mut Lines<F>,
-    writer: &mut Watched<W>,
-) -> Result<(), CastFault> {
+fn end<W: Write>(lines: &mut Lines<'_>, writer: &mut Watched<W>) -> Result<(), CastFault> {
     lines.end(writer)?;
     flush(writer)
 }

@@ -1,7 +1,7 @@
 //! Streams that are filtered to one output, each with its report.
 
 use crate::PROGRAM;
-use crate::cast::{CastFault, filter_recording};
+use crate::cast::{CastFault, Filtered, filter_recording};
 use crate::events::Events;
 use crate::json::tell_json;
 use crate::laws::choices_admit_less;
@@ -106,8 +106,13 @@ impl<'a, W: Write, E: Write> Filtering<'a, W, E> {
             is_open: !self.options.is_list,
         }));
         let options = self.options.filter;
-        let mut auditor = Auditor::new(self.alloc, options, rows);
-        let outcome = filter_recording(self.alloc, options, &mut auditor, &mut reader, &mut writer);
+        let Filtered { outcome, auditor } = filter_recording(
+            self.alloc,
+            options,
+            rows,
+            &mut reader,
+            &mut writer,
+        );
         let reason = reader
             .into_inner()
             .reason()

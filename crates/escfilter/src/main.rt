@@ -40,7 +40,7 @@ const USAGE: &str = "\
 usage: escfilter [--allow text|color|screen|all|layout|sgr|hidden|links|controls|cursor|erase|\
 scroll|modes|charsets|palette|titles|clipboard|images|other] [--deny layout|sgr|hidden|links|\
 controls|cursor|erase|scroll|modes|charsets|palette|titles|clipboard|images|other] \
-[--links scheme,..] [--lines|--whole] [--limit size] \
+[--links scheme,..] [--lines|--whole] [--line-reset] [--limit size] \
 [--encoding utf-8|utf-16|utf-16le|utf-16be|latin1|windows-1250|windows-1251|windows-1252|\
 windows-1253|windows-1254|windows-1255|windows-1256|windows-1257|windows-1258] \
 [--c1 replace|obey] [--unicode keep|join|show|drop] [--returns keep|show|drop] \
@@ -63,6 +63,8 @@ leaves on, as colours or a link, is taken back at its end, and at each line's wi
   --lines         takes each line as a stream of its own, so that no string takes away the
                   lines after it (the default with text and color)
   --whole         takes each FILE as one stream (the default with screen and all)
+  --line-reset    by lines, begins each line plain; else a rendition that goes on over a line
+                  feed is written again where the next line begins
   --limit size    the most bytes of an unfinished sequence that are kept (1MiB): a number,
                   as 65536, or 64K, 1M or 1G, also as 64KiB, in powers of 1024
   --encoding name reads utf-8 (the default), utf-16, utf-16le, utf-16be, latin1, or windows-1250

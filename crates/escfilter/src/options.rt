@@ -134,6 +134,11 @@ const KNOWN: &[Known] = &[
         takes: Takes::Nothing,
     },
     Known {
+        name: "--line-reset",
+        letter: "",
+        takes: Takes::Nothing,
+    },
+    Known {
         name: "--unicode",
         letter: "",
         takes: Takes::OneOf("way", &["keep", "join", "show", "drop"]),

@@ -21,6 +21,8 @@ pub struct Settings<'a> {
     pub limit: usize,
     /// Whether each line is a stream of its own.
     pub by_lines: Option<bool>,
+    /// Whether each line begins plain, and a rendition does not go on over a line feed.
+    pub resets: bool,
     /// What is written of characters that hide or reorder text.
     pub unicode: Option<Unicode>,
     /// What is written of bare carriage returns.
@@ -45,6 +47,7 @@ impl<'a> Settings<'a> {
             schemes: None,
             limit: FilterOptions::new(Policy::Color).limit,
             by_lines: None,
+            resets: false,
             unicode: None,
             returns: None,
             page: None,
@@ -63,6 +66,7 @@ impl<'a> Settings<'a> {
             "--links" => self.schemes = Some(given.word),
             "--lines" => self.by_lines = Some(true),
             "--whole" => self.by_lines = Some(false),
+            "--line-reset" => self.resets = true,
             "--limit" => self.limit = given.size,
             "--c1" => self.obeys = given.word == "obey",
             "--unicode" => self.unicode = Some(unicode_of(given.word)),
@@ -84,6 +88,7 @@ impl<'a> Settings<'a> {
             policy: self.policy(),
             limit: self.limit,
             by_lines,
+            resumes: !self.resets,
             guard: Guard {
                 characters: self.characters(defaults.guard.characters),
                 returns: self.bare_returns(by_lines, defaults.guard.returns),

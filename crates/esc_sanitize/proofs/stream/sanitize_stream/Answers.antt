@@ -7,7 +7,7 @@ use Rattle.esc_sanitize.specs.Stages.{options_of}
 use Rattle.esc_sanitize.proofs.stream.sanitize_stream.Goals as goal
 
 pub told-requires : goal.told-requires
-told-requires g c = (c.staged-staged.ensures.begins c.requires, refl, refl, λ s. refl)
+told-requires g c = (c.sanitizing-staged.ensures.begins c.requires, refl, refl, λ s. refl)
 
 pub returns-clause-holds : goal.returns-clause-holds
 returns-clause-holds g c =
@@ -16,7 +16,8 @@ returns-clause-holds g c =
     let lines = c.written_lines_read_back.ensures in
     let whole = c.written_reads_back.ensures in
     let p = V.admits o.policy in
-    let f = written_as V o (options_of c.staged-staged.result) c.staged-staged.ensures.options
+    let begun = c.sanitizing-staged in
+    let f = written_as V o (options_of begun.result) begun.ensures.options
     (text_is V o (lines true o.guard o.limit p) (whole.ended o.guard (Some o.limit) p))
     (going_is V o (lines false o.guard o.limit p) (whole.goes_on o.guard (Some o.limit) p)) _ _ _
     c.told.ensures.holds in (
@@ -36,11 +37,12 @@ returns-clause-holds g c =
 pub returns-clause-account : goal.returns-clause-account
 returns-clause-account g c =
     let V = g.P.Admit in
-    let k = options_of c.staged-staged.result in
+    let k = options_of c.sanitizing-staged.result in
     on_ok_more _ _ c.told.result.outcome
     (λ h. (
       h.0,
       h.2,
-      subst (λ o. IsAudited V g.B.Book o c.told.result.auditor h.0) c.staged-staged.ensures.options
+      subst (λ o. IsAudited V g.B.Book o c.told.result.auditor h.0)
+          c.sanitizing-staged.ensures.options
           (audited V g.B.Book k c.told.result.auditor h.0 h.1.0 h.1.1),
     )) c.told.ensures.heard

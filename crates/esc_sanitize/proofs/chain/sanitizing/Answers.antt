@@ -1,4 +1,4 @@
-use Rattle.esc_sanitize.proofs.chain.staged.Goals as goal
+use Rattle.esc_sanitize.proofs.chain.sanitizing.Goals as goal
 
 pub returns-clause-begins : goal.returns-clause-begins
 returns-clause-begins g c = λ fresh.
