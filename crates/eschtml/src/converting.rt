@@ -88,18 +88,26 @@ impl<'a, W: Write, E: Write> Converting<'a, W, E> {
     // Writes a stream of this name, group after group.
     fn take_groups<R: Read + Drop>(&mut self, name: &str, input: &mut R) -> Ended {
         let mut sections = Sections::new(self.alloc, &mut *input);
-        let mut ended = Ended::Whole;
+        let ended = self.take_parts(name, &mut sections);
+        self.end_groups(ended, sections.depth())
+    }
+
+    // Writes its parts, one after another.
+    fn take_parts<R: Read + Drop>(&mut self, name: &str, sections: &mut Sections<R>) -> Ended {
         for _ in 0..u64::MAX {
-            match self.take_part(name, &mut sections) {
+            match self.take_part(name, sections) {
                 Some(Ended::Whole) => {}
-                Some(other) => {
-                    ended = other;
-                    break;
-                }
-                None => break,
+                Some(other) => return other,
+                None => return Ended::Whole,
             }
         }
-        for _ in 0..sections.depth() {
+        Ended::Whole
+    }
+
+    // Ends so many groups that are open.
+    fn end_groups(&mut self, ended: Ended, depth: usize) -> Ended {
+        let mut ended = ended;
+        for _ in 0..depth {
             if is_last(ended) {
                 return ended;
             }
@@ -133,7 +141,8 @@ impl<'a, W: Write, E: Write> Converting<'a, W, E> {
 
     // Writes text of a stream of this name as a block of the page.
     fn take_block<R: Read + Drop>(&mut self, name: &str, input: &mut R) -> Ended {
-        let text = before(self.alloc, name, self.line, self.options);
+        let options = self.options;
+        let text = before(self.alloc, name, self.line, &options);
         let ended = self.push(Ended::Whole, text);
         if ended != Ended::Whole {
             return ended;

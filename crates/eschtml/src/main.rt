@@ -175,7 +175,7 @@ fn convert<W: Write>(
     if !options.is_page {
         return convert_all(rt, options, files, output_name, output);
     }
-    let Ok(text) = head(rt.alloc(), title_of(options, files), options) else {
+    let Ok(text) = head(rt.alloc(), title_of(options, files), &options) else {
         tell(PROGRAM, output_name, FilterError::Memory, &mut rt.stderr());
         return FAULT;
     };
