@@ -14,6 +14,9 @@ const ESC: u8 = 0x1b;
 // The first byte of the controls of C1 in UTF-8.
 const LEAD: u8 = 0xc2;
 
+// What neither ends a sequence nor is a part of it, as a byte past ASCII.
+const DEL: u8 = 0x7f;
+
 // How many bytes are read at once.
 const BYTES: usize = 8192;
 
@@ -116,13 +119,13 @@ impl<R: Read> Linking<R> {
     }
 
     // Follows a segment to its end, as far as it is there; how many bytes that are. A byte past
-    // ASCII is text there, but for a control of C1 in UTF-8.
+    // ASCII is text there, which ends no sequence, but for a control of C1 in UTF-8.
     fn follow(&mut self, bytes: &[u8]) -> Result<usize, AllocError> {
         let mut n = 0usize;
         for byte in bytes {
             n = n.saturating_add(1);
             let is_text = !byte.is_ascii() && *byte != LEAD && self.follows != LEAD;
-            let seen = if is_text { b'?' } else { *byte };
+            let seen = if is_text { DEL } else { *byte };
             self.follows = *byte;
             if self.framer.parse(&[seen], &mut self.links).is_err() {
                 return Err(AllocError);
