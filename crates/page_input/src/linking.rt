@@ -172,8 +172,8 @@ impl<R: Read> Linking<R> {
     // Appends text, with links where addresses are.
     fn push_linked(&mut self, text: &[u8]) -> Result<(), AllocError> {
         let mut rest = text;
-        while let Some(Place { begin, end }) = first_address(rest, self.previous) {
-            let end = end.max(1).min(rest.len());
+        while let Some(Place { begin, length }) = first_address(rest, self.previous) {
+            let end = begin.saturating_add(length).max(1).min(rest.len());
             let (part, after) = rest.split_at(end);
             let (before, address) = part.split_at(begin.min(part.len()));
             memory::extend(&mut self.made, before)?;
