@@ -27,6 +27,8 @@ pub struct Options<'a> {
     pub layout: Layout,
     /// Whether what is left out is shown in place.
     pub shows: bool,
+    /// Whether the HTML says what a string took that nothing ends.
+    pub marks_lost: bool,
     /// How many rows may be written again, where what is left of them is written.
     pub rows: Option<usize>,
     /// Which lines are written.
@@ -59,6 +61,7 @@ impl<'a> Options<'a> {
                 inline: false,
             },
             shows: false,
+            marks_lost: false,
             rows: None,
             cut: Cut {
                 head: None,
@@ -88,6 +91,7 @@ impl<'a> Options<'a> {
             "--lines" => self.layout.per_line = true,
             "--inline" => self.layout.inline = true,
             "--show" => self.shows = true,
+            "--lost" => self.marks_lost = true,
             "--head" => self.cut.head = lines_of(given.word),
             "--tail" => self.cut.tail = lines_of(given.word),
             "--linkify" => self.links = true,
@@ -205,6 +209,11 @@ const KNOWN: &[Known] = &[
     },
     Known {
         name: "--show",
+        letter: "",
+        takes: Takes::Nothing,
+    },
+    Known {
+        name: "--lost",
         letter: "",
         takes: Takes::Nothing,
     },

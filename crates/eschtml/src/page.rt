@@ -1,6 +1,7 @@
 //! What comes before and after a stream in a whole page.
 
 use crate::options::{Options, Theme};
+use crate::strings::Lost;
 use crate::style::{push_page_style, push_style};
 use esc_html::push_text;
 use page_input::Mark;
@@ -255,6 +256,30 @@ fn push_group(text: &mut String, mark: &Mark) -> Result<(), AllocError> {
         }
         Mark::End => memory::push_str(text, "</details>\n"),
     }
+}
+
+/// What says that a string which nothing ended, from this line on, took so many bytes: a span, on a
+/// page in a note. The error is that memory was refused.
+pub fn lost_note(alloc: Global, is_page: bool, lost: Lost) -> Result<String, AllocError> {
+    let mut text = String::new(alloc);
+    let made = push_lost(&mut text, is_page, lost);
+    whole(text, made)
+}
+
+fn push_lost(text: &mut String, is_page: bool, lost: Lost) -> Result<(), AllocError> {
+    memory::push_str(text, if is_page { "<p class=\"es-note\">" } else { "" })?;
+    memory::push_str(text, "<span class=\"es-lost\">line ")?;
+    memory::push_display(text, &lost.line)?;
+    memory::push_str(text, ": an unended string swallowed ")?;
+    memory::push_display(text, &lost.bytes)?;
+    memory::push_str(
+        text,
+        if is_page {
+            " bytes</span></p>\n"
+        } else {
+            " bytes</span>\n"
+        },
+    )
 }
 
 // What begins a group, up to its title.
