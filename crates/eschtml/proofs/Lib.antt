@@ -4,3 +4,4 @@ mod Left
 mod Same
 mod Seen
 mod Lining
+mod Lengths

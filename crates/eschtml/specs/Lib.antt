@@ -1,3 +1,4 @@
 pub mod Written
 pub mod Piped
 pub mod Lined
+pub mod Lengths

@@ -3,7 +3,7 @@
 use crate::heeding::Heeding;
 use crate::lines::Counting;
 use crate::options::Options;
-use crate::page::{AFTER, Side, before, counted, ending, group, heading};
+use crate::page::{AFTER, Side, before, counted, ending, group, heading, lost_note};
 use crate::stream::{PROGRAM, write_html};
 use crate::strings::Lost;
 use command_line::{Ended, Noting, Place, Reason, Shown, Work, ended_by, tell, unread, unwritten};
@@ -79,27 +79,32 @@ impl<'a, W: Write, E: Write> Converting<'a, W, E> {
             self.take_block(name, &mut input)
         };
         let (lost, window) = input.end();
-        if ended == Ended::Whole {
-            self.tell_lost(name, before, lost);
-        }
-        (ended, window)
+        (self.note_lost(name, ended, before, lost), window)
     }
 
     // Writes a stream of this name, group after group.
     fn take_groups<R: Read + Drop>(&mut self, name: &str, input: &mut R) -> Ended {
         let mut sections = Sections::new(self.alloc, &mut *input);
-        let mut ended = Ended::Whole;
+        let ended = self.take_parts(name, &mut sections);
+        self.end_groups(ended, sections.depth())
+    }
+
+    // Writes its parts, one after another.
+    fn take_parts<R: Read + Drop>(&mut self, name: &str, sections: &mut Sections<R>) -> Ended {
         for _ in 0..u64::MAX {
-            match self.take_part(name, &mut sections) {
+            match self.take_part(name, sections) {
                 Some(Ended::Whole) => {}
-                Some(other) => {
-                    ended = other;
-                    break;
-                }
-                None => break,
+                Some(other) => return other,
+                None => return Ended::Whole,
             }
         }
-        for _ in 0..sections.depth() {
+        Ended::Whole
+    }
+
+    // Ends so many groups that are open.
+    fn end_groups(&mut self, ended: Ended, depth: usize) -> Ended {
+        let mut ended = ended;
+        for _ in 0..depth {
             if is_last(ended) {
                 return ended;
             }
@@ -133,7 +138,8 @@ impl<'a, W: Write, E: Write> Converting<'a, W, E> {
 
     // Writes text of a stream of this name as a block of the page.
     fn take_block<R: Read + Drop>(&mut self, name: &str, input: &mut R) -> Ended {
-        let text = before(self.alloc, name, self.line, self.options);
+        let options = self.options;
+        let text = before(self.alloc, name, self.line, &options);
         let ended = self.push(Ended::Whole, text);
         if ended != Ended::Whole {
             return ended;
@@ -232,15 +238,30 @@ impl<'a, W: Write, E: Write> Converting<'a, W, E> {
 
     // Says what a string of the stream of this name took, which nothing ended, unless it is shown;
     // so many lines come before what was read.
-    fn tell_lost(&mut self, name: &str, before: u64, lost: Option<Lost>) {
-        let Some(Lost { line, bytes }) = lost else {
-            return;
+    fn note_lost(&mut self, name: &str, ended: Ended, before: u64, lost: Option<Lost>) -> Ended {
+        let Some(lost) = lost else {
+            return ended;
         };
-        if self.options.shows {
-            return;
+        if ended != Ended::Whole || self.options.shows {
+            return ended;
         }
+        let lost = Lost {
+            line: lost.line.saturating_add(before),
+            bytes: lost.bytes,
+        };
+        self.tell_lost(name, lost);
+        if !self.options.marks_lost {
+            return ended;
+        }
+        let text = lost_note(self.alloc, self.options.is_page, lost);
+        let ended = self.push(ended, text);
+        self.flush(ended)
+    }
+
+    fn tell_lost(&mut self, name: &str, lost: Lost) {
         let name = Shown(name);
-        let line = line.saturating_add(before);
+        let line = lost.line;
+        let bytes = lost.bytes;
         let _ = writeln!(
             self.faults,
             "{PROGRAM}: {name}: line {line}: an unended string swallowed {bytes} bytes"

@@ -33,7 +33,7 @@ use style::push_style;
 
 const USAGE: &str = "\
 usage: eschtml [--page] [--title text] [--css address] [--lang language] \
-[--theme auto|light|dark] [--numbers] [--wrap] [--lines] [--inline] [--show] \
+[--theme auto|light|dark] [--numbers] [--wrap] [--lines] [--inline] [--show] [--lost] \
 [--final-lines[=rows]] [--head lines] [--tail lines] [--linkify] [--fold] [--style] \
 [--encoding utf-8|utf-16|utf-16le|utf-16be|latin1|windows-1250|windows-1251|windows-1252|\
 windows-1253|windows-1254|windows-1255|windows-1256|windows-1257|windows-1258] \
@@ -59,6 +59,7 @@ renditions as spans, and links to http, https and mailto. Nothing of it becomes 
                   fragment needs no style sheet
   --show          writes what is left out in its place, as text in reverse video:
                   ^[]0;title^G
+  --lost          writes after a stream how many bytes a string took that nothing ends
   --final-lines   writes what a terminal leaves of lines that are written again, as by
                   progress bars; --final-lines=rows where these go back over more rows than 32
   --head lines    writes so many lines that come first, and says how many are left out
@@ -175,7 +176,7 @@ fn convert<W: Write>(
     if !options.is_page {
         return convert_all(rt, options, files, output_name, output);
     }
-    let Ok(text) = head(rt.alloc(), title_of(options, files), options) else {
+    let Ok(text) = head(rt.alloc(), title_of(options, files), &options) else {
         tell(PROGRAM, output_name, FilterError::Memory, &mut rt.stderr());
         return FAULT;
     };

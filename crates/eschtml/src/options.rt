@@ -1,7 +1,7 @@
 //! What the program's words ask for.
 
 use command_line::{Apart, Found, Given, Known, Takes, Wrong, read};
-use esc_decode::{ByteOrder, ENCODINGS, Encoding, encoding_of, order_of, page_of};
+use esc_decode::{ByteOrder, CodePage, ENCODINGS, Encoding, encoding_of, order_of, page_of};
 use esc_html::Layout;
 use page_input::Cut;
 use std::alloc::Global;
@@ -27,6 +27,8 @@ pub struct Options<'a> {
     pub layout: Layout,
     /// Whether what is left out is shown in place.
     pub shows: bool,
+    /// Whether the HTML says what a string took that nothing ends.
+    pub marks_lost: bool,
     /// How many rows may be written again, where what is left of them is written.
     pub rows: Option<usize>,
     /// Which lines are written.
@@ -41,6 +43,63 @@ pub struct Options<'a> {
     pub encoding: Encoding,
     /// How many bytes are kept of an unfinished segment.
     pub limit: usize,
+}
+
+impl<'a> Options<'a> {
+    // Where no option is given.
+    fn new() -> Options<'a> {
+        Options {
+            is_page: false,
+            title: None,
+            css: None,
+            lang: "en",
+            theme: Theme::Auto,
+            wraps: false,
+            first: None,
+            layout: Layout {
+                per_line: false,
+                inline: false,
+            },
+            shows: false,
+            marks_lost: false,
+            rows: None,
+            cut: Cut {
+                head: None,
+                tail: None,
+            },
+            links: false,
+            folds: false,
+            order: None,
+            encoding: Encoding::Utf8,
+            limit: DEFAULT_LIMIT,
+        }
+    }
+
+    // And as this option says.
+    fn take(&mut self, given: &Given<'a>) {
+        match given.name {
+            "--page" => {
+                self.is_page = true;
+                self.first = Some(1);
+            }
+            "--numbers" => self.first = Some(1),
+            "--title" => self.title = Some(given.word),
+            "--css" => self.css = Some(given.word),
+            "--lang" => self.lang = given.word,
+            "--theme" => self.theme = Theme::of(given.word),
+            "--wrap" => self.wraps = true,
+            "--lines" => self.layout.per_line = true,
+            "--inline" => self.layout.inline = true,
+            "--show" => self.shows = true,
+            "--lost" => self.marks_lost = true,
+            "--head" => self.cut.head = lines_of(given.word),
+            "--tail" => self.cut.tail = lines_of(given.word),
+            "--linkify" => self.links = true,
+            "--fold" => self.folds = true,
+            "--limit" => self.limit = given.size,
+            _ => {}
+        }
+    }
 }
 
 /// Whether a page is light or dark.
@@ -154,6 +213,11 @@ const KNOWN: &[Known] = &[
         takes: Takes::Nothing,
     },
     Known {
+        name: "--lost",
+        letter: "",
+        takes: Takes::Nothing,
+    },
+    Known {
         name: "--final-lines",
         letter: "",
         takes: Takes::Maybe("number of rows", &[]),
@@ -212,17 +276,8 @@ impl<'a> Task<'a> {
             Err(wrong) => return Err(wrong),
         };
         for given in &found.options {
-            if given.name == "--final-lines" && rows_of(given.word).is_none() {
-                return Err(Wrong::Value("--final-lines", "number of rows", given.word, None));
-            }
-            if given.name == "--lang" && !is_language(given.word) {
-                return Err(Wrong::Value("--lang", "language", given.word, None));
-            }
-            if given.name == "--head" && lines_of(given.word).is_none() {
-                return Err(Wrong::Value("--head", LINES, given.word, None));
-            }
-            if given.name == "--tail" && lines_of(given.word).is_none() {
-                return Err(Wrong::Value("--tail", LINES, given.word, None));
+            if let Some(wrong) = wrong_value(given) {
+                return Err(wrong);
             }
         }
         Ok(Task::from_found(found))
@@ -230,83 +285,80 @@ impl<'a> Task<'a> {
 
     // The task that these options and files name.
     fn from_found(found: Found<'a>) -> Task<'a> {
-        let mut kind = Kind::Convert;
-        let mut output = None;
-        let mut apart = None;
-        let mut page = None;
-        let mut obeys = false;
-        let mut head = None;
-        let mut tail = None;
-        let mut options = Options {
-            is_page: false,
-            title: None,
-            css: None,
-            lang: "en",
-            theme: Theme::Auto,
-            wraps: false,
-            first: None,
-            layout: Layout {
-                per_line: false,
-                inline: false,
-            },
-            shows: false,
-            rows: None,
-            cut: Cut {
-                head: None,
-                tail: None,
-            },
-            links: false,
-            folds: false,
-            order: None,
-            encoding: Encoding::Utf8,
-            limit: DEFAULT_LIMIT,
-        };
+        let mut choices = Choices::new();
         for given in &found.options {
-            match given.name {
-                "--page" => {
-                    options.is_page = true;
-                    options.first = Some(1);
-                }
-                "--numbers" => options.first = Some(1),
-                "--title" => options.title = Some(given.word),
-                "--css" => options.css = Some(given.word),
-                "--lang" => options.lang = given.word,
-                "--theme" => options.theme = Theme::of(given.word),
-                "--wrap" => options.wraps = true,
-                "--lines" => options.layout.per_line = true,
-                "--inline" => options.layout.inline = true,
-                "--show" => options.shows = true,
-                "--final-lines" => {
-                    options.rows = rows_of(given.word);
-                    apart = apart_of(given);
-                }
-                "--head" => head = lines_of(given.word),
-                "--tail" => tail = lines_of(given.word),
-                "--linkify" => options.links = true,
-                "--fold" => options.folds = true,
-                "--c1" => obeys = given.word == "obey",
-                "--encoding" => {
-                    page = page_of(given.word);
-                    options.order = order_of(given.word);
-                }
-                "--limit" => options.limit = given.size,
-                "--output" => output = Some(given.word),
-                "--style" => kind = Kind::Style,
-                "--help" => kind = Kind::Help,
-                "--version" => kind = Kind::Version,
-                _ => {}
-            }
+            choices.take(given);
         }
-        options.encoding = encoding_of(page, obeys);
-        options.cut = Cut { head, tail };
+        let mut options = choices.options;
+        options.encoding = encoding_of(choices.page, choices.obeys);
         Task {
-            kind,
+            kind: choices.kind,
             options,
-            output,
+            output: choices.output,
             files: found.files,
-            apart,
+            apart: choices.apart,
         }
     }
+}
+
+// What the options so far ask for.
+#[derive(Clone, Copy)]
+struct Choices<'a> {
+    kind: Kind,
+    options: Options<'a>,
+    // the code page of the streams, and whether they have controls of C1
+    page: Option<CodePage>,
+    obeys: bool,
+    output: Option<&'a str>,
+    apart: Option<Apart<'a>>,
+}
+
+impl<'a> Choices<'a> {
+    // Where there is no option.
+    fn new() -> Choices<'a> {
+        Choices {
+            kind: Kind::Convert,
+            options: Options::new(),
+            page: None,
+            obeys: false,
+            output: None,
+            apart: None,
+        }
+    }
+
+    // And of this one.
+    fn take(&mut self, given: &Given<'a>) {
+        match given.name {
+            "--final-lines" => {
+                self.options.rows = rows_of(given.word);
+                self.apart = apart_of(given);
+            }
+            "--c1" => self.obeys = given.word == "obey",
+            "--encoding" => {
+                self.page = page_of(given.word);
+                self.options.order = order_of(given.word);
+            }
+            "--output" => self.output = Some(given.word),
+            "--style" => self.kind = Kind::Style,
+            "--help" => self.kind = Kind::Help,
+            "--version" => self.kind = Kind::Version,
+            _ => self.options.take(given),
+        }
+    }
+}
+
+// What is wrong with the value of an option, where anything is.
+fn wrong_value<'a>(given: &Given<'a>) -> Option<Wrong<'a>> {
+    let (kind, is_right) = match given.name {
+        "--final-lines" => ("number of rows", rows_of(given.word).is_some()),
+        "--lang" => ("language", is_language(given.word)),
+        "--head" | "--tail" => (LINES, lines_of(given.word).is_some()),
+        _ => return None,
+    };
+    if is_right {
+        return None;
+    }
+    Some(Wrong::Value(given.name, kind, given.word, None))
 }
 
 // The word after this option, where it could take it, and takes what follows `=` alone.

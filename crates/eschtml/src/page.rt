@@ -1,6 +1,7 @@
 //! What comes before and after a stream in a whole page.
 
 use crate::options::{Options, Theme};
+use crate::strings::Lost;
 use crate::style::{push_page_style, push_style};
 use esc_html::push_text;
 use page_input::Mark;
@@ -14,29 +15,41 @@ const OWN_STYLES: &str = "default-src 'none'; style-src 'unsafe-inline'; base-ur
 const ANY_STYLES: &str = "default-src 'none'; style-src 'unsafe-inline' 'self' file: http: https:; \
                           base-uri 'none'; form-action 'none'";
 
+// A text that was made, where it was made whole.
+fn whole(text: String, made: Result<(), AllocError>) -> Result<String, AllocError> {
+    match made {
+        Ok(()) => Ok(text),
+        Err(error) => Err(error),
+    }
+}
+
 /// What a page begins with: its title, and its style sheet or a link to that of the options. The
 /// error is that memory was refused.
-pub fn head(alloc: Global, title: &str, options: Options<'_>) -> Result<String, AllocError> {
+pub fn head(alloc: Global, title: &str, options: &Options<'_>) -> Result<String, AllocError> {
     let mut text = String::new(alloc);
-    memory::push_str(&mut text, "<!DOCTYPE html>\n<html lang=\"")?;
-    push_value(&mut text, options.lang)?;
+    let made = push_head(&mut text, title, options);
+    whole(text, made)
+}
+
+fn push_head(text: &mut String, title: &str, options: &Options<'_>) -> Result<(), AllocError> {
+    memory::push_str(text, "<!DOCTYPE html>\n<html lang=\"")?;
+    push_value(text, options.lang)?;
     memory::push_str(
-        &mut text,
+        text,
         "\">\n<head>\n<meta charset=\"utf-8\">\n\
          <meta http-equiv=\"Content-Security-Policy\" content=\"",
     )?;
-    memory::push_str(&mut text, allowed(options.css))?;
+    memory::push_str(text, allowed(options.css))?;
     memory::push_str(
-        &mut text,
+        text,
         "\">\n<meta name=\"viewport\" content=\"width=device-width, initial-scale=1\">\n<title>",
     )?;
-    push_title(&mut text, title)?;
-    memory::push_str(&mut text, "</title>\n")?;
-    push_sheet(&mut text, options.css, theme_of(options))?;
-    memory::push_str(&mut text, "</head>\n<body>\n<main>\n<h1>")?;
-    push_title(&mut text, title)?;
-    memory::push_str(&mut text, "</h1>\n")?;
-    Ok(text)
+    push_title(text, title)?;
+    memory::push_str(text, "</title>\n")?;
+    push_sheet(text, options.css, theme_of(options))?;
+    memory::push_str(text, "</head>\n<body>\n<main>\n<h1>")?;
+    push_title(text, title)?;
+    memory::push_str(text, "</h1>\n")
 }
 
 // Appends a title, with U+FFFD in the place of controls and noncharacters: some are no HTML, and
@@ -49,11 +62,16 @@ fn push_title(text: &mut String, title: &str) -> Result<(), AllocError> {
 // A title, or the name of a stream, with U+FFFD in the place of controls and noncharacters.
 fn as_characters(alloc: Global, title: &str) -> Result<String, AllocError> {
     let mut shown = String::new(alloc);
+    let made = push_characters(&mut shown, title);
+    whole(shown, made)
+}
+
+fn push_characters(shown: &mut String, title: &str) -> Result<(), AllocError> {
     for c in title.chars() {
         let stays = !is_control(c) && !is_noncharacter(c);
-        memory::push_char(&mut shown, if stays { c } else { '\u{fffd}' })?;
+        memory::push_char(shown, if stays { c } else { '\u{fffd}' })?;
     }
-    Ok(shown)
+    Ok(())
 }
 
 // Whether it is a control of C0 or C1, or DEL.
@@ -75,7 +93,7 @@ fn allowed(css: Option<&str>) -> &'static str {
 }
 
 // Whether the page is light or dark: light where it has the colours of a light one by themselves.
-fn theme_of(options: Options<'_>) -> Theme {
+fn theme_of(options: &Options<'_>) -> Theme {
     if options.layout.inline {
         Theme::Light
     } else {
@@ -149,13 +167,22 @@ pub fn heading(
     left_out: u64,
 ) -> Result<String, AllocError> {
     let mut text = String::new(alloc);
+    let made = push_heading(&mut text, name, is_headed, left_out);
+    whole(text, made)
+}
+
+fn push_heading(
+    text: &mut String,
+    name: &str,
+    is_headed: bool,
+    left_out: u64,
+) -> Result<(), AllocError> {
     if is_headed {
-        memory::push_str(&mut text, "<h2>")?;
-        push_title(&mut text, name)?;
-        memory::push_str(&mut text, "</h2>\n")?;
+        memory::push_str(text, "<h2>")?;
+        push_title(text, name)?;
+        memory::push_str(text, "</h2>\n")?;
     }
-    push_left_out(&mut text, left_out, Side::Before)?;
-    Ok(text)
+    push_left_out(text, left_out, Side::Before)
 }
 
 /// What comes before text of a stream of this name, after so many lines of the page. A browser
@@ -164,14 +191,23 @@ pub fn before(
     alloc: Global,
     name: &str,
     lines: u64,
-    options: Options<'_>,
+    options: &Options<'_>,
 ) -> Result<String, AllocError> {
     let mut text = String::new(alloc);
-    push_opening(&mut text, lines, options)?;
-    let name = as_characters(alloc, name)?;
-    push_value(&mut text, name.as_str())?;
-    memory::push_str(&mut text, "\">\n")?;
-    Ok(text)
+    let made = push_before(&mut text, name, lines, options);
+    whole(text, made)
+}
+
+fn push_before(
+    text: &mut String,
+    name: &str,
+    lines: u64,
+    options: &Options<'_>,
+) -> Result<(), AllocError> {
+    push_opening(text, lines, options)?;
+    let name = as_characters(*text.allocator(), name)?;
+    push_value(text, name.as_str())?;
+    memory::push_str(text, "\">\n")
 }
 
 /// What comes after it.
@@ -179,7 +215,7 @@ pub const AFTER: &str = "</pre></div>\n";
 
 // What it begins with, up to the name. Where not all lines are shown as such, the numbers of the
 // others are counted from the first of them on.
-fn push_opening(text: &mut String, lines: u64, options: Options<'_>) -> Result<(), AllocError> {
+fn push_opening(text: &mut String, lines: u64, options: &Options<'_>) -> Result<(), AllocError> {
     memory::push_str(text, "<div class=\"es-stream")?;
     if options.wraps {
         memory::push_str(text, " es-wrap")?;
@@ -200,22 +236,50 @@ fn push_opening(text: &mut String, lines: u64, options: Options<'_>) -> Result<(
 /// error is that memory was refused.
 pub fn ending(alloc: Global, left_out: u64) -> Result<String, AllocError> {
     let mut text = String::new(alloc);
-    push_left_out(&mut text, left_out, Side::After)?;
-    Ok(text)
+    let made = push_left_out(&mut text, left_out, Side::After);
+    whole(text, made)
 }
 
 /// What begins or ends a group of lines. The error is that memory was refused.
 pub fn group(alloc: Global, mark: &Mark) -> Result<String, AllocError> {
     let mut text = String::new(alloc);
+    let made = push_group(&mut text, mark);
+    whole(text, made)
+}
+
+fn push_group(text: &mut String, mark: &Mark) -> Result<(), AllocError> {
     match mark {
         Mark::Begin { title, is_closed } => {
-            memory::push_str(&mut text, opening_of(*is_closed))?;
-            push_title(&mut text, title.as_str())?;
-            memory::push_str(&mut text, "</summary>\n")?;
+            memory::push_str(text, opening_of(*is_closed))?;
+            push_title(text, title.as_str())?;
+            memory::push_str(text, "</summary>\n")
         }
-        Mark::End => memory::push_str(&mut text, "</details>\n")?,
+        Mark::End => memory::push_str(text, "</details>\n"),
     }
-    Ok(text)
+}
+
+/// What says that a string which nothing ended, from this line on, took so many bytes: a span, on a
+/// page in a note. The error is that memory was refused.
+pub fn lost_note(alloc: Global, is_page: bool, lost: Lost) -> Result<String, AllocError> {
+    let mut text = String::new(alloc);
+    let made = push_lost(&mut text, is_page, lost);
+    whole(text, made)
+}
+
+fn push_lost(text: &mut String, is_page: bool, lost: Lost) -> Result<(), AllocError> {
+    memory::push_str(text, if is_page { "<p class=\"es-note\">" } else { "" })?;
+    memory::push_str(text, "<span class=\"es-lost\">line ")?;
+    memory::push_display(text, &lost.line)?;
+    memory::push_str(text, ": an unended string swallowed ")?;
+    memory::push_display(text, &lost.bytes)?;
+    memory::push_str(
+        text,
+        if is_page {
+            " bytes</span></p>\n"
+        } else {
+            " bytes</span>\n"
+        },
+    )
 }
 
 // What begins a group, up to its title.

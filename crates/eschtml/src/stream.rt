@@ -1,10 +1,11 @@
 //! One stream, from its reader to the output.
-ghost use Rattle.std.specs.Prelude.{◌≡◌, [], ℕ, IsErrOf, Some, false, if◌then◌else◌, true};
-ghost use Rattle.esc_normal.specs.Streams.{Filters, IsEither};
+ghost use Rattle.std.specs.Prelude.{◌≡◌, [], ℕ, IsErrOf, None, OnOk, Some, false, if◌then◌else◌, true};
+ghost use Rattle.esc_normal.specs.Streams.{Filters, HasFiltered, IsEither};
 ghost use Rattle.esc_html.specs.Fed.{WasFed, added_by};
 ghost use Rattle.esc_html.specs.Pages.{page_text};
 ghost use Rattle.esc_html.specs.declared.layout.Layout.{Layout as LayoutValue};
 ghost use Rattle.memory.specs.Refusals.{Refused};
+ghost use Rattle.eschtml.specs.Lengths.{IsShort};
 ghost use Rattle.eschtml.specs.Piped.{NewAdding};
 ghost use Rattle.eschtml.specs.Written.{IsHtml, IsHtmlBy, ended_by, going_by, html_by, html_of, layout_by, page_of, seen_by, shown_of};
 
@@ -82,7 +83,7 @@ pub(crate) const COLUMNS: usize = 16_384;
 /// Writes on `writer` the HTML of what the stream that `reader` reads becomes by its encoding, as
 /// it comes, and at its end what closes the tags that are open; by the options, what is left out of
 /// it is shown in place, and of the lines that is written which is left of them. It returns what
-/// [`filter_from`] does.
+/// [`filter_from`] does. Where no lines are, the HTML is bounded by the length of the stream.
 pub fn write_html<A: Allocator + Copy, R: Read, W: Write>(
     alloc: A,
     options: &Options<'_>,
@@ -91,6 +92,8 @@ pub fn write_html<A: Allocator + Copy, R: Read, W: Write>(
 ) -> Result<(), FilterError>
     ensures holds { Filters R.Read W.Write (html_by A options.now) (IsHtmlBy A options.now) result
         reader writer }
+    ensures bounded { options.now.rows ≡ None
+        → OnOk result (HasFiltered R.Read W.Write (IsShort options.now) reader writer) }
     ensures refused { IsErrOf result FilterError.Memory → Refused A }
 {
     laws::streams_are_pages::<A>();

@@ -174,6 +174,7 @@ const LAST_RULES: &str = "\
 .es-stream [class*=\"es-bg-\"], .es-stream .es-inverse, .es-stream [style*=\"background-color\"] {
   padding-block: 0.2em; }
 .es-stream.es-shows .es-inverse { border-radius: 0.25em; box-shadow: 0 0 0 1px var(--es-dim); }
+.es-stream .es-lost { color: var(--es-dim); font-style: italic; }
 .es-stream.es-wrap pre { white-space: pre-wrap; overflow-wrap: anywhere; }
 .es-stream.es-wrap .es-line { width: auto; content-visibility: auto;
   contain-intrinsic-block-size: auto 1.45em; }

@@ -1,4 +1,7 @@
 //! Addresses in text.
+ghost use Rattle.std.specs.Prelude.{◌≡◌, ◌≤◌, ◌<◌, ◌+◌, ◌-◌, IfSome, drop, false, length, take, true};
+ghost use Rattle.std.specs.List.{list_all};
+ghost use Rattle.page_input.specs.Addresses.{HasAddress, IsAddress, begins_with, byte_before, ends_in_stop, has_host, is_address_byte, is_sign, is_stop, is_word};
 
 use memchr::memchr;
 
@@ -10,38 +13,30 @@ const LONGEST: usize = 2083;
 pub(crate) struct Place {
     /// Where it begins.
     pub begin: usize,
-    /// Where it ends.
-    pub end: usize,
+    /// How many bytes it has.
+    pub length: usize,
 }
 
 /// The first address in a text that comes after this byte: `http://` or `https://`, in letters of
 /// either case, after no letter, digit or `_`, and a letter or digit, with all that may be in an
 /// address (RFC 3986, 2), but for what ends a sentence and brackets that it does not open. One that
 /// is longer than a link may be is none.
-pub(crate) fn first_address(text: &[u8], previous: u8) -> Option<Place> {
+pub(crate) fn first_address(text: &[u8], previous: u8) -> Option<Place>
+    ensures { IfSome result (HasAddress previous text.now) }
+{
     let mut rest = text;
     while let Some(at) = memchr(b':', rest) {
         let colon = text.len().saturating_sub(rest.len()).saturating_add(at);
         rest = &rest[at + 1..];
         let scheme = scheme_length(text.get(..colon).unwrap_or(text));
-        let begin = colon.saturating_sub(scheme);
-        let place = Place {
-            begin,
-            end: begin.saturating_add(address_length(text.get(begin..).unwrap_or(text), scheme)),
-        };
-        if scheme > 0 && begin < place.end && !is_word(byte_before(text, begin, previous)) {
-            return Some(place);
+        if scheme > 0 {
+            let found = address_at(text, colon.saturating_sub(scheme), previous);
+            if found.is_some() {
+                return found;
+            }
         }
     }
     None
-}
-
-// The byte before this place.
-fn byte_before(text: &[u8], at: usize, previous: u8) -> u8 {
-    match text.get(..at) {
-        Some([.., last]) => *last,
-        _ => previous,
-    }
 }
 
 // How long the scheme is that a text ends in, `http` or `https`; 0 where there is none.
@@ -64,40 +59,79 @@ fn ends_in(text: &[u8], word: &[u8]) -> bool {
     }
 }
 
-// How long the address is that a text begins with, of which the scheme has this length; 0 where
-// there is none, or a longer one than a link may have.
-fn address_length(text: &[u8], scheme: usize) -> usize {
-    let start = scheme.saturating_add(3);
-    let run = address_run(text);
-    let address = text.get(..run).unwrap_or(text);
-    if LONGEST < run || !begins_host(address, scheme) {
-        return 0;
+// The address that begins at this place, after no letter, digit or `_`.
+fn address_at(text: &[u8], begin: usize, previous: u8) -> Option<Place>
+    ensures { IfSome result (HasAddress previous text.now) }
+{
+    if text.len() < begin || is_word(byte_before(text, begin, previous)) {
+        return None;
     }
-    let length = without_end(address).len();
-    if start < length { length } else { 0 }
+    let length = address_length(&text[begin..]);
+    if length == 0 {
+        return None;
+    }
+    Some(Place { begin, length })
 }
 
-// Whether `//` and a letter or digit come after the colon of a scheme of this length.
-fn begins_host(address: &[u8], scheme: usize) -> bool {
-    match address.get(scheme..) {
-        Some([b':', b'/', b'/', first, ..]) => first.is_ascii_alphanumeric(),
-        _ => false,
+// The byte before this place.
+fn byte_before(text: &[u8], at: usize, previous: u8) -> u8
+    ensures { result ≡ byte_before previous text.now at }
+{
+    if at == 0 || text.len() < at {
+        previous
+    } else {
+        text[at - 1]
     }
+}
+
+// How long the address is that a text begins with; 0 where there is none, or a longer one than a
+// link may have.
+fn address_length(text: &[u8]) -> usize
+    ensures within { result ≤ length text.now }
+    ensures found { 0 < result → IsAddress (take result text.now) }
+{
+    let run = address_run(text);
+    if LONGEST < run {
+        return 0;
+    }
+    let address = without_end(&text[..run]);
+    if has_host(address) { address.len() } else { 0 }
+}
+
+// Whether an address begins with a scheme, `//`, and a letter or digit.
+fn has_host(address: &[u8]) -> bool
+    ensures { result ≡ has_host address.now }
+{
+    begins_with(address, b"http://") || begins_with(address, b"https://")
+}
+
+// Whether it begins with this, in letters of either case, and a letter or digit.
+fn begins_with(address: &[u8], scheme: &[u8]) -> bool
+    ensures { result ≡ begins_with scheme.now address.now }
+{
+    scheme.len() < address.len()
+        && address[..scheme.len()].eq_ignore_ascii_case(scheme)
+        && address[scheme.len()].is_ascii_alphanumeric()
 }
 
 // An address without what ends a sentence, and without closing brackets that it does not open.
-fn without_end(address: &[u8]) -> &[u8] {
-    let mut rest = address;
+fn without_end(address: &[u8]) -> &[u8]
+    ensures begins { result.now ≡ take (length result.now) address.now }
+    ensures within { length result.now ≤ length address.now }
+    ensures ended { ends_in_stop result.now ≡ false }
+{
+    let mut end = address.len();
     let mut open = unclosed(address);
-    while let Some((last, before)) = rest.split_last() {
-        if *last == b')' && open < 0 {
+    while 0 < end {
+        let last = address[end - 1];
+        if last == b')' && open < 0 {
             open = open.saturating_add(1);
-        } else if !ends_sentence(*last) {
-            return rest;
+        } else if !is_stop(last) {
+            break;
         }
-        rest = before;
+        end -= 1;
     }
-    rest
+    &address[..end]
 }
 
 // How many brackets more it opens than it closes.
@@ -113,50 +147,44 @@ fn unclosed(address: &[u8]) -> i64 {
     open
 }
 
-fn ends_sentence(byte: u8) -> bool {
-    matches!(byte, b'.' | b',' | b';' | b':' | b'!' | b'?' | b'\'')
+// Whether it ends a sentence.
+fn is_stop(byte: u8) -> bool
+    ensures { result ≡ is_stop byte }
+{
+    b".,;:!?'".contains(&byte)
 }
 
-fn is_word(byte: u8) -> bool {
+fn is_word(byte: u8) -> bool
+    ensures { result ≡ is_word byte }
+{
     byte.is_ascii_alphanumeric() || byte == b'_'
 }
 
 /// How many bytes come first that may be in an address, up to one more than a link may have.
-pub(crate) fn address_run(text: &[u8]) -> usize {
+pub(crate) fn address_run(text: &[u8]) -> usize
+    ensures within { result ≤ length text.now }
+    ensures bytes { list_all is_address_byte (take result text.now) ≡ true }
+{
     let mut n = 0usize;
-    for byte in text {
-        if !is_address_byte(*byte) || LONGEST < n {
+    while n < text.len() && n <= LONGEST {
+        if !is_address_byte(text[n]) {
             return n;
         }
-        n = n.saturating_add(1);
+        n += 1;
     }
     n
 }
 
 /// Whether a byte may be in an address: unreserved, reserved but for square brackets, or `%`.
-pub(crate) fn is_address_byte(byte: u8) -> bool {
-    byte.is_ascii_alphanumeric()
-        || matches!(
-            byte,
-            b'-' | b'.'
-                | b'_'
-                | b'~'
-                | b':'
-                | b'/'
-                | b'?'
-                | b'#'
-                | b'@'
-                | b'!'
-                | b'$'
-                | b'&'
-                | b'\''
-                | b'('
-                | b')'
-                | b'*'
-                | b'+'
-                | b','
-                | b';'
-                | b'='
-                | b'%'
-        )
+pub(crate) fn is_address_byte(byte: u8) -> bool
+    ensures { result ≡ is_address_byte byte }
+{
+    byte.is_ascii_alphanumeric() || is_sign(byte)
+}
+
+// Whether it is one that is no letter and no digit.
+fn is_sign(byte: u8) -> bool
+    ensures { result ≡ is_sign byte }
+{
+    b"-._~:/?#@!$&'()*+,;=%".contains(&byte)
 }

@@ -9,6 +9,9 @@ use std::alloc::{AllocError, Global};
 
 const ESC: u8 = 0x1b;
 
+// What neither ends a sequence nor is a part of it, as a byte past ASCII.
+const DEL: u8 = 0x7f;
+
 /// The renditions that hold after some of a stream.
 #[derive(Drop)]
 pub(crate) struct Carried {
@@ -55,7 +58,7 @@ impl Carried {
         let mut n = 0usize;
         for byte in bytes {
             n = n.saturating_add(1);
-            let byte = if byte.is_ascii() { *byte } else { b'?' };
+            let byte = if byte.is_ascii() { *byte } else { DEL };
             if self.framer.parse(&[byte], &mut self.hold).is_err() {
                 return bytes.len();
             }

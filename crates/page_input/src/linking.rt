@@ -14,6 +14,9 @@ const ESC: u8 = 0x1b;
 // The first byte of the controls of C1 in UTF-8.
 const LEAD: u8 = 0xc2;
 
+// What neither ends a sequence nor is a part of it, as a byte past ASCII.
+const DEL: u8 = 0x7f;
+
 // How many bytes are read at once.
 const BYTES: usize = 8192;
 
@@ -116,13 +119,13 @@ impl<R: Read> Linking<R> {
     }
 
     // Follows a segment to its end, as far as it is there; how many bytes that are. A byte past
-    // ASCII is text there, but for a control of C1 in UTF-8.
+    // ASCII is text there, which ends no sequence, but for a control of C1 in UTF-8.
     fn follow(&mut self, bytes: &[u8]) -> Result<usize, AllocError> {
         let mut n = 0usize;
         for byte in bytes {
             n = n.saturating_add(1);
             let is_text = !byte.is_ascii() && *byte != LEAD && self.follows != LEAD;
-            let seen = if is_text { b'?' } else { *byte };
+            let seen = if is_text { DEL } else { *byte };
             self.follows = *byte;
             if self.framer.parse(&[seen], &mut self.links).is_err() {
                 return Err(AllocError);
@@ -169,8 +172,8 @@ impl<R: Read> Linking<R> {
     // Appends text, with links where addresses are.
     fn push_linked(&mut self, text: &[u8]) -> Result<(), AllocError> {
         let mut rest = text;
-        while let Some(Place { begin, end }) = first_address(rest, self.previous) {
-            let end = end.max(1).min(rest.len());
+        while let Some(Place { begin, length }) = first_address(rest, self.previous) {
+            let end = begin.saturating_add(length).max(1).min(rest.len());
             let (part, after) = rest.split_at(end);
             let (before, address) = part.split_at(begin.min(part.len()));
             memory::extend(&mut self.made, before)?;

@@ -1,4 +1,8 @@
 //! The first lines of a stream, or the last ones.
+ghost use Rattle.std.specs.Prelude.{◌≡◌, ◌≤◌, ◌+◌, ◌-◌, ◌^◌, length, min, take};
+ghost use Rattle.std.specs.Io.{ReadsAtMost};
+ghost use Rattle.std.specs.Io.KnownBytes.{ReadConsumes};
+ghost use Rattle.page_input.specs.Lines.{feeds, first_lines, first_of, open_after, window_of};
 
 use crate::carried::Carried;
 use memchr::{memchr, memrchr};
@@ -47,16 +51,14 @@ impl Count {
     }
 
     // With more text.
-    fn and(self, bytes: &[u8]) -> Count {
-        let mut count = self;
-        let mut rest = bytes;
-        while let Some(at) = memchr(b'\n', rest) {
-            count.ended = count.ended.saturating_add(1);
-            count.is_open = false;
-            rest = &rest[at + 1..];
+    fn and(self, bytes: &[u8]) -> Count
+        ensures ended { result.ended ≡ min (self.ended + feeds bytes.now) (2 ^ 64 - 1) }
+        ensures open { result.is_open ≡ open_after self.is_open bytes.now }
+    {
+        Count {
+            ended: self.ended.saturating_add(count_feeds(bytes)),
+            is_open: is_open_after(self.is_open, bytes),
         }
-        count.is_open = count.is_open || !rest.is_empty();
-        count
     }
 
     fn lines(self) -> u64 {
@@ -131,7 +133,7 @@ impl<R: Read> Window<R> {
         }
         let mut bytes = [0; BYTES];
         for _ in 0..u64::MAX {
-            let count = self.read_some(&mut bytes)?;
+            let count = read_some(&mut self.inner, &mut bytes)?;
             match bytes.get(..count) {
                 Some(read) if count > 0 => self.after = self.after.and(read),
                 _ => break,
@@ -154,35 +156,24 @@ impl<R: Read> Window<R> {
     }
 
     // Reads what comes first.
-    fn read_first(&mut self, buf: &mut [u8]) -> io::Result<usize> {
-        if self.left == Some(0) {
+    fn read_first(&mut self, buf: &mut [u8]) -> io::Result<usize>
+        ensures bound { ReadsAtMost result buf.new }
+        ensures bytes { ReadConsumes (first_of self.old.left (R.remaining self.old.inner))
+            (first_of self.new.left (R.remaining self.new.inner)) result buf.new }
+        ensures same { self.new.tail ≡ self.old.tail }
+    {
+        let Some(left) = self.left else {
+            return read_some(&mut self.inner, buf);
+        };
+        if left == 0 {
             return Ok(0);
         }
-        let count = self.read_some(buf)?;
-        let Some(left) = self.left else {
-            return Ok(count);
-        };
-        let read = buf.get(..count).unwrap_or(buf);
+        let count = read_some(&mut self.inner, buf)?;
+        let read = &buf[..count];
         let first = length_of_first(read, left);
-        let (first, rest) = read.split_at(first.min(read.len()));
-        self.left = Some(left.saturating_sub(Count::new().and(first).ended));
-        self.after = self.after.and(rest);
-        Ok(first.len())
-    }
-
-    // Reads, also where a signal came between.
-    fn read_some(&mut self, buf: &mut [u8]) -> io::Result<usize> {
-        for _ in 0..u64::MAX {
-            match self.inner.read(buf) {
-                Ok(count) => return Ok(count.min(buf.len())),
-                Err(error) => {
-                    if error.kind() != ErrorKind::Interrupted {
-                        return Err(error);
-                    }
-                }
-            }
-        }
-        Ok(0)
+        self.left = Some(left.saturating_sub(count_feeds(&read[..first])));
+        self.after = self.after.and(&read[first..]);
+        Ok(first)
     }
 
     // Keeps more.
@@ -217,7 +208,10 @@ impl<R: Read> Window<R> {
     }
 
     // Hands out what was kept, as much as there is room for.
-    fn hand_out(&mut self, buf: &mut [u8]) -> io::Result<usize> {
+    fn hand_out(&mut self, buf: &mut [u8]) -> io::Result<usize>
+        ensures bound { ReadsAtMost result buf.new }
+        ensures same { self.new.tail ≡ self.old.tail }
+    {
         let at = self.at.min(self.kept.len());
         let rest = &self.kept.as_slice()[at..];
         let count = rest.len().min(buf.len());
@@ -234,27 +228,78 @@ impl<R: Read> Window<R> {
 }
 
 impl<R: Read> Read for Window<R> {
-    fn read(&mut self, buf: &mut [u8]) -> io::Result<usize> {
-        let count = match self.tail {
-            Some(_) => self.hand_out(buf)?,
-            None => self.read_first(buf)?,
-        };
-        Ok(count.min(buf.len()))
+    ghost remaining = { λ w. window_of w.tail w.left (R.remaining w.inner) };
+
+    fn read(&mut self, buf: &mut [u8]) -> io::Result<usize>
+        ensures bound { ReadsAtMost result buf.new }
+        ensures bytes { ReadConsumes
+            (window_of self.old.tail self.old.left (R.remaining self.old.inner))
+            (window_of self.new.tail self.new.left (R.remaining self.new.inner)) result buf.new }
+    {
+        match self.tail {
+            Some(_) => self.hand_out(buf),
+            None => self.read_first(buf),
+        }
     }
 }
 
-// How many bytes the first lines have, of which there are so many.
-fn length_of_first(bytes: &[u8], lines: u64) -> usize {
-    let mut left = lines;
-    let mut rest = bytes;
-    while let Some(at) = memchr(b'\n', rest) {
-        rest = &rest[at + 1..];
-        left = left.saturating_sub(1);
-        if left == 0 {
-            return bytes.len().saturating_sub(rest.len());
+// Reads, also where a signal came between.
+fn read_some<R: Read>(reader: &mut R, buf: &mut [u8]) -> io::Result<usize>
+    ensures bound { ReadsAtMost result buf.new }
+    ensures bytes { ReadConsumes (R.remaining reader.old) (R.remaining reader.new) result buf.new }
+{
+    for _ in 0..u64::MAX {
+        match reader.read(buf) {
+            Ok(count) => return Ok(count),
+            Err(error) => {
+                if error.kind() != ErrorKind::Interrupted {
+                    return Err(error);
+                }
+            }
         }
     }
-    bytes.len()
+    Err(io::Error::from(ErrorKind::TimedOut))
+}
+
+// How many line feeds there are.
+fn count_feeds(bytes: &[u8]) -> u64
+    ensures { result ≡ feeds bytes.now }
+{
+    let mut count = 0u64;
+    let mut rest = bytes;
+    while let Some(at) = memchr(b'\n', rest) {
+        count += 1;
+        rest = &rest[at + 1..];
+    }
+    count
+}
+
+// Whether bytes come after the last line feed, where before these some do or not.
+fn is_open_after(is_open: bool, bytes: &[u8]) -> bool
+    ensures { result ≡ open_after is_open bytes.now }
+{
+    if bytes.is_empty() {
+        is_open
+    } else {
+        bytes[bytes.len() - 1] != b'\n'
+    }
+}
+
+// How many bytes the lines have that come first, so many.
+fn length_of_first(bytes: &[u8], lines: u64) -> usize
+    ensures within { result ≤ length bytes.now }
+    ensures first { take result bytes.now ≡ first_lines lines bytes.now }
+{
+    let mut end = 0usize;
+    let mut left = lines;
+    while 0 < left {
+        let Some(at) = memchr(b'\n', &bytes[end..]) else {
+            return bytes.len();
+        };
+        end += at + 1;
+        left -= 1;
+    }
+    end
 }
 
 // Where the last lines begin, of which there are so many.

@@ -1,5 +1,6 @@
 use Rattle.std.proofs.Common.{None, Some}
 use Rattle.eschtml.proofs.Left.{by_rows}
+use Rattle.eschtml.proofs.Lengths.{short_written}
 use Rattle.eschtml.proofs.stream.write_html.Goals as goal
 
 pub returns-in-None-clause-holds : goal.returns-in-None-clause-holds
@@ -31,3 +32,10 @@ returns-in-Some-clause-holds g c =
       read_fault = f.read_fault;
       write_fault = f.write_fault;
     }
+
+pub returns-in-None-clause-bounded : goal.returns-in-None-clause-bounded
+returns-in-None-clause-bounded g c = λ none.
+    short_written g.row.A.Denot c.args.options.now _ _ _ c.write_whole.ensures.holds
+
+pub returns-in-Some-clause-bounded : goal.returns-in-Some-clause-bounded
+returns-in-Some-clause-bounded g c = λ none. absurd cc

@@ -1,8 +1,8 @@
 use Rattle.std.proofs.Common.{◌≤◌, length}
 use Rattle.page_input.proofs.address.without_end.Given as goal
 
-abbrev pub invariant-loop-last : goal.invariant-loop-last
-invariant-loop-last l = length l.rest ≤ length l.fn.address
+abbrev pub invariant-loop-end : goal.invariant-loop-end
+invariant-loop-end l = l.end ≤ length l.address
 
-abbrev pub decreases-loop-last : goal.decreases-loop-last
-decreases-loop-last l = length l.rest
+abbrev pub decreases-loop-end : goal.decreases-loop-end
+decreases-loop-end l = l.end
