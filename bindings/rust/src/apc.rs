@@ -78,7 +78,7 @@ pub enum KittyImage {
 
 impl KittyImage {
     /// The image of this text: the bytes between `ESC _` and what ends them, as
-    /// [`Event::Apc`](crate::Event::Apc) has them; none where it is no image. A payload is as it
+    /// [`Event::Apc`](crate::Event::Apc) has them; none if it is no image. A payload is as it
     /// came, in base64.
     ///
     /// ```
@@ -148,9 +148,9 @@ pub struct KittyImagePlacement {
     pub x: Option<u32>,
     /// The top edge of that part, in pixels.
     pub y: Option<u32>,
-    /// The width of that part, in pixels. Where there is none, all is shown.
+    /// The width of that part, in pixels. If there is none, all is shown.
     pub w: Option<u32>,
-    /// The height of that part, in pixels. Where there is none, all is shown.
+    /// The height of that part, in pixels. If there is none, all is shown.
     pub h: Option<u32>,
     /// How far from the left edge of the first cell it is shown, in pixels.
     pub x_offset: Option<u32>,
@@ -217,10 +217,10 @@ pub struct KittyImageFrame {
     pub x: Option<u32>,
     /// The top edge at which its pixels are put, in pixels.
     pub y: Option<u32>,
-    /// The frame whose pixels it begins with, from 1. Where there is none it begins with the
+    /// The frame whose pixels it begins with, from 1. If there is none it begins with the
     /// background.
     pub base_frame: Option<u32>,
-    /// The frame that is edited, from 1. Where there is none a new one is made.
+    /// The frame that is edited, from 1. If there is none a new one is made.
     pub frame_number: Option<u32>,
     /// How long it is shown before the next, in milliseconds.
     pub duration_ms: Option<u32>,
@@ -260,9 +260,9 @@ pub struct KittyImageFrameCompose {
     pub x: Option<u32>,
     /// The top edge at which they are put, in pixels.
     pub y: Option<u32>,
-    /// The width of the part, in pixels. Where there is none, all of it.
+    /// The width of the part, in pixels. If there is none, all of it.
     pub w: Option<u32>,
-    /// The height of the part, in pixels. Where there is none, all of it.
+    /// The height of the part, in pixels. If there is none, all of it.
     pub h: Option<u32>,
     /// The left edge of the part that is taken, in pixels.
     pub src_x: Option<u32>,

@@ -5,8 +5,8 @@
 //!
 //! Names, variants and fields are those of the owned values in [`action`](crate::action),
 //! [`osc`](crate::osc) and [`apc`](crate::apc), and what holds neither text nor list is the same
-//! type. Where an owned value has a `String`, a `Vec<u8>` or a `Box`, a borrowed one has `&str`,
-//! `&[u8]` or a reference, and where that has another list or a map, a [`List`]. Each is `Copy`,
+//! type. If an owned value has a `String`, a `Vec<u8>` or a `Box`, a borrowed one has `&str`,
+//! `&[u8]` or a reference, and if that has another list or a map, a [`List`]. Each is `Copy`,
 //! and `into_owned` makes of it the owned value.
 //!
 //! ```

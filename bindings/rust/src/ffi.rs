@@ -5,7 +5,7 @@
 //! The libraries state no `requires`. What a caller owes all the same is what its types say, and
 //! Rust's types say it too: a slice is initialized and in bounds for the length that goes with its
 //! pointer, no object has more than `isize::MAX` bytes, and a `&mut` shares nothing with any other
-//! reference. A slice's pointer is never null, also where the slice is empty. An `alloc: Global`
+//! reference. A slice's pointer is never null, also if the slice is empty. An `alloc: Global`
 //! there takes no bytes, so no parameter here stands for it. The declarations are written by hand:
 //! nothing compares them with the library's.
 #[cfg(feature = "oneshot")]
@@ -123,7 +123,7 @@ fn number(policy: Policy) -> u32 {
     }
 }
 
-// By clause `refused` the only other status is that of want of memory, where the policy is known.
+// By clause `refused` the only other status is that of want of memory, if the policy is known.
 #[cfg(feature = "oneshot")]
 fn done<T>(status: u32, value: T) -> Result<T, Error> {
     if status == DONE {

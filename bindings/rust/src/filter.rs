@@ -30,7 +30,7 @@ impl ChunkFilter {
     ///
     /// # Errors
     ///
-    /// [`Error::Memory`] where a request for memory was refused.
+    /// [`Error::Memory`] if a request for memory was refused.
     pub fn new(policy: Policy) -> Result<ChunkFilter, Error> {
         ChunkFilter::with_limit(policy, DEFAULT_LIMIT)
     }
@@ -39,7 +39,7 @@ impl ChunkFilter {
     ///
     /// # Errors
     ///
-    /// [`Error::Memory`] where a request for memory was refused.
+    /// [`Error::Memory`] if a request for memory was refused.
     pub fn with_limit(policy: Policy, limit: usize) -> Result<ChunkFilter, Error> {
         let mut raw = ffi::Filter::ended();
         raw.begin(policy, limit)?;
@@ -51,7 +51,7 @@ impl ChunkFilter {
     ///
     /// # Errors
     ///
-    /// [`Error::Memory`] where a request for memory was refused, and from then on
+    /// [`Error::Memory`] if a request for memory was refused, and from then on
     /// [`Error::Failed`]. The texts before are the beginning of what the stream would have given.
     pub fn feed(&mut self, chunk: &[u8]) -> Result<(), Error> {
         self.raw.feed(chunk)
@@ -63,7 +63,7 @@ impl ChunkFilter {
     ///
     /// # Errors
     ///
-    /// [`Error::Memory`] where a request for memory was refused, and from then on
+    /// [`Error::Memory`] if a request for memory was refused, and from then on
     /// [`Error::Failed`].
     pub fn finish(&mut self) -> Result<(), Error> {
         self.raw.finish()

@@ -4,7 +4,7 @@ use crate::chunks::{DEFAULT_LIMIT, in_parts};
 use crate::{Error, ffi};
 
 /// The normal form of a stream that comes in chunks: what [`normal`](crate::normal) gives of all of
-/// them, where no string is longer than the limit. It keeps what is unfinished, at most its limit,
+/// them, if no string is longer than the limit. It keeps what is unfinished, at most its limit,
 /// and may move between threads. With the feature `std` there are
 /// [`NormalReader`](crate::NormalReader) and [`NormalWriter`](crate::NormalWriter).
 ///
@@ -30,7 +30,7 @@ impl Normaliser {
     ///
     /// # Errors
     ///
-    /// [`Error::Memory`] where a request for memory was refused.
+    /// [`Error::Memory`] if a request for memory was refused.
     pub fn new() -> Result<Normaliser, Error> {
         Normaliser::with_limit(DEFAULT_LIMIT)
     }
@@ -39,7 +39,7 @@ impl Normaliser {
     ///
     /// # Errors
     ///
-    /// [`Error::Memory`] where a request for memory was refused.
+    /// [`Error::Memory`] if a request for memory was refused.
     pub fn with_limit(limit: usize) -> Result<Normaliser, Error> {
         let mut raw = ffi::Normaliser::ended();
         raw.begin(limit)?;
@@ -51,7 +51,7 @@ impl Normaliser {
     ///
     /// # Errors
     ///
-    /// [`Error::Memory`] where a request for memory was refused, and from then on
+    /// [`Error::Memory`] if a request for memory was refused, and from then on
     /// [`Error::Failed`]. The texts before are the beginning of what the stream would have given.
     pub fn feed(&mut self, chunk: &[u8]) -> Result<(), Error> {
         self.raw.feed(chunk)
@@ -62,7 +62,7 @@ impl Normaliser {
     ///
     /// # Errors
     ///
-    /// [`Error::Failed`] where an earlier call failed.
+    /// [`Error::Failed`] if an earlier call failed.
     pub fn finish(&mut self) -> Result<(), Error> {
         self.raw.finish()
     }

@@ -24,14 +24,14 @@ pub enum Policy {
 /// The normal form of a stream: each of its actions, in order, in its one spelling.
 ///
 /// Of a sequence that is unfinished at the end of the stream only what it has done so far is
-/// written. Where the normal form is longer than the stream, it is made twice: [`normal_into`]
+/// written. If the normal form is longer than the stream, it is made twice: [`normal_into`]
 /// leaves the room to the caller.
 ///
 /// Normal form is no protection: for a stream of unknown origin there is [`filter`].
 ///
 /// # Errors
 ///
-/// [`Error::Memory`] where a request for memory was refused.
+/// [`Error::Memory`] if a request for memory was refused.
 pub fn normal(bytes: &[u8]) -> Result<Vec<u8>, Error> {
     whole(bytes.len(), |out| normal_into(bytes, out))
 }
@@ -41,7 +41,7 @@ pub fn normal(bytes: &[u8]) -> Result<Vec<u8>, Error> {
 ///
 /// # Errors
 ///
-/// [`Error::Memory`] where a request for memory was refused. Then `out` is as it was.
+/// [`Error::Memory`] if a request for memory was refused. Then `out` is as it was.
 pub fn normal_into(bytes: &[u8], out: &mut [u8]) -> Result<usize, Error> {
     ffi::normal(bytes, out)
 }
@@ -50,7 +50,7 @@ pub fn normal_into(bytes: &[u8], out: &mut [u8]) -> Result<usize, Error> {
 ///
 /// # Errors
 ///
-/// [`Error::Memory`] where a request for memory was refused.
+/// [`Error::Memory`] if a request for memory was refused.
 pub fn is_normal(bytes: &[u8]) -> Result<bool, Error> {
     ffi::is_normal(bytes)
 }
@@ -64,19 +64,19 @@ pub fn is_normal(bytes: &[u8]) -> Result<bool, Error> {
 ///
 /// # Errors
 ///
-/// [`Error::Memory`] where a request for memory was refused.
+/// [`Error::Memory`] if a request for memory was refused.
 pub fn filter(policy: Policy, limit: usize, bytes: &[u8]) -> Result<Vec<u8>, Error> {
     whole(bytes.len(), |out| filter_into(policy, limit, bytes, out))
 }
 
 /// Writes what the policy admits of a stream to `out`, or as much of its beginning as fits, and
 /// returns the length of all of it in bytes. Every other byte of `out` stays as it was. What does
-/// not fit is cut anywhere, also inside a sequence: send `out` to a terminal only where all of it
+/// not fit is cut anywhere, also inside a sequence: send `out` to a terminal only if all of it
 /// fits.
 ///
 /// # Errors
 ///
-/// [`Error::Memory`] where a request for memory was refused. Then `out` is as it was.
+/// [`Error::Memory`] if a request for memory was refused. Then `out` is as it was.
 pub fn filter_into(
     policy: Policy,
     limit: usize,
@@ -86,7 +86,7 @@ pub fn filter_into(
     ffi::filter(policy, limit, bytes, out)
 }
 
-// All that a call writes, where it needs about this many bytes, or once more where it needs more.
+// All that a call writes, if it needs about this many bytes, or once more if it needs more.
 fn whole(about: usize, call: impl Fn(&mut [u8]) -> Result<usize, Error>) -> Result<Vec<u8>, Error> {
     let mut text = Vec::new();
     grow(&mut text, about)?;

@@ -61,7 +61,7 @@ pub enum OperatingSystemCommand {
     ResetDynamicColor(DynamicColorNumber),
     /// Code 7: the directory that the shell works in.
     CurrentWorkingDirectory(String),
-    /// Code 104: resets these colours of the palette; all of them where none is named.
+    /// Code 104: resets these colours of the palette; all of them if none is named.
     ResetColors(Vec<u8>),
     /// Code 777: an extension of rxvt, as its parts.
     RxvtExtension(Vec<String>),
@@ -101,7 +101,7 @@ impl OperatingSystemCommand {
     ///
     /// # Errors
     ///
-    /// [`Error::Memory`] where the library was refused memory; the texts of the value itself take it
+    /// [`Error::Memory`] if the library was refused memory; the texts of the value itself take it
     /// as a `String` does. [`Error::Failed`] is excluded by the clauses of the library's call: it
     /// says that a command had other fields than its kind has.
     pub fn parse(text: &[u8]) -> Result<OperatingSystemCommand, Error> {
@@ -125,8 +125,8 @@ impl OperatingSystemCommand {
     ///
     /// # Errors
     ///
-    /// [`Error::NotWritable`] where no bytes would read back as this command: a text has a control,
-    /// or a `;` that would divide it, or the command has no reading. [`Error::Memory`] where the
+    /// [`Error::NotWritable`] if no bytes would read back as this command: a text has a control,
+    /// or a `;` that would divide it, or the command has no reading. [`Error::Memory`] if the
     /// library was refused memory; the fields take it as a `Vec` does.
     pub fn to_bytes(&self) -> Result<Vec<u8>, Error> {
         let mut said = Said::default();

@@ -40,7 +40,7 @@ impl<'a> Parameters<'a> {
         self.marks().filter(|byte| matches!(byte, b' '..=b'/'))
     }
 
-    /// The parameters, which `;` separates: of each the numbers that `:` separates, `None` where
+    /// The parameters, which `;` separates: of each the numbers that `:` separates, `None` if
     /// one is left out. A sequence with nothing where its parameters are has none.
     pub fn iter(self) -> impl Iterator<Item = impl Iterator<Item = Option<i64>> + 'a> + 'a {
         let has_some = self
@@ -56,7 +56,7 @@ impl<'a> Parameters<'a> {
             })
     }
 
-    /// The parameter of this index, counted from 0, or the default where it is left out; of one
+    /// The parameter of this index, counted from 0, or the default if it is left out; of one
     /// with colons its first number.
     pub fn number(self, index: usize, default: i64) -> i64 {
         let parameter = self.iter().nth(index);
@@ -108,7 +108,7 @@ pub fn osc_parts(text: &[u8]) -> impl Iterator<Item = &[u8]> + '_ {
     text.split(|byte| *byte == b';')
 }
 
-/// The number of an operating system command with this text: its first part, where that is digits
+/// The number of an operating system command with this text: its first part, if that is digits
 /// and the number is an `u32`.
 ///
 /// ```

@@ -197,17 +197,17 @@ impl Parser {
     ///
     /// # Panics
     ///
-    /// Where there cannot be as much memory, as with [`Vec::with_capacity`].
+    /// If there cannot be as much memory, as with [`Vec::with_capacity`].
     /// [`try_with_limit`](Parser::try_with_limit) returns an error.
     pub fn with_limit(limit: usize) -> Parser {
         Parser::over(vec![0; limit.saturating_mul(2)])
     }
 
-    /// The same, where there is as much memory.
+    /// The same, if there is as much memory.
     ///
     /// # Errors
     ///
-    /// [`Error::Memory`] where a request for memory was refused.
+    /// [`Error::Memory`] if a request for memory was refused.
     ///
     /// ```
     /// use escape_stream::{Error, Parser};

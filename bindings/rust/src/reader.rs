@@ -13,7 +13,7 @@ const CHUNK: usize = 8192;
 /// What is read is what [`filter`](crate::filter) gives of all that the inner reader gave, and at
 /// its end what takes back what the stream left changed at a terminal, as renditions and a link. A
 /// sequence that is unfinished waits for its end, and is dropped at the end of the stream. An error
-/// of the inner reader is handed on, and reading goes on after it, as where it gives bytes at the
+/// of the inner reader is handed on, and reading goes on after it, as when it gives bytes at the
 /// next call.
 ///
 /// ```
@@ -36,7 +36,7 @@ impl<R: Read> FilterReader<R> {
     ///
     /// # Errors
     ///
-    /// [`Error::Memory`] where a request for memory was refused.
+    /// [`Error::Memory`] if a request for memory was refused.
     pub fn new(inner: R, policy: Policy) -> Result<FilterReader<R>, Error> {
         Ok(FilterReader::over(inner, ChunkFilter::new(policy)?))
     }
@@ -45,7 +45,7 @@ impl<R: Read> FilterReader<R> {
     ///
     /// # Errors
     ///
-    /// [`Error::Memory`] where a request for memory was refused.
+    /// [`Error::Memory`] if a request for memory was refused.
     pub fn with_limit(inner: R, policy: Policy, limit: usize) -> Result<FilterReader<R>, Error> {
         Ok(FilterReader::over(
             inner,
@@ -76,7 +76,7 @@ impl<R: Read> FilterReader<R> {
 }
 
 impl<R: Read> Read for FilterReader<R> {
-    /// Reads from the inner reader until it has something to give, or the stream has ended. Where
+    /// Reads from the inner reader until it has something to give, or the stream has ended. If
     /// memory is refused, now or before, the error is of kind `OutOfMemory`.
     fn read(&mut self, out: &mut [u8]) -> io::Result<usize> {
         self.reader.read(out)
@@ -85,10 +85,10 @@ impl<R: Read> Read for FilterReader<R> {
 
 /// Reads from another reader the normal form of its stream, as it comes.
 ///
-/// What is read is what [`normal`](crate::normal) gives of all that the inner reader gave, where no
+/// What is read is what [`normal`](crate::normal) gives of all that the inner reader gave, if no
 /// string is longer than the limit. A sequence that is unfinished waits for its end, and is dropped
 /// at the end of the stream. An error of the inner reader is handed on, and reading goes on after
-/// it, as where it gives bytes at the next call.
+/// it, as when it gives bytes at the next call.
 ///
 /// ```
 /// use escape_stream::NormalReader;
@@ -110,7 +110,7 @@ impl<R: Read> NormalReader<R> {
     ///
     /// # Errors
     ///
-    /// [`Error::Memory`] where a request for memory was refused.
+    /// [`Error::Memory`] if a request for memory was refused.
     pub fn new(inner: R) -> Result<NormalReader<R>, Error> {
         Ok(NormalReader::over(inner, Normaliser::new()?))
     }
@@ -119,7 +119,7 @@ impl<R: Read> NormalReader<R> {
     ///
     /// # Errors
     ///
-    /// [`Error::Memory`] where a request for memory was refused.
+    /// [`Error::Memory`] if a request for memory was refused.
     pub fn with_limit(inner: R, limit: usize) -> Result<NormalReader<R>, Error> {
         Ok(NormalReader::over(inner, Normaliser::with_limit(limit)?))
     }
@@ -147,7 +147,7 @@ impl<R: Read> NormalReader<R> {
 }
 
 impl<R: Read> Read for NormalReader<R> {
-    /// Reads from the inner reader until it has something to give, or the stream has ended. Where
+    /// Reads from the inner reader until it has something to give, or the stream has ended. If
     /// memory is refused, now or before, the error is of kind `OutOfMemory`.
     fn read(&mut self, out: &mut [u8]) -> io::Result<usize> {
         self.reader.read(out)

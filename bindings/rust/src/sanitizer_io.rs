@@ -59,11 +59,11 @@ impl<W: Write> SanitizerWriter<W> {
     }
 
     /// Ends the log: writes what that adds, and flushes the inner writer. Nothing can be written
-    /// after it. Where the inner writer fails, another call goes on.
+    /// after it. If the inner writer fails, another call goes on.
     ///
     /// # Errors
     ///
-    /// What the inner writer reports, and `OutOfMemory` where memory is refused, now or before.
+    /// What the inner writer reports, and `OutOfMemory` if memory is refused, now or before.
     pub fn finish(&mut self) -> io::Result<()> {
         self.writer.flush()?;
         if !self.has_ended {
@@ -84,7 +84,7 @@ impl<W: Write> SanitizerWriter<W> {
 }
 
 impl<W: Write> Write for SanitizerWriter<W> {
-    /// Takes all of `bytes`, once what was left before is written. Where memory is refused, now or
+    /// Takes all of `bytes`, once what was left before is written. If memory is refused, now or
     /// before, the error is of kind `OutOfMemory`, and after the end of the log of kind
     /// `InvalidInput`.
     fn write(&mut self, bytes: &[u8]) -> io::Result<usize> {
@@ -101,7 +101,7 @@ impl<W: Write> Write for SanitizerWriter<W> {
 
 /// Reads from another reader what a [`Sanitizer`] makes of its log, as it comes.
 ///
-/// An error of the inner reader is handed on, and reading goes on after it, as where it gives bytes
+/// An error of the inner reader is handed on, and reading goes on after it, as when it gives bytes
 /// at the next call.
 ///
 /// ```
@@ -159,7 +159,7 @@ impl<R: Read> SanitizerReader<R> {
 }
 
 impl<R: Read> Read for SanitizerReader<R> {
-    /// Reads from the inner reader until it has something to give, or the log has ended. Where
+    /// Reads from the inner reader until it has something to give, or the log has ended. If
     /// memory is refused, now or before, the error is of kind `OutOfMemory`.
     fn read(&mut self, out: &mut [u8]) -> io::Result<usize> {
         self.reader.read(out)

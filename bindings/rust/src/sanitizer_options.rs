@@ -4,7 +4,7 @@ use crate::chunks::DEFAULT_LIMIT;
 use crate::{Policy, ffi};
 
 /// How a [`Sanitizer`](crate::Sanitizer) filters a stream: what the options of the program
-/// `escfilter` say of that. Where one is not set, it is as the program has it.
+/// `escfilter` say of that. If one is not set, it is as the program has it.
 ///
 /// ```
 /// use escape_stream::{Group, Policy, SanitizerOptions, Scheme};
@@ -29,7 +29,7 @@ impl SanitizerOptions {
         SanitizerOptions { raw }
     }
 
-    /// How many bytes are kept of an unfinished sequence or string, 1,048,576 where it is not set:
+    /// How many bytes are kept of an unfinished sequence or string, 1,048,576 if it is not set:
     /// a longer one is left out.
     pub fn limit(mut self, bytes: usize) -> SanitizerOptions {
         self.raw.limit = bytes as u64;
@@ -49,20 +49,20 @@ impl SanitizerOptions {
     }
 
     /// Lets links to addresses of this scheme pass, and to those of others that were named so;
-    /// where none is named, links to any. The text of other links stays.
+    /// if none is named, links to any. The text of other links stays.
     pub fn links(mut self, scheme: Scheme) -> SanitizerOptions {
         self.raw.links |= 1 << scheme as u32;
         self
     }
 
-    /// Whether each line is a stream of its own; where it is not set, by [`Policy::Text`] and
+    /// Whether each line is a stream of its own; if it is not set, by [`Policy::Text`] and
     /// [`Policy::Color`].
     pub fn framing(mut self, framing: Framing) -> SanitizerOptions {
         self.raw.framing = 1 + framing as u32;
         self
     }
 
-    /// What is written of characters that hide or reorder text; where it is not set,
+    /// What is written of characters that hide or reorder text; if it is not set,
     /// [`Characters::Join`] by [`Policy::Text`] and [`Policy::Color`], but [`Characters::Show`]
     /// with [`rows`](SanitizerOptions::rows), and else [`Characters::Keep`].
     pub fn characters(mut self, characters: Characters) -> SanitizerOptions {
@@ -70,7 +70,7 @@ impl SanitizerOptions {
         self
     }
 
-    /// What is written of carriage returns within a line; where it is not set, [`Returns::Show`] by
+    /// What is written of carriage returns within a line; if it is not set, [`Returns::Show`] by
     /// [`Policy::Text`] and [`Policy::Color`] without [`rows`](SanitizerOptions::rows), and else
     /// [`Returns::Keep`], as always in a stream that is one.
     pub fn returns(mut self, returns: Returns) -> SanitizerOptions {
@@ -78,13 +78,13 @@ impl SanitizerOptions {
         self
     }
 
-    /// How bytes are read; where it is not set, as [`Encoding::Utf8`].
+    /// How bytes are read; if it is not set, as [`Encoding::Utf8`].
     pub fn encoding(mut self, encoding: Encoding) -> SanitizerOptions {
         self.raw.encoding = encoding as u32;
         self
     }
 
-    /// Shows what does not pass, in its place, as `^[]0;title^G`; where it is not set, that is left
+    /// Shows what does not pass, in its place, as `^[]0;title^G`; if it is not set, that is left
     /// out.
     pub fn show(mut self, marking: Marking) -> SanitizerOptions {
         self.raw.show = 1 + marking as u32;
@@ -167,7 +167,7 @@ pub enum Framing {
 pub enum Characters {
     /// The character itself.
     Keep,
-    /// The character itself where it belongs to the one before it, as in emoji, and else its
+    /// The character itself if it belongs to the one before it, as in emoji, and else its
     /// number.
     Join,
     /// Its number, as `<U+202E>`.
@@ -195,7 +195,7 @@ pub enum Marking {
     /// As other text, whose `^` and `<` are shown too, as `<5E>` and `<3C>`, so that all can be
     /// read back.
     Escaped,
-    /// In reverse video, where that passes.
+    /// In reverse video, if that passes.
     Reversed,
 }
 

@@ -42,7 +42,7 @@ impl<W: Write> Filter<W> {
     ///
     /// # Errors
     ///
-    /// [`Error::Memory`] where a request for memory was refused.
+    /// [`Error::Memory`] if a request for memory was refused.
     pub fn new(inner: W, policy: Policy) -> Result<Filter<W>, Error> {
         Ok(Filter::over(inner, ChunkFilter::new(policy)?))
     }
@@ -51,7 +51,7 @@ impl<W: Write> Filter<W> {
     ///
     /// # Errors
     ///
-    /// [`Error::Memory`] where a request for memory was refused.
+    /// [`Error::Memory`] if a request for memory was refused.
     pub fn with_limit(inner: W, policy: Policy, limit: usize) -> Result<Filter<W>, Error> {
         Ok(Filter::over(inner, ChunkFilter::with_limit(policy, limit)?))
     }
@@ -82,14 +82,14 @@ impl<W: Write> Filter<W> {
     ///
     /// # Errors
     ///
-    /// What the inner writer reports, and `OutOfMemory` where memory is refused, now or before.
+    /// What the inner writer reports, and `OutOfMemory` if memory is refused, now or before.
     pub fn finish(&mut self) -> io::Result<()> {
         self.writer.finish()
     }
 }
 
 impl<W: Write> Write for Filter<W> {
-    /// Takes all of `bytes`, once what was left before is written. Where memory is refused, now or
+    /// Takes all of `bytes`, once what was left before is written. If memory is refused, now or
     /// before, the error is of kind `OutOfMemory`.
     fn write(&mut self, bytes: &[u8]) -> io::Result<usize> {
         self.writer.write(bytes)
@@ -127,7 +127,7 @@ impl<W: Write> NormalWriter<W> {
     ///
     /// # Errors
     ///
-    /// [`Error::Memory`] where a request for memory was refused.
+    /// [`Error::Memory`] if a request for memory was refused.
     pub fn new(inner: W) -> Result<NormalWriter<W>, Error> {
         Ok(NormalWriter::over(inner, Normaliser::new()?))
     }
@@ -136,7 +136,7 @@ impl<W: Write> NormalWriter<W> {
     ///
     /// # Errors
     ///
-    /// [`Error::Memory`] where a request for memory was refused.
+    /// [`Error::Memory`] if a request for memory was refused.
     pub fn with_limit(inner: W, limit: usize) -> Result<NormalWriter<W>, Error> {
         Ok(NormalWriter::over(inner, Normaliser::with_limit(limit)?))
     }
@@ -167,14 +167,14 @@ impl<W: Write> NormalWriter<W> {
     ///
     /// # Errors
     ///
-    /// What the inner writer reports, and `OutOfMemory` where memory was refused before.
+    /// What the inner writer reports, and `OutOfMemory` if memory was refused before.
     pub fn finish(&mut self) -> io::Result<()> {
         self.writer.finish()
     }
 }
 
 impl<W: Write> Write for NormalWriter<W> {
-    /// Takes all of `bytes`, once what was left before is written. Where memory is refused, now or
+    /// Takes all of `bytes`, once what was left before is written. If memory is refused, now or
     /// before, the error is of kind `OutOfMemory`.
     fn write(&mut self, bytes: &[u8]) -> io::Result<usize> {
         self.writer.write(bytes)

@@ -179,7 +179,7 @@ impl Parser {
     /// how many bytes these are. Of a run of characters it is the first one. Further actions of
     /// its last byte are dropped, as that of a CAN which ends a command.
     ///
-    /// `None` where the bytes give no action: then all were taken. After a
+    /// `None` if the bytes give no action: then all were taken. After a
     /// [failure](Parser::failure) it takes none.
     ///
     /// ```
@@ -205,7 +205,7 @@ impl Parser {
     /// string is unfinished, and returns all actions of these bytes with how many they are. So a
     /// string comes with its terminator.
     ///
-    /// `None` where there is no such place: then all bytes were taken, and what they gave is
+    /// `None` if there is no such place: then all bytes were taken, and what they gave is
     /// dropped. After a [failure](Parser::failure) it takes none.
     ///
     /// ```
@@ -262,7 +262,7 @@ impl Parser {
         }
     }
 
-    /// Why it gives nothing any more, where it failed: where memory was refused, or for
+    /// Why it gives nothing any more, if it failed: if memory was refused, or for
     /// [`Error::Failed`], which the clauses of the library's calls exclude. Bytes after the failure
     /// are not taken.
     #[must_use]
@@ -324,7 +324,7 @@ impl Parser {
 }
 
 /// The actions of some bytes, one after another: what [`Parser::actions`] returns. Bytes are taken
-/// as they are needed. Where it is dropped before its end, [`rest`](Actions::rest) are not taken.
+/// as they are needed. If it is dropped before its end, [`rest`](Actions::rest) are not taken.
 #[derive(Debug)]
 pub struct Actions<'a, 'b> {
     parser: &'a mut Parser,

@@ -29,14 +29,14 @@ impl CSI {
 #[derive(Clone, Copy, Debug, PartialEq, Eq, Hash)]
 #[cfg_attr(feature = "serde", derive(serde::Serialize, serde::Deserialize))]
 pub struct Esc {
-    /// The intermediate, where there is exactly one.
+    /// The intermediate, if there is exactly one.
     pub intermediate: Option<u8>,
     /// The final byte.
     pub control: u8,
 }
 
 impl Esc {
-    // The intermediate counts where it is the only one.
+    // The intermediate counts if it is the only one.
     #[inline]
     pub(super) fn of(intermediates: &[u8], control: u8) -> Esc {
         let intermediate = match intermediates {

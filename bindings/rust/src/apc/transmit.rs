@@ -10,7 +10,7 @@ use core::fmt;
 #[derive(Clone, Debug, PartialEq, Eq)]
 #[cfg_attr(feature = "serde", derive(serde::Serialize, serde::Deserialize))]
 pub struct KittyImageTransmit {
-    /// The format of its pixels. Where there is none the terminal takes `Rgba`.
+    /// The format of its pixels. If there is none the terminal takes `Rgba`.
     pub format: Option<KittyImageFormat>,
     /// What it is made of.
     pub data: KittyImageData,
@@ -40,7 +40,7 @@ pub enum KittyImageData {
     File {
         /// Its path.
         path: String,
-        /// How many bytes of it are the image; where there is none, all.
+        /// How many bytes of it are the image; if there is none, all.
         data_size: Option<u32>,
         /// How many bytes of it come before them.
         data_offset: Option<u32>,
@@ -49,7 +49,7 @@ pub enum KittyImageData {
     TemporaryFile {
         /// Its path.
         path: String,
-        /// How many bytes of it are the image; where there is none, all.
+        /// How many bytes of it are the image; if there is none, all.
         data_size: Option<u32>,
         /// How many bytes of it come before them.
         data_offset: Option<u32>,
@@ -58,7 +58,7 @@ pub enum KittyImageData {
     SharedMem {
         /// Its name.
         name: String,
-        /// How many bytes of it are the image; where there is none, all.
+        /// How many bytes of it are the image; if there is none, all.
         data_size: Option<u32>,
         /// How many bytes of it come before them.
         data_offset: Option<u32>,

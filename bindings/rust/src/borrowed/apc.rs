@@ -71,7 +71,7 @@ pub enum KittyImage<'a> {
 }
 
 impl<'a> KittyImage<'a> {
-    /// The image of a text; none where it is no image.
+    /// The image of a text; none if it is no image.
     pub(crate) fn read(text: &[u8], room: &'a mut Room) -> Result<Option<KittyImage<'a>>, Error> {
         read(text, room, ffi::read_kitty, |kind, fields| {
             if kind == image::NONE {

@@ -124,7 +124,7 @@ impl<'a, T: Item<'a>> FusedIterator for ListIter<'a, T> {}
 
 /// A value that one field or several make.
 pub trait Item<'a>: Copy {
-    /// The next one. None where none is left.
+    /// The next one. None if none is left.
     fn of(fields: &mut Fields<'a>) -> Option<Self>;
 
     /// Shows values as the owned list is shown.

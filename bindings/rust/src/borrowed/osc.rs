@@ -48,7 +48,7 @@ pub enum OperatingSystemCommand<'a> {
     ResetDynamicColor(DynamicColorNumber),
     /// Code 7: the directory that the shell works in.
     CurrentWorkingDirectory(&'a str),
-    /// Code 104: resets these colours of the palette; all of them where none is named.
+    /// Code 104: resets these colours of the palette; all of them if none is named.
     ResetColors(List<'a, u8>),
     /// Code 777: an extension of rxvt, as its parts.
     RxvtExtension(List<'a, &'a str>),

@@ -13,13 +13,13 @@ pub struct Sixel {
     pub pan: i64,
     /// A pixel is so many units wide.
     pub pad: i64,
-    /// The width in pixels, where raster attributes gave one.
+    /// The width in pixels, if raster attributes gave one.
     pub pixel_width: Option<u32>,
-    /// The height in pixels, where raster attributes gave one.
+    /// The height in pixels, if raster attributes gave one.
     pub pixel_height: Option<u32>,
     /// Whether pixels of 0 leave what was there; else they are drawn in the background colour.
     pub background_is_transparent: bool,
-    /// The horizontal grid size, where the header has one.
+    /// The horizontal grid size, if the header has one.
     pub horizontal_grid_size: Option<i64>,
     /// The data.
     pub data: Vec<SixelData>,
@@ -101,7 +101,7 @@ impl Sixel {
         read_sixel(params, data, &mut Room::default())
     }
 
-    /// Width and height in pixels: both sizes of the raster attributes, where both are there. Else
+    /// Width and height in pixels: both sizes of the raster attributes, if both are there. Else
     /// the width of the widest line, and six times the number of the last band that has a sixel.
     #[must_use]
     pub fn dimensions(&self) -> (u32, u32) {

@@ -167,7 +167,7 @@ impl Filter {
     /// Begins a stream.
     pub fn begin(&mut self, policy: Policy, limit: usize) -> Result<(), Error> {
         // SAFETY: the reference is what the type asks for, and the filter is as a call or `ended` left
-        // it: where it is begun, its pointer is one that a call put there.
+        // it: if it is begun, its pointer is one that a call put there.
         let status = unsafe { escape_stream_filter_begin(self, number(policy), limit) };
         done(status, ())
     }
