@@ -93,7 +93,7 @@ func (e *Event) Intermediates() []byte {
 	return found
 }
 
-// Number returns the parameter of a control sequence of this index, counted from 0, or other where
+// Number returns the parameter of a control sequence of this index, counted from 0, or other if
 // it is left out; of one with colons the first number.
 func (e *Event) Number(index int, other int64) int64 {
 	isFirst := true
