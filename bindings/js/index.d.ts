@@ -23,7 +23,7 @@ export type Policy = "text" | "color" | "screen" | "all";
 export interface Limit {
   /**
    * How many bytes are kept of a string, such as a title; one with more is passed over.
-   * 1,048,576 where it is left out.
+   * 1,048,576 if it is left out.
    */
   limit?: number;
 }
@@ -40,10 +40,10 @@ export interface ParserOptions extends Limit {
   dataLimit?: number;
 }
 
-/** How many bytes of a string are kept, where no limit is given. */
+/** How many bytes of a string are kept, if no limit is given. */
 export const DEFAULT_LIMIT: number;
 
-/** Returns what a policy admits of a stream, and nothing else: `text` where none is named. */
+/** Returns what a policy admits of a stream, and nothing else: `text` if none is named. */
 export function filter(stream: string, policy?: Policy, options?: Limit): string;
 export function filter(stream: Bytes, policy?: Policy, options?: Limit): Uint8Array;
 
@@ -57,7 +57,7 @@ export function normal(stream: Bytes, options?: Limit): Uint8Array;
 
 /**
  * Returns a stream as HTML: spans, links to http, https and mailto, and characters. It goes into a
- * `pre`, with stream.css, or without it where it is `inline`.
+ * `pre`, with stream.css, or without it if it is `inline`.
  */
 export function toHtml(stream: Chunk, options?: HtmlOptions): string;
 
@@ -77,7 +77,7 @@ export class Filter extends Kept {
   feed(chunk: Chunk): string | Uint8Array;
   /**
    * Ends the stream, and begins the next. Returns what takes back what the stream left changed at a
-   * terminal, as a colour: a string, where the last chunk was one.
+   * terminal, as a colour: a string, if the last chunk was one.
    */
   finish(): string | Uint8Array;
 }
@@ -232,7 +232,7 @@ export interface FunctionRow {
   /** Whether a terminal answers it, with some of its parameters or with all. */
   readonly isAnswered: boolean;
 }
-/** Returns what a sequence or a control asks for, or null where it has no name. */
+/** Returns what a sequence or a control asks for, or null if it has no name. */
 export function functionOf(it: Event | Action): FunctionRow | null;
 
 /** What a part of a stream asks for, under the names of termwiz. */
@@ -491,7 +491,7 @@ export interface Sixel {
   pixelHeight: number | null;
   backgroundIsTransparent: boolean;
   horizontalGridSize: number | null;
-  /** What raster attributes say, where they say both, and else what is drawn. */
+  /** What raster attributes say, if they say both, and else what is drawn. */
   width: number;
   height: number;
   data: SixelData[];
@@ -499,7 +499,7 @@ export interface Sixel {
 
 /** Returns what the text of an operating system command says, that of an event `Osc`. */
 export function command(text: Bytes): OperatingSystemCommand;
-/** Returns what the text of an event `Apc` says, or null where it is no image. */
+/** Returns what the text of an event `Apc` says, or null if it is no image. */
 export function image(text: Bytes): KittyImage | null;
 /** Returns the sixel image of the parameters and the data of a device control string with `q`. */
 export function sixel(parameters: (number | null)[], data: Bytes): Sixel;
