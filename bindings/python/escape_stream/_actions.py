@@ -24,7 +24,7 @@ from escape_stream._images import Image, image
 from escape_stream._parser import events
 from escape_stream._whole import DEFAULT_LIMIT
 
-# How many bytes the data of an image may have, where nothing else is said.
+# How many bytes the data of an image may have, if nothing else is said.
 DEFAULT_DATA_LIMIT = 1 << 26
 
 

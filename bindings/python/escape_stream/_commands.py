@@ -72,7 +72,7 @@ class Command:
     or 1."""
 
     def get(self, name: FieldName) -> Value | None:
-        """Returns the first field of this name, where there is one."""
+        """Returns the first field of this name, if there is one."""
         return next((value for it, value in self.fields if it == name), None)
 
     def to_bytes(self) -> bytes:

@@ -51,7 +51,7 @@ class Csi:
     there."""
 
     def number(self, index: int, default: int) -> int:
-        """Returns the parameter of this index, counted from 0, or the default where it is left out;
+        """Returns the parameter of this index, counted from 0, or the default if it is left out;
         of one with colons the first."""
         if not 0 <= index < len(self.parameters):
             return default

@@ -125,7 +125,7 @@ def _field(
 
 
 def written(call: Callable[..., int], fields: Fields, *kind: int) -> bytes:
-    """Returns the text that a call writes of a kind, where it takes one, and of these fields."""
+    """Returns the text that a call writes of a kind, if it takes one, and of these fields."""
     rows, texts = (_library.RawField * len(fields))(), bytearray()
     for row, (name, value) in zip(rows, fields):
         row.name = name

@@ -23,7 +23,7 @@ class Function:
 
 
 def function(event: Csi | Escape | Control) -> Function | None:
-    """Returns the function of a control sequence, an escape sequence or a control, where it has a
+    """Returns the function of a control sequence, an escape sequence or a control, if it has a
     name; of an escape sequence of two intermediates `None`.
 
     >>> from escape_stream import Csi, function

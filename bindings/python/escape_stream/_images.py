@@ -56,7 +56,7 @@ class Image:
     """Numbers as `int`, texts as `str`. A flag is 0 or 1."""
 
     def get(self, name: FieldName) -> Value | None:
-        """Returns the field of this name, where there is one."""
+        """Returns the field of this name, if there is one."""
         return next((value for it, value in self.fields if it == name), None)
 
     def to_bytes(self) -> bytes:
@@ -76,7 +76,7 @@ class Image:
 
 def image(text: _library.Bytes) -> Image | None:
     """Returns what the text of an application program command says, that of an event `Apc`; None
-    where it is no image.
+    if it is no image.
 
     >>> from escape_stream import FieldName, image
     >>> image(b"Gf=24,s=10,v=20;AAAA").get(FieldName.PIXEL_WIDTH)

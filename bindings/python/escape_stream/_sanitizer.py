@@ -74,7 +74,7 @@ class Characters(IntEnum):
     KEEP = 1
     """The character itself."""
     JOIN = 2
-    """The character itself where it belongs to the one before it, as in emoji, and else its
+    """The character itself if it belongs to the one before it, as in emoji, and else its
     number."""
     SHOW = 3
     """Its number, as <U+202E>."""
@@ -121,12 +121,12 @@ class Show(IntEnum):
     """As other text, whose ^ and < are shown too, as <5E> and <3C>, so that all can be read
     back."""
     REVERSED = 3
-    """In reverse video, where that passes."""
+    """In reverse video, if that passes."""
 
 
 @dataclass(frozen=True)
 class Account:
-    """What became of the bytes of a stream: how many had each fate, in UTF-8 where its encoding is
+    """What became of the bytes of a stream: how many had each fate, in UTF-8 if its encoding is
     another."""
 
     passed: int
@@ -151,7 +151,7 @@ class Sanitizer(InChunks):
     """The filter of a log that comes in chunks: what the program `escfilter` writes, and the
     account of every byte.
 
-    Where each line is a stream of its own, as by TEXT and COLOR, a string that nobody ends takes
+    If each line is a stream of its own, as by TEXT and COLOR, a string that nobody ends takes
     away the rest of its line, and no line after it:
 
     >>> from escape_stream import Policy, Sanitizer
@@ -192,7 +192,7 @@ class Sanitizer(InChunks):
         the policy.
 
         The groups of `allow` pass besides what the policy does, and those of `deny` do not,
-        whatever the others say. Where `links` names schemes, links to addresses of others do not
+        whatever the others say. If `links` names schemes, links to addresses of others do not
         pass. `limit` is how many bytes are kept of an unfinished sequence or string. `rows`, up to
         MOST_ROWS, is how many rows may be written again: of a progress bar what a terminal has at
         the end is then written. An `account` costs time and memory.
@@ -235,7 +235,7 @@ class Sanitizer(InChunks):
     def account(self) -> Account:
         """Returns what became of the bytes of the lines that have ended, or of the parts of a
         stream that is one; and of all, once the log has ended. The sums then add up to its length.
-        Zeros where no account is kept.
+        Zeros if no account is kept.
 
         Raises ValueError where it is closed, and RuntimeError while another thread uses it.
         """

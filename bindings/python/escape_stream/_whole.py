@@ -9,7 +9,7 @@ from typing import Any
 from escape_stream import _library
 
 DEFAULT_LIMIT = 1_048_576
-"""How many bytes are kept of a string, where no limit is given."""
+"""How many bytes are kept of a string, if no limit is given."""
 
 
 class Policy(IntEnum):
@@ -66,7 +66,7 @@ def is_normal(stream: _library.Bytes) -> bool:
 
 
 def _whole(about: int, call: Callable[[Any, int, Any], int]) -> bytes:
-    """Returns all that a call writes, where it needs about this many bytes, or once more where it
+    """Returns all that a call writes, if it needs about this many bytes, or once more if it
     needs more."""
     needed = c_size_t(about)
     while True:
