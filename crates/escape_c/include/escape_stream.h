@@ -94,7 +94,7 @@ const char *escape_stream_version(void);
  *
  * TEXT     characters but DEL; tab, line feed and carriage return
  * COLOR    and graphic renditions (SGR: colours, bold, underline ..) and hyperlinks (OSC 8)
- * SCREEN   and functions that change the screen alone, from a list of those known to: cursor
+ * SCREEN   and a list of functions that are known to change the screen alone: cursor
  *          movement, erasing, scrolling, modes of the display, and others. Nothing that a
  *          terminal answers, no title, no clipboard, and nothing unknown
  * ALL      all that can be written by itself, so images, titles and queries too. It keeps broken
