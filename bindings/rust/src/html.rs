@@ -60,8 +60,8 @@ impl ChunkPage {
         Ok(ChunkPage { raw })
     }
 
-    /// Takes the next chunk of the stream. What it adds to the page is then what
-    /// [`text`](ChunkPage::text) gives, and that of the chunk before is gone.
+    /// Takes the next chunk of the stream. [`text`](ChunkPage::text) then gives the text that it
+    /// adds to the page, and that of the chunk before is gone.
     ///
     /// # Errors
     ///
@@ -71,8 +71,8 @@ impl ChunkPage {
         self.raw.feed(chunk)
     }
 
-    /// Ends the stream. What closes the tags that are open is then what [`text`](ChunkPage::text)
-    /// gives: with it the texts of all chunks, one after another, are a page. It takes no memory.
+    /// Ends the stream. [`text`](ChunkPage::text) then gives the text that closes the open tags:
+    /// with it the texts of all chunks, one after another, are a page. It takes no memory.
     ///
     /// # Errors
     ///

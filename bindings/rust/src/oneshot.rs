@@ -12,9 +12,9 @@ pub enum Policy {
     Text,
     /// And graphic renditions (SGR: colours, bold, underline ..) and hyperlinks (OSC 8).
     Color,
-    /// And what changes the screen alone, from a list of what is known to do no more: cursor
-    /// movement, erasing, scrolling, modes of what is shown, and others. Nothing that a terminal
-    /// answers, no title, no clipboard, and nothing unknown.
+    /// And a list of functions that are known to change the screen alone: cursor movement, erasing,
+    /// scrolling, modes of the display, and others. Nothing that a terminal answers, no title, no
+    /// clipboard, and nothing unknown.
     Screen,
     /// All that can be written by itself, so images, titles and queries too. It keeps broken input
     /// from becoming a sequence, and does not protect from sequences that are there.
@@ -23,9 +23,8 @@ pub enum Policy {
 
 /// The normal form of a stream: each of its actions, in order, in its one spelling.
 ///
-/// Of a sequence that is unfinished at the end of the stream only what it has done so far is
-/// written. If the normal form is longer than the stream, it is made twice: [`normal_into`]
-/// leaves the room to the caller.
+/// If the stream ends inside a sequence, only its effect so far is written. If the normal form is
+/// longer than the stream, it is made twice: [`normal_into`] leaves the room to the caller.
 ///
 /// Normal form is no protection: for a stream of unknown origin there is [`filter`].
 ///
@@ -55,12 +54,12 @@ pub fn is_normal(bytes: &[u8]) -> Result<bool, Error> {
     ffi::is_normal(bytes)
 }
 
-/// What the policy admits of a stream, and nothing else. The text reads back as the actions that
-/// were admitted, whatever bytes follow it: no text of the stream becomes a sequence, however
-/// broken the stream is.
+/// The actions of a stream that the policy admits, and nothing else. The text reads back as the
+/// actions that were admitted, whatever bytes follow it: no text of the stream becomes a sequence,
+/// however broken the stream is.
 ///
-/// `limit` is how many bytes are kept of a string, such as a title or an image; of one with more
-/// nothing is written.
+/// `limit` is the number of bytes that are kept of a string, such as a title or an image; nothing
+/// is written of a longer one.
 ///
 /// # Errors
 ///
@@ -69,10 +68,10 @@ pub fn filter(policy: Policy, limit: usize, bytes: &[u8]) -> Result<Vec<u8>, Err
     whole(bytes.len(), |out| filter_into(policy, limit, bytes, out))
 }
 
-/// Writes what the policy admits of a stream to `out`, or as much of its beginning as fits, and
-/// returns the length of all of it in bytes. Every other byte of `out` stays as it was. What does
-/// not fit is cut anywhere, also inside a sequence: send `out` to a terminal only if all of it
-/// fits.
+/// Writes the actions of a stream that the policy admits to `out`, or as much of its beginning as
+/// fits, and returns the length of all of it in bytes. Every other byte of `out` stays as it was.
+/// A text that does not fit is cut anywhere, also inside a sequence: send `out` to a terminal only
+/// if all of it fits.
 ///
 /// # Errors
 ///

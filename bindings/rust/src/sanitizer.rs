@@ -3,7 +3,7 @@
 use crate::chunks::in_parts;
 use crate::{Error, SanitizerOptions, ffi};
 
-/// What became of the bytes of a stream: how many had each fate, in UTF-8 if the encoding of the
+/// The fates of the bytes of a stream: how many had each, in UTF-8 if the encoding of the
 /// stream is another.
 #[repr(C)]
 #[derive(Clone, Copy, Debug, Default, PartialEq, Eq, Hash)]
@@ -26,9 +26,9 @@ pub struct Account {
     pub length: u64,
 }
 
-/// The filter of a log, or of another stream of unknown origin, that comes in chunks: what the
-/// program `escfilter` writes, by its options, and the account of every byte. If each line is a
-/// stream of its own, as by [`Policy::Text`](crate::Policy::Text) and
+/// The filter of a log, or of another stream of unknown origin, that comes in chunks: the output of
+/// the program `escfilter`, by its options, and the account of every byte. If each line is a stream
+/// of its own, as by [`Policy::Text`](crate::Policy::Text) and
 /// [`Policy::Color`](crate::Policy::Color), a string that nobody ends takes away the rest of its
 /// line, and no line after it.
 ///
@@ -71,8 +71,8 @@ impl Sanitizer {
         Ok(Sanitizer { raw })
     }
 
-    /// Takes the next chunk of the stream. What it adds to the text is then what
-    /// [`text`](Sanitizer::text) gives, and that of the chunk before is gone.
+    /// Takes the next chunk of the stream. [`text`](Sanitizer::text) then gives the text that it
+    /// adds, and that of the chunk before is gone.
     ///
     /// # Errors
     ///
@@ -83,8 +83,8 @@ impl Sanitizer {
         self.raw.feed(chunk)
     }
 
-    /// Ends the stream. What that adds to the text is then what [`text`](Sanitizer::text) gives,
-    /// and the account is that of the whole stream.
+    /// Ends the stream. [`text`](Sanitizer::text) then gives the text that this adds, and the
+    /// account is that of the whole stream.
     ///
     /// # Errors
     ///
@@ -104,7 +104,7 @@ impl Sanitizer {
         self.raw.text(from, out)
     }
 
-    /// What became of the bytes of the stream: of those of the lines, or of the parts of a stream
+    /// The fates of the bytes of the stream: of those of the lines, or of the parts of a stream
     /// that is one, that have ended; and of all, once the stream has ended. The sums then add up to
     /// its length, if that is less than 2^62. Zeros if the options ask for no account.
     ///
