@@ -2,18 +2,19 @@
 //! Control functions by name.
 use crate::Entry;
 
-/// What a control function changes, and whether a terminal answers it.
+/// The effect of a control function, and whether a terminal answers it.
 #[derive(Clone, Copy, Debug, PartialEq, Eq, Hash)]
 #[cfg_attr(feature = "serde", derive(serde::Serialize, serde::Deserialize))]
 pub enum Effect {
-    /// It changes the screen alone: what is shown, the cursor, margins, tab stops and renditions.
+    /// It changes the screen alone: its text, the cursor, margins, tab stops and renditions.
     Screen,
     /// A terminal answers it, with some of its parameters or with all.
     Answered,
     /// A terminal sends it, as an answer or because of a key, the mouse or the window.
     Report,
-    /// Anything else: what keys, mouse or terminal send, modes, character sets and shifts between
-    /// them, the bell, printers, memory, and what no terminal is known to do.
+    /// Anything else: the input of keys and mouse, the reports of the terminal, modes, character
+    /// sets and shifts between them, the bell, printers, memory, and functions that no terminal is
+    /// known to perform.
     Other,
 }
 
@@ -68,12 +69,12 @@ macro_rules! functions {
                 self.row().name
             }
 
-            /// What it does, in words.
+            /// Its effect, in words.
             pub fn words(self) -> &'static str {
                 self.row().words
             }
 
-            /// What it changes, and whether a terminal answers it.
+            /// The kind of its effect, and whether a terminal answers it.
             pub fn effect(self) -> $crate::Effect {
                 self.row().effect
             }

@@ -38,7 +38,7 @@ pub enum OperatingSystemCommand {
     SetIconName(String),
     /// Code `L`: sets the name of the icon, as Sun's terminals do it.
     SetIconNameSun(String),
-    /// Code 8: what is printed next belongs to this link, or to none.
+    /// Code 8: the text after it belongs to this link, or to none.
     SetHyperlink(Option<Hyperlink>),
     /// Code 52 with a selection alone: clears it.
     ClearSelection(Selection),
@@ -74,7 +74,7 @@ pub enum OperatingSystemCommand {
 displayed!(OperatingSystemCommand);
 
 impl OperatingSystemCommand {
-    /// The command of this text: the bytes between `ESC ]` and what ends them, as
+    /// The command of this text: the bytes between `ESC ]` and their end, as
     /// [`Event::Osc`](crate::Event::Osc) has them. Any bytes are the text of a command.
     ///
     /// ```
@@ -110,7 +110,7 @@ impl OperatingSystemCommand {
         Ok(command.into_owned())
     }
 
-    /// The bytes of this command: `ESC ]`, its text and `ESC \`. What is between these reads back
+    /// The bytes of this command: `ESC ]`, its text and `ESC \`. The text between these reads back
     /// as this command, and holds no control but DEL.
     ///
     /// ```

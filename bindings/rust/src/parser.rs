@@ -36,7 +36,7 @@ pub struct Parser {
     byte: u8,
 }
 
-/// What a stream says, in order. A run may come in several, or its characters and bytes one by one.
+/// A part of a stream. A run may come in several, or its characters and bytes one by one.
 #[derive(Clone, Copy, Debug, PartialEq)]
 #[non_exhaustive]
 pub enum Event<'a> {
@@ -84,7 +84,7 @@ pub enum Event<'a> {
     DcsEnd,
     /// The text of an application program command.
     Apc(&'a [u8]),
-    /// A string, or the header of a device control string, ended of which there was more than the
+    /// A string, or the header of a device control string, ended that was longer than the
     /// limit: its event is not handed out, nor are the data of the device control string.
     LimitPassed,
 }

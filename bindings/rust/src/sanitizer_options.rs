@@ -62,7 +62,7 @@ impl SanitizerOptions {
         self
     }
 
-    /// What is written of characters that hide or reorder text; if it is not set,
+    /// The output for characters that hide or reorder text; if it is not set,
     /// [`Characters::Join`] by [`Policy::Text`] and [`Policy::Color`], but [`Characters::Show`]
     /// with [`rows`](SanitizerOptions::rows), and else [`Characters::Keep`].
     pub fn characters(mut self, characters: Characters) -> SanitizerOptions {
@@ -70,7 +70,7 @@ impl SanitizerOptions {
         self
     }
 
-    /// What is written of carriage returns within a line; if it is not set, [`Returns::Show`] by
+    /// The output for carriage returns within a line; if it is not set, [`Returns::Show`] by
     /// [`Policy::Text`] and [`Policy::Color`] without [`rows`](SanitizerOptions::rows), and else
     /// [`Returns::Keep`], as always in a stream that is one.
     pub fn returns(mut self, returns: Returns) -> SanitizerOptions {
@@ -84,15 +84,15 @@ impl SanitizerOptions {
         self
     }
 
-    /// Shows what does not pass, in its place, as `^[]0;title^G`; if it is not set, that is left
-    /// out.
+    /// Shows sequences that do not pass, in their place, as `^[]0;title^G`; if it is not set, they
+    /// are left out.
     pub fn show(mut self, marking: Marking) -> SanitizerOptions {
         self.raw.show = 1 + marking as u32;
         self
     }
 
-    /// Writes of text that is written again, as of a progress bar, what a terminal has at the end,
-    /// where so many rows may be written again; at most 4,096.
+    /// Writes text that is written again, as of a progress bar, as a terminal has it at the end.
+    /// `rows` is the number of rows that may be written again, at most 4,096.
     pub fn rows(mut self, rows: u32) -> SanitizerOptions {
         self.raw.rows = rows;
         self
@@ -105,7 +105,7 @@ impl SanitizerOptions {
     }
 }
 
-/// A group of what a stream does.
+/// A group of actions.
 #[derive(Clone, Copy, Debug, PartialEq, Eq, Hash)]
 pub enum Group {
     /// Characters but DEL.
@@ -120,13 +120,13 @@ pub enum Group {
     Links,
     /// Bell, backspace, line tabulation and form feed.
     Controls,
-    /// Cursor movement, its shape, what it saves, and tab stops.
+    /// Cursor movement, its shape, its saved state, and tab stops.
     Cursor,
     /// Erasing, inserting, deleting, copying and filling.
     Erase,
     /// Scrolling, index and next line, and margins.
     Scroll,
-    /// Modes of what is shown.
+    /// Modes of the display.
     Modes,
     /// Character sets, shifts, and the size of a line's characters.
     Charsets,
@@ -153,16 +153,16 @@ pub enum Scheme {
     Mailto,
 }
 
-/// What a stream of its own is.
+/// The extent of a stream of its own.
 #[derive(Clone, Copy, Debug, PartialEq, Eq, Hash)]
 pub enum Framing {
-    /// Each line: what it leaves unfinished hides nothing of the lines after it.
+    /// Each line: a sequence that it leaves unfinished hides nothing of the lines after it.
     Lines,
     /// The whole.
     Whole,
 }
 
-/// What is written of a character that hides or reorders text.
+/// The output for a character that hides or reorders text.
 #[derive(Clone, Copy, Debug, PartialEq, Eq, Hash)]
 pub enum Characters {
     /// The character itself.
@@ -176,7 +176,7 @@ pub enum Characters {
     Drop,
 }
 
-/// What is written of a carriage return within a line.
+/// The output for a carriage return within a line.
 #[derive(Clone, Copy, Debug, PartialEq, Eq, Hash)]
 pub enum Returns {
     /// The carriage return itself.
@@ -187,7 +187,7 @@ pub enum Returns {
     Drop,
 }
 
-/// How what does not pass is shown.
+/// How sequences that do not pass are shown.
 #[derive(Clone, Copy, Debug, PartialEq, Eq, Hash)]
 pub enum Marking {
     /// As other text.

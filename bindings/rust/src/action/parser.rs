@@ -80,8 +80,8 @@ impl Parser {
         self.give(bytes, Owned(callback));
     }
 
-    /// The same with borrowed actions, which copy nothing: what is printed lies in `bytes`, and all
-    /// else where the parser keeps it. Their [`into_owned`](borrowed::Action::into_owned) gives the
+    /// The same with borrowed actions, which copy nothing: printed text lies in `bytes`, and all
+    /// else in the parser's memory. Their [`into_owned`](borrowed::Action::into_owned) gives the
     /// actions of [`parse`](Parser::parse).
     ///
     /// ```
@@ -166,7 +166,7 @@ impl Parser {
         result.map_err(|error| self.failure = Some(error)).ok()
     }
 
-    /// The actions of the next bytes of the stream, with what is printed joined.
+    /// The actions of the next bytes of the stream, with printed texts joined.
     ///
     /// After a [failure](Parser::failure) there are none.
     pub fn parse_as_vec(&mut self, bytes: &[u8]) -> Vec<Action> {
@@ -323,8 +323,9 @@ impl Parser {
     }
 }
 
-/// The actions of some bytes, one after another: what [`Parser::actions`] returns. Bytes are taken
-/// as they are needed. If it is dropped before its end, [`rest`](Actions::rest) are not taken.
+/// The actions of some bytes, one after another: the iterator of [`Parser::actions`]. Bytes are
+/// taken as they are needed. If it is dropped before its end, [`rest`](Actions::rest) are not
+/// taken.
 #[derive(Debug)]
 pub struct Actions<'a, 'b> {
     parser: &'a mut Parser,
