@@ -11,7 +11,8 @@ import (
 	"unsafe"
 )
 
-// DefaultLimit is how many bytes are kept of a string, such as a title, if no limit is given.
+// DefaultLimit is the number of bytes that are kept of a string, such as a title, if no limit is
+// given.
 const DefaultLimit = 1 << 20
 
 // The errors of this package.
