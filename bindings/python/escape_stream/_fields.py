@@ -10,7 +10,7 @@ from escape_stream import _library
 
 
 class FieldName(IntEnum):
-    """Which part of a command or an image a field is. `escape_stream.h` says what each holds."""
+    """Which part of a command or an image a field is. `escape_stream.h` has the value of each."""
 
     TEXT = 0
     PART = 1

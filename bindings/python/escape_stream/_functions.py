@@ -10,12 +10,12 @@ from escape_stream._events import Control, Csi, Escape
 
 @dataclass(frozen=True, slots=True)
 class Function:
-    """What a sequence asks for: a row of docs/FUNCTIONS.md."""
+    """The function of a sequence: a row of docs/FUNCTIONS.md."""
 
     name: str
     """Its name, as the standards abbreviate it, such as `CUP`."""
     phrase: str
-    """What it does, in words, such as `cursor position`."""
+    """Its effect in words, such as `cursor position`."""
     changes_screen: bool
     """Whether it changes the screen alone, with whatever parameters."""
     is_answered: bool
