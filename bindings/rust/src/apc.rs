@@ -23,7 +23,7 @@ pub enum KittyImage {
     TransmitData {
         /// The image.
         transmit: KittyImageTransmit,
-        /// What is reported.
+        /// Which answers the terminal sends.
         verbosity: KittyImageVerbosity,
     },
     /// Keeps an image, and shows it.
@@ -32,7 +32,7 @@ pub enum KittyImage {
         transmit: KittyImageTransmit,
         /// How it is shown.
         placement: KittyImagePlacement,
-        /// What is reported.
+        /// Which answers the terminal sends.
         verbosity: KittyImageVerbosity,
     },
     /// Shows an image that is kept.
@@ -43,14 +43,14 @@ pub enum KittyImage {
         image_number: Option<u32>,
         /// How it is shown.
         placement: KittyImagePlacement,
-        /// What is reported.
+        /// Which answers the terminal sends.
         verbosity: KittyImageVerbosity,
     },
     /// Deletes placements.
     Delete {
         /// Which.
         what: KittyImageDelete,
-        /// What is reported.
+        /// Which answers the terminal sends.
         verbosity: KittyImageVerbosity,
     },
     /// Asks whether an image could be kept, and keeps it not.
@@ -64,20 +64,20 @@ pub enum KittyImage {
         transmit: KittyImageTransmit,
         /// The frame.
         frame: KittyImageFrame,
-        /// What is reported.
+        /// Which answers the terminal sends.
         verbosity: KittyImageVerbosity,
     },
     /// Puts a part of one frame over another.
     ComposeFrame {
         /// The frames.
         frame: KittyImageFrameCompose,
-        /// What is reported.
+        /// Which answers the terminal sends.
         verbosity: KittyImageVerbosity,
     },
 }
 
 impl KittyImage {
-    /// The image of this text: the bytes between `ESC _` and what ends them, as
+    /// The image of this text: the bytes between `ESC _` and their end, as
     /// [`Event::Apc`](crate::Event::Apc) has them; none if it is no image. A payload is as it
     /// came, in base64.
     ///
@@ -119,7 +119,7 @@ impl KittyImage {
     }
 }
 
-/// What the terminal reports of a command.
+/// The answers of the terminal to a command.
 #[derive(Clone, Copy, Debug, PartialEq, Eq, Hash)]
 #[cfg_attr(feature = "serde", derive(serde::Serialize, serde::Deserialize))]
 pub enum KittyImageVerbosity {
@@ -166,7 +166,8 @@ pub struct KittyImagePlacement {
     pub do_not_move_cursor: bool,
     /// Its order above and below others. Below 0 it is shown below the text.
     pub z_index: Option<i32>,
-    /// Whether it is shown where placeholder characters are, U+10EEEE. `termwiz` has no such field.
+    /// Whether it is shown in the place of placeholder characters, U+10EEEE. `termwiz` has no such
+    /// field.
     pub unicode_placeholder: bool,
 }
 
@@ -254,7 +255,7 @@ pub struct KittyImageFrameCompose {
     pub image_number: Option<u32>,
     /// The frame that is changed, from 1.
     pub target_frame: Option<u32>,
-    /// The frame whose pixels are taken, from 1.
+    /// The frame that the pixels are taken from, counted from 1.
     pub source_frame: Option<u32>,
     /// The left edge at which they are put, in pixels.
     pub x: Option<u32>,

@@ -4,7 +4,7 @@
 #[cfg(feature = "std")]
 use crate::Error;
 
-/// How many bytes are kept of a string, if no limit is given.
+/// The number of bytes that are kept of a string, if no limit is given.
 pub(crate) const DEFAULT_LIMIT: usize = 1_048_576;
 
 /// Calls `act` with a text in parts; `text_from` writes it from a byte on, as much as fits.

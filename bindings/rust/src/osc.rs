@@ -50,7 +50,7 @@ pub enum OperatingSystemCommand {
     SystemNotification(String),
     /// Code 1337: a command of iTerm2.
     ITermProprietary(ITermProprietary),
-    /// Code 133: where a shell's prompts, commands and their output begin and end.
+    /// Code 133: the beginning or end of a shell's prompt, of a command or of its output.
     FinalTermSemanticPrompt(FinalTermSemanticPrompt),
     /// Code 4: changes colours of the palette, or asks for them.
     ChangeColorNumber(Vec<ChangeColorPair>),

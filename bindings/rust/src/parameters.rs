@@ -1,5 +1,5 @@
 // SPDX-License-Identifier: MIT
-//! What the entries of a control sequence say, and the parts of strings.
+//! The parameters of a control sequence, by its entries, and the parts of strings.
 use crate::Entry;
 
 /// The private prefix, the parameters and the intermediates of a control sequence, by its entries.
@@ -41,7 +41,7 @@ impl<'a> Parameters<'a> {
     }
 
     /// The parameters, which `;` separates: of each the numbers that `:` separates, `None` if
-    /// one is left out. A sequence with nothing where its parameters are has none.
+    /// one is left out. A sequence with nothing in the place of its parameters has none.
     pub fn iter(self) -> impl Iterator<Item = impl Iterator<Item = Option<i64>> + 'a> + 'a {
         let has_some = self
             .entries

@@ -18,7 +18,7 @@ pub struct CSI {
 }
 
 impl CSI {
-    /// What it asks for, by name.
+    /// Its function, by name.
     #[must_use]
     pub fn function(&self) -> Option<ControlFunction> {
         ControlFunction::of_entries(&self.params, self.control)
@@ -49,7 +49,7 @@ impl Esc {
         }
     }
 
-    /// What it asks for, by name.
+    /// Its function, by name.
     #[must_use]
     pub fn function(self) -> Option<EscapeFunction> {
         EscapeFunction::of(self.intermediate, self.control)

@@ -1,5 +1,5 @@
 // SPDX-License-Identifier: MIT
-//! What is written of actions.
+//! The bytes of actions.
 use super::{
     Action, CSI, ControlCode, DeviceControlMode, EnterDeviceControlMode, Esc, ShortDeviceControl,
 };

@@ -1,5 +1,5 @@
 // SPDX-License-Identifier: MIT
-//! What is written of images.
+//! The bytes of images.
 use super::{
     KittyFrameCompositionMode, KittyImage, KittyImageCompression, KittyImageData, KittyImageDelete,
     KittyImageFormat, KittyImageFrame, KittyImageFrameCompose, KittyImagePlacement,

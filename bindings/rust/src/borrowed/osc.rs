@@ -37,7 +37,7 @@ pub enum OperatingSystemCommand<'a> {
     SystemNotification(&'a str),
     /// Code 1337: a command of iTerm2.
     ITermProprietary(ITermProprietary<'a>),
-    /// Code 133: where a shell's prompts, commands and their output begin and end.
+    /// Code 133: the beginning or end of a shell's prompt, of a command or of its output.
     FinalTermSemanticPrompt(FinalTermSemanticPrompt<'a>),
     /// Code 4: changes colours of the palette, or asks for them.
     ChangeColorNumber(List<'a, ChangeColorPair>),

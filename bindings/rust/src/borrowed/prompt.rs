@@ -14,14 +14,14 @@ pub enum FinalTermSemanticPrompt<'a> {
     FreshLineAndStartPrompt {
         /// The name of the application, if it is given.
         aid: Option<&'a str>,
-        /// What a click does, if it is given.
+        /// The effect of a click, if it is given.
         cl: Option<FinalTermClick>,
     },
     /// `N`: the command before ends, and then as `FreshLineAndStartPrompt`.
     MarkEndOfCommandWithFreshLine {
         /// The name of the application, if it is given.
         aid: Option<&'a str>,
-        /// What a click does, if it is given.
+        /// The effect of a click, if it is given.
         cl: Option<FinalTermClick>,
     },
     /// `P`: a prompt of this kind begins.

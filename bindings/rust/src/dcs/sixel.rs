@@ -17,7 +17,7 @@ pub struct Sixel {
     pub pixel_width: Option<u32>,
     /// The height in pixels, if raster attributes gave one.
     pub pixel_height: Option<u32>,
-    /// Whether pixels of 0 leave what was there; else they are drawn in the background colour.
+    /// Whether pixels of 0 leave the old pixels; else they are drawn in the background colour.
     pub background_is_transparent: bool,
     /// The horizontal grid size, if the header has one.
     pub horizontal_grid_size: Option<i64>,
@@ -62,7 +62,7 @@ pub enum SixelData {
     },
     /// Selects the colour of this number.
     SelectColorMapEntry(u16),
-    /// Back to the start of the line, so that what follows is drawn over it.
+    /// Back to the start of the line, so that the next pixels are drawn over it.
     CarriageReturn,
     /// To the start of the next band of six lines.
     NewLine,
@@ -82,7 +82,7 @@ pub struct RgbColor {
 
 impl Sixel {
     /// The image of these parameters and this data: those of [`Event::Dcs`](crate::Event::Dcs) with
-    /// the byte `q` and no intermediate, and the bytes up to what ends them. Any are such an image.
+    /// the byte `q` and no intermediate, and the bytes up to their end. Any are such an image.
     ///
     /// ```
     /// use escape_stream::dcs::{Sixel, SixelData};

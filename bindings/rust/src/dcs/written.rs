@@ -1,5 +1,5 @@
 // SPDX-License-Identifier: MIT
-//! What is written of sixel images.
+//! The bytes of sixel images.
 use super::{Sixel, SixelData};
 use crate::Error;
 use crate::action::Action;
