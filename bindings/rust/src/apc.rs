@@ -103,8 +103,8 @@ impl KittyImage {
         Ok(image.map(borrowed::KittyImage::into_owned))
     }
 
-    /// What the terminal reports of the command. That of a `Query` is `Verbose`: an answer is what
-    /// it asks for.
+    /// The answers of the terminal to the command. A `Query` has `Verbose`, since it asks for an
+    /// answer.
     #[must_use]
     pub fn verbosity(&self) -> KittyImageVerbosity {
         match self {

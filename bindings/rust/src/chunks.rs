@@ -1,6 +1,6 @@
 // SPDX-License-Identifier: MIT
-//! What takes a stream in chunks, and has the text of each: a filter, a sanitizer, a page and a
-//! normaliser.
+//! Objects that take a stream in chunks, and have the text of each: a filter, a sanitizer, a page
+//! and a normaliser.
 #[cfg(feature = "std")]
 use crate::Error;
 

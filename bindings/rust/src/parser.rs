@@ -64,8 +64,8 @@ pub enum Event<'a> {
         /// The final byte.
         byte: u8,
     },
-    /// The text of an operating system command. `osc::OperatingSystemCommand::parse` says what it
-    /// asks for, with the feature `oneshot`.
+    /// The text of an operating system command. `osc::OperatingSystemCommand::parse` reads it, with
+    /// the feature `oneshot`.
     Osc(&'a [u8]),
     /// A device control string begins.
     Dcs {

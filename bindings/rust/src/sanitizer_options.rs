@@ -3,8 +3,8 @@
 use crate::chunks::DEFAULT_LIMIT;
 use crate::{Policy, ffi};
 
-/// How a [`Sanitizer`](crate::Sanitizer) filters a stream: what the options of the program
-/// `escfilter` say of that. If one is not set, it is as the program has it.
+/// How a [`Sanitizer`](crate::Sanitizer) filters a stream, by the options of the program
+/// `escfilter`. If one is not set, it is as the program has it.
 ///
 /// ```
 /// use escape_stream::{Group, Policy, SanitizerOptions, Scheme};

@@ -1,5 +1,5 @@
 // SPDX-License-Identifier: MIT
-//! What is written of values: the normal form of a spelling that reads back as the value.
+//! The bytes of values: the normal form of a spelling that reads back as the value.
 use crate::action::{Action, Parser};
 use crate::{Error, normal};
 use alloc::vec::Vec;

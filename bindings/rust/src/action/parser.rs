@@ -201,12 +201,12 @@ impl Parser {
         first.map(|action| (action, count))
     }
 
-    /// Takes the next bytes of the stream up to where there is an action and no sequence and no
-    /// string is unfinished, and returns all actions of these bytes with how many they are. So a
-    /// string comes with its terminator.
+    /// Takes the next bytes of the stream up to the first place with an action and no sequence and
+    /// no string unfinished, and returns all actions of these bytes with the number of the bytes.
+    /// So a string comes with its terminator.
     ///
-    /// `None` if there is no such place: then all bytes were taken, and what they gave is
-    /// dropped. After a [failure](Parser::failure) it takes none.
+    /// `None` if there is no such place: then all bytes were taken, and their actions are dropped.
+    /// After a [failure](Parser::failure) it takes none.
     ///
     /// ```
     /// use escape_stream::action::Parser;

@@ -1,5 +1,5 @@
 // SPDX-License-Identifier: MIT
-//! What is given what a stream says.
+//! The receiver of the parts of a stream.
 use super::{Action, CSI, Entries};
 use crate::dcs::{Sixel, SixelData};
 use crate::fields::Room;
@@ -7,7 +7,7 @@ use crate::{Error, borrowed, ffi};
 use alloc::boxed::Box;
 use alloc::vec::Vec;
 
-/// What is given what a stream says: each as it costs least if it is to be owned.
+/// The receiver of the parts of a stream: each comes as it costs least if it is to be owned.
 pub trait Receiver {
     /// An action.
     fn act(&mut self, action: borrowed::Action<'_>);

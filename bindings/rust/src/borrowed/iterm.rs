@@ -124,7 +124,7 @@ impl<'a> ITermProprietary<'a> {
     }
 }
 
-/// What is done to the version of Unicode by which characters have their widths (iTerm2's
+/// A change of the version of Unicode by which characters have their widths (iTerm2's
 /// documentation, "Unicode Version").
 #[derive(Clone, Copy, Debug, PartialEq, Eq)]
 pub enum ITermUnicodeVersionOp<'a> {
@@ -182,7 +182,7 @@ pub struct ITermFileData<'a> {
     pub inline: bool,
     /// Whether the cursor stays where it is.
     pub do_not_move_cursor: bool,
-    /// What it holds.
+    /// Its content.
     pub data: &'a [u8],
 }
 

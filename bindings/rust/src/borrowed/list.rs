@@ -1,5 +1,5 @@
 // SPDX-License-Identifier: MIT
-//! Lists whose values are read from fields.
+//! Lists with values that are read from fields.
 use crate::fields::{Fields, name};
 use crate::osc::{ChangeColorPair, ColorOrQuery};
 use core::fmt;

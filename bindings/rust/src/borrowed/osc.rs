@@ -25,7 +25,7 @@ pub enum OperatingSystemCommand<'a> {
     SetIconName(&'a str),
     /// Code `L`: sets the name of the icon, as Sun's terminals do it.
     SetIconNameSun(&'a str),
-    /// Code 8: what is printed next belongs to this link, or to none.
+    /// Code 8: the text after it belongs to this link, or to none.
     SetHyperlink(Option<Hyperlink<'a>>),
     /// Code 52 with a selection alone: clears it.
     ClearSelection(Selection),
@@ -58,7 +58,7 @@ pub enum OperatingSystemCommand<'a> {
     Unspecified(List<'a, &'a [u8]>),
 }
 
-/// A hyperlink: where the characters that follow lead to ("Hyperlinks in terminal emulators", the
+/// A hyperlink: the address of the characters after it ("Hyperlinks in terminal emulators", the
 /// command OSC 8).
 #[derive(Clone, Copy, Debug, PartialEq, Eq)]
 pub struct Hyperlink<'a> {
@@ -67,7 +67,7 @@ pub struct Hyperlink<'a> {
     pub params: List<'a, (&'a str, &'a str)>,
     /// The address.
     pub uri: &'a str,
-    /// Whether the terminal found it in the text itself. What is read has false.
+    /// Whether the terminal found it in the text itself. A link that is read has false.
     pub implicit: bool,
 }
 

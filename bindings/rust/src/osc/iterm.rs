@@ -57,7 +57,7 @@ pub enum ITermProprietary {
     UnicodeVersion(ITermUnicodeVersionOp),
 }
 
-/// What is done to the version of Unicode by which characters have their widths (iTerm2's
+/// A change of the version of Unicode by which characters have their widths (iTerm2's
 /// documentation, "Unicode Version").
 #[derive(Clone, Debug, PartialEq, Eq)]
 #[cfg_attr(feature = "serde", derive(serde::Serialize, serde::Deserialize))]
@@ -89,7 +89,7 @@ pub struct ITermFileData {
     pub inline: bool,
     /// Whether the cursor stays where it is.
     pub do_not_move_cursor: bool,
-    /// What it holds.
+    /// Its content.
     pub data: Vec<u8>,
 }
 
