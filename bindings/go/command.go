@@ -8,7 +8,7 @@ import "C"
 // A Field is a part of a command: its name, and its value. A flag is the number 0 or 1.
 type Field struct {
 	Name FieldID
-	// Kind says what it holds.
+	// Kind is the kind of its value.
 	Kind ValueKind
 	// Number is a number, or a size.
 	Number int64
@@ -17,10 +17,10 @@ type Field struct {
 	Text []byte
 }
 
-// A ValueKind says what a field holds.
+// A ValueKind is the kind of a field's value.
 type ValueKind uint32
 
-// What a field holds.
+// The kinds of values.
 const (
 	ValueNumber ValueKind = iota
 	ValueText
@@ -52,8 +52,8 @@ func (c Command) Text(name FieldID) string {
 	return ""
 }
 
-// ReadCommand returns what the text of an operating system command says: that of an event KindOSC.
-// Any bytes are such a text.
+// ReadCommand returns the command of the text of an operating system command, that of an event
+// KindOSC. Any bytes are such a text.
 func ReadCommand(text []byte) (Command, error) {
 	rows, out := make([]C.struct_escape_stream_field, 8), make([]byte, len(text)+8)
 	for {
@@ -89,7 +89,7 @@ func commandOf(kind CommandKind, rows []C.struct_escape_stream_field, texts []by
 	return found
 }
 
-// Bytes returns the command, from ESC ] to ESC \: what ReadCommand reads between these is this
+// Bytes returns the command, from ESC ] to ESC \: ReadCommand reads the text between these as this
 // command. ErrCommand says that no command has this kind and these fields, and ErrNotWritable that
 // its text would not read back as it, as that of a title with a control.
 func (c Command) Bytes() ([]byte, error) {

@@ -12,11 +12,11 @@
 // returns colours, bold and links of a stream, its characters, tabs and line ends, and nothing
 // else. [NewReader] and [NewWriter] do so as a stream comes, [ToHTML] returns a stream as HTML in
 // which nothing comes alive, [Normal] returns its normal form, [Parser] gives its events,
-// [Function] names what a sequence asks for, and [ReadCommand] says what an operating system
-// command says.
+// [Function] names the function of a sequence, and [ReadCommand] reads the text of an operating
+// system command.
 //
-// What each call of the library writes is proved, for every stream. This package is not proved: it
-// is tested.
+// The output of each call of the library is proved, for every stream. This package is not proved:
+// it is tested.
 //
 // # Building
 //

@@ -11,7 +11,8 @@ import (
 	"unsafe"
 )
 
-// DefaultLimit is how many bytes are kept of a string, such as a title, where no limit is given.
+// DefaultLimit is the number of bytes that are kept of a string, such as a title, if no limit is
+// given.
 const DefaultLimit = 1 << 20
 
 // The errors of this package.
@@ -50,7 +51,7 @@ func errorOf(status C.uint32_t) error {
 
 var none [8]byte
 
-// first returns the place of the first byte. No place that the library is given is nil, also where
+// first returns the place of the first byte. No place that the library is given is nil, also if
 // its length is 0.
 func first(b []byte) *C.uint8_t {
 	if len(b) == 0 {

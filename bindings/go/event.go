@@ -52,7 +52,7 @@ type Entry struct {
 	IsByte bool
 }
 
-// An Event of a stream. What its kind does not name has no meaning.
+// An Event of a stream. A field that its kind does not name has no meaning.
 type Event struct {
 	Kind Kind
 	// Byte is a control, or the final byte of a sequence.
@@ -93,7 +93,7 @@ func (e *Event) Intermediates() []byte {
 	return found
 }
 
-// Number returns the parameter of a control sequence of this index, counted from 0, or other where
+// Number returns the parameter of a control sequence of this index, counted from 0, or other if
 // it is left out; of one with colons the first number.
 func (e *Event) Number(index int, other int64) int64 {
 	isFirst := true
@@ -112,7 +112,7 @@ func (e *Event) Number(index int, other int64) int64 {
 }
 
 // Params returns the parameters of a control sequence, which ; separates: of each the numbers that
-// : separates, -1 where one is left out. A sequence with nothing where they are has none.
+// : separates, -1 if one is left out. A sequence with nothing in their place has none.
 func (e *Event) Params() [][]int64 {
 	var params [][]int64
 	var group []int64

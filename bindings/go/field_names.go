@@ -2,7 +2,7 @@
 
 package escapestream
 
-// A FieldID says which part of a command a field is. escape_stream.h says what each holds.
+// A FieldID says which part of a command a field is. escape_stream.h has the value of each.
 type FieldID uint32
 
 // The names of fields, in the order of their numbers. The others are those of images.

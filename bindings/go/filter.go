@@ -5,7 +5,7 @@ package escapestream
 // #include "escape_stream.h"
 import "C"
 
-// A Policy says what a filter lets through. Each admits all that the one before it does.
+// A Policy says which actions pass a filter. Each admits all that the one before it does.
 type Policy uint32
 
 const (
@@ -13,17 +13,17 @@ const (
 	Text Policy = iota
 	// Color admits renditions, as colours and bold, and hyperlinks too.
 	Color
-	// Screen admits what changes the screen alone too, from a list of what is known to do no more.
+	// Screen also admits a list of functions that are known to change the screen alone.
 	Screen
 	// All admits all that can be written by itself: it protects from broken input alone.
 	All
 )
 
-// Filter returns what a policy admits of a stream, and nothing else. It keeps at most DefaultLimit
-// bytes of a string of the stream; of a longer one nothing is written.
+// Filter returns the actions of a stream that a policy admits, and nothing else. It keeps at most
+// DefaultLimit bytes of a string of the stream; nothing is written of a longer one.
 //
-// The text reads back as what was admitted, whatever bytes follow it: no text of the stream becomes
-// a sequence, however broken the stream is.
+// The text reads back as the admitted actions, whatever bytes follow it: no text of the stream
+// becomes a sequence, however broken the stream is.
 func Filter(policy Policy, stream []byte) ([]byte, error) {
 	return whole(len(stream), func(out []byte, needed *C.size_t) C.uint32_t {
 		return C.escape_stream_filter(C.uint32_t(policy), DefaultLimit,

@@ -5,11 +5,11 @@ package escapestream
 // #include "escape_stream.h"
 import "C"
 
-// A Function is what a sequence asks for: a row of docs/FUNCTIONS.md.
+// A Function is the function of a sequence: a row of docs/FUNCTIONS.md.
 type Function struct {
 	// Name is as the standards abbreviate it, such as CUP.
 	Name string
-	// Phrase is what it does, in words, such as "cursor position".
+	// Phrase is its effect in words, such as "cursor position".
 	Phrase string
 	// ChangesScreen says that it changes the screen alone, with whatever parameters.
 	ChangesScreen bool
@@ -17,7 +17,7 @@ type Function struct {
 	IsAnswered bool
 }
 
-// Function returns what a control sequence, an escape sequence or a control asks for, and whether
+// Function returns the function of a control sequence, an escape sequence or a control, and whether
 // it has a name.
 func (e *Event) Function() (Function, bool) {
 	var row C.struct_escape_stream_function_info

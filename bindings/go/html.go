@@ -16,7 +16,7 @@ type HTMLOptions struct {
 	PerLine bool
 	// Inline writes looks as styles, and not as the classes of `eschtml --style`.
 	Inline bool
-	// Limit is how many bytes are kept of a string, such as a link; DefaultLimit where it is 0.
+	// Limit is the number of bytes that are kept of a string, such as a link; DefaultLimit if it is 0.
 	Limit int
 }
 

@@ -4,7 +4,7 @@ package escapestream
 
 import "io"
 
-// A Reader reads what a policy admits of the stream of another reader.
+// A Reader reads the actions that a policy admits of the stream of another reader.
 type Reader struct {
 	from  io.Reader
 	f     *filter
@@ -14,8 +14,8 @@ type Reader struct {
 	err   error
 }
 
-// NewReader returns a reader over r. At its end it gives what takes back what the stream left
-// changed at a terminal, as a colour.
+// NewReader returns a reader over r. At its end it gives the text that takes back the changes that
+// the stream left at a terminal, as a colour.
 func NewReader(r io.Reader, policy Policy, options ...Option) (*Reader, error) {
 	f, err := newFilter(policy, options)
 	if err != nil {
@@ -24,7 +24,7 @@ func NewReader(r io.Reader, policy Policy, options ...Option) (*Reader, error) {
 	return &Reader{from: r, f: f, chunk: make([]byte, room)}, nil
 }
 
-// Read reads what is admitted, as soon as there is some.
+// Read reads admitted text, as soon as there is some.
 func (r *Reader) Read(p []byte) (int, error) {
 	if len(p) == 0 {
 		return 0, nil
@@ -40,7 +40,7 @@ func (r *Reader) Read(p []byte) (int, error) {
 	return n, nil
 }
 
-// Close gives back what the reader keeps, also before the end of the stream. It does not close the
+// Close gives back the reader's memory, also before the end of the stream. It does not close the
 // reader below.
 func (r *Reader) Close() error {
 	r.f.end()

@@ -33,7 +33,7 @@ func unescaped(text string) []byte {
 	})
 }
 
-// rows returns each row of each table, or skips the test where this package lies alone.
+// rows returns each row of each table, or skips the test if this package lies alone.
 func rows(t testing.TB) []row {
 	tables, _ := filepath.Glob("../../crates/check_rows/data/*.txt")
 	if len(tables) == 0 {

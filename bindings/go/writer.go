@@ -4,7 +4,8 @@ package escapestream
 
 import "io"
 
-// A Writer passes on to another writer what a policy admits of the stream that is written to it.
+// A Writer passes on to another writer the actions that a policy admits of the stream that is
+// written to it.
 type Writer struct {
 	to  io.Writer
 	f   *filter
@@ -20,8 +21,8 @@ func NewWriter(w io.Writer, policy Policy, options ...Option) (*Writer, error) {
 	return &Writer{to: w, f: f}, nil
 }
 
-// Write takes all of p, and writes what is admitted of it. What is unfinished at the end of p waits
-// for what follows. After an error each call returns it.
+// Write takes all of p, and writes its admitted actions. A sequence that is unfinished at the end
+// of p waits for the next bytes. After an error each call returns it.
 func (w *Writer) Write(p []byte) (int, error) {
 	if w.err != nil {
 		return 0, w.err
@@ -35,8 +36,8 @@ func (w *Writer) Write(p []byte) (int, error) {
 	return len(p), nil
 }
 
-// Close ends the stream: it writes what takes back what the stream left changed at a terminal, as a
-// colour. It does not close the writer below.
+// Close ends the stream: it writes the text that takes back the changes that the stream left at a
+// terminal, as a colour. It does not close the writer below.
 func (w *Writer) Close() error {
 	if w.err == ErrClosed {
 		return nil

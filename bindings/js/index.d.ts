@@ -13,17 +13,17 @@ export type Bytes = ArrayBufferLike | ArrayBufferView;
 export type Chunk = string | Bytes;
 
 /**
- * What a filter lets through. Each policy admits all that the one before it does: `text`
- * characters but DEL, tabs and line ends; `color` renditions and hyperlinks; `screen` what changes
- * the screen alone, from a list of what is known to do no more; `all` whatever can be written by
- * itself, so it protects from broken input alone.
+ * The actions that pass a filter. Each policy admits all that the one before it does: `text`
+ * characters but DEL, tabs and line ends; `color` renditions and hyperlinks; `screen` a list of
+ * functions that are known to change the screen alone; `all` whatever can be written by itself, so
+ * it protects from broken input alone.
  */
 export type Policy = "text" | "color" | "screen" | "all";
 
 export interface Limit {
   /**
-   * How many bytes are kept of a string, such as a title; one with more is passed over.
-   * 1,048,576 where it is left out.
+   * The number of bytes that are kept of a string, such as a title; a longer one is passed over.
+   * 1,048,576 if it is left out.
    */
   limit?: number;
 }
@@ -40,10 +40,10 @@ export interface ParserOptions extends Limit {
   dataLimit?: number;
 }
 
-/** How many bytes of a string are kept, where no limit is given. */
+/** The number of bytes that are kept of a string, if no limit is given. */
 export const DEFAULT_LIMIT: number;
 
-/** Returns what a policy admits of a stream, and nothing else: `text` where none is named. */
+/** Returns the actions of a stream that a policy admits, and no others: `text` if none is named. */
 export function filter(stream: string, policy?: Policy, options?: Limit): string;
 export function filter(stream: Bytes, policy?: Policy, options?: Limit): Uint8Array;
 
@@ -57,27 +57,27 @@ export function normal(stream: Bytes, options?: Limit): Uint8Array;
 
 /**
  * Returns a stream as HTML: spans, links to http, https and mailto, and characters. It goes into a
- * `pre`, with stream.css, or without it where it is `inline`.
+ * `pre`, with stream.css, or without it if it is `inline`.
  */
 export function toHtml(stream: Chunk, options?: HtmlOptions): string;
 
-/** What keeps memory of the module until it is disposed of, or nothing names it any more. */
+/** An object that keeps memory of the module until it is disposed of or nothing names it. */
 declare class Kept {
-  /** Gives back what it keeps. It may be called twice; every other call after it throws. */
+  /** Gives back its memory. It may be called twice; every other call after it throws. */
   dispose(): void;
   [Symbol.dispose](): void;
 }
 
-/** A filter of a stream that comes in chunks: what `filter` returns of the whole, as it comes. */
+/** A filter of a stream that comes in chunks: the text of `filter` for the whole, as it comes. */
 export class Filter extends Kept {
   constructor(policy?: Policy, options?: Limit);
-  /** Takes the next chunk of the stream, and returns what it adds. */
+  /** Takes the next chunk of the stream, and returns the text that it adds. */
   feed(chunk: string): string;
   feed(chunk: Bytes): Uint8Array;
   feed(chunk: Chunk): string | Uint8Array;
   /**
-   * Ends the stream, and begins the next. Returns what takes back what the stream left changed at a
-   * terminal, as a colour: a string, where the last chunk was one.
+   * Ends the stream, and begins the next. Returns the text that takes back the changes that the
+   * stream left at a terminal, as a colour: a string, if the last chunk was one.
    */
   finish(): string | Uint8Array;
 }
@@ -85,7 +85,7 @@ export class Filter extends Kept {
 /** The normal form of a stream that comes in chunks. */
 export class Normaliser extends Kept {
   constructor(options?: Limit);
-  /** Takes the next chunk of the stream, and returns what it adds. */
+  /** Takes the next chunk of the stream, and returns the text that it adds. */
   feed(chunk: string): string;
   feed(chunk: Bytes): Uint8Array;
   feed(chunk: Chunk): string | Uint8Array;
@@ -96,9 +96,9 @@ export class Normaliser extends Kept {
 /** HTML of a stream that comes in chunks. */
 export class HtmlWriter extends Kept {
   constructor(options?: HtmlOptions);
-  /** Takes the next chunk of the stream, and returns what it adds. */
+  /** Takes the next chunk of the stream, and returns the text that it adds. */
   feed(chunk: Chunk): string;
-  /** Ends the stream, and returns what closes the tags that are open. No chunk follows. */
+  /** Ends the stream, and returns the text that closes the open tags. No chunk follows. */
   finish(): string;
 }
 
@@ -195,7 +195,7 @@ export class Parser extends Kept {
   readonly isGround: boolean;
 }
 
-/** Yields the events of a stream, or of its chunks. What is unfinished at its end adds nothing. */
+/** Yields the events of a stream, or of its chunks. A sequence cut by its end adds nothing. */
 export function events(stream: Chunk | Iterable<Chunk>, options?: ParserOptions): Generator<Event>;
 /** Yields the actions of a stream, or of its chunks. */
 export function actions(
@@ -225,17 +225,17 @@ export function actionStream(options?: ParserOptions): TransformStream<Chunk, Ac
 export interface FunctionRow {
   /** Its name, as the standards abbreviate it, such as `CUP`. */
   readonly name: string;
-  /** What it does, in words, such as `cursor position`. */
+  /** Its effect in words, such as `cursor position`. */
   readonly phrase: string;
   /** Whether it changes the screen alone, with whatever parameters. */
   readonly changesScreen: boolean;
   /** Whether a terminal answers it, with some of its parameters or with all. */
   readonly isAnswered: boolean;
 }
-/** Returns what a sequence or a control asks for, or null where it has no name. */
+/** Returns the function of a sequence or a control, or null if it has no name. */
 export function functionOf(it: Event | Action): FunctionRow | null;
 
-/** What a part of a stream asks for, under the names of termwiz. */
+/** The request of a part of a stream, under the names of termwiz. */
 export type Action =
   | { type: "PrintString"; text: string }
   /** `code` is the name of the control, such as `LineFeed`. */
@@ -491,15 +491,15 @@ export interface Sixel {
   pixelHeight: number | null;
   backgroundIsTransparent: boolean;
   horizontalGridSize: number | null;
-  /** What raster attributes say, where they say both, and else what is drawn. */
+  /** The sizes of the raster attributes, if they have both, and else those of the drawn pixels. */
   width: number;
   height: number;
   data: SixelData[];
 }
 
-/** Returns what the text of an operating system command says, that of an event `Osc`. */
+/** Returns the command of the text of an operating system command, that of an event `Osc`. */
 export function command(text: Bytes): OperatingSystemCommand;
-/** Returns what the text of an event `Apc` says, or null where it is no image. */
+/** Returns the image of the text of an event `Apc`, or null if it is no image. */
 export function image(text: Bytes): KittyImage | null;
 /** Returns the sixel image of the parameters and the data of a device control string with `q`. */
 export function sixel(parameters: (number | null)[], data: Bytes): Sixel;
@@ -509,6 +509,6 @@ export function termcapQuery(data: Bytes): string[];
 type Module = BufferSource | Response | WebAssembly.Module;
 /**
  * Takes the module, of `escape-stream/core`, which does not load it by itself: its bytes, a
- * response with them, or what the host compiled. `escape-stream` has called it.
+ * response with them, or the module that the host compiled. `escape-stream` has called it.
  */
 export function use(source: Module | PromiseLike<Module>): Promise<void>;

@@ -13,7 +13,7 @@ Text(text='caf')
 Text(text='é')
 Csi(prefix='', parameters=((2,), (5,)), intermediates='', final='H', has_more=False)
 
-The work is done by a library that is proved: what each call writes is what its contract says, for
+A proved library does the work: the output of each call is as its contract says, for
 every stream. This package is not proved.
 """
 

@@ -1,5 +1,5 @@
 # SPDX-License-Identifier: MIT
-"""A stream as what it asks for: its events, with what each string says in place of its text."""
+"""A stream as its requests: its events, with the value of each string in place of its text."""
 
 from collections.abc import Iterable, Iterator
 from dataclasses import dataclass
@@ -24,7 +24,7 @@ from escape_stream._images import Image, image
 from escape_stream._parser import events
 from escape_stream._whole import DEFAULT_LIMIT
 
-# How many bytes the data of an image may have, where nothing else is said.
+# The greatest number of bytes of an image's data, if nothing else is said.
 DEFAULT_DATA_LIMIT = 1 << 26
 
 
@@ -59,7 +59,7 @@ def actions(
     limit: int = DEFAULT_LIMIT,
     data_limit: int = DEFAULT_DATA_LIMIT,
 ) -> Iterator[Action]:
-    """Yields the events of a stream, with what each string says: a `Command`, an `Image`, a
+    """Yields the events of a stream, with the value of each string: a `Command`, an `Image`, a
     `Sixel`, a `TermcapQuery`.
 
     >>> from escape_stream import actions
@@ -67,7 +67,7 @@ def actions(
     ['Text', 'Command', 'Sixel', 'Escape']
 
     A device control string of another kind comes as its events. An application program command that
-    is no image gives nothing, and one of which there is more data than the limit `LimitPassed`.
+    is no image gives nothing, and one with more data than the limit gives `LimitPassed`.
     """
     header, data = None, bytearray()
     for event in events(stream, limit):

@@ -1,6 +1,6 @@
 # SPDX-License-Identifier: MIT
-"""What operating system commands say: their kind, and their parts as fields; and the commands that
-say it."""
+"""The values of operating system commands: their kind, and their parts as fields; and the
+commands of such values."""
 
 from dataclasses import dataclass
 from enum import IntEnum
@@ -58,7 +58,7 @@ class CommandKind(IntEnum):
     ITERM_POP_UNICODE_VERSION = 43
 
 
-# The fields whose bytes need not be UTF-8, by their kinds.
+# The fields with bytes that need not be UTF-8, by their kinds.
 _BYTES = {(CommandKind.UNSPECIFIED, FieldName.PART), (CommandKind.ITERM_FILE, FieldName.CONTENT)}
 
 
@@ -68,31 +68,31 @@ class Command:
 
     kind: CommandKind
     fields: Fields
-    """Numbers and sizes as `int`, texts as `str`; of what need not be UTF-8, `bytes`. A flag is 0
-    or 1."""
+    """Numbers and sizes as `int`, texts as `str`, or as `bytes` if they need not be UTF-8. A flag
+    is 0 or 1."""
 
     def get(self, name: FieldName) -> Value | None:
-        """Returns the first field of this name, where there is one."""
+        """Returns the first field of this name, if there is one."""
         return next((value for it, value in self.fields if it == name), None)
 
     def to_bytes(self) -> bytes:
-        """Returns the command, from ESC ] to ESC \\ : what `command` reads of the text between
-        these is this value.
+        """Returns the command, from ESC ] to ESC \\ : `command` reads the text between these as
+        this value.
 
         >>> from escape_stream import command
         >>> command(b"2;a title").to_bytes()
         b'\\x1b]2;a title\\x1b\\\\'
 
-        Raises ValueError where no command has this kind and these fields, and where its text would
-        not read back as it, as that of a title with a control; MemoryError where a request for
+        Raises ValueError if no command has this kind and these fields, or if its text would
+        not read back as it, as that of a title with a control; MemoryError if a request for
         memory was refused.
         """
         return written(_library.write_osc, self.fields, self.kind)
 
 
 def command(text: _library.Bytes) -> Command:
-    """Returns what the text of an operating system command says: that of an event `Osc`. Any bytes
-    are such a text.
+    """Returns the command of the text of an operating system command, that of an event `Osc`. Any
+    bytes are such a text.
 
     >>> from escape_stream import FieldName, command
     >>> command(b"8;id=1;http://example.com/").get(FieldName.URI)
@@ -100,7 +100,7 @@ def command(text: _library.Bytes) -> Command:
     >>> command(b"133;D;1").kind.name
     'PROMPT_COMMAND_STATUS'
 
-    Raises MemoryError where a request for memory was refused.
+    Raises MemoryError if a request for memory was refused.
     """
     kind, fields = read(_library.read_osc, _library.RawOsc(), text, _BYTES)
     return Command(CommandKind(kind), fields)

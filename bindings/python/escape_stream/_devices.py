@@ -1,6 +1,6 @@
 # SPDX-License-Identifier: MIT
-"""What device control strings say, sixel images and termcap queries; and the strings that say
-it."""
+"""The values of device control strings, sixel images and termcap queries; and the strings of
+such values."""
 
 from collections.abc import Sequence
 from ctypes import byref, c_int64
@@ -12,7 +12,7 @@ from escape_stream._fields import FieldName, read, written
 
 
 class SixelKind(IntEnum):
-    """What an item of a sixel image is."""
+    """The kind of an item of a sixel image."""
 
     PIXELS = 0
     """Six pixels."""
@@ -32,7 +32,7 @@ class SixelKind(IntEnum):
 
 @dataclass(frozen=True, slots=True)
 class SixelItem:
-    """An item of a sixel image. What has no meaning for its kind is 0."""
+    """An item of a sixel image. A value that has no meaning for its kind is 0."""
 
     kind: SixelKind
     pixels: int = 0
@@ -60,15 +60,15 @@ class Sixel:
     """As raster attributes say."""
     pixel_height: int | None
     background_is_transparent: bool
-    """Whether pixels of 0 leave what was there."""
+    """Whether pixels of 0 leave the old pixels."""
     horizontal_grid_size: int | None
     dimensions: tuple[int, int]
-    """Width and height: both that raster attributes say, and else those of what is drawn."""
+    """Width and height: both sizes of the raster attributes, and else those of the drawn pixels."""
     items: tuple[SixelItem, ...]
 
     def to_bytes(self) -> bytes:
-        """Returns the image, from ESC P to ESC \\ : what `sixel` reads of its parameters and its
-        data is this value.
+        """Returns the image, from ESC P to ESC \\ : `sixel` reads its parameters and its
+        data as this value.
 
         The `dimensions` follow from the rest, and are not looked at.
 
@@ -76,8 +76,8 @@ class Sixel:
         >>> sixel([9, 1], b"!3~").to_bytes()
         b'\\x1bP7;1q!3~\\x1b\\\\'
 
-        Raises ValueError where no image has these values, and where its text would not read back as
-        it, as that of a number that is negative; MemoryError where a request for memory was
+        Raises ValueError if no image has these values, or if its text would not read back as
+        it, as that of a number that is negative; MemoryError if a request for memory was
         refused.
         """
         raw, rows = _library.RawSixel(), (_library.RawSixelItem * len(self.items))(
@@ -101,27 +101,27 @@ class TermcapQuery:
     names: tuple[str, ...]
 
     def to_bytes(self) -> bytes:
-        """Returns the query, from ESC P + q to ESC \\ : what `termcap_query` reads of the data
-        between these is this value.
+        """Returns the query, from ESC P + q to ESC \\ : `termcap_query` reads the data
+        between these as this value.
 
         >>> from escape_stream import TermcapQuery
         >>> TermcapQuery(("TN", "Co")).to_bytes()
         b'\\x1bP+q544e;436f\\x1b\\\\'
 
-        Raises ValueError where there is no name; MemoryError where a request for memory was
+        Raises ValueError if there is no name; MemoryError if a request for memory was
         refused.
         """
         return written(_library.write_tcap, tuple((FieldName.NAME, name) for name in self.names))
 
 
 def termcap_query(data: _library.Bytes) -> TermcapQuery:
-    """Returns what the data of a device control string with `+q` asks for. Any bytes are such data.
+    """Returns the query of the data of a device control string with `+q`. Any bytes are such data.
 
     >>> from escape_stream import termcap_query
     >>> termcap_query(b"544e;436f").names
     ('TN', 'Co')
 
-    Raises MemoryError where a request for memory was refused.
+    Raises MemoryError if a request for memory was refused.
     """
     _, fields = read(_library.read_tcap, _library.RawQuery(), data, ())
     return TermcapQuery(tuple(str(value) for _, value in fields))
@@ -135,7 +135,7 @@ def sixel(parameters: Sequence[int], data: _library.Bytes) -> Sixel:
     >>> sixel([9, 1], b"~!3?").dimensions
     (4, 6)
 
-    Raises MemoryError where a request for memory was refused.
+    Raises MemoryError if a request for memory was refused.
     """
     data, raw = _library.bytes_of(data), _library.RawSixel()
     numbers = (c_int64 * len(parameters))(*parameters)

@@ -1,5 +1,5 @@
 # SPDX-License-Identifier: MIT
-"""What a stream says, in order."""
+"""The events of a stream, in order."""
 
 from dataclasses import dataclass
 from typing import TypeAlias
@@ -51,7 +51,7 @@ class Csi:
     there."""
 
     def number(self, index: int, default: int) -> int:
-        """Returns the parameter of this index, counted from 0, or the default where it is left out;
+        """Returns the parameter of this index, counted from 0, or the default if it is left out;
         of one with colons the first."""
         if not 0 <= index < len(self.parameters):
             return default
@@ -114,7 +114,7 @@ class Apc:
 
 @dataclass(frozen=True, slots=True)
 class LimitPassed:
-    """A string ended of which there was more than the limit: its event, and the data of a device
+    """A string ended that was longer than the limit: its event, and the data of a device
     control string, are left out."""
 
 

@@ -10,7 +10,7 @@ from escape_stream import _library
 
 
 class FieldName(IntEnum):
-    """Which part of a command or an image a field is. `escape_stream.h` says what each holds."""
+    """Which part of a command or an image a field is. `escape_stream.h` has the value of each."""
 
     TEXT = 0
     PART = 1
@@ -125,7 +125,7 @@ def _field(
 
 
 def written(call: Callable[..., int], fields: Fields, *kind: int) -> bytes:
-    """Returns the text that a call writes of a kind, where it takes one, and of these fields."""
+    """Returns the text that a call writes of a kind, if it takes one, and of these fields."""
     rows, texts = (_library.RawField * len(fields))(), bytearray()
     for row, (name, value) in zip(rows, fields):
         row.name = name

@@ -9,22 +9,22 @@ from escape_stream._whole import DEFAULT_LIMIT, Policy
 
 
 class Filter(InChunks):
-    """A filter of a stream that comes in chunks: what `filter` returns of the whole, as it comes.
+    """A filter of a stream that comes in chunks: the text of `filter` for the whole, as it comes.
 
     >>> from escape_stream import Filter, Policy
     >>> with Filter(Policy.COLOR) as filter:
     ...     [filter.feed(chunk) for chunk in (b"a\\x1b]0;a ti", b"tle\\x07b\\x1b[3", b"1m")]
     [b'a', b'b', b'\\x1b[31m']
 
-    `finish` ends a stream with what takes back what it left changed at a terminal, as renditions
+    `finish` ends a stream with the text that takes back its changes at a terminal, as renditions
     and a link:
 
     >>> with Filter(Policy.COLOR) as filter:
     ...     [filter.feed(b"\\x1b[31mred"), filter.finish()]
     [b'\\x1b[31mred', b'\\x1b[0m']
 
-    Any thread may use it, and one at a time. What it keeps of the stream is given back by `close`,
-    by the end of a `with`, or when nothing names it any more.
+    Any thread may use it, and one at a time. Its memory is given back by `close`, by the end of a
+    `with`, or when nothing names it any more.
     """
 
     _name = "filter"
@@ -34,10 +34,10 @@ class Filter(InChunks):
     _end = _library.filter_end
 
     def __init__(self, policy: Policy = Policy.TEXT, limit: int = DEFAULT_LIMIT) -> None:
-        """Begins a stream. `limit` is how many bytes are kept of a string; of one with more nothing
-        is written.
+        """Begins a stream. `limit` is the number of bytes that are kept of a string; nothing is
+        written of a longer one.
 
-        Raises MemoryError where a request for memory was refused, and ValueError where there is no
+        Raises MemoryError if a request for memory was refused, and ValueError if there is no
         such policy.
         """
         super().__init__(_library.RawFilter())

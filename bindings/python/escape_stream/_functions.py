@@ -10,12 +10,12 @@ from escape_stream._events import Control, Csi, Escape
 
 @dataclass(frozen=True, slots=True)
 class Function:
-    """What a sequence asks for: a row of docs/FUNCTIONS.md."""
+    """The function of a sequence: a row of docs/FUNCTIONS.md."""
 
     name: str
     """Its name, as the standards abbreviate it, such as `CUP`."""
     phrase: str
-    """What it does, in words, such as `cursor position`."""
+    """Its effect in words, such as `cursor position`."""
     changes_screen: bool
     """Whether it changes the screen alone, with whatever parameters."""
     is_answered: bool
@@ -23,7 +23,7 @@ class Function:
 
 
 def function(event: Csi | Escape | Control) -> Function | None:
-    """Returns the function of a control sequence, an escape sequence or a control, where it has a
+    """Returns the function of a control sequence, an escape sequence or a control, if it has a
     name; of an escape sequence of two intermediates `None`.
 
     >>> from escape_stream import Csi, function

@@ -18,7 +18,7 @@ class Page(InChunks):
     ...     [page.feed(chunk) for chunk in (b"a <b>\\x1b[", b"1mbold")] + [page.finish()]
     [b'a &lt;b&gt;', b'<span style="font-weight:bold;">bold', b'</span>']
 
-    Any thread may use it, and one at a time. What it keeps of the stream is given back by `close`,
+    Any thread may use it, and one at a time. Its memory is given back by `close`,
     by the end of a `with`, or when nothing names it any more.
     """
 
@@ -38,7 +38,7 @@ class Page(InChunks):
         feed, and opened again after it, so that each line is HTML by itself. `limit` is how many
         bytes are kept of a string; one with more, such as a link, shows nothing.
 
-        Raises MemoryError where a request for memory was refused.
+        Raises MemoryError if a request for memory was refused.
         """
         super().__init__(_library.RawPage())
         begun = _library.html_begin(
@@ -60,7 +60,7 @@ def html(
     >>> html(b"<script>\\x1b]0;a title\\x07")
     '&lt;script&gt;'
 
-    Raises MemoryError where a request for memory was refused.
+    Raises MemoryError if a request for memory was refused.
     """
     with Page(classes=classes, per_line=per_line, limit=limit) as page:
         return (page.feed(stream) + page.finish()).decode()

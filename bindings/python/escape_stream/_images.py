@@ -1,6 +1,6 @@
 # SPDX-License-Identifier: MIT
-"""What commands of kitty's graphics protocol say: their kind, and their keys as fields; and the
-commands that say it."""
+"""The values of commands of kitty's graphics protocol: their kind, their keys as fields; and the
+commands of such values."""
 
 from dataclasses import dataclass
 from enum import IntEnum
@@ -33,7 +33,7 @@ class ImageKind(IntEnum):
 
 
 class Medium(IntEnum):
-    """What the field `CONTENT` of an image is."""
+    """The kind of the field `CONTENT` of an image."""
 
     PAYLOAD = 0
     """The pixels as they came, in base64."""
@@ -56,27 +56,27 @@ class Image:
     """Numbers as `int`, texts as `str`. A flag is 0 or 1."""
 
     def get(self, name: FieldName) -> Value | None:
-        """Returns the field of this name, where there is one."""
+        """Returns the field of this name, if there is one."""
         return next((value for it, value in self.fields if it == name), None)
 
     def to_bytes(self) -> bytes:
-        """Returns the command, from ESC _ to ESC \\ : what `image` reads of the text between these
-        is this value.
+        """Returns the command, from ESC _ to ESC \\ : `image` reads the text between these as
+        this value.
 
         >>> from escape_stream import image
         >>> image(b"Gs=10,f=24,v=20;AAAA").to_bytes()
         b'\\x1b_Gf=24,s=10,v=20;AAAA\\x1b\\\\'
 
-        Raises ValueError where no command has this kind and these fields, and where its text would
-        not read back as it, as that of pixels that are not in base64; MemoryError where a request
+        Raises ValueError if no command has this kind and these fields, or if its text would
+        not read back as it, as that of pixels that are not in base64; MemoryError if a request
         for memory was refused.
         """
         return written(_library.write_kitty, self.fields, self.kind)
 
 
 def image(text: _library.Bytes) -> Image | None:
-    """Returns what the text of an application program command says, that of an event `Apc`; None
-    where it is no image.
+    """Returns the image of the text of an application program command, that of an event `Apc`; None
+    if it is no image.
 
     >>> from escape_stream import FieldName, image
     >>> image(b"Gf=24,s=10,v=20;AAAA").get(FieldName.PIXEL_WIDTH)
@@ -84,7 +84,7 @@ def image(text: _library.Bytes) -> Image | None:
     >>> image(b"no image") is None
     True
 
-    Raises MemoryError where a request for memory was refused.
+    Raises MemoryError if a request for memory was refused.
     """
     kind, fields = read(_library.read_kitty, _library.RawImage(), text, ())
     return Image(ImageKind(kind), fields) if kind else None

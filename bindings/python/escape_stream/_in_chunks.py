@@ -1,5 +1,5 @@
 # SPDX-License-Identifier: MIT
-"""What takes a stream in chunks and returns the text that each adds."""
+"""An object that takes a stream in chunks and returns the text that each adds."""
 
 import threading
 from ctypes import Structure, byref, c_ubyte
@@ -15,7 +15,7 @@ _Self = TypeVar("_Self", bound="InChunks")
 class InChunks:
     """A filter, a sanitizer or a normaliser. Any thread may use it, and one at a time."""
 
-    # What it is called, and the calls of the library: these take its struct first.
+    # Its name, and the calls of the library: these take its struct first.
     _name: ClassVar[str]
     _feed: ClassVar[Any]
     _finish: ClassVar[Any]
@@ -30,8 +30,8 @@ class InChunks:
     def feed(self, chunk: _library.Bytes) -> bytes:
         """Takes the next chunk of the stream, and returns the text that it adds.
 
-        Raises MemoryError where a request for memory was refused: it is then closed, and the texts
-        before are the beginning of what the stream would have given. Raises ValueError where it is
+        Raises MemoryError if a request for memory was refused: it is then closed, and the texts
+        before are the beginning of what the stream would have given. Raises ValueError if it is
         closed, and RuntimeError while another thread uses it.
         """
         chunk = _library.bytes_of(chunk)
@@ -39,18 +39,18 @@ class InChunks:
             return self._text_after(self._feed(byref(self._raw), chunk, len(chunk)))
 
     def finish(self) -> bytes:
-        """Ends the stream, and begins the next. Returns the text that the end adds. What is
-        unfinished adds nothing.
+        """Ends the stream, and begins the next. Returns the text that the end adds. An unfinished
+        sequence adds nothing.
 
-        Raises MemoryError where a request for memory was refused: it is then closed. Raises
-        ValueError where it is closed, and RuntimeError while another thread uses it.
+        Raises MemoryError if a request for memory was refused: it is then closed. Raises
+        ValueError if it is closed, and RuntimeError while another thread uses it.
         """
         with _library.used(self._in_use, self._name):
             return self._text_after(self._finish(byref(self._raw)))
 
     def close(self) -> None:
-        """Gives back what it keeps. What is unfinished at the end of a stream adds nothing. It may
-        be closed twice.
+        """Gives back its memory. A sequence that is unfinished at the end of a stream adds nothing.
+        It may be closed twice.
 
         Raises RuntimeError while another thread uses it.
         """

@@ -368,7 +368,7 @@ write_sixel.restype = c_uint32
 
 
 def done(status: int) -> None:
-    """Raises what a status says, where the call was not done."""
+    """Raises what a status says, if the call was not done."""
     if status == NO_MEMORY:
         raise MemoryError("escape_stream: a request for memory was refused")
     if status == NO_COMMAND:
@@ -392,14 +392,14 @@ def written(call: Callable[..., int], *words: object) -> bytes:
 
 
 def within(number: int, bits: int) -> int:
-    """Returns a number from 0 up, where it has no more bits: one that ctypes keeps as it is."""
+    """Returns a number from 0 up, if it has no more bits: one that ctypes keeps as it is."""
     if not 0 <= number < 1 << bits:
         raise ValueError(f"{number} is no number of {bits} bits")
     return number
 
 
 def signed(number: int) -> int:
-    """Returns a number, where it is one of 64 bits with its sign."""
+    """Returns a number, if it is one of 64 bits with its sign."""
     if not -(1 << 63) <= number < 1 << 63:
         raise ValueError(f"{number} is no number of 64 bits with its sign")
     return number
@@ -422,7 +422,7 @@ def used(in_use: Lock, name: str) -> Iterator[None]:
 
 
 def limit_of(limit: int) -> int:
-    """Returns a limit, where the library can take it."""
+    """Returns a limit, if the library can take it."""
     if not 0 <= limit < 1 << 62:
         raise ValueError(f"a limit is a number of bytes, and {limit} is none")
     return limit

@@ -27,7 +27,7 @@ from escape_stream._whole import DEFAULT_LIMIT
 _CHUNK = 65_536
 # How many control sequences are kept, so that one that comes again is not made again.
 _MOST_KEPT = 4096
-# What begins each byte, and each long number, among the words of a control sequence.
+# The mark before each byte, and each long number, among the words of a control sequence.
 _BYTE, _LONG = 1 << 31, 1 << 30
 
 
@@ -203,7 +203,7 @@ def events(
     """Yields the events of a stream: of bytes, or of chunks as they come, such as those of
     `iter(lambda: file.read(65536), b"")`.
 
-    What is unfinished at its end adds nothing.
+    A sequence that is unfinished at its end adds nothing.
     """
     parser = Parser(limit)
     chunks = [stream] if isinstance(stream, bytes | bytearray | memoryview | mmap) else stream

@@ -14,7 +14,7 @@ MOST_ROWS = 4096
 
 
 class Group(IntFlag):
-    """Groups of what a stream does. TEXT passes the first two, COLOR the first five, SCREEN all up
+    """Groups of actions. TEXT passes the first two, COLOR the first five, SCREEN all up
     to PALETTE, and ALL all."""
 
     CHARACTERS = 0x1
@@ -24,19 +24,19 @@ class Group(IntFlag):
     SGR = 0x4
     """Graphic renditions, but those of HIDDEN."""
     HIDDEN = 0x8
-    """Graphic renditions of which one conceals text (SGR 8)."""
+    """Graphic renditions with one that conceals text (SGR 8)."""
     LINKS = 0x10
     """Hyperlinks (OSC 8)."""
     CONTROLS = 0x20
     """Bell, backspace, line tabulation and form feed."""
     CURSOR = 0x40
-    """Cursor movement, its shape, what it saves, and tab stops."""
+    """Cursor movement, its shape, its saved state, and tab stops."""
     ERASE = 0x80
     """Erasing, inserting, deleting, copying and filling."""
     SCROLL = 0x100
     """Scrolling, index and next line, and margins."""
     MODES = 0x200
-    """Modes of what is shown."""
+    """Modes of the display."""
     CHARSETS = 0x400
     """Character sets, shifts, and the size of a line's characters."""
     PALETTE = 0x800
@@ -60,11 +60,11 @@ class Links(IntFlag):
 
 
 class Framing(IntEnum):
-    """What a stream of its own is."""
+    """The extent of a stream of its own."""
 
     LINES = 1
-    """Each line: what it leaves unfinished hides nothing of the lines after it. A rendition that
-    goes on over a line feed is written again where the next line begins."""
+    """Each line: a sequence that it leaves unfinished hides nothing of the lines after it. A
+    rendition that goes on over a line feed is written again at the start of the next line."""
     WHOLE = 2
     """The whole."""
     LINES_RESET = 3
@@ -72,12 +72,12 @@ class Framing(IntEnum):
 
 
 class Characters(IntEnum):
-    """What is written of a character that hides or reorders text."""
+    """The output for a character that hides or reorders text."""
 
     KEEP = 1
     """The character itself."""
     JOIN = 2
-    """The character itself where it belongs to the one before it, as in emoji, and else its
+    """The character itself if it belongs to the one before it, as in emoji, and else its
     number."""
     SHOW = 3
     """Its number, as <U+202E>."""
@@ -86,7 +86,7 @@ class Characters(IntEnum):
 
 
 class Returns(IntEnum):
-    """What is written of a carriage return within a line."""
+    """The output for a carriage return within a line."""
 
     KEEP = 1
     """The carriage return itself."""
@@ -116,20 +116,20 @@ class Encoding(IntEnum):
 
 
 class Show(IntEnum):
-    """How what does not pass is shown in its place, as ^[]0;title^G."""
+    """How sequences that do not pass are shown in their place, as ^[]0;title^G."""
 
     PLAIN = 1
     """As other text."""
     ESCAPED = 2
-    """As other text, whose ^ and < are shown too, as <5E> and <3C>, so that all can be read
+    """As other text, with its ^ and < shown too, as <5E> and <3C>, so that all can be read
     back."""
     REVERSED = 3
-    """In reverse video, where that passes."""
+    """In reverse video, if that passes."""
 
 
 @dataclass(frozen=True)
 class Account:
-    """What became of the bytes of a stream: how many had each fate, in UTF-8 where its encoding is
+    """The fates of the bytes of a stream: how many had each, in UTF-8 if its encoding is
     another."""
 
     passed: int
@@ -151,10 +151,10 @@ class Account:
 
 
 class Sanitizer(InChunks):
-    """The filter of a log that comes in chunks: what the program `escfilter` writes, and the
+    """The filter of a log that comes in chunks: the output of the program `escfilter`, and the
     account of every byte.
 
-    Where each line is a stream of its own, as by TEXT and COLOR, a string that nobody ends takes
+    If each line is a stream of its own, as by TEXT and COLOR, a string that nobody ends takes
     away the rest of its line, and no line after it:
 
     >>> from escape_stream import Policy, Sanitizer
@@ -165,7 +165,7 @@ class Sanitizer(InChunks):
     (b'', 12, 12)
 
     `finish` ends the log; `account` is then that of the whole. Any thread may use it, and one at a
-    time. What it keeps of the log is given back by `close`, by the end of a `with`, or when nothing
+    time. Its memory is given back by `close`, by the end of a `with`, or when nothing
     names it any more.
     """
 
@@ -191,16 +191,16 @@ class Sanitizer(InChunks):
         rows: int = 0,
         account: bool = True,
     ) -> None:
-        """Begins a log, as the options of `escfilter` say; what is None is as the program has it by
-        the policy.
+        """Begins a log, as the options of `escfilter` say; an option that is None is as the program
+        has it by the policy.
 
         The groups of `allow` pass besides what the policy does, and those of `deny` do not,
-        whatever the others say. Where `links` names schemes, links to addresses of others do not
+        whatever the others say. If `links` names schemes, links to addresses of others do not
         pass. `limit` is how many bytes are kept of an unfinished sequence or string. `rows`, up to
-        MOST_ROWS, is how many rows may be written again: of a progress bar what a terminal has at
-        the end is then written. An `account` costs time and memory.
+        MOST_ROWS, is the number of rows that may be written again: a progress bar is then written
+        as a terminal has it at the end. An `account` costs time and memory.
 
-        Raises MemoryError where a request for memory was refused, and ValueError where an option is
+        Raises MemoryError if a request for memory was refused, and ValueError if an option is
         none.
         """
         super().__init__(_library.RawSanitizer())
@@ -230,17 +230,17 @@ class Sanitizer(InChunks):
         """Ends the log. Returns the text that the end adds; the account is then that of the whole
         log.
 
-        Raises MemoryError where a request for memory was refused: it is then closed. Raises
-        ValueError where it is closed or has ended, and RuntimeError while another thread uses it.
+        Raises MemoryError if a request for memory was refused: it is then closed. Raises
+        ValueError if it is closed or has ended, and RuntimeError while another thread uses it.
         """
         return super().finish()
 
     def account(self) -> Account:
-        """Returns what became of the bytes of the lines that have ended, or of the parts of a
+        """Returns the fates of the bytes of the lines that have ended, or of the parts of a
         stream that is one; and of all, once the log has ended. The sums then add up to its length.
-        Zeros where no account is kept.
+        Zeros if no account is kept.
 
-        Raises ValueError where it is closed, and RuntimeError while another thread uses it.
+        Raises ValueError if it is closed, and RuntimeError while another thread uses it.
         """
         raw = _library.RawAccount()
         with _library.used(self._in_use, self._name):

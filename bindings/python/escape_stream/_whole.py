@@ -9,18 +9,18 @@ from typing import Any
 from escape_stream import _library
 
 DEFAULT_LIMIT = 1_048_576
-"""How many bytes are kept of a string, where no limit is given."""
+"""How many bytes are kept of a string, if no limit is given."""
 
 
 class Policy(IntEnum):
-    """What a filter lets through. Each policy admits all that the one before it does."""
+    """Which actions pass a filter. Each policy admits all that the one before it does."""
 
     TEXT = 0
     """Characters but DEL; tab, line feed and carriage return."""
     COLOR = 1
     """And graphic renditions (SGR: colours, bold, underline ..) and hyperlinks (OSC 8)."""
     SCREEN = 2
-    """And what changes the screen alone, from a list of what is known to do no more."""
+    """And a list of functions that are known to change the screen alone."""
     ALL = 3
     """All that can be written by itself, so images, titles and queries too. It protects from broken
     input alone."""
@@ -29,13 +29,13 @@ class Policy(IntEnum):
 def filter(
     stream: _library.Bytes, policy: Policy = Policy.TEXT, limit: int = DEFAULT_LIMIT
 ) -> bytes:
-    """Returns what the policy admits of a stream, and nothing else.
+    """Returns the actions of a stream that the policy admits, and nothing else.
 
     The text reads back as the actions that were admitted, whatever bytes follow it: no text of the
-    stream becomes a sequence, however broken the stream is. `limit` is how many bytes are kept of a
-    string, such as a title or an image; of one with more nothing is written.
+    stream becomes a sequence, however broken the stream is. `limit` is the number of bytes that are
+    kept of a string, such as a title or an image; nothing is written of a longer one.
 
-    Raises MemoryError where a request for memory was refused, and ValueError where there is no such
+    Raises MemoryError if a request for memory was refused, and ValueError if there is no such
     policy.
     """
     number, limit, stream = Policy(policy), _library.limit_of(limit), _library.bytes_of(stream)
@@ -49,7 +49,7 @@ def normal(stream: _library.Bytes) -> bytes:
 
     Normal form is no protection: for a stream of unknown origin there is `filter`.
 
-    Raises MemoryError where a request for memory was refused.
+    Raises MemoryError if a request for memory was refused.
     """
     stream = _library.bytes_of(stream)
     return _whole(len(stream), lambda *out: _library.normal(stream, len(stream), *out))
@@ -58,7 +58,7 @@ def normal(stream: _library.Bytes) -> bytes:
 def is_normal(stream: _library.Bytes) -> bool:
     """Says whether a stream is its own normal form.
 
-    Raises MemoryError where a request for memory was refused.
+    Raises MemoryError if a request for memory was refused.
     """
     stream, answer = _library.bytes_of(stream), c_bool()
     _library.done(_library.is_normal(stream, len(stream), byref(answer)))
@@ -66,7 +66,7 @@ def is_normal(stream: _library.Bytes) -> bool:
 
 
 def _whole(about: int, call: Callable[[Any, int, Any], int]) -> bytes:
-    """Returns all that a call writes, where it needs about this many bytes, or once more where it
+    """Returns all that a call writes, if it needs about this many bytes, or once more if it
     needs more."""
     needed = c_size_t(about)
     while True:

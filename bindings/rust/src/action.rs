@@ -1,5 +1,5 @@
 // SPDX-License-Identifier: MIT
-//! A stream as actions: what is printed, and what each control and each string asks for.
+//! A stream as actions: the printed text, and the request of each control and each string.
 //!
 //! The names are those of the crate `termwiz`. A control or an escape sequence comes as it is, with
 //! the name of its function. Values are owned; the module [`borrowed`](crate::borrowed) has those
@@ -28,7 +28,7 @@ use alloc::boxed::Box;
 use alloc::string::String;
 use alloc::vec::Vec;
 
-/// What a part of a stream asks for.
+/// The request of a part of a stream.
 #[derive(Clone, Debug, PartialEq)]
 #[cfg_attr(feature = "serde", derive(serde::Serialize, serde::Deserialize))]
 #[non_exhaustive]
@@ -56,7 +56,7 @@ pub enum Action {
 }
 
 impl Action {
-    /// Appends it, and joins what is printed one after another into one `PrintString`.
+    /// Appends it, and joins texts that are printed one after another into one `PrintString`.
     pub fn append_to(self, actions: &mut Vec<Action>) {
         let mut room = [0; 4];
         let more = match &self {

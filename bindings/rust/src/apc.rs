@@ -23,7 +23,7 @@ pub enum KittyImage {
     TransmitData {
         /// The image.
         transmit: KittyImageTransmit,
-        /// What is reported.
+        /// Which answers the terminal sends.
         verbosity: KittyImageVerbosity,
     },
     /// Keeps an image, and shows it.
@@ -32,7 +32,7 @@ pub enum KittyImage {
         transmit: KittyImageTransmit,
         /// How it is shown.
         placement: KittyImagePlacement,
-        /// What is reported.
+        /// Which answers the terminal sends.
         verbosity: KittyImageVerbosity,
     },
     /// Shows an image that is kept.
@@ -43,14 +43,14 @@ pub enum KittyImage {
         image_number: Option<u32>,
         /// How it is shown.
         placement: KittyImagePlacement,
-        /// What is reported.
+        /// Which answers the terminal sends.
         verbosity: KittyImageVerbosity,
     },
     /// Deletes placements.
     Delete {
         /// Which.
         what: KittyImageDelete,
-        /// What is reported.
+        /// Which answers the terminal sends.
         verbosity: KittyImageVerbosity,
     },
     /// Asks whether an image could be kept, and keeps it not.
@@ -64,21 +64,21 @@ pub enum KittyImage {
         transmit: KittyImageTransmit,
         /// The frame.
         frame: KittyImageFrame,
-        /// What is reported.
+        /// Which answers the terminal sends.
         verbosity: KittyImageVerbosity,
     },
     /// Puts a part of one frame over another.
     ComposeFrame {
         /// The frames.
         frame: KittyImageFrameCompose,
-        /// What is reported.
+        /// Which answers the terminal sends.
         verbosity: KittyImageVerbosity,
     },
 }
 
 impl KittyImage {
-    /// The image of this text: the bytes between `ESC _` and what ends them, as
-    /// [`Event::Apc`](crate::Event::Apc) has them; none where it is no image. A payload is as it
+    /// The image of this text: the bytes between `ESC _` and their end, as
+    /// [`Event::Apc`](crate::Event::Apc) has them; none if it is no image. A payload is as it
     /// came, in base64.
     ///
     /// ```
@@ -103,8 +103,8 @@ impl KittyImage {
         Ok(image.map(borrowed::KittyImage::into_owned))
     }
 
-    /// What the terminal reports of the command. That of a `Query` is `Verbose`: an answer is what
-    /// it asks for.
+    /// The answers of the terminal to the command. A `Query` has `Verbose`, since it asks for an
+    /// answer.
     #[must_use]
     pub fn verbosity(&self) -> KittyImageVerbosity {
         match self {
@@ -119,7 +119,7 @@ impl KittyImage {
     }
 }
 
-/// What the terminal reports of a command.
+/// The answers of the terminal to a command.
 #[derive(Clone, Copy, Debug, PartialEq, Eq, Hash)]
 #[cfg_attr(feature = "serde", derive(serde::Serialize, serde::Deserialize))]
 pub enum KittyImageVerbosity {
@@ -148,9 +148,9 @@ pub struct KittyImagePlacement {
     pub x: Option<u32>,
     /// The top edge of that part, in pixels.
     pub y: Option<u32>,
-    /// The width of that part, in pixels. Where there is none, all is shown.
+    /// The width of that part, in pixels. If there is none, all is shown.
     pub w: Option<u32>,
-    /// The height of that part, in pixels. Where there is none, all is shown.
+    /// The height of that part, in pixels. If there is none, all is shown.
     pub h: Option<u32>,
     /// How far from the left edge of the first cell it is shown, in pixels.
     pub x_offset: Option<u32>,
@@ -166,7 +166,8 @@ pub struct KittyImagePlacement {
     pub do_not_move_cursor: bool,
     /// Its order above and below others. Below 0 it is shown below the text.
     pub z_index: Option<i32>,
-    /// Whether it is shown where placeholder characters are, U+10EEEE. `termwiz` has no such field.
+    /// Whether it is shown in the place of placeholder characters, U+10EEEE. `termwiz` has no such
+    /// field.
     pub unicode_placeholder: bool,
 }
 
@@ -217,10 +218,10 @@ pub struct KittyImageFrame {
     pub x: Option<u32>,
     /// The top edge at which its pixels are put, in pixels.
     pub y: Option<u32>,
-    /// The frame whose pixels it begins with, from 1. Where there is none it begins with the
+    /// The frame whose pixels it begins with, from 1. If there is none it begins with the
     /// background.
     pub base_frame: Option<u32>,
-    /// The frame that is edited, from 1. Where there is none a new one is made.
+    /// The frame that is edited, from 1. If there is none a new one is made.
     pub frame_number: Option<u32>,
     /// How long it is shown before the next, in milliseconds.
     pub duration_ms: Option<u32>,
@@ -254,15 +255,15 @@ pub struct KittyImageFrameCompose {
     pub image_number: Option<u32>,
     /// The frame that is changed, from 1.
     pub target_frame: Option<u32>,
-    /// The frame whose pixels are taken, from 1.
+    /// The frame that the pixels are taken from, counted from 1.
     pub source_frame: Option<u32>,
     /// The left edge at which they are put, in pixels.
     pub x: Option<u32>,
     /// The top edge at which they are put, in pixels.
     pub y: Option<u32>,
-    /// The width of the part, in pixels. Where there is none, all of it.
+    /// The width of the part, in pixels. If there is none, all of it.
     pub w: Option<u32>,
-    /// The height of the part, in pixels. Where there is none, all of it.
+    /// The height of the part, in pixels. If there is none, all of it.
     pub h: Option<u32>,
     /// The left edge of the part that is taken, in pixels.
     pub src_x: Option<u32>,

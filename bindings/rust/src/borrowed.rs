@@ -1,13 +1,13 @@
 // SPDX-License-Identifier: MIT
-//! Actions that borrow: their texts, parameters and data lie in the bytes that were given, or where
-//! the parser keeps them. [`Parser::parse_borrowed`](crate::action::Parser::parse_borrowed) gives
+//! Actions that borrow: their texts, parameters and data lie in the bytes that were given, or in
+//! the parser's memory. [`Parser::parse_borrowed`](crate::action::Parser::parse_borrowed) gives
 //! them.
 //!
 //! Names, variants and fields are those of the owned values in [`action`](crate::action),
-//! [`osc`](crate::osc) and [`apc`](crate::apc), and what holds neither text nor list is the same
-//! type. Where an owned value has a `String`, a `Vec<u8>` or a `Box`, a borrowed one has `&str`,
-//! `&[u8]` or a reference, and where that has another list or a map, a [`List`]. Each is `Copy`,
-//! and `into_owned` makes of it the owned value.
+//! [`osc`](crate::osc) and [`apc`](crate::apc), and a value with neither text nor list has the same
+//! type. For a `String`, a `Vec<u8>` or a `Box` of an owned value a borrowed one has `&str`,
+//! `&[u8]` or a reference, and for another list or a map a [`List`]. Each is `Copy`, and
+//! `into_owned` makes of it the owned value.
 //!
 //! ```
 //! use escape_stream::action::Parser;

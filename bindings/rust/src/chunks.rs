@@ -1,13 +1,13 @@
 // SPDX-License-Identifier: MIT
-//! What takes a stream in chunks, and has the text of each: a filter, a sanitizer, a page and a
-//! normaliser.
+//! Objects that take a stream in chunks, and have the text of each: a filter, a sanitizer, a page
+//! and a normaliser.
 #[cfg(feature = "std")]
 use crate::Error;
 
-/// How many bytes are kept of a string, where no limit is given.
+/// The number of bytes that are kept of a string, if no limit is given.
 pub(crate) const DEFAULT_LIMIT: usize = 1_048_576;
 
-/// Calls `act` with a text in parts, where `text_from` writes it from a byte on, as much as fits.
+/// Calls `act` with a text in parts; `text_from` writes it from a byte on, as much as fits.
 pub(crate) fn in_parts(
     mut text_from: impl FnMut(usize, &mut [u8]) -> usize,
     mut act: impl FnMut(&[u8]),
@@ -30,7 +30,7 @@ pub(crate) trait InChunks {
     /// Takes the next chunk.
     fn feed(&mut self, chunk: &[u8]) -> Result<(), Error>;
 
-    /// Ends the stream, and begins the next, where there is one.
+    /// Ends the stream, and begins the next, if there is one.
     fn finish(&mut self) -> Result<(), Error>;
 
     /// Writes the text that the last call added, from a byte of it on, and says how much.

@@ -16,7 +16,7 @@ use alloc::string::String;
 use alloc::vec::Vec;
 
 /// The names of capabilities that a termcap query asks for (XTGETTCAP), at least one, by its data:
-/// the bytes between `ESC P + q` and what ends them. Any bytes are such data.
+/// the bytes between `ESC P + q` and their end. Any bytes are such data.
 ///
 /// ```
 /// assert_eq!(escape_stream::dcs::xt_get_tcap(b"544e;436f")?, ["TN", "Co"]);

@@ -2,11 +2,11 @@
 //! The calls of the proved libraries, `crates/escape_c` and `crates/stream_c`. Each block below rests
 //! on contracts there, which the names of clauses point to.
 //!
-//! The libraries state no `requires`. What a caller owes all the same is what its types say, and
-//! Rust's types say it too: a slice is initialized and in bounds for the length that goes with its
+//! The libraries state no `requires`. A caller still owes the promises of its types, and Rust's
+//! types make them too: a slice is initialized and in bounds for the length that goes with its
 //! pointer, no object has more than `isize::MAX` bytes, and a `&mut` shares nothing with any other
-//! reference. A slice's pointer is never null, also where the slice is empty. An `alloc: Global`
-//! there takes no bytes, so no parameter here stands for it. The declarations are written by hand:
+//! reference. A slice's pointer is never null, also if the slice is empty. An `alloc: Global` there
+//! takes no bytes, so no parameter here stands for it. The declarations are written by hand:
 //! nothing compares them with the library's.
 #[cfg(feature = "oneshot")]
 use crate::{Error, Policy};
@@ -92,7 +92,7 @@ pub fn is_normal(bytes: &[u8]) -> Result<bool, Error> {
     done(status, answer)
 }
 
-/// Writes what the policy admits.
+/// Writes the actions that the policy admits.
 #[cfg(feature = "oneshot")]
 pub fn filter(policy: Policy, limit: usize, bytes: &[u8], out: &mut [u8]) -> Result<usize, Error> {
     let mut needed = 0;
@@ -123,7 +123,7 @@ fn number(policy: Policy) -> u32 {
     }
 }
 
-// By clause `refused` the only other status is that of want of memory, where the policy is known.
+// By clause `refused` the only other status is that of want of memory, if the policy is known.
 #[cfg(feature = "oneshot")]
 fn done<T>(status: u32, value: T) -> Result<T, Error> {
     if status == DONE {

@@ -5,7 +5,7 @@ use crate::{Error, ffi, numbered};
 use alloc::vec::Vec;
 use core::str;
 
-/// Room for what a call writes. It is used again, and grows where more is needed.
+/// Room for what a call writes. It is used again, and grows if more is needed.
 #[derive(Default)]
 pub struct Room {
     rows: Vec<ffi::Field>,
@@ -65,7 +65,7 @@ pub fn read<'a, T>(
         .ok_or(Error::Failed)
 }
 
-/// Makes the items so many, where they are fewer.
+/// Makes the items so many, if they are fewer.
 pub fn make_room<T: Clone>(items: &mut Vec<T>, count: usize, item: T) -> Result<(), Error> {
     let more = count.saturating_sub(items.len());
     items.try_reserve_exact(more).map_err(|_| Error::Memory)?;
@@ -120,7 +120,7 @@ pub mod name {
 // What a field holds, `ESCAPE_STREAM_VALUE_..`.
 numbered! { 0; VALUE_NUMBER VALUE_TEXT VALUE_SIZE }
 
-/// Fields that are left. Each call takes the next one, where it has this name and holds what is
+/// Fields that are left. Each call takes the next one, if it has this name and holds what is
 /// asked for, and else none.
 #[derive(Clone, Copy)]
 pub struct Fields<'a> {
@@ -157,7 +157,7 @@ impl<'a> Fields<'a> {
         self.take(name, VALUE_NUMBER)?.number.try_into().ok()
     }
 
-    /// A number, where there is one.
+    /// A number, if there is one.
     pub fn optional<T: TryFrom<i64>>(&mut self, name: u32) -> Option<Option<T>> {
         if self.has(name) {
             self.number(name).map(Some)
@@ -187,7 +187,7 @@ impl<'a> Fields<'a> {
         str::from_utf8(self.bytes(name)?).ok()
     }
 
-    /// A text, where there is one.
+    /// A text, if there is one.
     pub fn optional_text(&mut self, name: u32) -> Option<Option<&'a str>> {
         if self.has(name) {
             self.text(name).map(Some)

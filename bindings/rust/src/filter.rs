@@ -3,8 +3,9 @@
 use crate::chunks::{DEFAULT_LIMIT, in_parts};
 use crate::{Error, Policy, ffi};
 
-/// A filter of a stream that comes in chunks. It keeps what is unfinished, at most its limit. It
-/// may move between threads. With the feature `std` there is [`Filter`](crate::Filter), a writer.
+/// A filter of a stream that comes in chunks. It keeps an unfinished sequence or string, at most
+/// its limit. It may move between threads. With the feature `std` there is
+/// [`Filter`](crate::Filter), a writer.
 ///
 /// ```
 /// use escape_stream::{ChunkFilter, Policy};
@@ -30,40 +31,40 @@ impl ChunkFilter {
     ///
     /// # Errors
     ///
-    /// [`Error::Memory`] where a request for memory was refused.
+    /// [`Error::Memory`] if a request for memory was refused.
     pub fn new(policy: Policy) -> Result<ChunkFilter, Error> {
         ChunkFilter::with_limit(policy, DEFAULT_LIMIT)
     }
 
-    /// The same with another limit: of a string with more bytes nothing is written.
+    /// The same with another limit: nothing is written of a string with more bytes.
     ///
     /// # Errors
     ///
-    /// [`Error::Memory`] where a request for memory was refused.
+    /// [`Error::Memory`] if a request for memory was refused.
     pub fn with_limit(policy: Policy, limit: usize) -> Result<ChunkFilter, Error> {
         let mut raw = ffi::Filter::ended();
         raw.begin(policy, limit)?;
         Ok(ChunkFilter { raw })
     }
 
-    /// Takes the next chunk of the stream. What it adds to the text is then what
-    /// [`text`](ChunkFilter::text) gives, and that of the chunk before is gone.
+    /// Takes the next chunk of the stream. [`text`](ChunkFilter::text) then gives the text that it
+    /// adds, and that of the chunk before is gone.
     ///
     /// # Errors
     ///
-    /// [`Error::Memory`] where a request for memory was refused, and from then on
+    /// [`Error::Memory`] if a request for memory was refused, and from then on
     /// [`Error::Failed`]. The texts before are the beginning of what the stream would have given.
     pub fn feed(&mut self, chunk: &[u8]) -> Result<(), Error> {
         self.raw.feed(chunk)
     }
 
-    /// Ends the stream, and begins the next. What takes back what the stream left changed at a
-    /// terminal, as renditions and a link, is then what [`text`](ChunkFilter::text) gives. What is
-    /// unfinished is dropped.
+    /// Ends the stream, and begins the next. [`text`](ChunkFilter::text) then gives the text that
+    /// takes back the changes that the stream left at a terminal, as renditions and a link. An
+    /// unfinished sequence is dropped.
     ///
     /// # Errors
     ///
-    /// [`Error::Memory`] where a request for memory was refused, and from then on
+    /// [`Error::Memory`] if a request for memory was refused, and from then on
     /// [`Error::Failed`].
     pub fn finish(&mut self) -> Result<(), Error> {
         self.raw.finish()

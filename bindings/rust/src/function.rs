@@ -2,18 +2,19 @@
 //! Control functions by name.
 use crate::Entry;
 
-/// What a control function changes, and whether a terminal answers it.
+/// The effect of a control function, and whether a terminal answers it.
 #[derive(Clone, Copy, Debug, PartialEq, Eq, Hash)]
 #[cfg_attr(feature = "serde", derive(serde::Serialize, serde::Deserialize))]
 pub enum Effect {
-    /// It changes the screen alone: what is shown, the cursor, margins, tab stops and renditions.
+    /// It changes the screen alone: its text, the cursor, margins, tab stops and renditions.
     Screen,
     /// A terminal answers it, with some of its parameters or with all.
     Answered,
     /// A terminal sends it, as an answer or because of a key, the mouse or the window.
     Report,
-    /// Anything else: what keys, mouse or terminal send, modes, character sets and shifts between
-    /// them, the bell, printers, memory, and what no terminal is known to do.
+    /// Anything else: the input of keys and mouse, the reports of the terminal, modes, character
+    /// sets and shifts between them, the bell, printers, memory, and functions that no terminal is
+    /// known to perform.
     Other,
 }
 
@@ -45,7 +46,7 @@ macro_rules! functions {
             pub const ALL: &[$functions] = &[$($functions::$f),+];
 
             // The function that has this key: the bytes of its sequence but its parameters, as
-            // digits to the base 256 after a 1, or after a 2 where another function has the same
+            // digits to the base 256 after a 1, or after a 2 if another function has the same
             // bytes.
             pub(crate) fn of_key(key: u32) -> Option<$functions> {
                 match key {
@@ -68,12 +69,12 @@ macro_rules! functions {
                 self.row().name
             }
 
-            /// What it does, in words.
+            /// Its effect, in words.
             pub fn words(self) -> &'static str {
                 self.row().words
             }
 
-            /// What it changes, and whether a terminal answers it.
+            /// The kind of its effect, and whether a terminal answers it.
             pub fn effect(self) -> $crate::Effect {
                 self.row().effect
             }
@@ -87,7 +88,7 @@ use crate::function_rows::{C0, ControlFunction, EscapeFunction};
 
 impl ControlFunction {
     /// The function of a control sequence with these entries, all that it has, and this final byte,
-    /// where it has a name.
+    /// if it has a name.
     ///
     /// ```
     /// use escape_stream::{ControlFunction, Event, Parser};
@@ -113,7 +114,7 @@ impl ControlFunction {
     }
 
     /// The function of a control sequence with this private prefix, one of `<` `=` `>` `?`, these
-    /// intermediates, so many parameters and separators between them, and this final byte, where it
+    /// intermediates, so many parameters and separators between them, and this final byte, if it
     /// has a name. Of two functions that differ in nothing else the count decides: it matters for
     /// the final bytes `T`, `s` and `u` alone.
     pub fn of(
@@ -144,14 +145,14 @@ fn of_marks(
     ControlFunction::of_key(lead * 0x100 + u32::from(last))
 }
 
-// A mark more; none where there are more than two, which no function has.
+// A mark more; none if there are more than two, which no function has.
 fn pack(packed: u32, mark: u8) -> Option<u32> {
     (packed < 0x1_0000).then_some(packed * 0x100 + u32::from(mark))
 }
 
 impl EscapeFunction {
     /// The function of an escape sequence with this intermediate, if there is one, and this final
-    /// byte, where it has a name. The intermediate of one that designates a character set decides
+    /// byte, if it has a name. The intermediate of one that designates a character set decides
     /// alone: the final byte says which set.
     pub fn of(intermediate: Option<u8>, last: u8) -> Option<EscapeFunction> {
         let key = match intermediate {
@@ -165,7 +166,7 @@ impl EscapeFunction {
     }
 
     /// The function of an escape sequence with all of these intermediates and this final byte,
-    /// where it has a name. Of two intermediates both count (ECMA-35, 14.3.2 and 15.4.2).
+    /// if it has a name. Of two intermediates both count (ECMA-35, 14.3.2 and 15.4.2).
     ///
     /// ```
     /// use escape_stream::EscapeFunction;

@@ -10,7 +10,7 @@ pub struct Layout {
     /// Whether the tags that are open are closed before each line feed, and opened again after it:
     /// so each line is HTML by itself.
     pub per_line: bool,
-    /// Whether looks are styles alone, so that the page needs no style sheet. Where they are not,
+    /// Whether looks are styles alone, so that the page needs no style sheet. If they are not,
     /// they are the classes of `eschtml --style`.
     pub inline: bool,
 }
@@ -44,7 +44,7 @@ impl ChunkPage {
     ///
     /// # Errors
     ///
-    /// [`Error::Memory`] where a request for memory was refused.
+    /// [`Error::Memory`] if a request for memory was refused.
     pub fn new(layout: Layout) -> Result<ChunkPage, Error> {
         ChunkPage::with_limit(layout, DEFAULT_LIMIT)
     }
@@ -53,30 +53,30 @@ impl ChunkPage {
     ///
     /// # Errors
     ///
-    /// [`Error::Memory`] where a request for memory was refused.
+    /// [`Error::Memory`] if a request for memory was refused.
     pub fn with_limit(layout: Layout, limit: usize) -> Result<ChunkPage, Error> {
         let mut raw = ffi::Page::ended();
         raw.begin(layout.per_line, layout.inline, limit)?;
         Ok(ChunkPage { raw })
     }
 
-    /// Takes the next chunk of the stream. What it adds to the page is then what
-    /// [`text`](ChunkPage::text) gives, and that of the chunk before is gone.
+    /// Takes the next chunk of the stream. [`text`](ChunkPage::text) then gives the text that it
+    /// adds to the page, and that of the chunk before is gone.
     ///
     /// # Errors
     ///
-    /// [`Error::Memory`] where a request for memory was refused, and from then on, and after the
+    /// [`Error::Memory`] if a request for memory was refused, and from then on, and after the
     /// end of the stream, [`Error::Failed`]. The texts before are the beginning of the page.
     pub fn feed(&mut self, chunk: &[u8]) -> Result<(), Error> {
         self.raw.feed(chunk)
     }
 
-    /// Ends the stream. What closes the tags that are open is then what [`text`](ChunkPage::text)
-    /// gives: with it the texts of all chunks, one after another, are a page. It takes no memory.
+    /// Ends the stream. [`text`](ChunkPage::text) then gives the text that closes the open tags:
+    /// with it the texts of all chunks, one after another, are a page. It takes no memory.
     ///
     /// # Errors
     ///
-    /// [`Error::Failed`] where an earlier call failed.
+    /// [`Error::Failed`] if an earlier call failed.
     pub fn finish(&mut self) -> Result<(), Error> {
         self.raw.finish()
     }

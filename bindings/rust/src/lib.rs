@@ -2,25 +2,25 @@
 //! The normal form of streams of terminal escape sequences, and a filter for streams of unknown
 //! origin.
 //!
-//! A stream is bytes as a program writes them to a terminal. Any bytes are a stream; each call
-//! takes one whole, but those of a [`Sanitizer`], which is for logs, and of its writer and reader,
-//! of a [`Filter`], a writer, of a [`FilterReader`], of a [`NormalWriter`] and a [`NormalReader`], of an [`html::ChunkPage`], which gives HTML of it, and of
-//! a [`Parser`], which take it in chunks. The module [`vte`] has that parser with the calls of the
-//! crate `vte`.
-//! [`ControlFunction`] and [`EscapeFunction`] name what sequences ask for, by tables that are made
-//! from those of the library. [`osc::OperatingSystemCommand`] is what a command says,
-//! [`apc::KittyImage`] and [`dcs::Sixel`] what an image is, and [`action::Parser`] gives a stream as
-//! actions, with such values, which can be written again; those of the module [`borrowed`] lie where
-//! the parser has them. The module [`termwiz`] has the owned ones at the paths of the crate
+//! A stream is bytes as a program writes them to a terminal. Any bytes are a stream. A call takes
+//! one whole; these take it in chunks: a [`Sanitizer`], which is for logs, with its writer and
+//! reader; a [`Filter`], a writer, and a [`FilterReader`]; a [`NormalWriter`] and a
+//! [`NormalReader`]; an [`html::ChunkPage`], which gives HTML; and a [`Parser`]. The module [`vte`]
+//! has that parser with the calls of the crate `vte`. [`ControlFunction`] and [`EscapeFunction`]
+//! name the functions of sequences, by tables that are made from those of the library.
+//! [`osc::OperatingSystemCommand`] is the value of a command, [`apc::KittyImage`] and
+//! [`dcs::Sixel`] are values of images, and [`action::Parser`] gives a stream as actions with such
+//! values, which can be written again; those of the module [`borrowed`] lie in the parser's memory.
+//! The module [`termwiz`] has the owned ones at the paths of the crate
 //! `termwiz`.
 //!
-//! The work is done by a library that is proved: what each call writes is what its contract says,
-//! for every stream. This crate is not proved. Its module `ffi` is its one place with unsafe code.
-//! Without the feature `std`, a default, it is `no_std`, over `alloc`, and has [`ChunkFilter`] and
+//! A proved library does the work: the output of each call is as its contract says, for every
+//! stream. This crate is not proved. Its module `ffi` is its one place with unsafe code. Without
+//! the feature `std`, a default, it is `no_std`, over `alloc`, and has [`ChunkFilter`] and
 //! [`Normaliser`] in the place of the readers and writers.
 //!
-//! Without the feature `oneshot`, a default, there are the parsers alone, and of the archive
-//! nothing else is linked.
+//! Without the feature `oneshot`, a default, there are the parsers alone, and nothing else of the
+//! archive is linked.
 //!
 //! ```
 //! use escape_stream::{Policy, filter, is_normal, normal};

@@ -3,9 +3,9 @@
 use crate::chunks::{DEFAULT_LIMIT, in_parts};
 use crate::{Error, ffi};
 
-/// The normal form of a stream that comes in chunks: what [`normal`](crate::normal) gives of all of
-/// them, where no string is longer than the limit. It keeps what is unfinished, at most its limit,
-/// and may move between threads. With the feature `std` there are
+/// The normal form of a stream that comes in chunks: the text of [`normal`](crate::normal) for all
+/// of them, if no string is longer than the limit. It keeps an unfinished sequence or string, at
+/// most its limit, and may move between threads. With the feature `std` there are
 /// [`NormalReader`](crate::NormalReader) and [`NormalWriter`](crate::NormalWriter).
 ///
 /// ```
@@ -30,39 +30,39 @@ impl Normaliser {
     ///
     /// # Errors
     ///
-    /// [`Error::Memory`] where a request for memory was refused.
+    /// [`Error::Memory`] if a request for memory was refused.
     pub fn new() -> Result<Normaliser, Error> {
         Normaliser::with_limit(DEFAULT_LIMIT)
     }
 
-    /// The same with another limit: of a string with more bytes nothing is written.
+    /// The same with another limit: nothing is written of a string with more bytes.
     ///
     /// # Errors
     ///
-    /// [`Error::Memory`] where a request for memory was refused.
+    /// [`Error::Memory`] if a request for memory was refused.
     pub fn with_limit(limit: usize) -> Result<Normaliser, Error> {
         let mut raw = ffi::Normaliser::ended();
         raw.begin(limit)?;
         Ok(Normaliser { raw })
     }
 
-    /// Takes the next chunk of the stream. What it adds to the normal form is then what
-    /// [`text`](Normaliser::text) gives, and that of the chunk before is gone.
+    /// Takes the next chunk of the stream. [`text`](Normaliser::text) then gives the text that it
+    /// adds to the normal form, and that of the chunk before is gone.
     ///
     /// # Errors
     ///
-    /// [`Error::Memory`] where a request for memory was refused, and from then on
+    /// [`Error::Memory`] if a request for memory was refused, and from then on
     /// [`Error::Failed`]. The texts before are the beginning of what the stream would have given.
     pub fn feed(&mut self, chunk: &[u8]) -> Result<(), Error> {
         self.raw.feed(chunk)
     }
 
-    /// Ends the stream, and begins the next. The end adds no text, and what is unfinished is
+    /// Ends the stream, and begins the next. The end adds no text, and an unfinished sequence is
     /// dropped. It takes no memory.
     ///
     /// # Errors
     ///
-    /// [`Error::Failed`] where an earlier call failed.
+    /// [`Error::Failed`] if an earlier call failed.
     pub fn finish(&mut self) -> Result<(), Error> {
         self.raw.finish()
     }

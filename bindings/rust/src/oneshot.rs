@@ -12,9 +12,9 @@ pub enum Policy {
     Text,
     /// And graphic renditions (SGR: colours, bold, underline ..) and hyperlinks (OSC 8).
     Color,
-    /// And what changes the screen alone, from a list of what is known to do no more: cursor
-    /// movement, erasing, scrolling, modes of what is shown, and others. Nothing that a terminal
-    /// answers, no title, no clipboard, and nothing unknown.
+    /// And a list of functions that are known to change the screen alone: cursor movement, erasing,
+    /// scrolling, modes of the display, and others. Nothing that a terminal answers, no title, no
+    /// clipboard, and nothing unknown.
     Screen,
     /// All that can be written by itself, so images, titles and queries too. It keeps broken input
     /// from becoming a sequence, and does not protect from sequences that are there.
@@ -23,15 +23,14 @@ pub enum Policy {
 
 /// The normal form of a stream: each of its actions, in order, in its one spelling.
 ///
-/// Of a sequence that is unfinished at the end of the stream only what it has done so far is
-/// written. Where the normal form is longer than the stream, it is made twice: [`normal_into`]
-/// leaves the room to the caller.
+/// If the stream ends inside a sequence, only its effect so far is written. If the normal form is
+/// longer than the stream, it is made twice: [`normal_into`] leaves the room to the caller.
 ///
 /// Normal form is no protection: for a stream of unknown origin there is [`filter`].
 ///
 /// # Errors
 ///
-/// [`Error::Memory`] where a request for memory was refused.
+/// [`Error::Memory`] if a request for memory was refused.
 pub fn normal(bytes: &[u8]) -> Result<Vec<u8>, Error> {
     whole(bytes.len(), |out| normal_into(bytes, out))
 }
@@ -41,7 +40,7 @@ pub fn normal(bytes: &[u8]) -> Result<Vec<u8>, Error> {
 ///
 /// # Errors
 ///
-/// [`Error::Memory`] where a request for memory was refused. Then `out` is as it was.
+/// [`Error::Memory`] if a request for memory was refused. Then `out` is as it was.
 pub fn normal_into(bytes: &[u8], out: &mut [u8]) -> Result<usize, Error> {
     ffi::normal(bytes, out)
 }
@@ -50,33 +49,33 @@ pub fn normal_into(bytes: &[u8], out: &mut [u8]) -> Result<usize, Error> {
 ///
 /// # Errors
 ///
-/// [`Error::Memory`] where a request for memory was refused.
+/// [`Error::Memory`] if a request for memory was refused.
 pub fn is_normal(bytes: &[u8]) -> Result<bool, Error> {
     ffi::is_normal(bytes)
 }
 
-/// What the policy admits of a stream, and nothing else. The text reads back as the actions that
-/// were admitted, whatever bytes follow it: no text of the stream becomes a sequence, however
-/// broken the stream is.
+/// The actions of a stream that the policy admits, and nothing else. The text reads back as the
+/// actions that were admitted, whatever bytes follow it: no text of the stream becomes a sequence,
+/// however broken the stream is.
 ///
-/// `limit` is how many bytes are kept of a string, such as a title or an image; of one with more
-/// nothing is written.
+/// `limit` is the number of bytes that are kept of a string, such as a title or an image; nothing
+/// is written of a longer one.
 ///
 /// # Errors
 ///
-/// [`Error::Memory`] where a request for memory was refused.
+/// [`Error::Memory`] if a request for memory was refused.
 pub fn filter(policy: Policy, limit: usize, bytes: &[u8]) -> Result<Vec<u8>, Error> {
     whole(bytes.len(), |out| filter_into(policy, limit, bytes, out))
 }
 
-/// Writes what the policy admits of a stream to `out`, or as much of its beginning as fits, and
-/// returns the length of all of it in bytes. Every other byte of `out` stays as it was. What does
-/// not fit is cut anywhere, also inside a sequence: send `out` to a terminal only where all of it
-/// fits.
+/// Writes the actions of a stream that the policy admits to `out`, or as much of its beginning as
+/// fits, and returns the length of all of it in bytes. Every other byte of `out` stays as it was.
+/// A text that does not fit is cut anywhere, also inside a sequence: send `out` to a terminal only
+/// if all of it fits.
 ///
 /// # Errors
 ///
-/// [`Error::Memory`] where a request for memory was refused. Then `out` is as it was.
+/// [`Error::Memory`] if a request for memory was refused. Then `out` is as it was.
 pub fn filter_into(
     policy: Policy,
     limit: usize,
@@ -86,7 +85,7 @@ pub fn filter_into(
     ffi::filter(policy, limit, bytes, out)
 }
 
-// All that a call writes, where it needs about this many bytes, or once more where it needs more.
+// All that a call writes, if it needs about this many bytes, or once more if it needs more.
 fn whole(about: usize, call: impl Fn(&mut [u8]) -> Result<usize, Error>) -> Result<Vec<u8>, Error> {
     let mut text = Vec::new();
     grow(&mut text, about)?;

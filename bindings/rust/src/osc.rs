@@ -38,7 +38,7 @@ pub enum OperatingSystemCommand {
     SetIconName(String),
     /// Code `L`: sets the name of the icon, as Sun's terminals do it.
     SetIconNameSun(String),
-    /// Code 8: what is printed next belongs to this link, or to none.
+    /// Code 8: the text after it belongs to this link, or to none.
     SetHyperlink(Option<Hyperlink>),
     /// Code 52 with a selection alone: clears it.
     ClearSelection(Selection),
@@ -50,7 +50,7 @@ pub enum OperatingSystemCommand {
     SystemNotification(String),
     /// Code 1337: a command of iTerm2.
     ITermProprietary(ITermProprietary),
-    /// Code 133: where a shell's prompts, commands and their output begin and end.
+    /// Code 133: the beginning or end of a shell's prompt, of a command or of its output.
     FinalTermSemanticPrompt(FinalTermSemanticPrompt),
     /// Code 4: changes colours of the palette, or asks for them.
     ChangeColorNumber(Vec<ChangeColorPair>),
@@ -61,7 +61,7 @@ pub enum OperatingSystemCommand {
     ResetDynamicColor(DynamicColorNumber),
     /// Code 7: the directory that the shell works in.
     CurrentWorkingDirectory(String),
-    /// Code 104: resets these colours of the palette; all of them where none is named.
+    /// Code 104: resets these colours of the palette; all of them if none is named.
     ResetColors(Vec<u8>),
     /// Code 777: an extension of rxvt, as its parts.
     RxvtExtension(Vec<String>),
@@ -74,7 +74,7 @@ pub enum OperatingSystemCommand {
 displayed!(OperatingSystemCommand);
 
 impl OperatingSystemCommand {
-    /// The command of this text: the bytes between `ESC ]` and what ends them, as
+    /// The command of this text: the bytes between `ESC ]` and their end, as
     /// [`Event::Osc`](crate::Event::Osc) has them. Any bytes are the text of a command.
     ///
     /// ```
@@ -101,7 +101,7 @@ impl OperatingSystemCommand {
     ///
     /// # Errors
     ///
-    /// [`Error::Memory`] where the library was refused memory; the texts of the value itself take it
+    /// [`Error::Memory`] if the library was refused memory; the texts of the value itself take it
     /// as a `String` does. [`Error::Failed`] is excluded by the clauses of the library's call: it
     /// says that a command had other fields than its kind has.
     pub fn parse(text: &[u8]) -> Result<OperatingSystemCommand, Error> {
@@ -110,7 +110,7 @@ impl OperatingSystemCommand {
         Ok(command.into_owned())
     }
 
-    /// The bytes of this command: `ESC ]`, its text and `ESC \`. What is between these reads back
+    /// The bytes of this command: `ESC ]`, its text and `ESC \`. The text between these reads back
     /// as this command, and holds no control but DEL.
     ///
     /// ```
@@ -125,8 +125,8 @@ impl OperatingSystemCommand {
     ///
     /// # Errors
     ///
-    /// [`Error::NotWritable`] where no bytes would read back as this command: a text has a control,
-    /// or a `;` that would divide it, or the command has no reading. [`Error::Memory`] where the
+    /// [`Error::NotWritable`] if no bytes would read back as this command: a text has a control,
+    /// or a `;` that would divide it, or the command has no reading. [`Error::Memory`] if the
     /// library was refused memory; the fields take it as a `Vec` does.
     pub fn to_bytes(&self) -> Result<Vec<u8>, Error> {
         let mut said = Said::default();

@@ -1,5 +1,5 @@
 // SPDX-License-Identifier: MIT
-//! What the entries of a control sequence say, and the parts of strings.
+//! The parameters of a control sequence, by its entries, and the parts of strings.
 use crate::Entry;
 
 /// The private prefix, the parameters and the intermediates of a control sequence, by its entries.
@@ -40,8 +40,8 @@ impl<'a> Parameters<'a> {
         self.marks().filter(|byte| matches!(byte, b' '..=b'/'))
     }
 
-    /// The parameters, which `;` separates: of each the numbers that `:` separates, `None` where
-    /// one is left out. A sequence with nothing where its parameters are has none.
+    /// The parameters, which `;` separates: of each the numbers that `:` separates, `None` if
+    /// one is left out. A sequence with nothing in the place of its parameters has none.
     pub fn iter(self) -> impl Iterator<Item = impl Iterator<Item = Option<i64>> + 'a> + 'a {
         let has_some = self
             .entries
@@ -56,7 +56,7 @@ impl<'a> Parameters<'a> {
             })
     }
 
-    /// The parameter of this index, counted from 0, or the default where it is left out; of one
+    /// The parameter of this index, counted from 0, or the default if it is left out; of one
     /// with colons its first number.
     pub fn number(self, index: usize, default: i64) -> i64 {
         let parameter = self.iter().nth(index);
@@ -108,7 +108,7 @@ pub fn osc_parts(text: &[u8]) -> impl Iterator<Item = &[u8]> + '_ {
     text.split(|byte| *byte == b';')
 }
 
-/// The number of an operating system command with this text: its first part, where that is digits
+/// The number of an operating system command with this text: its first part, if that is digits
 /// and the number is an `u32`.
 ///
 /// ```

@@ -36,7 +36,7 @@ pub struct Parser {
     byte: u8,
 }
 
-/// What a stream says, in order. A run may come in several, or its characters and bytes one by one.
+/// A part of a stream. A run may come in several, or its characters and bytes one by one.
 #[derive(Clone, Copy, Debug, PartialEq)]
 #[non_exhaustive]
 pub enum Event<'a> {
@@ -64,8 +64,8 @@ pub enum Event<'a> {
         /// The final byte.
         byte: u8,
     },
-    /// The text of an operating system command. `osc::OperatingSystemCommand::parse` says what it
-    /// asks for, with the feature `oneshot`.
+    /// The text of an operating system command. `osc::OperatingSystemCommand::parse` reads it, with
+    /// the feature `oneshot`.
     Osc(&'a [u8]),
     /// A device control string begins.
     Dcs {
@@ -84,7 +84,7 @@ pub enum Event<'a> {
     DcsEnd,
     /// The text of an application program command.
     Apc(&'a [u8]),
-    /// A string, or the header of a device control string, ended of which there was more than the
+    /// A string, or the header of a device control string, ended that was longer than the
     /// limit: its event is not handed out, nor are the data of the device control string.
     LimitPassed,
 }
@@ -197,17 +197,17 @@ impl Parser {
     ///
     /// # Panics
     ///
-    /// Where there cannot be as much memory, as with [`Vec::with_capacity`].
+    /// If there cannot be as much memory, as with [`Vec::with_capacity`].
     /// [`try_with_limit`](Parser::try_with_limit) returns an error.
     pub fn with_limit(limit: usize) -> Parser {
         Parser::over(vec![0; limit.saturating_mul(2)])
     }
 
-    /// The same, where there is as much memory.
+    /// The same, if there is as much memory.
     ///
     /// # Errors
     ///
-    /// [`Error::Memory`] where a request for memory was refused.
+    /// [`Error::Memory`] if a request for memory was refused.
     ///
     /// ```
     /// use escape_stream::{Error, Parser};

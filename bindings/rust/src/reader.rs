@@ -8,13 +8,14 @@ use std::vec::Vec;
 
 const CHUNK: usize = 8192;
 
-/// Reads from another reader what a policy admits of its stream, and nothing else, as it comes.
+/// Reads from another reader the actions of its stream that a policy admits, and nothing else, as
+/// it comes.
 ///
-/// What is read is what [`filter`](crate::filter) gives of all that the inner reader gave, and at
-/// its end what takes back what the stream left changed at a terminal, as renditions and a link. A
-/// sequence that is unfinished waits for its end, and is dropped at the end of the stream. An error
-/// of the inner reader is handed on, and reading goes on after it, as where it gives bytes at the
-/// next call.
+/// It gives the text of [`filter`](crate::filter) for all bytes of the inner reader, and at the end
+/// the text that takes back the changes that the stream left at a terminal, as renditions and a
+/// link. A sequence that is unfinished waits for its end, and is dropped at the end of the stream.
+/// An error of the inner reader is handed on, and reading goes on after it, as when it gives bytes
+/// at the next call.
 ///
 /// ```
 /// use escape_stream::{FilterReader, Policy};
@@ -36,16 +37,16 @@ impl<R: Read> FilterReader<R> {
     ///
     /// # Errors
     ///
-    /// [`Error::Memory`] where a request for memory was refused.
+    /// [`Error::Memory`] if a request for memory was refused.
     pub fn new(inner: R, policy: Policy) -> Result<FilterReader<R>, Error> {
         Ok(FilterReader::over(inner, ChunkFilter::new(policy)?))
     }
 
-    /// The same with another limit: of a string with more bytes nothing is read.
+    /// The same with another limit: nothing is read of a string with more bytes.
     ///
     /// # Errors
     ///
-    /// [`Error::Memory`] where a request for memory was refused.
+    /// [`Error::Memory`] if a request for memory was refused.
     pub fn with_limit(inner: R, policy: Policy, limit: usize) -> Result<FilterReader<R>, Error> {
         Ok(FilterReader::over(
             inner,
@@ -64,19 +65,19 @@ impl<R: Read> FilterReader<R> {
         &self.reader.inner
     }
 
-    /// The inner reader. What is read from it here is not filtered.
+    /// The inner reader. Bytes that are read from it here are not filtered.
     pub fn get_mut(&mut self) -> &mut R {
         &mut self.reader.inner
     }
 
-    /// The inner reader, without what is unfinished, or was not read yet.
+    /// The inner reader, without an unfinished sequence and the bytes that were not read yet.
     pub fn into_inner(self) -> R {
         self.reader.inner
     }
 }
 
 impl<R: Read> Read for FilterReader<R> {
-    /// Reads from the inner reader until it has something to give, or the stream has ended. Where
+    /// Reads from the inner reader until it has something to give, or the stream has ended. If
     /// memory is refused, now or before, the error is of kind `OutOfMemory`.
     fn read(&mut self, out: &mut [u8]) -> io::Result<usize> {
         self.reader.read(out)
@@ -85,10 +86,10 @@ impl<R: Read> Read for FilterReader<R> {
 
 /// Reads from another reader the normal form of its stream, as it comes.
 ///
-/// What is read is what [`normal`](crate::normal) gives of all that the inner reader gave, where no
-/// string is longer than the limit. A sequence that is unfinished waits for its end, and is dropped
-/// at the end of the stream. An error of the inner reader is handed on, and reading goes on after
-/// it, as where it gives bytes at the next call.
+/// It gives the text of [`normal`](crate::normal) for all bytes of the inner reader, if no string
+/// is longer than the limit. A sequence that is unfinished waits for its end, and is dropped at the
+/// end of the stream. An error of the inner reader is handed on, and reading goes on after it, as
+/// when it gives bytes at the next call.
 ///
 /// ```
 /// use escape_stream::NormalReader;
@@ -110,16 +111,16 @@ impl<R: Read> NormalReader<R> {
     ///
     /// # Errors
     ///
-    /// [`Error::Memory`] where a request for memory was refused.
+    /// [`Error::Memory`] if a request for memory was refused.
     pub fn new(inner: R) -> Result<NormalReader<R>, Error> {
         Ok(NormalReader::over(inner, Normaliser::new()?))
     }
 
-    /// The same with another limit: of a string with more bytes nothing is read.
+    /// The same with another limit: nothing is read of a string with more bytes.
     ///
     /// # Errors
     ///
-    /// [`Error::Memory`] where a request for memory was refused.
+    /// [`Error::Memory`] if a request for memory was refused.
     pub fn with_limit(inner: R, limit: usize) -> Result<NormalReader<R>, Error> {
         Ok(NormalReader::over(inner, Normaliser::with_limit(limit)?))
     }
@@ -135,19 +136,19 @@ impl<R: Read> NormalReader<R> {
         &self.reader.inner
     }
 
-    /// The inner reader. What is read from it here is not normalised.
+    /// The inner reader. Bytes that are read from it here are not normalised.
     pub fn get_mut(&mut self) -> &mut R {
         &mut self.reader.inner
     }
 
-    /// The inner reader, without what is unfinished, or was not read yet.
+    /// The inner reader, without an unfinished sequence and the bytes that were not read yet.
     pub fn into_inner(self) -> R {
         self.reader.inner
     }
 }
 
 impl<R: Read> Read for NormalReader<R> {
-    /// Reads from the inner reader until it has something to give, or the stream has ended. Where
+    /// Reads from the inner reader until it has something to give, or the stream has ended. If
     /// memory is refused, now or before, the error is of kind `OutOfMemory`.
     fn read(&mut self, out: &mut [u8]) -> io::Result<usize> {
         self.reader.read(out)

@@ -3,7 +3,7 @@
 use crate::chunks::in_parts;
 use crate::{Error, SanitizerOptions, ffi};
 
-/// What became of the bytes of a stream: how many had each fate, in UTF-8 where the encoding of the
+/// The fates of the bytes of a stream: how many had each, in UTF-8 if the encoding of the
 /// stream is another.
 #[repr(C)]
 #[derive(Clone, Copy, Debug, Default, PartialEq, Eq, Hash)]
@@ -26,9 +26,9 @@ pub struct Account {
     pub length: u64,
 }
 
-/// The filter of a log, or of another stream of unknown origin, that comes in chunks: what the
-/// program `escfilter` writes, by its options, and the account of every byte. Where each line is a
-/// stream of its own, as by [`Policy::Text`](crate::Policy::Text) and
+/// The filter of a log, or of another stream of unknown origin, that comes in chunks: the output of
+/// the program `escfilter`, by its options, and the account of every byte. If each line is a stream
+/// of its own, as by [`Policy::Text`](crate::Policy::Text) and
 /// [`Policy::Color`](crate::Policy::Color), a string that nobody ends takes away the rest of its
 /// line, and no line after it.
 ///
@@ -63,7 +63,7 @@ impl Sanitizer {
     ///
     /// # Errors
     ///
-    /// [`Error::Memory`] where a request for memory was refused, and [`Error::TooManyRows`] where
+    /// [`Error::Memory`] if a request for memory was refused, and [`Error::TooManyRows`] if
     /// the options let more than 4,096 rows be written again.
     pub fn new(options: SanitizerOptions) -> Result<Sanitizer, Error> {
         let mut raw = ffi::Sanitizer::ended();
@@ -71,20 +71,20 @@ impl Sanitizer {
         Ok(Sanitizer { raw })
     }
 
-    /// Takes the next chunk of the stream. What it adds to the text is then what
-    /// [`text`](Sanitizer::text) gives, and that of the chunk before is gone.
+    /// Takes the next chunk of the stream. [`text`](Sanitizer::text) then gives the text that it
+    /// adds, and that of the chunk before is gone.
     ///
     /// # Errors
     ///
-    /// [`Error::Memory`] where a request for memory was refused, and from then on, and after the
+    /// [`Error::Memory`] if a request for memory was refused, and from then on, and after the
     /// end of the stream, [`Error::Failed`]. The texts before are the beginning of what the stream
     /// would have given.
     pub fn feed(&mut self, chunk: &[u8]) -> Result<(), Error> {
         self.raw.feed(chunk)
     }
 
-    /// Ends the stream. What that adds to the text is then what [`text`](Sanitizer::text) gives,
-    /// and the account is that of the whole stream.
+    /// Ends the stream. [`text`](Sanitizer::text) then gives the text that this adds, and the
+    /// account is that of the whole stream.
     ///
     /// # Errors
     ///
@@ -104,13 +104,13 @@ impl Sanitizer {
         self.raw.text(from, out)
     }
 
-    /// What became of the bytes of the stream: of those of the lines, or of the parts of a stream
+    /// The fates of the bytes of the stream: of those of the lines, or of the parts of a stream
     /// that is one, that have ended; and of all, once the stream has ended. The sums then add up to
-    /// its length, where that is less than 2^62. Zeros where the options ask for no account.
+    /// its length, if that is less than 2^62. Zeros if the options ask for no account.
     ///
     /// # Errors
     ///
-    /// [`Error::Failed`] where an earlier call failed.
+    /// [`Error::Failed`] if an earlier call failed.
     pub fn account(&mut self) -> Result<Account, Error> {
         self.raw.account()
     }

@@ -5,7 +5,7 @@ use crate::writer::ChunkWriter;
 use crate::{Account, Error, Sanitizer, SanitizerOptions};
 use std::io::{self, ErrorKind, Read, Write};
 
-/// Writes to another writer what a [`Sanitizer`] makes of the log that is written to it, as it
+/// Writes to another writer the output of a [`Sanitizer`] for the log that is written to it, as it
 /// comes.
 ///
 /// When it writes, and which errors it reports, is as of a [`Filter`](crate::Filter). The end of
@@ -48,22 +48,22 @@ impl<W: Write> SanitizerWriter<W> {
         &self.writer.inner
     }
 
-    /// The inner writer. What is written to it here is not filtered.
+    /// The inner writer. Bytes that are written to it here are not filtered.
     pub fn get_mut(&mut self) -> &mut W {
         &mut self.writer.inner
     }
 
-    /// The inner writer, without what is unfinished, or was not taken by it.
+    /// The inner writer, without an unfinished sequence and the bytes that it did not take.
     pub fn into_inner(self) -> W {
         self.writer.inner
     }
 
-    /// Ends the log: writes what that adds, and flushes the inner writer. Nothing can be written
-    /// after it. Where the inner writer fails, another call goes on.
+    /// Ends the log: writes the text that this adds, and flushes the inner writer. Nothing can be
+    /// written after it. If the inner writer fails, another call goes on.
     ///
     /// # Errors
     ///
-    /// What the inner writer reports, and `OutOfMemory` where memory is refused, now or before.
+    /// The error of the inner writer, and `OutOfMemory` if memory is refused, now or before.
     pub fn finish(&mut self) -> io::Result<()> {
         self.writer.flush()?;
         if !self.has_ended {
@@ -73,7 +73,7 @@ impl<W: Write> SanitizerWriter<W> {
         self.writer.flush()
     }
 
-    /// What became of the bytes of the log, as [`Sanitizer::account`] says.
+    /// The fates of the bytes of the log, as [`Sanitizer::account`] says.
     ///
     /// # Errors
     ///
@@ -84,7 +84,7 @@ impl<W: Write> SanitizerWriter<W> {
 }
 
 impl<W: Write> Write for SanitizerWriter<W> {
-    /// Takes all of `bytes`, once what was left before is written. Where memory is refused, now or
+    /// Takes all of `bytes`, once what was left before is written. If memory is refused, now or
     /// before, the error is of kind `OutOfMemory`, and after the end of the log of kind
     /// `InvalidInput`.
     fn write(&mut self, bytes: &[u8]) -> io::Result<usize> {
@@ -99,9 +99,9 @@ impl<W: Write> Write for SanitizerWriter<W> {
     }
 }
 
-/// Reads from another reader what a [`Sanitizer`] makes of its log, as it comes.
+/// Reads from another reader the output of a [`Sanitizer`] for its log, as it comes.
 ///
-/// An error of the inner reader is handed on, and reading goes on after it, as where it gives bytes
+/// An error of the inner reader is handed on, and reading goes on after it, as when it gives bytes
 /// at the next call.
 ///
 /// ```
@@ -138,17 +138,17 @@ impl<R: Read> SanitizerReader<R> {
         &self.reader.inner
     }
 
-    /// The inner reader. What is read from it here is not filtered.
+    /// The inner reader. Bytes that are read from it here are not filtered.
     pub fn get_mut(&mut self) -> &mut R {
         &mut self.reader.inner
     }
 
-    /// The inner reader, without what is unfinished, or was not read yet.
+    /// The inner reader, without an unfinished sequence and the bytes that were not read yet.
     pub fn into_inner(self) -> R {
         self.reader.inner
     }
 
-    /// What became of the bytes of the log, as [`Sanitizer::account`] says.
+    /// The fates of the bytes of the log, as [`Sanitizer::account`] says.
     ///
     /// # Errors
     ///
@@ -159,7 +159,7 @@ impl<R: Read> SanitizerReader<R> {
 }
 
 impl<R: Read> Read for SanitizerReader<R> {
-    /// Reads from the inner reader until it has something to give, or the log has ended. Where
+    /// Reads from the inner reader until it has something to give, or the log has ended. If
     /// memory is refused, now or before, the error is of kind `OutOfMemory`.
     fn read(&mut self, out: &mut [u8]) -> io::Result<usize> {
         self.reader.read(out)

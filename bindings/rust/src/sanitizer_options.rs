@@ -3,8 +3,8 @@
 use crate::chunks::DEFAULT_LIMIT;
 use crate::{Policy, ffi};
 
-/// How a [`Sanitizer`](crate::Sanitizer) filters a stream: what the options of the program
-/// `escfilter` say of that. Where one is not set, it is as the program has it.
+/// How a [`Sanitizer`](crate::Sanitizer) filters a stream, by the options of the program
+/// `escfilter`. If one is not set, it is as the program has it.
 ///
 /// ```
 /// use escape_stream::{Group, Policy, SanitizerOptions, Scheme};
@@ -29,7 +29,7 @@ impl SanitizerOptions {
         SanitizerOptions { raw }
     }
 
-    /// How many bytes are kept of an unfinished sequence or string, 1,048,576 where it is not set:
+    /// How many bytes are kept of an unfinished sequence or string, 1,048,576 if it is not set:
     /// a longer one is left out.
     pub fn limit(mut self, bytes: usize) -> SanitizerOptions {
         self.raw.limit = bytes as u64;
@@ -49,20 +49,20 @@ impl SanitizerOptions {
     }
 
     /// Lets links to addresses of this scheme pass, and to those of others that were named so;
-    /// where none is named, links to any. The text of other links stays.
+    /// if none is named, links to any. The text of other links stays.
     pub fn links(mut self, scheme: Scheme) -> SanitizerOptions {
         self.raw.links |= 1 << scheme as u32;
         self
     }
 
-    /// Whether each line is a stream of its own; where it is not set, by [`Policy::Text`] and
+    /// Whether each line is a stream of its own; if it is not set, by [`Policy::Text`] and
     /// [`Policy::Color`].
     pub fn framing(mut self, framing: Framing) -> SanitizerOptions {
         self.raw.framing = 1 + framing as u32;
         self
     }
 
-    /// What is written of characters that hide or reorder text; where it is not set,
+    /// The output for characters that hide or reorder text; if it is not set,
     /// [`Characters::Join`] by [`Policy::Text`] and [`Policy::Color`], but [`Characters::Show`]
     /// with [`rows`](SanitizerOptions::rows), and else [`Characters::Keep`].
     pub fn characters(mut self, characters: Characters) -> SanitizerOptions {
@@ -70,7 +70,7 @@ impl SanitizerOptions {
         self
     }
 
-    /// What is written of carriage returns within a line; where it is not set, [`Returns::Show`] by
+    /// The output for carriage returns within a line; if it is not set, [`Returns::Show`] by
     /// [`Policy::Text`] and [`Policy::Color`] without [`rows`](SanitizerOptions::rows), and else
     /// [`Returns::Keep`], as always in a stream that is one.
     pub fn returns(mut self, returns: Returns) -> SanitizerOptions {
@@ -78,21 +78,21 @@ impl SanitizerOptions {
         self
     }
 
-    /// How bytes are read; where it is not set, as [`Encoding::Utf8`].
+    /// How bytes are read; if it is not set, as [`Encoding::Utf8`].
     pub fn encoding(mut self, encoding: Encoding) -> SanitizerOptions {
         self.raw.encoding = encoding as u32;
         self
     }
 
-    /// Shows what does not pass, in its place, as `^[]0;title^G`; where it is not set, that is left
-    /// out.
+    /// Shows sequences that do not pass, in their place, as `^[]0;title^G`; if it is not set, they
+    /// are left out.
     pub fn show(mut self, marking: Marking) -> SanitizerOptions {
         self.raw.show = 1 + marking as u32;
         self
     }
 
-    /// Writes of text that is written again, as of a progress bar, what a terminal has at the end,
-    /// where so many rows may be written again; at most 4,096.
+    /// Writes text that is written again, as of a progress bar, as a terminal has it at the end.
+    /// `rows` is the number of rows that may be written again, at most 4,096.
     pub fn rows(mut self, rows: u32) -> SanitizerOptions {
         self.raw.rows = rows;
         self
@@ -105,7 +105,7 @@ impl SanitizerOptions {
     }
 }
 
-/// A group of what a stream does.
+/// A group of actions.
 #[derive(Clone, Copy, Debug, PartialEq, Eq, Hash)]
 pub enum Group {
     /// Characters but DEL.
@@ -120,13 +120,13 @@ pub enum Group {
     Links,
     /// Bell, backspace, line tabulation and form feed.
     Controls,
-    /// Cursor movement, its shape, what it saves, and tab stops.
+    /// Cursor movement, its shape, its saved state, and tab stops.
     Cursor,
     /// Erasing, inserting, deleting, copying and filling.
     Erase,
     /// Scrolling, index and next line, and margins.
     Scroll,
-    /// Modes of what is shown.
+    /// Modes of the display.
     Modes,
     /// Character sets, shifts, and the size of a line's characters.
     Charsets,
@@ -153,11 +153,11 @@ pub enum Scheme {
     Mailto,
 }
 
-/// What a stream of its own is.
+/// The extent of a stream of its own.
 #[derive(Clone, Copy, Debug, PartialEq, Eq, Hash)]
 pub enum Framing {
-    /// Each line: what it leaves unfinished hides nothing of the lines after it. A rendition that
-    /// goes on over a line feed is written again where the next line begins.
+    /// Each line: a sequence that it leaves unfinished hides nothing of the lines after it. A
+    /// rendition that goes on over a line feed is written again at the start of the next line.
     Lines,
     /// The whole.
     Whole,
@@ -165,12 +165,12 @@ pub enum Framing {
     LinesReset,
 }
 
-/// What is written of a character that hides or reorders text.
+/// The output for a character that hides or reorders text.
 #[derive(Clone, Copy, Debug, PartialEq, Eq, Hash)]
 pub enum Characters {
     /// The character itself.
     Keep,
-    /// The character itself where it belongs to the one before it, as in emoji, and else its
+    /// The character itself if it belongs to the one before it, as in emoji, and else its
     /// number.
     Join,
     /// Its number, as `<U+202E>`.
@@ -179,7 +179,7 @@ pub enum Characters {
     Drop,
 }
 
-/// What is written of a carriage return within a line.
+/// The output for a carriage return within a line.
 #[derive(Clone, Copy, Debug, PartialEq, Eq, Hash)]
 pub enum Returns {
     /// The carriage return itself.
@@ -190,7 +190,7 @@ pub enum Returns {
     Drop,
 }
 
-/// How what does not pass is shown.
+/// How sequences that do not pass are shown.
 #[derive(Clone, Copy, Debug, PartialEq, Eq, Hash)]
 pub enum Marking {
     /// As other text.
@@ -198,7 +198,7 @@ pub enum Marking {
     /// As other text, whose `^` and `<` are shown too, as `<5E>` and `<3C>`, so that all can be
     /// read back.
     Escaped,
-    /// In reverse video, where that passes.
+    /// In reverse video, if that passes.
     Reversed,
 }
 

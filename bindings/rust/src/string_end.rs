@@ -2,7 +2,7 @@
 //! How a string ends.
 use crate::Event;
 
-/// What ended a string, so that an answer can end in the same way and a command that was cancelled
+/// The end of a string, so that an answer can end in the same way and a command that was cancelled
 /// can be dropped.
 ///
 /// ```
@@ -34,10 +34,10 @@ pub enum StringEnd {
 }
 
 impl StringEnd {
-    /// What ended the string of an event, by the bytes that were taken for it, as
+    /// The end of the string of an event, by the bytes that were taken for it, as
     /// [`Parser::advance_while`](crate::Parser::advance_while) gives them: of the text of a
     /// command, of the end of a device control string, and of a string over the limit. `None` of
-    /// any other event, and where a header over the limit ended.
+    /// any other event, and if a header over the limit ended.
     pub fn of(event: &Event<'_>, taken: &[u8]) -> Option<StringEnd> {
         match event {
             Event::Osc(_) | Event::Apc(_) | Event::DcsEnd | Event::LimitPassed => {}

@@ -1,10 +1,10 @@
 // SPDX-License-Identifier: MIT
 //! The paths of the crate `termwiz`, version 0.23, for programs that are written for it.
 //!
-//! Such a program names this module where it named the crate: `use escape_stream::termwiz;`. The
+//! Such a program names this module in place of the crate: `use escape_stream::termwiz;`. The
 //! types and calls are those of the modules [`action`](crate::action), [`osc`](crate::osc),
-//! [`apc`](crate::apc) and [`dcs`](crate::dcs). `docs/DIFFERENCES.md` of the repository lists what
-//! differs from `termwiz`.
+//! [`apc`](crate::apc) and [`dcs`](crate::dcs). `docs/DIFFERENCES.md` of the repository lists the
+//! differences from `termwiz`.
 //!
 //! ```
 //! use escape_stream::termwiz::escape::{Action, OperatingSystemCommand, parser::Parser};

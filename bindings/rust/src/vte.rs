@@ -2,9 +2,9 @@
 //! The calls of the crate `vte`, version 0.15, over the proved [parser](crate::Parser), for
 //! programs that are written for it.
 //!
-//! Such a program names this module where it named the crate: `use escape_stream::vte;`. The names
-//! below, their signatures and what each call means are those of `vte`. `docs/EMBEDDING.md` of the
-//! repository lists the streams that this module reads otherwise.
+//! Such a program names this module in place of the crate: `use escape_stream::vte;`. The names
+//! below, their signatures and the meaning of each call are those of `vte`. `docs/EMBEDDING.md` of
+//! the repository lists the streams that this module reads otherwise.
 //!
 //! ```
 //! use escape_stream::vte::{Params, Parser, Perform};
@@ -46,7 +46,7 @@ const MOST_OSC_RAW: usize = 1024;
 const DEFAULT_LIMIT: usize = 1 << 20;
 const BELL: u8 = 0x07;
 
-/// What a program does with what a stream says. By default a call does nothing.
+/// The calls for the parts of a stream. By default a call does nothing.
 pub trait Perform {
     /// A character. A long run of them is a call for each.
     fn print(&mut self, _c: char) {}
@@ -155,7 +155,7 @@ impl<const OSC_RAW_BUF_SIZE: usize> Parser<OSC_RAW_BUF_SIZE> {
         }
     }
 
-    /// Takes the next bytes of the stream, and makes the calls for what they say.
+    /// Takes the next bytes of the stream, and makes the calls for them.
     ///
     /// After a [failure](Parser::has_failed) it makes none.
     #[inline]
@@ -163,9 +163,8 @@ impl<const OSC_RAW_BUF_SIZE: usize> Parser<OSC_RAW_BUF_SIZE> {
         self.take(performer, bytes, |_| false);
     }
 
-    /// Takes the next bytes of the stream up to where [`Perform::terminated`] is true, makes the
-    /// calls for what they say, and returns how many bytes it took. The bytes after them are for
-    /// the next call.
+    /// Takes the next bytes of the stream until [`Perform::terminated`] is true, makes the calls
+    /// for them, and returns how many bytes it took. The bytes after them are for the next call.
     ///
     /// After a [failure](Parser::has_failed) it makes no calls and takes all bytes, so that a loop
     /// over what is left comes to its end.

@@ -9,15 +9,15 @@ use std::vec::Vec;
 // How many bytes of a text are written at once.
 const ROOM: usize = 4096;
 
-/// Writes to another writer what a policy admits of the stream that is written to it, and nothing
-/// else, as it comes.
+/// Writes to another writer the actions that a policy admits of the stream that is written to it,
+/// and nothing else, as it comes.
 ///
-/// What is written to the inner writer is what [`filter`](crate::filter) gives of all that was
-/// taken, in whatever chunks it came, or where it reported an error the beginning of that. A
-/// sequence that is unfinished waits for its end. Each write tries to write at once all that it
-/// adds. What the inner writer did not take then, it is given at the next write or flush, which
-/// reports the error if it still does not; so a last [`flush`](Write::flush) shows whether all was
-/// written.
+/// The inner writer is given the text of [`filter`](crate::filter) for all bytes that were taken,
+/// in whatever chunks they came, or, if it reported an error, the beginning of that. A sequence
+/// that is unfinished waits for its end. Each write tries to write at once all that it adds. The
+/// inner writer is given the bytes that it did not take then at the next write or flush, which
+/// reports the error if it still does not take them; so a last [`flush`](Write::flush) shows
+/// whether all was written.
 ///
 /// ```
 /// use escape_stream::{Filter, Policy};
@@ -42,16 +42,16 @@ impl<W: Write> Filter<W> {
     ///
     /// # Errors
     ///
-    /// [`Error::Memory`] where a request for memory was refused.
+    /// [`Error::Memory`] if a request for memory was refused.
     pub fn new(inner: W, policy: Policy) -> Result<Filter<W>, Error> {
         Ok(Filter::over(inner, ChunkFilter::new(policy)?))
     }
 
-    /// The same with another limit: of a string with more bytes nothing is written.
+    /// The same with another limit: nothing is written of a string with more bytes.
     ///
     /// # Errors
     ///
-    /// [`Error::Memory`] where a request for memory was refused.
+    /// [`Error::Memory`] if a request for memory was refused.
     pub fn with_limit(inner: W, policy: Policy, limit: usize) -> Result<Filter<W>, Error> {
         Ok(Filter::over(inner, ChunkFilter::with_limit(policy, limit)?))
     }
@@ -67,29 +67,29 @@ impl<W: Write> Filter<W> {
         &self.writer.inner
     }
 
-    /// The inner writer. What is written to it here is not filtered.
+    /// The inner writer. Bytes that are written to it here are not filtered.
     pub fn get_mut(&mut self) -> &mut W {
         &mut self.writer.inner
     }
 
-    /// The inner writer, without what is unfinished, or was not taken by it.
+    /// The inner writer, without an unfinished sequence and the bytes that it did not take.
     pub fn into_inner(self) -> W {
         self.writer.inner
     }
 
-    /// Ends the stream, and begins the next: writes what takes back what the stream left changed at
-    /// a terminal, as renditions and a link, and flushes the inner writer.
+    /// Ends the stream, and begins the next: writes the text that takes back the changes that the
+    /// stream left at a terminal, as renditions and a link, and flushes the inner writer.
     ///
     /// # Errors
     ///
-    /// What the inner writer reports, and `OutOfMemory` where memory is refused, now or before.
+    /// The error of the inner writer, and `OutOfMemory` if memory is refused, now or before.
     pub fn finish(&mut self) -> io::Result<()> {
         self.writer.finish()
     }
 }
 
 impl<W: Write> Write for Filter<W> {
-    /// Takes all of `bytes`, once what was left before is written. Where memory is refused, now or
+    /// Takes all of `bytes`, once what was left before is written. If memory is refused, now or
     /// before, the error is of kind `OutOfMemory`.
     fn write(&mut self, bytes: &[u8]) -> io::Result<usize> {
         self.writer.write(bytes)
@@ -102,10 +102,10 @@ impl<W: Write> Write for Filter<W> {
 
 /// Writes to another writer the normal form of the stream that is written to it, as it comes.
 ///
-/// What is written to the inner writer is what [`normal`](crate::normal) gives of all that was
-/// taken, where no string is longer than the limit, or where it reported an error the beginning of
-/// that. A sequence that is unfinished waits for its end. When it writes, and which errors it
-/// reports, is as of a [`Filter`].
+/// The inner writer is given the text of [`normal`](crate::normal) for all bytes that were taken,
+/// if no string is longer than the limit, or, if it reported an error, the beginning of that. A
+/// sequence that is unfinished waits for its end. It writes and reports errors as a [`Filter`]
+/// does.
 ///
 /// ```
 /// use escape_stream::NormalWriter;
@@ -127,16 +127,16 @@ impl<W: Write> NormalWriter<W> {
     ///
     /// # Errors
     ///
-    /// [`Error::Memory`] where a request for memory was refused.
+    /// [`Error::Memory`] if a request for memory was refused.
     pub fn new(inner: W) -> Result<NormalWriter<W>, Error> {
         Ok(NormalWriter::over(inner, Normaliser::new()?))
     }
 
-    /// The same with another limit: of a string with more bytes nothing is written.
+    /// The same with another limit: nothing is written of a string with more bytes.
     ///
     /// # Errors
     ///
-    /// [`Error::Memory`] where a request for memory was refused.
+    /// [`Error::Memory`] if a request for memory was refused.
     pub fn with_limit(inner: W, limit: usize) -> Result<NormalWriter<W>, Error> {
         Ok(NormalWriter::over(inner, Normaliser::with_limit(limit)?))
     }
@@ -152,29 +152,29 @@ impl<W: Write> NormalWriter<W> {
         &self.writer.inner
     }
 
-    /// The inner writer. What is written to it here is not normalised.
+    /// The inner writer. Bytes that are written to it here are not normalised.
     pub fn get_mut(&mut self) -> &mut W {
         &mut self.writer.inner
     }
 
-    /// The inner writer, without what is unfinished, or was not taken by it.
+    /// The inner writer, without an unfinished sequence and the bytes that it did not take.
     pub fn into_inner(self) -> W {
         self.writer.inner
     }
 
-    /// Ends the stream, and begins the next: drops what is unfinished, and flushes the inner
+    /// Ends the stream, and begins the next: drops an unfinished sequence, and flushes the inner
     /// writer.
     ///
     /// # Errors
     ///
-    /// What the inner writer reports, and `OutOfMemory` where memory was refused before.
+    /// The error of the inner writer, and `OutOfMemory` if memory was refused before.
     pub fn finish(&mut self) -> io::Result<()> {
         self.writer.finish()
     }
 }
 
 impl<W: Write> Write for NormalWriter<W> {
-    /// Takes all of `bytes`, once what was left before is written. Where memory is refused, now or
+    /// Takes all of `bytes`, once what was left before is written. If memory is refused, now or
     /// before, the error is of kind `OutOfMemory`.
     fn write(&mut self, bytes: &[u8]) -> io::Result<usize> {
         self.writer.write(bytes)

@@ -1,5 +1,5 @@
 // SPDX-License-Identifier: MIT
-//! What is written of values: the normal form of a spelling that reads back as the value.
+//! The bytes of values: the normal form of a spelling that reads back as the value.
 use crate::action::{Action, Parser};
 use crate::{Error, normal};
 use alloc::vec::Vec;
@@ -9,7 +9,7 @@ use core::str;
 /// The terminator of strings.
 pub const TERMINATOR: &[u8] = b"\x1b\\";
 
-/// The normal form of these bytes, where the actions that they give are what was spelled.
+/// The normal form of these bytes, if the actions that they give are what was spelled.
 pub fn checked(bytes: &[u8], are_meant: impl FnOnce(&[Action]) -> bool) -> Result<Vec<u8>, Error> {
     let mut parser = Parser::with_limits(bytes.len(), bytes.len());
     let actions = parser.parse_as_vec(bytes);
@@ -56,7 +56,7 @@ impl fmt::Display for Numbers<'_> {
 macro_rules! displayed {
     ($($value:ty),+) => {
         $(
-            /// The bytes of `to_bytes`. It fails where these are an error: `to_string` panics then.
+            /// The bytes of `to_bytes`. It fails if these are an error: `to_string` panics then.
             impl core::fmt::Display for $value {
                 fn fmt(&self, f: &mut core::fmt::Formatter<'_>) -> core::fmt::Result {
                     $crate::written::show(self.to_bytes(), f)

@@ -1,14 +1,14 @@
 /* SPDX-License-Identifier: MIT */
 /*
  * escape_stream.h - streams of terminal escape sequences: their normal form, a filter, HTML, and
- * what they ask for
+ * their requests
  *
  * A stream is bytes as a program writes them to a terminal: UTF-8 text, control characters, and the
  * control functions of ECMA-48 and xterm, such as colours, cursor movements and titles. Any bytes
- * are a stream. Each of the first three calls takes one whole, and keeps nothing. A filter in
- * chunks, escape_stream_filter_begin and the calls after it, takes one as it comes, and so do a
- * sanitizer, escape_stream_sanitizer_begin and the calls after it, which is for logs: line by line,
- * with an account; a page, escape_stream_html_begin and the calls after it, and a normaliser,
+ * are a stream. Each of the first three calls takes one whole, and keeps nothing. Four objects take
+ * a stream in chunks: a filter, by escape_stream_filter_begin and the calls after it; a sanitizer,
+ * by escape_stream_sanitizer_begin and the calls after it, which is for logs, line by line, with an
+ * account; a page, by escape_stream_html_begin and the calls after it; and a normaliser, by
  * escape_stream_normal_begin and the calls after it. The calls escape_stream_read_.. take the text
  * of one command, query or image, and the calls escape_stream_write_.. write one.
  *
@@ -17,11 +17,11 @@
  * That links libescape_stream.so.0, or with -static libescape_stream.a. Both run on Linux, on every
  * x86-64 or, built for it, on every aarch64, with the C library of GNU of any version, or musl.
  *
- * What each call writes is proved, for every stream and every capacity; docs/EMBEDDING.md says what
- * the proof covers and what it takes for granted. Nothing checks the caller, who owes this at every
+ * The output of each call is proved, for every stream and every capacity; docs/EMBEDDING.md gives
+ * the extent of the proof and its assumptions. Nothing checks the caller, who owes this at every
  * call:
  *
- *   - No pointer is NULL, also where its length is 0.
+ *   - No pointer is NULL, also if its length is 0.
  *   - `bytes` or `text` is `length` initialized bytes that can be read, and nobody writes them
  *     during the call; of the calls escape_stream_write_.. so are the `text_length` bytes of
  *     `text`, the `count` fields or items, and `sixel`.
@@ -94,8 +94,8 @@ const char *escape_stream_version(void);
  *
  * TEXT     characters but DEL; tab, line feed and carriage return
  * COLOR    and graphic renditions (SGR: colours, bold, underline ..) and hyperlinks (OSC 8)
- * SCREEN   and what changes the screen alone, from a list of what is known to do no more: cursor
- *          movement, erasing, scrolling, modes of what is shown, and others. Nothing that a
+ * SCREEN   and a list of functions that are known to change the screen alone: cursor
+ *          movement, erasing, scrolling, modes of the display, and others. Nothing that a
  *          terminal answers, no title, no clipboard, and nothing unknown
  * ALL      all that can be written by itself, so images, titles and queries too. It keeps broken
  *          input from becoming a sequence, and does not protect from sequences that are there
@@ -108,25 +108,24 @@ const char *escape_stream_version(void);
 /*
  * Writes the normal form of a stream: each of its actions, in order, in its one spelling. So a
  * title that BEL ends is ended by ESC \, a C1 control is UTF-8, and UTF-8 that is broken is U+FFFD.
- * Of a sequence that is unfinished at the end of the stream only what it has done so far is
- * written; of a title, nothing.
+ * If the stream ends inside a sequence, only its effect so far is written: for a title, nothing.
  *
- * Where all that a stream means can be written, its normal form is its own normal form. Elsewhere
- * it need not be: a byte 80 to FF in the data of a device control string is written as two bytes,
- * an escape sequence with two intermediates with none, and of a control sequence the first 256
- * entries. What escape_stream_filter writes is always its own normal form.
+ * If all that a stream means can be written, its normal form is its own normal form. Else it need
+ * not be: a byte 80 to FF in the data of a device control string is written as two bytes, an escape
+ * sequence with two intermediates with none, and of a control sequence the first 256 entries. The
+ * output of escape_stream_filter is always its own normal form.
  *
  * Normal form is no protection: for a stream of unknown origin there is escape_stream_filter.
  *
  *   bytes, length    the stream, and how many bytes it has
- *   out, capacity    where its normal form goes, and for how many bytes there is room
- *   needed           where the length of the normal form goes, in bytes
+ *   out, capacity    receives its normal form; there is room for `capacity` bytes
+ *   needed           receives the length of the normal form, in bytes
  *
  * ESCAPE_STREAM_DONE: `*needed` is the length of the whole normal form, whatever the capacity. The
  * normal form, or as much of its beginning as there is room for, is at the beginning of `out`;
- * every other byte of `out` is as it was. No 0 is added at the end. All of it is there where
- * `*needed <= capacity`; where it is not, call again with room for `*needed` bytes. With a capacity
- * of 0 only the length is written.
+ * every other byte of `out` is as it was. No 0 is added at the end. All of it is there if `*needed
+ * <= capacity`; if it is not, call again with room for `*needed` bytes. With a capacity of 0 only
+ * the length is written.
  *
  * ESCAPE_STREAM_NO_MEMORY is the only other status. The call takes memory for the normal form and
  * for one string of the stream at a time, and gives it back before it returns. Its time grows
@@ -157,12 +156,13 @@ uint32_t escape_stream_normal(
  * Says whether a stream is its own normal form.
  *
  *   bytes, length    the stream, and how many bytes it has
- *   answer           where the answer goes
+ *   answer           receives the answer
  *
- * ESCAPE_STREAM_DONE: `*answer` is true where the normal form of the stream is the same bytes, and
+ * ESCAPE_STREAM_DONE: `*answer` is true if the normal form of the stream is the same bytes, and
  * else false.
  *
- * ESCAPE_STREAM_NO_MEMORY is the only other status. The call takes what escape_stream_normal takes.
+ * ESCAPE_STREAM_NO_MEMORY is the only other status. The call takes as much memory as
+ * escape_stream_normal.
  *
  * Example:
  *
@@ -173,10 +173,10 @@ uint32_t escape_stream_normal(
 uint32_t escape_stream_is_normal(const uint8_t *bytes, size_t length, bool *answer);
 
 /*
- * Writes what a policy admits of a stream, and nothing else. The text reads back as the actions
- * that were admitted, whatever bytes follow it: no text of the stream becomes a sequence, however
- * broken the stream is. What the stream leaves changed at a terminal, as a rendition, stays so:
- * escape_stream_filter_finish says what takes it back.
+ * Writes the actions of a stream that a policy admits, and nothing else. The text reads back as the
+ * actions that were admitted, whatever bytes follow it: no text of the stream becomes a sequence,
+ * however broken the stream is. A change that the stream leaves at a terminal, as a rendition,
+ * stays: escape_stream_filter_finish gives the text that takes it back.
  *
  *   policy           one of ESCAPE_STREAM_POLICY_..
  *   limit            how many bytes are kept of a string, such as a title or an image; of one with
@@ -184,11 +184,11 @@ uint32_t escape_stream_is_normal(const uint8_t *bytes, size_t length, bool *answ
  *                    while it is read at most 41 times as many bytes, as one of semicolons alone
  *                    does (measured on 2026-11-28). 1048576 will do
  *   bytes, length    the stream, and how many bytes it has
- *   out, capacity    where the text goes, and for how many bytes there is room
- *   needed           where the length of the text goes, in bytes
+ *   out, capacity    receives the text; there is room for `capacity` bytes
+ *   needed           receives the length of the text, in bytes
  *
  * ESCAPE_STREAM_DONE: of that text, `*needed` and `out` are as escape_stream_normal says. A text
- * that does not fit is cut anywhere, also inside a sequence: send `out` to a terminal only where
+ * that does not fit is cut anywhere, also inside a sequence: send `out` to a terminal only if
  * `*needed <= capacity`.
  *
  * ESCAPE_STREAM_UNKNOWN_POLICY says that no policy has this number. ESCAPE_STREAM_NO_MEMORY is the
@@ -209,10 +209,10 @@ uint32_t escape_stream_filter(
     size_t capacity, size_t *needed);
 
 /*
- * A filter of a stream that comes in chunks. It lies in the caller's memory; what it keeps of the
- * stream is in blocks that it takes and escape_stream_filter_end gives back. Its fields are its
- * own: read and write nothing of it, but set it to zero before the first call, as by = {0}. A copy
- * of it is the same filter, so go on with one of the two.
+ * A filter of a stream that comes in chunks. It lies in the caller's memory; the part of the stream
+ * that it keeps is in blocks that it takes and escape_stream_filter_end gives back. Its fields are
+ * its own: read and write nothing of it, but set it to zero before the first call, as by = {0}. A
+ * copy of it is the same filter, so go on with one of the two.
  */
 struct escape_stream_filter_state {
     bool is_begun;
@@ -220,7 +220,7 @@ struct escape_stream_filter_state {
 };
 
 /*
- * Begins a stream, of which at most `limit` bytes are kept of a string. A filter that was begun
+ * Begins a stream. The filter keeps at most `limit` bytes of a string. A filter that was begun
  * before is ended first.
  *
  * ESCAPE_STREAM_DONE, ESCAPE_STREAM_UNKNOWN_POLICY and ESCAPE_STREAM_NO_MEMORY are the statuses.
@@ -230,10 +230,10 @@ uint32_t escape_stream_filter_begin(
     struct escape_stream_filter_state *filter, uint32_t policy, size_t limit);
 
 /*
- * Takes the next chunk of the stream, in whatever chunks it comes. What it adds to the text is then
- * what escape_stream_filter_text gives; that of the chunk before is gone. The texts of all chunks,
- * one after another, are what escape_stream_filter writes of the chunks one after another. A
- * sequence that the end of the stream cuts adds nothing.
+ * Takes the next chunk of the stream, in whatever chunks it comes. escape_stream_filter_text then
+ * gives the text that it adds; that of the chunk before is gone. The texts of all chunks, one after
+ * another, are the output of escape_stream_filter for the chunks one after another. A sequence that
+ * the end of the stream cuts adds nothing.
  *
  * ESCAPE_STREAM_NO_MEMORY: the filter has ended, as by escape_stream_filter_end. The texts before
  * it are the beginning of what the whole stream would have given. ESCAPE_STREAM_NOT_BEGUN is the
@@ -243,11 +243,11 @@ uint32_t escape_stream_filter_feed(
     struct escape_stream_filter_state *filter, const uint8_t *bytes, size_t length);
 
 /*
- * Ends the stream, and begins the next, within the same limit and by the same policy. What takes
- * back what the stream left changed at a terminal is then what escape_stream_filter_text gives:
- * nothing where it left nothing changed, and else the ends of renditions and of a link, and by the
- * policies that admit more the main screen, the margins, the cursor and the other modes of what is
- * shown. What is unfinished is dropped.
+ * Ends the stream, and begins the next, within the same limit and by the same policy.
+ * escape_stream_filter_text then gives the text that takes back the changes that the stream left at
+ * a terminal: nothing if it left none, and else the ends of renditions and of a link, and by the
+ * policies that admit more the main screen, the margins, the cursor and the other modes of the
+ * display. An unfinished sequence is dropped.
  *
  * ESCAPE_STREAM_NO_MEMORY: the filter has ended, as by escape_stream_filter_end.
  * ESCAPE_STREAM_NOT_BEGUN is the only other status but ESCAPE_STREAM_DONE.
@@ -257,10 +257,10 @@ uint32_t escape_stream_filter_finish(struct escape_stream_filter_state *filter);
 /*
  * Writes the text that the last chunk or the end of the stream added, from its byte `from` on, to
  * the beginning of `out`, as much as there is room for, and returns how many bytes these are: 0 at
- * the end of the text, and where the filter is not begun. Every other byte of `out` is as it was.
- * It changes nothing, so a text can be read twice.
+ * the end of the text, and if the filter is not begun. Every other byte of `out` is as it was. It
+ * changes nothing, so a text can be read twice.
  *
- * Example: what passes of standard input, as it comes.
+ * Example: filters standard input as it comes.
  *
  *     struct escape_stream_filter_state filter = {0};
  *     uint8_t bytes[4096], out[4096] = {0};
@@ -287,10 +287,10 @@ size_t escape_stream_filter_text(
 void escape_stream_filter_end(struct escape_stream_filter_state *filter);
 
 /*
- * A filter of a log, or of another stream of unknown origin, that comes in chunks: what the program
- * `escfilter` writes. Where a stream goes line by line, as it does by the policies TEXT and COLOR,
- * a string that nobody ends takes away the rest of its line, and no line after it. It lies in the
- * caller's memory as a filter does: set it to zero before the first call, as by = {0}.
+ * A filter of a log, or of another stream of unknown origin, that comes in chunks, with the output
+ * of the program `escfilter`. If a stream goes line by line, as it does by the policies TEXT and
+ * COLOR, a string that nobody ends takes away the rest of its line, and no line after it. It lies
+ * in the caller's memory as a filter does: set it to zero before the first call, as by = {0}.
  */
 struct escape_stream_sanitizer {
     bool is_begun;
@@ -298,7 +298,7 @@ struct escape_stream_sanitizer {
 };
 
 /*
- * The groups of what a stream does, each a bit of `allowed` and of `denied`. The policy TEXT passes
+ * The groups of actions, each a bit of `allowed` and of `denied`. The policy TEXT passes
  * CHARACTERS and LAYOUT, COLOR those and SGR, HIDDEN and LINKS, SCREEN those and all up to PALETTE,
  * and ALL all.
  */
@@ -311,7 +311,7 @@ struct escape_stream_sanitizer {
 #define ESCAPE_STREAM_GROUP_CURSOR 0x40    /* cursor movement, tab stops */
 #define ESCAPE_STREAM_GROUP_ERASE 0x80     /* erasing, inserting, deleting, filling */
 #define ESCAPE_STREAM_GROUP_SCROLL 0x100   /* scrolling, index and next line, margins */
-#define ESCAPE_STREAM_GROUP_MODES 0x200    /* modes of what is shown */
+#define ESCAPE_STREAM_GROUP_MODES 0x200    /* modes of the display */
 #define ESCAPE_STREAM_GROUP_CHARSETS 0x400 /* character sets, shifts, wide lines */
 #define ESCAPE_STREAM_GROUP_PALETTE 0x800  /* colours of the palette */
 #define ESCAPE_STREAM_GROUP_TITLES 0x1000  /* titles of the window and of the icon */
@@ -319,24 +319,24 @@ struct escape_stream_sanitizer {
 #define ESCAPE_STREAM_GROUP_IMAGES 0x4000  /* images of kitty and sixel */
 #define ESCAPE_STREAM_GROUP_OTHER 0x8000   /* anything else, queries too */
 
-/* The schemes of links that pass, each a bit of `links`; those of any where no bit is set. */
+/* The schemes of links that pass, each a bit of `links`; those of any scheme if no bit is set. */
 #define ESCAPE_STREAM_LINKS_HTTP 1
 #define ESCAPE_STREAM_LINKS_HTTPS 2
 #define ESCAPE_STREAM_LINKS_MAILTO 4
 
 /*
- * Whether each line is a stream of its own, or the whole; 0: LINES where the policy is TEXT or
- * COLOR, and else WHOLE. By LINES a rendition that goes on over a line feed is written again where
- * the next line begins; by LINES_RESET each line begins plain.
+ * Whether each line is a stream of its own, or the whole; 0: LINES if the policy is TEXT or COLOR,
+ * and else WHOLE. By LINES a rendition that goes on over a line feed is written again at the start
+ * of the next line; by LINES_RESET each line begins plain.
  */
 #define ESCAPE_STREAM_FRAMING_LINES 1
 #define ESCAPE_STREAM_FRAMING_WHOLE 2
 #define ESCAPE_STREAM_FRAMING_LINES_RESET 3
 
 /*
- * What is written of characters that hide or reorder text: themselves, themselves where they belong
- * to the character before them and else their number as <U+202E>, their number, or nothing; 0: JOIN
- * by TEXT and COLOR, but SHOW with `rows`, and else KEEP.
+ * The output for characters that hide or reorder text: themselves, themselves if they belong to the
+ * character before them and else their number as <U+202E>, their number, or nothing; 0: JOIN by
+ * TEXT and COLOR, but SHOW with `rows`, and else KEEP.
  */
 #define ESCAPE_STREAM_CHARACTERS_KEEP 1
 #define ESCAPE_STREAM_CHARACTERS_JOIN 2
@@ -344,7 +344,7 @@ struct escape_stream_sanitizer {
 #define ESCAPE_STREAM_CHARACTERS_DROP 4
 
 /*
- * What is written of a carriage return within a line: itself, ^M, or nothing; 0: SHOW by TEXT and
+ * The output for a carriage return within a line: itself, ^M, or nothing; 0: SHOW by TEXT and
  * COLOR without `rows`, and else KEEP. A stream that is one keeps it.
  */
 #define ESCAPE_STREAM_RETURNS_KEEP 1
@@ -370,22 +370,23 @@ struct escape_stream_sanitizer {
 #define ESCAPE_STREAM_ENCODING_WINDOWS_1258 12
 
 /*
- * How what does not pass is shown in its place, as ^[]0;title^G; 0: it is left out. ESCAPED shows
- * each ^ and < of other text too, as <5E> and <3C>, so that all can be read back, and REVERSED
- * shows in reverse video, where that passes.
+ * How sequences that do not pass are shown in their place, as ^[]0;title^G; 0: they are left out.
+ * ESCAPED shows each ^ and < of other text too, as <5E> and <3C>, so that all can be read back, and
+ * REVERSED shows in reverse video, if that passes.
  */
 #define ESCAPE_STREAM_SHOW_PLAIN 1
 #define ESCAPE_STREAM_SHOW_ESCAPED 2
 #define ESCAPE_STREAM_SHOW_REVERSED 3
 
 /*
- * How a stream is sanitized: what the options of `escfilter` say of that. Begin with the value
- * ESCAPE_STREAM_SANITIZER_OPTIONS_INIT, and set what is to be otherwise. A later version may add
- * fields at the end: it takes `size` from an older header too, and then has what is usual of them.
+ * How a stream is sanitized, as the options of `escfilter` say it. Begin with the value
+ * ESCAPE_STREAM_SANITIZER_OPTIONS_INIT, and set the fields that are to differ. A later version may
+ * add fields at the end: it takes `size` from an older header too, and then has the usual values of
+ * them.
  */
 struct escape_stream_sanitizer_options {
     uint32_t size;       /* sizeof(struct escape_stream_sanitizer_options) */
-    uint32_t policy;     /* what passes: ESCAPE_STREAM_POLICY_.. */
+    uint32_t policy;     /* the policy: ESCAPE_STREAM_POLICY_.. */
     uint64_t limit;      /* how many bytes are kept of an unfinished sequence, string or line */
     uint32_t allowed;    /* the groups that pass besides: ESCAPE_STREAM_GROUP_.. */
     uint32_t denied;     /* the groups of all these that do not pass */
@@ -400,7 +401,7 @@ struct escape_stream_sanitizer_options {
     uint32_t account;    /* whether an account is kept, which costs time and memory: 0 is no */
 };
 
-/* The policy COLOR, a limit of 1 MiB, an account, and of all else what is usual: `escfilter`. */
+/* The policy COLOR, a limit of 1 MiB, an account, and all else as usual in `escfilter`. */
 #define ESCAPE_STREAM_SANITIZER_OPTIONS_INIT                                                       \
     {(uint32_t)sizeof(struct escape_stream_sanitizer_options),                                     \
      ESCAPE_STREAM_POLICY_COLOR, 1048576, 0, 0, 0, 0, 0, 0, 0, 0, 0, 1}
@@ -409,7 +410,7 @@ struct escape_stream_sanitizer_options {
  * Begins a stream, which is sanitized as the options say; they are not looked at after the call. A
  * sanitizer that was begun before is ended first.
  *
- * ESCAPE_STREAM_DONE and ESCAPE_STREAM_NO_MEMORY are statuses, and where an option is none,
+ * ESCAPE_STREAM_DONE and ESCAPE_STREAM_NO_MEMORY are statuses, and if an option is none,
  * ESCAPE_STREAM_UNKNOWN_POLICY and ESCAPE_STREAM_UNKNOWN_SIZE to ESCAPE_STREAM_TOO_MANY_ROWS, which
  * say which. After any but the first the sanitizer is not begun, and keeps nothing.
  */
@@ -417,9 +418,9 @@ uint32_t escape_stream_sanitizer_begin(struct escape_stream_sanitizer *sanitizer
                                        const struct escape_stream_sanitizer_options *options);
 
 /*
- * Takes the next chunk of the stream, in whatever chunks it comes. What it adds to the text is then
- * what escape_stream_sanitizer_text gives; that of the chunk before is gone. The texts of all
- * chunks and of the end, one after another, are what `escfilter` writes.
+ * Takes the next chunk of the stream, in whatever chunks it comes. escape_stream_sanitizer_text
+ * then gives the text that it adds; that of the chunk before is gone. The texts of all chunks and
+ * of the end, one after another, are the output of `escfilter`.
  *
  * By the policy TEXT without `rows` the text holds the bytes 09, 0A, 0D, 20 to 7E and well-formed
  * UTF-8 from U+00A0 on, and no others; by COLOR, and with `rows`, whole renditions and links too.
@@ -433,8 +434,8 @@ uint32_t escape_stream_sanitizer_feed(struct escape_stream_sanitizer *sanitizer,
                                       const uint8_t *bytes, size_t length);
 
 /*
- * Ends the stream. What that adds to the text is then what escape_stream_sanitizer_text gives: what
- * was unfinished, as far as it is shown, what takes back what the stream left changed at a
+ * Ends the stream. escape_stream_sanitizer_text then gives the text that this adds: an unfinished
+ * sequence, as far as it is shown, the text that takes back the changes that the stream left at a
  * terminal, and the rows that are left. The account is then that of the whole stream.
  *
  * The statuses are those of escape_stream_sanitizer_feed. For another stream, begin again.
@@ -448,7 +449,7 @@ uint32_t escape_stream_sanitizer_finish(struct escape_stream_sanitizer *sanitize
 size_t escape_stream_sanitizer_text(struct escape_stream_sanitizer *sanitizer, size_t from,
                                     uint8_t *out, size_t capacity);
 
-/* What became of the bytes of a stream: how many of them, in UTF-8 where an encoding has others. */
+/* The fates of the bytes of a stream: how many had each, in UTF-8 if an encoding has others. */
 struct escape_stream_account {
     uint64_t passed;      /* are in the text as they came */
     uint64_t respelled;   /* are in the text in another spelling */
@@ -461,9 +462,9 @@ struct escape_stream_account {
 };
 
 /*
- * Writes what became of the bytes of the stream: of the lines, or of the parts of a stream that is
+ * Writes the fates of the bytes of the stream: of the lines, or of the parts of a stream that is
  * one, that have ended; and of all, once the stream has ended. The sums are then as many as the
- * stream has bytes, where it has fewer than 2^62. Zeros where the options ask for no account.
+ * stream has bytes, if it has fewer than 2^62. Zeros if the options ask for no account.
  *
  * ESCAPE_STREAM_NOT_BEGUN is the only other status but ESCAPE_STREAM_DONE: nothing was written.
  *
@@ -523,8 +524,8 @@ uint32_t escape_stream_html_begin(
     struct escape_stream_html *page, bool per_line, bool is_inline, size_t limit);
 
 /*
- * Takes the next chunk of the stream. What it adds to the page is then what escape_stream_html_text
- * gives; that of the chunk before is gone.
+ * Takes the next chunk of the stream. escape_stream_html_text then gives the text that it adds to
+ * the page; that of the chunk before is gone.
  *
  * ESCAPE_STREAM_NO_MEMORY: the page was given back. The texts before it are the beginning of the
  * page. ESCAPE_STREAM_NOT_BEGUN, also after the end of the stream, which gives the page back, is
@@ -534,9 +535,9 @@ uint32_t escape_stream_html_feed(
     struct escape_stream_html *page, const uint8_t *bytes, size_t length);
 
 /*
- * Ends the stream. What closes the tags that are open is then what escape_stream_html_text gives:
- * with it the texts of all chunks, one after another, are a page, in which each tag is closed. It
- * takes no memory.
+ * Ends the stream. escape_stream_html_text then gives the text that closes the open tags: with it
+ * the texts of all chunks, one after another, are a page, in which each tag is closed. It takes no
+ * memory.
  *
  * ESCAPE_STREAM_NOT_BEGUN is the only other status but ESCAPE_STREAM_DONE.
  */
@@ -562,8 +563,8 @@ struct escape_stream_normaliser {
 };
 
 /*
- * Begins a stream, of which at most `limit` bytes are kept of a string; of one with more nothing is
- * written. 1048576 will do. A normaliser that was begun before is ended first.
+ * Begins a stream. The normaliser keeps at most `limit` bytes of a string; nothing is written of a
+ * longer one. 1048576 will do. A normaliser that was begun before is ended first.
  *
  * ESCAPE_STREAM_DONE and ESCAPE_STREAM_NO_MEMORY are the statuses. After the last the normaliser is
  * not begun, and keeps nothing.
@@ -571,11 +572,11 @@ struct escape_stream_normaliser {
 uint32_t escape_stream_normal_begin(struct escape_stream_normaliser *normaliser, size_t limit);
 
 /*
- * Takes the next chunk of the stream, in whatever chunks it comes. What it adds to the normal form
- * is then what escape_stream_normal_text gives; that of the chunk before is gone. The texts of all
- * chunks, one after another, are what escape_stream_normal writes of the chunks one after another,
- * where no string is longer than the limit. Of a sequence that the end of the stream cuts, only
- * what it has done so far is written.
+ * Takes the next chunk of the stream, in whatever chunks it comes. escape_stream_normal_text then
+ * gives the text that it adds to the normal form; that of the chunk before is gone. The texts of
+ * all chunks, one after another, are the output of escape_stream_normal for the chunks one after
+ * another, if no string is longer than the limit. If the stream ends inside a sequence, only its
+ * effect so far is written.
  *
  * ESCAPE_STREAM_NO_MEMORY: the normaliser has ended, as by escape_stream_normal_end. The texts
  * before it are the beginning of the normal form of the whole stream. ESCAPE_STREAM_NOT_BEGUN is
@@ -586,7 +587,7 @@ uint32_t escape_stream_normal_feed(
 
 /*
  * Ends the stream, and begins the next, within the same limit. The end adds nothing to the normal
- * form, so the text that escape_stream_normal_text gives is then empty. What is unfinished is
+ * form, so the text that escape_stream_normal_text gives is then empty. An unfinished sequence is
  * dropped. It takes no memory.
  *
  * ESCAPE_STREAM_NOT_BEGUN is the only other status but ESCAPE_STREAM_DONE.
@@ -619,25 +620,25 @@ size_t escape_stream_normal_text(
 void escape_stream_normal_end(struct escape_stream_normaliser *normaliser);
 
 /*
- * What a control function is: a row of docs/FUNCTIONS.md. Where there is none, all of it is 0.
+ * A control function: a row of docs/FUNCTIONS.md. If there is none, all of it is 0.
  */
 struct escape_stream_function_info {
     char name[16];       /* as the standards abbreviate it, as "CUP"; a 0 ends it */
-    char phrase[80];     /* what it does, in words, as "cursor position"; a 0 ends it */
+    char phrase[80];     /* its effect, in words, as "cursor position"; a 0 ends it */
     bool changes_screen; /* it changes the screen alone, with whatever parameters */
     bool is_answered;    /* a terminal answers it, with some of its parameters or with all */
 };
 
 /*
- * Says whether a control sequence has a name, and writes to `out` what it is.
+ * Says whether a control sequence has a name, and writes its function to `out`.
  *
- *   prefix         its private prefix, one of < = > ?, or 0 where it has none
- *   intermediate   its intermediate, a space up to /, or 0 where it has none. No function has two
+ *   prefix         its private prefix, one of < = > ?, or 0 if it has none
+ *   intermediate   its intermediate, a space up to /, or 0 if it has none. No function has two
  *   final          its final byte
  *   count          how many parameters and separators it has: of an event of escape_stream_next its
  *                  `count`. It matters for the final bytes T, s and u alone, of which each has two
  *                  functions: with 0 for `count` those without parameters
- *   out            where the row goes
+ *   out            receives the row
  *
  * The bytes are not checked: of others a name may be found too.
  *
@@ -653,8 +654,9 @@ bool escape_stream_function(uint8_t prefix, uint8_t intermediate, uint8_t final,
 
 /*
  * The same of an escape sequence: its intermediate, or 0, and its final byte. A C1 control has the
- * function of the escape sequence whose final byte is 0x40 less than its code. Of one that
- * designates a character set the intermediate decides, and the final byte says which set.
+ * function of the escape sequence with a final byte that is 0x40 less than its code. If the
+ * function designates a character set, the intermediate decides it, and the final byte says which
+ * set.
  */
 bool escape_stream_escape_function(
     uint8_t intermediate, uint8_t final, struct escape_stream_function_info *out);
@@ -666,11 +668,11 @@ bool escape_stream_control_function(uint8_t code, struct escape_stream_function_
 
 /*
  * The kinds of operating system commands, and which fields each has, in order. One between [ and ]
- * may be absent; `..` says that what is before it comes once for each item. A colour is RED, GREEN
- * and BLUE, or QUERY in place of the three. The 3 flags of a file are PRESERVE_ASPECT_RATIO, INLINE
- * and DO_NOT_MOVE_CURSOR; its width is one of WIDTH_.., and its height one of HEIGHT_.., each
- * absent where it is automatic. The commands of iTerm2 and the prompts of shells have a kind each.
- * Later versions may add some.
+ * may be absent; `..` says that the fields before it come once for each item. A colour is RED,
+ * GREEN and BLUE, or QUERY in place of the three. The 3 flags of a file are PRESERVE_ASPECT_RATIO,
+ * INLINE and DO_NOT_MOVE_CURSOR; its width is one of WIDTH_.., and its height one of HEIGHT_..,
+ * each absent if it is automatic. The commands of iTerm2 and the prompts of shells have a kind
+ * each. Later versions may add some.
  */
 /* PART ..: any other command, as its parts between ; */
 #define ESCAPE_STREAM_OSC_UNSPECIFIED 0
@@ -727,8 +729,8 @@ bool escape_stream_control_function(uint8_t code, struct escape_stream_function_
 #define ESCAPE_STREAM_OSC_ITERM_POP_UNICODE_VERSION 43               /* [LABEL] */
 
 /*
- * The names of fields, and what each holds. A flag is a number, 0 or 1. Texts are UTF-8 where
- * nothing else is said. No 0 ends them, and they may hold controls, so print none as it is.
+ * The names of fields, and the content of each. A flag is a number, 0 or 1. Texts are UTF-8 unless
+ * something else is said. No 0 ends them, and they may hold controls, so print none as it is.
  */
 /* text: a title, a notification, or for a clipboard or the badge */
 #define ESCAPE_STREAM_FIELD_TEXT 0
@@ -782,12 +784,12 @@ bool escape_stream_control_function(uint8_t code, struct escape_stream_function_
 #define ESCAPE_STREAM_FIELD_PRESERVE_ASPECT_RATIO 32
 #define ESCAPE_STREAM_FIELD_INLINE 33                /* flag: the file is shown, and else stored */
 #define ESCAPE_STREAM_FIELD_DO_NOT_MOVE_CURSOR 34    /* flag: the cursor stays where it is */
-/* text: what a file holds, any bytes; and see MEDIUM */
+/* text: the content of a file, any bytes; and see MEDIUM */
 #define ESCAPE_STREAM_FIELD_CONTENT 35
 #define ESCAPE_STREAM_FIELD_VERSION 36               /* number: a version of Unicode */
 /* text: of a version that is kept or brought back */
 #define ESCAPE_STREAM_FIELD_LABEL 37
-/* number: what CONTENT is, ESCAPE_STREAM_MEDIUM_.. */
+/* number: the kind of CONTENT, ESCAPE_STREAM_MEDIUM_.. */
 #define ESCAPE_STREAM_FIELD_MEDIUM 38
 /* number: how many bytes of the file or the memory are the image */
 #define ESCAPE_STREAM_FIELD_DATA_SIZE 39
@@ -817,7 +819,7 @@ bool escape_stream_control_function(uint8_t code, struct escape_stream_function_
 #define ESCAPE_STREAM_FIELD_PLACEMENT_ID 56          /* number: the id of a placement */
 /* number: the order above and below others, which may be negative */
 #define ESCAPE_STREAM_FIELD_Z_INDEX 57
-/* flag: the image is shown where placeholder characters are */
+/* flag: the image is shown in the place of placeholder characters */
 #define ESCAPE_STREAM_FIELD_UNICODE_PLACEHOLDER 58
 /* number: the frame whose pixels a new one begins with, from 1 */
 #define ESCAPE_STREAM_FIELD_BASE_FRAME 59
@@ -838,18 +840,18 @@ bool escape_stream_control_function(uint8_t code, struct escape_stream_function_
 /* number: the first of the ids that are deleted */
 #define ESCAPE_STREAM_FIELD_FIRST_IMAGE_ID 69
 #define ESCAPE_STREAM_FIELD_LAST_IMAGE_ID 70         /* number: the last */
-/* number: what is reported. 0 all, 1 errors alone, 2 nothing */
+/* number: the answers of the terminal. 0 all, 1 errors alone, 2 none */
 #define ESCAPE_STREAM_FIELD_VERBOSITY 71
 
-/* What a field holds. */
+/* The kinds of values. */
 #define ESCAPE_STREAM_VALUE_NUMBER 0 /* `number` */
 #define ESCAPE_STREAM_VALUE_TEXT 1   /* `length` bytes of `out`, from `offset` on */
 #define ESCAPE_STREAM_VALUE_SIZE 2   /* `length`, a number of bytes */
 
-/* A field of a command. What has no meaning for what it holds is 0. */
+/* A field of a command. A member that has no meaning for its kind is 0. */
 struct escape_stream_field {
     uint32_t name; /* which part of the command it is: ESCAPE_STREAM_FIELD_.. */
-    uint32_t kind; /* what it holds: ESCAPE_STREAM_VALUE_.. */
+    uint32_t kind; /* its value: ESCAPE_STREAM_VALUE_.. */
     int64_t number;
     size_t offset;
     size_t length;
@@ -863,21 +865,20 @@ struct escape_stream_osc {
 };
 
 /*
- * Reads the command that the text of an operating system command is, the bytes between ESC ] and
- * what ends them: the text of an event ESCAPE_STREAM_OSC of escape_stream_next. Any bytes are such
- * a text.
+ * Reads the text of an operating system command, the bytes between ESC ] and their end: the text of
+ * an event ESCAPE_STREAM_OSC of escape_stream_next. Any bytes are such a text.
  *
  *   text, length           the text, and how many bytes it has
- *   osc                    where the kind of the command goes, and how much room its fields and
+ *   osc                    receives the kind of the command, and the room that its fields and
  *                          their texts need
- *   fields, field_room     where its fields go, and for how many there is room
- *   out, capacity          where their texts go, one after another, and for how many bytes there is
- *                          room
+ *   fields, field_room     receives its fields; there is room for `field_room` of them
+ *   out, capacity          receives their texts, one after another; there is room for
+ *                          `capacity` bytes
  *
  * ESCAPE_STREAM_DONE: `*osc` is that of the command, whatever the room. At the beginning of
  * `fields` are its fields, as many as there is room for, and at the beginning of `out` their texts,
- * as much as there is room for; all else is as it was. Each field is there where `osc->field_count
- * <= field_room`, and each text where `osc->text_length <= capacity`; where they are not, call
+ * as much as there is room for; all else is as it was. Each field is there if `osc->field_count
+ * <= field_room`, and each text if `osc->text_length <= capacity`; if they are not, call
  * again with room.
  *
  * ESCAPE_STREAM_NO_MEMORY is the only other status. The call takes memory for the command and its
@@ -899,7 +900,7 @@ uint32_t escape_stream_read_osc(
 
 /*
  * The kinds of commands of kitty's graphics protocol, and which fields each has, in order, as for
- * those of operating system commands. A deletion has a kind for each of what is deleted. Later
+ * those of operating system commands. A deletion has a kind for each thing that is deleted. Later
  * versions may add some.
  *
  * identified   [IMAGE_ID], [IMAGE_NUMBER]
@@ -939,7 +940,7 @@ uint32_t escape_stream_read_osc(
 #define ESCAPE_STREAM_KITTY_DELETE_BY_IMAGE_ID_RANGE 17  /* FIRST_IMAGE_ID, LAST_IMAGE_ID */
 
 /*
- * What the CONTENT of an image is. A payload is the text as it came, which is base64 and is not
+ * The kinds of CONTENT of an image. A payload is the text as it came, which is base64 and is not
  * decoded, since it may be cut into several commands. A path and a name are decoded. No text is
  * read as BYTES.
  */
@@ -958,12 +959,12 @@ struct escape_stream_image {
 };
 
 /*
- * Reads the command of kitty's graphics protocol that the text of an application program command
- * is, the bytes between ESC _ and what ends them: the text of an event ESCAPE_STREAM_APC of
- * escape_stream_next. Any bytes are such a text; where they are no such command the kind is
- * ESCAPE_STREAM_KITTY_NONE, without a field.
+ * Reads the text of an application program command as a command of kitty's graphics protocol: the
+ * bytes between ESC _ and their end, the text of an event ESCAPE_STREAM_APC of escape_stream_next.
+ * Any bytes are such a text; if they are no such command, the kind is ESCAPE_STREAM_KITTY_NONE,
+ * without a field.
  *
- * The arguments and the statuses are those of escape_stream_read_osc, and so is what is written.
+ * The arguments, the statuses and the output are as in escape_stream_read_osc.
  *
  * Example: the size of an image that is sent.
  *
@@ -986,19 +987,18 @@ struct escape_stream_query {
 };
 
 /*
- * Reads the names that a termcap query asks for (XTGETTCAP), of the data between ESC P + q and what
- * ends it: that of the events after an event ESCAPE_STREAM_DCS whose byte is `q` and whose one
- * intermediate is `+`, put together. Any bytes are such data. Each name is a field
- * ESCAPE_STREAM_FIELD_NAME: what was written in hexadecimal, or the text as it is where it is not
- * hexadecimal.
+ * Reads the names that a termcap query asks for (XTGETTCAP), of the data between ESC P + q and its
+ * end: that of the events after an event ESCAPE_STREAM_DCS with the byte `q` and the one
+ * intermediate `+`, put together. Any bytes are such data. Each name is a field
+ * ESCAPE_STREAM_FIELD_NAME: the decoded hexadecimal, or the text as it is if it is not hexadecimal.
  *
- * The arguments and the statuses are those of escape_stream_read_osc, and so is what is written.
+ * The arguments, the statuses and the output are as in escape_stream_read_osc.
  */
 uint32_t escape_stream_read_tcap(
     const uint8_t *text, size_t length, struct escape_stream_query *query,
     struct escape_stream_field *fields, size_t field_room, uint8_t *out, size_t capacity);
 
-/* What an item of a sixel image is, and what of it has a meaning. */
+/* The kinds of items of a sixel image, and the members that have a meaning for each. */
 #define ESCAPE_STREAM_SIXEL_PIXELS 0          /* pixels; count is 1 */
 #define ESCAPE_STREAM_SIXEL_REPEAT 1          /* pixels, count: the same so many times */
 /* color, red, green, blue: gives a colour to a number, and selects it */
@@ -1009,7 +1009,7 @@ uint32_t escape_stream_read_tcap(
 #define ESCAPE_STREAM_SIXEL_CARRIAGE_RETURN 5
 #define ESCAPE_STREAM_SIXEL_NEW_LINE 6        /* to the start of the next band of six lines */
 
-/* An item of a sixel image. What has no meaning for its kind is 0. */
+/* An item of a sixel image. A member that has no meaning for its kind is 0. */
 struct escape_stream_sixel_item {
     uint32_t kind;  /* ESCAPE_STREAM_SIXEL_.. */
     uint32_t count; /* how many times its pixels come */
@@ -1023,26 +1023,26 @@ struct escape_stream_sixel_item {
 /* A sixel image. */
 struct escape_stream_sixel {
     int64_t pan, pad;                    /* a pixel is pan units high and pad wide */
-    int64_t grid_size;                   /* the horizontal grid size, where `has_grid_size` */
-    /* as raster attributes say, where `has_pixel_width` and `has_pixel_height` */
+    int64_t grid_size;                   /* the horizontal grid size, if `has_grid_size` */
+    /* as raster attributes say, if `has_pixel_width` and `has_pixel_height` */
     uint32_t pixel_width, pixel_height;
-    /* those, where both are there, and else those of what is drawn */
+    /* those, if both are there, and else those of the drawn pixels */
     uint32_t width, height;
     bool has_grid_size, has_pixel_width, has_pixel_height;
-    bool background_is_transparent;      /* pixels of 0 leave what was there */
+    bool background_is_transparent;      /* pixels of 0 leave the old pixels */
     size_t item_count;                   /* how many items its data has */
 };
 
 /*
- * Reads a sixel image, of the parameters and the data between ESC P and what ends it: those of an
- * event ESCAPE_STREAM_DCS whose byte is `q` and which has no intermediate, and those of the events
- * after it, put together. Any parameters and any bytes are such an image.
+ * Reads a sixel image, of the parameters and the data between ESC P and its end: those of an event
+ * ESCAPE_STREAM_DCS with the byte `q` and no intermediate, and those of the events after it, put
+ * together. Any parameters and any bytes are such an image.
  *
  *   params, count          the parameters, and how many there are; one that is missing before
  *                          others is 0
  *   text, length           the data, and how many bytes it has
- *   sixel                  where the image goes, but for its items, and how much room these need
- *   items, item_room       where its items go, and for how many there is room
+ *   sixel                  receives the image without its items, and the room that these need
+ *   items, item_room       receives its items; there is room for `item_room` of them
  *
  * The items come in an array, one an item, so a loop over it with a switch by `kind` draws the
  * image; PIXELS and REPEAT may be one case, `count` times `pixels`. There are no more than
@@ -1065,24 +1065,24 @@ uint32_t escape_stream_read_sixel(
  *   fields, count      its fields, in the order that the kind has them, and how many there are
  *   text, text_length  the texts of these fields one after another, in the order of the fields, and
  *                      how many bytes they have
- *   out, capacity      where the command goes, and for how many bytes there is room
- *   needed             where the length of the whole command goes
+ *   out, capacity      receives the command; there is room for `capacity` bytes
+ *   needed             receives the length of the whole command
  *
  * The kind, the fields and the texts are as escape_stream_read_osc writes them: the first text has
- * the offset 0, each other the offset at which the one before it ends, and what has no meaning for
- * what a field holds is 0.
+ * the offset 0, each other the offset at which the one before it ends, and a member that has no
+ * meaning for the kind of a field is 0.
  *
  * ESCAPE_STREAM_DONE: at the beginning of `out` is the command, as much of it as there is room for,
- * and all else there is as it was. `*needed` is its length, whatever the room; where it is more
- * than `capacity`, call again with room. What is between ESC ] and ESC \ holds no control but DEL,
+ * and all else there is as it was. `*needed` is its length, whatever the room; if it is more
+ * than `capacity`, call again with room. The text between ESC ] and ESC \ holds no control but DEL,
  * and escape_stream_read_osc reads this kind, these fields and these texts of it.
  *
- * ESCAPE_STREAM_NO_COMMAND: no command has this kind and these fields, as where a field is missing,
+ * ESCAPE_STREAM_NO_COMMAND: no command has this kind and these fields, as when a field is missing,
  * comes twice or has a name that the kind has not, a number is out of its range, a text is not
  * UTF-8, or a link's keys are not in order.
  *
  * ESCAPE_STREAM_NOT_WRITABLE: one has them, but its text would not read back as it, as that of a
- * title with a control, of a text with a `;` where that would divide it, or of
+ * title with a control, of a text with a `;` if that would divide it, or of
  * ESCAPE_STREAM_OSC_ITERM_REPORT_VARIABLE, which has no reading.
  *
  * ESCAPE_STREAM_NO_MEMORY is the only other status. The call takes memory for the command and its
@@ -1110,9 +1110,9 @@ uint32_t escape_stream_write_osc(
  *   fields, text       its fields and their texts, as escape_stream_read_kitty writes them and as
  *                      escape_stream_write_osc takes them
  *
- * The other arguments are those of escape_stream_write_osc. So are the statuses and what is
- * written, with escape_stream_read_kitty in the place of escape_stream_read_osc; what is between
- * ESC _ and ESC \ is of bytes from space to DEL.
+ * The other arguments are those of escape_stream_write_osc. So are the statuses and the output,
+ * with escape_stream_read_kitty in the place of escape_stream_read_osc; the text between ESC _ and
+ * ESC \ has bytes from space to DEL alone.
  *
  * ESCAPE_STREAM_NO_COMMAND: no command has this kind and these fields, as ESCAPE_STREAM_KITTY_NONE
  * has none.
@@ -1133,11 +1133,11 @@ uint32_t escape_stream_write_kitty(
  *                      escape_stream_read_tcap writes them and as escape_stream_write_osc takes
  *                      them
  *
- * The other arguments are those of escape_stream_write_osc. So are the statuses and what is
- * written, with escape_stream_read_tcap in the place of escape_stream_read_osc; what is between ESC
- * P + q and ESC \ is of digits from 0 to 9 and from a to f, and `;`.
+ * The other arguments are those of escape_stream_write_osc. So are the statuses and the output,
+ * with escape_stream_read_tcap in the place of escape_stream_read_osc; the text between ESC P + q
+ * and ESC \ has digits from 0 to 9 and from a to f, and `;`, alone.
  *
- * ESCAPE_STREAM_NO_COMMAND: no names have these fields, as where a name is not UTF-8.
+ * ESCAPE_STREAM_NO_COMMAND: no names have these fields, as when a name is not UTF-8.
  * ESCAPE_STREAM_NOT_WRITABLE: there is no name, which would be read as one that is empty.
  */
 uint32_t escape_stream_write_tcap(
@@ -1150,18 +1150,18 @@ uint32_t escape_stream_write_tcap(
  *   sixel              the image but for its items. Its `width`, `height` and `item_count` follow
  *                      from the rest, and are not looked at
  *   items, count       its items, and how many there are
- *   out, capacity      where the image goes, and for how many bytes there is room
- *   needed             where the length of the whole image goes
+ *   out, capacity      receives the image; there is room for `capacity` bytes
+ *   needed             receives the length of the whole image
  *
  * The rest of `sixel` and the items are as escape_stream_read_sixel writes them: what is absent, or
  * has no meaning for the kind of an item, is 0.
  *
  * ESCAPE_STREAM_DONE: at the beginning of `out` is the image, as much of it as there is room for,
- * and all else there is as it was. `*needed` is its length, whatever the room; where it is more
+ * and all else there is as it was. `*needed` is its length, whatever the room; if it is more
  * than `capacity`, call again with room. The parameters are of digits and `;`, the data is of bytes
  * from space to ~, and escape_stream_read_sixel reads this image and these items of the two.
  *
- * ESCAPE_STREAM_NO_COMMAND: no image has these values, as where an item has an unknown kind, or a
+ * ESCAPE_STREAM_NO_COMMAND: no image has these values, as when an item has an unknown kind, or a
  * colour that it has no use for.
  *
  * ESCAPE_STREAM_NOT_WRITABLE: one has them, but its text would not read back as it: a number that

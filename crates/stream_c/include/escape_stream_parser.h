@@ -12,14 +12,13 @@
  * That links libescape_stream.so.0, or with -static libescape_stream.a. Both run on Linux, on every
  * x86-64 or, built for it, on every aarch64, with the C library of GNU of any version, or musl.
  *
- * The calls need nothing but memcpy, memmove and memset. What the calls do is proved, for every
- * stream, in any chunks; docs/EMBEDDING.md says what the proof covers and what it takes for
- * granted. Nothing checks the caller, who owes this:
+ * The calls need nothing but memcpy, memmove and memset. The results of the calls are proved, for
+ * every stream, in any chunks; docs/EMBEDDING.md gives the extent of the proof and its assumptions.
+ * Nothing checks the caller, who owes this:
  *
- *   - No pointer is NULL, also where its length is 0, and nothing that a call is given overlaps
- *     anything else that it is given.
+ *   - No pointer is NULL, also if its length is 0, and no two objects that a call is given overlap.
  *   - A parser and an event are initialized before their first use, for example by = {0}; a parser
- *     is then begun. Of a parser the caller reads and writes nothing.
+ *     is then begun. The caller reads and writes nothing of a parser.
  *   - The buffer has the same length and the same lower half at each call of a parser: the first
  *     length / 2 bytes are the parser's. It is initialized, too. A copy of a parser, with a copy of
  *     its buffer, is another parser at the same place of the stream.
@@ -54,7 +53,7 @@ extern "C" {
 const char *escape_stream_version(void);
 
 /*
- * The kinds of events, and what goes with them. `byte` is a number, `text` the bytes of
+ * The kinds of events, and their values. `byte` is a number, `text` the bytes of
  * escape_stream_text.
  *
  * NONE       all bytes were taken, and there is no event
@@ -73,7 +72,7 @@ const char *escape_stream_version(void);
  * APC        an application program command: `text`
  * FAILED     something else wrote the parser or the lower half of the buffer, or the buffer is not
  *            that of the calls before; from then on no call of the parser gives anything else.
- *            Where the caller keeps to the rules above it never comes, as is proved
+ *            If the caller keeps to the rules above it never comes, as is proved
  * LIMIT      a string, or the header of a device control string, ended of which there was more than
  *            half the buffer: its event is not handed out, nor are the data of the device control
  *            string
@@ -103,11 +102,11 @@ struct escape_stream_entry {
     bool is_byte;
 };
 
-/* An event. What its kind does not name has no meaning. */
+/* An event. A member that its kind does not name has no meaning. */
 struct escape_stream_event {
     uint32_t kind;
     uint32_t byte;
-    size_t start; /* where a run of characters or of data begins in the bytes of the call */
+    size_t start; /* the index in the bytes of the call of the first byte of a run */
     size_t length; /* of the text, in bytes */
     uint8_t intermediates[2];
     size_t kept;   /* how many intermediates there are */
@@ -145,15 +144,15 @@ void escape_stream_begin(struct escape_stream_parser *parser);
  *
  * A string, which is the text of an OSC or an APC or the parameter bytes of a DCS, of more than
  * buffer_length / 2 bytes is not handed out: it is passed over, an event ESCAPE_STREAM_LIMIT is in
- * its place, and what follows it is parsed as ever.
+ * its place, and the bytes after it are parsed as ever.
  */
 size_t escape_stream_next(
     struct escape_stream_parser *parser, uint8_t *buffer, size_t buffer_length,
     const uint8_t *bytes, size_t length, struct escape_stream_event *event);
 
 /*
- * Whether no character, sequence or string of the stream so far is unfinished: the events of what
- * follows are then those of a stream of its own. After ESCAPE_STREAM_FAILED it is false.
+ * Whether no character, sequence or string of the stream so far is unfinished: the events of the
+ * next bytes are then those of a stream of its own. After ESCAPE_STREAM_FAILED it is false.
  */
 bool escape_stream_is_ground(const struct escape_stream_parser *parser);
 
@@ -170,11 +169,11 @@ static inline const uint8_t *escape_stream_text(
 }
 
 /*
- * What ended the string of an event OSC, APC, DCS_END or LIMIT, by the bytes that the call took, so
- * that an answer can end in the same way and a command that was cancelled can be dropped: 0x07 is
- * BEL, 0x18 and 0x1a are CAN and SUB, 0x1b is ESC, that of `ESC \`, the string terminator, or of
- * another escape sequence, which is the next event, and 0x80 to 0x9f is a C1 control. 0 where a
- * header over the limit ended, and of any other event.
+ * The byte that ended the string of an event OSC, APC, DCS_END or LIMIT, by the bytes that the call
+ * took, so that an answer can end in the same way and a command that was cancelled can be dropped:
+ * 0x07 is BEL, 0x18 and 0x1a are CAN and SUB, 0x1b is ESC, that of `ESC \`, the string terminator,
+ * or of another escape sequence, which is the next event, and 0x80 to 0x9f is a C1 control. 0 if a
+ * header over the limit ended, and for any other event.
  */
 static inline uint8_t escape_stream_string_end(
     const struct escape_stream_event *event, const uint8_t *bytes, size_t taken)
@@ -208,12 +207,13 @@ static inline size_t escape_stream_utf8(uint32_t character, uint8_t out[4])
  * The parameters of an event ESCAPE_STREAM_CSI, by its entries: `;` separates parameters, and `:`
  * the numbers of one.
  *
- * parameter_count   how many parameters there are: none where nothing is in their place, as in
+ * parameter_count   how many parameters there are: none if nothing is in their place, as in
  *                   CSI m
  * parameter         the number `part` of the parameter `index`, both counted from 0, or `otherwise`
- *                   where it is left out: so parameter(event, 0, 0, 1) is how far CSI A goes up
- * prefix            the private prefix, one of < = > ?, or 0 where there is none
- * intermediate      the intermediate of this index, a space up to /, or 0 where there is none
+ *                   if it is left out: so parameter(event, 0, 0, 1) is the number of lines that
+ *                   CSI A goes up
+ * prefix            the private prefix, one of < = > ?, or 0 if there is none
+ * intermediate      the intermediate of this index, a space up to /, or 0 if there is none
  */
 static inline size_t escape_stream_parameter_count(const struct escape_stream_event *event)
 {

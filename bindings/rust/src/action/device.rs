@@ -1,5 +1,5 @@
 // SPDX-License-Identifier: MIT
-//! What device control strings give, but for images and termcap queries.
+//! The actions of device control strings, but for images and termcap queries.
 use crate::borrowed::{self, DeviceControlMode as Mode};
 use alloc::boxed::Box;
 use alloc::vec::Vec;

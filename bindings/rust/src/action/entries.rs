@@ -1,5 +1,5 @@
 // SPDX-License-Identifier: MIT
-//! The entries of a control sequence, which need no memory where they are few.
+//! The entries of a control sequence, which need no memory if they are few.
 use crate::Entry;
 use alloc::boxed::Box;
 use alloc::vec::Vec;
@@ -24,7 +24,7 @@ const FEW: usize = 5;
 #[cfg_attr(feature = "serde", derive(serde::Serialize, serde::Deserialize))]
 #[cfg_attr(feature = "serde", serde(from = "Vec<Entry>", into = "Vec<Entry>"))]
 pub struct Entries {
-    // All of them, where there are more than a few.
+    // All of them, if there are more than a few.
     many: Option<Box<[Entry]>>,
     // Else the first so many of these.
     count: u8,

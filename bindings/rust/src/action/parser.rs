@@ -80,8 +80,8 @@ impl Parser {
         self.give(bytes, Owned(callback));
     }
 
-    /// The same with borrowed actions, which copy nothing: what is printed lies in `bytes`, and all
-    /// else where the parser keeps it. Their [`into_owned`](borrowed::Action::into_owned) gives the
+    /// The same with borrowed actions, which copy nothing: printed text lies in `bytes`, and all
+    /// else in the parser's memory. Their [`into_owned`](borrowed::Action::into_owned) gives the
     /// actions of [`parse`](Parser::parse).
     ///
     /// ```
@@ -166,7 +166,7 @@ impl Parser {
         result.map_err(|error| self.failure = Some(error)).ok()
     }
 
-    /// The actions of the next bytes of the stream, with what is printed joined.
+    /// The actions of the next bytes of the stream, with printed texts joined.
     ///
     /// After a [failure](Parser::failure) there are none.
     pub fn parse_as_vec(&mut self, bytes: &[u8]) -> Vec<Action> {
@@ -179,7 +179,7 @@ impl Parser {
     /// how many bytes these are. Of a run of characters it is the first one. Further actions of
     /// its last byte are dropped, as that of a CAN which ends a command.
     ///
-    /// `None` where the bytes give no action: then all were taken. After a
+    /// `None` if the bytes give no action: then all were taken. After a
     /// [failure](Parser::failure) it takes none.
     ///
     /// ```
@@ -201,12 +201,12 @@ impl Parser {
         first.map(|action| (action, count))
     }
 
-    /// Takes the next bytes of the stream up to where there is an action and no sequence and no
-    /// string is unfinished, and returns all actions of these bytes with how many they are. So a
-    /// string comes with its terminator.
+    /// Takes the next bytes of the stream up to the first place with an action and no sequence and
+    /// no string unfinished, and returns all actions of these bytes with the number of the bytes.
+    /// So a string comes with its terminator.
     ///
-    /// `None` where there is no such place: then all bytes were taken, and what they gave is
-    /// dropped. After a [failure](Parser::failure) it takes none.
+    /// `None` if there is no such place: then all bytes were taken, and their actions are dropped.
+    /// After a [failure](Parser::failure) it takes none.
     ///
     /// ```
     /// use escape_stream::action::Parser;
@@ -262,7 +262,7 @@ impl Parser {
         }
     }
 
-    /// Why it gives nothing any more, where it failed: where memory was refused, or for
+    /// Why it gives nothing any more, if it failed: if memory was refused, or for
     /// [`Error::Failed`], which the clauses of the library's calls exclude. Bytes after the failure
     /// are not taken.
     #[must_use]
@@ -323,8 +323,9 @@ impl Parser {
     }
 }
 
-/// The actions of some bytes, one after another: what [`Parser::actions`] returns. Bytes are taken
-/// as they are needed. Where it is dropped before its end, [`rest`](Actions::rest) are not taken.
+/// The actions of some bytes, one after another: the iterator of [`Parser::actions`]. Bytes are
+/// taken as they are needed. If it is dropped before its end, [`rest`](Actions::rest) are not
+/// taken.
 #[derive(Debug)]
 pub struct Actions<'a, 'b> {
     parser: &'a mut Parser,

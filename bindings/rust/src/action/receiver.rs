@@ -1,5 +1,5 @@
 // SPDX-License-Identifier: MIT
-//! What is given what a stream says.
+//! The receiver of the parts of a stream.
 use super::{Action, CSI, Entries};
 use crate::dcs::{Sixel, SixelData};
 use crate::fields::Room;
@@ -7,7 +7,7 @@ use crate::{Error, borrowed, ffi};
 use alloc::boxed::Box;
 use alloc::vec::Vec;
 
-/// What is given what a stream says: each as it costs least where it is to be owned.
+/// The receiver of the parts of a stream: each comes as it costs least if it is to be owned.
 pub trait Receiver {
     /// An action.
     fn act(&mut self, action: borrowed::Action<'_>);
@@ -21,7 +21,7 @@ pub trait Receiver {
     /// The command of a text.
     fn command(&mut self, text: &[u8], room: &mut Room) -> Result<(), Error>;
 
-    /// An image. Returns the room of its data, or none where they are owned.
+    /// An image. Returns the room of its data, or none if they are owned.
     fn image(&mut self, sixel: Sixel) -> Vec<SixelData>;
 }
 

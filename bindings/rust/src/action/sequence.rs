@@ -18,7 +18,7 @@ pub struct CSI {
 }
 
 impl CSI {
-    /// What it asks for, by name.
+    /// Its function, by name.
     #[must_use]
     pub fn function(&self) -> Option<ControlFunction> {
         ControlFunction::of_entries(&self.params, self.control)
@@ -29,14 +29,14 @@ impl CSI {
 #[derive(Clone, Copy, Debug, PartialEq, Eq, Hash)]
 #[cfg_attr(feature = "serde", derive(serde::Serialize, serde::Deserialize))]
 pub struct Esc {
-    /// The intermediate, where there is exactly one.
+    /// The intermediate, if there is exactly one.
     pub intermediate: Option<u8>,
     /// The final byte.
     pub control: u8,
 }
 
 impl Esc {
-    // The intermediate counts where it is the only one.
+    // The intermediate counts if it is the only one.
     #[inline]
     pub(super) fn of(intermediates: &[u8], control: u8) -> Esc {
         let intermediate = match intermediates {
@@ -49,7 +49,7 @@ impl Esc {
         }
     }
 
-    /// What it asks for, by name.
+    /// Its function, by name.
     #[must_use]
     pub fn function(self) -> Option<EscapeFunction> {
         EscapeFunction::of(self.intermediate, self.control)

@@ -1,5 +1,5 @@
 // SPDX-License-Identifier: MIT
-//! What makes actions of events.
+//! The maker of actions from events.
 use super::device_string::DeviceString;
 use super::receiver::Receiver;
 use super::{ControlCode, Esc};

@@ -1,5 +1,5 @@
 // SPDX-License-Identifier: MIT
-//! What is written of actions.
+//! The bytes of actions.
 use super::{
     Action, CSI, ControlCode, DeviceControlMode, EnterDeviceControlMode, Esc, ShortDeviceControl,
 };
@@ -34,9 +34,9 @@ displayed!(
 ///
 /// # Errors
 ///
-/// [`Error::NotWritable`] where an action cannot be written, as [`Action::to_bytes`] has it, or
-/// where the steps of a mode, `Enter`, `Data` and `Exit`, do not follow one another.
-/// [`Error::Memory`] where the library was refused memory.
+/// [`Error::NotWritable`] if an action cannot be written, as [`Action::to_bytes`] has it, or
+/// if the steps of a mode, `Enter`, `Data` and `Exit`, do not follow one another.
+/// [`Error::Memory`] if the library was refused memory.
 pub fn encode(actions: &[Action]) -> Result<Vec<u8>, Error> {
     let mut text = Vec::new();
     let (mut is_entered, mut ends_in_string) = (false, false);
@@ -78,9 +78,9 @@ impl Action {
     ///
     /// # Errors
     ///
-    /// [`Error::NotWritable`] where no bytes would read back as it: a text with a control, a
+    /// [`Error::NotWritable`] if no bytes would read back as it: a text with a control, a
     /// control or an escape sequence that opens a string or a sequence, and others.
-    /// [`Error::Memory`] where the library was refused memory.
+    /// [`Error::Memory`] if the library was refused memory.
     pub fn to_bytes(&self) -> Result<Vec<u8>, Error> {
         match self {
             Action::Print(c) => clear(c.encode_utf8(&mut [0; 4])),

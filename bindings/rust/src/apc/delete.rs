@@ -1,5 +1,5 @@
 // SPDX-License-Identifier: MIT
-//! What is deleted.
+//! The deletions of images.
 use crate::fields::{Fields, image, name};
 
 /// Which placements are deleted. `delete` says whether the data of their images is deleted too,

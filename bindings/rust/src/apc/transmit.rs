@@ -10,9 +10,9 @@ use core::fmt;
 #[derive(Clone, Debug, PartialEq, Eq)]
 #[cfg_attr(feature = "serde", derive(serde::Serialize, serde::Deserialize))]
 pub struct KittyImageTransmit {
-    /// The format of its pixels. Where there is none the terminal takes `Rgba`.
+    /// The format of its pixels. If there is none the terminal takes `Rgba`.
     pub format: Option<KittyImageFormat>,
-    /// What it is made of.
+    /// Its data.
     pub data: KittyImageData,
     /// Its width in pixels.
     pub width: Option<u32>,
@@ -28,7 +28,7 @@ pub struct KittyImageTransmit {
     pub more_data_follows: bool,
 }
 
-/// What an image is made of, or where that lies.
+/// The data of an image, or its place.
 #[derive(Clone, PartialEq, Eq)]
 #[cfg_attr(feature = "serde", derive(serde::Serialize, serde::Deserialize))]
 pub enum KittyImageData {
@@ -40,7 +40,7 @@ pub enum KittyImageData {
     File {
         /// Its path.
         path: String,
-        /// How many bytes of it are the image; where there is none, all.
+        /// The number of its bytes that are the image; if there is none, all.
         data_size: Option<u32>,
         /// How many bytes of it come before them.
         data_offset: Option<u32>,
@@ -49,7 +49,7 @@ pub enum KittyImageData {
     TemporaryFile {
         /// Its path.
         path: String,
-        /// How many bytes of it are the image; where there is none, all.
+        /// The number of its bytes that are the image; if there is none, all.
         data_size: Option<u32>,
         /// How many bytes of it come before them.
         data_offset: Option<u32>,
@@ -58,7 +58,7 @@ pub enum KittyImageData {
     SharedMem {
         /// Its name.
         name: String,
-        /// How many bytes of it are the image; where there is none, all.
+        /// The number of its bytes that are the image; if there is none, all.
         data_size: Option<u32>,
         /// How many bytes of it come before them.
         data_offset: Option<u32>,

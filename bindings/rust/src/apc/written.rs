@@ -1,5 +1,5 @@
 // SPDX-License-Identifier: MIT
-//! What is written of images.
+//! The bytes of images.
 use super::{
     KittyFrameCompositionMode, KittyImage, KittyImageCompression, KittyImageData, KittyImageDelete,
     KittyImageFormat, KittyImageFrame, KittyImageFrameCompose, KittyImagePlacement,
@@ -29,8 +29,8 @@ impl KittyImage {
     ///
     /// # Errors
     ///
-    /// [`Error::NotWritable`] where no bytes would read back as it: a payload has other bytes than
-    /// 20 to 7F (hexadecimal), or a number is 0 of which 0 reads as none. [`Error::Memory`] where
+    /// [`Error::NotWritable`] if no bytes would read back as it: a payload has other bytes than
+    /// 20 to 7F (hexadecimal), or a number is 0 of which 0 reads as none. [`Error::Memory`] if
     /// the library was refused memory.
     pub fn to_bytes(&self) -> Result<Vec<u8>, Error> {
         let mut keys = Keys::default();

@@ -7,7 +7,7 @@ use crate::{ControlFunction, Entry};
 use alloc::boxed::Box;
 use alloc::string::String;
 
-/// What a part of a stream asks for, borrowed. The owned one is
+/// The request of a part of a stream, borrowed. The owned one is
 /// [`action::Action`](crate::action::Action).
 #[derive(Clone, Copy, Debug, PartialEq)]
 #[non_exhaustive]
@@ -76,7 +76,7 @@ pub struct CSI<'a> {
 }
 
 impl CSI<'_> {
-    /// What it asks for, by name.
+    /// Its function, by name.
     #[must_use]
     pub fn function(self) -> Option<ControlFunction> {
         ControlFunction::of_entries(self.params, self.control)

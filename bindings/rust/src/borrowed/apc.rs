@@ -17,7 +17,7 @@ pub enum KittyImage<'a> {
     TransmitData {
         /// The image.
         transmit: KittyImageTransmit<'a>,
-        /// What is reported.
+        /// Which answers the terminal sends.
         verbosity: KittyImageVerbosity,
     },
     /// Keeps an image, and shows it.
@@ -26,7 +26,7 @@ pub enum KittyImage<'a> {
         transmit: KittyImageTransmit<'a>,
         /// How it is shown.
         placement: KittyImagePlacement,
-        /// What is reported.
+        /// Which answers the terminal sends.
         verbosity: KittyImageVerbosity,
     },
     /// Shows an image that is kept.
@@ -37,14 +37,14 @@ pub enum KittyImage<'a> {
         image_number: Option<u32>,
         /// How it is shown.
         placement: KittyImagePlacement,
-        /// What is reported.
+        /// Which answers the terminal sends.
         verbosity: KittyImageVerbosity,
     },
     /// Deletes placements.
     Delete {
         /// Which.
         what: KittyImageDelete,
-        /// What is reported.
+        /// Which answers the terminal sends.
         verbosity: KittyImageVerbosity,
     },
     /// Asks whether an image could be kept, and keeps it not.
@@ -58,20 +58,20 @@ pub enum KittyImage<'a> {
         transmit: KittyImageTransmit<'a>,
         /// The frame.
         frame: KittyImageFrame,
-        /// What is reported.
+        /// Which answers the terminal sends.
         verbosity: KittyImageVerbosity,
     },
     /// Puts a part of one frame over another.
     ComposeFrame {
         /// The frames.
         frame: KittyImageFrameCompose,
-        /// What is reported.
+        /// Which answers the terminal sends.
         verbosity: KittyImageVerbosity,
     },
 }
 
 impl<'a> KittyImage<'a> {
-    /// The image of a text; none where it is no image.
+    /// The image of a text; none if it is no image.
     pub(crate) fn read(text: &[u8], room: &'a mut Room) -> Result<Option<KittyImage<'a>>, Error> {
         read(text, room, ffi::read_kitty, |kind, fields| {
             if kind == image::NONE {

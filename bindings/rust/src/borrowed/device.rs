@@ -1,5 +1,5 @@
 // SPDX-License-Identifier: MIT
-//! What device control strings give, but for images and termcap queries.
+//! The actions of device control strings, but for images and termcap queries.
 use crate::action;
 use alloc::boxed::Box;
 use core::fmt;

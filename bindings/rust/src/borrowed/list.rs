@@ -1,5 +1,5 @@
 // SPDX-License-Identifier: MIT
-//! Lists whose values are read from fields.
+//! Lists with values that are read from fields.
 use crate::fields::{Fields, name};
 use crate::osc::{ChangeColorPair, ColorOrQuery};
 use core::fmt;
@@ -124,7 +124,7 @@ impl<'a, T: Item<'a>> FusedIterator for ListIter<'a, T> {}
 
 /// A value that one field or several make.
 pub trait Item<'a>: Copy {
-    /// The next one. None where none is left.
+    /// The next one. None if none is left.
     fn of(fields: &mut Fields<'a>) -> Option<Self>;
 
     /// Shows values as the owned list is shown.

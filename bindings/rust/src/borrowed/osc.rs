@@ -25,7 +25,7 @@ pub enum OperatingSystemCommand<'a> {
     SetIconName(&'a str),
     /// Code `L`: sets the name of the icon, as Sun's terminals do it.
     SetIconNameSun(&'a str),
-    /// Code 8: what is printed next belongs to this link, or to none.
+    /// Code 8: the text after it belongs to this link, or to none.
     SetHyperlink(Option<Hyperlink<'a>>),
     /// Code 52 with a selection alone: clears it.
     ClearSelection(Selection),
@@ -37,7 +37,7 @@ pub enum OperatingSystemCommand<'a> {
     SystemNotification(&'a str),
     /// Code 1337: a command of iTerm2.
     ITermProprietary(ITermProprietary<'a>),
-    /// Code 133: where a shell's prompts, commands and their output begin and end.
+    /// Code 133: the beginning or end of a shell's prompt, of a command or of its output.
     FinalTermSemanticPrompt(FinalTermSemanticPrompt<'a>),
     /// Code 4: changes colours of the palette, or asks for them.
     ChangeColorNumber(List<'a, ChangeColorPair>),
@@ -48,7 +48,7 @@ pub enum OperatingSystemCommand<'a> {
     ResetDynamicColor(DynamicColorNumber),
     /// Code 7: the directory that the shell works in.
     CurrentWorkingDirectory(&'a str),
-    /// Code 104: resets these colours of the palette; all of them where none is named.
+    /// Code 104: resets these colours of the palette; all of them if none is named.
     ResetColors(List<'a, u8>),
     /// Code 777: an extension of rxvt, as its parts.
     RxvtExtension(List<'a, &'a str>),
@@ -58,7 +58,7 @@ pub enum OperatingSystemCommand<'a> {
     Unspecified(List<'a, &'a [u8]>),
 }
 
-/// A hyperlink: where the characters that follow lead to ("Hyperlinks in terminal emulators", the
+/// A hyperlink: the address of the characters after it ("Hyperlinks in terminal emulators", the
 /// command OSC 8).
 #[derive(Clone, Copy, Debug, PartialEq, Eq)]
 pub struct Hyperlink<'a> {
@@ -67,7 +67,7 @@ pub struct Hyperlink<'a> {
     pub params: List<'a, (&'a str, &'a str)>,
     /// The address.
     pub uri: &'a str,
-    /// Whether the terminal found it in the text itself. What is read has false.
+    /// Whether the terminal found it in the text itself. A link that is read has false.
     pub implicit: bool,
 }
 

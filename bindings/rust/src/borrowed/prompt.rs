@@ -12,16 +12,16 @@ pub enum FinalTermSemanticPrompt<'a> {
     FreshLine,
     /// `A`: as `FreshLine`, and a prompt begins.
     FreshLineAndStartPrompt {
-        /// The name of the application, where it is given.
+        /// The name of the application, if it is given.
         aid: Option<&'a str>,
-        /// What a click does, where it is given.
+        /// The effect of a click, if it is given.
         cl: Option<FinalTermClick>,
     },
     /// `N`: the command before ends, and then as `FreshLineAndStartPrompt`.
     MarkEndOfCommandWithFreshLine {
-        /// The name of the application, where it is given.
+        /// The name of the application, if it is given.
         aid: Option<&'a str>,
-        /// What a click does, where it is given.
+        /// The effect of a click, if it is given.
         cl: Option<FinalTermClick>,
     },
     /// `P`: a prompt of this kind begins.
@@ -32,14 +32,14 @@ pub enum FinalTermSemanticPrompt<'a> {
     MarkEndOfPromptAndStartOfInputUntilEndOfLine,
     /// `C`: the input ends, and the output begins.
     MarkEndOfInputAndStartOfOutput {
-        /// The name of the application, where it is given.
+        /// The name of the application, if it is given.
         aid: Option<&'a str>,
     },
     /// `D`: the command ends.
     CommandStatus {
-        /// With what status; 0 where none is given.
+        /// With what status; 0 if none is given.
         status: i32,
-        /// The name of the application, where it is given.
+        /// The name of the application, if it is given.
         aid: Option<&'a str>,
     },
 }

@@ -8,9 +8,9 @@ use core::str;
 /// An image on its way to the terminal.
 #[derive(Clone, Copy, Debug, PartialEq, Eq)]
 pub struct KittyImageTransmit<'a> {
-    /// The format of its pixels. Where there is none the terminal takes `Rgba`.
+    /// The format of its pixels. If there is none the terminal takes `Rgba`.
     pub format: Option<KittyImageFormat>,
-    /// What it is made of.
+    /// Its data.
     pub data: KittyImageData<'a>,
     /// Its width in pixels.
     pub width: Option<u32>,
@@ -56,7 +56,7 @@ impl<'a> KittyImageTransmit<'a> {
     }
 }
 
-/// What an image is made of, or where that lies.
+/// The data of an image, or its place.
 #[derive(Clone, Copy, PartialEq, Eq)]
 pub enum KittyImageData<'a> {
     /// The payload as it is in the command, in base64. It is not decoded.
@@ -67,7 +67,7 @@ pub enum KittyImageData<'a> {
     File {
         /// Its path.
         path: &'a str,
-        /// How many bytes of it are the image; where there is none, all.
+        /// The number of its bytes that are the image; if there is none, all.
         data_size: Option<u32>,
         /// How many bytes of it come before them.
         data_offset: Option<u32>,
@@ -76,7 +76,7 @@ pub enum KittyImageData<'a> {
     TemporaryFile {
         /// Its path.
         path: &'a str,
-        /// How many bytes of it are the image; where there is none, all.
+        /// The number of its bytes that are the image; if there is none, all.
         data_size: Option<u32>,
         /// How many bytes of it come before them.
         data_offset: Option<u32>,
@@ -85,7 +85,7 @@ pub enum KittyImageData<'a> {
     SharedMem {
         /// Its name.
         name: &'a str,
-        /// How many bytes of it are the image; where there is none, all.
+        /// The number of its bytes that are the image; if there is none, all.
         data_size: Option<u32>,
         /// How many bytes of it come before them.
         data_offset: Option<u32>,

@@ -61,7 +61,7 @@ fn read_on(data: &[u8], items: &mut Vec<SixelData>, room: &mut Room) -> Result<(
 }
 
 // The selected colour, the repeat, or both, that come first, and how many bytes they have. None
-// where numbers have more than four digits or are 0.
+// if numbers have more than four digits or are 0.
 fn short(data: &[u8]) -> Option<(Option<SixelData>, Option<SixelData>, usize)> {
     let (mut rest, mut color) = (data, None);
     if let [b'#', more @ ..] = data {

@@ -13,13 +13,13 @@ pub struct Sixel {
     pub pan: i64,
     /// A pixel is so many units wide.
     pub pad: i64,
-    /// The width in pixels, where raster attributes gave one.
+    /// The width in pixels, if raster attributes gave one.
     pub pixel_width: Option<u32>,
-    /// The height in pixels, where raster attributes gave one.
+    /// The height in pixels, if raster attributes gave one.
     pub pixel_height: Option<u32>,
-    /// Whether pixels of 0 leave what was there; else they are drawn in the background colour.
+    /// Whether pixels of 0 leave the old pixels; else they are drawn in the background colour.
     pub background_is_transparent: bool,
-    /// The horizontal grid size, where the header has one.
+    /// The horizontal grid size, if the header has one.
     pub horizontal_grid_size: Option<i64>,
     /// The data.
     pub data: Vec<SixelData>,
@@ -62,7 +62,7 @@ pub enum SixelData {
     },
     /// Selects the colour of this number.
     SelectColorMapEntry(u16),
-    /// Back to the start of the line, so that what follows is drawn over it.
+    /// Back to the start of the line, so that the next pixels are drawn over it.
     CarriageReturn,
     /// To the start of the next band of six lines.
     NewLine,
@@ -82,7 +82,7 @@ pub struct RgbColor {
 
 impl Sixel {
     /// The image of these parameters and this data: those of [`Event::Dcs`](crate::Event::Dcs) with
-    /// the byte `q` and no intermediate, and the bytes up to what ends them. Any are such an image.
+    /// the byte `q` and no intermediate, and the bytes up to their end. Any are such an image.
     ///
     /// ```
     /// use escape_stream::dcs::{Sixel, SixelData};
@@ -101,7 +101,7 @@ impl Sixel {
         read_sixel(params, data, &mut Room::default())
     }
 
-    /// Width and height in pixels: both sizes of the raster attributes, where both are there. Else
+    /// Width and height in pixels: both sizes of the raster attributes, if both are there. Else
     /// the width of the widest line, and six times the number of the last band that has a sixel.
     #[must_use]
     pub fn dimensions(&self) -> (u32, u32) {

@@ -1,5 +1,5 @@
 // SPDX-License-Identifier: MIT
-//! What is written of sixel images.
+//! The bytes of sixel images.
 use super::{Sixel, SixelData};
 use crate::Error;
 use crate::action::Action;
@@ -24,9 +24,9 @@ impl Sixel {
     ///
     /// # Errors
     ///
-    /// [`Error::NotWritable`] where no bytes would read back as it: a number is negative, six
+    /// [`Error::NotWritable`] if no bytes would read back as it: a number is negative, six
     /// pixels are more than 63, it has one size of two or too large ones, or a channel of a colour
-    /// is none that a percentage gives. [`Error::Memory`] where the library was refused memory.
+    /// is none that a percentage gives. [`Error::Memory`] if the library was refused memory.
     pub fn to_bytes(&self) -> Result<Vec<u8>, Error> {
         let mut text = String::new();
         self.spell(&mut text).map_err(|_| Error::NotWritable)?;
@@ -38,7 +38,7 @@ impl Sixel {
 
     fn spell(&self, text: &mut String) -> fmt::Result {
         let (pan, pad) = (self.pan, self.pad);
-        // The first parameter, where it says pan and pad.
+        // The first parameter, if it says pan and pad.
         let first = match (self.pixel_width, pan, pad) {
             (None, 2, 1) => "0",
             (None, 5, 1) => "2",

@@ -118,7 +118,7 @@ macro_rules! in_chunks {
                 unsafe { $text(self, from, out.as_mut_ptr(), out.len()) }
             }
 
-            /// Gives back what it took.
+            /// Gives back its memory.
             pub fn end(&mut self) {
                 // SAFETY: as in `begin`.
                 unsafe { $end(self) }
@@ -167,7 +167,7 @@ impl Filter {
     /// Begins a stream.
     pub fn begin(&mut self, policy: Policy, limit: usize) -> Result<(), Error> {
         // SAFETY: the reference is what the type asks for, and the filter is as a call or `ended` left
-        // it: where it is begun, its pointer is one that a call put there.
+        // it: if it is begun, its pointer is one that a call put there.
         let status = unsafe { escape_stream_filter_begin(self, number(policy), limit) };
         done(status, ())
     }
@@ -235,7 +235,7 @@ pub struct SanitizerOptions {
 }
 
 impl SanitizerOptions {
-    /// What is usual by this policy, without a limit.
+    /// The usual options of this policy, without a limit.
     pub fn of(policy: Policy) -> SanitizerOptions {
         SanitizerOptions {
             size: core::mem::size_of::<SanitizerOptions>() as u32,

@@ -35,7 +35,7 @@ pub enum ITermProprietary {
         height_pixels: u32,
         /// The width of a cell, in tenths of a pixel.
         width_pixels: u32,
-        /// How many pixels of the display a pixel is, in tenths; none where it was not reported.
+        /// How many pixels of the display a pixel is, in tenths; none if it was not reported.
         scale: Option<u32>,
     },
     /// Puts this text into the general pasteboard.
@@ -57,14 +57,14 @@ pub enum ITermProprietary {
     UnicodeVersion(ITermUnicodeVersionOp),
 }
 
-/// What is done to the version of Unicode by which characters have their widths (iTerm2's
+/// A change of the version of Unicode by which characters have their widths (iTerm2's
 /// documentation, "Unicode Version").
 #[derive(Clone, Debug, PartialEq, Eq)]
 #[cfg_attr(feature = "serde", derive(serde::Serialize, serde::Deserialize))]
 pub enum ITermUnicodeVersionOp {
     /// Sets the version.
     Set(u8),
-    /// Keeps the version on a stack, under a label where there is one.
+    /// Keeps the version on a stack, under a label if there is one.
     Push(Option<String>),
     /// Sets the version that was kept last, or that under the label, and drops what was kept since.
     Pop(Option<String>),
@@ -75,9 +75,9 @@ pub enum ITermUnicodeVersionOp {
 #[derive(Clone, Debug, PartialEq, Eq)]
 #[cfg_attr(feature = "serde", derive(serde::Serialize, serde::Deserialize))]
 pub struct ITermFileData {
-    /// Its name, where it has one.
+    /// Its name, if it has one.
     pub name: Option<String>,
-    /// Its size in bytes, where it is given. It need not be that of the content.
+    /// Its size in bytes, if it is given. It need not be that of the content.
     pub size: Option<usize>,
     /// The width at which it is shown.
     pub width: ITermDimension,
@@ -85,11 +85,11 @@ pub struct ITermFileData {
     pub height: ITermDimension,
     /// Whether its width and height keep their ratio.
     pub preserve_aspect_ratio: bool,
-    /// Whether it is shown. Where it is not, it is stored.
+    /// Whether it is shown. If it is not, it is stored.
     pub inline: bool,
     /// Whether the cursor stays where it is.
     pub do_not_move_cursor: bool,
-    /// What it holds.
+    /// Its content.
     pub data: Vec<u8>,
 }
 

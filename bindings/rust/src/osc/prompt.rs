@@ -13,16 +13,16 @@ pub enum FinalTermSemanticPrompt {
     FreshLine,
     /// `A`: as `FreshLine`, and a prompt begins.
     FreshLineAndStartPrompt {
-        /// The name of the application, where it is given.
+        /// The name of the application, if it is given.
         aid: Option<String>,
-        /// What a click does, where it is given.
+        /// The effect of a click, if it is given.
         cl: Option<FinalTermClick>,
     },
     /// `N`: the command before ends, and then as `FreshLineAndStartPrompt`.
     MarkEndOfCommandWithFreshLine {
-        /// The name of the application, where it is given.
+        /// The name of the application, if it is given.
         aid: Option<String>,
-        /// What a click does, where it is given.
+        /// The effect of a click, if it is given.
         cl: Option<FinalTermClick>,
     },
     /// `P`: a prompt of this kind begins.
@@ -33,19 +33,19 @@ pub enum FinalTermSemanticPrompt {
     MarkEndOfPromptAndStartOfInputUntilEndOfLine,
     /// `C`: the input ends, and the output begins.
     MarkEndOfInputAndStartOfOutput {
-        /// The name of the application, where it is given.
+        /// The name of the application, if it is given.
         aid: Option<String>,
     },
     /// `D`: the command ends.
     CommandStatus {
-        /// With what status; 0 where none is given.
+        /// With what status; 0 if none is given.
         status: i32,
-        /// The name of the application, where it is given.
+        /// The name of the application, if it is given.
         aid: Option<String>,
     },
 }
 
-/// Which movements of the cursor the shell takes where the user clicks on its input (FinalTerm; key
+/// Which movements of the cursor the shell takes when the user clicks on its input (FinalTerm; key
 /// `cl`).
 #[derive(Clone, Copy, Debug, PartialEq, Eq, Hash)]
 #[cfg_attr(feature = "serde", derive(serde::Serialize, serde::Deserialize))]

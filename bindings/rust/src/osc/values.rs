@@ -1,11 +1,11 @@
 // SPDX-License-Identifier: MIT
-//! What commands name and carry.
+//! The values of commands.
 use crate::fields::{Fields, name};
 use alloc::collections::BTreeMap;
 use alloc::string::String;
 use core::ops::BitOr;
 
-/// A hyperlink: where the characters that follow lead to ("Hyperlinks in terminal emulators", the
+/// A hyperlink: the address of the characters after it ("Hyperlinks in terminal emulators", the
 /// command OSC 8).
 #[derive(Clone, Debug, PartialEq, Eq)]
 #[cfg_attr(feature = "serde", derive(serde::Serialize, serde::Deserialize))]
@@ -15,7 +15,7 @@ pub struct Hyperlink {
     pub params: BTreeMap<String, String>,
     /// The address.
     pub uri: String,
-    /// Whether the terminal found it in the text itself. What is read has false.
+    /// Whether the terminal found it in the text itself. A link that is read has false.
     pub implicit: bool,
 }
 

@@ -34,7 +34,7 @@ impl Parser {
         Parser::default()
     }
 
-    /// Takes the next byte of the stream, and makes the calls for what it says.
+    /// Takes the next byte of the stream, and makes the calls for it.
     ///
     /// After a [failure](super::Parser::has_failed) it makes none.
     #[inline]
