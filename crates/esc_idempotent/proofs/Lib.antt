@@ -8,3 +8,4 @@ pub mod OneLine
 pub mod AllLines
 pub mod Tints
 pub mod Policies
+pub mod Choices

@@ -1,7 +1,9 @@
 -- The policies admit text, and what gives back what they admit leaves changed.
-use Rattle.std.proofs.Common.{◌≡◌, pos, Bool, true, false, List, [], ◌∷◌, None, refl, sym, ◌∙◌}
+use Rattle.std.proofs.Common.{◌≡◌, pos, Bool, true, false, List, [], ◌∷◌, None, refl, sym, ap, ◌∙◌}
 use Rattle.std.specs.List.{list_all}
-use Rattle.esc_sequences.specs.Csis.{unspecified}
+use Rattle.esc_sequences.specs.Csis.{sgr, unspecified}
+use Rattle.esc_sequences.specs.declared.sgr.Sgr.TheVariants.{Reset}
+use Rattle.esc_osc.specs.declared.command.OperatingSystemCommand.TheVariants as command
 use Rattle.esc_values.specs.declared.csi_param.CsiParam.TheVariants.{Integer}
 use Rattle.esc_functions.specs.Controls as controls
 use Rattle.esc_functions.specs.Effects.{changes_screen}
@@ -10,7 +12,7 @@ use Rattle.esc_functions.specs.Escapes as escapes
 use Rattle.esc_functions.specs.Functions.{function_of, rows_of}
 use Rattle.esc_functions.specs.Modes as modes
 use Rattle.esc_functions.specs.PrivateModes as private_modes
-use Rattle.esc_actions.specs.Values.{Value, control, csi}
+use Rattle.esc_actions.specs.Values.{Value, control, csi, osc}
 use Rattle.esc_actions.specs.declared.control_code.ControlCode.TheVariants.{ShiftIn}
 use Rattle.esc_filter.specs.Closing.{after_values, ascii_in, closing, escape, keeps_cursor, private_mode}
 use Rattle.esc_filter.specs.Known.{IsPassedText}
@@ -20,7 +22,7 @@ use Rattle.esc_filter.specs.declared.policy.Policy.{Policy}
 use Rattle.esc_filter.specs.declared.policy.Policy.TheVariants as policy
 use Rattle.esc_filter.proofs.Runs.{text_passes}
 use Rattle.esc_idempotent.proofs.Given.{OfEach, back_all}
-use Rattle.esc_idempotent.proofs.Tints.{closing_least}
+use Rattle.esc_idempotent.proofs.Tints.{text_closes, tints_close}
 use Rattle.esc_idempotent.specs.Again.{AdmitsAs, AdmitsItsClosing}
 
 module _ (A : Type 0) where
@@ -89,18 +91,19 @@ module _ {A : Type 0} where
   every [] = refl
   every (v ∷ vs) = every vs
 
-  closing_admitted : (p : Policy) (f : Value A → Bool) (vs : List (Value A))
-      → list_all (admits p) vs ≡ true → list_all (admits p) (closing f vs) ≡ true
-  closing_admitted policy.Text f vs h = closing_least false f vs h
-  closing_admitted policy.Color f vs h = closing_least true f vs h
-  closing_admitted policy.Screen f vs h =
-      back_all (admits policy.Screen) (screen_each A) (keeps_cursor f) (after_values vs unchanged)
-  closing_admitted policy.All f vs h = every (closing f vs)
-
   pub closes : (p : Policy) (f : Value A → Bool) → AdmitsAs p f → AdmitsItsClosing f
-  closes p f same vs h =
-      all_same f (admits p) same (closing f vs)
-      ∙ closing_admitted p f vs (sym (all_same f (admits p) same vs) ∙ h)
+  closes policy.Text f same vs h =
+      ap (list_all f)
+      (text_closes f vs (sym (all_same f (admits policy.Text) same vs) ∙ h))
+  closes policy.Color f same vs h =
+      tints_close f (λ v k. sym (same v) ∙ k)
+      (λ c k. same (csi (sgr Reset)), λ c k. same (osc (command.SetHyperlink None))) vs h
+  closes policy.Screen f same vs h =
+      all_same f (admits policy.Screen) same (closing f vs)
+      ∙ back_all (admits policy.Screen) (screen_each A) (keeps_cursor f)
+      (after_values vs unchanged)
+  closes policy.All f same vs h =
+      all_same f (admits policy.All) same (closing f vs) ∙ every (closing f vs)
 
   pub texts : (p : Policy) (f : Value A → Bool) → AdmitsAs p f → IsPassedText f
   texts p f same v h = same v ∙ sym (text_passes p v h)

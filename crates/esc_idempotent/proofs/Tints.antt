@@ -1,8 +1,9 @@
 -- What text, renditions and links leave changed is given back by renditions and links alone.
-use Rattle.std.proofs.Common.{◌≡◌, Bool, true, false, not, ◌||◌, ◌==◌, List, [], ◌∷◌, refl, sym, ap, ◌∙◌, subst}
+use Rattle.std.proofs.Common.{◌≡◌, Bool, true, false, not, ◌||◌, ◌==◌, List, [], ◌∷◌, None, refl, sym, ap, ◌∙◌, subst}
 use Rattle.std.specs.List.{list_all}
 use Rattle.std.proofs.lemmas.Bool.{and_parts, eqb-true, true≢false}
 use Rattle.esc_sequences.specs.Csis.{CsiValue, sgr, unspecified}
+use Rattle.esc_sequences.specs.declared.sgr.Sgr.TheVariants.{Reset}
 use Rattle.esc_osc.specs.declared.command.OperatingSystemCommand.{OperatingSystemCommand}
 use Rattle.esc_osc.specs.declared.command.OperatingSystemCommand.TheVariants as command
 use Rattle.esc_actions.specs.ControlCodes.{code_number}
@@ -10,20 +11,15 @@ use Rattle.esc_actions.specs.Values.{Value, print, string, control, esc, csi, os
 use Rattle.esc_actions.specs.declared.control_code.ControlCode.{ControlCode}
 use Rattle.esc_actions.specs.declared.control_code.ControlCode.TheVariants as code
 use Rattle.esc_filter.specs.Closing.{after_body, after_command, after_control, after_sequence, after_value, after_values, closing, given_back, is_reset, keeps_cursor, opens, turned}
-use Rattle.esc_filter.specs.Rules.{admits, is_colour, is_layout, is_link, is_plain_param, is_rendition, is_text}
+use Rattle.esc_filter.specs.Pieces.{AdmitsAtMost}
+use Rattle.esc_filter.specs.Rules.{is_colour, is_layout, is_link, is_plain_param, is_rendition, is_text}
 use Rattle.esc_filter.specs.Terminal.{unchanged}
 use Rattle.esc_filter.specs.declared.policy.Policy.TheVariants as policy
 use Rattle.esc_filter.specs.declared.terminal.Terminal.{Terminal}
 use Rattle.esc_filter.proofs.Lights.{plain_lit}
-use Rattle.esc_filter.proofs.Pieces.{least}
+use Rattle.esc_idempotent.specs.Again.{AdmitsItsClosing, AdmitsResets}
 
--- a rendition and a link alone
-abbrev tinted : Bool → Bool → Terminal
-tinted r l = record unchanged { rendition = r; link = l }
-
-abbrev IsTinted : Bool → Terminal → Type 0
-IsTinted false t = t ≡ unchanged
-IsTinted true t = (r : Bool) × (l : Bool) × (t ≡ tinted r l)
+-- ---- text
 
 layout_stays : (c : ControlCode) (t : Terminal) → is_layout (code_number c) ≡ true
     → after_control c t ≡ t
@@ -46,80 +42,117 @@ text_stays (enter e) t h = refl
 text_stays (datum b) t h = refl
 text_stays exit t h = refl
 
-tinted_by : (b : Bool) (t : Terminal) → IsTinted true t → IsTinted true (turned b t)
-tinted_by b t (r, l, e) = (b, l, ap (turned b) e)
+texts_stay : {A : Type 0} (vs : List (Value A)) (t : Terminal) → list_all is_text vs ≡ true
+    → after_values vs t ≡ t
+texts_stay [] t h = refl
+texts_stay (v ∷ vs) t h =
+    let q = and_parts (is_text v) (list_all is_text vs) h in
+    ap (after_values vs) (text_stays v t q.0) ∙ texts_stay vs t q.1
 
-rendition_tints : (c : CsiValue) (t : Terminal) → is_rendition c ≡ true → IsTinted true t
-    → IsTinted true (after_sequence c t)
-rendition_tints (sgr s) t h k = tinted_by (not (is_reset s)) t k
-rendition_tints (unspecified es more f) t h k =
-    let q = and_parts (f == 0x6d) (list_all is_plain_param es) h in
-    subst (IsTinted true)
-    (sym (ap (λ x. after_body es x t) (eqb-true f 0x6d q.0) ∙ plain_lit es q.1 t))
-    (tinted_by true t k)
+-- nothing is given back of it
+pub text_closes : {A : Type 0} (f : Value A → Bool) (vs : List (Value A))
+    → list_all is_text vs ≡ true → closing f vs ≡ []
+text_closes f vs h = ap (given_back (keeps_cursor f)) (texts_stay vs unchanged h)
+
+-- ---- renditions and links
+
+-- a rendition and a link alone
+abbrev tinted : Bool → Bool → Terminal
+tinted r l = record unchanged { rendition = r; link = l }
 
 abbrev linked : Bool → Terminal → Terminal
 linked b t = record t { link = b }
 
-link_tints : {A : Type 0} (c : OperatingSystemCommand A) (t : Terminal) → is_link c ≡ true
-    → IsTinted true t → IsTinted true (after_command c t)
-link_tints (command.SetHyperlink l) t h (r, m, e) =
-    (r, opens l, ap (linked (opens l)) e)
-link_tints _ t h k = absurd (true≢false (sym h))
+module _ {A : Type 0} (f : Value A → Bool) (most : AdmitsAtMost policy.Color f)
+    (resets : AdmitsResets f) where
+  -- what gives it back is admitted
+  record IsTinted (t : Terminal) : Type 0 where
+    rendition : Bool
+    link : Bool
+    tints : t ≡ tinted rendition link
+    reset : rendition ≡ true → f (csi (sgr Reset)) ≡ true
+    ended : link ≡ true → f (osc (command.SetHyperlink None)) ≡ true
 
-colour_tints : {A : Type 0} (v : Value A) (t : Terminal) → is_colour v ≡ true → IsTinted true t
-    → IsTinted true (after_value v t)
-colour_tints (csi c) t h k = rendition_tints c t h k
-colour_tints (osc c) t h k = link_tints c t h k
-colour_tints (esc e) t h k = absurd (true≢false (sym h))
-colour_tints (control c) t h k = absurd (true≢false (sym h))
-colour_tints (print c) t h k = k
-colour_tints (string x) t h k = k
-colour_tints (kitty i) t h k = k
-colour_tints (sixel s) t h k = k
-colour_tints (termcap ns) t h k = k
-colour_tints (short s) t h k = k
-colour_tints (enter e) t h k = k
-colour_tints (datum b) t h k = k
-colour_tints exit t h k = k
+  turned_tints : (b : Bool) (t : Terminal) → f (csi (sgr Reset)) ≡ true → IsTinted t
+      → IsTinted (turned b t)
+  turned_tints b t h k = record {
+    rendition = b;
+    link = k.link;
+    tints = ap (turned b) k.tints;
+    reset = λ _. h;
+    ended = k.ended;
+  }
 
-value_tints : {A : Type 0} (k : Bool) (v : Value A) (t : Terminal) → admits (least k) v ≡ true
-    → IsTinted k t → IsTinted k (after_value v t)
-value_tints false v t h e = text_stays v t h ∙ e
-value_tints true v t h e = by (is_text v) refl h
-  where
-    by : (s : Bool) → is_text v ≡ s → (s || is_colour v) ≡ true
-        → IsTinted true (after_value v t)
-    by true g i = subst (IsTinted true) (sym (text_stays v t g)) e
-    by false g i = colour_tints v t i e
+  rendition_tints : (c : CsiValue) (t : Terminal) → is_rendition c ≡ true
+      → f (csi (sgr Reset)) ≡ true → IsTinted t → IsTinted (after_sequence c t)
+  rendition_tints (sgr s) t h g k = turned_tints (not (is_reset s)) t g k
+  rendition_tints (unspecified es more b) t h g k =
+      let q = and_parts (b == 0x6d) (list_all is_plain_param es) h in
+      subst IsTinted
+      (sym (ap (λ x. after_body es x t) (eqb-true b 0x6d q.0) ∙ plain_lit es q.1 t))
+      (turned_tints true t g k)
 
-values_tint : {A : Type 0} (k : Bool) (vs : List (Value A)) (t : Terminal)
-    → list_all (admits (least k)) vs ≡ true → IsTinted k t → IsTinted k (after_values vs t)
-values_tint k [] t h e = e
-values_tint k (v ∷ vs) t h e =
-    let q = and_parts (admits (least k) v) (list_all (admits (least k)) vs) h in
-    values_tint k vs (after_value v t) q.1 (value_tints k v t q.0 e)
+  link_tints : (c : OperatingSystemCommand A) (t : Terminal) → is_link c ≡ true
+      → f (osc (command.SetHyperlink None)) ≡ true → IsTinted t → IsTinted (after_command c t)
+  link_tints (command.SetHyperlink l) t h g k = record {
+    rendition = k.rendition;
+    link = opens l;
+    tints = ap (linked (opens l)) k.tints;
+    reset = k.reset;
+    ended = λ _. g;
+  }
+  link_tints _ t h g k = absurd (true≢false (sym h))
 
-at_first : (k : Bool) → IsTinted k unchanged
-at_first false = refl
-at_first true = (false, false, refl)
+  colour_tints : (v : Value A) (t : Terminal) → is_colour v ≡ true → f v ≡ true → IsTinted t
+      → IsTinted (after_value v t)
+  colour_tints (csi c) t h g k = rendition_tints c t h (resets.0 c g) k
+  colour_tints (osc c) t h g k = link_tints c t h (resets.1 c g) k
+  colour_tints (esc e) t h g k = absurd (true≢false (sym h))
+  colour_tints (control c) t h g k = absurd (true≢false (sym h))
+  colour_tints (print c) t h g k = k
+  colour_tints (string x) t h g k = k
+  colour_tints (kitty i) t h g k = k
+  colour_tints (sixel s) t h g k = k
+  colour_tints (termcap ns) t h g k = k
+  colour_tints (short s) t h g k = k
+  colour_tints (enter e) t h g k = k
+  colour_tints (datum b) t h g k = k
+  colour_tints exit t h g k = k
 
--- a reset of renditions, and the end of a link
-back_of : (A : Type 0) (b r l : Bool)
-    → list_all (admits policy.Color) (given_back {A = A} b (tinted r l)) ≡ true
-back_of A b false false = refl
-back_of A b true false = refl
-back_of A b false true = refl
-back_of A b true true = refl
+  value_tints : (v : Value A) (t : Terminal) → f v ≡ true → IsTinted t
+      → IsTinted (after_value v t)
+  value_tints v t h k = by (is_text v) refl (most v h)
+    where
+      by : (s : Bool) → is_text v ≡ s → (s || is_colour v) ≡ true → IsTinted (after_value v t)
+      by true g i = subst IsTinted (sym (text_stays v t g)) k
+      by false g i = colour_tints v t i h k
 
-back_least : (A : Type 0) (k b : Bool) (t : Terminal) → IsTinted k t
-    → list_all (admits (least k)) (given_back {A = A} b t) ≡ true
-back_least A false b t e = ap (λ x. list_all (admits policy.Text) (given_back {A = A} b x)) e
-back_least A true b t (r, l, e) =
-    ap (λ x. list_all (admits policy.Color) (given_back {A = A} b x)) e ∙ back_of A b r l
+  values_tint : (vs : List (Value A)) (t : Terminal) → list_all f vs ≡ true → IsTinted t
+      → IsTinted (after_values vs t)
+  values_tint [] t h k = k
+  values_tint (v ∷ vs) t h k =
+      let q = and_parts (f v) (list_all f vs) h in
+      values_tint vs (after_value v t) q.1 (value_tints v t q.0 k)
 
-pub closing_least : {A : Type 0} (k : Bool) (f : Value A → Bool) (vs : List (Value A))
-    → list_all (admits (least k)) vs ≡ true → list_all (admits (least k)) (closing f vs) ≡ true
-closing_least {A} k f vs h =
-    back_least A k (keeps_cursor f) (after_values vs unchanged)
-    (values_tint k vs unchanged h (at_first k))
+  first_tints : IsTinted unchanged
+  first_tints = record {
+    rendition = false;
+    link = false;
+    tints = refl;
+    reset = λ h. absurd (true≢false (sym h));
+    ended = λ h. absurd (true≢false (sym h));
+  }
+
+  back_of : (b r l : Bool) → (r ≡ true → f (csi (sgr Reset)) ≡ true)
+      → (l ≡ true → f (osc (command.SetHyperlink None)) ≡ true)
+      → list_all f (given_back b (tinted r l)) ≡ true
+  back_of b false false g h = refl
+  back_of b true false g h = rw (g refl) refl
+  back_of b false true g h = rw (h refl) refl
+  back_of b true true g h = rw (g refl, h refl) refl
+
+  pub tints_close : AdmitsItsClosing f
+  tints_close vs h =
+      let k = values_tint vs unchanged h first_tints in
+      ap (λ t. list_all f (given_back (keeps_cursor f) t)) k.tints
+      ∙ back_of (keeps_cursor f) k.rendition k.link k.reset k.ended

@@ -1,8 +1,12 @@
 -- What a filter does with what it wrote itself.
-use Rattle.std.specs.Prelude.{ℕ, ◌≡◌, ◌⊎◌, Bool, true, false, if◌then◌else◌, List, [], ◌∷◌, ◌++◌, Option, Some}
+use Rattle.std.specs.Prelude.{ℕ, ◌≡◌, ◌⊎◌, Bool, true, false, if◌then◌else◌, List, [], ◌∷◌, ◌++◌, Option, None, Some}
 use Rattle.std.specs.List.{list_all}
 use Rattle.esc_actions.specs.Meaning.{meaning, meaning_within}
-use Rattle.esc_actions.specs.Values.{Value}
+use Rattle.esc_sequences.specs.Csis.{CsiValue, sgr}
+use Rattle.esc_sequences.specs.declared.sgr.Sgr.TheVariants.{Reset}
+use Rattle.esc_osc.specs.declared.command.OperatingSystemCommand.{OperatingSystemCommand}
+use Rattle.esc_osc.specs.declared.command.OperatingSystemCommand.TheVariants as command
+use Rattle.esc_actions.specs.Values.{Value, csi, osc}
 use Rattle.esc_filter.specs.Characters.{keeps_all}
 use Rattle.esc_filter.specs.Closing.{closing}
 use Rattle.esc_filter.specs.Known.{IsPassedText}
@@ -21,6 +25,13 @@ AdmitsItsClosing {A} f =
 -- all is written as it is, or what is written instead is text, which the policy admits
 abbrev pub AdmitsInstead : {A : Type 0} → Guard → (Value A → Bool) → Type 0
 AdmitsInstead u f = (keeps_all u ≡ true) ⊎ IsPassedText f
+
+-- where it admits a control sequence it admits the reset of renditions, and where it admits a
+-- command, the end of a link
+abbrev pub AdmitsResets : {A : Type 0} → (Value A → Bool) → Type 0
+AdmitsResets {A} f = ((c : CsiValue) → f (csi c) ≡ true → f (csi (sgr Reset)) ≡ true)
+    × ((c : OperatingSystemCommand A) → f (osc c) ≡ true
+    → f (osc (command.SetHyperlink None)) ≡ true)
 
 -- what admits these values admits exactly those that the policy p does
 abbrev pub AdmitsAs : {A : Type 0} → Policy → (Value A → Bool) → Type 0

@@ -3,15 +3,21 @@
 //! allocator `A`, which the type of the actions names.
 #![tactic(auto)]
 
-ghost use Rattle.std.specs.Prelude.{◌≡◌, ℕ, Bool, List, None, Option};
+ghost use Rattle.std.specs.Prelude.{◌≡◌, ℕ, Bool, List, Option, true};
 ghost use Rattle.esc_actions.specs.Values.{Value};
+ghost use Rattle.esc_filter.specs.Groups.{admits_groups, groups_of, has};
 ghost use Rattle.esc_filter.specs.Known.{IsPassedText};
 ghost use Rattle.esc_filter.specs.Lines.{closed_by_lines_as, lines};
 ghost use Rattle.esc_filter.specs.Openings.{resumed_closed};
 ghost use Rattle.esc_filter.specs.Passing.{closed_text_as, passed_text_as};
+ghost use Rattle.esc_filter.specs.Pieces.{AdmitsAtMost};
+ghost use Rattle.esc_filter.specs.declared.group.Group.{Group};
+ghost use Rattle.esc_filter.specs.declared.group.Group.TheVariants as group;
+ghost use Rattle.esc_filter.specs.declared.groups.Groups.{Groups};
 ghost use Rattle.esc_filter.specs.declared.guard.Guard.{Guard};
 ghost use Rattle.esc_filter.specs.declared.policy.Policy.{Policy};
-ghost use Rattle.esc_idempotent.specs.Again.{AdmitsAs, AdmitsInstead, AdmitsItsClosing, AreKept, IsKept};
+ghost use Rattle.esc_filter.specs.declared.policy.Policy.TheVariants as policy;
+ghost use Rattle.esc_idempotent.specs.Again.{AdmitsAs, AdmitsInstead, AdmitsItsClosing, AdmitsResets, AreKept, IsKept};
 
 use esc_filter::{lines_written, written_reads_back};
 use std::alloc::Allocator;
@@ -54,4 +60,22 @@ pub fn filters_lines_twice<A: Allocator>()
 pub fn policies_close<A: Allocator>()
     ensures texts { (p : Policy) (f : Value A → Bool) → AdmitsAs p f → IsPassedText f }
     ensures closes { (p : Policy) (f : Value A → Bool) → AdmitsAs p f → AdmitsItsClosing f }
+{}
+
+/// So does one that admits no more than `Policy::Color`, where it admits the reset of renditions
+/// and the end of a link wherever it admits some.
+pub fn colours_close<A: Allocator>()
+    ensures { (f : Value A → Bool) → AdmitsAtMost policy.Color f → AdmitsResets f
+        → AdmitsItsClosing f }
+{}
+
+/// So does a choice of groups of `Policy::Color`, where renditions that conceal text are in it only
+/// with the others; and it admits text where characters and what lays them out are in it.
+pub fn choices_close<A: Allocator>()
+    ensures texts { (g : Groups) → has g group.Characters ≡ true → has g group.Layout ≡ true
+        → IsPassedText {A = A} (admits_groups g) }
+    ensures closes { (g : Groups)
+        → ((c : Group) → has g c ≡ true → has (groups_of policy.Color) c ≡ true)
+        → (has g group.Hidden ≡ true → has g group.Sgr ≡ true)
+        → AdmitsItsClosing {A = A} (admits_groups g) }
 {}

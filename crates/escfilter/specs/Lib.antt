@@ -2,3 +2,4 @@ pub mod Choices
 pub mod Settings
 pub mod Fates
 pub mod Failures
+pub mod Rows

@@ -2,9 +2,9 @@
 
 use crate::name::Name;
 use crate::report::{bytes_of, words_of};
-use crate::rows::{Open, Place, Row, Rows};
+use crate::rows::{Open, Rows};
 use crate::saying::{put, put_number};
-use esc_account::{Account, Fate, Sums};
+use esc_account::{Account, Fate, Place, Row, Sums};
 use std::io::Write;
 
 /// Writes a line on `faults`: an object that says of the stream of this name what `tell_text` says,
@@ -20,7 +20,7 @@ pub fn tell_json<E: Write>(
     put_text(name, faults);
     put_number(",\"bytes\":", bytes_of(account.sums), faults);
     put_sums(account.sums, faults);
-    put_rows(&rows.rows, faults);
+    put_rows(rows.rows(), faults);
     put_open(rows.open(account), faults);
     put(",\"complete\":", faults);
     put(if is_complete { "true" } else { "false" }, faults);
@@ -92,7 +92,7 @@ pub fn put_fate<E: Write>(fate: Fate, faults: &mut E) {
 }
 
 // Writes what did not pass, by fate and name.
-fn put_rows<E: Write>(rows: &[Row], faults: &mut E) {
+fn put_rows<E: Write>(rows: &[Row<Name>], faults: &mut E) {
     put(",\"rows\":[", faults);
     let mut is_first = true;
     for row in rows {
@@ -111,7 +111,7 @@ fn put_comma<E: Write>(is_first: bool, faults: &mut E) {
 }
 
 // Writes what had one fate under a name.
-fn put_row<E: Write>(row: &Row, faults: &mut E) {
+fn put_row<E: Write>(row: &Row<Name>, faults: &mut E) {
     put("{\"fate\":", faults);
     put_fate(row.fate, faults);
     put(",", faults);

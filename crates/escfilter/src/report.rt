@@ -5,10 +5,10 @@ ghost use Rattle.escfilter.specs.Fates.{IsComplete};
 
 use crate::PROGRAM;
 use crate::name::Name;
-use crate::rows::{Open, Place, Row, Rows};
+use crate::rows::{Open, Rows};
 use crate::saying::{put, put_number};
 use command_line::Shown;
-use esc_account::{Account, Fate, Sums};
+use esc_account::{Account, Fate, Place, Row, Sums};
 use std::io::Write;
 
 /// Writes lines on `faults` that name the stream: how many of its bytes had each fate; each kind of
@@ -19,7 +19,7 @@ pub fn tell_text<E: Write>(account: Account, rows: &Rows, name: &str, faults: &m
         return;
     }
     tell_sums(account.sums, name, faults);
-    for row in &rows.rows {
+    for row in rows.rows() {
         tell_row(row, name, faults);
     }
     if let Some(open) = rows.open(account) {
@@ -83,7 +83,7 @@ fn tell_sums<E: Write>(sums: Sums, name: &str, faults: &mut E) {
 }
 
 // What had one fate under a name.
-fn tell_row<E: Write>(row: &Row, name: &str, faults: &mut E) {
+fn tell_row<E: Write>(row: &Row<Name>, name: &str, faults: &mut E) {
     begin(name, faults);
     put(words_of(row.fate), faults);
     tell_name(row.name, faults);

@@ -1,6 +1,9 @@
 //! What did not pass of a stream, by name.
-ghost use Rattle.std.specs.Prelude.{OnErr};
+ghost use Rattle.std.specs.Prelude.{◌≡◌, ◌++◌, ◌∷◌, List, [], OnErr, OnOk, false, is_some, true};
 ghost use Rattle.std.specs.Global.{Global};
+ghost use Rattle.esc_account.specs.Entries.{Entry as Told, as_entry};
+ghost use Rattle.esc_account.specs.Tables.{HasAllRows};
+ghost use Rattle.escfilter.specs.Rows.{HasRows, is_respelled, told};
 ghost use Rattle.memory.specs.Refusals.{Refused};
 
 use crate::events::Events;
@@ -8,31 +11,10 @@ use crate::name::{Name, kind_name, name_of};
 use crate::named_groups::Choice;
 use crate::options::Options;
 use crate::report::bytes_of;
-use esc_account::{Account, Book, Entry, Fate, read_segment};
+use esc_account::{Account, Book, Entry, Fate, Place, Row, Table, read_segment};
 use esc_sanitize::Judging;
 use esc_segments::Segment;
 use std::alloc::{AllocError, Global};
-
-/// What of a stream has one fate and one name.
-#[derive(Clone, Copy)]
-pub struct Row {
-    pub fate: Fate,
-    pub name: Name,
-    /// How many segments there are, and of how many bytes with the terminators of strings.
-    pub count: u64,
-    pub bytes: u64,
-    /// Where the first of them is.
-    pub first: Place,
-}
-
-/// A place in a stream.
-#[derive(Clone, Copy)]
-pub struct Place {
-    /// How many bytes come before it.
-    pub byte: u64,
-    /// How many line feeds are among these.
-    pub line: u64,
-}
 
 /// What the end of a stream leaves unfinished.
 #[derive(Clone, Copy)]
@@ -53,24 +35,32 @@ pub struct Rows<'a> {
     options: Options<'a>,
     events: Option<Events>,
     judge: Judging<Choice<'a>>,
-    pub rows: Vec<Row>,
-    // the row of the entry that came last
-    last: usize,
+    table: Table<Name>,
     open: Option<Open>,
 }
 
 impl<'a> Rows<'a> {
     /// None yet. Takes no memory.
-    pub fn new(alloc: Global, options: Options<'a>, events: Option<Events>) -> Rows<'a> {
+    pub fn new(alloc: Global, options: Options<'a>, events: Option<Events>) -> Rows<'a>
+        ensures { HasRows result [] }
+    {
         Rows {
             alloc,
             options,
             events,
             judge: Judging::new(alloc, options.filter),
-            rows: Vec::new(alloc),
-            last: 0,
+            table: Table::new(alloc),
             open: None,
         }
+    }
+
+    /// The rows: where a report is asked for, they have all that the entries have of each fate, but
+    /// for what is respelled.
+    pub fn rows(&self) -> &[Row<Name>]
+        ensures { (es : List Told) → HasRows self.now es → is_some self.now.options.report ≡ true
+            → HasAllRows result.now (told es) }
+    {
+        self.table.rows()
     }
 
     /// Where what did not pass is told.
@@ -86,52 +76,51 @@ impl<'a> Rows<'a> {
         }
     }
 
-    // Tells and notes an entry under this name.
+    // Notes and tells an entry under this name.
     fn begin(&mut self, made: Entry<'_>, name: Name) -> Result<(), AllocError>
-        ensures { OnErr result (Refused Global) }
+        requires { is_respelled made.fate ≡ false }
+        ensures noted { (es : List Told) → HasRows self.old es
+            → OnOk result (HasRows self.new (es ++ as_entry made.entry ∷ [])) }
+        ensures refused { OnErr result (Refused Global) }
     {
-        if let Some(events) = &mut self.events {
-            events.begin(made, name)?;
-        }
-        if self.options.report.is_some() {
-            self.note(made, name)?;
-            self.add(made.segment.bytes);
-        }
-        Ok(())
-    }
-
-    // Tells and adds the terminator of the string that came last.
-    fn end(&mut self, bytes: &[u8]) -> Result<(), AllocError>
-        ensures { OnErr result (Refused Global) }
-    {
-        self.add(bytes);
+        self.note(made, name)?;
+        let first = Place {
+            byte: made.place,
+            line: made.line,
+        };
+        self.open = self.open_of(made.segment, name, first);
         match &mut self.events {
-            Some(events) => events.go_on(bytes),
+            Some(events) => events.begin(made, name),
             None => Ok(()),
         }
     }
 
-    // Adds these bytes to the row of the entry that came last.
-    fn add(&mut self, bytes: &[u8]) {
-        if let Some(row) = self.rows.get_mut(self.last) {
-            row.bytes = row.bytes.saturating_add(bytes.len() as u64);
+    // Notes and tells the terminator of the string that came last.
+    fn end(&mut self, made: Entry<'_>) -> Result<(), AllocError>
+        requires { is_respelled made.fate ≡ false }
+        ensures noted { (es : List Told) → HasRows self.old es
+            → OnOk result (HasRows self.new (es ++ as_entry made.entry ∷ [])) }
+        ensures refused { OnErr result (Refused Global) }
+    {
+        self.note(made, kind_name(made.segment.kind, made.segment.bytes))?;
+        match &mut self.events {
+            Some(events) => events.go_on(made.segment.bytes),
+            None => Ok(()),
         }
     }
 
-    // Notes an entry under this name.
-    fn note(&mut self, entry: Entry<'_>, name: Name) -> Result<(), AllocError>
-        ensures { OnErr result (Refused Global) }
+    // Notes an entry under this name, where a report is asked for.
+    fn note(&mut self, made: Entry<'_>, name: Name) -> Result<(), AllocError>
+        requires { is_respelled made.fate ≡ false }
+        ensures noted { (es : List Told) → HasRows self.old es
+            → OnOk result (HasRows self.new (es ++ as_entry made.entry ∷ [])) }
+        ensures refused { OnErr result (Refused Global) }
     {
-        let first = Place {
-            byte: entry.place,
-            line: entry.line,
-        };
-        self.last = self.row_of(entry.fate, name, first)?;
-        if let Some(row) = self.rows.get_mut(self.last) {
-            row.count = row.count.saturating_add(1);
+        if self.options.report.is_some() {
+            self.table.add(name, made)
+        } else {
+            Ok(())
         }
-        self.open = self.open_of(entry.segment, name, first);
-        Ok(())
     }
 
     // What the segment, which has this name and place, would leave unfinished at the end of the
@@ -148,27 +137,6 @@ impl<'a> Rows<'a> {
             first,
             end: first.byte.saturating_add(bytes),
         })
-    }
-
-    // The row of this fate and name, which is new where there is none.
-    fn row_of(&mut self, fate: Fate, name: Name, first: Place) -> Result<usize, AllocError>
-        ensures { OnErr result (Refused Global) }
-    {
-        for (at, row) in self.rows.iter().enumerate() {
-            if row.fate == fate && row.name == name {
-                return Ok(at);
-            }
-        }
-        let at = self.rows.len();
-        let row = Row {
-            fate,
-            name,
-            count: 0,
-            bytes: 0,
-            first,
-        };
-        memory::push(&mut self.rows, row)?;
-        Ok(at)
     }
 
     // The name of what did not pass of a segment: of the first action of which nothing is written,
@@ -188,15 +156,25 @@ impl<'a> Rows<'a> {
     }
 }
 
+// Whether what became of bytes is that they are in the output in another spelling.
+fn is_respelled(fate: Fate) -> bool
+    ensures { result ≡ is_respelled fate }
+{
+    match fate {
+        Fate::Respelled => true,
+        _ => false,
+    }
+}
+
 impl<'a> Book<Global> for Rows<'a> {
-    ghost was_given = { λ _ _. Unit {0} };
+    ghost was_given = { HasRows };
 
     fn enter(&mut self, made: Entry<'_>) -> Result<(), AllocError> {
-        if made.fate == Fate::Respelled || !self.options.has_names() {
+        if is_respelled(made.fate) || !self.options.has_names() {
             return Ok(());
         }
         if made.is_end {
-            self.end(made.segment.bytes)
+            self.end(made)
         } else {
             let name = self.name(made.segment, made.fate)?;
             self.begin(made, name)
