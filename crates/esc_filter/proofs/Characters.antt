@@ -355,13 +355,6 @@ writes_number p q c t e o b u l m =
     writes_prints p q 0x3c (0x55 ∷ 0x2b ∷ (leading c ++ (four_digits c ++ 0x3e ∷ [])))
     (number_ascii c) t e o b u (l ∙ sym (number_last (Some 0x2b) c)) m
 
--- `^M` was
-pub writes_return : {A : Type 0} (p q : Written A)
-    → q.spell.text ≡ p.spell.text ++ (0x5e ∷ 0x4d ∷ []) → q.spell.follows_string ≡ false
-    → q.left ≡ p.left → q.by_lines ≡ p.by_lines → q.guard ≡ p.guard
-    → q.before ≡ Some 0x4d → q.pen ≡ p.pen → Writes p (map print (0x5e ∷ 0x4d ∷ [])) q
-writes_return p q t e o b u l m = writes_prints p q 0x5e (0x4d ∷ []) refl t e o b u l m
-
 -- the last of some bytes
 pub last_at : (b : Option ℕ) (xs : List ℕ) (n : ℕ) → length xs ≡ n + 1
     → last_of b xs ≡ Some (get_or xs n 0)
@@ -370,8 +363,3 @@ last_at b (x ∷ []) zero e = refl
 last_at b (x ∷ []) (suc n) e = absurd (omega (arith, e))
 last_at b (x ∷ y ∷ xs) zero e = absurd (omega (arith, e))
 last_at b (x ∷ y ∷ xs) (suc n) e = last_at (Some x) (y ∷ xs) n (omega (arith, e))
-
--- the last of a run was written last
-pub run_last : (A : Type 0) (b : Option ℕ) (xs : List ℕ)
-    → last_of b xs ≡ last_after {A = A} b (map print xs)
-run_last A b xs = sym (prints_last A b xs)

@@ -1,5 +1,5 @@
 -- What writes actions and notes what they leave changed, of runs, sequences and commands.
-use Rattle.std.proofs.Common.{◌≡◌, ℕ, Bool, true, false, ◌&&◌, List, [], ◌∷◌, ◌++◌, map, if◌then◌else◌, append-nil, Option, None, Some, refl, sym, subst, ap, ◌∙◌, inl, inr, IfOk, MatchResult, OnErr, OnOk, Ok, Err, Result}
+use Rattle.std.proofs.Common.{◌≡◌, ℕ, Bool, false, List, [], ◌∷◌, ◌++◌, map, append-nil, Option, None, Some, refl, sym, subst, ap, ◌∙◌, inl, inr, IfOk, OnErr, Result}
 use Rattle.std.specs.Prelude.{IsTrue}
 use Rattle.std.specs.List.{FoldsTo}
 use Rattle.std.proofs.lemmas.Result.{on_err_weaker}
@@ -10,29 +10,22 @@ use Rattle.esc_write.specs.Plain.{IsPlain}
 use Rattle.esc_osc.specs.Reading.{meaning as command_meant}
 use Rattle.esc_actions.specs.Texts.{has_text, is_string, text_after}
 use Rattle.esc_actions.specs.Values.{Value, control, csi, osc, print, value_of}
-use Rattle.esc_actions.specs.declared.control_code.ControlCode.{ControlCode}
 use Rattle.esc_filter.proofs.Characters.{AreThemselves}
-use Rattle.esc_visible.specs.Characters.{is_deceiving}
 use Rattle.esc_visible.specs.Following.{last_of}
-use Rattle.esc_filter.specs.Characters.{character_of, in_guard, in_return, instead, is_return}
-use Rattle.esc_filter.specs.declared.guard.Guard.{Guard}
-use Rattle.esc_filter.specs.declared.returns.Returns.TheVariants as way
-use Rattle.esc_filter.specs.declared.unicode.Unicode.TheVariants.{Drop}
+use Rattle.esc_filter.specs.Characters.{character_of}
 use Rattle.esc_actions.specs.declared.action.Action.{Action}
 use Rattle.esc_actions.specs.declared.action.Action.TheVariants as action
 use Rattle.esc_parse.specs.Given.{By, StopsAt}
 use Rattle.esc_parse.proofs.Lists.{if_ok_more}
 use Rattle.esc_normal.specs.Spelled.{Adds, Denies}
 use Rattle.esc_normal.specs.declared.spell.Spell.{Spell}
-use Rattle.esc_osc.specs.Commands.{command_text}
 use Rattle.esc_normal.proofs.Spelling.{IsCommand, IsSequence, plain_refused}
 use Rattle.esc_filter.proofs.Results.{stops_for}
-use Rattle.esc_filter.specs.Closing.{after_command, after_control, after_sequence, after_value}
+use Rattle.esc_filter.specs.Closing.{after_command, after_sequence, after_value}
 use Rattle.esc_filter.specs.declared.terminal.Terminal.{Terminal}
 use Rattle.esc_filter.specs.Pens.{pen_after_sequence, pen_after_value}
 use Rattle.esc_pen.specs.declared.pen.Pen.{Pen}
 use Rattle.esc_filter.specs.Noted.{Notes, WriteDenies, Writes, written_of}
-use Rattle.esc_filter.specs.Passing.{is_line_feed}
 use Rattle.esc_filter.specs.declared.written.Written.{Written}
 
 module _ {A : Type 0} where
@@ -75,101 +68,6 @@ module _ {A : Type 0} where
   notes_one p q a v is itself t o b u l m =
       subst (λ x. Writes p (written_of p.by_lines p.guard p.before x) q) (sym is)
       (subst (λ ws. Writes p ws q) (sym itself) (writes_one p q a v is t o b u l m))
-
-  -- what is written of a control that is no line feed, or is none that is dropped
-  in_control : (b : Bool) (u : Guard) (l : Option ℕ) (c : ControlCode)
-      → (b && is_line_feed {A = A} (control c)) ≡ false
-      → written_of {A = A} b u l (control c) ≡ in_guard u l (control c)
-  in_control b u l c h =
-      either b (is_line_feed {A = A} (control c)) (in_guard u l (control c)) h
-    where
-      either : (x y : Bool) (vs : List (Value A)) → (x && y) ≡ false
-          → (if y && x then [] else vs) ≡ vs
-      either true true vs h = absurd cc
-      either true false vs h = refl
-      either false true vs h = refl
-      either false false vs h = refl
-
-  -- of a carriage return, and of any other control
-  of_return : (u : Guard) (l : Option ℕ) (c : ControlCode) → is_return c ≡ true
-      → in_guard {A = A} u l (control c) ≡ in_return u.returns
-  of_return u l c r = ap (λ t. if t then in_return {A = A} u.returns else control c ∷ []) r
-
-  of_other : (u : Guard) (l : Option ℕ) (c : ControlCode) → is_return c ≡ false
-      → in_guard {A = A} u l (control c) ≡ control c ∷ []
-  of_other u l c r = ap (λ t. if t then in_return {A = A} u.returns else control c ∷ []) r
-
-  -- one that is no carriage return either
-  pub notes_control : (p : Written A) (s : Spell A) (c : ControlCode)
-      → (p.by_lines && is_line_feed {A = A} (control c)) ≡ false → is_return c ≡ false
-      → Adds p.spell (action.Control c) s
-      → Notes p (action.Control c) (with_both p (after_control c p.left) s)
-  notes_control p s c h r t =
-      notes_one p (with_both p (after_control c p.left) s) (action.Control c) (control c) refl
-      (in_control p.by_lines p.guard p.before c h ∙ of_other p.guard p.before c r) t refl refl
-      refl refl refl
-
-  -- a carriage return
-  pub notes_return : (p q : Written A) (c : ControlCode)
-      → (p.by_lines && is_line_feed {A = A} (control c)) ≡ false → is_return c ≡ true
-      → Writes p (in_return p.guard.returns) q → Notes p (action.Control c) q
-  notes_return p q c h r w =
-      subst (λ ws. Writes p ws q)
-      (sym (in_control p.by_lines p.guard p.before c h ∙ of_return p.guard p.before c r)) w
-
-  -- a line feed that is
-  pub notes_feed : (p q : Written A) (c : ControlCode) → p.by_lines ≡ true
-      → is_line_feed {A = A} (control c) ≡ true → q.spell ≡ p.spell → q.left ≡ p.left
-      → q.by_lines ≡ p.by_lines → q.guard ≡ p.guard → q.before ≡ p.before → q.pen ≡ p.pen
-      → Notes p (action.Control c) q
-  notes_feed p q c l f s o b u k m =
-      subst (λ ws. Writes p ws q)
-      (sym (none p.by_lines (is_line_feed ctl) (in_guard p.guard p.before ctl) l f)) (
-        ap (λ x. x.text) s ∙ sym (append-nil p.spell.text),
-        ap (λ x. x.follows_string) s,
-        o,
-        b,
-        u,
-        k,
-        m,
-      )
-    where
-      ctl : Value A
-      ctl = control c
-
-      none : (x y : Bool) (vs : List (Value A)) → x ≡ true → y ≡ true
-          → (if y && x then [] else vs) ≡ []
-      none true true vs h k = refl
-      none true false vs h k = absurd cc
-      none false y vs h k = absurd cc
-
-  -- nothing is written of it
-  pub notes_nothing : (p : Written A) (a : Action A)
-      → written_of p.by_lines p.guard p.before (value_of a) ≡ [] → Notes p a p
-  notes_nothing p a e =
-      subst (λ ws. Writes p ws p) (sym e)
-      (sym (append-nil p.spell.text), refl, refl, refl, refl, refl, refl)
-
-  -- a character is left out where it deceives
-  pub dropped : (b : Bool) (u : Guard) (l : Option ℕ) (c : ℕ)
-      → (u.characters ≡ Drop) × (is_deceiving c ≡ true) → written_of {A = A} b u l (print c) ≡ []
-  dropped b u l c (e, d) =
-      ap (λ t. if t then instead u.characters l c else print c ∷ []) d
-      ∙ ap (λ k. instead k l c) e
-
-  -- and a carriage return where these are
-  pub return_dropped : (b : Bool) (u : Guard) (l : Option ℕ) (c : ControlCode)
-      → (u.returns ≡ way.Drop) × (is_return c ≡ true)
-      → written_of {A = A} b u l (control c) ≡ []
-  return_dropped b u l c (e, r) = by (is_line_feed {A = A} (control c)) b
-    where
-      none : in_guard {A = A} u l (control c) ≡ []
-      none = of_return u l c r ∙ ap in_return e
-
-      by : (x y : Bool) → (if x && y then [] else in_guard {A = A} u l (control c)) ≡ []
-      by true true = refl
-      by true false = none
-      by false y = none
 
   -- ---- a run
 
@@ -246,16 +144,6 @@ module _ {A : Type 0} where
           subst (λ k. Writes p (csi v ∷ []) (with_pen p o m k)) same
           (writes_one p (with_pen p o m j) a (csi v) is w h refl refl refl i)
 
-  -- a link that was
-  pub link_written : (ps : List (List ℕ)) (p : Written A) (o : Terminal) (s : Spell A)
-      → o ≡ after_command (command_meant {A = A} ps) p.left
-      → (s.text ≡ p.spell.text ++ command_text (command_meant {A = A} ps))
-      × (s.follows_string ≡ true)
-      → Writes p (osc (command_meant ps) ∷ []) (with_both p o s)
-  link_written ps p o s h t =
-      writes_one p (with_both p o s) (action.OperatingSystemCommand (command_meant ps))
-      (osc (command_meant ps)) refl t h refl refl refl refl
-
   sequence_why : (p : Spell A) (v : CsiValue) (q : Spell A) → By IsSequence Denies p v q → Refused A
   sequence_why p v q (a, is, denied) = denied (ap has_text is)
 
@@ -324,11 +212,4 @@ module _ {A : Type 0} where
         λ _. stops_for (By IsCommand Adds) (By IsCommand Denies) (Refused A) command_why p.spell
             (ps ∷ []) s e,
       ))) t
-
   -- ---- results
-
-  pub print_given : {E : Type 0} (r : Result (Unit {0}) E) (p q : Written A) (c : ℕ)
-      → OnOk r (Writes p (in_guard p.guard p.before (print c)) q) → OnErr r (Refused A)
-      → MatchResult r (λ _. Notes p (action.Print c) q) (λ _. WriteDenies p (action.Print c) q)
-  print_given (Ok t) p q c h k = h
-  print_given (Err e) p q c h k = λ _. k

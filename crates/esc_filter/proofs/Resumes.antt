@@ -1,5 +1,5 @@
 -- A filter that writes renditions again which go on over a line feed.
-use Rattle.std.proofs.Common.{ℕ, ◌≡◌, ◌≢◌, ◌<◌, length, OnOk, Bool, true, false, not, ◌||◌, if◌then◌else◌, List, [], ◌∷◌, ◌++◌, arith, refl, ap, sym, ◌∙◌, subst, append_assoc, append-nil, length-append}
+use Rattle.std.proofs.Common.{ℕ, ◌≡◌, ◌≢◌, ◌<◌, length, Bool, true, false, not, ◌||◌, if◌then◌else◌, List, [], ◌∷◌, ◌++◌, arith, refl, ap, sym, ◌∙◌, subst, append_assoc, append-nil, length-append}
 use Rattle.std.specs.Prelude.{Err, IfOk, Ok, Result, string_bytes}
 use Rattle.esc_actions.specs.Values.{Value}
 use Rattle.esc_filter.specs.Lines.{FillsLine, GrowsBy, GrowsRest, IsLine, WasFedLines, added_by, body, content, ends_line, has_line_feed, is_line_feed, passed_of_line, text_by_lines_as}
@@ -388,11 +388,6 @@ module _ {A : Type 0} (k : Bool) (u : Guard) (limit : ℕ) (admits : Value A →
       )
 
 -- ---- results
-
-pub ok_two : {T E : Type 0} (X Y Z : Type 0) (r : Result T E) → (X → Y → Z) → OnOk r X → OnOk r Y
-    → OnOk r Z
-ok_two X Y Z (Ok x) f h k = f h k
-ok_two X Y Z (Err e) f h k = tt
 
 pub ok_each : {T E : Type 0} (X Y Z : T → Type 0) (r : Result T E) → ((t : T) → X t → Y t → Z t)
     → IfOk r X → IfOk r Y → IfOk r Z

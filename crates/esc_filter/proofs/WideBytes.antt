@@ -238,9 +238,6 @@ taken_three (a ∷ []) l = absurd (omega (arith, l))
 taken_three (a ∷ b ∷ []) l = absurd (omega (arith, l))
 taken_three (a ∷ b ∷ c ∷ s) l = refl
 
-pub wide_none : AreWide []
-wide_none = ([], refl, refl)
-
 -- one after another
 pub wide_more : (x y : List ℕ) → AreWide x → AreWide y → AreWide (x ++ y)
 wide_more x y (cs, h, e) (ds, k, f) = (

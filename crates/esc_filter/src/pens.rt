@@ -9,7 +9,7 @@ use crate::policy::are_plain;
 use esc_actions::Action;
 use esc_pen::Pen;
 use esc_sequences::{CSI, Sgr};
-use esc_typed::{Rendition, Renditions};
+use esc_typed::Rendition;
 use esc_values::CsiParam;
 use std::alloc::{AllocError, Allocator};
 
@@ -101,7 +101,7 @@ fn selected(pen: Option<Pen>, params: &[CsiParam]) -> Option<Pen>
 {
     match pen {
         Some(mut it) => {
-            it.select_all(Renditions::new(params));
+            it.select_params(params);
             Some(it)
         }
         None => None,

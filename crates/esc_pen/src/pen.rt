@@ -1,11 +1,12 @@
 //! How characters are written from here on.
-ghost use Rattle.std.specs.Prelude.{◌≡◌};
+ghost use Rattle.std.specs.Prelude.{◌≡◌, ◌∷◌, [], IsTrue};
 ghost use Rattle.esc_pen.specs.Pens.{pen_by, pen_by_all, pen_by_optional, plain_pen};
-ghost use Rattle.esc_typed.specs.Selections.{left};
+ghost use Rattle.esc_typed.specs.Selections.{left, selection_of, selections};
 
 use crate::ink::Ink;
 use esc_sequences::{Intensity, Underline};
 use esc_typed::{Blink, ColorSpec, Rendition, Renditions};
+use esc_values::CsiParam;
 
 /// How characters are written from here on: the renditions that hold for them (ECMA-48, 8.3.117,
 /// SGR; xterm's list, "Character Attributes (SGR)"). Fonts, frames, marks of ideograms, and how
@@ -57,6 +58,7 @@ impl Pen {
     }
 
     /// Takes one rendition.
+    #[inline]
     pub fn select(&mut self, rendition: Rendition)
         ensures { self.new ≡ pen_by self.old rendition }
     {
@@ -92,12 +94,45 @@ impl Pen {
         }
     }
 
+    /// Takes the renditions of these parameters, one after another. A number alone and a colour of
+    /// the palette are read at once.
+    #[inline]
+    pub fn select_params(&mut self, params: &[CsiParam])
+        ensures { self.new ≡ pen_by_all self.old (selections params.now) }
+    {
+        if is_one(params) {
+            self.select_optional(Rendition::of_entries(params));
+        } else {
+            self.select_all(Renditions::new(params));
+        }
+    }
+
     // Takes one, where it is known.
+    #[inline]
     fn select_optional(&mut self, rendition: Option<Rendition>)
         ensures { self.new ≡ pen_by_optional self.old rendition }
     {
         if let Some(rendition) = rendition {
             self.select(rendition);
         }
+    }
+}
+
+// Whether the parameters are of one rendition, where that is seen at once: a number, or the numbers
+// of a colour of the palette.
+#[inline]
+fn is_one(params: &[CsiParam]) -> bool
+    ensures { IsTrue result → selections params.now ≡ selection_of params.now ∷ [] }
+{
+    match params {
+        [CsiParam::Integer(_)] => true,
+        [
+            CsiParam::Integer(38 | 48),
+            CsiParam::P(b';'),
+            CsiParam::Integer(5),
+            CsiParam::P(b';'),
+            CsiParam::Integer(_),
+        ] => true,
+        _ => false,
     }
 }
