@@ -41,9 +41,15 @@ static NUMBERED: &str = "\
 
 // Keys of a number before `z`, of Sun's keyboards.
 static SUN: &str = "\
+1 Find
+2 Insert
+3 Delete, or Remove
+4 Select
 193 Again
 194 Props
 195 Undo
+196 Help
+197 Menu
 214 Home
 216 Page Up
 218 keypad 5

@@ -7,7 +7,7 @@ use Rattle.std.proofs.lemmas.Bool.{and_parts, false≢true}
 use Rattle.std.proofs.lemmas.Bool.Decides.{nat_tests}
 use Rattle.std.proofs.lemmas.Str.{encode_ascii}
 use Rattle.esc_visible.specs.Characters.{is_shown}
-use Rattle.dump_page.specs.Quoted.{IsQuote, Quotes, is_plain}
+use Rattle.dump_page.specs.Quoted.{IsQuote, Quotes, is_plain, is_word_byte}
 use Rattle.dump_page.specs.Pages.{IsPage, is_word}
 use Rattle.dump_page.specs.Pages.Piece.{Word}
 use Rattle.dump_page.proofs.Quoting.{on_ok, quotes_itself, quotes_more, quotes_nothing}
@@ -36,23 +36,32 @@ plain_byte b h =
       small = below b l.0;
     }
 
-plain_word : (b : ℕ) → IsPlain b → is_word b ≡ true
-plain_word b p = rw (p.shown, p.quote) refl
+record IsOfWords (b : ℕ) : Type 0 where
+  word : is_word b ≡ true
+  small : b < 128
+
+word_byte : (b : ℕ) → is_word_byte b ≡ true → IsOfWords b
+word_byte b h =
+    let k = and_parts (nat_le 0x20 b) _ h in
+    let l = and_parts (nat_le b 0x7e) _ k.1 in record {
+      word = rw (k.0, l.0, l.1) refl;
+      small = below b l.0;
+    }
 
 word_more : (b : ℕ) (bs : List ℕ) → is_word b ≡ true → b < 128 → IsPage bs → IsPage (b ∷ bs)
 word_more b bs word small (ps, all, e) =
     (Word b ∷ ps, rw (word, all) refl, rw (encode_ascii b small) (ap (λ t. b ∷ t) e))
 
-plain_words : (bs : List ℕ) → list_all is_plain bs ≡ true → IsPage bs
-plain_words [] h = ([], refl, refl)
-plain_words (b ∷ bs) h =
-    let k = and_parts (is_plain b) (list_all is_plain bs) h in
-    let p = plain_byte b k.0 in
-    word_more b bs (plain_word b p) p.small (plain_words bs k.1)
+words : (bs : List ℕ) → list_all is_word_byte bs ≡ true → IsPage bs
+words [] h = ([], refl, refl)
+words (b ∷ bs) h =
+    let k = and_parts (is_word_byte b) (list_all is_word_byte bs) h in
+    let p = word_byte b k.0 in
+    word_more b bs p.word p.small (words bs k.1)
 
--- plain words are a page
-pub plain_page : (bs : List ℕ) → list_all is_plain bs ≡ true → ∥ IsPage bs ∥₁
-plain_page bs h = ∣ plain_words bs h ∣₁
+-- words of ASCII are a page
+pub word_page : (bs : List ℕ) → list_all is_word_byte bs ≡ true → ∥ IsPage bs ∥₁
+word_page bs h = ∣ words bs h ∣₁
 
 plain_quotes : (s bs : List ℕ) → list_all is_plain bs ≡ true → Quotes s (s ++ bs) bs
 plain_quotes s [] h = subst (λ t. Quotes s t []) (sym (append-nil s)) (quotes_nothing s)

@@ -9,6 +9,10 @@ use Rattle.esc_visible.specs.Characters.{is_shown}
 abbrev pub is_plain : ℕ → Bool
 is_plain b = nat_le 0x20 b && (nat_le b 0x7e && (not (b == 0x22) && not (b == 0x5c)))
 
+-- a byte that is a character of words
+abbrev pub is_word_byte : ℕ → Bool
+is_word_byte b = nat_le 0x20 b && (nat_le b 0x7e && not (b == 0x22))
+
 -- bytes before those of the rest
 abbrev pub put : List ℕ → Option (List ℕ) → Option (List ℕ)
 put s None = None

@@ -14,6 +14,7 @@
 #![tactic(auto)]
 
 mod columns;
+mod escaped;
 mod hidden;
 mod laws;
 mod member;
@@ -24,6 +25,7 @@ mod plain;
 mod quote;
 mod quoted;
 mod room;
+mod short_base64;
 
 pub use laws::quotes_are_found;
 pub use member::Member;

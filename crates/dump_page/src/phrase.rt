@@ -1,18 +1,17 @@
 //! Words, one after another.
-ghost use Rattle.std.specs.Prelude.{◌≡◌, IfSome, true};
+ghost use Rattle.std.specs.Prelude.{◌≡◌, true};
 ghost use Rattle.std.specs.List.{list_all};
 ghost use Rattle.dump_page.specs.Pages.{IsPage, IsPiece, is_word};
-ghost use Rattle.dump_page.specs.Quoted.{IsQuote, is_plain};
-ghost use Rattle.esc_visible.specs.Characters.{is_shown};
+ghost use Rattle.dump_page.specs.Quoted.{IsQuote, is_word_byte};
 
-use crate::columns::Columns;
 use crate::hidden::Hidden;
 use crate::member::Member;
 use crate::name::{Key, Name};
-use crate::plain::{boundary, digit, is_plain, plain_text};
+use crate::plain::{are_words, boundary, digit, is_plain, plain_text, word_text};
 use crate::quote::Quote;
 use crate::quoted::push_between;
 use crate::room::Room;
+use crate::short_base64;
 use esc_values::Text;
 use esc_values::base64_text::Encoded;
 use esc_visible::is_shown;
@@ -206,8 +205,8 @@ impl Phrase {
                 break;
             }
         }
-        if let Some(text) = plain_text(&text[start.min(least).min(32)..]) {
-            self.push_plain(text);
+        if let Some(text) = word_text(&text[start.min(least).min(32)..]) {
+            self.push_ascii(text);
         }
     }
 
@@ -289,6 +288,9 @@ impl Phrase {
 
     /// Adds a string of JSON that is the base64 (RFC 4648, 4) of these bytes.
     pub fn add_base64(&mut self, bytes: &[u8]) {
+        if bytes.len() <= short_base64::MOST {
+            return self.add_short_base64(bytes);
+        }
         let mut text = Text::new(self.alloc);
         if text.push_display(&Encoded(bytes)).is_err() {
             return self.refuse();
@@ -298,101 +300,19 @@ impl Phrase {
         }
     }
 
+    // The same of few bytes.
+    fn add_short_base64(&mut self, bytes: &[u8]) {
+        let text = short_base64::encode(bytes);
+        if let Some(plain) = plain_text(&text[..short_base64::length(bytes.len()).min(32)]) {
+            self.push_quote(plain);
+        }
+    }
+
     /// Adds what comes before the value of a member of a JSON object.
     pub fn add_member(&mut self, member: Member) {
         if !self.is_refused {
             self.is_refused = self.text.push_str(member.text()).is_err();
         }
-    }
-
-    /// Adds the first bytes, as far as there are fewer columns than this, and `..` where these are
-    /// not all: a character that is shown as itself, but `\` as `\\`, and each other byte, and `"`,
-    /// as `\x` with two hexadecimal digits.
-    pub fn add_bytes(&mut self, bytes: &[u8], room: usize) {
-        let end = self.columns.saturating_add(room);
-        let is_whole = match bytes {
-            [0x1b, rest @ ..] => {
-                self.add_byte(0x1b);
-                self.add_before(rest, end)
-            }
-            _ => self.add_before(bytes, end),
-        };
-        if !is_whole {
-            self.add("..");
-        }
-    }
-
-    // Adds the first bytes in this way, before this column, and returns whether they are all.
-    fn add_before(&mut self, bytes: &[u8], end: usize) -> bool {
-        let most = end.saturating_sub(self.columns).min(bytes.len());
-        let (first, rest) = bytes.split_at(most);
-        if let Some(text) = plain_text(first) {
-            self.push_plain(text);
-            return rest.is_empty();
-        }
-        for chunk in bytes.utf8_chunks() {
-            let is_whole = self.add_text(chunk.valid(), end);
-            if !is_whole || !self.add_invalid(chunk.invalid(), end) {
-                return false;
-            }
-        }
-        true
-    }
-
-    // Adds the first characters in this way, and returns whether they are all.
-    fn add_text(&mut self, text: &str, end: usize) -> bool {
-        let mut columns = Columns::new();
-        for c in text.chars() {
-            let width = columns.of(c);
-            if self.columns >= end && width != Some(0) {
-                return false;
-            }
-            self.add_as(c, width);
-        }
-        true
-    }
-
-    // Adds the first bytes that are no part of a character, and returns whether they are all.
-    fn add_invalid(&mut self, bytes: &[u8], end: usize) -> bool {
-        for byte in bytes {
-            if self.columns >= end {
-                return false;
-            }
-            self.add_byte(*byte);
-        }
-        true
-    }
-
-    /// Adds a character in this way.
-    pub fn add_char(&mut self, c: char) {
-        let width = Columns::new().of(c);
-        self.add_as(c, width);
-    }
-
-    // Adds a character in this way, which takes so many columns where it is shown as itself.
-    fn add_as(&mut self, c: char, width: Option<usize>)
-        requires { IfSome width (λ _. is_shown c ≡ true) }
-    {
-        match width {
-            Some(_) if c == '\\' => self.add("\\\\"),
-            Some(width) if c != '"' => self.push_word(c, width),
-            _ => self.add_hidden(c),
-        }
-    }
-
-    // Adds a character that is not shown, or a `"`, byte by byte.
-    fn add_hidden(&mut self, c: char) {
-        self.hidden.note(c);
-        let mut bytes = [0u8; 4];
-        for byte in c.encode_utf8(&mut bytes).as_bytes() {
-            self.add_byte(*byte);
-        }
-    }
-
-    // Adds a byte as its number.
-    fn add_byte(&mut self, byte: u8) {
-        self.add("\\x");
-        self.add_hex(byte, b'a');
     }
 
     /// Adds a byte as two hexadecimal digits, those from 10 on as the letters from this one on.
@@ -426,27 +346,32 @@ impl Phrase {
 
     /// Forgets which characters that deceive came.
     pub fn forget_hidden(&mut self) {
-        self.hidden = Hidden::new(self.alloc);
+        self.hidden.clear();
     }
 
-    // Adds words.
-    fn push_words(&mut self, words: &str) {
-        if is_plain(words.as_bytes()) {
-            return self.push_plain(words);
+    /// Adds words.
+    pub(crate) fn push_words(&mut self, words: &str) {
+        if are_words(words.as_bytes()) {
+            return self.push_ascii(words);
         }
         for c in words.chars() {
             self.push(c);
         }
     }
 
-    // Adds plain words.
-    fn push_plain(&mut self, words: &str)
-        requires { list_all is_plain words.now ≡ true }
+    /// Adds words of ASCII.
+    pub(crate) fn push_ascii(&mut self, words: &str)
+        requires { list_all is_word_byte words.now ≡ true }
     {
         self.columns = self.columns.saturating_add(words.len());
         if self.room.has_more(self.text.len()) && !self.is_refused {
             self.is_refused = self.text.push_str(words).is_err();
         }
+    }
+
+    /// Notes that a character came which is not shown.
+    pub(crate) fn note_hidden(&mut self, c: char) {
+        self.hidden.note(c);
     }
 
     /// How many columns come before what is added next, but for what is quoted.
@@ -486,8 +411,8 @@ impl Phrase {
         }
     }
 
-    // Adds a character of words, which takes so many columns.
-    fn push_word(&mut self, c: char, width: usize)
+    /// Adds a character of words, which takes so many columns.
+    pub(crate) fn push_word(&mut self, c: char, width: usize)
         requires { is_word c ≡ true }
     {
         self.columns = self.columns.saturating_add(width);

@@ -1,7 +1,7 @@
 //! Bytes that are written as they are.
 ghost use Rattle.std.specs.Prelude.{◌≡◌, ◌≤◌, IfSome, length, true};
 ghost use Rattle.std.specs.List.{list_all};
-ghost use Rattle.dump_page.specs.Quoted.{is_plain};
+ghost use Rattle.dump_page.specs.Quoted.{is_plain, is_word_byte};
 
 use esc_values::ascii::as_str;
 
@@ -36,6 +36,48 @@ pub fn plain_text(bytes: &[u8]) -> Option<&str>
     }
 }
 
+/// Whether all bytes are characters of words: 20 to 7E (hexadecimal), but `"`.
+pub fn are_words(bytes: &[u8]) -> bool
+    ensures { result ≡ list_all is_word_byte bytes.now }
+{
+    let mut all = true;
+    for byte in bytes {
+        all = is_word_byte(*byte) & all;
+    }
+    all
+}
+
+// Whether a byte is such a character.
+#[inline]
+fn is_word_byte(byte: u8) -> bool
+    ensures { result ≡ is_word_byte byte }
+{
+    0x20 <= byte && byte <= 0x7e && byte != 0x22
+}
+
+/// The text of these bytes, where all are such characters.
+pub fn word_text(bytes: &[u8]) -> Option<&str>
+    ensures { IfSome result (λ t. (list_all is_word_byte t.now ≡ true) × (t.now ≡ bytes.now)) }
+{
+    if are_words(bytes) {
+        Some(as_str(bytes))
+    } else {
+        None
+    }
+}
+
+/// How many bytes come first that are written as they are.
+pub fn plain_run(bytes: &[u8]) -> usize
+    ensures { result ≤ length bytes.now }
+{
+    for at in 0..bytes.len() {
+        if !is_plain_byte(bytes[at]) {
+            return at;
+        }
+    }
+    bytes.len()
+}
+
 /// The most bytes, of at most so many, that end no character early, where they are UTF-8.
 pub fn boundary(bytes: &[u8], most: usize) -> usize
     ensures { result ≤ length bytes.now }
@@ -55,6 +97,15 @@ pub fn digit(number: u8, ten: u8) -> char {
         char::from(b'0'.saturating_add(number))
     } else {
         char::from(ten.saturating_add(number - 10))
+    }
+}
+
+/// The byte of that digit.
+pub fn digit_byte(number: u8, ten: u8) -> u8 {
+    if number < 10 {
+        b'0'.saturating_add(number)
+    } else {
+        ten.saturating_add(number - 10)
     }
 }
 
