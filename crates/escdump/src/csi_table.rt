@@ -30,6 +30,7 @@ pub fn table_of(last: u8) -> &'static str {
         b'z' => LOWER_Z,
         b'{' => LEFT_BRACE,
         b'q' => LOWER_Q,
+        b'r' => LOWER_R,
         b']' => CONSOLE,
         b't' => LOWER_T,
         b'A' => UPPER_A,
@@ -186,6 +187,9 @@ static LEFT_BRACE: &str = "\
 static LOWER_Q: &str = "\
 ^^^*v:,?0~none/1~Num Lock/2~Caps Lock/3~Scroll Lock/21~not Num Lock/22~not Caps Lock/\
 23~not Scroll Lock^";
+
+static LOWER_R: &str = "\
+?^0;0.^leave PCTerm mode of the VT420, or restore no private mode^^";
 
 static CONSOLE: &str = "\
 ^1+^underline colour of the Linux console^n:^

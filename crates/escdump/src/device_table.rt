@@ -10,6 +10,9 @@
 /// data; the name; and the fields of the parameters. The kinds that are told apart come before the
 /// others.
 pub static CONTROLS: &str = "\
+$q^$|^ask for a setting DECSCPP^^DECRQSS^
+$q^$~^ask for a setting DECSSDT^^DECRQSS^
+$q^*|^ask for a setting DECSNLS^^DECRQSS^
 $q^^ask for a setting^v:?m~SGR/r~DECSTBM/s~DECSLRM/t~DECSLPP/\"p~DECSCL/\"q~DECSCA/ q~DECSCUSR/$}~DECSASD/*x~DECSACE^DECRQSS^
 $r^^report of a setting^r:,^DECRPSS^v:,?1~valid/0~not valid
 +q^^ask for termcap data^*x:^XTGETTCAP^

@@ -3,18 +3,10 @@
 use crate::device_table::CONTROLS;
 use crate::fields::add_fields;
 use crate::rows::{Row, headed};
+use crate::values::{cut, number_in};
 use dump_page::{Key, Name, Phrase};
-use esc_sixel::Sixel;
-
-/// Adds the size of a sixel image in words.
-pub fn add_sixel(image: &Sixel, to: &mut Phrase) {
-    let (width, height) = image.dimensions();
-    to.begin("DCS", "sixel", "image");
-    to.add(", width ");
-    to.add_digits(u64::from(width));
-    to.add(", height ");
-    to.add_digits(u64::from(height));
-}
+use esc_sixel::SixelBuilder;
+use std::alloc::AllocError;
 
 // A device control string, taken apart: its parameters, its private prefix and intermediates, of
 // which two are kept, its final byte, and its data.
@@ -86,12 +78,16 @@ fn digits_in(header: &[u8]) -> &[u8] {
 }
 
 /// Adds a device control string of these bytes in words: by the row of its final byte with its
-/// intermediates, of which some are told apart by their data or their parameters.
-pub fn add_device(text: &[u8], to: &mut Phrase) {
+/// intermediates, of which some are told apart by their data or their parameters. Of a sixel image
+/// that is whole only the size is said.
+pub fn add_device(text: &[u8], is_whole: bool, to: &mut Phrase) {
     let Some(parts) = parts_of(text) else {
         to.begin("DCS", "", "device control string");
         return to.add_quoted(" ", text);
     };
+    if is_whole && parts.key() == b"q".as_slice() {
+        return add_sixel(parts, to);
+    }
     for line in CONTROLS.lines() {
         if let Some(row) = headed(line, parts.key()) {
             if let Some(rest) = data_rest(row.key, parts) {
@@ -104,6 +100,37 @@ pub fn add_device(text: &[u8], to: &mut Phrase) {
     if !parts.data.is_empty() {
         to.add_quoted(" ", parts.data);
     }
+}
+
+// Adds a sixel image by its size.
+fn add_sixel(parts: Parts<'_>, to: &mut Phrase) {
+    match dimensions_of(parts, to) {
+        Ok((width, height)) => {
+            to.begin("DCS", "sixel", "image, width ");
+            to.add_digits(u64::from(width));
+            to.add(", height ");
+            to.add_digits(u64::from(height));
+        }
+        Err(_) => to.refuse(),
+    }
+}
+
+// The width and the height of a sixel image. The error is that memory was refused.
+fn dimensions_of(parts: Parts<'_>, to: &Phrase) -> Result<(u32, u32), AllocError> {
+    let mut numbers = Vec::new(to.alloc());
+    let mut rest = Some(parts.params);
+    for _ in 0..u64::MAX {
+        let Some(text) = rest else {
+            break;
+        };
+        let (number, more) = cut(text, b';');
+        numbers.push(number_in(number).unwrap_or(0))?;
+        rest = more;
+    }
+    let mut image = SixelBuilder::new(to.alloc(), &numbers);
+    image.push_run(parts.data)?;
+    image.finish()?;
+    Ok(image.sixel.dimensions())
 }
 
 // What the data have after what a row asks for: their beginning, or after a `#` parameters.

@@ -12,7 +12,7 @@ use crate::stats::Stats;
 use crate::words::Words;
 use dump_input::{Found, Sent, add_sent, found_in, paste_end_in};
 use dump_page::Page;
-use esc_parse::Parser;
+use esc_frame::VTParser;
 use esc_segments::{Segment, SegmentKind, Segments};
 use std::alloc::Global;
 use std::mem;
@@ -25,9 +25,11 @@ pub struct Dump<'n> {
     options: Options<'n>,
     // The name of the stream, where it is named.
     name: Option<&'n str>,
-    parser: Parser,
+    framer: VTParser,
     words: Words,
     item: Item,
+    // Whether the bytes of the item are given to the framer.
+    is_framed: bool,
     // Whether the item is a string that is finished, and waits for the string terminator that ends
     // it.
     is_closing: bool,
@@ -52,9 +54,10 @@ impl<'n> Dump<'n> {
             alloc,
             options,
             name: if options.is_named { Some(name) } else { None },
-            parser: Parser::with_limit(alloc, options.limit),
+            framer: VTParser::with_limit(alloc, options.limit),
             words: Words::new(alloc, room_of(options)),
             item: Item::new(alloc),
+            is_framed: false,
             is_closing: false,
             carried: Carried::new(),
             begun: Vec::new(alloc),
@@ -235,6 +238,7 @@ impl<'n> Dump<'n> {
         self.end_text();
         self.end_string();
         if !self.item.is_empty() {
+            self.words.is_unfinished = true;
             self.end_line(false);
         }
         match self.options.form {
@@ -252,35 +256,51 @@ impl<'n> Dump<'n> {
         }
     }
 
-    // Takes some bytes of a segment.
+    // Takes some bytes of a segment, with others to follow.
     fn take_piece(&mut self, kind: SegmentKind, bytes: &[u8]) {
-        self.end_string();
-        if kind != SegmentKind::Character {
-            self.end_text();
-        }
-        self.page
-            .note(!self.item.add(kind, bytes, self.options.limit));
-        if is_parsed(kind) {
+        self.add_piece(kind, bytes);
+        self.is_framed = is_framed(kind);
+        if self.is_framed {
             self.feed(bytes);
         }
     }
 
-    // Takes the last bytes of a segment. A cancel, which cannot be part of any segment but its own,
-    // ends what it means where its last byte does not.
+    // Adds some bytes of a segment, after what comes before it.
+    fn add_piece(&mut self, kind: SegmentKind, bytes: &[u8]) {
+        self.end_string();
+        if kind != SegmentKind::Character {
+            self.end_text();
+        }
+        let limit = self.options.limit;
+        self.page.note(!self.item.add(kind, bytes, limit));
+    }
+
+    // Takes the last bytes of a segment. They are given to the framer where those before them were,
+    // or where controls may be among them. A cancel, which cannot be part of any segment but its
+    // own, ends what it means where its last byte does not.
     fn take_last(&mut self, kind: SegmentKind, bytes: &[u8]) {
         if self.is_closing && is_terminator(bytes) {
             self.page.note(!self.item.close(bytes));
             return self.end_string();
         }
-        self.take_piece(kind, bytes);
-        if is_left_open(kind) {
-            self.words.is_ending = true;
-            self.feed(b"\x18");
+        self.add_piece(kind, bytes);
+        if self.is_framed || may_hold_controls(kind, &self.item) {
+            self.feed(bytes);
+            self.end_frame(kind);
         }
         if self.may_close(kind, bytes) {
             self.is_closing = true;
         } else if kind != SegmentKind::Character {
             self.end_line(true);
+        }
+    }
+
+    // Ends what a segment means, where its last byte does not.
+    fn end_frame(&mut self, kind: SegmentKind) {
+        self.is_framed = false;
+        if is_left_open(kind) {
+            self.words.is_ending = true;
+            self.feed(b"\x18");
         }
     }
 
@@ -317,11 +337,9 @@ impl<'n> Dump<'n> {
         }
     }
 
-    // Adds the words of the actions of these bytes.
+    // Adds the words of the events of these bytes.
     fn feed(&mut self, bytes: &[u8]) {
-        let words = mem::replace(&mut self.words, Words::new(self.alloc, usize::MAX));
-        let (result, words) = self.parser.parse_into(bytes, words);
-        self.words = words;
+        let result = self.framer.parse(bytes, &mut self.words);
         self.page.note(result.is_err());
     }
 
@@ -406,9 +424,9 @@ fn shown_run(bytes: &[u8]) -> usize
     bytes.len()
 }
 
-// Whether a segment is given to the parser: it is one in which controls may be, or of which it
-// makes what is not made of its bytes. Others leave the parser as it was.
-fn is_parsed(kind: SegmentKind) -> bool {
+// Whether a segment that comes in pieces is given to the framer: it is a control sequence, or one
+// in which controls may be. Others leave the framer as it was.
+fn is_framed(kind: SegmentKind) -> bool {
     match kind {
         SegmentKind::Escape
         | SegmentKind::Csi
@@ -425,7 +443,35 @@ fn is_parsed(kind: SegmentKind) -> bool {
     }
 }
 
-// Whether the last byte of a segment does not end it for the parser.
+// Whether the last byte of a segment does not end it for the framer.
 fn is_left_open(kind: SegmentKind) -> bool {
-    is_parsed(kind) && kind != SegmentKind::Escape && kind != SegmentKind::Csi
+    is_framed(kind) && kind != SegmentKind::Escape && kind != SegmentKind::Csi
+}
+
+// Whether an item that came whole is a control sequence, or may have controls inside it: of a
+// string they come before its text.
+fn may_hold_controls(kind: SegmentKind, item: &Item) -> bool {
+    match kind {
+        SegmentKind::Csi => true,
+        SegmentKind::Osc | SegmentKind::Apc | SegmentKind::Ignored => item.has_controls(),
+        SegmentKind::Escape | SegmentKind::Dcs | SegmentKind::CutShort => {
+            has_control_after_first(item.bytes())
+        }
+        SegmentKind::Character
+        | SegmentKind::Broken
+        | SegmentKind::Stray
+        | SegmentKind::Control
+        | SegmentKind::Terminator => false,
+    }
+}
+
+// Whether bytes after the first are controls of C0.
+fn has_control_after_first(bytes: &[u8]) -> bool {
+    let mut has_any = false;
+    if let [_, rest @ ..] = bytes {
+        for byte in rest {
+            has_any = (*byte < 0x20) | has_any;
+        }
+    }
+    has_any
 }

@@ -113,6 +113,11 @@ impl Item {
         }
     }
 
+    /// Whether bytes come between ESC and the letter that opens it.
+    pub fn has_controls(&self) -> bool {
+        self.opened > 2
+    }
+
     /// The bytes that are kept.
     pub fn bytes(&self) -> &[u8] {
         &self.bytes

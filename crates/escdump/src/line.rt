@@ -186,9 +186,9 @@ pub fn add_said(item: &Item, words: &mut Words) {
         }
         Kind::Osc => add_command(item.body(), phrase),
         Kind::Apc => add_application(item.body(), phrase),
-        Kind::Dcs if !words.has_said => add_device(item.body(), phrase),
+        Kind::Dcs => add_device(item.body(), !words.is_unfinished && !item.is_cut(), phrase),
         Kind::Csi if !words.has_said => phrase.begin("CSI", "", "malformed, ignored"),
-        Kind::Dcs | Kind::Csi => {}
+        Kind::Csi => {}
         Kind::Sos | Kind::Pm => {
             phrase.begin(kind.name(), kind.words(), "");
             phrase.add_quoted(" ", item.body());

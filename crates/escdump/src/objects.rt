@@ -143,11 +143,28 @@ fn add_fields(kind: Kind, body: &[u8], phrase: &mut Phrase, object: &mut Phrase)
 
 // Adds the bytes 30 to 3B alone: digits, `:` and `;`.
 fn add_digits(bytes: &[u8], phrase: &mut Phrase) {
-    for byte in bytes {
-        if matches!(*byte, b'0'..=b';') {
-            phrase.add_char(char::from(*byte));
+    let mut rest = bytes;
+    for _ in 0..u64::MAX {
+        if rest.is_empty() {
+            break;
+        }
+        let (run, after) = rest.split_at(digit_run(rest).min(rest.len()));
+        phrase.add_bytes(run, usize::MAX);
+        rest = match after {
+            [_, more @ ..] => more,
+            [] => after,
+        };
+    }
+}
+
+// How many of these bytes come first.
+fn digit_run(bytes: &[u8]) -> usize {
+    for at in 0..bytes.len() {
+        if !matches!(bytes[at], b'0'..=b';') {
+            return at;
         }
     }
+    bytes.len()
 }
 
 // Adds the bytes that are kept, escaped and in base64.

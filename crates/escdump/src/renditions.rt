@@ -3,9 +3,9 @@
 use crate::color_spaces::{add_space, add_spaced};
 use crate::color_words::add_color;
 use crate::csi_words::add_entries;
-use crate::entries::number_at;
+use crate::entries::{number_at, part_at};
 use dump_page::Phrase;
-use esc_sequences::{Intensity, Sgr, Underline};
+use esc_sequences::Underline;
 use esc_typed::{ColorSpec, Rendition, Renditions, Selection};
 use esc_values::CsiParam;
 
@@ -92,19 +92,6 @@ static RENDITIONS: [Numbered; 74] = [
     Numbered(107, "background bright white"),
 ];
 
-/// A rendition of the parser in words.
-pub fn rendition_words(sgr: Sgr) -> &'static str {
-    match sgr {
-        Sgr::Reset => words_at(0),
-        Sgr::Intensity(Intensity::Bold) => words_at(1),
-        Sgr::Intensity(Intensity::Half) => words_at(2),
-        Sgr::Intensity(Intensity::Normal) => words_at(22),
-        Sgr::Italic(true) => words_at(3),
-        Sgr::Italic(false) => words_at(23),
-        Sgr::Underline(underline) => underline_words(underline),
-    }
-}
-
 // The words of the rendition of this number.
 fn words_at(number: i64) -> &'static str {
     for rendition in &RENDITIONS {
@@ -131,8 +118,11 @@ pub fn add_renditions(params: &[CsiParam], to: &mut Phrase) {
 }
 
 // Adds a rendition that the library does not read: a colour of a colour space, or none that is
-// known.
+// known. `1:2` is of mintty.
 fn add_unknown(entries: &[CsiParam], to: &mut Phrase) {
+    if number_at(entries, 0) == Some(1) && part_at(entries, 0, 1) == Some(2) {
+        return to.add("shadowed");
+    }
     if !add_spaced(entries, to) {
         to.add("not known");
         add_entries(entries, to);

@@ -1,2 +1,0 @@
-pub mod Unchanged
-pub mod Taken
