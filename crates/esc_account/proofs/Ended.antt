@@ -101,7 +101,7 @@ ended : (g : Shape) (t : List ℕ) → HasShape g t → is_finished g t ≡ true
 ended g [] h f = let e = finished_before (g ∷ []) [] 0x1b (h, f, tt) in (e.0, e.1)
 ended g (a ∷ t) h f = ended_by g a t h f
 
-first_shape : (g : Shape) (gs : List Shape) → AreSegments (g ∷ gs) → HasShape g (joined gs)
+pub first_shape : (g : Shape) (gs : List Shape) → AreSegments (g ∷ gs) → HasShape g (joined gs)
 first_shape g [] each = each
 first_shape g (h ∷ gs) each = each.0
 

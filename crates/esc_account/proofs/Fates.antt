@@ -1,76 +1,18 @@
 -- Which fate the rule of a policy gives.
-use Rattle.std.proofs.Common.{Option, ℕ, ◌≡◌, ◌-◌, inl, inr, Bool, true, false, not, ◌&&◌, ◌||◌, ◌==◌, if◌then◌else◌, List, [], ◌∷◌, ◌++◌, length, take, drop, map, bytes_eq, refl, ap, sym, ◌∙◌}
+use Rattle.std.proofs.Common.{Option, ℕ, ◌≡◌, ◌-◌, inl, inr, Bool, true, false, not, ◌&&◌, ◌||◌, ◌==◌, if◌then◌else◌, List, [], ◌∷◌, ◌++◌, length, take, drop, bytes_eq, refl, ap, sym, ◌∙◌}
 use Rattle.std.proofs.lemmas.Bool.{and_parts, eqb-true}
 use Rattle.std.proofs.lemmas.List.{take-append-drop}
 use Rattle.std.proofs.lemmas.Slice.Eq.{bytes_eq-Decides}
 use Rattle.std.specs.List.{list_all, list_any}
 use Rattle.esc_segments.specs.declared.kind.SegmentKind.{SegmentKind}
 use Rattle.esc_actions.specs.Texts.{list_text}
-use Rattle.esc_actions.specs.Values.{Value, value_of}
-use Rattle.esc_actions.specs.declared.action.Action.{Action}
+use Rattle.esc_actions.specs.Values.{Value}
 use Rattle.esc_filter.specs.declared.guard.Guard.{Guard}
 use Rattle.esc_account.specs.Accounts.{is_end}
-use Rattle.esc_account.specs.Rules.{IsAsItCame, before_after, fate_of, is_own, is_replaced, is_shown, is_spelled, is_written, spelling_of}
+use Rattle.esc_account.specs.Rules.{IsAsItCame, before_after, fate_of, is_own, is_replaced, is_shown, is_spelled, is_written}
 use Rattle.esc_account.specs.declared.fate.Fate.{Fate}
 use Rattle.esc_account.specs.declared.fate.Fate.TheVariants as fates
 use Rattle.esc_account.specs.declared.verdict.Verdict.{Verdict}
-use Rattle.esc_account.proofs.Values.{all_map, any_map}
-
-module _ {A : Type 0} (by_lines : Bool) (u : Guard) (admits : Value A → Bool) (b : Option ℕ)
-    (k : SegmentKind) (bytes : List ℕ) (actions : List (Action A)) where
-  abbrev Vs : List (Value A)
-  Vs = map (value_of {A = A}) actions
-
-  -- what a call says of the actions, it says of their values
-  abbrev Own : Bool → Bool → Type 0
-  Own r t = (r ≡ list_any (λ a. is_own k (value_of a)) actions) × (r ≡ t)
-
-  abbrev Written : Bool → Bool → Type 0
-  Written r t = (r ≡ list_all (λ a. is_written by_lines u admits (value_of a)) actions) × (r ≡ t)
-
-  abbrev Replaced : Bool → Bool → Type 0
-  Replaced r t = (r ≡ is_replaced k) × (r ≡ t)
-
-  abbrev Shown : Bool → Bool → Type 0
-  Shown r t = (r ≡ list_any (λ a. is_shown u b (value_of a)) actions) × (r ≡ t)
-
-  own_is : (r t : Bool) → Own r t → list_any (is_own k) Vs ≡ t
-  own_is r t h = any_map (is_own k) value_of actions ∙ sym h.0 ∙ h.1
-
-  written_is : (r t : Bool) → Written r t → list_all (is_written by_lines u admits) Vs ≡ t
-  written_is r t h = all_map (is_written by_lines u admits) value_of actions ∙ sym h.0 ∙ h.1
-
-  replaced_is : (r t : Bool) → Replaced r t → is_replaced k ≡ t
-  replaced_is r t h = sym h.0 ∙ h.1
-
-  shown_is : (r t : Bool) → Shown r t → list_any (is_shown u b) Vs ≡ t
-  shown_is r t h = any_map (is_shown u b) value_of actions ∙ sym h.0 ∙ h.1
-
-  abbrev Is : Fate → Type 0
-  Is f = f ≡ fate_of by_lines u admits b k bytes Vs
-
-  pub swallowed : (o : Bool) → Own o false → Is fates.Swallowed
-  swallowed o own = rw (own_is o false own) refl
-
-  pub left_out : (o w : Bool) → Own o true → Written w false → Is fates.LeftOut
-  left_out o w own all = rw (own_is o true own, written_is w false all) refl
-
-  pub replaced : (o w r : Bool) → Own o true → Written w true → Replaced r true
-      → Is fates.Replaced
-  replaced o w r own all rep =
-      rw (own_is o true own, written_is w true all, replaced_is r true rep) refl
-
-  pub shown : (o w r s : Bool) → Own o true → Written w true → Replaced r false → Shown s true
-      → Is fates.Shown
-  shown o w r s own all rep sh =
-      rw (own_is o true own, written_is w true all, replaced_is r false rep, shown_is s true sh)
-      refl
-
-  pub spelled : (o w r s : Bool) → Own o true → Written w true → Replaced r false → Shown s false
-      → Is (spelling_of bytes (list_text Vs))
-  spelled o w r s own all rep sh =
-      rw (own_is o true own, written_is w true all, replaced_is r false rep, shown_is s false sh)
-      refl
 
 abbrev verdict_of : Fate → Option ℕ → Verdict
 verdict_of f b = record { fate = f; before = b }

@@ -16,3 +16,7 @@ pub mod LastWritten
 pub mod Running
 pub mod AddUp
 pub mod Tables
+pub mod Weights
+pub mod Briefs
+pub mod Short
+pub mod ShortSequences

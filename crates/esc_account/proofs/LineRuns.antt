@@ -1,5 +1,5 @@
 -- The segments of a line are entered, those that are finished and then the last, or the line's end.
-use Rattle.std.proofs.Common.{ℕ, ◌≡◌, ◌+◌, ◌<◌, ◌≤◌, Bool, true, false, ◌&&◌, if◌then◌else◌, Option, None, Some, IfSome, MatchOption, OnSome, List, [], ◌∷◌, ◌++◌, length, length-append, arith, refl, ap, sym, ◌∙◌, subst, append-nil}
+use Rattle.std.proofs.Common.{ℕ, ◌≡◌, ◌<◌, ◌≤◌, Bool, true, false, ◌&&◌, if◌then◌else◌, Option, None, Some, IfSome, MatchOption, OnSome, List, [], ◌∷◌, ◌++◌, length, length-append, arith, refl, ap, sym, ◌∙◌, subst, append-nil}
 use Rattle.esc_frame.specs.Leads.{AreFinished}
 use Rattle.esc_frame.specs.Segments.{Segment as Shape, AreSegments, IsCut, is_finished, joined}
 use Rattle.esc_segments.specs.declared.item.Segment.{Segment as Item}

@@ -7,7 +7,6 @@ use Rattle.esc_frame.specs.Segments.{Segment as Shape, HasShape, bytes_of, is_fi
 use Rattle.esc_frame.specs.Segments.Segment.{Character, Control, Wide}
 use Rattle.esc_frame.specs.Sequences.{is_sequence}
 use Rattle.esc_frame.proofs.Characters.{two_is}
-use Rattle.esc_segments.specs.declared.kind.SegmentKind.TheVariants as kinds
 use Rattle.esc_segments.specs.Items.{kind_of}
 use Rattle.esc_account.specs.Accounts.{Rule, added, all_passed, carried, entered_as, fate_after, feeds, step}
 use Rattle.esc_account.specs.Entries.{Entry, entry_of, is_noted, is_passed, noted}

@@ -9,3 +9,8 @@ pub mod Wholes
 pub mod Rules
 pub mod Judges
 pub mod Tables
+pub mod Weighed
+pub mod Brief
+pub mod Short
+pub mod Weighings
+pub mod Briefs

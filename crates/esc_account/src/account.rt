@@ -224,6 +224,7 @@ impl Account {
 }
 
 // Whether the bytes are the same.
+#[inline]
 pub(crate) fn is_same(written: &[u8], line: &[u8]) -> bool
     ensures { IsTrue result ↔ (written.now ≡ line.now) }
 {

@@ -19,6 +19,7 @@ pub mod account;
 pub mod audience;
 pub mod audited;
 pub mod book;
+mod brief;
 pub mod entry;
 pub mod fate;
 mod feeds;
@@ -39,6 +40,8 @@ pub mod table;
 mod terminator;
 mod text;
 pub mod verdict;
+mod weighed;
+mod weighing;
 mod whole_lines;
 
 pub use account::Account;

@@ -1,28 +1,31 @@
 //! What becomes of a segment where a policy says which actions pass.
 #![tactic(auto)]
 
-ghost use Rattle.std.specs.Prelude.{◌≡◌, ℕ, if◌then◌else◌, IfOk, None, OnErr, Option, Some, false, map, true};
-ghost use Rattle.std.specs.List.{list_all, list_any};
+ghost use Rattle.std.specs.Prelude.{◌≡◌, ◌∷◌, ℕ, if◌then◌else◌, IfOk, IfSome, List, None, OnErr, Option, Some, false, true};
+ghost use Rattle.esc_frame.specs.Segments.{AreSegments, Segment as Shape, is_finished, joined};
+ghost use Rattle.esc_segments.specs.Items.{IsItem};
+ghost use Rattle.esc_actions.specs.Readings.{reading_within};
 ghost use Rattle.esc_actions.specs.Texts.{list_text};
 ghost use Rattle.esc_actions.specs.Values.{value_of};
-ghost use Rattle.esc_actions.specs.Writable.{AreHandedOut};
 ghost use Rattle.memory.specs.Refusals.{Refused};
 ghost use Rattle.esc_filter.specs.Characters.{is_return, of_unicode};
 ghost use Rattle.esc_visible.specs.Characters.{is_deceiving};
 ghost use Rattle.esc_filter.specs.Passing.{is_line_feed};
-ghost use Rattle.esc_account.specs.Rules.{before_after, before_next, drops, drops_returns, fate_of, is_control, is_dropped, is_lone, is_own, is_replaced, is_shown, is_written, last_instead, last_return, rule_of, shows, shows_returns, spelling_of};
+ghost use Rattle.esc_account.specs.Rules.{before_next, drops, drops_returns, is_dropped, is_replaced, is_shown, is_written, last_instead, last_return, rule_of, shows, shows_returns, spelling_of};
+ghost use Rattle.esc_account.specs.Weighed.{fate_by, unweighed, weighed_all};
 
 use crate::fate::Fate;
 use crate::judge::Judge;
-use crate::reading::read_segment;
+use crate::reading::{is_short, parse_into, segment_text, split_into};
 use crate::terminator::is_end;
 use crate::text::text_run;
 use crate::verdict::Verdict;
+use crate::weighed::Weighed;
+use crate::weighing::Weighing;
 use esc_actions::{Action, ControlCode};
 use esc_filter::{Admit, Guard, Returns, Unicode, is_deceiving, passes};
 use esc_segments::{Segment, SegmentKind};
 use esc_visible::may_follow;
-use esc_write::encode;
 use std::alloc::{AllocError, Allocator, Global};
 
 /// Says what a filter with a policy does to a segment.
@@ -77,8 +80,8 @@ impl<P: Admit<A>, A: Allocator + Copy> Judge<A> for PolicyJudge<P, A> {
     ghost rule = { λ j. rule_of j.by_lines j.guard j.limit (P.admits j.policy) };
 
     fn verdict(&self, before: Option<char>, segment: Segment<'_>) -> Result<Verdict, AllocError> {
-        match read_segment(self.alloc, self.limit, segment) {
-            Ok(actions) => self.verdict_of(before, segment.kind, segment.bytes, actions.as_slice()),
+        match self.weighed(before, segment) {
+            Ok(weighed) => self.verdict_of(segment, weighed),
             Err(error) => Err(error),
         }
     }
@@ -89,48 +92,116 @@ impl<P: Admit<A>, A: Allocator + Copy> Judge<A> for PolicyJudge<P, A> {
 }
 
 impl<P: Admit<A>, A: Allocator + Copy> PolicyJudge<P, A> {
-    // What becomes of a segment of this kind, these bytes and these actions, after this character.
-    fn verdict_of(
-        &self,
-        before: Option<char>,
-        kind: SegmentKind,
-        bytes: &[u8],
-        actions: &[Action<A>],
-    ) -> Result<Verdict, AllocError>
-        requires { AreHandedOut (map value_of actions.now) }
-        ensures given { IfOk result (λ v. v ≡ record {
-          fate = fate_of self.now.by_lines self.now.guard (P.admits self.now.policy) before kind
-              bytes.now (map value_of actions.now);
-          before = before_after self.now.guard (P.admits self.now.policy) before
-              (map value_of actions.now);
-        }) }
+    // What is known of the actions of a segment that comes after this character.
+    fn weighed(&self, before: Option<char>, segment: Segment<'_>) -> Result<Weighed, AllocError>
+        ensures given { (g : Shape) (gs : List Shape) → AreSegments (g ∷ gs)
+            → IsItem segment.entry g (joined gs) → IfOk result (λ w. w
+            ≡ weighed_all self.now.by_lines self.now.guard (P.admits self.now.policy) before
+            segment.entry.kind (unweighed before)
+            (reading_within (Some self.now.limit) g (is_finished g (joined gs)))) }
         ensures refused { OnErr result (Refused A) }
     {
-        match self.fate_of(before, kind, bytes, actions) {
+        match self.weighed_at_once(before, segment) {
+            Some(weighed) => Ok(weighed),
+            None => self.weighed_by_parser(before, segment),
+        }
+    }
+
+    // The same by splitting the segment, where it is short and memory is not refused.
+    fn weighed_at_once(&self, before: Option<char>, segment: Segment<'_>) -> Option<Weighed>
+        ensures { (g : Shape) (gs : List Shape) → AreSegments (g ∷ gs)
+            → IsItem segment.entry g (joined gs) → IfSome result (λ w. w
+            ≡ weighed_all self.now.by_lines self.now.guard (P.admits self.now.policy) before
+            segment.entry.kind (unweighed before)
+            (reading_within (Some self.now.limit) g (is_finished g (joined gs)))) }
+    {
+        if !is_short(self.limit, segment) {
+            return None;
+        }
+        let sink = Weighing::new(self, before, segment.kind);
+        match split_into(self.alloc, self.limit, segment, sink) {
+            Ok(weighing) => Some(weighing.weighed),
+            Err(_) => None,
+        }
+    }
+
+    // The same by a parser.
+    fn weighed_by_parser(
+        &self,
+        before: Option<char>,
+        segment: Segment<'_>,
+    ) -> Result<Weighed, AllocError>
+        ensures given { (g : Shape) (gs : List Shape) → AreSegments (g ∷ gs)
+            → IsItem segment.entry g (joined gs) → IfOk result (λ w. w
+            ≡ weighed_all self.now.by_lines self.now.guard (P.admits self.now.policy) before
+            segment.entry.kind (unweighed before)
+            (reading_within (Some self.now.limit) g (is_finished g (joined gs)))) }
+        ensures refused { OnErr result (Refused A) }
+    {
+        let sink = Weighing::new(self, before, segment.kind);
+        match parse_into(self.alloc, self.limit, segment, sink) {
+            Ok(weighing) => Ok(weighing.weighed),
+            Err(error) => Err(error),
+        }
+    }
+
+    // What becomes of a segment of whose actions this is known.
+    fn verdict_of(&self, segment: Segment<'_>, weighed: Weighed) -> Result<Verdict, AllocError>
+        ensures given { (g : Shape) (gs : List Shape) → AreSegments (g ∷ gs)
+            → IsItem segment.entry g (joined gs) → IfOk result (λ v. v ≡ record {
+              fate = fate_by weighed segment.entry.kind segment.entry.bytes.now (list_text {A = A}
+                  (reading_within (Some self.now.limit) g (is_finished g (joined gs))));
+              before = weighed.last;
+            }) }
+        ensures refused { OnErr result (Refused A) }
+    {
+        match self.fate_of(segment, weighed) {
             Ok(fate) => Ok(Verdict {
                 fate,
-                before: self.before_after(before, actions),
+                before: weighed.last,
             }),
             Err(error) => Err(error),
         }
     }
 
-    // The character that comes before what is written next, after this one and these actions.
-    fn before_after(&self, before: Option<char>, actions: &[Action<A>]) -> Option<char>
-        ensures { result ≡ before_after self.now.guard (P.admits self.now.policy) before
-            (map value_of actions.now) }
+    // What becomes of its bytes.
+    fn fate_of(&self, segment: Segment<'_>, weighed: Weighed) -> Result<Fate, AllocError>
+        ensures given { (g : Shape) (gs : List Shape) → AreSegments (g ∷ gs)
+            → IsItem segment.entry g (joined gs) → IfOk result (λ f. f
+            ≡ fate_by weighed segment.entry.kind segment.entry.bytes.now
+            (list_text {A = A} (reading_within (Some self.now.limit) g
+            (is_finished g (joined gs))))) }
+        ensures refused { OnErr result (Refused A) }
     {
-        let mut last = before;
-        let mut rest = actions;
-        while let Some((first, after)) = rest.split_first() {
-            last = self.before_next(last, first);
-            rest = after;
+        if !weighed.has_own {
+            Ok(Fate::Swallowed)
+        } else if !weighed.writes_all {
+            Ok(Fate::LeftOut)
+        } else if is_replaced(segment.kind) {
+            Ok(Fate::Replaced)
+        } else if weighed.shows_some {
+            Ok(Fate::Shown)
+        } else {
+            self.spelling(segment)
         }
-        last
     }
 
-    // The same of an action.
-    fn before_next(&self, before: Option<char>, action: &Action<A>) -> Option<char>
+    // What becomes of the bytes of a segment whose text is written.
+    fn spelling(&self, segment: Segment<'_>) -> Result<Fate, AllocError>
+        ensures given { (g : Shape) (gs : List Shape) → AreSegments (g ∷ gs)
+            → IsItem segment.entry g (joined gs) → IfOk result (λ f. f
+            ≡ spelling_of segment.entry.bytes.now (list_text {A = A}
+            (reading_within (Some self.now.limit) g (is_finished g (joined gs))))) }
+        ensures refused { OnErr result (Refused A) }
+    {
+        match segment_text(self.alloc, self.limit, segment) {
+            Ok(text) => Ok(spelled(segment.bytes, text.as_bytes())),
+            Err(error) => Err(error),
+        }
+    }
+
+    // The character that comes before what is written next, after this one and this action.
+    pub(crate) fn before_next(&self, before: Option<char>, action: &Action<A>) -> Option<char>
         ensures { result ≡ before_next self.now.guard (P.admits self.now.policy) before
             (value_of action.now) }
     {
@@ -142,40 +213,6 @@ impl<P: Admit<A>, A: Allocator + Copy> PolicyJudge<P, A> {
             Action::Control(code) => last_control(self.guard.returns, before, *code),
             _ => None,
         }
-    }
-
-    // What becomes of the bytes.
-    fn fate_of(
-        &self,
-        before: Option<char>,
-        kind: SegmentKind,
-        bytes: &[u8],
-        actions: &[Action<A>],
-    ) -> Result<Fate, AllocError>
-        requires { AreHandedOut (map value_of actions.now) }
-        ensures given { IfOk result (λ f. f ≡ fate_of self.now.by_lines self.now.guard
-            (P.admits self.now.policy) before kind bytes.now (map value_of actions.now)) }
-        ensures refused { OnErr result (Refused A) }
-    {
-        if !has_own(kind, actions) {
-            Ok(Fate::Swallowed)
-        } else if !self.writes_all(actions) {
-            Ok(Fate::LeftOut)
-        } else if is_replaced(kind) {
-            Ok(Fate::Replaced)
-        } else if self.shows_some(before, actions) {
-            Ok(Fate::Shown)
-        } else {
-            spelling(self.alloc, bytes, actions)
-        }
-    }
-
-    // Whether something is written of each of the actions.
-    fn writes_all(&self, actions: &[Action<A>]) -> bool
-        ensures { result ≡ list_all (λ a. is_written self.now.by_lines self.now.guard
-            (P.admits self.now.policy) (value_of a)) actions.now }
-    {
-        actions.iter().all(|action| self.writes(action))
     }
 
     /// Whether something is written of the action.
@@ -197,14 +234,8 @@ impl<P: Admit<A>, A: Allocator + Copy> PolicyJudge<P, A> {
         }
     }
 
-    // Whether of one of the actions, after this character, visible text is written.
-    fn shows_some(&self, before: Option<char>, actions: &[Action<A>]) -> bool
-        ensures { result ≡ list_any (λ a. is_shown self.now.guard before (value_of a)) actions.now }
-    {
-        actions.iter().any(|action| self.shows(before, action))
-    }
-
-    fn shows(&self, before: Option<char>, action: &Action<A>) -> bool
+    // Whether visible text is written in place of the action, after this character.
+    pub(crate) fn shows(&self, before: Option<char>, action: &Action<A>) -> bool
         ensures { result ≡ is_shown self.now.guard before (value_of action.now) }
     {
         match action {
@@ -285,53 +316,11 @@ fn is_line_feed<A: Allocator>(action: &Action<A>) -> bool
     matches!(action, Action::Control(ControlCode::LineFeed))
 }
 
-// Whether one of the actions is what the segment itself means.
-fn has_own<A: Allocator>(kind: SegmentKind, actions: &[Action<A>]) -> bool
-    ensures { result ≡ list_any (λ a. is_own kind (value_of a)) actions.now }
-{
-    actions.iter().any(|action| is_own(kind, action))
-}
-
-fn is_own<A: Allocator>(kind: SegmentKind, action: &Action<A>) -> bool
-    ensures { result ≡ is_own kind (value_of action.now) }
-{
-    is_lone(kind) || !is_control(action)
-}
-
-fn is_control<A: Allocator>(action: &Action<A>) -> bool
-    ensures { result ≡ is_control (value_of action.now) }
-{
-    matches!(action, Action::Control(_))
-}
-
-// Whether the segment is a character or a control by itself.
-fn is_lone(kind: SegmentKind) -> bool
-    ensures { result ≡ is_lone kind }
-{
-    matches!(
-        kind,
-        SegmentKind::Character | SegmentKind::Broken | SegmentKind::Stray | SegmentKind::Control
-    )
-}
-
 // Whether the replacement character stands for the segment.
 fn is_replaced(kind: SegmentKind) -> bool
     ensures { result ≡ is_replaced kind }
 {
     matches!(kind, SegmentKind::Broken | SegmentKind::Stray)
-}
-
-// Whether the text of the actions is these bytes, or another spelling.
-fn spelling<A: Allocator>(alloc: A, bytes: &[u8], actions: &[Action<A>]) -> Result<Fate, AllocError>
-    requires { AreHandedOut (map value_of actions.now) }
-    ensures given { IfOk result (λ f. f ≡ spelling_of bytes.now
-        (list_text (map value_of actions.now))) }
-    ensures refused { OnErr result (Refused A) }
-{
-    match encode(alloc, actions) {
-        Ok(text) => Ok(spelled(bytes, text.as_bytes())),
-        Err(_) => Err(AllocError),
-    }
 }
 
 // What becomes of bytes that are written as this text.

@@ -1,43 +1,227 @@
 //! The actions of a segment by itself, under a limit.
 #![tactic(auto)]
 
-ghost use Rattle.std.specs.Prelude.{◌≡◌, ◌∷◌, ◌++◌, IfOk, List, OnErr, Some, [], map};
+ghost use Rattle.std.specs.Prelude.{◌≡◌, ◌∷◌, ◌++◌, IfOk, IfSome, IsTrue, List, OnErr, OnOk, Some, [], false, map, take, ℕ};
+ghost use Rattle.std.specs.List.{FoldsTo};
 ghost use Rattle.esc_actions.specs.Meaning.{meaning_within};
 ghost use Rattle.esc_actions.specs.Readings.{reading_within};
-ghost use Rattle.esc_actions.specs.Values.{value_of};
+ghost use Rattle.esc_actions.specs.Texts.{list_text};
+ghost use Rattle.esc_actions.specs.Values.{Value, value_of};
 ghost use Rattle.esc_actions.specs.Writable.{AreHandedOut};
-ghost use Rattle.esc_frame.specs.Segments.{AreSegments, Segment as Shape, is_finished, joined};
+ghost use Rattle.esc_frame.specs.Segments.{AreSegments, HasShape, Segment as Shape, events_of, is_finished, joined};
+ghost use Rattle.esc_frame.specs.Events.Event.{CsiDispatch};
+ghost use Rattle.esc_parse.specs.Given.{At};
 ghost use Rattle.esc_segments.specs.Items.{IsItem};
+ghost use Rattle.esc_segments.specs.declared.kind.SegmentKind.TheVariants as kinds;
+ghost use Rattle.esc_account.specs.Brief.{brief};
+ghost use Rattle.esc_account.specs.Briefs.{TookHandedOut};
+ghost use Rattle.esc_account.specs.Short.{IsShort, is_dcs};
 ghost use Rattle.memory.specs.Refusals.{Refused};
 
+use crate::brief::Brief;
 use esc_actions::{Action, laws};
-use esc_parse::Parser;
-use esc_segments::Segment;
+use esc_frame::VTActor;
+use esc_frame::unfinished::short::Short;
+use esc_normal::{Spell, normal_text};
+use esc_parse::performer::Performer;
+use esc_parse::unfinished::Unfinished;
+use esc_parse::{Parser, Sink};
+use esc_segments::{Segment, SegmentKind, segment_events};
+use esc_values::Text;
 use std::alloc::{AllocError, Allocator};
 
-// The actions of bytes that are a stream of their own.
-#[tactic(auto, using(esc_actions::proofs::Meanings::yield_whole))]
-fn actions_of<A: Allocator + Copy>(
+/// Gives a sink the actions of a segment, by splitting its bytes.
+pub(crate) fn split_into<A: Allocator + Copy, S: Sink<Action<A>> + Drop>(
+    alloc: A,
+    limit: usize,
+    segment: Segment<'_>,
+    sink: S,
+) -> Result<S, AllocError>
+    requires ready { S.is_ready sink }
+    requires short { IsShort limit segment.kind segment.bytes.now }
+    ensures { (g : Shape) (gs : List Shape) → AreSegments (g ∷ gs)
+        → IsItem segment.entry g (joined gs)
+        → IfOk result (λ q. FoldsTo (At value_of S.takes) sink
+        (reading_within (Some limit) g (is_finished g (joined gs))) q) }
+{
+    let mut performer = Performer {
+        sink,
+        alloc,
+        unfinished: Unfinished::new(Some(limit)),
+    };
+    match give_events(alloc, segment, &mut performer) {
+        Ok(()) => Ok(performer.sink),
+        Err(error) => Err(error),
+    }
+}
+
+// Gives an actor the events of a segment: that of a short control sequence at once.
+fn give_events<A: Allocator + Copy, V: VTActor>(
+    alloc: A,
+    segment: Segment<'_>,
+    actor: &mut V,
+) -> Result<(), AllocError>
+    requires { V.is_ready actor.old }
+    ensures { (g : Shape) (after : List ℕ) → HasShape g after → IsItem segment.entry g after
+        → OnOk result (FoldsTo V.takes actor.old (events_of g segment.entry.finished) actor.new) }
+{
+    let mut params = Short::new();
+    match short_final(&mut params, segment) {
+        Some(last) => actor.csi_dispatch(params.as_slice(), false, last),
+        None => segment_events(alloc, &segment, actor),
+    }
+}
+
+// The final byte of a control sequence after `ESC [` that is short, whose parameters are read.
+fn short_final(params: &mut Short, segment: Segment<'_>) -> Option<u8>
+    ensures { IfSome result (λ f. (g : Shape) (after : List ℕ) → HasShape g after
+        → IsItem segment.entry g after → events_of g segment.entry.finished
+        ≡ CsiDispatch (take params.new.count params.new.items) false f ∷ []) }
+{
+    let bytes = segment.bytes;
+    if !is_csi(segment.kind) || bytes.len() < 3 || bytes[0] != 0x1b || bytes[1] != b'[' {
+        return None;
+    }
+    let last = bytes.len() - 1;
+    let body = &bytes[2..last];
+    if params.read(body) < body.len() {
+        None
+    } else {
+        Some(bytes[last])
+    }
+}
+
+fn is_csi(kind: SegmentKind) -> bool
+    ensures { IsTrue result → kind ≡ kinds.Csi }
+{
+    matches!(kind, SegmentKind::Csi)
+}
+
+/// Whether a limit leaves nothing out of what the segment means, where that is seen at once.
+pub(crate) fn is_short(limit: usize, segment: Segment<'_>) -> bool
+    ensures { IsTrue result → IsShort limit segment.entry.kind segment.entry.bytes.now }
+{
+    !is_dcs(segment.kind) && 3 * (segment.bytes.len() as u128) <= limit as u128
+}
+
+fn is_dcs(kind: SegmentKind) -> bool
+    ensures { result ≡ is_dcs kind }
+{
+    matches!(kind, SegmentKind::Dcs)
+}
+
+/// Gives a sink the actions of a segment, by a parser that keeps no more than the limit of a
+/// string. `AllocError` says that the parser or the sink was refused memory.
+pub(crate) fn parse_into<A: Allocator + Copy, S: Sink<Action<A>> + Drop>(
+    alloc: A,
+    limit: usize,
+    segment: Segment<'_>,
+    sink: S,
+) -> Result<S, AllocError>
+    requires { S.is_ready sink }
+    ensures given { (g : Shape) (gs : List Shape) → AreSegments (g ∷ gs)
+        → IsItem segment.entry g (joined gs)
+        → IfOk result (λ q. FoldsTo (At value_of S.takes) sink
+        (reading_within (Some limit) g (is_finished g (joined gs))) q) }
+    ensures handed_out { IfOk result (λ q. TookHandedOut S.takes sink q) }
+    ensures refused { ((p : S) (a : Action A) (q : S) → S.refuses p a q → Refused A)
+        → OnErr result (Refused A) }
+{
+    laws::meaning_of_the_cut::<A>();
+    if !segment.finished {
+        return feed_into(alloc, limit, segment.bytes, sink);
+    }
+    match ended(alloc, segment.bytes) {
+        Ok(bytes) => feed_into(alloc, limit, bytes.as_slice(), sink),
+        Err(error) => Err(error),
+    }
+}
+
+// The same of bytes that are a stream of their own.
+fn feed_into<A: Allocator + Copy, S: Sink<Action<A>> + Drop>(
     alloc: A,
     limit: usize,
     bytes: &[u8],
-) -> Result<Vec<Action<A>, A>, AllocError>
-    ensures given { IfOk result
-        (λ v. map value_of v.items ≡ meaning_within (Some limit) bytes.now) }
-    ensures handed_out { IfOk result (λ v. AreHandedOut (map value_of v.items)) }
-    ensures refused { OnErr result (Refused A) }
+    sink: S,
+) -> Result<S, AllocError>
+    requires { S.is_ready sink }
+    ensures given { IfOk result (λ q. FoldsTo (At value_of S.takes) sink
+        (meaning_within (Some limit) bytes.now) q) }
+    ensures handed_out { IfOk result (λ q. TookHandedOut S.takes sink q) }
+    ensures refused { ((p : S) (a : Action A) (q : S) → S.refuses p a q → Refused A)
+        → OnErr result (Refused A) }
 {
+    laws::handed_out::<A>();
     let mut parser = Parser::with_limit(alloc, limit);
-    match parser.parse_as_vec(bytes) {
-        Ok(actions) => Ok(actions),
+    let (result, sink) = parser.parse_into(bytes, sink);
+    match result {
+        Ok(()) => Ok(sink),
         Err(_) => Err(AllocError),
     }
 }
 
+/// The text of the actions of a segment.
+pub(crate) fn segment_text<A: Allocator + Copy>(
+    alloc: A,
+    limit: usize,
+    segment: Segment<'_>,
+) -> Result<Text<A>, AllocError>
+    ensures given { (g : Shape) (gs : List Shape) → AreSegments (g ∷ gs)
+        → IsItem segment.entry g (joined gs) → IfOk result (λ t. t
+        ≡ list_text {A = A} (reading_within (Some limit) g (is_finished g (joined gs)))) }
+    ensures refused { OnErr result (Refused A) }
+{
+    match text_at_once(alloc, limit, segment) {
+        Some(text) => Ok(text),
+        None => text_by_parser(alloc, limit, segment),
+    }
+}
+
+// The same by splitting the segment, where it is short and memory is not refused.
+fn text_at_once<A: Allocator + Copy>(
+    alloc: A,
+    limit: usize,
+    segment: Segment<'_>,
+) -> Option<Text<A>>
+    ensures { (g : Shape) (gs : List Shape) → AreSegments (g ∷ gs)
+        → IsItem segment.entry g (joined gs) → IfSome result (λ t. t
+        ≡ list_text {A = A} (reading_within (Some limit) g (is_finished g (joined gs)))) }
+{
+    if !is_short(limit, segment) {
+        return None;
+    }
+    match split_into(alloc, limit, segment, Spell::new(alloc)) {
+        Ok(spell) => Some(spell.text),
+        Err(_) => None,
+    }
+}
+
+// The same by a parser.
+fn text_by_parser<A: Allocator + Copy>(
+    alloc: A,
+    limit: usize,
+    segment: Segment<'_>,
+) -> Result<Text<A>, AllocError>
+    ensures given { (g : Shape) (gs : List Shape) → AreSegments (g ∷ gs)
+        → IsItem segment.entry g (joined gs) → IfOk result (λ t. t
+        ≡ list_text {A = A} (reading_within (Some limit) g (is_finished g (joined gs)))) }
+    ensures refused { OnErr result (Refused A) }
+{
+    laws::meaning_of_the_cut::<A>();
+    if !segment.finished {
+        return normal_text(alloc, segment.bytes, Some(limit));
+    }
+    match ended(alloc, segment.bytes) {
+        Ok(bytes) => normal_text(alloc, bytes.as_slice(), Some(limit)),
+        Err(error) => Err(error),
+    }
+}
+
 /// The actions of a segment, which is the first of those that are left of a stream: those of its
-/// reading, where no more than the limit is kept of a string. A segment that is finished is read
-/// with an ESC after it, which ends every segment and is no action where nothing follows.
-/// `AllocError` says that a request for memory was refused.
+/// reading, where no more than the limit is kept of a string; but of the data of a device control
+/// string the first byte alone. A segment that is finished is read with an ESC after it, which ends
+/// every segment and is no action where nothing follows. `AllocError` says that a request for
+/// memory was refused.
 pub fn read_segment<A: Allocator + Copy>(
     alloc: A,
     limit: usize,
@@ -45,16 +229,16 @@ pub fn read_segment<A: Allocator + Copy>(
 ) -> Result<Vec<Action<A>, A>, AllocError>
     ensures given { (g : Shape) (gs : List Shape) → AreSegments (g ∷ gs)
         → IsItem segment.entry g (joined gs) → IfOk result (λ v. map value_of v.items
-        ≡ reading_within (Some limit) g (is_finished g (joined gs))) }
+        ≡ brief (reading_within (Some limit) g (is_finished g (joined gs)))) }
     ensures handed_out { IfOk result (λ v. AreHandedOut (map value_of v.items)) }
     ensures refused { OnErr result (Refused A) }
 {
-    laws::meaning_of_the_cut::<A>();
-    if !segment.finished {
-        return actions_of(alloc, limit, segment.bytes);
-    }
-    match ended(alloc, segment.bytes) {
-        Ok(bytes) => actions_of(alloc, limit, bytes.as_slice()),
+    let sink = Brief {
+        actions: Vec::new(alloc),
+        has_datum: false,
+    };
+    match parse_into(alloc, limit, segment, sink) {
+        Ok(brief) => Ok(brief.actions),
         Err(error) => Err(error),
     }
 }

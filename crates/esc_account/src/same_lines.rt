@@ -10,6 +10,9 @@ use memchr::memrchr;
 // How many bytes are compared at once.
 const BLOCK: usize = 256;
 
+// How many where so many are not the same: few enough for one instruction.
+const FEW: usize = 16;
+
 /// How many bytes at the beginning are whole lines, each with its line feed, that are the same in
 /// both.
 pub(crate) fn same_lines(bytes: &[u8], text: &[u8]) -> usize
@@ -33,6 +36,9 @@ fn same_bytes(bytes: &[u8], text: &[u8]) -> usize
     let mut at = 0;
     while most - at >= BLOCK && is_same(&bytes[at..at + BLOCK], &text[at..at + BLOCK]) {
         at += BLOCK;
+    }
+    while most - at >= FEW && is_same(&bytes[at..at + FEW], &text[at..at + FEW]) {
+        at += FEW;
     }
     while at < most && bytes[at] == text[at] {
         at += 1;

@@ -1,17 +1,20 @@
-use Rattle.std.proofs.Common.{Some, [], ◌∷◌, ◌++◌, ap, ◌∙◌}
-use Rattle.esc_account.proofs.Ended.{reads_finished, reads_unfinished}
-use Rattle.esc_account.proofs.Values.{spelled_by}
+use Rattle.std.proofs.Common.{Some, map, ◌++◌, refl, ap, ◌∙◌}
+use Rattle.esc_frame.specs.Segments.{is_finished, joined}
+use Rattle.esc_actions.specs.Readings.{reading_within}
+use Rattle.esc_actions.specs.Values.{value_of}
+use Rattle.esc_account.specs.Brief.{brief}
+use Rattle.esc_account.proofs.Briefs.{keeps, keeps_handed_out}
 use Rattle.esc_account.proofs.reading.read_segment.Goals as goal
-
-pub returns-then-not-segment-clause-given : goal.returns-then-not-segment-clause-given
-returns-then-not-segment-clause-given g c = λ s gs each item.
-    spelled_by _ _ _ _ c.actions_of.ensures.given
-    (reads_unfinished c.meaning_of_the_cut.ensures (Some c.args.limit) s gs c.args.segment.finished
-    c.args.segment.bytes.now each item.finished c.if-not-segment.true item.bytes)
 
 pub returns-in-Ok-clause-given : goal.returns-in-Ok-clause-given
 returns-in-Ok-clause-given g c = λ s gs each item.
-    spelled_by _ _ _ _ c.actions_of-in-Ok.ensures.given
-    (reads_finished c.meaning_of_the_cut.ensures (Some c.args.limit) s gs c.args.segment.finished
-    c.as_slice.result.now each item.finished c.if-not-segment.false
-    (c.as_slice.ensures.value ∙ c.in-Ok.ensures.given ∙ ap (λ x. x ++ 0x1b ∷ []) item.bytes))
+    let reading = reading_within (Some c.args.limit) s (is_finished s (joined gs)) in
+    keeps reading _ _ (c.in-Ok.ensures.given s gs each item)
+    ∙ ap (λ l. map value_of l ++ brief reading) c.new.ensures.items
+
+pub returns-in-Ok-clause-handed_out : goal.returns-in-Ok-clause-handed_out
+returns-in-Ok-clause-handed_out g c =
+    keeps_handed_out _ _ c.new.ensures.items refl c.in-Ok.ensures.handed_out
+
+pub returns-in-Err-clause-refused : goal.returns-in-Err-clause-refused
+returns-in-Err-clause-refused g c = c.in-Err.ensures.refused (λ p a q w. w)

@@ -1,4 +1,4 @@
-use Rattle.std.proofs.Common.{suc, ◌≡◌, ◌-◌, ◌<◌, ◌≤◌, ℕ, Option, Some, length, take, get_or, subst, arith}
+use Rattle.std.proofs.Common.{suc, ◌≡◌, ◌-◌, Some, take, get_or, subst, arith}
 use Rattle.esc_account.specs.Passing.{IsPassing}
 use Rattle.esc_account.specs.Rules.{rule_of}
 use Rattle.esc_account.proofs.Texts.{data_passes, last_byte, last_taken, none_pass}

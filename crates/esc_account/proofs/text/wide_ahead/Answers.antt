@@ -1,4 +1,4 @@
-use Rattle.std.proofs.Common.{◌≡◌, false, true, take, ◌∙◌, sym, arith}
+use Rattle.std.proofs.Common.{◌≡◌, false, take, ◌∙◌, sym, arith}
 use Rattle.esc_visible.specs.Characters.{is_deceiving}
 use Rattle.esc_account.specs.Rules.{rule_of}
 use Rattle.esc_account.proofs.Texts.{none_pass, wide_passes}

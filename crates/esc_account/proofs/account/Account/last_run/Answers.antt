@@ -1,4 +1,4 @@
-use Rattle.std.proofs.Common.{◌≡◌, ◌++◌, ◌&&◌, IfOk, OnErr, OnOk, [], false, true, length, drop, ap, sym, ◌∙◌, subst, arith}
+use Rattle.std.proofs.Common.{◌≡◌, ◌++◌, ◌&&◌, IfOk, OnErr, OnOk, [], false, length, drop, ap, sym, ◌∙◌, subst, arith}
 use Rattle.esc_frame.specs.Segments.{joined}
 use Rattle.esc_parse.proofs.Lists.{if_ok_more}
 use Rattle.memory.specs.Refusals.{Refused}

@@ -1,0 +1,32 @@
+//! What is known of the actions of a segment.
+#![tactic(auto)]
+
+ghost use Rattle.std.specs.Prelude.{◌≡◌};
+ghost use Rattle.esc_account.specs.Weighed.{unweighed};
+
+/// All that the fate of a segment rests on but its text, of the actions that came.
+#[derive(Clone, Copy)]
+pub(crate) struct Weighed {
+    /// Whether one is what the segment itself means.
+    pub has_own: bool,
+    /// Whether something is written of each.
+    pub writes_all: bool,
+    /// Whether visible text is written in place of one.
+    pub shows_some: bool,
+    /// The character that comes before what is written next.
+    pub last: Option<char>,
+}
+
+impl Weighed {
+    /// Of no action, after this character.
+    pub fn unweighed(before: Option<char>) -> Weighed
+        ensures { result ≡ unweighed before }
+    {
+        Weighed {
+            has_own: false,
+            writes_all: true,
+            shows_some: false,
+            last: before,
+        }
+    }
+}

@@ -1,0 +1,99 @@
+//! What is told of the actions of a segment, and keeps none of them.
+#![tactic(auto)]
+
+ghost use Rattle.std.specs.Prelude.{◌≡◌};
+ghost use Rattle.esc_actions.specs.Values.{value_of};
+ghost use Rattle.esc_account.specs.Rules.{is_control, is_lone, is_own};
+ghost use Rattle.esc_account.specs.Weighings.{BeginsWeighing, Weighs};
+
+use crate::policy_judge::PolicyJudge;
+use crate::weighed::Weighed;
+use esc_actions::Action;
+use esc_filter::Admit;
+use esc_parse::Sink;
+use esc_segments::SegmentKind;
+use std::alloc::{AllocError, Allocator, Global};
+
+/// Weighs the actions of a segment, one after another, by a judge.
+#[derive(Drop)]
+pub(crate) struct Weighing<'j, P, A: Allocator = Global> {
+    judge: &'j PolicyJudge<P, A>,
+    before: Option<char>,
+    kind: SegmentKind,
+    pub weighed: Weighed,
+}
+
+impl<'j, P: Admit<A>, A: Allocator + Copy> Weighing<'j, P, A> {
+    /// Of no action yet, in a segment of this kind that comes after this character.
+    pub fn new(
+        judge: &'j PolicyJudge<P, A>,
+        before: Option<char>,
+        kind: SegmentKind,
+    ) -> Weighing<'j, P, A>
+        ensures { BeginsWeighing result judge.now before kind }
+    {
+        Weighing {
+            judge,
+            before,
+            kind,
+            weighed: Weighed::unweighed(before),
+        }
+    }
+
+    fn weigh(&mut self, action: &Action<A>)
+        ensures { Weighs P.admits self.old (value_of action.now) self.new }
+    {
+        let Weighed {
+            has_own,
+            writes_all,
+            shows_some,
+            last,
+        } = self.weighed;
+        let is_own = is_own(self.kind, action);
+        let writes = self.judge.writes(action);
+        let shows = self.judge.shows(self.before, action);
+        self.weighed = Weighed {
+            has_own: has_own | is_own,
+            writes_all: writes_all & writes,
+            shows_some: shows_some | shows,
+            last: self.judge.before_next(last, action),
+        };
+    }
+}
+
+impl<'j, P: Admit<A>, A: Allocator + Copy> Sink<Action<A>> for Weighing<'j, P, A> {
+    ghost is_ready = { λ _. Unit {0} };
+
+    ghost may = { λ _ _. Unit {0} };
+
+    ghost takes = { λ p a q. Weighs P.admits p (value_of a) q };
+
+    ghost refuses = { λ _ _ _. ⊥ };
+
+    fn receive(&mut self, action: Action<A>) -> Result<(), AllocError> {
+        self.weigh(&action);
+        Ok(())
+    }
+}
+
+fn is_own<A: Allocator>(kind: SegmentKind, action: &Action<A>) -> bool
+    ensures { result ≡ is_own kind (value_of action.now) }
+{
+    is_lone(kind) || !is_control(action)
+}
+
+fn is_control<A: Allocator>(action: &Action<A>) -> bool
+    ensures { result ≡ is_control (value_of action.now) }
+{
+    matches!(action, Action::Control(_))
+}
+
+// Whether the segment is a character or a control by itself.
+fn is_lone(kind: SegmentKind) -> bool
+    ensures { result ≡ is_lone kind }
+{
+    matches!(
+        kind,
+        SegmentKind::Character | SegmentKind::Broken | SegmentKind::Stray | SegmentKind::Control
+    )
+}
