@@ -4,6 +4,7 @@ pub mod ClearTexts
 pub mod Cutting
 pub mod Digits
 pub mod Engine
+pub mod Fields
 pub mod Numbers
 pub mod Numerals
 pub mod Plain
