@@ -4,17 +4,19 @@ use Rattle.std.specs.List.{list_all}
 use Rattle.std.specs.Option.{unwrap_or}
 use Rattle.esc_values.proofs.Signed.{signed_back_32}
 use Rattle.esc_kitty.specs.Images.{delete_of, image_by}
-use Rattle.esc_kitty.specs.Keys.{Values}
-use Rattle.esc_kitty.specs.Texts.{delete_keys, is_bare, letter, named_keys, placed_keys, written}
+use Rattle.esc_values.specs.Fields.{Values, is_bare, written}
+use Rattle.esc_values.proofs.Fields.{find}
+use Rattle.esc_kitty.specs.Kinds.{IsNumber, IsOrder}
+use Rattle.esc_kitty.specs.Texts.{delete_keys, letter, named_keys, placed_keys}
 use Rattle.esc_kitty.specs.Words.{verbosity_word}
-use Rattle.esc_kitty.specs.Writable.{IsNumber, IsOrder, IsWritableDelete, ReadsBack}
+use Rattle.esc_kitty.specs.Writable.{IsWritableDelete, ReadsBack}
 use Rattle.esc_kitty.specs.declared.verbosity.KittyImageVerbosity.{KittyImageVerbosity}
 use Rattle.esc_kitty.specs.declared.delete.KittyImageDelete.{KittyImageDelete}
 use Rattle.esc_kitty.specs.declared.delete.KittyImageDelete.TheVariants.{All, ByImageId, ByImageNumber, AtCursorPosition, AnimationFrames, DeleteAt}
 use Rattle.esc_kitty.specs.declared.delete.KittyImageDelete.TheVariants.{DeleteAtZ, DeleteColumn, DeleteRow, DeleteZ, ByImageIdRange}
 use Rattle.esc_kitty.specs.declared.image.KittyImage.TheVariants as image
 use Rattle.esc_kitty.proofs.FieldsBack.{number_is, one_back}
-use Rattle.esc_kitty.proofs.KeysRead.{is_entry, is_value, entries_image, find, written_pairs}
+use Rattle.esc_kitty.proofs.KeysRead.{is_entry, is_value, entries_image, written_pairs}
 use Rattle.esc_kitty.proofs.ValuesWritten.{number_value, order_value, verbosity_value}
 use Rattle.esc_kitty.proofs.Sending.{emits, acts}
 

@@ -1,24 +1,25 @@
 -- What kept bytes are read as is writable.
-use Rattle.std.proofs.Common.{ℕ, ◌≡◌, ◌<◌, ◌^◌, ◌==◌, ◌+◌, Bool, true, false, inl, inr, List, [], ◌∷◌, codes, Option, Some, None, refl, subst}
+use Rattle.std.proofs.Common.{ℕ, ◌≡◌, ◌<◌, ◌^◌, ◌==◌, ◌+◌, Bool, true, false, List, [], ◌∷◌, codes, Option, Some, None, refl, subst}
 use Rattle.std.specs.List.{list_all}
 use Rattle.std.specs.Option.{option_map, unwrap_or}
 use Rattle.std.specs.Str.{IsUtf8}
-use Rattle.std.proofs.lemmas.Bool.{eqb-false, cases_Bool, and_parts}
+use Rattle.std.proofs.lemmas.Bool.{and_parts}
 use Rattle.esc_values.specs.Base64.{base64_text_of}
 use Rattle.esc_values.specs.Cuts.{Pairs, cut_at}
-use Rattle.esc_values.specs.Scalars.{IsSigned, and_then, number_of, signed_of, utf8_of}
-use Rattle.esc_values.proofs.Signed.{signed_where}
-use Rattle.esc_values.proofs.Where.{Where, where_if, where_map, where_then, number_where, utf8_keeps, Anything, anything, content_where}
-use Rattle.esc_kitty.specs.Images.{compose_of, content_by, content_of, delete_by, delete_in, delete_of, frame_of, image_by, image_frame, image_in}
-use Rattle.esc_kitty.specs.Images.{image_of, image_shown, image_with, is_capital, keys_and_payload, placement_of, transmit_of}
-use Rattle.esc_kitty.specs.Keys.{Values, keys_of, not_zero, number, signed, values_of}
-use Rattle.esc_kitty.specs.Words.{composition_of, compression_of, flag_of, format_of, is, verbosity_of}
-use Rattle.esc_kitty.specs.Writable.{IsFrameNumber, IsNumber, IsOrder, IsWritableCompose, IsWritableContent, IsWritableDelete, IsWritableFrame}
-use Rattle.esc_kitty.specs.Writable.{IsWritableImage, IsWritablePlacement, IsWritableTransmit, is_kept}
+use Rattle.esc_values.specs.Fields.{Values, values_of}
+use Rattle.esc_values.specs.Scalars.{IsSigned, and_then, utf8_of}
+use Rattle.esc_values.proofs.Fields.{read_fits}
+use Rattle.esc_values.proofs.Where.{Where, where_if, where_map, where_then, utf8_keeps, Anything, anything, content_where}
+use Rattle.esc_kitty.specs.Formats.{compose_fields, compose_made, compose_of, frame_fields, frame_made, frame_of, placement_fields, placement_made}
+use Rattle.esc_kitty.specs.Formats.{placement_of, transmit_fields, transmit_made, transmit_with}
+use Rattle.esc_kitty.specs.Images.{content_by, content_of, delete_by, delete_in, delete_of, image_by, image_frame, image_in, image_of, image_shown}
+use Rattle.esc_kitty.specs.Images.{image_with, is_capital, keys_and_payload, transmit_of}
+use Rattle.esc_kitty.specs.Keys.{keys_of, number, signed}
+use Rattle.esc_kitty.specs.Kinds.{IsNumber, IsOrder}
+use Rattle.esc_kitty.specs.Words.{is, verbosity_of}
+use Rattle.esc_kitty.specs.Writable.{IsWritableCompose, IsWritableContent, IsWritableDelete, IsWritableFrame, IsWritableImage, IsWritablePlacement}
+use Rattle.esc_kitty.specs.Writable.{IsWritableTransmit, is_kept}
 use Rattle.esc_kitty.specs.declared.verbosity.KittyImageVerbosity.{KittyImageVerbosity}
-use Rattle.esc_kitty.specs.declared.format.KittyImageFormat.{KittyImageFormat}
-use Rattle.esc_kitty.specs.declared.compression.KittyImageCompression.{KittyImageCompression}
-use Rattle.esc_kitty.specs.declared.composition.KittyFrameCompositionMode.{KittyFrameCompositionMode}
 use Rattle.esc_kitty.specs.declared.content.KittyImageData.{KittyImageData}
 use Rattle.esc_kitty.specs.declared.content.KittyImageData.TheVariants.{Direct, File, TemporaryFile, SharedMem}
 use Rattle.esc_kitty.specs.declared.transmit.KittyImageTransmit.{KittyImageTransmit}
@@ -27,25 +28,14 @@ use Rattle.esc_kitty.specs.declared.delete.KittyImageDelete.TheVariants.{ByImage
 use Rattle.esc_kitty.specs.declared.delete.KittyImageDelete.TheVariants.{DeleteZ, ByImageIdRange}
 use Rattle.esc_kitty.specs.declared.image.KittyImage.{KittyImage}
 use Rattle.esc_kitty.specs.declared.image.KittyImage.TheVariants as image
+use Rattle.esc_kitty.proofs.KindsLawful.{laws, number_fits, order_fits}
 
 -- numbers
 read_number : (v : Values) (k : List ℕ) → IsNumber (number v k)
-read_number v k = where_then (λ (t : List ℕ). Anything t) (λ n. n < 2 ^ 32) (number_of 32) (λ t h.
-    number_where 32 t) (v k) (anything (v k))
+read_number v k = number_fits (v k)
 
 read_signed : (v : Values) (k : List ℕ) → IsOrder (signed v k)
-read_signed v k = where_then (λ (t : List ℕ). Anything t) (λ z. IsSigned 32 z) (signed_of 32)
-    (λ t h. signed_where 32 t) (v k) (anything (v k))
-
-other_than_zero : (n : Option ℕ) → IsNumber n → IsFrameNumber (not_zero n)
-other_than_zero None h = tt
-other_than_zero (Some n) h = elim (cases_Bool (n == 0)) [
-  | inl held ↦ rw held tt
-  | inr failed ↦ rw failed (h, eqb-false n 0 failed)
-]
-
-read_frame_number : (v : Values) (k : List ℕ) → IsFrameNumber (not_zero (number v k))
-read_frame_number v k = other_than_zero (number v k) (read_number v k)
+read_signed v k = order_fits (v k)
 
 -- what an image is made of
 abbrev GoodContent : (A : Type 0) → KittyImageData A → Type 0
@@ -72,94 +62,31 @@ content_good A w s o payload hs ho kept =
 abbrev GoodTransmit : (A : Type 0) → KittyImageTransmit A → Type 0
 GoodTransmit A t = IsWritableTransmit t
 
-abbrev filled : {A : Type 0} → Values → Option KittyImageFormat → KittyImageCompression → Bool
-    → KittyImageData A → KittyImageTransmit A
-filled v f c m d = record {
-  format = f;
-  content = d;
-  width = number v (codes "s");
-  height = number v (codes "v");
-  image_id = number v (codes "i");
-  image_number = number v (codes "I");
-  compression = c;
-  more_data_follows = m;
-}
-
-filled_good : {A : Type 0} (v : Values) (f : Option KittyImageFormat) (c : KittyImageCompression)
-    (m : Bool) (d : KittyImageData A) → GoodContent A d
-    → GoodTransmit A (filled v f c m d)
-filled_good v f c m d h = record {
-  content = h;
-  width = read_number v (codes "s");
-  height = read_number v (codes "v");
-  image_id = read_number v (codes "i");
-  image_number = read_number v (codes "I");
-}
-
 transmit_good : (A : Type 0) (v : Values) (payload : List ℕ) → list_all is_kept payload ≡ true
     → Where (GoodTransmit A) (transmit_of {A = A} v payload)
 transmit_good A v payload kept =
     let content = content_good A (unwrap_or (v (codes "t")) (codes "d")) (number v (codes "S"))
     (number v (codes "O")) payload
     (read_number v (codes "S")) (read_number v (codes "O")) kept in
-    where_then (λ (f : Option KittyImageFormat). Anything f) (GoodTransmit A) _
-    (λ f u. where_then (λ (c : KittyImageCompression). Anything c) (GoodTransmit A) _
-    (λ c u. where_then (λ (m : Bool). Anything m) (GoodTransmit A) _
-    (λ m u. where_map (GoodContent A) (GoodTransmit A) (filled v f c m) (λ d h.
-    filled_good v f c m d h) (content_of v payload) content)
-    (flag_of (v (codes "m"))) (anything (flag_of (v (codes "m")))))
-    (compression_of (v (codes "o"))) (anything (compression_of (v (codes "o")))))
-    (format_of (v (codes "f"))) (anything (format_of (v (codes "f"))))
+    let MakesGood : (KittyImageData A → KittyImageTransmit A) → Type 0 =
+    λ make. (c : KittyImageData A) → GoodContent A c → GoodTransmit A (make c) in
+    where_then MakesGood (GoodTransmit A) (λ make. option_map make (content_of v payload))
+    (λ make good. where_map (GoodContent A) (GoodTransmit A) make good (content_of v payload)
+    content)
+    (transmit_with v)
+    (read_fits laws (transmit_fields {A = A}) (transmit_made {A = A}) v MakesGood (λ xs h c k.
+    (k, h)))
 
 -- placements and frames
 placement_good : (v : Values) → Where (λ p. IsWritablePlacement p) (placement_of v)
 placement_good v =
-    where_then (λ (b : Bool). Anything b) (λ p. IsWritablePlacement p) _
-    (λ stays u. where_map (λ (b : Bool). Anything b) (λ p. IsWritablePlacement p) _
-    (λ placeholder u. record {
-      x = read_number v (codes "x");
-      y = read_number v (codes "y");
-      w = read_number v (codes "w");
-      h = read_number v (codes "h");
-      x_offset = read_number v (codes "X");
-      y_offset = read_number v (codes "Y");
-      columns = read_number v (codes "c");
-      rows = read_number v (codes "r");
-      placement_id = read_number v (codes "p");
-      z_index = read_signed v (codes "z");
-    })
-    (flag_of (v (codes "U"))) (anything (flag_of (v (codes "U")))))
-    (flag_of (v (codes "C"))) (anything (flag_of (v (codes "C"))))
+    read_fits laws placement_fields placement_made v (λ p. IsWritablePlacement p) (λ xs h. h)
 
 frame_good : (v : Values) → Where (λ f. IsWritableFrame f) (frame_of v)
-frame_good v =
-    where_map (λ (m : KittyFrameCompositionMode). Anything m) (λ f. IsWritableFrame f) _
-    (λ mode u. record {
-      x = read_number v (codes "x");
-      y = read_number v (codes "y");
-      base_frame = read_frame_number v (codes "c");
-      frame_number = read_frame_number v (codes "r");
-      duration_ms = read_frame_number v (codes "z");
-      background_pixel = read_number v (codes "Y");
-    })
-    (composition_of (signed v (codes "X"))) (anything (composition_of (signed v (codes "X"))))
+frame_good v = read_fits laws frame_fields frame_made v (λ f. IsWritableFrame f) (λ xs h. h)
 
 compose_good : (v : Values) → Where (λ f. IsWritableCompose f) (compose_of v)
-compose_good v =
-    where_map (λ (m : KittyFrameCompositionMode). Anything m) (λ f. IsWritableCompose f) _
-    (λ mode u. record {
-      image_id = read_number v (codes "i");
-      image_number = read_number v (codes "I");
-      target_frame = read_frame_number v (codes "c");
-      source_frame = read_frame_number v (codes "r");
-      x = read_number v (codes "x");
-      y = read_number v (codes "y");
-      w = read_number v (codes "w");
-      h = read_number v (codes "h");
-      src_x = read_number v (codes "X");
-      src_y = read_number v (codes "Y");
-    })
-    (composition_of (signed v (codes "C"))) (anything (composition_of (signed v (codes "C"))))
+compose_good v = read_fits laws compose_fields compose_made v (λ f. IsWritableCompose f) (λ xs h. h)
 
 -- deletions
 abbrev GoodDelete : KittyImageDelete → Type 0

@@ -1,47 +1,15 @@
 -- The keys of an image stand in the order of their bytes.
-use Rattle.std.proofs.Common.{ℕ, ◌≡◌, Bool, true, ◌&&◌, List, [], ◌∷◌, Option, Some, None, refl}
-use Rattle.std.proofs.lemmas.Bool.{and_parts}
-use Rattle.std.specs.List.{list_all}
+use Rattle.std.proofs.Common.{◌≡◌, true, [], ◌∷◌, refl}
 use Rattle.esc_values.specs.Cuts.{Pairs}
-use Rattle.esc_kitty.specs.Texts.{Entry, ascends, compose_keys, delete_keys, display_keys, frame_keys, image_keys, or_action, query_keys, shown_keys}
-use Rattle.esc_kitty.specs.Texts.{cut_before, transmit_keys, with_value, written}
+use Rattle.esc_values.specs.Fields.{ascends, written}
+use Rattle.esc_values.proofs.Fields.{written_ascends}
+use Rattle.esc_kitty.specs.Texts.{compose_keys, delete_keys, display_keys, frame_keys, image_keys, or_action, query_keys, shown_keys, transmit_keys}
 use Rattle.esc_kitty.specs.declared.verbosity.KittyImageVerbosity.{KittyImageVerbosity}
 use Rattle.esc_kitty.specs.declared.delete.KittyImageDelete.{KittyImageDelete}
 use Rattle.esc_kitty.specs.declared.delete.KittyImageDelete.TheVariants.{All, ByImageId, ByImageNumber, AtCursorPosition, AnimationFrames, DeleteAt}
 use Rattle.esc_kitty.specs.declared.delete.KittyImageDelete.TheVariants.{DeleteAtZ, DeleteColumn, DeleteRow, DeleteZ, ByImageIdRange}
 use Rattle.esc_kitty.specs.declared.image.KittyImage.{KittyImage}
 use Rattle.esc_kitty.specs.declared.image.KittyImage.TheVariants as image
-
--- the same of keys that may be written
-abbrev entries_ascend : List Entry → Bool
-entries_ascend [] = true
-entries_ascend (e ∷ es) = list_all (λ (d : Entry). cut_before e.0 d.0) es && entries_ascend es
-
-before_with : (n m : List ℕ) (v : Option (List ℕ)) (es : Pairs) → cut_before n m ≡ true
-    → list_all (λ (d : List ℕ × List ℕ). cut_before n d.0) es ≡ true
-    → list_all (λ (d : List ℕ × List ℕ). cut_before n d.0) (with_value m v es) ≡ true
-before_with n m None es h k = k
-before_with n m (Some v) es h k = rw (h, k) refl
-
-before_written : (n : List ℕ) (es : List Entry)
-    → list_all (λ (d : Entry). cut_before n d.0) es ≡ true
-    → list_all (λ (d : List ℕ × List ℕ). cut_before n d.0) (written es) ≡ true
-before_written n [] h = refl
-before_written n (e ∷ es) h =
-    let q = and_parts (cut_before n e.0) (list_all (λ (d : Entry). cut_before n d.0) es) h in
-    before_with n e.0 e.1 (written es) q.0 (before_written n es q.1)
-
-ascends_with : (n : List ℕ) (v : Option (List ℕ)) (es : Pairs)
-    → list_all (λ (d : List ℕ × List ℕ). cut_before n d.0) es ≡ true → ascends es ≡ true
-    → ascends (with_value n v es) ≡ true
-ascends_with n None es h k = k
-ascends_with n (Some v) es h k = rw (h, k) refl
-
-written_ascends : (es : List Entry) → entries_ascend es ≡ true → ascends (written es) ≡ true
-written_ascends [] h = refl
-written_ascends (e ∷ es) h =
-    let q = and_parts (list_all (λ (d : Entry). cut_before e.0 d.0) es) (entries_ascend es) h in
-    ascends_with e.0 e.1 (written es) (before_written e.0 es q.0) (written_ascends es q.1)
 
 or_ascends : (es : Pairs) → ascends es ≡ true → ascends (or_action es) ≡ true
 or_ascends [] h = refl

@@ -1,25 +1,25 @@
 -- Keys that are written are read as they are.
-use Rattle.std.proofs.Common.{ℕ, ℤ, pos, negsuc, suc, ◌≡◌, ◌+◌, ◌-◌, ◌<◌, ◌≤◌, ◌==◌, nat_eq, Bool, true, false, not, ◌&&◌, if◌then◌else◌, List, []}
-use Rattle.std.proofs.Common.{◌∷◌, ◌++◌, length, get_or, map, Option, Some, None, refl, sym, ap, ◌∙◌, append-nil, arith}
+use Rattle.std.proofs.Common.{ℕ, ℤ, pos, negsuc, suc, ◌≡◌, ◌+◌, ◌-◌, ◌<◌, ◌≤◌, ◌==◌, Bool, true, false, not, ◌&&◌, List, []}
+use Rattle.std.proofs.Common.{◌∷◌, ◌++◌, length, get_or, map, Option, Some, None, refl, ap, ◌∙◌, append-nil, arith}
 use Rattle.std.proofs.lemmas.Bool.{and_parts}
-use Rattle.std.specs.Cmp.Lexicographic.{pointwise}
 use Rattle.std.specs.Fmt.{decimal, signed_decimal}
 use Rattle.std.specs.List.{list_all, slice_split}
 use Rattle.std.specs.Option.{unwrap_or}
 use Rattle.std.proofs.lemmas.Fmt.{decimal_is_IsNumeral}
 use Rattle.std.proofs.lemmas.Str.Parse.{digit_at}
-use Rattle.std.proofs.Math.Path.{fun_ext}
 use Rattle.base64.specs.Tables.{all_below}
 use Rattle.base64.proofs.Tables.{all_below_at}
 use Rattle.esc_values.specs.Clear.{IsClearPart}
-use Rattle.esc_values.specs.Cuts.{Pairs, cut_at, pair_text, pairs_in, last_value}
+use Rattle.esc_values.specs.Cuts.{Pairs, cut_at, pair_text, pairs_in}
+use Rattle.esc_values.specs.Fields.{Entry, is_bare, values_of, with_value, written}
 use Rattle.esc_values.specs.Scalars.{IsSigned}
 use Rattle.esc_values.proofs.ClearPairs.{key_back}
 use Rattle.esc_values.proofs.Cutting.{Free, free_passes, cut_there, split_free}
+use Rattle.esc_values.proofs.Fields.{find, written_values}
 use Rattle.esc_values.proofs.PlainParts.{is_part_plain, plain_part, all_append}
 use Rattle.esc_kitty.specs.Images.{image_in, image_of, image_with, keys_and_payload}
-use Rattle.esc_kitty.specs.Keys.{keys_of, values_of}
-use Rattle.esc_kitty.specs.Texts.{Entry, is_bare, keys_text, with_value, written}
+use Rattle.esc_kitty.specs.Keys.{keys_of}
+use Rattle.esc_kitty.specs.Texts.{keys_text}
 
 -- from space to delete, but neither `;` nor `,`
 abbrev pub is_word : ℕ → Bool
@@ -153,7 +153,7 @@ without_payload {A = A} es some h =
     ∙ with_keys es [] some h)
 
 -- a key without `=`, and its value where it is written: both words
-abbrev is_name : ℕ → Bool
+abbrev pub is_name : ℕ → Bool
 is_name c = is_word c && not (c == 0x3d)
 
 abbrev pub is_value : Option (List ℕ) → Bool
@@ -185,42 +185,8 @@ written_pairs (e ∷ es) h =
     let k = and_parts (list_all is_name e.0) (is_value e.1) q.0 in
     with_pairs e.0 e.1 (written es) k.0 k.1 (written_pairs es q.1)
 
--- the value of a key among them
-abbrev pub later : Option (List ℕ) → Option (List ℕ) → Option (List ℕ)
-later (Some v) o = Some v
-later None o = o
-
-abbrev pub find : List ℕ → List Entry → Option (List ℕ)
-find k [] = None
-find k (e ∷ es) = if pointwise nat_eq e.0 k then later (find k es) e.1 else find k es
-
-later_none : (o : Option (List ℕ)) → later o None ≡ o
-later_none None = refl
-later_none (Some v) = refl
-
-later_later : (a b c : Option (List ℕ)) → later (later a b) c ≡ later a (later b c)
-later_later None b c = refl
-later_later (Some v) b c = refl
-
-find_step : (k n : List ℕ) (v found r : Option (List ℕ)) (es : Pairs) (t : Bool)
-    → pointwise nat_eq n k ≡ t
-    → ((f : Option (List ℕ)) → last_value k f es ≡ later r f)
-    → last_value k found (with_value n v es) ≡ later (if t then later r v else r) found
-find_step k n None found r es true e h = h found ∙ sym (later_later r None found)
-find_step k n None found r es false e h = h found
-find_step k n (Some v) found r es true e h =
-    rw (e, last_value) (h (Some v) ∙ sym (later_later r (Some v) found))
-find_step k n (Some v) found r es false e h = rw (e, last_value) (h found)
-
-values_found : (k : List ℕ) (found : Option (List ℕ)) (es : List Entry)
-    → last_value k found (written es) ≡ later (find k es) found
-values_found k found [] = refl
-values_found k found (e ∷ es) =
-    find_step k e.0 e.1 found (find k es) (written es) (pointwise nat_eq e.0 k) refl (λ f.
-    values_found k f es)
-
+-- what is read of keys that are written
 pub entries_image : {A : Type 0} (es : List Entry) (payload : List ℕ)
     → image_in {A = A} (values_of (written es)) payload ≡ image_in (λ k. find k es) payload
 entries_image {A = A} es payload =
-    ap (λ v. image_in {A = A} v payload)
-    (fun_ext (λ k. values_found k None es ∙ later_none (find k es)))
+    ap (λ v. image_in {A = A} v payload) (written_values es)

@@ -5,7 +5,8 @@ use Rattle.std.specs.Option.{is_some}
 use Rattle.std.specs.List.{flat_map}
 use Rattle.std.proofs.lemmas.List.{take_more, flat_map_more, map-append}
 use Rattle.esc_values.specs.Cuts.{Pairs, pair_text}
-use Rattle.esc_kitty.specs.Texts.{Entry, with_value, written, keys_text, entry_text, entry_by, is_bare}
+use Rattle.esc_values.specs.Fields.{Entry, is_bare, with_value, written}
+use Rattle.esc_kitty.specs.Texts.{keys_text, entry_text, entry_by}
 
 with_value_push : (n : List ℕ) (v : Option (List ℕ)) (es ds : Pairs)
     → with_value n v (es ++ ds) ≡ with_value n v es ++ ds

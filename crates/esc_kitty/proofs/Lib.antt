@@ -2,6 +2,7 @@ pub mod KeysWritten
 pub mod KeysRead
 pub mod FieldsBack
 pub mod ValuesWritten
+pub mod KindsLawful
 pub mod Sending
 pub mod DeletesBack
 pub mod ImagesBack

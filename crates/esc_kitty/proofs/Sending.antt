@@ -1,12 +1,12 @@
 -- How keys that are written, with and without a payload, are read.
-use Rattle.std.proofs.Common.{zero, suc, ℕ, ◌≡◌, true, false, List, [], ◌∷◌, ◌++◌, drop, codes, Option, Some, None, refl, ◌∙◌}
+use Rattle.std.proofs.Common.{ℕ, ◌≡◌, true, false, List, [], ◌∷◌, ◌++◌, codes, Some, refl, ◌∙◌}
 use Rattle.std.specs.List.{list_all}
 use Rattle.std.specs.Option.{unwrap_or}
 use Rattle.esc_values.specs.Cuts.{Pairs}
+use Rattle.esc_values.specs.Fields.{Values, is_bare, values_of}
 use Rattle.esc_values.proofs.PlainParts.{all_append}
 use Rattle.esc_kitty.specs.Images.{image_by, image_in, image_of}
-use Rattle.esc_kitty.specs.Keys.{Values, values_of}
-use Rattle.esc_kitty.specs.Texts.{Entry, is_bare, keys_text, with_value, written}
+use Rattle.esc_kitty.specs.Texts.{keys_text}
 use Rattle.esc_kitty.specs.Words.{verbosity_word}
 use Rattle.esc_kitty.specs.Writable.{is_kept}
 use Rattle.esc_kitty.specs.declared.verbosity.KittyImageVerbosity.{KittyImageVerbosity}
@@ -14,18 +14,6 @@ use Rattle.esc_kitty.specs.declared.image.KittyImage.{KittyImage}
 use Rattle.esc_kitty.proofs.FieldsBack.{verbosity_back}
 use Rattle.esc_kitty.proofs.KeysRead.{ArePairs, keys_pass, with_payload, without_payload}
 use Rattle.esc_kitty.proofs.ValuesWritten.{word_kept}
-
--- a list with a key that is written
-bare_with : (n : List ℕ) (v : Option (List ℕ)) (es : Pairs) → is_bare es ≡ false
-    → is_bare (with_value n v es) ≡ false
-bare_with n None es h = h
-bare_with n (Some v) es h = refl
-
-pub written_at : (es : List Entry) (k : ℕ) → is_bare (written (drop k es)) ≡ false
-    → is_bare (written es) ≡ false
-written_at es zero h = h
-written_at [] (suc k) h = h
-written_at (e ∷ es) (suc k) h = bare_with e.0 e.1 (written es) (written_at es k h)
 
 -- with a payload, and without
 pub sends : {A : Type 0} (i : KittyImage A) (es : Pairs) (payload : List ℕ) → is_bare es ≡ false

@@ -4,9 +4,10 @@ use Rattle.std.proofs.lemmas.Bool.{and_parts}
 use Rattle.std.specs.List.{list_all}
 use Rattle.esc_values.proofs.Base64.{base64_passes}
 use Rattle.esc_values.proofs.Utf8Bytes.{utf8_are_bytes}
-use Rattle.esc_kitty.specs.Texts.{content_text, medium_word, number_text, offset_in, signed_text, size_in}
+use Rattle.esc_kitty.specs.Kinds.{IsFrameNumber, IsNumber, IsOrder, number_text, signed_text}
+use Rattle.esc_kitty.specs.Texts.{content_text, medium_word, offset_in, size_in}
 use Rattle.esc_kitty.specs.Words.{composition_word, compression_word, flag_word, format_word, verbosity_word}
-use Rattle.esc_kitty.specs.Writable.{IsFrameNumber, IsNumber, IsOrder, IsWritableContent, is_kept}
+use Rattle.esc_kitty.specs.Writable.{IsWritableContent, is_kept}
 use Rattle.esc_kitty.specs.declared.verbosity.KittyImageVerbosity.{KittyImageVerbosity}
 use Rattle.esc_kitty.specs.declared.verbosity.KittyImageVerbosity.TheVariants.{Verbose, OnlyErrors, Quiet}
 use Rattle.esc_kitty.specs.declared.format.KittyImageFormat.{KittyImageFormat}

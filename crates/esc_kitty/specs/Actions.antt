@@ -1,8 +1,9 @@
 -- What the value of `a` asks for, and the image of each.
 use Rattle.std.specs.Prelude.{ℕ, if◌then◌else◌, List, codes, Option, Some, None}
 use Rattle.std.specs.Option.{option_map}
-use Rattle.esc_kitty.specs.Images.{compose_of, delete_of, image_display, image_frame, image_shown, transmit_of}
-use Rattle.esc_kitty.specs.Keys.{Values}
+use Rattle.esc_kitty.specs.Images.{delete_of, image_display, image_frame, image_shown, transmit_of}
+use Rattle.esc_values.specs.Fields.{Values}
+use Rattle.esc_kitty.specs.Formats.{compose_of}
 use Rattle.esc_kitty.specs.Words.{is}
 use Rattle.esc_kitty.specs.declared.verbosity.KittyImageVerbosity.{KittyImageVerbosity}
 use Rattle.esc_kitty.specs.declared.image.KittyImage.{KittyImage}

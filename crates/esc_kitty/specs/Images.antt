@@ -4,19 +4,18 @@ use Rattle.std.specs.Option.{option_map, unwrap_or}
 use Rattle.esc_values.specs.Base64.{base64_text_of}
 use Rattle.esc_values.specs.Cuts.{cut_at}
 use Rattle.esc_values.specs.Scalars.{and_then, utf8_of}
-use Rattle.esc_kitty.specs.Keys.{Values, keys_of, values_of, number, signed, not_zero}
-use Rattle.esc_kitty.specs.Words.{is, verbosity_of, flag_of, format_of, compression_of, composition_of}
+use Rattle.esc_values.specs.Fields.{Values, values_of}
+use Rattle.esc_kitty.specs.Formats.{compose_of, frame_of, placement_of, transmit_with}
+use Rattle.esc_kitty.specs.Keys.{keys_of, number, signed}
+use Rattle.esc_kitty.specs.Words.{is, verbosity_of}
 use Rattle.esc_kitty.specs.declared.verbosity.KittyImageVerbosity.{KittyImageVerbosity}
 use Rattle.esc_kitty.specs.declared.verbosity.KittyImageVerbosity.TheVariants.{Verbose}
 use Rattle.esc_kitty.specs.declared.content.KittyImageData.{KittyImageData}
 use Rattle.esc_kitty.specs.declared.content.KittyImageData.TheVariants.{Direct, File, TemporaryFile, SharedMem}
 use Rattle.esc_kitty.specs.declared.transmit.KittyImageTransmit.{KittyImageTransmit}
-use Rattle.esc_kitty.specs.declared.placement.KittyImagePlacement.{KittyImagePlacement}
 use Rattle.esc_kitty.specs.declared.delete.KittyImageDelete.{KittyImageDelete}
 use Rattle.esc_kitty.specs.declared.delete.KittyImageDelete.TheVariants.{All, ByImageId, ByImageNumber, AtCursorPosition, AnimationFrames, DeleteAt}
 use Rattle.esc_kitty.specs.declared.delete.KittyImageDelete.TheVariants.{DeleteAtZ, DeleteColumn, DeleteRow, DeleteZ, ByImageIdRange}
-use Rattle.esc_kitty.specs.declared.frame.KittyImageFrame.{KittyImageFrame}
-use Rattle.esc_kitty.specs.declared.compose.KittyImageFrameCompose.{KittyImageFrameCompose}
 use Rattle.esc_kitty.specs.declared.image.KittyImage.{KittyImage}
 use Rattle.esc_kitty.specs.declared.image.KittyImage.TheVariants as image
 
@@ -37,69 +36,8 @@ content_of v payload = content_by (unwrap_or (v (codes "t")) (codes "d")) (numbe
 
 -- an image on its way to the terminal
 abbrev pub transmit_of : {A : Type 0} → Values → List ℕ → Option (KittyImageTransmit A)
-transmit_of v payload =
-    and_then (format_of (v (codes "f"))) (λ format.
-    and_then (compression_of (v (codes "o"))) (λ compression.
-    and_then (flag_of (v (codes "m"))) (λ more.
-    option_map (λ content. record {
-      format = format;
-      content = content;
-      width = number v (codes "s");
-      height = number v (codes "v");
-      image_id = number v (codes "i");
-      image_number = number v (codes "I");
-      compression = compression;
-      more_data_follows = more;
-    }) (content_of v payload))))
-
--- how an image is shown
-abbrev pub placement_of : Values → Option KittyImagePlacement
-placement_of v =
-    and_then (flag_of (v (codes "C"))) (λ stays.
-    option_map (λ placeholder. record {
-      x = number v (codes "x");
-      y = number v (codes "y");
-      w = number v (codes "w");
-      h = number v (codes "h");
-      x_offset = number v (codes "X");
-      y_offset = number v (codes "Y");
-      columns = number v (codes "c");
-      rows = number v (codes "r");
-      placement_id = number v (codes "p");
-      do_not_move_cursor = stays;
-      z_index = signed v (codes "z");
-      unicode_placeholder = placeholder;
-    }) (flag_of (v (codes "U"))))
-
--- a frame
-abbrev pub frame_of : Values → Option KittyImageFrame
-frame_of v =
-    option_map (λ mode. record {
-      x = number v (codes "x");
-      y = number v (codes "y");
-      base_frame = not_zero (number v (codes "c"));
-      frame_number = not_zero (number v (codes "r"));
-      duration_ms = not_zero (number v (codes "z"));
-      composition_mode = mode;
-      background_pixel = number v (codes "Y");
-    }) (composition_of (signed v (codes "X")))
-
--- a frame over another
-abbrev pub compose_of : Values → Option KittyImageFrameCompose
-compose_of v =
-    option_map (λ mode. record {
-      image_id = number v (codes "i");
-      image_number = number v (codes "I");
-      target_frame = not_zero (number v (codes "c"));
-      source_frame = not_zero (number v (codes "r"));
-      x = number v (codes "x");
-      y = number v (codes "y");
-      w = number v (codes "w");
-      h = number v (codes "h");
-      src_x = number v (codes "X");
-      src_y = number v (codes "Y");
-      composition_mode = mode;
-    }) (composition_of (signed v (codes "C")))
+transmit_of {A = A} v payload =
+    and_then (transmit_with {A = A} v) (λ make. option_map make (content_of v payload))
 
 -- what a small letter deletes, one line a letter; d is whether the data too
 abbrev pub delete_by : ℕ → Bool → Values → Option KittyImageDelete

@@ -1,7 +1,8 @@
 -- The keys of an image with their values.
 use Rattle.std.specs.Prelude.{ℕ, ℤ, ◌==◌, if◌then◌else◌, List, map, Option, Some, None}
 use Rattle.std.specs.List.{slice_split}
-use Rattle.esc_values.specs.Cuts.{Pairs, pairs_in, last_value}
+use Rattle.esc_values.specs.Cuts.{Pairs, pairs_in}
+use Rattle.esc_values.specs.Fields.{Values, values_of}
 use Rattle.esc_values.specs.Scalars.{and_then, number_of, signed_of}
 use Rattle.esc_kitty.specs.declared.keys.Pair.{Pair}
 
@@ -9,14 +10,6 @@ use Rattle.esc_kitty.specs.declared.keys.Pair.{Pair}
 -- which ends the key
 abbrev pub keys_of : List ℕ → Option Pairs
 keys_of t = pairs_in (slice_split (λ c. c == 0x2c) t)
-
--- from a key to its value, where the key is there
-abbrev pub Values : Type 0
-Values = List ℕ → Option (List ℕ)
-
--- of a key that comes more than once the last value counts
-abbrev pub values_of : Pairs → Values
-values_of es k = last_value k None es
 
 -- the pairs as the program holds them, without where they lie in memory
 abbrev pub pairs : List Pair → Pairs

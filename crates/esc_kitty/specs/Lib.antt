@@ -1,5 +1,7 @@
 pub mod Keys
 pub mod Words
+pub mod Kinds
+pub mod Formats
 pub mod Media
 pub mod Images
 pub mod Texts

@@ -1,14 +1,15 @@
 -- The texts of images.
-use Rattle.std.specs.Prelude.{ℕ, ℤ, Bool, true, false, ◌&&◌, if◌then◌else◌, List, [], ◌∷◌, ◌++◌, codes, Option, Some, None}
+use Rattle.std.specs.Prelude.{ℕ, ℤ, Bool, if◌then◌else◌, List, [], ◌∷◌, ◌++◌, codes, Option, Some, None}
 use Rattle.std.specs.Char.{encode_utf8}
 use Rattle.std.specs.Fmt.{decimal, signed_decimal}
-use Rattle.std.specs.Cmp.Lexicographic.{slice_cmp}
-use Rattle.std.specs.List.{flat_map, list_all}
-use Rattle.std.specs.Ordering.{is_lt, nat_cmp}
+use Rattle.std.specs.List.{flat_map}
 use Rattle.std.specs.Option.{option_map}
 use Rattle.esc_values.specs.Base64.{base64_text}
 use Rattle.esc_values.specs.Cuts.{Pairs, pair_text}
-use Rattle.esc_kitty.specs.Words.{verbosity_word, flag_word, format_word, compression_word, composition_word}
+use Rattle.esc_values.specs.Fields.{Entry, entries, in_order, written}
+use Rattle.esc_kitty.specs.Formats.{compose_fields, frame_fields, placement_fields, transmit_fields}
+use Rattle.esc_kitty.specs.Kinds.{number_text, signed_text}
+use Rattle.esc_kitty.specs.Words.{verbosity_word}
 use Rattle.esc_kitty.specs.declared.write_keys.Value.{Value}
 use Rattle.esc_kitty.specs.declared.write_keys.Value.TheVariants as value
 use Rattle.esc_kitty.specs.declared.write_keys.Key.{Key}
@@ -25,11 +26,7 @@ use Rattle.esc_kitty.specs.declared.compose.KittyImageFrameCompose.{KittyImageFr
 use Rattle.esc_kitty.specs.declared.image.KittyImage.{KittyImage}
 use Rattle.esc_kitty.specs.declared.image.KittyImage.TheVariants as image
 
--- a key, and its value where it is written
-abbrev pub Entry : Type 0
-Entry = List ℕ × Option (List ℕ)
-
--- the same as the program holds it
+-- a key and its value as the program holds them
 abbrev pub value_text : Value → Option (List ℕ)
 value_text (value.Number n) = option_map decimal n
 value_text (value.Signed z) = option_map signed_decimal z
@@ -39,32 +36,10 @@ value_text (value.Word w) = option_map (λ t. t.now) w
 abbrev pub entry : Key → Entry
 entry k = (encode_utf8 k.0, value_text k.1)
 
--- the keys that are written
-abbrev pub with_value : List ℕ → Option (List ℕ) → Pairs → Pairs
-with_value n None es = es
-with_value n (Some v) es = (n, v) ∷ es
-
-abbrev pub written : List Entry → Pairs
-written [] = []
-written (e ∷ es) = with_value e.0 e.1 (written es)
-
 -- keys with their values, and `,` between them
 abbrev pub keys_text : Pairs → List ℕ
 keys_text [] = []
 keys_text (e ∷ es) = pair_text e ++ flat_map (λ d. 0x2c ∷ pair_text d) es
-
--- in the order of their bytes, each once
-abbrev pub cut_before : List ℕ → List ℕ → Bool
-cut_before n m = is_lt (slice_cmp nat_cmp n m)
-
-abbrev pub ascends : Pairs → Bool
-ascends [] = true
-ascends (e ∷ es) = list_all (λ (d : List ℕ × List ℕ). cut_before e.0 d.0) es && ascends es
-
--- whether none is written
-abbrev pub is_bare : Pairs → Bool
-is_bare [] = true
-is_bare (e ∷ es) = false
 
 -- what one more key adds to the text: `,` before it, unless it is the first
 abbrev pub separator : Bool → List ℕ
@@ -106,134 +81,48 @@ content_text (File t s o) = base64_text t
 content_text (TemporaryFile t s o) = base64_text t
 content_text (SharedMem t s o) = base64_text t
 
-abbrev pub number_text : Option ℕ → Option (List ℕ)
-number_text n = option_map decimal n
+-- the keys of what is transmitted
+abbrev pub content_keys : {A : Type 0} → KittyImageData A → List Entry
+content_keys c =
+    (codes "t", medium_word c)
+    ∷ (codes "S", number_text (size_in c))
+    ∷ (codes "O", number_text (offset_in c))
+    ∷ []
 
-abbrev pub signed_text : Option ℤ → Option (List ℕ)
-signed_text z = option_map signed_decimal z
+abbrev pub sent_keys : {A : Type 0} → KittyImageTransmit A → List Entry
+sent_keys t = entries transmit_fields t ++ content_keys t.content
 
 -- The keys of each action, in the order of their bytes, each with its value where that differs from
 -- what it is without the key.
 abbrev pub transmit_keys : {A : Type 0} → KittyImageTransmit A → KittyImageVerbosity → List Entry
-transmit_keys t q =
-    (codes "I", number_text t.image_number)
-    ∷ (codes "O", number_text (offset_in t.content))
-    ∷ (codes "S", number_text (size_in t.content))
-    ∷ (codes "f", format_word t.format)
-    ∷ (codes "i", number_text t.image_id)
-    ∷ (codes "m", flag_word t.more_data_follows)
-    ∷ (codes "o", compression_word t.compression)
-    ∷ (codes "q", verbosity_word q)
-    ∷ (codes "s", number_text t.width)
-    ∷ (codes "t", medium_word t.content)
-    ∷ (codes "v", number_text t.height)
-    ∷ []
+transmit_keys t q = in_order ((codes "q", verbosity_word q) ∷ sent_keys t)
+
+-- of an action that `a` names, and with what is reported
+abbrev pub asked_keys : List ℕ → List Entry → List Entry
+asked_keys a es = in_order ((codes "a", Some a) ∷ es)
+
+abbrev pub action_keys : List ℕ → KittyImageVerbosity → List Entry → List Entry
+action_keys a q es = asked_keys a ((codes "q", verbosity_word q) ∷ es)
 
 abbrev pub query_keys : {A : Type 0} → KittyImageTransmit A → List Entry
-query_keys t =
-    (codes "I", number_text t.image_number)
-    ∷ (codes "O", number_text (offset_in t.content))
-    ∷ (codes "S", number_text (size_in t.content))
-    ∷ (codes "a", Some (codes "q"))
-    ∷ (codes "f", format_word t.format)
-    ∷ (codes "i", number_text t.image_id)
-    ∷ (codes "m", flag_word t.more_data_follows)
-    ∷ (codes "o", compression_word t.compression)
-    ∷ (codes "s", number_text t.width)
-    ∷ (codes "t", medium_word t.content)
-    ∷ (codes "v", number_text t.height)
-    ∷ []
+query_keys t = asked_keys (codes "q") (sent_keys t)
 
 abbrev pub shown_keys : {A : Type 0} → KittyImageTransmit A → KittyImagePlacement
     → KittyImageVerbosity → List Entry
-shown_keys t p q =
-    (codes "C", flag_word p.do_not_move_cursor)
-    ∷ (codes "I", number_text t.image_number)
-    ∷ (codes "O", number_text (offset_in t.content))
-    ∷ (codes "S", number_text (size_in t.content))
-    ∷ (codes "U", flag_word p.unicode_placeholder)
-    ∷ (codes "X", number_text p.x_offset)
-    ∷ (codes "Y", number_text p.y_offset)
-    ∷ (codes "a", Some (codes "T"))
-    ∷ (codes "c", number_text p.columns)
-    ∷ (codes "f", format_word t.format)
-    ∷ (codes "h", number_text p.h)
-    ∷ (codes "i", number_text t.image_id)
-    ∷ (codes "m", flag_word t.more_data_follows)
-    ∷ (codes "o", compression_word t.compression)
-    ∷ (codes "p", number_text p.placement_id)
-    ∷ (codes "q", verbosity_word q)
-    ∷ (codes "r", number_text p.rows)
-    ∷ (codes "s", number_text t.width)
-    ∷ (codes "t", medium_word t.content)
-    ∷ (codes "v", number_text t.height)
-    ∷ (codes "w", number_text p.w)
-    ∷ (codes "x", number_text p.x)
-    ∷ (codes "y", number_text p.y)
-    ∷ (codes "z", signed_text p.z_index)
-    ∷ []
+shown_keys t p q = action_keys (codes "T") q (entries placement_fields p ++ sent_keys t)
 
 abbrev pub display_keys : Option ℕ → Option ℕ → KittyImagePlacement → KittyImageVerbosity
     → List Entry
 display_keys i n p q =
-    (codes "C", flag_word p.do_not_move_cursor)
-    ∷ (codes "I", number_text n)
-    ∷ (codes "U", flag_word p.unicode_placeholder)
-    ∷ (codes "X", number_text p.x_offset)
-    ∷ (codes "Y", number_text p.y_offset)
-    ∷ (codes "a", Some (codes "p"))
-    ∷ (codes "c", number_text p.columns)
-    ∷ (codes "h", number_text p.h)
-    ∷ (codes "i", number_text i)
-    ∷ (codes "p", number_text p.placement_id)
-    ∷ (codes "q", verbosity_word q)
-    ∷ (codes "r", number_text p.rows)
-    ∷ (codes "w", number_text p.w)
-    ∷ (codes "x", number_text p.x)
-    ∷ (codes "y", number_text p.y)
-    ∷ (codes "z", signed_text p.z_index)
-    ∷ []
+    action_keys (codes "p") q
+    ((codes "i", number_text i) ∷ (codes "I", number_text n) ∷ entries placement_fields p)
 
 abbrev pub frame_keys : {A : Type 0} → KittyImageTransmit A → KittyImageFrame → KittyImageVerbosity
     → List Entry
-frame_keys t f q =
-    (codes "I", number_text t.image_number)
-    ∷ (codes "O", number_text (offset_in t.content))
-    ∷ (codes "S", number_text (size_in t.content))
-    ∷ (codes "X", composition_word f.composition_mode)
-    ∷ (codes "Y", number_text f.background_pixel)
-    ∷ (codes "a", Some (codes "f"))
-    ∷ (codes "c", number_text f.base_frame)
-    ∷ (codes "f", format_word t.format)
-    ∷ (codes "i", number_text t.image_id)
-    ∷ (codes "m", flag_word t.more_data_follows)
-    ∷ (codes "o", compression_word t.compression)
-    ∷ (codes "q", verbosity_word q)
-    ∷ (codes "r", number_text f.frame_number)
-    ∷ (codes "s", number_text t.width)
-    ∷ (codes "t", medium_word t.content)
-    ∷ (codes "v", number_text t.height)
-    ∷ (codes "x", number_text f.x)
-    ∷ (codes "y", number_text f.y)
-    ∷ (codes "z", number_text f.duration_ms)
-    ∷ []
+frame_keys t f q = action_keys (codes "f") q (entries frame_fields f ++ sent_keys t)
 
 abbrev pub compose_keys : KittyImageFrameCompose → KittyImageVerbosity → List Entry
-compose_keys f q =
-    (codes "C", composition_word f.composition_mode)
-    ∷ (codes "I", number_text f.image_number)
-    ∷ (codes "X", number_text f.src_x)
-    ∷ (codes "Y", number_text f.src_y)
-    ∷ (codes "a", Some (codes "c"))
-    ∷ (codes "c", number_text f.target_frame)
-    ∷ (codes "h", number_text f.h)
-    ∷ (codes "i", number_text f.image_id)
-    ∷ (codes "q", verbosity_word q)
-    ∷ (codes "r", number_text f.source_frame)
-    ∷ (codes "w", number_text f.w)
-    ∷ (codes "x", number_text f.x)
-    ∷ (codes "y", number_text f.y)
-    ∷ []
+compose_keys f q = action_keys (codes "c") q (entries compose_fields f)
 
 -- of a deletion by id or number, and of any other
 abbrev pub named_keys : List ℕ → Option ℕ → Option ℕ → Option ℕ → KittyImageVerbosity → List Entry

@@ -2,8 +2,9 @@
 //! order.
 ghost use Rattle.std.specs.Prelude.{◌≡◌, ℕ, true, List, Some};
 ghost use Rattle.std.specs.List.{list_all};
+ghost use Rattle.esc_values.specs.Fields.{ascends};
 ghost use Rattle.esc_kitty.specs.Images.{image_of};
-ghost use Rattle.esc_kitty.specs.Texts.{ascends, image_keys};
+ghost use Rattle.esc_kitty.specs.Texts.{image_keys};
 ghost use Rattle.esc_kitty.specs.Writable.{is_kept, IsWritableImage, ReadsBack};
 ghost use Rattle.esc_kitty.specs.declared.image.KittyImage.{KittyImage};
 

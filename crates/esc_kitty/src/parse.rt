@@ -4,7 +4,8 @@ ghost use Rattle.std.specs.Option.{option_map};
 ghost use Rattle.memory.specs.Refusals.{Refused};
 ghost use Rattle.esc_kitty.specs.Keys.{values};
 ghost use Rattle.esc_kitty.specs.Actions.{action_of, image_as};
-ghost use Rattle.esc_kitty.specs.Images.{compose_of, delete_of, image_by, image_display, image_frame, image_in, image_of, image_shown, image_with, transmit_of};
+ghost use Rattle.esc_kitty.specs.Formats.{compose_of};
+ghost use Rattle.esc_kitty.specs.Images.{delete_of, image_by, image_display, image_frame, image_in, image_of, image_shown, image_with, transmit_of};
 ghost use Rattle.esc_kitty.specs.declared.image.KittyImage.TheVariants as image;
 
 use crate::image::KittyImage;

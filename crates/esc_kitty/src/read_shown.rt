@@ -1,7 +1,7 @@
 //! How placements and frames are read.
 ghost use Rattle.std.specs.Prelude.{◌≡◌};
 ghost use Rattle.esc_kitty.specs.Keys.{values};
-ghost use Rattle.esc_kitty.specs.Images.{compose_of, frame_of, placement_of};
+ghost use Rattle.esc_kitty.specs.Formats.{compose_of, frame_of, placement_of};
 
 use crate::compose::KittyImageFrameCompose;
 use crate::composition::KittyFrameCompositionMode;

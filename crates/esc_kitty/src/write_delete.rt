@@ -2,7 +2,8 @@
 ghost use Rattle.std.specs.Prelude.{◌≡◌, ◌-◌, ◌≤◌, [], ◌∷◌, Some};
 ghost use Rattle.std.specs.Char.{encode_utf8};
 ghost use Rattle.std.specs.Fmt.{DisplaysOnOk};
-ghost use Rattle.esc_kitty.specs.Texts.{delete_keys, keys_text, letter, named_keys, placed_keys, written};
+ghost use Rattle.esc_values.specs.Fields.{written};
+ghost use Rattle.esc_kitty.specs.Texts.{delete_keys, keys_text, letter, named_keys, placed_keys};
 
 use crate::delete::KittyImageDelete;
 use crate::verbosity::KittyImageVerbosity;

@@ -2,7 +2,8 @@
 ghost use Rattle.std.specs.Prelude.{◌≡◌, ◌&&◌, not, [], map, Some};
 ghost use Rattle.std.specs.Fmt.{DisplaysOnOk};
 ghost use Rattle.std.specs.Option.{is_some, option_map, unwrap_or};
-ghost use Rattle.esc_kitty.specs.Texts.{entry, entry_text, is_bare, keys_text, separator, value_text, written};
+ghost use Rattle.esc_values.specs.Fields.{is_bare, written};
+ghost use Rattle.esc_kitty.specs.Texts.{entry, entry_text, keys_text, separator, value_text};
 ghost use Rattle.esc_kitty.specs.Words.{flag_word};
 
 use std::fmt;

@@ -1,7 +1,8 @@
 //! How what is transmitted no more is written.
 ghost use Rattle.std.specs.Prelude.{Some};
 ghost use Rattle.std.specs.Fmt.{DisplaysOnOk};
-ghost use Rattle.esc_kitty.specs.Texts.{compose_keys, display_keys, keys_text, written};
+ghost use Rattle.esc_values.specs.Fields.{written};
+ghost use Rattle.esc_kitty.specs.Texts.{compose_keys, display_keys, keys_text};
 
 use crate::compose::KittyImageFrameCompose;
 use crate::placement::KittyImagePlacement;

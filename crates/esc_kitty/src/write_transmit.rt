@@ -1,7 +1,8 @@
 //! How what is transmitted is written.
 ghost use Rattle.std.specs.Prelude.{map, Some};
 ghost use Rattle.std.specs.Fmt.{DisplaysOnOk};
-ghost use Rattle.esc_kitty.specs.Texts.{entry, frame_keys, keys_text, or_action, query_keys, shown_keys, transmit_keys, written};
+ghost use Rattle.esc_values.specs.Fields.{written};
+ghost use Rattle.esc_kitty.specs.Texts.{entry, frame_keys, keys_text, or_action, query_keys, shown_keys, transmit_keys};
 
 use crate::format::KittyImageFormat;
 use crate::frame::KittyImageFrame;

@@ -1,5 +1,6 @@
 use Rattle.std.proofs.Common.{◌≡◌, map, drop}
-use Rattle.esc_kitty.specs.Texts.{entry, is_bare, written}
+use Rattle.esc_values.specs.Fields.{is_bare, written}
+use Rattle.esc_kitty.specs.Texts.{entry}
 use Rattle.esc_kitty.proofs.write_keys.is_bare.Given as goal
 
 -- none of the keys so far is written

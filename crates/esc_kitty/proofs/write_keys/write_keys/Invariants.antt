@@ -1,6 +1,7 @@
 use Rattle.std.proofs.Common.{◌≡◌, map, take}
 use Rattle.std.specs.Fmt.{HasWritten, IsPlainFormatter}
-use Rattle.esc_kitty.specs.Texts.{entry, is_bare, keys_text, written}
+use Rattle.esc_values.specs.Fields.{is_bare, written}
+use Rattle.esc_kitty.specs.Texts.{entry, keys_text}
 use Rattle.esc_kitty.proofs.write_keys.write_keys.Given as goal
 
 -- the keys so far are written
