@@ -8,6 +8,13 @@ use std::ops::{
     BitAnd, BitAndAssign, BitOr, BitOrAssign, BitXor, BitXorAssign, Not, Sub, SubAssign,
 };
 
+// Flags of these names.
+macro_rules! flags {
+    ($($name:ident),+) => {
+        &[$(Flag { name: stringify!($name), value: Selection::$name }),+]
+    };
+}
+
 /// Which selections, as a set of bits (xterm's list of control sequences, "Manipulate Selection
 /// Data"): the clipboard, the primary selection, the one that is configured, and the cut buffers 0
 /// to 9. These are the named bits; a value may hold others too.
@@ -58,63 +65,9 @@ impl Selection {
     pub const CUT9: Selection = Selection(8192);
 
     // The named bits, each with its name.
-    const FLAGS: &'static [Flag<Selection>] = &[
-        Flag {
-            name: "NONE",
-            value: Selection::NONE,
-        },
-        Flag {
-            name: "CLIPBOARD",
-            value: Selection::CLIPBOARD,
-        },
-        Flag {
-            name: "PRIMARY",
-            value: Selection::PRIMARY,
-        },
-        Flag {
-            name: "SELECT",
-            value: Selection::SELECT,
-        },
-        Flag {
-            name: "CUT0",
-            value: Selection::CUT0,
-        },
-        Flag {
-            name: "CUT1",
-            value: Selection::CUT1,
-        },
-        Flag {
-            name: "CUT2",
-            value: Selection::CUT2,
-        },
-        Flag {
-            name: "CUT3",
-            value: Selection::CUT3,
-        },
-        Flag {
-            name: "CUT4",
-            value: Selection::CUT4,
-        },
-        Flag {
-            name: "CUT5",
-            value: Selection::CUT5,
-        },
-        Flag {
-            name: "CUT6",
-            value: Selection::CUT6,
-        },
-        Flag {
-            name: "CUT7",
-            value: Selection::CUT7,
-        },
-        Flag {
-            name: "CUT8",
-            value: Selection::CUT8,
-        },
-        Flag {
-            name: "CUT9",
-            value: Selection::CUT9,
-        },
+    const FLAGS: &'static [Flag<Selection>] = flags![
+        NONE, CLIPBOARD, PRIMARY, SELECT, CUT0, CUT1, CUT2, CUT3, CUT4, CUT5, CUT6, CUT7, CUT8,
+        CUT9
     ];
 }
 
