@@ -1,19 +1,22 @@
 -- Every writable prompt reads back.
-use Rattle.std.proofs.Common.{ℕ, ℤ, pos, ◌≡◌, ◌==◌, false, List, [], ◌∷◌, ◌++◌, length, codes, Option, Some, None, refl, sym, ap, ◌∙◌, arith, append_assoc}
+use Rattle.std.proofs.Common.{ℕ, ℤ, pos, ◌≡◌, ◌==◌, true, false, List, [], ◌∷◌, ◌++◌, map, length, codes, Option, Some, None, refl, sym, ap, ◌∙◌, arith, append_assoc}
 use Rattle.std.specs.Fmt.{signed_decimal}
+use Rattle.std.specs.List.{list_all}
 use Rattle.std.specs.Option.{option_map, unwrap_or}
 use Rattle.std.proofs.lemmas.Bool.{ne_eqb}
-use Rattle.std.proofs.lemmas.List.{append-nil}
+use Rattle.std.proofs.lemmas.List.{append-nil, length-append}
 use Rattle.esc_values.proofs.Numerals.{signed_part}
 use Rattle.esc_values.specs.Clear.{separated, IsClearPart, AreClearParts}
-use Rattle.esc_values.specs.Cuts.{Pairs, key_and_value, pairs_in, without_empty}
+use Rattle.esc_values.specs.Cuts.{Pairs, pair_text, pairs_in, without_empty}
+use Rattle.esc_values.specs.Fields.{written}
 use Rattle.esc_values.specs.Scalars.{and_then, IsSigned}
 use Rattle.esc_values.proofs.ClearPairs.{key_back}
 use Rattle.esc_values.proofs.ClearTexts.{part_append}
-use Rattle.esc_values.proofs.PlainParts.{plain_part}
+use Rattle.esc_values.proofs.Cutting.{Free}
+use Rattle.esc_values.proofs.PlainParts.{is_part_plain, plain_part}
 use Rattle.esc_values.proofs.Signed.{signed_back_32, signed_wide}
 use Rattle.esc_prompts.specs.Pairs.{KeyValues, last_values}
-use Rattle.esc_prompts.specs.Prompts.{IsAid, IsWritablePrompt, WritesBack, aid_and_click, aid_of, aid_text, click_in, click_text, kind_among, kind_in}
+use Rattle.esc_prompts.specs.Prompts.{IsAid, IsWritablePrompt, WritesBack, aid_and_click, aid_of, aid_text, click_in, click_text, kind_in}
 use Rattle.esc_prompts.specs.Prompts.{status_of}
 use Rattle.esc_prompts.specs.Words.{click_word, kind_word}
 use Rattle.esc_prompts.specs.declared.click.FinalTermClick.{FinalTermClick}
@@ -23,116 +26,80 @@ use Rattle.esc_prompts.specs.declared.prompt.FinalTermSemanticPrompt.TheVariants
 use Rattle.esc_prompts.specs.declared.prompt_kind.FinalTermPromptKind.{FinalTermPromptKind}
 use Rattle.esc_prompts.specs.declared.prompt_kind.FinalTermPromptKind.TheVariants as kind
 
--- the parts that the keys are written as
-abbrev aid_part : List ℕ → List ℕ
-aid_part a = codes "aid=" ++ a
+-- the keys that are written
+abbrev keys : Option (List ℕ) → Option FinalTermClick → Pairs
+keys aid cl = written ((codes "aid", aid) ∷ (codes "cl", option_map click_word cl) ∷ [])
 
-abbrev aid_parts : Option (List ℕ) → List (List ℕ) → List (List ℕ)
-aid_parts None more = more
-aid_parts (Some a) more = aid_part a ∷ more
-
-abbrev click_parts : Option FinalTermClick → List (List ℕ)
-click_parts None = []
-click_parts (Some c) = (codes "cl=" ++ click_word c) ∷ []
-
--- they are clear
+-- the words are clear
 click_word_clear : (c : FinalTermClick) → IsClearPart (click_word c)
 click_word_clear click.Line = plain_part (codes "line") refl
-click_word_clear click.MultipleLine = plain_part (codes "m") refl
-click_word_clear click.ConservativeVertical = plain_part (codes "v") refl
-click_word_clear click.SmartVertical = plain_part (codes "w") refl
+click_word_clear c = plain_part (click_word c) refl
 
 kind_word_clear : (k : FinalTermPromptKind) → IsClearPart (kind_word k)
 kind_word_clear kind.Initial = plain_part (codes "i") refl
-kind_word_clear kind.RightSide = plain_part (codes "r") refl
-kind_word_clear kind.Continuation = plain_part (codes "c") refl
-kind_word_clear kind.Secondary = plain_part (codes "s") refl
+kind_word_clear k = plain_part (kind_word k) refl
 
-aid_clear : (a : List ℕ) → IsClearPart a → IsClearPart (aid_part a)
-aid_clear a h = part_append (codes "aid=") a (plain_part (codes "aid=") refl) h
+-- a key without `=` and its value, both clear
+record IsPair (e : List ℕ × List ℕ) : Type 0 where
+  lacks : Free 0x3d e.0
+  key : IsClearPart e.0
+  value : IsClearPart e.1
 
-aid_all : (aid : Option (List ℕ)) (more : List (List ℕ)) → IsAid aid → AreClearParts more
-    → AreClearParts (aid_parts aid more)
-aid_all None more h k = k
-aid_all (Some a) more h k = (aid_clear a h, k)
+abbrev ArePairs : Pairs → Type 0
+ArePairs [] = Unit {0}
+ArePairs (e ∷ es) = IsPair e × ArePairs es
 
-click_clear : (c : FinalTermClick) → IsClearPart (codes "cl=" ++ click_word c)
-click_clear c =
-    part_append (codes "cl=") (click_word c) (plain_part (codes "cl=") refl) (click_word_clear c)
+pair : (k v : List ℕ) → list_all is_part_plain k ≡ true → Free 0x3d k → IsClearPart v
+    → IsPair (k, v)
+pair k v h f g = record { lacks = f; key = plain_part k h; value = g }
 
-click_all : (cl : Option FinalTermClick) → AreClearParts (click_parts cl)
-click_all None = tt
-click_all (Some c) = (click_clear c, tt)
+aid_pair : (a : List ℕ) → IsClearPart a → IsPair (codes "aid", a)
+aid_pair a h = pair (codes "aid") a refl refl h
+
+click_pair : (c : FinalTermClick) → IsPair (codes "cl", click_word c)
+click_pair c = pair (codes "cl") (click_word c) refl refl (click_word_clear c)
+
+keys_pairs : (aid : Option (List ℕ)) (cl : Option FinalTermClick) → IsAid aid
+    → ArePairs (keys aid cl)
+keys_pairs None None h = tt
+keys_pairs None (Some c) h = (click_pair c, tt)
+keys_pairs (Some a) None h = (aid_pair a h, tt)
+keys_pairs (Some a) (Some c) h = (aid_pair a h, (click_pair c, tt))
+
+parts_clear : (es : Pairs) → ArePairs es → AreClearParts (map pair_text es)
+parts_clear [] h = tt
+parts_clear (e ∷ es) h = (
+  part_append e.0 (codes "=" ++ e.1) h.0.key
+      (part_append (codes "=") e.1 (plain_part (codes "=") refl) h.0.value),
+  parts_clear es h.1,
+)
 
 -- their text
-click_joined : (cl : Option FinalTermClick) → click_text cl ≡ separated (click_parts cl)
-click_joined None = refl
-click_joined (Some c) = ap (λ t. codes ";cl=" ++ t) (sym (append-nil (click_word c)))
+keys_joined : (aid : Option (List ℕ)) (cl : Option FinalTermClick)
+    → aid_text aid ++ click_text cl ≡ separated (map pair_text (keys aid cl))
+keys_joined None None = refl
+keys_joined None (Some c) = ap (λ t. codes ";cl=" ++ t) (sym (append-nil (click_word c)))
+keys_joined (Some a) None = refl
+keys_joined (Some a) (Some c) =
+    ap (λ t. codes ";aid=" ++ (a ++ (codes ";cl=" ++ t))) (sym (append-nil (click_word c)))
 
-aid_joined : (aid : Option (List ℕ)) (more : List (List ℕ))
-    → aid_text aid ++ separated more ≡ separated (aid_parts aid more)
-aid_joined None more = refl
-aid_joined (Some a) more = refl
-
-aid_alone : (aid : Option (List ℕ)) → aid_text aid ≡ separated (aid_parts aid [])
-aid_alone None = refl
-aid_alone (Some a) = ap (λ t. codes ";aid=" ++ t) (sym (append-nil a))
-
-both_joined : (aid : Option (List ℕ)) (cl : Option FinalTermClick)
-    → aid_text aid ++ click_text cl ≡ separated (aid_parts aid (click_parts cl))
-both_joined aid cl = ap (λ t. aid_text aid ++ t) (click_joined cl) ∙ aid_joined aid (click_parts cl)
+aid_joined : (aid : Option (List ℕ)) → aid_text aid ≡ separated (map pair_text (keys aid None))
+aid_joined None = refl
+aid_joined (Some a) = ap (λ t. codes ";aid=" ++ t) (sym (append-nil a))
 
 -- what is read of them
-some_length : (b : ℕ) (p : List ℕ) → (length (b ∷ p) == 0) ≡ false
-some_length b p = ne_eqb (length (b ∷ p)) 0 (λ e. omega (arith, e))
+some_length : (e : List ℕ × List ℕ) → (length (pair_text e) == 0) ≡ false
+some_length e =
+    ne_eqb (length (pair_text e)) 0 (λ h. omega (arith, h, length-append e.0 (0x3d ∷ e.1)))
 
-pairs_step : (b : ℕ) (p : List ℕ) (ps : List (List ℕ)) (e : List ℕ × List ℕ) (es : Pairs)
-    → key_and_value (b ∷ p) ≡ Some e
-    → pairs_in (without_empty ps) ≡ Some es
-    → pairs_in (without_empty ((b ∷ p) ∷ ps)) ≡ Some (e ∷ es)
-pairs_step b p ps e es h k = rw (some_length b p, h, k) refl
-
-abbrev aid_pairs : Option (List ℕ) → Pairs → Pairs
-aid_pairs None more = more
-aid_pairs (Some a) more = (codes "aid", a) ∷ more
-
-abbrev click_pairs : Option FinalTermClick → Pairs
-click_pairs None = []
-click_pairs (Some c) = (codes "cl", click_word c) ∷ []
-
-pairs_aid : (aid : Option (List ℕ)) (ps : List (List ℕ)) (es : Pairs) → IsAid aid
-    → pairs_in (without_empty ps) ≡ Some es
-    → pairs_in (without_empty (aid_parts aid ps)) ≡ Some (aid_pairs aid es)
-pairs_aid None ps es h k = k
-pairs_aid (Some a) ps es h k =
-    pairs_step 0x61 (codes "id=" ++ a) ps (
-      codes "aid",
-      a,
-    ) es (key_back (codes "aid") a (plain_part (codes "aid") refl) refl h) k
-
-pairs_click : (cl : Option FinalTermClick)
-    → pairs_in (without_empty (click_parts cl)) ≡ Some (click_pairs cl)
-pairs_click None = refl
-pairs_click (Some c) =
-    pairs_step 0x63 (codes "l=" ++ click_word c) [] (codes "cl", click_word c) []
-    (key_back (codes "cl") (click_word c) (plain_part (codes "cl") refl) refl (click_word_clear c))
-    refl
-
-pairs_kind : (k : FinalTermPromptKind)
-    → pairs_in (without_empty ((codes "k=" ++ kind_word k) ∷ []))
-    ≡ Some ((codes "k", kind_word k) ∷ [])
-pairs_kind k =
-    pairs_step 0x6b (codes "=" ++ kind_word k) [] (codes "k", kind_word k) []
-    (key_back (codes "k") (kind_word k) (plain_part (codes "k") refl) refl (kind_word_clear k)) refl
-
-pairs_err : (s : List ℕ) (ps : List (List ℕ)) (es : Pairs) → IsClearPart s
-    → pairs_in (without_empty ps) ≡ Some es
-    → pairs_in (without_empty ((codes "err=" ++ s) ∷ ps)) ≡ Some ((codes "err", s) ∷ es)
-pairs_err s ps es h k =
-    pairs_step 0x65 (codes "rr=" ++ s) ps (
-      codes "err",
-      s,
-    ) es (key_back (codes "err") s (plain_part (codes "err") refl) refl h) k
+pairs_back : (es : Pairs) → ArePairs es → pairs_in (without_empty (map pair_text es)) ≡ Some es
+pairs_back [] h = refl
+pairs_back (e ∷ es) h =
+    rw (
+      some_length e,
+      key_back e.0 e.1 h.0.key h.0.lacks h.0.value,
+      pairs_back es h.1,
+    ) refl
 
 abbrev aid_read : Option Pairs → Option (Option (List ℕ))
 aid_read o = option_map (λ (v : KeyValues). v.aid) (option_map last_values o)
@@ -145,55 +112,51 @@ both_read o =
 abbrev kind_read : Option Pairs → Option FinalTermPromptKind
 kind_read o = and_then (option_map last_values o) (λ (v : KeyValues). kind_in v.k)
 
-aid_of_pairs : (aid : Option (List ℕ)) → aid_read (Some (aid_pairs aid [])) ≡ Some aid
-aid_of_pairs None = refl
-aid_of_pairs (Some a) = refl
+aid_of_keys : (aid : Option (List ℕ)) → aid_read (Some (keys aid None)) ≡ Some aid
+aid_of_keys None = refl
+aid_of_keys (Some a) = refl
 
-both_of_pairs : (aid : Option (List ℕ)) (cl : Option FinalTermClick)
-    → both_read (Some (aid_pairs aid (click_pairs cl))) ≡ Some (aid, cl)
-both_of_pairs None None = refl
-both_of_pairs None (Some click.Line) = refl
-both_of_pairs None (Some click.MultipleLine) = refl
-both_of_pairs None (Some click.ConservativeVertical) = refl
-both_of_pairs None (Some click.SmartVertical) = refl
-both_of_pairs (Some a) None = refl
-both_of_pairs (Some a) (Some click.Line) = refl
-both_of_pairs (Some a) (Some click.MultipleLine) = refl
-both_of_pairs (Some a) (Some click.ConservativeVertical) = refl
-both_of_pairs (Some a) (Some click.SmartVertical) = refl
+both_of_keys : (aid : Option (List ℕ)) (cl : Option FinalTermClick)
+    → both_read (Some (keys aid cl)) ≡ Some (aid, cl)
+both_of_keys None None = refl
+both_of_keys None (Some click.Line) = refl
+both_of_keys None (Some c) = refl
+both_of_keys (Some a) None = refl
+both_of_keys (Some a) (Some click.Line) = refl
+both_of_keys (Some a) (Some c) = refl
 
-kind_of_pairs : (k : FinalTermPromptKind)
-    → kind_read (Some ((codes "k", kind_word k) ∷ [])) ≡ Some k
-kind_of_pairs kind.Initial = refl
-kind_of_pairs kind.RightSide = refl
-kind_of_pairs kind.Continuation = refl
-kind_of_pairs kind.Secondary = refl
+kind_of_keys : (k : FinalTermPromptKind) → kind_read (Some ((codes "k", kind_word k) ∷ [])) ≡ Some k
+kind_of_keys kind.Initial = refl
+kind_of_keys k = refl
 
-aid_back : (aid : Option (List ℕ)) → IsAid aid → aid_of (aid_parts aid []) ≡ Some aid
-aid_back aid h = ap aid_read (pairs_aid aid [] [] h refl) ∙ aid_of_pairs aid
+aid_back : (aid : Option (List ℕ)) → IsAid aid → aid_of (map pair_text (keys aid None)) ≡ Some aid
+aid_back aid h =
+    ap aid_read (pairs_back (keys aid None) (keys_pairs aid None h)) ∙ aid_of_keys aid
 
 both_back : (aid : Option (List ℕ)) (cl : Option FinalTermClick) → IsAid aid
-    → aid_and_click (aid_parts aid (click_parts cl)) ≡ Some (aid, cl)
+    → aid_and_click (map pair_text (keys aid cl)) ≡ Some (aid, cl)
 both_back aid cl h =
-    ap both_read (pairs_aid aid (click_parts cl) (click_pairs cl) h (pairs_click cl))
-    ∙ both_of_pairs aid cl
+    ap both_read (pairs_back (keys aid cl) (keys_pairs aid cl h)) ∙ both_of_keys aid cl
 
-err_aid_back : (s a : List ℕ) → IsClearPart s → IsClearPart a
-    → aid_of ((codes "err=" ++ s) ∷ aid_part a ∷ []) ≡ Some (Some a)
-err_aid_back s a h k =
-    ap aid_read (pairs_err s (aid_part a ∷ []) ((codes "aid", a) ∷ []) h
-    (pairs_aid (Some a) [] [] k refl))
+abbrev err_keys : List ℕ → List ℕ → Pairs
+err_keys s a = (codes "err", s) ∷ (codes "aid", a) ∷ []
 
-kind_back : (k : FinalTermPromptKind) → kind_among ((codes "k=" ++ kind_word k) ∷ []) ≡ Some k
-kind_back k = ap kind_read (pairs_kind k) ∙ kind_of_pairs k
+err_pairs : (s a : List ℕ) → IsClearPart s → IsClearPart a → ArePairs (err_keys s a)
+err_pairs s a h k = (pair (codes "err") s refl refl h, (aid_pair a k, tt))
+
+abbrev kind_keys : FinalTermPromptKind → Pairs
+kind_keys k = (codes "k", kind_word k) ∷ []
+
+kind_pairs : (k : FinalTermPromptKind) → ArePairs (kind_keys k)
+kind_pairs k = (pair (codes "k") (kind_word k) refl refl (kind_word_clear k), tt)
 
 -- the letters with keys
 starting : (A : Type 0) (aid : Option (List ℕ)) (cl : Option FinalTermClick) → IsAid aid
     → WritesBack {A = A} (prompt.FreshLineAndStartPrompt aid cl)
 starting A aid cl h = (
-  codes "A" ∷ aid_parts aid (click_parts cl),
-  ap (λ t. codes "133;A" ++ t) (both_joined aid cl),
-  (plain_part (codes "A") refl, aid_all aid (click_parts cl) h (click_all cl)),
+  codes "A" ∷ map pair_text (keys aid cl),
+  ap (λ t. codes "133;A" ++ t) (keys_joined aid cl),
+  (plain_part (codes "A") refl, parts_clear (keys aid cl) (keys_pairs aid cl h)),
   ap (option_map (λ (f : Option (List ℕ) × Option FinalTermClick). prompt.FreshLineAndStartPrompt
       f.0 f.1)) (both_back aid cl h),
 )
@@ -201,9 +164,9 @@ starting A aid cl h = (
 ending : (A : Type 0) (aid : Option (List ℕ)) (cl : Option FinalTermClick) → IsAid aid
     → WritesBack {A = A} (prompt.MarkEndOfCommandWithFreshLine aid cl)
 ending A aid cl h = (
-  codes "N" ∷ aid_parts aid (click_parts cl),
-  ap (λ t. codes "133;N" ++ t) (both_joined aid cl),
-  (plain_part (codes "N") refl, aid_all aid (click_parts cl) h (click_all cl)),
+  codes "N" ∷ map pair_text (keys aid cl),
+  ap (λ t. codes "133;N" ++ t) (keys_joined aid cl),
+  (plain_part (codes "N") refl, parts_clear (keys aid cl) (keys_pairs aid cl h)),
   ap (option_map (λ (f : Option (List ℕ)
       × Option FinalTermClick). prompt.MarkEndOfCommandWithFreshLine f.0 f.1)) (both_back aid cl h),
 )
@@ -211,9 +174,9 @@ ending A aid cl h = (
 output : (A : Type 0) (aid : Option (List ℕ)) → IsAid aid
     → WritesBack {A = A} (prompt.MarkEndOfInputAndStartOfOutput aid)
 output A aid h = (
-  codes "C" ∷ aid_parts aid [],
-  ap (λ t. codes "133;C" ++ t) (aid_alone aid),
-  (plain_part (codes "C") refl, aid_all aid [] h tt),
+  codes "C" ∷ map pair_text (keys aid None),
+  ap (λ t. codes "133;C" ++ t) (aid_joined aid),
+  (plain_part (codes "C") refl, parts_clear (keys aid None) (keys_pairs aid None h)),
   ap (option_map prompt.MarkEndOfInputAndStartOfOutput) (aid_back aid h),
 )
 
@@ -227,7 +190,7 @@ status_back A s args aid h e =
     ∙ ap (option_map (λ aid. prompt.CommandStatus s aid)) e
 
 status_text : (s a : List ℕ) → codes "133;D;" ++ s ++ codes ";err=" ++ s ++ codes ";aid=" ++ a
-    ≡ codes "133;D" ++ separated (s ∷ (codes "err=" ++ s) ∷ aid_part a ∷ [])
+    ≡ codes "133;D" ++ separated (s ∷ map pair_text (err_keys s a))
 status_text s a = simp (append_assoc, append-nil)
 
 ended : (A : Type 0) (s : ℤ) (aid : Option (List ℕ)) → IsSigned 32 s → IsAid aid
@@ -239,37 +202,24 @@ ended A s None h k = (
   status_back A s [] None h refl,
 )
 ended A s (Some a) h k =
-    let clear = signed_part s (signed_wide s h) in (
-      codes "D" ∷ signed_decimal s ∷ (codes "err=" ++ signed_decimal s) ∷ aid_part a ∷ [],
-      status_text (signed_decimal s) a,
-      (
-        plain_part (codes "D") refl,
-        (
-          clear,
-          (
-            part_append (codes "err=") (signed_decimal s) (plain_part (codes "err=") refl)
-                clear,
-            (aid_clear a k, tt),
-          ),
-        ),
-      ),
-      status_back A s ((codes "err=" ++ signed_decimal s) ∷ aid_part a ∷ []) (Some a) h
-          (err_aid_back (signed_decimal s) a clear k),
+    let t = signed_decimal s in
+    let clear = signed_part s (signed_wide s h) in
+    let pairs = err_pairs t a clear k in (
+      codes "D" ∷ t ∷ map pair_text (err_keys t a),
+      status_text t a,
+      (plain_part (codes "D") refl, (clear, parts_clear (err_keys t a) pairs)),
+      status_back A s (map pair_text (err_keys t a)) (Some a) h
+          (ap aid_read (pairs_back (err_keys t a) pairs)),
     )
 
 -- a kind
 begun : (A : Type 0) (k : FinalTermPromptKind) → WritesBack {A = A} (prompt.StartPrompt k)
 begun A k = (
-  codes "P" ∷ (codes "k=" ++ kind_word k) ∷ [],
+  codes "P" ∷ map pair_text (kind_keys k),
   ap (λ t. codes "133;P;k=" ++ t) (sym (append-nil (kind_word k))),
-  (
-    plain_part (codes "P") refl,
-    (
-      part_append (codes "k=") (kind_word k) (plain_part (codes "k=") refl) (kind_word_clear k),
-      tt,
-    ),
-  ),
-  ap (option_map prompt.StartPrompt) (kind_back k),
+  (plain_part (codes "P") refl, parts_clear (kind_keys k) (kind_pairs k)),
+  ap (option_map prompt.StartPrompt)
+      (ap kind_read (pairs_back (kind_keys k) (kind_pairs k)) ∙ kind_of_keys k),
 )
 
 pub writes_back : {A : Type 0} (p : FinalTermSemanticPrompt A) → IsWritablePrompt p → WritesBack p
