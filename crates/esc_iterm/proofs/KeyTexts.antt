@@ -1,5 +1,5 @@
 -- Texts of numbers, and which characters they have.
-use Rattle.std.proofs.Common.{ℕ, suc, ℤ, pos, negsuc, ◌≡◌, ◌<◌, Bool, true, false, not, nat_eq, ◌&&◌, ◌==◌, List, [], ◌∷◌, length}
+use Rattle.std.proofs.Common.{ℕ, suc, ℤ, pos, negsuc, ◌≡◌, ◌<◌, Bool, true, false, not, nat_eq, ◌&&◌, ◌==◌, List, [], ◌∷◌, length, Option, Some, None}
 use Rattle.std.proofs.Common.{drop, refl, arith, zero, inl, inr}
 use Rattle.std.specs.Cmp.Lexicographic.{pointwise}
 use Rattle.std.specs.Fmt.{signed_decimal}
@@ -13,12 +13,28 @@ use Rattle.esc_values.proofs.PlainParts.{is_part_plain}
 abbrev pub is_key_plain : ℕ → Bool
 is_key_plain c = is_part_plain c && not (c == 0x3a)
 
+-- the same, but not `=`
+abbrev pub is_name : ℕ → Bool
+is_name c = is_key_plain c && not (c == 0x3d)
+
+abbrev pub is_value : Option (List ℕ) → Bool
+is_value None = true
+is_value (Some v) = list_all is_key_plain v
+
+-- a text that passes a test passes one that follows from it
+passes : (f g : ℕ → Bool) → ((c : ℕ) → f c ≡ true → g c ≡ true) → (t : List ℕ)
+    → list_all f t ≡ true → list_all g t ≡ true
+passes f g more [] h = refl
+passes f g more (c ∷ t) h = let q = and_parts (f c) (list_all f t) h in
+    rw (more c q.0, passes f g more t q.1) refl
+
 pub key_plain_part : (t : List ℕ) → list_all is_key_plain t ≡ true → list_all is_part_plain t ≡ true
-key_plain_part [] h = refl
-key_plain_part (c ∷ t) h =
-    let q = and_parts (is_key_plain c) (list_all is_key_plain t) h in
-    let k = and_parts (is_part_plain c) (not (c == 0x3a)) q.0 in
-    rw (k.0, key_plain_part t q.1) refl
+key_plain_part t h = passes is_key_plain is_part_plain (λ c k.
+    (and_parts (is_part_plain c) (not (c == 0x3a)) k).0) t h
+
+pub name_plain : (t : List ℕ) → list_all is_name t ≡ true → list_all is_key_plain t ≡ true
+name_plain t h = passes is_name is_key_plain (λ c k.
+    (and_parts (is_key_plain c) (not (c == 0x3d)) k).0) t h
 
 -- a number has at least one character
 pub signed_some : (z : ℤ) → IsSigned 64 z → 0 < length (signed_decimal z)

@@ -1,24 +1,24 @@
 -- Pieces of keys with their values: how they are read.
-use Rattle.std.proofs.Common.{ℕ, ◌≡◌, ◌≢◌, Bool, true, false, nat_eq, ◌==◌, if◌then◌else◌, List, [], ◌∷◌, ◌++◌, map, length, codes, Option, Some}
+use Rattle.std.proofs.Common.{ℕ, ◌≡◌, ◌≢◌, Bool, true, false, ◌==◌, if◌then◌else◌, List, [], ◌∷◌, ◌++◌, map, length, codes, Option, Some}
 use Rattle.std.proofs.Common.{None, is_some, refl, sym, ap, ◌∙◌, arith}
-use Rattle.std.specs.Cmp.Lexicographic.{pointwise}
 use Rattle.std.specs.List.{list_all}
 use Rattle.std.specs.Option.{option_map}
-use Rattle.std.proofs.lemmas.Bool.{ne_eqb}
+use Rattle.std.proofs.lemmas.Bool.{ne_eqb, and_parts}
 use Rattle.std.proofs.lemmas.List.{append-nil, append_assoc, length-append}
 use Rattle.esc_values.specs.Clear.{separated, joined, IsClearPart, AreClearParts}
-use Rattle.esc_values.specs.Cuts.{Pairs, key_and_value, pair_text, pairs_in, last_value}
+use Rattle.esc_values.specs.Cuts.{Pairs, key_and_value, pair_text, pairs_in}
+use Rattle.esc_values.specs.Fields.{Entry, with_value, written}
 use Rattle.esc_values.specs.Scalars.{and_then}
 use Rattle.esc_values.proofs.ClearPairs.{key_back}
 use Rattle.esc_values.proofs.Cutting.{Free, free_passes, cut_there}
+use Rattle.esc_values.proofs.Fields.{is_entry_of}
 use Rattle.esc_values.proofs.PlainParts.{is_part_plain, plain_part, all_append}
-use Rattle.esc_iterm.specs.Files.{piece_pairs, last_pairs, pairs_of, key_piece, key_pieces, file_of, file_from}
-use Rattle.esc_iterm.proofs.KeyTexts.{is_key_plain, key_plain_part}
+use Rattle.esc_iterm.specs.Files.{piece_pairs, last_pairs, pairs_of, file_of, file_from}
+use Rattle.esc_iterm.proofs.KeyTexts.{is_key_plain, is_name, is_value, key_plain_part, name_plain}
 
--- the key has no `=`, and both have plain characters
+-- the key and its value have plain characters, and the key no `=`
 pub record IsPiece (e : List ℕ × List ℕ) : Type 0 where
-  pub lacks : Free 0x3d e.0
-  pub key : list_all is_key_plain e.0 ≡ true
+  pub key : list_all is_name e.0 ≡ true
   pub value : list_all is_key_plain e.1 ≡ true
 
 abbrev pub ArePieces : Pairs → Type 0
@@ -28,8 +28,12 @@ ArePieces (e ∷ es) = IsPiece e × ArePieces es
 plain_clear : (t : List ℕ) → list_all is_key_plain t ≡ true → IsClearPart t
 plain_clear t h = plain_part t (key_plain_part t h)
 
+lacks : (e : List ℕ × List ℕ) → IsPiece e → Free 0x3d e.0
+lacks e h = free_passes 0x3d is_name refl e.0 h.key
+
 pair_back : (e : List ℕ × List ℕ) → IsPiece e → key_and_value (pair_text e) ≡ Some e
-pair_back e h = key_back e.0 e.1 (plain_clear e.0 h.key) h.lacks (plain_clear e.1 h.value)
+pair_back e h = key_back e.0 e.1 (plain_clear e.0 (name_plain e.0 h.key)) (lacks e h)
+    (plain_clear e.1 h.value)
 
 some_length : (k v : List ℕ) → (length (k ++ 0x3d ∷ v) == 0) ≡ false
 some_length k v =
@@ -41,11 +45,11 @@ one_back e h = rw (some_length e.0 e.1, pair_back e h) refl
 last_back : (e : List ℕ × List ℕ) → IsPiece e → last_pairs (pair_text e) ≡ Some (e ∷ [])
 last_back e h =
     ap (λ (c : Option (List ℕ × List ℕ)). if is_some c then pairs_in (pair_text e ∷ []) else Some
-    []) (cut_there 0x3d e.0 e.1 h.lacks)
+    []) (cut_there 0x3d e.0 e.1 (lacks e h))
     ∙ ap (λ (o : Option (List ℕ × List ℕ)). and_then o (λ d. Some (d ∷ []))) (pair_back e h)
 
 pub piece_plain : (e : List ℕ × List ℕ) → IsPiece e → list_all is_key_plain (pair_text e) ≡ true
-piece_plain e h = all_append is_key_plain e.0 (0x3d ∷ e.1) h.key h.value
+piece_plain e h = all_append is_key_plain e.0 (0x3d ∷ e.1) (name_plain e.0 h.key) h.value
 
 -- pieces, with t after the last
 abbrev pub ended : List ℕ → List (List ℕ) → List ℕ → List (List ℕ)
@@ -115,55 +119,18 @@ pub pieces_plain : (es : Pairs) → ArePieces es → ArePlain (map pair_text es)
 pieces_plain [] h = tt
 pieces_plain (e ∷ es) h = (key_plain_part (pair_text e) (piece_plain e h.0), pieces_plain es h.1)
 
--- the pairs of keys that have a value
-abbrev pub key_pair : List ℕ → Option (List ℕ) → Pairs
-key_pair k None = []
-key_pair k (Some v) = (k, v) ∷ []
+-- the keys that are written are pieces
+abbrev pub is_entry : Entry → Bool
+is_entry e = is_entry_of (λ k. list_all is_name k) is_value e
 
-abbrev pub key_pairs : List (List ℕ × Option (List ℕ)) → Pairs
-key_pairs [] = []
-key_pairs (k ∷ ks) = key_pair k.0 k.1 ++ key_pairs ks
+with_piece : (k : List ℕ) (o : Option (List ℕ)) (es : Pairs) → list_all is_name k ≡ true
+    → is_value o ≡ true → ArePieces es → ArePieces (with_value k o es)
+with_piece k None es h g p = p
+with_piece k (Some v) es h g p = (record { key = h; value = g }, p)
 
-by_value : (k : List ℕ) (o : Option (List ℕ)) (ps : List (List ℕ)) (es : Pairs)
-    → ps ≡ map pair_text es
-    → key_piece k o ++ ps ≡ map pair_text (key_pair k o ++ es)
-by_value k None ps es h = h
-by_value k (Some v) ps es h = ap (λ xs. pair_text (k, v) ∷ xs) h
-
-pub key_pieces_are : (ks : List (List ℕ × Option (List ℕ)))
-    → key_pieces ks ≡ map pair_text (key_pairs ks)
-key_pieces_are [] = refl
-key_pieces_are (k ∷ ks) = by_value k.0 k.1 (key_pieces ks) (key_pairs ks) (key_pieces_are ks)
-
--- the value of a key among them
-abbrev pub or_found : Option (List ℕ) → Option (List ℕ) → Option (List ℕ)
-or_found None found = found
-or_found (Some v) found = Some v
-
-abbrev pub last_in : List ℕ → Option (List ℕ) → List (List ℕ × Option (List ℕ)) → Option (List ℕ)
-last_in k found [] = found
-last_in k found (e ∷ es) =
-    last_in k (if pointwise nat_eq e.0 k then or_found e.1 found else found) es
-
-same_found : (b : Bool) (found : Option (List ℕ)) → (if b then found else found) ≡ found
-same_found true found = refl
-same_found false found = refl
-
-last_by_value : (k : List ℕ) (found : Option (List ℕ)) (c : List ℕ) (o : Option (List ℕ))
-    (es : Pairs)
-    → last_value k found (key_pair c o ++ es)
-    ≡ last_value k (if pointwise nat_eq c k then or_found o found else found) es
-last_by_value k found c None es =
-    ap (λ x. last_value k x es) (sym (same_found (pointwise nat_eq c k) found))
-last_by_value k found c (Some v) es = refl
-
-pub last_value_in : (k : List ℕ) (found : Option (List ℕ)) (ks : List (List ℕ × Option (List ℕ)))
-    → last_value k found (key_pairs ks) ≡ last_in k found ks
-last_value_in k found [] = refl
-last_value_in k found (c ∷ ks) =
-    last_by_value k found c.0 c.1 (key_pairs ks)
-    ∙ last_value_in k (if pointwise nat_eq c.0 k then or_found c.1 found else found) ks
-
-pub or_none : (o : Option (List ℕ)) → or_found o None ≡ o
-or_none None = refl
-or_none (Some v) = refl
+pub written_pieces : (es : List Entry) → list_all is_entry es ≡ true → ArePieces (written es)
+written_pieces [] h = tt
+written_pieces (e ∷ es) h =
+    let q = and_parts (is_entry e) (list_all is_entry es) h in
+    let k = and_parts (list_all is_name e.0) (is_value e.1) q.0 in
+    with_piece e.0 e.1 (written es) k.0 k.1 (written_pieces es q.1)

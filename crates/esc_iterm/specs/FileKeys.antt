@@ -3,6 +3,7 @@ use Rattle.std.specs.Prelude.{ℕ, List, Option}
 use Rattle.std.specs.Fmt.{decimal}
 use Rattle.std.specs.Option.{option_map}
 use Rattle.esc_values.specs.Base64.{base64_text}
+use Rattle.esc_values.specs.Fields.{Entry}
 use Rattle.esc_iterm.specs.Files.{written_dimension}
 use Rattle.esc_iterm.specs.declared.write_file.Key.{Key}
 use Rattle.esc_iterm.specs.declared.write_file.Value.{Value}
@@ -15,5 +16,5 @@ value_text (value.Name t) = option_map base64_text (option_map (λ t. t.now) t)
 value_text (value.Dimension d) = written_dimension d
 value_text (value.Word w) = option_map (λ t. t.now) w
 
-abbrev pub entry : Key → List ℕ × Option (List ℕ)
+abbrev pub entry : Key → Entry
 entry k = (k.0.now, value_text k.1)

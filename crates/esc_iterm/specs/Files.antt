@@ -1,5 +1,5 @@
 -- Files: how they are read and written.
-use Rattle.std.specs.Prelude.{ℕ, ◌≡◌, ◌≢◌, ◌<◌, ◌^◌, nat_eq, Bool, true, false, not, if◌then◌else◌, List, [], ◌∷◌, ◌++◌, drop, codes, Option, Some}
+use Rattle.std.specs.Prelude.{ℕ, ◌≡◌, ◌≢◌, ◌<◌, ◌^◌, nat_eq, Bool, true, false, not, if◌then◌else◌, List, [], ◌∷◌, ◌++◌, map, drop, codes, Option, Some}
 use Rattle.std.specs.Prelude.{None, is_some, IfSome}
 use Rattle.std.specs.Cmp.Lexicographic.{pointwise}
 use Rattle.std.specs.Fmt.{decimal}
@@ -9,7 +9,8 @@ use Rattle.std.specs.Str.{IsUtf8}
 use Rattle.base64.specs.GeneralPurpose.{IsBytes}
 use Rattle.esc_values.specs.Base64.{base64_of, base64_text_of, base64_text}
 use Rattle.esc_values.specs.Clear.{joined, separated, AreClearParts}
-use Rattle.esc_values.specs.Cuts.{Pairs, cut_at, pair_text, pairs_in, without_empty, last_value}
+use Rattle.esc_values.specs.Cuts.{Pairs, cut_at, pair_text, pairs_in, without_empty}
+use Rattle.esc_values.specs.Fields.{Values, values_of, Entry, written, Kinds, Field, entries, FitAll, read_with}
 use Rattle.esc_values.specs.Scalars.{and_then, when, number_of}
 use Rattle.esc_iterm.specs.Dimensions.{dimension_of, dimension_text, IsDimension}
 use Rattle.esc_iterm.specs.declared.dimension.ITermDimension.{ITermDimension}
@@ -35,47 +36,6 @@ pairs_of (p ∷ []) =
 pairs_of (p ∷ q ∷ ps) = and_then (piece_pairs p) (λ es.
     option_map (λ (m : Pairs × List ℕ). (es ++ m.0, m.1)) (pairs_of (q ∷ ps)))
 
--- the values of the keys that are read, where they are there
-pub record Values : Type 0 where
-  pub name : Option (List ℕ)
-  pub size : Option (List ℕ)
-  pub width : Option (List ℕ)
-  pub height : Option (List ℕ)
-  pub preserve_aspect_ratio : Option (List ℕ)
-  pub inline : Option (List ℕ)
-  pub do_not_move_cursor : Option (List ℕ)
-
-abbrev pub no_values : Values
-no_values = record {
-  name = None;
-  size = None;
-  width = None;
-  height = None;
-  preserve_aspect_ratio = None;
-  inline = None;
-  do_not_move_cursor = None;
-}
-
--- these values, where no pair has the key, else that of the last pair that has it
-abbrev pub values_after : Values → Pairs → Values
-values_after v es = record {
-  name = last_value (codes "name") v.name es;
-  size = last_value (codes "size") v.size es;
-  width = last_value (codes "width") v.width es;
-  height = last_value (codes "height") v.height es;
-  preserve_aspect_ratio = last_value (codes "preserveAspectRatio") v.preserve_aspect_ratio es;
-  inline = last_value (codes "inline") v.inline es;
-  do_not_move_cursor = last_value (codes "doNotMoveCursor") v.do_not_move_cursor es;
-}
-
--- these values, with those of the keys of the pieces, and what follows the first `:` of the last
--- piece
-abbrev pub values_with : Values → List (List ℕ) → Option (Values × List ℕ)
-values_with v ps = option_map (λ (m : Pairs × List ℕ). (values_after v m.0, m.1)) (pairs_of ps)
-
-abbrev pub values_of : List (List ℕ) → Option (Values × List ℕ)
-values_of ps = values_with no_values ps
-
 -- the dimension of a value; automatic where there is none that can be read
 abbrev pub size_in : Option (List ℕ) → ITermDimension
 size_in v = unwrap_or (and_then v dimension_of) Automatic
@@ -85,16 +45,81 @@ abbrev pub is_set : Bool → Option (List ℕ) → Bool
 is_set without None = without
 is_set without (Some v) = not (pointwise nat_eq v (codes "0"))
 
--- the file of these values and this content
-abbrev pub filled : {A : Type 0} → Values → List ℕ → ITermFileData A
-filled v bytes = record {
-  name = and_then v.name base64_text_of;
-  size = and_then v.size (number_of 64);
-  width = size_in v.width;
-  height = size_in v.height;
-  preserve_aspect_ratio = is_set true v.preserve_aspect_ratio;
-  inline = is_set false v.inline;
-  do_not_move_cursor = is_set false v.do_not_move_cursor;
+abbrev pub written_dimension : ITermDimension → Option (List ℕ)
+written_dimension Automatic = None
+written_dimension (Cells n) = Some (dimension_text (Cells n))
+written_dimension (Pixels n) = Some (dimension_text (Pixels n))
+written_dimension (Percent n) = Some (dimension_text (Percent n))
+
+-- the text of a flag that differs from what it is without the key
+abbrev pub flag_value : Bool → Bool → Option (List ℕ)
+flag_value true x = when (not x) (codes "0")
+flag_value false x = when x (codes "1")
+
+-- the kinds of values; `Flag` has what it is without the key
+pub data Kind : Type 0 where
+  Size Name Dimension : Kind
+  Flag : Bool → Kind
+
+abbrev pub Of : Kind → Type 0
+Of Size = Option ℕ
+Of Name = Option (List ℕ)
+Of Dimension = ITermDimension
+Of (Flag without) = Bool
+
+-- a value that cannot be read counts as absent
+abbrev pub read_as : (k : Kind) → Option (List ℕ) → Option (Of k)
+read_as Size v = Some (and_then v (number_of 64))
+read_as Name v = Some (and_then v base64_text_of)
+read_as Dimension v = Some (size_in v)
+read_as (Flag without) v = Some (is_set without v)
+
+abbrev pub text_as : (k : Kind) → Of k → Option (List ℕ)
+text_as Size n = option_map decimal n
+text_as Name t = option_map base64_text t
+text_as Dimension d = written_dimension d
+text_as (Flag without) x = flag_value without x
+
+abbrev pub Fits : (k : Kind) → Of k → Type 0
+Fits Size n = IfSome n (λ n. n < 2 ^ 64)
+Fits Name t = IfSome t (λ t. IsUtf8 t)
+Fits Dimension d = IsDimension d
+Fits (Flag without) x = Unit {0}
+
+abbrev pub file_kinds : Kinds
+file_kinds = record { Kind = Kind; Of = Of; read_as = read_as; text_as = text_as; Fits = Fits }
+
+-- the keys of a file, in the order in which they are written
+abbrev pub file_fields : {A : Type 0} → List (Field file_kinds (ITermFileData A))
+file_fields =
+    record { key = codes "size"; kind = Size; get = λ f. f.size }
+    ∷ record { key = codes "name"; kind = Name; get = λ f. f.name }
+    ∷ record { key = codes "width"; kind = Dimension; get = λ f. f.width }
+    ∷ record { key = codes "height"; kind = Dimension; get = λ f. f.height }
+    ∷ record {
+      key = codes "preserveAspectRatio";
+      kind = Flag true;
+      get = λ f. f.preserve_aspect_ratio;
+    }
+    ∷ record { key = codes "inline"; kind = Flag false; get = λ f. f.inline }
+    ∷ record {
+      key = codes "doNotMoveCursor";
+      kind = Flag false;
+      get = λ f. f.do_not_move_cursor;
+    }
+    ∷ []
+
+-- the file of this content and the values of its keys
+abbrev pub filled : {A : Type 0} → List ℕ → Option ℕ → Option (List ℕ) → ITermDimension
+    → ITermDimension → Bool → Bool → Bool → ITermFileData A
+filled bytes size name width height ratio inline cursor = record {
+  name = name;
+  size = size;
+  width = width;
+  height = height;
+  preserve_aspect_ratio = ratio;
+  inline = inline;
+  do_not_move_cursor = cursor;
   content = bytes;
 }
 
@@ -111,13 +136,17 @@ plain_file bytes = record {
   content = bytes;
 }
 
+-- the file of these values and this content
+abbrev pub file_in : {A : Type 0} → Values → List ℕ → Option (ITermFileData A)
+file_in {A = A} v bytes = read_with (file_fields {A = A}) (filled bytes) v
+
 -- the file of these values and a content in base64; none where that is no base64
 abbrev pub file_with : {A : Type 0} → Values → List ℕ → Option (ITermFileData A)
-file_with v t = option_map (filled v) (base64_of t)
+file_with v t = and_then (base64_of t) (file_in v)
 
 -- the file of the pieces
 abbrev pub file_from : {A : Type 0} → List (List ℕ) → Option (ITermFileData A)
-file_from ps = and_then (values_of ps) (λ (m : Values × List ℕ). file_with m.0 m.1)
+file_from ps = and_then (pairs_of ps) (λ (m : Pairs × List ℕ). file_with (values_of m.0) m.1)
 
 -- The file of the parts after the code `1337`. The first begins with `File=`; what follows that,
 -- and each further part, is a piece.
@@ -125,34 +154,9 @@ abbrev pub file_of : {A : Type 0} → List (List ℕ) → Option (ITermFileData 
 file_of [] = None
 file_of (p ∷ ps) = if starts_with nat_eq p (codes "File=") then file_from (drop 5 p ∷ ps) else None
 
-abbrev pub written_dimension : ITermDimension → Option (List ℕ)
-written_dimension Automatic = None
-written_dimension (Cells n) = Some (dimension_text (Cells n))
-written_dimension (Pixels n) = Some (dimension_text (Pixels n))
-written_dimension (Percent n) = Some (dimension_text (Percent n))
-
--- the keys in the order in which they are written, each with its value where that differs from what
--- it is without the key
-abbrev pub written_keys : {A : Type 0} → ITermFileData A → List (List ℕ × Option (List ℕ))
-written_keys f =
-    (codes "size", option_map decimal f.size)
-    ∷ (codes "name", option_map base64_text f.name)
-    ∷ (codes "width", written_dimension f.width)
-    ∷ (codes "height", written_dimension f.height)
-    ∷ (codes "preserveAspectRatio", when (not f.preserve_aspect_ratio) (codes "0"))
-    ∷ (codes "inline", when f.inline (codes "1"))
-    ∷ (codes "doNotMoveCursor", when f.do_not_move_cursor (codes "1"))
-    ∷ []
-
--- the piece of a key, where it has a value
-abbrev pub key_piece : List ℕ → Option (List ℕ) → List (List ℕ)
-key_piece k None = []
-key_piece k (Some v) = pair_text (k, v) ∷ []
-
--- the pieces of the keys that have a value
-abbrev pub key_pieces : List (List ℕ × Option (List ℕ)) → List (List ℕ)
-key_pieces [] = []
-key_pieces (k ∷ ks) = key_piece k.0 k.1 ++ key_pieces ks
+-- the pieces of the keys that are written
+abbrev pub key_pieces : List Entry → List (List ℕ)
+key_pieces es = map pair_text (written es)
 
 -- pieces with `;` between them, and before the first of them where it is not the first at all
 abbrev pub pieces_after : Bool → List (List ℕ) → List ℕ
@@ -162,13 +166,12 @@ pieces_after false ps = separated ps
 -- the text of a file, which is what follows `1337;`
 abbrev pub file_text : {A : Type 0} → ITermFileData A → List ℕ
 file_text f =
-    codes "File=" ++ (joined (key_pieces (written_keys f)) ++ 0x3a ∷ base64_text f.content)
+    codes "File=" ++ (joined (key_pieces (entries file_fields f)) ++ 0x3a ∷ base64_text f.content)
 
 -- A file as a program can hold it: its name is a text, its size and the numbers of its dimensions
 -- have 64 bits, its content is bytes.
 abbrev pub IsWritableFile : {A : Type 0} → ITermFileData A → Type 0
-IsWritableFile f = IfSome f.name (λ t. IsUtf8 t) × IfSome f.size (λ n. n < 2 ^ 64)
-    × IsDimension f.width × IsDimension f.height × IsBytes f.content
+IsWritableFile f = FitAll file_fields f × IsBytes f.content
 
 -- its text is that of clear parts, at least one, which are read as the file
 abbrev pub FileBack : {A : Type 0} → ITermFileData A → Type 0

@@ -1,7 +1,6 @@
 //! The keys of a file, as they are read.
 ghost use Rattle.std.specs.Prelude.{◌≡◌, [], ◌∷◌};
-ghost use Rattle.esc_iterm.specs.Files.{values_after};
-ghost use Rattle.esc_iterm.specs.Keys.{values};
+ghost use Rattle.esc_iterm.specs.Keys.{held, values, values_after};
 
 // The values of the keys of a file, where they are there.
 #[derive(Clone, Copy)]
@@ -18,7 +17,8 @@ pub(crate) struct FileKeys<'a> {
 impl<'a> FileKeys<'a> {
     // The same, with this value in place of the one that the key had.
     pub(crate) fn with(self, key: &str, value: &'a str) -> FileKeys<'a>
-        ensures { values result ≡ values_after (values self.entry) ((key.now, value.now) ∷ []) }
+        ensures { held (values result)
+            ≡ held (values_after (values self.entry) ((key.now, value.now) ∷ [])) }
     {
         let mut keys = self;
         match key {

@@ -1,10 +1,10 @@
 //! How files are read.
-ghost use Rattle.std.specs.Prelude.{◌≡◌, ℕ, List, [], ◌∷◌, IfOk, OnErr, map, Some};
+ghost use Rattle.std.specs.Prelude.{◌≡◌, ℕ, List, [], ◌∷◌, IfOk, OnErr, Option, map};
 ghost use Rattle.std.specs.Option.{option_map};
 ghost use Rattle.esc_values.specs.Base64.{base64_text_of};
 ghost use Rattle.esc_values.specs.Scalars.{and_then, number_of};
-ghost use Rattle.esc_iterm.specs.Files.{Values, file_of, filled, file_with, is_set, last_pairs, piece_pairs, size_in, values_after, values_of, values_with};
-ghost use Rattle.esc_iterm.specs.Keys.{values};
+ghost use Rattle.esc_iterm.specs.Files.{file_from, file_in, file_of, file_with, is_set, last_pairs, pairs_of, piece_pairs, size_in};
+ghost use Rattle.esc_iterm.specs.Keys.{held, held_after, no_values, values, values_after};
 ghost use Rattle.memory.specs.Refusals.{Refused};
 
 use crate::dimension::{ITermDimension, read_dimension};
@@ -30,16 +30,29 @@ pub(crate) fn read_file<A: Allocator + Copy>(
     let Some(first) = first.strip_prefix(b"File=".as_slice()) else {
         return Ok(None);
     };
-    let Some((keys, content)) = read_pieces(first, rest) else {
-        return Ok(None);
-    };
-    make_file(alloc, keys, content)
+    read_from(alloc, first, rest)
+}
+
+// The file of the pieces.
+fn read_from<A: Allocator + Copy>(
+    alloc: A,
+    first: &[u8],
+    rest: &[&[u8]],
+) -> Result<Option<ITermFileData<A>>, AllocError>
+    ensures ok { IfOk result (λ f. f ≡ file_from (first.now ∷ map (λ p. p.now) rest.now)) }
+    ensures refused { OnErr result (Refused A) }
+{
+    match read_pieces(first, rest) {
+        Some((keys, content)) => make_file(alloc, keys, content),
+        None => Ok(None),
+    }
 }
 
 // The values of the keys, and what follows the first `:` of the last piece.
 fn read_pieces<'a>(first: &'a [u8], rest: &[&'a [u8]]) -> Option<(FileKeys<'a>, &'a [u8])>
-    ensures { option_map {U = Values × List ℕ} (λ r. (values r.0, r.1.now)) result
-        ≡ values_of (first.now ∷ map (λ p. p.now) rest.now) }
+    ensures { option_map {U = List (Option (List ℕ)) × List ℕ}
+        (λ r. (held (values r.0), r.1.now)) result
+        ≡ held_after no_values (pairs_of (first.now ∷ map (λ p. p.now) rest.now)) }
 {
     let mut keys = FileKeys {
         name: None,
@@ -63,8 +76,9 @@ fn read_pieces<'a>(first: &'a [u8], rest: &[&'a [u8]]) -> Option<(FileKeys<'a>, 
 
 // The values, and those of the last piece, and what follows its first `:`.
 fn read_end<'a>(keys: FileKeys<'a>, piece: &'a [u8]) -> Option<(FileKeys<'a>, &'a [u8])>
-    ensures { option_map {U = Values × List ℕ} (λ r. (values r.0, r.1.now)) result
-        ≡ values_with (values keys.entry) (piece.now ∷ []) }
+    ensures { option_map {U = List (Option (List ℕ)) × List ℕ}
+        (λ r. (held (values r.0), r.1.now)) result
+        ≡ held_after (values keys.entry) (pairs_of (piece.now ∷ [])) }
 {
     let Some((piece, content)) = cut(piece, b':') else {
         return None;
@@ -77,8 +91,8 @@ fn read_end<'a>(keys: FileKeys<'a>, piece: &'a [u8]) -> Option<(FileKeys<'a>, &'
 
 // The values, and those of a piece before the last.
 fn read_piece<'a>(keys: FileKeys<'a>, piece: &'a [u8]) -> Option<FileKeys<'a>>
-    ensures { option_map values result ≡ option_map (values_after (values keys.entry))
-        (piece_pairs piece.now) }
+    ensures { option_map (λ k. held (values k)) result
+        ≡ option_map (λ es. held (values_after (values keys.entry) es)) (piece_pairs piece.now) }
 {
     if piece.is_empty() {
         return Some(keys);
@@ -91,8 +105,8 @@ fn read_piece<'a>(keys: FileKeys<'a>, piece: &'a [u8]) -> Option<FileKeys<'a>>
 
 // The values, and those of the last piece.
 fn read_last<'a>(keys: FileKeys<'a>, piece: &'a [u8]) -> Option<FileKeys<'a>>
-    ensures { option_map values result ≡ option_map (values_after (values keys.entry))
-        (last_pairs piece.now) }
+    ensures { option_map (λ k. held (values k)) result
+        ≡ option_map (λ es. held (values_after (values keys.entry) es)) (last_pairs piece.now) }
 {
     if cut(piece, b'=').is_none() {
         return Some(keys);
@@ -124,7 +138,7 @@ fn fill_file<A: Allocator>(
     keys: FileKeys<'_>,
     content: Items<u8, A>,
 ) -> Result<Option<ITermFileData<A>>, AllocError>
-    ensures ok { IfOk result (λ f. f ≡ Some (filled (values keys.entry) content)) }
+    ensures ok { IfOk result (λ f. f ≡ file_in (values keys.entry) content) }
     ensures refused { OnErr result (Refused A) }
 {
     Ok(Some(ITermFileData {

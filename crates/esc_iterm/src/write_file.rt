@@ -6,7 +6,8 @@ ghost use Rattle.esc_values.specs.Base64.{base64_text};
 ghost use Rattle.esc_values.specs.Clear.{joined};
 ghost use Rattle.esc_values.specs.Scalars.{when};
 ghost use Rattle.esc_iterm.specs.FileKeys.{entry, value_text};
-ghost use Rattle.esc_iterm.specs.Files.{key_piece, key_pieces, pieces_after, written_keys};
+ghost use Rattle.esc_values.specs.Fields.{entries};
+ghost use Rattle.esc_iterm.specs.Files.{file_fields, key_pieces, pieces_after};
 
 use crate::dimension::ITermDimension;
 use crate::file_data::ITermFileData;
@@ -66,7 +67,7 @@ pub(crate) fn write_keys<W: fmt::Write, A: Allocator>(
     f: &mut fmt::Formatter<W>,
 ) -> fmt::Result
     ensures { DisplaysOnOk W.write_str_gives f.old result
-        (Some (joined (key_pieces (written_keys file.now)))) f.new }
+        (Some (joined (key_pieces (entries file_fields file.now)))) f.new }
 {
     let keys = [
         Key("size", Value::Size(file.size)),
@@ -102,7 +103,7 @@ fn write_each<W: fmt::Write>(keys: &[Key<'_>], f: &mut fmt::Formatter<W>) -> fmt
 // A key with its value, where it is written, and a `;` before it, unless it is the first.
 fn write_key<W: fmt::Write>(is_first: bool, key: &Key<'_>, f: &mut fmt::Formatter<W>) -> fmt::Result
     ensures { DisplaysOnOk W.write_str_gives f.old result
-        (Some (pieces_after is_first (key_piece key.now.0.now (value_text key.now.1)))) f.new }
+        (Some (pieces_after is_first (key_pieces (entry key.now ∷ [])))) f.new }
 {
     if !key.1.is_written() {
         return Ok(());
