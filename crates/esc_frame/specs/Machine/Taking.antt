@@ -63,6 +63,11 @@ pub record HasRunToPair (IsRun : List ℕ → Type 0) (rest : List ℕ) (run : �
   pub lead : slice_index rest run ≡ 0xc2
   pub control : is_from 0x80 0x9f (slice_index rest (run + 1)) ≡ true
 
+-- The rest starts with ESC.
+pub record StartsWithEscape (rest : List ℕ) : Type 0 where
+  pub some : 0 < length rest
+  pub escape : slice_index rest 0 ≡ 0x1b
+
 -- The rest starts with ESC, this byte and another.
 pub record Opens (b : ℕ) (rest : List ℕ) : Type 0 where
   pub some : 2 < length rest
@@ -129,6 +134,12 @@ pub record TakesInGround {T A S E : Type 0} (K : Keeper T) (V : Actor S) (result
     (rest : List ℕ) (self : Changed (Machine T A)) (actor : Changed S) : Type 0 where
   pub ground : StaysAtGround K result self
   pub stays : StaysInGround V result rest actor
+
+-- The same, and the first event is that of the last byte.
+pub record TakesQuietly {T A S E : Type 0} (K : Keeper T) (V : Actor S) (result : Result ℕ E)
+    (rest : List ℕ) (self : Changed (Machine T A)) (actor : Changed S) : Type 0 where
+  pub taken : TakesInGround K V result rest self actor
+  pub quiet : (limit : Option ℕ) → Quietly limit result Ground rest
 
 -- One byte at least was, and the first event is that of the last.
 pub record TakesSequence {T A S E : Type 0} (K : Keeper T) (V : Actor S) (result : Result ℕ E)

@@ -15,7 +15,7 @@ ghost use Rattle.esc_frame.specs.Machine.Keeps.{KeepsBody};
 ghost use Rattle.esc_frame.specs.Scans.{StartsFrom, is_body_byte};
 ghost use Rattle.esc_frame.specs.Machine.Moves.{events_all, move};
 ghost use Rattle.esc_frame.specs.Segments.{csi_events, csi_event};
-ghost use Rattle.esc_frame.specs.Machine.Taking.{TakesInGround, InAny, HasRun, AreAll, OpensCsi, StartsWithShortCsi, MayBeGiven, MayBeGivenUnder, TakesIn, TakesUnder, TakesSequence};
+ghost use Rattle.esc_frame.specs.Machine.Taking.{TakesQuietly, InAny, HasRun, AreAll, OpensCsi, StartsWithShortCsi, MayBeGiven, MayBeGivenUnder, TakesIn, TakesUnder, TakesSequence};
 
 use crate::classes::{Class, Kind, classify};
 use crate::machine::{Machine, Result, State};
@@ -153,7 +153,7 @@ impl<K: Store, A: Allocator> Machine<K, A> {
         }
     }
 
-    /// ESC and at least two bytes more, in ground.
+    /// ESC and at least two bytes more, in ground: no control sequence that is short and whole.
     #[inline(always)]
     pub fn take_escape<V: Taker>(&mut self, rest: &[u8], actor: &mut V) -> Result<usize>
         requires some { 2 < length rest.now }
@@ -162,7 +162,7 @@ impl<K: Store, A: Allocator> Machine<K, A> {
         ensures { ConsumesSome K.Store V.Taker self.old.limit result rest.now self actor }
     {
         if rest[1] == b'[' {
-            self.take_csi(rest, actor)
+            self.take_long_csi(rest, actor)
         } else if rest[1] == b']' {
             self.take_osc(rest, actor)
         } else {
@@ -176,7 +176,7 @@ impl<K: Store, A: Allocator> Machine<K, A> {
         requires escape { slice_index rest.now 0 ≡ 0x1b }
         requires ready { MayEmitAll V.Taker Ground rest.now actor.old }
         requires ground { Holds K.keeps None self.old Ground }
-        ensures { TakesInGround K.Store V.Taker result rest.now self actor }
+        ensures { TakesQuietly K.Store V.Taker result rest.now self actor }
     {
         if rest.len() <= 2 {
             return Ok(0);
@@ -192,27 +192,6 @@ impl<K: Store, A: Allocator> Machine<K, A> {
             self.take_short_csi(rest, run, actor)
         } else {
             Ok(0)
-        }
-    }
-
-    // A control sequence: at once, where it is short and whole in the bytes.
-    #[inline(always)]
-    fn take_csi<V: Taker>(&mut self, rest: &[u8], actor: &mut V) -> Result<usize>
-        requires opens { OpensCsi rest.now }
-        requires ready { MayEmitAll V.Taker Ground rest.now actor.old }
-        ensures { (limit : Option ℕ)
-            → ConsumesSome K.Store V.Taker limit result rest.now self actor }
-    {
-        let run = self.short.read(&rest[2..]);
-        if run == rest.len() - 2 {
-            return self.take_long_csi(rest, actor);
-        }
-        if lies_from(0x40, 0x7e, rest[run + 2]) {
-            self.state = State::Ground;
-            self.pending = Pending::Nothing;
-            self.take_short_csi(rest, run, actor)
-        } else {
-            self.take_long_csi(rest, actor)
         }
     }
 

@@ -10,7 +10,7 @@ ghost use Rattle.esc_frame.specs.Machine.Makes.{MayEmit, MayEmitAll, Makes, Alwa
 ghost use Rattle.esc_frame.specs.Machine.Moves.{events_all, emitting, ground_move, pair_move, pending_move};
 ghost use Rattle.esc_frame.specs.Events.Event.{Print};
 ghost use Rattle.esc_frame.specs.Sequences.{outcome, is_sequence};
-ghost use Rattle.esc_frame.specs.Machine.Taking.{InGround, TakesInGround, TakesPart};
+ghost use Rattle.esc_frame.specs.Machine.Taking.{InGround, StartsWithEscape, TakesInGround, TakesPart};
 
 use crate::classes::{Breaker, Class, classify};
 use crate::machine::{Machine, Result, State};
@@ -240,7 +240,25 @@ impl<K: Store, A: Allocator> Machine<K, A> {
         requires ground { Holds K.keeps self.old.limit self.old Ground }
         ensures { ConsumesSome K.Store V.Taker self.old.limit result rest.now self actor }
     {
+        if rest[0] == 0x1b {
+            return self.take_sequence(rest, actor);
+        }
         match print_first(rest, actor) {
+            Ok(0) => self.take_one_in_ground(rest, actor),
+            Ok(n) => Ok(n),
+            Err(e) => Err(e),
+        }
+    }
+
+    // ESC, and the sequence that it begins.
+    #[inline(always)]
+    fn take_sequence<V: Taker>(&mut self, rest: &[u8], actor: &mut V) -> Result<usize>
+        requires starts { StartsWithEscape rest.now }
+        requires ready { MayEmit V.Taker (events_all self.old.limit Ground rest.now) actor.old }
+        requires ground { Holds K.keeps self.old.limit self.old Ground }
+        ensures { ConsumesSome K.Store V.Taker self.old.limit result rest.now self actor }
+    {
+        match self.take_quick_csi(rest, actor) {
             Ok(0) => self.take_control(rest, actor),
             Ok(n) => Ok(n),
             Err(e) => Err(e),

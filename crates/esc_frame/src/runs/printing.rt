@@ -123,26 +123,40 @@ fn print_long<V: Taker>(rest: &[u8], actor: &mut V) -> Result<usize>
     }
     let run = free_run(rest);
     if run < 24 {
-        return print_wides(rest, actor);
+        return print_glyphs::<V, Mixed>(rest, actor);
     }
     match simdutf8::basic::from_utf8(&rest[..run]) {
         Ok(text) => match actor.print_str(text) {
             Ok(()) => Ok(run),
             Err(e) => Err(e),
         },
-        Err(_) => print_wides(rest, actor),
+        Err(_) => print_glyphs::<V, Mixed>(rest, actor),
     }
 }
 
-// The sequences that come first, and short runs of text between them; a longer run is left.
+// Characters of one kind, which mostly come one after another.
+trait Glyphs<V: Taker> {
+    // How many bytes a look at the next of them needs.
+    const LEAST: usize;
+
+    ghost LEAST: { ℕ };
+
+    // Prints the next ones; nothing where others come.
+    fn print_next(rest: &[u8], actor: &mut V) -> Result<usize>
+        requires some { LEAST ≤ length rest.now }
+        requires ready { MayEmitAll V.Taker Ground rest.now actor.old }
+        ensures { StaysInGround V.Taker result rest.now actor };
+}
+
+// The characters of a kind that come first.
 #[inline(always)]
-fn print_wides<V: Taker>(rest: &[u8], actor: &mut V) -> Result<usize>
+fn print_glyphs<V: Taker, G: Glyphs<V>>(rest: &[u8], actor: &mut V) -> Result<usize>
     requires { MayEmitAll V.Taker Ground rest.now actor.old }
     ensures { StaysInGround V.Taker result rest.now actor }
 {
     let mut at = 0;
-    while rest.len() - at >= 8 {
-        match print_wide(&rest[at..], actor) {
+    while rest.len() - at >= G::LEAST {
+        match G::print_next(&rest[at..], actor) {
             Ok(0) => return Ok(at),
             Ok(n) => at += n,
             Err(e) => return Err(e),
@@ -151,92 +165,78 @@ fn print_wides<V: Taker>(rest: &[u8], actor: &mut V) -> Result<usize>
     Ok(at)
 }
 
-// Sequences that come first, or text that a sequence follows soon.
-#[inline(always)]
-fn print_wide<V: Taker>(rest: &[u8], actor: &mut V) -> Result<usize>
-    requires some { 8 ≤ length rest.now }
-    requires ready { MayEmitAll V.Taker Ground rest.now actor.old }
-    ensures { StaysInGround V.Taker result rest.now actor }
-{
-    if rest[0] < 0x80 {
-        if (rest[1] | rest[3] | rest[5] | rest[7]) < 0x80 {
-            Ok(0)
+// Sequences, and short runs of text between them; a longer run is left.
+struct Mixed;
+
+impl<V: Taker> Glyphs<V> for Mixed {
+    const LEAST: usize = 8;
+
+    ghost LEAST = { 8 };
+
+    #[inline(always)]
+    fn print_next(rest: &[u8], actor: &mut V) -> Result<usize> {
+        if rest[0] < 0x80 {
+            if (rest[1] | rest[3] | rest[5] | rest[7]) < 0x80 {
+                Ok(0)
+            } else {
+                print_glyphs::<V, Ascii>(rest, actor)
+            }
+        } else if rest[0] < 0xe0 {
+            print_glyphs::<V, TwoBytes>(rest, actor)
+        } else if rest[0] < 0xf0 {
+            print_glyphs::<V, ThreeBytes>(rest, actor)
         } else {
-            print_lones(rest, actor)
+            let (n, c) = of_four(rest[0], rest[1], rest[2], rest[3]);
+            print_ahead(rest, n, c, actor)
         }
-    } else if rest[0] < 0xe0 {
-        print_twos(rest, actor)
-    } else if rest[0] < 0xf0 {
-        print_threes(rest, actor)
-    } else {
-        let (n, c) = of_four(rest[0], rest[1], rest[2], rest[3]);
+    }
+}
+
+// Bytes of text.
+struct Ascii;
+
+impl<V: Taker> Glyphs<V> for Ascii {
+    const LEAST: usize = 1;
+
+    ghost LEAST = { 1 };
+
+    #[inline(always)]
+    fn print_next(rest: &[u8], actor: &mut V) -> Result<usize> {
+        print_lone(rest, actor)
+    }
+}
+
+// Sequences of two bytes, and single bytes of text between them.
+struct TwoBytes;
+
+impl<V: Taker> Glyphs<V> for TwoBytes {
+    const LEAST: usize = 4;
+
+    ghost LEAST = { 4 };
+
+    #[inline(always)]
+    fn print_next(rest: &[u8], actor: &mut V) -> Result<usize> {
+        if rest[0] < 0x80 {
+            return print_near(rest, actor);
+        }
+        let (n, c) = of_two(rest[0], rest[1]);
         print_ahead(rest, n, c, actor)
     }
 }
 
-// The bytes of text that come first, one at a time.
-#[inline(always)]
-fn print_lones<V: Taker>(rest: &[u8], actor: &mut V) -> Result<usize>
-    requires { MayEmitAll V.Taker Ground rest.now actor.old }
-    ensures { StaysInGround V.Taker result rest.now actor }
-{
-    let mut at = 0;
-    while rest.len() - at >= 1 {
-        match print_lone(&rest[at..], actor) {
-            Ok(0) => return Ok(at),
-            Ok(n) => at += n,
-            Err(e) => return Err(e),
-        }
-    }
-    Ok(at)
-}
+// Sequences of three bytes.
+struct ThreeBytes;
 
-// The sequences of two bytes that come first, and single bytes of text between them.
-#[inline(always)]
-fn print_twos<V: Taker>(rest: &[u8], actor: &mut V) -> Result<usize>
-    requires { MayEmitAll V.Taker Ground rest.now actor.old }
-    ensures { StaysInGround V.Taker result rest.now actor }
-{
-    let mut at = 0;
-    while rest.len() - at >= 4 {
-        match print_two(&rest[at..], actor) {
-            Ok(0) => return Ok(at),
-            Ok(n) => at += n,
-            Err(e) => return Err(e),
-        }
-    }
-    Ok(at)
-}
+impl<V: Taker> Glyphs<V> for ThreeBytes {
+    const LEAST: usize = 3;
 
-// The sequences of three bytes that come first.
-#[inline(always)]
-fn print_threes<V: Taker>(rest: &[u8], actor: &mut V) -> Result<usize>
-    requires { MayEmitAll V.Taker Ground rest.now actor.old }
-    ensures { StaysInGround V.Taker result rest.now actor }
-{
-    let mut at = 0;
-    while rest.len() - at >= 3 {
-        match print_three(&rest[at..], actor) {
-            Ok(0) => return Ok(at),
-            Ok(n) => at += n,
-            Err(e) => return Err(e),
-        }
-    }
-    Ok(at)
-}
+    ghost LEAST = { 3 };
 
-// A sequence of two bytes.
-#[inline(always)]
-fn print_two<V: Taker>(rest: &[u8], actor: &mut V) -> Result<usize>
-    requires some { 4 ≤ length rest.now }
-    requires ready { MayEmitAll V.Taker Ground rest.now actor.old }
-    ensures { StaysInGround V.Taker result rest.now actor }
-{
-    if rest[0] < 0x80 {
-        return print_near(rest, actor);
+    #[inline(always)]
+    fn print_next(rest: &[u8], actor: &mut V) -> Result<usize> {
+        let (n, c) = of_three(rest[0], rest[1], rest[2]);
+        print_ahead(rest, n, c, actor)
     }
-    let (n, c) = of_two(rest[0], rest[1]);
-    print_ahead(rest, n, c, actor)
 }
 
 // A byte of text that a sequence follows soon.
@@ -253,17 +253,7 @@ fn print_near<V: Taker>(rest: &[u8], actor: &mut V) -> Result<usize>
     }
 }
 
-// A sequence of three bytes.
-#[inline(always)]
-fn print_three<V: Taker>(rest: &[u8], actor: &mut V) -> Result<usize>
-    requires some { 3 ≤ length rest.now }
-    requires ready { MayEmitAll V.Taker Ground rest.now actor.old }
-    ensures { StaysInGround V.Taker result rest.now actor }
-{
-    let (n, c) = of_three(rest[0], rest[1], rest[2]);
-    print_ahead(rest, n, c, actor)
-}
-
+// The character that is whole ahead, if one is.
 #[inline(always)]
 fn print_ahead<V: Taker>(rest: &[u8], n: usize, c: char, actor: &mut V) -> Result<usize>
     requires ahead { IsAhead rest.now n c }

@@ -6,7 +6,8 @@ use Rattle.esc_frame.specs.Machine.Calls.{TookSome, Fails}
 use Rattle.esc_frame.specs.Machine.Moves.{events_all}
 use Rattle.esc_frame.proofs.Given.{stops_for}
 use Rattle.esc_frame.proofs.Borrows.{ground_fresh}
-use Rattle.esc_frame.specs.Machine.Makes.{MayEmit}
+use Rattle.esc_frame.specs.Machine.Makes.{MayEmitAll}
+use Rattle.std.proofs.Math.Logic.{⊎_map}
 use Rattle.esc_frame.proofs.machine.Machine.take_first.Goals as goal
 
 pub returns-in-Ok-eq0 : goal.returns-in-Ok-eq0
@@ -18,10 +19,10 @@ returns-in-Ok-eq0 g c =
     (c.in-Ok-eq0.ensures.stays.2 None) in
     subst (λ a. TookSome g.K.Store.keeps (Fails g.K.Store.denied g.V.Taker.stops g.row.A.Denot)
     c.args.self.now.limit
-    g.V.Taker.takes g.V.Taker.refuses g.V.Taker.is_ready c.take_control.result c.args.rest.now
-    c.args.self.now c.take_control.new.self
-    a c.take_control.new.actor)
-    (sym same) c.take_control.ensures
+    g.V.Taker.takes g.V.Taker.refuses g.V.Taker.is_ready c.take_one_in_ground.result c.args.rest.now
+    c.args.self.now c.take_one_in_ground.new.self
+    a c.take_one_in_ground.new.actor)
+    (sym same) (c.take_one_in_ground.ensures c.args.self.now.limit)
 
 pub returns-in-Ok : goal.returns-in-Ok
 returns-in-Ok g c =
@@ -46,12 +47,12 @@ returns-in-Err g c = (
   tt,
 )
 
-pub take_control-requires-clause-ready : goal.take_control-requires-clause-ready
-take_control-requires-clause-ready g c =
+pub take_one_in_ground-requires-clause-ready : goal.take_one_in_ground-requires-clause-ready
+take_one_in_ground-requires-clause-ready g c =
     let none : c.in-Ok-eq0.field-0 ≡ 0 = search rules in
     let same : c.args.actor.now ≡ c.print_first.new.actor =
     subst (λ k. FoldsTo g.V.Taker.takes c.args.actor.now
     (events_all None Ground (take k c.args.rest.now)) c.print_first.new.actor) none
     (c.in-Ok-eq0.ensures.stays.2 None) in
-    subst (λ a. MayEmit g.V.Taker (events_all c.args.self.now.limit Ground c.args.rest.now) a) same
-    c.requires.ready
+    subst (MayEmitAll g.V.Taker Ground c.args.rest.now) same
+    (⊎_map (λ r. r) (λ w. (c.args.self.now.limit, w)) c.requires.ready)

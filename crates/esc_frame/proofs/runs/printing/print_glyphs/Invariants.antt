@@ -1,6 +1,6 @@
 use Rattle.std.proofs.Common.{◌-◌, length}
 use Rattle.esc_frame.specs.Machine.Calls.{Ran}
-use Rattle.esc_frame.proofs.runs.printing.print_twos.Given as goal
+use Rattle.esc_frame.proofs.runs.printing.print_glyphs.Given as goal
 
 abbrev pub invariant-loop-at : goal.invariant-loop-at
 invariant-loop-at g l = Ran g.V.Taker.takes g.V.Taker.is_ready l.rest l.at l.initial.actor l.actor

@@ -1,7 +1,7 @@
 use Rattle.std.proofs.Common.{◌≡◌, rules}
 use Rattle.esc_frame.proofs.ManyBytes.{ran_again, ran_none, ran_refused}
 use Rattle.esc_frame.proofs.MayRun.{may_after}
-use Rattle.esc_frame.proofs.runs.printing.print_wides.Goals as goal
+use Rattle.esc_frame.proofs.runs.printing.print_glyphs.Goals as goal
 
 pub loop-at-preserved : goal.loop-at-preserved
 loop-at-preserved g c =
@@ -23,7 +23,7 @@ returns-in-Ok-eq0 g c =
     c.loop-at.invariant
     c.in-Ok-eq0.ensures
 
-pub print_wide-requires-clause-ready : goal.print_wide-requires-clause-ready
-print_wide-requires-clause-ready g c =
+pub print_next-requires-clause-ready : goal.print_next-requires-clause-ready
+print_next-requires-clause-ready g c =
     may_after g.V.Taker.is_ready g.V.Taker.may g.V.Taker.takes c.args.rest.now c.loop-at.at
     c.args.actor.now _ c.loop-at.invariant c.requires
