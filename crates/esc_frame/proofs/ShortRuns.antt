@@ -129,20 +129,20 @@ none_still limit rest = λ k some few. absurd (omega (arith, some, few))
 
 -- the same of a call after one that changed neither the actor nor the limit
 module _ {K A S E : Type 0} (keeps : Option ℕ → K → List ℕ → Type 0) (denied : Option ℕ → Type 0)
-    (takes refuses : S → Event → S → Type 0) (is_ready : S → Type 0) (rest : List ℕ)
+    (takes refuses : S → Event → S → Type 0) (ready : S → Type 0) (rest : List ℕ)
     (first before m : Machine K A) (old mid new : S) where
   moves_before : (result : Result ℕ E) (l : Option ℕ) → before.limit ≡ first.limit
-      → TookSome keeps denied l takes refuses is_ready result rest before m mid new
-      → TookSome keeps denied l takes refuses is_ready result rest first m mid new
+      → TookSome keeps denied l takes refuses ready result rest before m mid new
+      → TookSome keeps denied l takes refuses ready result rest first m mid new
   moves_before (Ok n) l e h = (h.0, h.1, (h.2.0, h.2.1, h.2.2, h.2.3 ∙ e))
   moves_before (Err x) l e h = (h.0, tt, tt)
 
   pub took_before : (result : Result ℕ E) (l limit : Option ℕ) → old ≡ mid
       → before.limit ≡ first.limit → l ≡ limit
-      → TookSome keeps denied l takes refuses is_ready result rest before m mid new
-      → TookSome keeps denied limit takes refuses is_ready result rest first m old new
+      → TookSome keeps denied l takes refuses ready result rest before m mid new
+      → TookSome keeps denied limit takes refuses ready result rest first m old new
   took_before result l limit same e i h =
-      subst (λ k. TookSome {E = E} keeps denied k takes refuses is_ready result rest first m old new)
+      subst (λ k. TookSome {E = E} keeps denied k takes refuses ready result rest first m old new)
       i
-      (subst (λ a. TookSome {E = E} keeps denied l takes refuses is_ready result rest first m a new)
+      (subst (λ a. TookSome {E = E} keeps denied l takes refuses ready result rest first m a new)
       (sym same) (moves_before result l e h))
