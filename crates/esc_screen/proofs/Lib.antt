@@ -7,4 +7,6 @@ pub mod Sounds
 pub mod StaysSound
 pub mod Painted
 pub mod Scrolling
+pub mod Joined
+pub mod Returning
 pub mod Logged

@@ -1,15 +1,16 @@
 -- A log of plain text is what it scrolls off and what it leaves.
-use Rattle.std.proofs.Common.{ℕ, suc, ◌≡◌, ◌+◌, ◌-◌, ◌==◌, ◌<◌, ◌≤◌, min, max, nat_lt, Bool, true, false, inl, inr, ◌&&◌, List, [], ◌∷◌, ◌++◌, length, map, set, take, drop, replicate, if◌then◌else◌, refl, ap, sym, subst, ◌∙◌, append_assoc, append-nil, length-append, arith}
+use Rattle.std.proofs.Common.{ℕ, suc, ◌≡◌, ◌+◌, ◌-◌, ◌==◌, ◌<◌, ◌≤◌, min, max, nat_lt, Bool, true, false, inl, inr, ◌&&◌, ◌||◌, List, [], ◌∷◌, ◌++◌, length, map, set, take, drop, replicate, if◌then◌else◌, refl, ap, sym, subst, ◌∙◌, append_assoc, append-nil, length-append, arith}
 use Rattle.std.proofs.lemmas.Bool.{cases_Bool}
 use Rattle.std.proofs.lemmas.Bool.Decides.{nat_tests}
 use Rattle.std.proofs.lemmas.List.{drop_all, get_or_at, length-map, length-replicate, length_push, map-append, set_at, take_all}
 use Rattle.esc_screen.specs.Cells.{blank, blank_row, cleared, inserted, put_all}
+use Rattle.esc_screen.specs.Changes.{fed}
 use Rattle.esc_screen.specs.Cursors.{at, home, landed}
-use Rattle.esc_screen.specs.Grids.{Grid, Size, first_grid, in_row, moved, rows_up, settled, with_cursor}
+use Rattle.esc_screen.specs.Grids.{Grid, Size, first_grid, in_row, line_fed, moved, rows_up, settled, with_cursor}
 use Rattle.esc_screen.specs.Lists.{in_part, moved_up}
 use Rattle.esc_screen.specs.Logs.{KeepsLog, log_of}
 use Rattle.esc_screen.specs.Paints.{AllFit, plain, row_of}
-use Rattle.esc_screen.specs.Printing.{narrow_printed, narrow_put, opened, passed}
+use Rattle.esc_screen.specs.Printing.{joined, narrow_printed, narrow_put, opened, passed}
 use Rattle.esc_screen.specs.Scrolled.{gone_fed, gone_up, off_from}
 use Rattle.esc_screen.specs.Steps.{grid_by, grid_from}
 use Rattle.esc_screen.specs.declared.cell.Cell.{Cell}
@@ -45,12 +46,14 @@ next_cursor s c g ready next =
 none_from : (s : Size) (c : ℕ) (cs : List ℕ) (g : Grid) → g.cursor.pending ≡ false
     → g.cursor.column + length (c ∷ cs) ≤ s.columns → off_from s g (map step.Print (c ∷ cs)) ≡ []
 none_from s c [] g ready fits =
-    ap (λ b. (take (if b && g.modes.wraps then gone_fed g else 0) g.rows ++ []) ++ []) ready
+    ap (λ b. (take (if b && g.modes.wraps then gone_fed g else 0)
+    (if b && g.modes.wraps then joined g else g).rows ++ []) ++ []) ready
 none_from s c (d ∷ ds) g ready fits =
     let h = narrow_printed s c g in
     let is = next_cursor s c g ready (omega (arith, fits)) in
     let column : h.cursor.column ≡ g.cursor.column + 1 = ap (λ k. k.column) is in
-    ap (λ b. (take (if b && g.modes.wraps then gone_fed g else 0) g.rows ++ [])
+    ap (λ b. (take (if b && g.modes.wraps then gone_fed g else 0)
+    (if b && g.modes.wraps then joined g else g).rows ++ [])
     ++ off_from s h (map step.Print (d ∷ ds))) ready
     ∙ none_from s d ds h (ap (λ k. k.pending) is ∙ ready) (omega (arith, fits, column))
 
@@ -127,6 +130,26 @@ typed s bs (c ∷ cs) k fits =
 
 -- ---- line feeds
 
+-- from the first column, whether a line feed returns or not
+fed_first : (s : Size) (i : ℕ) (rs : List (List Cell))
+    → grid_by s (at_row s rs i) (step.Edit change.LineFeed) ≡ line_fed s (at_row s rs i)
+fed_first s i rs = by_test s.returns
+  where
+    g : Grid
+    g = at_row s rs i
+
+    as_fed : Bool → Grid
+    as_fed t = if t then rows_up 1 0 s.rows (settled g)
+        else moved (min (i + 1) (s.rows - 1)) 0 g
+
+    either : (t : Bool) → moved (as_fed t).cursor.row 0 (as_fed t) ≡ as_fed t
+    either true = refl
+    either false = refl
+
+    by_test : (b : Bool) → fed s (b || false) g ≡ line_fed s g
+    by_test false = refl
+    by_test true = either (i + 1 == s.rows)
+
 -- where there is a row below
 fed_within : (s : Size) (i : ℕ) (rs : List (List Cell)) → i + 1 < s.rows
     → (gone_fed (at_row s rs i) ≡ 0)
@@ -136,7 +159,7 @@ fed_within s i rs less =
     let test : (i + 1 == s.rows) ≡ false = grind (arith, nat_tests, less) in
     let to : min (i + 1) (s.rows - 1) ≡ i + 1 = omega (arith, less) in (
       ap (λ b. if b then gone_up 1 g else 0) test,
-      ap (λ b. if b then rows_up 1 0 s.rows (settled g)
+      fed_first s i rs ∙ ap (λ b. if b then rows_up 1 0 s.rows (settled g)
           else moved (min (i + 1) (s.rows - 1)) 0 g) test
           ∙ ap (λ r. at_row s rs r) to,
     )
@@ -181,7 +204,7 @@ fed_last s i d ds len last fits =
     let many : length (x ∷ xs) ≡ s.rows =
     ap (λ n. suc (length n)) none ∙ ap (λ n. suc n) same ∙ omega (arith, len, last) in (
       ap (λ b. if b then min 1 s.rows else 0) test ∙ one,
-      ap (λ b. if b then rows_up 1 0 s.rows (settled g)
+      fed_first s i (x ∷ xs) ∙ ap (λ b. if b then rows_up 1 0 s.rows (settled g)
           else moved (min (i + 1) (s.rows - 1)) 0 g) test
           ∙ ap (λ rs. at_row s rs i) (up_one s.rows x xs f many
           ∙ ap (λ z. z ++ cleared 0 x ∷ []) none

@@ -7,7 +7,7 @@ use Rattle.std.proofs.lemmas.List.{get_or-set_same, map-append, set-set, take-ap
 use Rattle.esc_screen.specs.Cells.{inserted, put, put_all}
 use Rattle.esc_screen.specs.Cursors.{draws, landed, line_drawing}
 use Rattle.esc_screen.specs.Grids.{Grid, Size, in_row, next_line, settled, with_cursor}
-use Rattle.esc_screen.specs.Printing.{is_direct, narrow_printed, narrow_put, opened, passed, printed, wrapped, wrapped_past}
+use Rattle.esc_screen.specs.Printing.{is_direct, joined, narrow_printed, narrow_put, opened, passed, printed, wrapped, wrapped_past}
 use Rattle.esc_screen.specs.Steps.{grid_by, grid_from}
 use Rattle.esc_screen.specs.declared.cell.Cell.{Cell}
 use Rattle.esc_screen.specs.declared.step.Step.{Step}
@@ -45,7 +45,7 @@ none_pending s g =
       | inr failed ↦ ap (λ b. (if b then wrapped_past s g else g).cursor.pending) failed ∙ failed
     ]
   where
-    either : (b : Bool) → (if b then next_line s g
+    either : (b : Bool) → (if b then next_line s (joined g)
         else settled g).cursor.pending ≡ false
     either true = refl
     either false = refl

@@ -1,12 +1,12 @@
 -- No step makes a grid that a screen cannot have.
-use Rattle.std.proofs.Common.{ℕ, suc, zero, ◌≡◌, ◌+◌, ◌-◌, ◌==◌, ◌<◌, ◌≤◌, min, nat_lt, Bool, true, false, List, [], ◌∷◌, length, map, drop, replicate, get_or, if◌then◌else◌, refl, ◌∙◌, arith}
+use Rattle.std.proofs.Common.{ℕ, suc, zero, ◌≡◌, ◌+◌, ◌-◌, ◌==◌, ◌<◌, ◌≤◌, min, nat_lt, Bool, true, false, ◌||◌, List, [], ◌∷◌, length, map, drop, replicate, get_or, if◌then◌else◌, refl, ◌∙◌, arith}
 use Rattle.std.proofs.lemmas.Bool.Decides.{nat_tests}
 use Rattle.std.proofs.lemmas.List.{length-replicate, length-set}
 use Rattle.esc_screen.specs.Lists.{times}
-use Rattle.esc_screen.specs.Cells.{blank, blank_row, deleted, drawn, erased, filled, inserted, marked, put, put_wide}
+use Rattle.esc_screen.specs.Cells.{blank, blank_row, deleted, drawn, erased, filled, inserted, joined_at, marked, put, put_wide}
 use Rattle.esc_screen.specs.Cursors.{before_stop, landed, shown, stop_after, stop_before}
 use Rattle.esc_screen.specs.Grids.{Grid, Size, blank_rows, first_grid, in_row, line_fed, line_fed_back, moved, next_line, settled, with_cursor, with_margins, with_rows}
-use Rattle.esc_screen.specs.Printing.{before, column_before, has_before, has_room, mark_printed, narrow_printed, opened, passed, printed, printed_wide, repeated_content, wide_printed, wrapped, wrapped_wide}
+use Rattle.esc_screen.specs.Printing.{before, column_before, has_before, has_room, joined, mark_printed, narrow_printed, opened, passed, printed, printed_wide, repeated_content, wide_printed, wrapped, wrapped_wide}
 use Rattle.esc_screen.specs.Motions.{grid_by_motion, positioned, row_by, row_down, row_up, tab_before}
 use Rattle.esc_screen.specs.Changes.{aligned, cells_erased, grid_by_change, is_within}
 use Rattle.esc_screen.specs.Settings.{alternate_cleared, exchanged, grid_by_setting, saving, scrolling, to_alternate, to_main}
@@ -81,9 +81,14 @@ sound_opened s n g h = sound_if s g.modes.inserts _ _
     (sound_in_row s g (inserted g.cursor.erased n g.cursor.column s.columns)
     (length_inserted g.cursor.erased n g.cursor.column s.columns) h) h
 
+sound_joined : (s : Size) (g : Grid) → IsSound s g → IsSound s (joined g)
+sound_joined s g h = sound_in_row s g (joined_at g.cursor.column)
+    (λ ys. length-set ys g.cursor.column _) h
+
 sound_wrapped : (s : Size) (g : Grid) → IsSound s g → IsSound s (wrapped s g)
 sound_wrapped s g h = sound_if s g.cursor.pending _ _
-    (sound_if s g.modes.wraps _ _ (sound_next s g h) (sound_here s g h)) h
+    (sound_if s g.modes.wraps _ _ (sound_next s (joined g) (sound_joined s g h))
+    (sound_here s g h)) h
 
 sound_printed : (s : Size) (c : ℕ) (g : Grid) → IsSound s g → IsSound s (printed s c g)
 sound_printed s c g h = sound_passed s 1 (in_row (put g.cursor.column g.cursor.look c) g)
@@ -106,7 +111,7 @@ sound_wide s c g h = sound_if s (has_room s g) _ _
     (sound_printed_wide s c (opened s 2 (wrapped_wide s g))
     (sound_opened s 2 (wrapped_wide s g)
     (sound_if s (nat_lt (g.cursor.column + 1) s.columns) _ _ (sound_wrapped s g h)
-    (sound_next s g h)))) h
+    (sound_next s (joined g) (sound_joined s g h))))) h
 
 sound_mark : (s : Size) (c : ℕ) (g : Grid) → IsSound s g → IsSound s (mark_printed c g)
 sound_mark s c g h = sound_if s (has_before g) _ _
@@ -223,6 +228,8 @@ sound_change : (s : Size) (g : Grid) (x : Change) → IsSound s g
 sound_change s g change.Index h = sound_fed s g h
 sound_change s g change.ReverseIndex h = sound_back s g h
 sound_change s g change.LineFeed h =
+    sound_if s (s.returns || g.modes.new_line) _ _ (sound_next s g h) (sound_fed s g h)
+sound_change s g change.FormFeed h =
     sound_if s g.modes.new_line _ _ (sound_next s g h) (sound_fed s g h)
 sound_change s g change.NextLine h = sound_next s g h
 sound_change s g change.EraseRight h = sound_cells s g g.cursor.column s.columns h

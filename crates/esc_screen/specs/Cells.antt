@@ -33,6 +33,7 @@ abbrev pub cell : Content → ℕ → Cell
 cell c l = record {
   content = c;
   look = l;
+  joined = false;
 }
 
 -- a blank one that looks so
@@ -59,7 +60,19 @@ marked_content c x = x
 abbrev pub marked_cell : ℕ → Cell → Cell
 marked_cell c x = record x { content = marked_content c x.content }
 
+-- the last one of a row that goes on in the next one
+abbrev pub joined_cell : Cell → Cell
+joined_cell x = record x { joined = true }
+
 -- ---- rows
+
+-- whether a row goes on in the next one, as its last cell says
+abbrev pub is_joined : List Cell → Bool
+is_joined xs = (get_or xs (length xs - 1) (blank 0)).joined
+
+-- it does, where a column is its last
+abbrev pub joined_at : ℕ → List Cell → List Cell
+joined_at n xs = set xs n (joined_cell (get_or xs n (blank 0)))
 
 -- a row of so many blank cells
 abbrev pub blank_row : ℕ → ℕ → List Cell

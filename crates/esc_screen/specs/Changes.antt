@@ -1,5 +1,5 @@
 -- What changes cells, other than printing.
-use Rattle.std.specs.Prelude.{ℕ, ◌+◌, nat_lt, Bool, true, false, if◌then◌else◌, map}
+use Rattle.std.specs.Prelude.{ℕ, ◌+◌, nat_lt, Bool, true, false, ◌||◌, if◌then◌else◌, map}
 use Rattle.esc_screen.specs.Cells.{deleted, drawn, erased, filled, inserted, shifted}
 use Rattle.esc_screen.specs.Grids.{Grid, Size, in_row, in_rows, line_fed, line_fed_back, moved, next_line, rows_down, rows_erased, rows_up, settled, with_margins, with_rows}
 use Rattle.esc_screen.specs.declared.change.Change.{Change}
@@ -43,10 +43,15 @@ columns_here s more n g = if is_within g then columns_moved s more n g.cursor.co
 abbrev pub aligned : Size → Grid → Grid
 aligned s g = moved 0 0 (with_margins 0 s.rows (with_rows (map (filled (drawn 0 0x45)) g.rows) g))
 
+-- to the next row, and to its first column where a line feed returns
+abbrev pub fed : Size → Bool → Grid → Grid
+fed s returns g = if returns then next_line s g else line_fed s g
+
 abbrev pub grid_by_change : Size → Grid → Change → Grid
 grid_by_change s g change.Index = line_fed s g
 grid_by_change s g change.ReverseIndex = line_fed_back g
-grid_by_change s g change.LineFeed = if g.modes.new_line then next_line s g else line_fed s g
+grid_by_change s g change.LineFeed = fed s (s.returns || g.modes.new_line) g
+grid_by_change s g change.FormFeed = fed s g.modes.new_line g
 grid_by_change s g change.NextLine = next_line s g
 grid_by_change s g change.EraseRight = cells_erased g.cursor.column s.columns g
 grid_by_change s g change.EraseLeft = cells_erased 0 (g.cursor.column + 1) g

@@ -7,10 +7,12 @@ use Rattle.esc_screen.specs.declared.cell.Cell.{Cell}
 use Rattle.esc_screen.specs.declared.cursor.Cursor.{Cursor}
 use Rattle.esc_screen.specs.declared.modes.Modes.{Modes}
 
--- how many rows there are, and how many columns
+-- what no step changes: how many rows there are, how many columns, and whether a line feed returns
+-- to the first column, whatever the modes are
 pub record Size : Type 0 where
   pub rows : ℕ
   pub columns : ℕ
+  pub returns : Bool
 
 -- the rows, each of so many cells, and those of the screen that is not seen; whether that which is
 -- seen is the alternate one; the cursor, and the ones that are remembered for the two screens; the

@@ -1,7 +1,7 @@
 -- Characters that are printed.
 use Rattle.std.specs.Prelude.{ℕ, ◌+◌, ◌-◌, nat_lt, min, Bool, ◌&&◌, ◌||◌, not, if◌then◌else◌}
 use Rattle.esc_screen.specs.Lists.{times}
-use Rattle.esc_screen.specs.Cells.{content_at, inserted, marked, put, put_wide}
+use Rattle.esc_screen.specs.Cells.{content_at, inserted, joined_at, marked, put, put_wide}
 use Rattle.esc_screen.specs.Cursors.{draws, landed, shown}
 use Rattle.esc_screen.specs.Grids.{Grid, Size, in_row, next_line, row_of_cursor, settled, with_cursor}
 use Rattle.esc_screen.specs.declared.content.Content.{Content}
@@ -11,9 +11,13 @@ use Rattle.esc_screen.specs.declared.content.Content.TheVariants as content
 abbrev pub passed : Size → ℕ → Grid → Grid
 passed s n g = with_cursor (landed s.columns g.modes.wraps (g.cursor.column + n) g.cursor) g
 
+-- the row of the cursor, which is in its last column, goes on in the next one
+abbrev pub joined : Grid → Grid
+joined g = in_row (joined_at g.cursor.column) g
+
 -- to the next row, where lines wrap
 abbrev pub wrapped_past : Size → Grid → Grid
-wrapped_past s g = if g.modes.wraps then next_line s g else settled g
+wrapped_past s g = if g.modes.wraps then next_line s (joined g) else settled g
 
 -- where a character of one column comes: the wrap that is pending is done
 abbrev pub wrapped : Size → Grid → Grid
@@ -21,7 +25,8 @@ wrapped s g = if g.cursor.pending then wrapped_past s g else g
 
 -- where one of two columns comes
 abbrev pub wrapped_wide : Size → Grid → Grid
-wrapped_wide s g = if nat_lt (g.cursor.column + 1) s.columns then wrapped s g else next_line s g
+wrapped_wide s g = if nat_lt (g.cursor.column + 1) s.columns then wrapped s g
+    else next_line s (joined g)
 
 -- in the mode IRM, room for a character of so many columns
 abbrev pub opened : Size → ℕ → Grid → Grid

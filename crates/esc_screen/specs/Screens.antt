@@ -23,6 +23,7 @@ abbrev pub size_of : {A : Type 0} → Screen A → Size
 size_of p = record {
   rows = p.max_rows;
   columns = p.max_columns;
+  returns = p.returns;
 }
 
 -- the same screen with this grid

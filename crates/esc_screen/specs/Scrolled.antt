@@ -2,13 +2,14 @@
 use Rattle.std.specs.Prelude.{ℕ, ◌+◌, ◌≡◌, ◌==◌, min, nat_lt, Bool, true, ◌&&◌, not, if◌then◌else◌, List, [], ◌∷◌, ◌++◌, take, drop, map, replicate}
 use Rattle.esc_screen.specs.Cells.{cleared}
 use Rattle.esc_screen.specs.Grids.{Grid, Size, rows_up}
-use Rattle.esc_screen.specs.Printing.{before, has_room}
+use Rattle.esc_screen.specs.Printing.{before, has_room, joined}
 use Rattle.esc_screen.specs.Steps.{grid_by, grid_from}
 use Rattle.esc_screen.specs.declared.cell.Cell.{Cell}
 use Rattle.esc_screen.specs.declared.change.Change.{Change}
 use Rattle.esc_screen.specs.declared.change.Change.TheVariants as change
 use Rattle.esc_screen.specs.declared.content.Content.{Content}
 use Rattle.esc_screen.specs.declared.content.Content.TheVariants as content
+use Rattle.esc_screen.specs.declared.motion.Motion.TheVariants as motion
 use Rattle.esc_screen.specs.declared.step.Step.{Step}
 use Rattle.esc_screen.specs.declared.step.Step.TheVariants as step
 
@@ -40,6 +41,7 @@ gone_wide s g = if has_room s g
 abbrev pub gone_by_change : Grid → Change → ℕ
 gone_by_change g change.Index = gone_fed g
 gone_by_change g change.LineFeed = gone_fed g
+gone_by_change g change.FormFeed = gone_fed g
 gone_by_change g change.NextLine = gone_fed g
 gone_by_change g (change.ScrollUp n) = gone_up n g
 gone_by_change g _ = 0
@@ -52,6 +54,21 @@ gone_by s g (step.Edit e) = gone_by_change g e
 gone_by s g _ = 0
 
 -- ---- which rows
+
+-- the row of the cursor, where a wrap that is pending is done, goes on in the next one
+abbrev pub joined_narrow : Grid → Grid
+joined_narrow g = if g.cursor.pending && g.modes.wraps then joined g else g
+
+abbrev pub joined_wide : Size → Grid → Grid
+joined_wide s g = if has_room s g
+    then if nat_lt (g.cursor.column + 1) s.columns then joined_narrow g else joined g
+    else g
+
+-- the grid that a step takes rows off: that before it, where it says that a row goes on
+abbrev pub joined_by : Size → Grid → Step → Grid
+joined_by s g (step.Print c) = joined_narrow g
+joined_by s g (step.PrintWide c) = joined_wide s g
+joined_by s g _ = g
 
 -- what REP prints, by what stands before the cursor
 abbrev pub printing : Content → Step
@@ -67,7 +84,8 @@ parts_of s g x = x ∷ []
 -- by steps none of which is REP: each sees its rows go before all else
 abbrev pub off_each : Size → Grid → List Step → List (List Cell)
 off_each s g [] = []
-off_each s g (x ∷ xs) = take (gone_by s g x) g.rows ++ off_each s (grid_by s g x) xs
+off_each s g (x ∷ xs) =
+    take (gone_by s g x) (joined_by s g x).rows ++ off_each s (grid_by s g x) xs
 
 -- by a step
 abbrev pub off_by : Size → Grid → Step → List (List Cell)
@@ -92,6 +110,18 @@ LosesNothing = (n : ℕ) (g : Grid) → is_open g ≡ true
 abbrev pub GoesOffInPieces : Type 0
 GoesOffInPieces = (s : Size) (g : Grid) (xs ys : List Step)
     → off_from s g (xs ++ ys) ≡ off_from s g xs ++ off_from s (grid_from s g xs) ys
+
+-- where a line feed returns, it does what CR and LF do
+abbrev pub ReturnsAlone : Type 0
+ReturnsAlone = (s : Size) (g : Grid) → s.returns ≡ true
+    → (grid_from s g (step.Move motion.RowStart ∷ step.Edit change.LineFeed ∷ [])
+    ≡ grid_by s g (step.Edit change.LineFeed))
+    × (off_from s g (step.Move motion.RowStart ∷ step.Edit change.LineFeed ∷ [])
+    ≡ off_from s g (step.Edit change.LineFeed ∷ []))
+
+-- a row is said to go on once
+abbrev pub JoinsOnce : Type 0
+JoinsOnce = (s : Size) (g : Grid) (x : Step) → grid_by s (joined_by s g x) x ≡ grid_by s g x
 
 -- REP does what the steps do that it is taken apart into
 abbrev pub IsInParts : Type 0

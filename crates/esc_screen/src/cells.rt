@@ -1,6 +1,6 @@
 //! The cells of a row.
 ghost use Rattle.std.specs.Prelude.{◌≡◌, ◌+◌, ◌<◌, ◌≤◌, ◌^◌, drop, length, map, true};
-ghost use Rattle.esc_screen.specs.Cells.{cleared, content_at, cut, deleted, drawn, emptied, erased, filled, inserted, is_free, mark_at, marked, put, put_all, put_wide, start_of};
+ghost use Rattle.esc_screen.specs.Cells.{cleared, content_at, cut, deleted, drawn, emptied, erased, filled, inserted, is_free, joined_at, mark_at, marked, put, put_all, put_wide, start_of};
 ghost use Rattle.esc_screen.specs.Lists.{in_part, moved_down, moved_up};
 
 use crate::cell::Cell;
@@ -108,16 +108,19 @@ pub(crate) fn put_both(cells: &mut [Cell], at: usize, c: char, look: u16)
     cut_at(cells, at);
     cut_at(cells, at + 2);
     if at < cells.len() {
-        cells[at] = Cell {
-            content: Content::Wide(c, Marks::none()),
-            look,
-        };
+        cells[at] = Cell::new(Content::Wide(c, Marks::none()), look);
     }
     if at + 1 < cells.len() {
-        cells[at + 1] = Cell {
-            content: Content::Rest,
-            look,
-        };
+        cells[at + 1] = Cell::new(Content::Rest, look);
+    }
+}
+
+/// Says that the row goes on in the next one, where a column is its last.
+pub(crate) fn join(cells: &mut [Cell], at: usize)
+    ensures { cells.new ≡ joined_at at cells.old }
+{
+    if at < cells.len() {
+        cells[at] = cells[at].join();
     }
 }
 

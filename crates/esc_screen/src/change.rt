@@ -9,8 +9,10 @@ pub enum Change {
     /// A row up; at the top margin the rows within the margins move down: RI.
     ReverseIndex,
     /// As [`Change::Index`], and to the first column where [`Mode::NewLine`](crate::Mode::NewLine)
-    /// is set: LF, VT, FF.
+    /// is set or the screen [returns](crate::Screen::returning): LF.
     LineFeed,
+    /// As [`Change::Index`], and to the first column where the mode is set: VT, FF.
+    FormFeed,
     /// As [`Change::Index`], and to the first column: NEL.
     NextLine,
     /// The cell at the cursor and all after it in the row become blank: EL 0.

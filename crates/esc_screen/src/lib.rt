@@ -33,7 +33,7 @@ mod shift;
 pub mod step;
 mod tabs;
 
-pub use cell::Cell;
+pub use cell::{Cell, is_joined};
 pub use change::Change;
 pub use content::Content;
 pub use cursor::Cursor;

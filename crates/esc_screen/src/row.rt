@@ -1,6 +1,6 @@
 //! A row of cells.
 ghost use Rattle.std.specs.Prelude.{◌≡◌, ◌+◌, ◌<◌, ◌^◌, IfOk, length};
-ghost use Rattle.esc_screen.specs.Cells.{blank_row, content_at, deleted, erased, filled, inserted, marked, put, put_all, put_wide, shifted};
+ghost use Rattle.esc_screen.specs.Cells.{blank_row, content_at, deleted, erased, filled, inserted, joined_at, marked, put, put_all, put_wide, shifted};
 
 use crate::cell::Cell;
 use crate::cells;
@@ -65,6 +65,13 @@ impl<A: Allocator> Row<A> {
         ensures { self.new ≡ put_wide at look c self.old }
     {
         cells::put_both(&mut self.cells, at, c, look);
+    }
+
+    /// Says that it goes on in the next one, where a column is its last.
+    pub fn join(&mut self, at: usize)
+        ensures { self.new ≡ joined_at at self.old }
+    {
+        cells::join(&mut self.cells, at);
     }
 
     /// Puts a mark on the character of which a column is part.

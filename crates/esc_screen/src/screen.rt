@@ -1,5 +1,5 @@
 //! The screen.
-ghost use Rattle.std.specs.Prelude.{◌≡◌, [], IfOk, get_or};
+ghost use Rattle.std.specs.Prelude.{◌≡◌, [], IfOk, false, get_or, true};
 ghost use Rattle.esc_screen.specs.Screens.{Becomes, Takes, grid_of, size_of};
 ghost use Rattle.esc_screen.specs.Grids.{first_grid, line_fed, line_fed_back, moved, next_line, rows_down, rows_erased, rows_up, settled};
 ghost use Rattle.esc_screen.specs.Steps.{grid_from};
@@ -34,6 +34,7 @@ pub struct Screen<A: Allocator = Global> {
     tabs: Vec<bool, A>,
     max_rows: u16,
     max_columns: u16,
+    returns: bool,
 }
 
 impl<A: Allocator + Copy> Screen<A> {
@@ -45,6 +46,7 @@ impl<A: Allocator + Copy> Screen<A> {
         ensures grid { IfOk result (λ p. grid_of p ≡ first_grid (size_of p)) }
         ensures rows { IfOk result (λ p. p.max_rows ≡ max_rows) }
         ensures columns { IfOk result (λ p. p.max_columns ≡ max_columns) }
+        ensures returns { IfOk result (λ p. p.returns ≡ false) }
     {
         let mut rows = Vec::new(alloc);
         let mut other = Vec::new(alloc);
@@ -66,11 +68,22 @@ impl<A: Allocator + Copy> Screen<A> {
             tabs,
             max_rows,
             max_columns,
+            returns: false,
         })
     }
 }
 
 impl<A: Allocator> Screen<A> {
+    /// The same, where LF returns to the first column too, whatever the modes are: as for a log,
+    /// in which no terminal's driver put a CR before LF.
+    pub fn returning(mut self) -> Screen<A>
+        ensures grid { grid_of result ≡ grid_of self }
+        ensures size { size_of result ≡ record (size_of self) { returns = true } }
+    {
+        self.returns = true;
+        self
+    }
+
     /// How many rows it has.
     pub fn height(&self) -> u16
         ensures { result ≡ self.now.max_rows }

@@ -18,7 +18,7 @@ use Rattle.esc_typed.specs.declared.tabulation_clear.TabulationClear.{Tabulation
 use Rattle.esc_typed.specs.declared.tabulation_clear.TabulationClear.TheVariants as clear
 use Rattle.esc_looks.specs.declared.look.Look.{Look}
 use Rattle.esc_screen.specs.Grids.{Grid, Size}
-use Rattle.esc_screen.specs.Scrolled.{gone_by, off_by, off_each, off_from}
+use Rattle.esc_screen.specs.Scrolled.{gone_by, joined_by, off_by, off_each, off_from}
 use Rattle.esc_screen.specs.Steps.{grid_by, grid_from}
 use Rattle.esc_screen.specs.declared.cell.Cell.{Cell}
 use Rattle.esc_screen.specs.declared.cursor.Cursor.{Cursor as Place}
@@ -170,23 +170,25 @@ row_more {R} takes ls rs i p j q less so next =
 
 off_push : (s : Size) (g : Grid) (xs : List Step) (x : Step)
     → off_each s g (xs ++ x ∷ [])
-    ≡ off_each s g xs ++ take (gone_by s (grid_from s g xs) x) (grid_from s g xs).rows
+    ≡ off_each s g xs ++ take (gone_by s (grid_from s g xs) x)
+    (joined_by s (grid_from s g xs) x).rows
 off_push s g [] x = append-nil _
 off_push s g (y ∷ ys) x =
     let h = grid_by s g y in
-    let off = take (gone_by s g y) g.rows in
+    let off = take (gone_by s g y) (joined_by s g y).rows in
     ap (λ z. off ++ z) (off_push s h ys x)
     ∙ sym (append_assoc off (off_each s h ys)
-    (take (gone_by s (grid_from s h ys) x) (grid_from s h ys).rows))
+    (take (gone_by s (grid_from s h ys) x) (joined_by s (grid_from s h ys) x).rows))
 
 -- what one step more scrolls off
 pub part_more : (s : Size) (g : Grid) (x : Step) (n : ℕ) (ls : List Look)
     → let h = grid_from s g (replicate n x) in
-    with_looks ls (off_each s g (replicate n x)) ++ with_looks ls (take (gone_by s h x) h.rows)
+    with_looks ls (off_each s g (replicate n x))
+    ++ with_looks ls (take (gone_by s h x) (joined_by s h x).rows)
     ≡ with_looks ls (off_each s g (replicate (n + 1) x))
 part_more s g x n ls =
     let h = grid_from s g (replicate n x) in
-    let rest = take (gone_by s h x) h.rows in
+    let rest = take (gone_by s h x) (joined_by s h x).rows in
     sym (map-append (λ r. (r, ls)) (off_each s g (replicate n x)) rest)
     ∙ ap (with_looks ls) (sym (off_push s g (replicate n x) x)
     ∙ ap (off_each s g) (replicate_more n x))

@@ -5,7 +5,7 @@ use Rattle.esc_screen.specs.Cells.{cleared}
 use Rattle.esc_screen.specs.Cursors.{shown}
 use Rattle.esc_screen.specs.Grids.{Grid, Size, line_fed, moved}
 use Rattle.esc_screen.specs.Lists.{in_part, moved_up}
-use Rattle.esc_screen.specs.Printing.{narrow_printed, opened, printed, wrapped}
+use Rattle.esc_screen.specs.Printing.{joined, narrow_printed, opened, printed, wrapped}
 
 -- ---- lengths
 
@@ -75,11 +75,17 @@ kept_fed s g = kept_if (g.cursor.row + 1 == g.bottom) g _ _
       rest = refl;
     })
 
+kept_joined : (g : Grid) → IsKept g (joined g)
+kept_joined g = record {
+  count = length-set g.rows g.cursor.row _;
+  rest = refl;
+}
+
 kept_wrapped : (s : Size) (g : Grid) → IsKept g (wrapped s g)
-kept_wrapped s g = kept_if g.cursor.pending g _ _
+kept_wrapped s g = let f = line_fed s (joined g) in kept_if g.cursor.pending g _ _
     (kept_if g.modes.wraps g _ _
-    (kept_then g (line_fed s g) _ (kept_fed s g) (kept_moved (line_fed s g).cursor.row 0
-    (line_fed s g)))
+    (kept_then g (joined g) _ (kept_joined g)
+    (kept_then (joined g) f _ (kept_fed s (joined g)) (kept_moved f.cursor.row 0 f)))
     (kept_moved g.cursor.row g.cursor.column g))
     (kept_same g)
 

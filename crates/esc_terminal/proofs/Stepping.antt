@@ -10,12 +10,14 @@ use Rattle.esc_actions.specs.Meaning.{yield_within}
 use Rattle.esc_actions.specs.Values.{Value, value_of, print, string, control, esc, csi, osc, kitty, sixel, termcap, short, enter, datum, exit}
 use Rattle.esc_actions.specs.declared.action.Action.{Action}
 use Rattle.esc_typed.specs.Functions.{Value as Function}
-use Rattle.esc_screen.specs.Grids.{Size}
+use Rattle.esc_looks.specs.declared.look.Look.{Look}
+use Rattle.esc_screen.specs.Grids.{Grid, Size}
 use Rattle.esc_screen.specs.Screens.{Becomes, grid_of, size_of}
-use Rattle.esc_screen.specs.Scrolled.{gone_by, off_by, off_each, off_from, parts_of}
+use Rattle.esc_screen.specs.Scrolled.{gone_by, joined_by, off_by, off_each, off_from, parts_of}
 use Rattle.esc_screen.specs.Steps.{grid_by, grid_from}
 use Rattle.esc_screen.specs.declared.screen.Screen.{Screen}
 use Rattle.esc_screen.specs.declared.step.Step.{Step}
+use Rattle.esc_screen.proofs.Joined.{gone_joined, joins_once}
 use Rattle.esc_screen.proofs.Runs.{in_pieces}
 use Rattle.esc_screen.proofs.Scrolling.{in_parts}
 use Rattle.esc_terminal.specs.Fed.{Does, Shows, Takes, TakesAll, TakesValue, looks_in, requests_in, shown_in}
@@ -55,41 +57,57 @@ stepped_none takes p x = record {
   rows = refl;
 }
 
+-- the screen of a row that goes on in the next one
+abbrev with_screen : {R A : Type 0} → Keeping R A → Screen A → Keeping R A
+with_screen p u = record p { state = record (p.state) { screen = u } }
+
+-- what is handed out of it
+joined_rows : {R A : Type 0} (takes : R → Row → R → Type 0) (j k : Keeping R A) (x : Step)
+    (u : Screen A) (s : Size) (h : Grid) (ls : List Look) → size_of u ≡ s
+    → grid_of u ≡ joined_by s h x → looks_in j.state ≡ ls
+    → HandsOut takes (with_screen j u) (take (gone_by (size_of u) (grid_of u) x) u.rows.items) k
+    → FoldsTo takes j.rows (with_looks ls (take (gone_by s h x) (joined_by s h x).rows)) k.rows
+joined_rows takes j k x u s h ls size grid looks out =
+    subst (λ n. FoldsTo takes j.rows (with_looks ls (take n (joined_by s h x).rows)) k.rows)
+    (gone_joined s h x)
+    (subst (λ z. FoldsTo takes j.rows (with_looks ls (take (gone_by s z x) z.rows)) k.rows) grid
+    (subst (λ z. FoldsTo takes j.rows (with_looks ls (take (gone_by z (grid_of u) x)
+    (grid_of u).rows)) k.rows) size
+    (subst (λ z. FoldsTo takes j.rows (with_looks z (take (gone_by (size_of u) (grid_of u) x)
+    (grid_of u).rows)) k.rows) looks out.1)))
+
 pub stepped_more : {R A : Type 0} (takes : R → Row → R → Type 0) (p j k : Keeping R A) (x : Step)
-    (n : ℕ) (t : Screen A) → Stepped takes p x n j
-    → HandsOut takes j (take (gone_by (size_of j.state.screen) (grid_of j.state.screen) x)
-    j.state.screen.rows.items) k
+    (n : ℕ) (u t : Screen A) → Stepped takes p x n j
+    → Becomes j.state.screen (joined_by (size_of j.state.screen) (grid_of j.state.screen) x) u
+    → HandsOut takes (with_screen j u) (take (gone_by (size_of u) (grid_of u) x) u.rows.items) k
     → Becomes k.state.screen (grid_by (size_of k.state.screen) (grid_of k.state.screen) x) t
-    → Stepped takes p x (n + 1) (record k { state = record (k.state) { screen = t } })
-stepped_more takes p j k x n t so out b =
+    → Stepped takes p x (n + 1) (with_screen k t)
+stepped_more takes p j k x n u t so on out b =
     let s = size_of p.state.screen in
     let g = grid_of p.state.screen in
     let ls = looks_in p.state in
     let h = grid_from s g (replicate n x) in
     let same = out.0 in
+    let size = on.size ∙ so.screen.size in
+    let grid = on.grid ∙ ap (λ z. joined_by z (grid_of j.state.screen) x) so.screen.size
+    ∙ ap (λ z. joined_by s z x) so.screen.grid in
     let more : grid_by s h x ≡ grid_from s g (replicate (n + 1) x) =
     sym (in_pieces s g (replicate n x) (x ∷ [])) ∙ ap (grid_from s g) (replicate_more n x) in
-    let rows = subst
-    (λ z. FoldsTo takes j.rows (with_looks z (take (gone_by (size_of j.state.screen)
-    (grid_of j.state.screen) x) (grid_of j.state.screen).rows)) k.rows) so.looks out.1 in
-    let sized = subst (λ z. FoldsTo takes j.rows (with_looks ls (take (gone_by z
-    (grid_of j.state.screen) x) (grid_of j.state.screen).rows)) k.rows) so.screen.size rows in
-    let last = subst (λ z. FoldsTo takes j.rows (with_looks ls (take (gone_by s z x) z.rows))
-    k.rows) so.screen.grid sized in
+    let last = joined_rows takes j k x u s h ls size grid so.looks out in
     record {
       screen = record {
         grid = b.grid
             ∙ ap (λ z. grid_by (size_of z.screen) (grid_of z.screen) x) same
-            ∙ ap (λ z. grid_by z (grid_of j.state.screen) x) so.screen.size
-            ∙ ap (λ z. grid_by s z x) so.screen.grid ∙ more;
-        size = b.size ∙ ap (λ z. size_of z.screen) same ∙ so.screen.size;
+            ∙ ap (λ z. grid_by z (grid_of u) x) size
+            ∙ ap (λ z. grid_by s z x) grid ∙ joins_once s h x ∙ more;
+        size = b.size ∙ ap (λ z. size_of z.screen) same ∙ size;
       };
       looks = ap looks_in same ∙ so.looks;
       title = ap (λ z. z.title) same ∙ so.title;
       requests = ap requests_in same ∙ so.requests;
       rows = subst (λ z. FoldsTo takes p.rows z k.rows) (part_more s g x n ls)
           (FoldsTo-append takes p.rows (with_looks ls (off_each s g (replicate n x))) j.rows
-          (with_looks ls (take (gone_by s h x) h.rows)) k.rows so.rows last);
+          (with_looks ls (take (gone_by s h x) (joined_by s h x).rows)) k.rows so.rows last);
     }
 
 pub stepped_all : {R A : Type 0} (takes : R → Row → R → Type 0) (p q : Keeping R A) (x y : Step)

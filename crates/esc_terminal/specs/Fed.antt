@@ -1,5 +1,5 @@
 -- What a terminal was fed.
-use Rattle.std.specs.Prelude.{ℕ, ◌≡◌, List, [], ◌++◌, IsSomeAnd, None, Option, Some}
+use Rattle.std.specs.Prelude.{ℕ, ◌≡◌, false, true, List, [], ◌++◌, IsSomeAnd, None, Option, Some}
 use Rattle.esc_actions.specs.Meaning.{yield_within}
 use Rattle.esc_actions.specs.Values.{Value, value_of}
 use Rattle.esc_actions.specs.declared.action.Action.{Action}
@@ -77,7 +77,12 @@ abbrev pub sized : ℕ → ℕ → Size
 sized columns rows = record {
   rows = rows;
   columns = columns;
+  returns = false;
 }
+
+-- and LF returns to the first column
+abbrev pub for_log : ℕ → ℕ → Size
+for_log columns rows = record (sized columns rows) { returns = true }
 
 -- an earlier call was refused memory
 abbrev pub IsBroken : {A : Type 0} → Terminal A → Type 0

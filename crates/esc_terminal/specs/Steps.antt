@@ -64,8 +64,8 @@ abbrev pub control_step : ControlCode → Step
 control_step code.Backspace = Move (motion.Left 1)
 control_step code.HorizontalTab = Move (motion.Tab 1)
 control_step code.LineFeed = Edited change.LineFeed
-control_step code.VerticalTab = Edited change.LineFeed
-control_step code.FormFeed = Edited change.LineFeed
+control_step code.VerticalTab = Edited change.FormFeed
+control_step code.FormFeed = Edited change.FormFeed
 control_step code.CarriageReturn = Move motion.RowStart
 control_step code.ShiftOut = Set (setting.Shift true)
 control_step code.ShiftIn = Set (setting.Shift false)

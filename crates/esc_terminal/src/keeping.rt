@@ -47,6 +47,7 @@ impl<R: Rows, A: Allocator + Copy> Keeping<R, A> {
     {
         let (part, count) = self.state.screen.parts(step);
         for _ in 0..count {
+            self.state.screen.join_for(part);
             self.hand_out(part)?;
             self.state.screen.take(part);
         }

@@ -1,5 +1,5 @@
 //! What a terminal holds, value by value.
-ghost use Rattle.std.specs.Prelude.{◌≡◌, [], ◌∷◌, None, OnErr, OnOk, IfOk, map};
+ghost use Rattle.std.specs.Prelude.{◌≡◌, [], ◌∷◌, None, OnErr, OnOk, IfOk, map, true};
 ghost use Rattle.std.specs.List.{FoldsTo};
 ghost use Rattle.std.specs.Str.{chars};
 ghost use Rattle.esc_actions.specs.declared.action.Action.TheVariants as action;
@@ -65,6 +65,27 @@ impl<A: Allocator + Copy> State<A> {
 }
 
 impl<A: Allocator> State<A> {
+    /// The same, where LF returns to the first column.
+    pub fn returning(self) -> State<A>
+        ensures grid { grid_of result.screen ≡ grid_of self.screen }
+        ensures size { size_of result.screen ≡ record (size_of self.screen) { returns = true } }
+        ensures looks { (looks_in result ≡ looks_in self) × (result.title ≡ self.title) }
+        ensures requests { requests_in result ≡ requests_in self }
+    {
+        let State {
+            screen,
+            looks,
+            title,
+            requests,
+        } = self;
+        State {
+            screen: screen.returning(),
+            looks,
+            title,
+            requests,
+        }
+    }
+
     /// The same, with no requests.
     pub fn cleared(mut self) -> State<A>
         ensures screen { result.screen ≡ self.screen }

@@ -41,9 +41,8 @@ pub fn control_step(code: ControlCode) -> Step
     match code {
         ControlCode::Backspace => Step::Move(Motion::Left(1)),
         ControlCode::HorizontalTab => Step::Move(Motion::Tab(1)),
-        ControlCode::LineFeed | ControlCode::VerticalTab | ControlCode::FormFeed => {
-            Step::Edit(Change::LineFeed)
-        }
+        ControlCode::LineFeed => Step::Edit(Change::LineFeed),
+        ControlCode::VerticalTab | ControlCode::FormFeed => Step::Edit(Change::FormFeed),
         ControlCode::CarriageReturn => Step::Move(Motion::RowStart),
         ControlCode::ShiftOut => Step::Set(Setting::Shift(true)),
         ControlCode::ShiftIn => Step::Set(Setting::Shift(false)),

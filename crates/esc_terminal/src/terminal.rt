@@ -27,7 +27,7 @@ pub struct Terminal<A: Allocator = Global> {
 }
 
 impl<A: Allocator + Copy> Terminal<A> {
-    ghost use Rattle.esc_terminal.specs.Fed.{After, IsBroken, TakesIn, WasFed, requests_now, sized};
+    ghost use Rattle.esc_terminal.specs.Fed.{After, IsBroken, TakesIn, WasFed, for_log, requests_now, sized};
     ghost use Rattle.esc_terminal.specs.Kept.{KeepsIn};
 
     /// A terminal of so many columns and rows at the beginning of a stream: each should be 1 at
@@ -42,6 +42,21 @@ impl<A: Allocator + Copy> Terminal<A> {
         Ok(Terminal {
             parser: Parser::with_limit(alloc, MOST),
             state: Some(state),
+        })
+    }
+
+    /// A terminal of so many columns and rows for a log: LF returns to the first column too,
+    /// whatever the mode LNM is, as where a terminal's driver puts CR before it. VT and FF do not.
+    ///
+    /// The error is that a request for memory was refused.
+    pub fn for_log(alloc: A, columns: u16, rows: u16) -> Result<Terminal<A>, AllocError>
+        ensures fed { IfOk result (λ t. WasFed (for_log columns rows) [] t) }
+        ensures asked { IfOk result (λ t. requests_now t ≡ []) }
+    {
+        let state = State::new(alloc, columns, rows)?;
+        Ok(Terminal {
+            parser: Parser::with_limit(alloc, MOST),
+            state: Some(state.returning()),
         })
     }
 

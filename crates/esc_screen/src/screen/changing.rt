@@ -1,7 +1,7 @@
 //! Changes of cells.
 ghost use Rattle.std.specs.Prelude.{◌≡◌};
 ghost use Rattle.esc_screen.specs.Screens.{Becomes, grid_of, size_of};
-ghost use Rattle.esc_screen.specs.Changes.{aligned, cells_deleted, cells_erased, cells_inserted, columns_here, columns_moved, grid_by_change, is_within, rows_deleted, rows_inserted};
+ghost use Rattle.esc_screen.specs.Changes.{aligned, cells_deleted, cells_erased, cells_inserted, columns_here, columns_moved, fed, grid_by_change, is_within, rows_deleted, rows_inserted};
 
 use crate::cell::Cell;
 use crate::change::Change;
@@ -153,6 +153,17 @@ impl<A: Allocator> Screen<A> {
         self.erase_rows(0, row);
     }
 
+    // To the next row, and to its first column where a line feed returns.
+    fn feed(&mut self, returns: bool)
+        ensures { Becomes self.old (fed (size_of self.old) returns (grid_of self.old)) self.new }
+    {
+        if returns {
+            self.to_next_line();
+        } else {
+            self.line_feed();
+        }
+    }
+
     /// Changes cells.
     pub(crate) fn take_change(&mut self, change: Change)
         ensures { Becomes self.old (grid_by_change (size_of self.old) (grid_of self.old) change)
@@ -162,8 +173,8 @@ impl<A: Allocator> Screen<A> {
         match change {
             Change::Index => self.line_feed(),
             Change::ReverseIndex => self.reverse_line_feed(),
-            Change::LineFeed if self.modes.new_line => self.to_next_line(),
-            Change::LineFeed => self.line_feed(),
+            Change::LineFeed => self.feed(self.returns || self.modes.new_line),
+            Change::FormFeed => self.feed(self.modes.new_line),
             Change::NextLine => self.to_next_line(),
             Change::EraseRight => self.erase_cells(column, self.max_columns as usize),
             Change::EraseLeft => self.erase_cells(0, column + 1),

@@ -1,8 +1,8 @@
 //! The rows that a step scrolls off.
 ghost use Rattle.std.specs.Prelude.{◌≡◌, ◌≤◌, length, replicate, take};
-ghost use Rattle.esc_screen.specs.Screens.{grid_of, size_of};
+ghost use Rattle.esc_screen.specs.Screens.{Becomes, grid_of, size_of};
 ghost use Rattle.esc_screen.specs.Printing.{before};
-ghost use Rattle.esc_screen.specs.Scrolled.{gone_by, gone_by_change, gone_fed, gone_up, gone_wide, gone_wrapped, is_open, parts_of, printing};
+ghost use Rattle.esc_screen.specs.Scrolled.{gone_by, gone_by_change, gone_fed, gone_up, gone_wide, gone_wrapped, is_open, joined_by, joined_narrow, joined_wide, parts_of, printing};
 
 use crate::change::Change;
 use crate::content::Content;
@@ -64,7 +64,9 @@ impl<A: Allocator> Screen<A> {
         ensures { result ≡ gone_by_change (grid_of self.now) change }
     {
         match change {
-            Change::Index | Change::LineFeed | Change::NextLine => self.gone_fed(),
+            Change::Index | Change::LineFeed | Change::FormFeed | Change::NextLine => {
+                self.gone_fed()
+            }
             Change::ScrollUp(n) => self.gone_up(n),
             _ => 0,
         }
@@ -92,6 +94,41 @@ impl<A: Allocator> Screen<A> {
     {
         let count = self.gone_by(step) as usize;
         count.min(self.rows.len())
+    }
+
+    fn join_narrow(&mut self)
+        ensures { Becomes self.old (joined_narrow (grid_of self.old)) self.new }
+    {
+        if self.cursor.pending && self.modes.wraps {
+            self.join();
+        }
+    }
+
+    fn join_wide(&mut self)
+        ensures { Becomes self.old (joined_wide (size_of self.old) (grid_of self.old)) self.new }
+    {
+        if !self.has_room() {
+            return;
+        }
+        if (self.cursor.column as usize) + 1 < self.max_columns as usize {
+            self.join_narrow();
+        } else {
+            self.join();
+        }
+    }
+
+    /// Says of the row of the cursor that it goes on in the next one, where a step, other than
+    /// [`Step::Repeat`], is going to wrap: the rows that it scrolls off are those of the screen
+    /// then. The step does the same before all else.
+    pub fn join_for(&mut self, step: Step)
+        ensures { Becomes self.old (joined_by (size_of self.old) (grid_of self.old) step)
+            self.new }
+    {
+        match step {
+            Step::Print(_) => self.join_narrow(),
+            Step::PrintWide(_) => self.join_wide(),
+            _ => {}
+        }
     }
 
     // The step that is printed once more: the character before the cursor.

@@ -3,9 +3,9 @@ ghost use Rattle.std.specs.Prelude.{◌≡◌, ◌+◌, ◌<◌, ◌≤◌, fals
 ghost use Rattle.esc_screen.specs.Screens.{Becomes, grid_of, size_of};
 ghost use Rattle.esc_screen.specs.Cells.{put_all};
 ghost use Rattle.esc_screen.specs.Cursors.{shown};
-ghost use Rattle.esc_screen.specs.Grids.{in_row};
+ghost use Rattle.esc_screen.specs.Grids.{in_row, next_line};
 ghost use Rattle.esc_screen.specs.Lists.{times};
-ghost use Rattle.esc_screen.specs.Printing.{before, column_before, has_before, has_room, is_direct, mark_printed, narrow_printed, narrow_put, opened, passed, printed, printed_wide, repeated, wide_printed, wide_put, wrapped, wrapped_past, wrapped_wide};
+ghost use Rattle.esc_screen.specs.Printing.{before, column_before, has_before, has_room, is_direct, joined, mark_printed, narrow_printed, narrow_put, opened, passed, printed, printed_wide, repeated, wide_printed, wide_put, wrapped, wrapped_past, wrapped_wide};
 ghost use Rattle.esc_screen.specs.Steps.{grid_from};
 ghost use Rattle.esc_screen.specs.declared.step.Step.TheVariants as step;
 
@@ -16,11 +16,29 @@ use crate::screen::Screen;
 use std::alloc::Allocator;
 
 impl<A: Allocator> Screen<A> {
+    // Says that the row of the cursor, which is in its last column, goes on in the next one.
+    pub(crate) fn join(&mut self)
+        ensures { Becomes self.old (joined (grid_of self.old)) self.new }
+    {
+        if let Some(row) = self.rows.get_mut(self.cursor.row as usize) {
+            row.join(self.cursor.column as usize);
+        }
+    }
+
+    // To the next row, by a wrap.
+    fn wrap_on(&mut self)
+        ensures { Becomes self.old (next_line (size_of self.old) (joined (grid_of self.old)))
+            self.new }
+    {
+        self.join();
+        self.to_next_line();
+    }
+
     fn wrap_past(&mut self)
         ensures { Becomes self.old (wrapped_past (size_of self.old) (grid_of self.old)) self.new }
     {
         if self.modes.wraps {
-            self.to_next_line();
+            self.wrap_on();
         } else {
             self.settle();
         }
@@ -40,7 +58,7 @@ impl<A: Allocator> Screen<A> {
         if self.cursor.column as usize + 1 < self.max_columns as usize {
             self.wrap();
         } else {
-            self.to_next_line();
+            self.wrap_on();
         }
     }
 

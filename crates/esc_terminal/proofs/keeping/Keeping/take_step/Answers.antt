@@ -5,8 +5,8 @@ use Rattle.esc_terminal.proofs.keeping.Keeping.take_step.Goals as goal
 pub loop-preserved : goal.loop-preserved
 loop-preserved g c =
     stepped_more g.R.Rows.takes c.args.self.now c.loop.self c.hand_out.new.self
-    c.parts-part.result.0 c.loop.counter c.take.new.self c.loop.invariant
-    c.in_ok-hand_out.ensures.ok c.take.ensures
+    c.parts-part.result.0 c.loop.counter c.join_for.new.self c.take.new.self c.loop.invariant
+    c.join_for.ensures c.in_ok-hand_out.ensures.ok c.take.ensures
 
 pub returns-clause-ok : goal.returns-clause-ok
 returns-clause-ok g c =

@@ -1,0 +1,5 @@
+use Rattle.esc_screen.proofs.Joined.{joins_once}
+use Rattle.esc_screen.proofs.laws.joins_once.Goals as goal
+
+pub returns : goal.returns
+returns c = joins_once
