@@ -11,7 +11,7 @@ use Rattle.esc_looks.specs.declared.look.Look.{Look}
 use Rattle.esc_filter.specs.Pieces.{IsRendition}
 use Rattle.esc_filter.proofs.Digits.{decimal_digits}
 use Rattle.esc_filter.proofs.LineData.{both}
-use Rattle.esc_lines.specs.Sgr.{color_text, colors_text, flag_text, flags_text, look_text, named_number, number_text, rgb_text, underline_color_text, underline_text, weight_text}
+use Rattle.esc_sgr.specs.Sgr.{color_text, colors_text, flag_text, flags_text, look_text, named_number, number_text, rgb_text, underline_color_text, underline_text, weight_text}
 
 abbrev AreDigits : List ℕ → Type 0
 AreDigits t = list_all is_csi_parameter t ≡ true

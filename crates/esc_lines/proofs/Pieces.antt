@@ -25,7 +25,7 @@ use Rattle.esc_filter.specs.Pieces.{IsOfPieces, is_plain}
 use Rattle.esc_filter.proofs.Pieces.{clear_plain, more_pieces, no_pieces, one_piece, plain_piece}
 use Rattle.esc_lines.proofs.LookTexts.{look_rendition}
 use Rattle.esc_lines.specs.Rows.{Line, blanked, blanks_look, blanks_text, cells_text, deleted, drawn, empty_line, glyph_text, inserted, line_begin, line_text, lines_blanked, lines_text, put_at, with_cells}
-use Rattle.esc_lines.specs.Sgr.{change_text, look_text, same_look}
+use Rattle.esc_sgr.specs.Sgr.{change_text, look_text, same_look}
 use Rattle.esc_lines.specs.Steps.{control_step, cursor_step, edit_step, function_step, is_selection, selects, step_of}
 use Rattle.esc_lines.specs.Streams.{final_of, left_of, text_from, window_from}
 use Rattle.esc_lines.specs.Windows.{Size, Window, advanced, first_window, fits, line_of, printed, scrolled, scrolled_text, text_by, window_by, with_row, wrapped, wrapped_text}

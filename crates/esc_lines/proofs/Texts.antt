@@ -1,5 +1,5 @@
 -- Characters that are put into a row one after another.
-use Rattle.std.proofs.Common.{ℕ, zero, suc, ◌≡◌, ◌+◌, ◌-◌, ◌/◌, ◌%◌, ◌<◌, ◌≤◌, Bool, true, false, Result, Ok, Err, OnOk, inl, inr, List, [], ◌∷◌, ◌++◌, length, take, drop, map, Option, None, Some, refl, ap, sym, ◌∙◌, nat_lt, replicate, append_assoc, take-append-drop, arith}
+use Rattle.std.proofs.Common.{ℕ, zero, suc, ◌≡◌, ◌+◌, ◌-◌, ◌<◌, ◌≤◌, Bool, true, false, Result, Ok, Err, OnOk, inl, inr, List, [], ◌∷◌, ◌++◌, length, take, drop, map, Option, None, Some, refl, ap, sym, ◌∙◌, nat_lt, replicate, append_assoc, take-append-drop, arith}
 use Rattle.std.proofs.lemmas.Bool.{and_parts, cases_Bool}
 use Rattle.std.proofs.lemmas.Bool.Decides.{nat_tests}
 use Rattle.std.proofs.lemmas.List.{append-nil, drop-append-le, drop-map, drop-drop, drop_all, length-drop, length-map, length-take-le, map-append}
@@ -9,12 +9,10 @@ use Rattle.std.proofs.lemmas.Str.{encode_ascii}
 use Rattle.std.proofs.lemmas.Str.Ascii.{IsAscii-cons, IsAscii-nil}
 use Rattle.std.specs.List.{list_all}
 use Rattle.std.specs.Str.{IsAscii}
-use Rattle.esc_values.proofs.Digits.{decimal_one, decimal_two, decimal_three}
 use Rattle.esc_frame.specs.Scans.{is_text_byte}
 use Rattle.esc_looks.specs.Looks.{plain_look}
 use Rattle.esc_looks.specs.declared.look.Look.{Look}
 use Rattle.esc_lines.specs.Rows.{cells_text, drawn, line_begin, plain_cell, put_all, put_at}
-use Rattle.esc_lines.specs.Sgr.{number_text}
 use Rattle.esc_lines.specs.declared.glyph.Glyph.{Glyph}
 
 -- ---- a character past others
@@ -213,19 +211,6 @@ row_written b ps bytes xs ys t t1 t2 t3 h is same e1 e2 e3 =
     ∙ append_assoc (t ++ line_begin b) ps rest
     ∙ append_assoc t (line_begin b) (ps ++ rest)
     ∙ ap (λ z. t ++ (line_begin b ++ z)) (sym (plain_text ps xs h))
-
--- ---- numbers
-
-pub number_one : (n : ℕ) → n < 10 → number_text n ≡ 0x3b ∷ (48 + n) ∷ []
-number_one n one = rw (decimal_one n one) refl
-
-pub number_two : (n : ℕ) → 10 ≤ n → n < 100
-    → number_text n ≡ 0x3b ∷ (48 + n / 10) ∷ (48 + n % 10) ∷ []
-number_two n low high = rw (decimal_two n low high) refl
-
-pub number_three : (n : ℕ) → 100 ≤ n → n < 1000
-    → number_text n ≡ 0x3b ∷ (48 + n / 100) ∷ (48 + n / 10 % 10) ∷ (48 + n % 10) ∷ []
-number_three n low high = rw (decimal_three n low high) refl
 
 -- ---- results
 

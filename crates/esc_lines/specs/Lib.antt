@@ -1,4 +1,3 @@
-pub mod Sgr
 pub mod Rows
 pub mod Windows
 pub mod Steps

@@ -4,7 +4,7 @@ use Rattle.std.specs.Char.{encode_utf8}
 use Rattle.std.specs.List.{flat_map}
 use Rattle.esc_looks.specs.Looks.{plain_look}
 use Rattle.esc_looks.specs.declared.look.Look.{Look}
-use Rattle.esc_lines.specs.Sgr.{change_text}
+use Rattle.esc_sgr.specs.Sgr.{change_text}
 use Rattle.esc_lines.specs.declared.glyph.Glyph.{Glyph}
 
 -- a row: whether a line feed comes before it, and its cells from column 0 on, each of which has a

@@ -5,8 +5,8 @@ ghost use Rattle.esc_lines.specs.Rows.{blanked, cells_text, deleted, glyph_text,
 ghost use Rattle.memory.specs.Refusals.{Refused};
 
 use crate::glyph::Glyph;
-use crate::sgr::push_change;
 use esc_looks::Look;
+use esc_sgr::push_change;
 use std::alloc::{AllocError, Allocator};
 
 /// Puts a character at a column, in place of what is there, or after blank cells.

@@ -24,7 +24,6 @@ mod laws;
 mod receiving;
 mod row;
 mod screen;
-mod sgr;
 pub mod step;
 
 pub use collapse::Collapse;

@@ -9,8 +9,8 @@ ghost use Rattle.memory.specs.Refusals.{Refused};
 use crate::ascii::push_ascii;
 use crate::cells;
 use crate::glyph::Glyph;
-use crate::sgr::is_first;
 use esc_looks::Look;
+use esc_sgr::is_first;
 use std::alloc::{AllocError, Allocator, Global};
 use std::marker::Model;
 

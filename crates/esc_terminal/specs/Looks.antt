@@ -1,55 +1,10 @@
 -- The looks of a screen, which its cells have the numbers of.
-use Rattle.std.specs.Prelude.{ℕ, ◌+◌, ◌==◌, nat_lt, Bool, true, false, ◌&&◌, if◌then◌else◌, List, [], ◌∷◌, ◌++◌, length, get_or}
-use Rattle.std.specs.Bool.{beq}
-use Rattle.esc_sequences.specs.declared.underline.Underline.{Underline}
+use Rattle.std.specs.Prelude.{ℕ, ◌+◌, ◌==◌, nat_lt, false, if◌then◌else◌, List, [], ◌∷◌, ◌++◌, length, get_or}
 use Rattle.esc_sequences.specs.declared.underline.Underline.TheVariants as underline
-use Rattle.esc_typed.specs.Numbers.{ansi_color_number}
 use Rattle.esc_looks.specs.Looks.{plain_look}
-use Rattle.esc_looks.specs.declared.color.Color.{Color}
 use Rattle.esc_looks.specs.declared.color.Color.TheVariants as color
 use Rattle.esc_looks.specs.declared.look.Look.{Look}
-
--- ---- whether two looks are the same
-
-abbrev pub underline_code : Underline → ℕ
-underline_code underline.None = 0
-underline_code underline.Single = 1
-underline_code underline.Double = 2
-underline_code underline.Curly = 3
-underline_code underline.Dotted = 4
-underline_code underline.Dashed = 5
-
-abbrev pub same_flags : Look → Look → Bool
-same_flags a b = beq a.bold b.bold && beq a.faint b.faint && beq a.italic b.italic
-    && beq a.blink b.blink && beq a.inverse b.inverse && beq a.concealed b.concealed
-    && beq a.strikethrough b.strikethrough && beq a.overline b.overline
-
-abbrev pub is_default : Color → Bool
-is_default color.Default = true
-is_default _ = false
-
-abbrev pub is_named : ℕ → Color → Bool
-is_named n (color.Named c) = n == ansi_color_number c
-is_named n _ = false
-
-abbrev pub is_entry : ℕ → Color → Bool
-is_entry n (color.Palette m) = n == m
-is_entry n _ = false
-
-abbrev pub is_direct : ℕ × ℕ × ℕ → Color → Bool
-is_direct a (color.Direct c) = a.0 == c.0 && a.1 == c.1 && a.2 == c.2
-is_direct a _ = false
-
-abbrev pub same_color : Color → Color → Bool
-same_color color.Default c = is_default c
-same_color (color.Named a) c = is_named (ansi_color_number a) c
-same_color (color.Palette n) c = is_entry n c
-same_color (color.Direct a) c = is_direct a c
-
-abbrev pub same_look : Look → Look → Bool
-same_look a b = underline_code a.underline == underline_code b.underline && same_flags a b
-    && same_color a.foreground b.foreground && same_color a.background b.background
-    && same_color a.underline_color b.underline_color
+use Rattle.esc_sgr.specs.Sgr.{same_look}
 
 -- ---- their numbers
 
