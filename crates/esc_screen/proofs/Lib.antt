@@ -5,6 +5,8 @@ pub mod Runs
 pub mod Free
 pub mod Sounds
 pub mod StaysSound
+pub mod Halves
+pub mod StaysWhole
 pub mod Painted
 pub mod Scrolling
 pub mod Joined

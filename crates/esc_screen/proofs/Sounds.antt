@@ -17,7 +17,7 @@ if_same : {X : Type 0} (f : X → ℕ) (n : ℕ) (b : Bool) (x y : X) → f x �
 if_same f n true x y e h = e
 if_same f n false x y e h = h
 
-length_cut : (n : ℕ) (xs : List Cell) → length (cut n xs) ≡ length xs
+pub length_cut : (n : ℕ) (xs : List Cell) → length (cut n xs) ≡ length xs
 length_cut n xs = if_same length (length xs) (is_rest (get_or xs n (blank 0)))
     (emptied n (emptied (n - 1) xs)) xs
     (length-set (emptied (n - 1) xs) n _ ∙ length-set xs (n - 1) _) refl
@@ -97,12 +97,12 @@ wide_append : (n : ℕ) (xs ys : List (List Cell)) → AreWide n xs → AreWide 
 wide_append n [] ys h k = k
 wide_append n (x ∷ xs) ys h k = (h.0, wide_append n xs ys h.1 k)
 
-wide_take : (n k : ℕ) (xs : List (List Cell)) → AreWide n xs → AreWide n (take k xs)
+pub wide_take : (n k : ℕ) (xs : List (List Cell)) → AreWide n xs → AreWide n (take k xs)
 wide_take n zero xs h = omega arith
 wide_take n (suc k) [] h = omega arith
 wide_take n (suc k) (x ∷ xs) h = (h.0, wide_take n k xs h.1)
 
-wide_drop : (n k : ℕ) (xs : List (List Cell)) → AreWide n xs → AreWide n (drop k xs)
+pub wide_drop : (n k : ℕ) (xs : List (List Cell)) → AreWide n xs → AreWide n (drop k xs)
 wide_drop n zero xs h = h
 wide_drop n (suc k) [] h = omega arith
 wide_drop n (suc k) (x ∷ xs) h = wide_drop n k xs h.1

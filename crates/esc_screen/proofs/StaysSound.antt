@@ -28,7 +28,7 @@ use Rattle.esc_screen.proofs.Stops.{length_eighths}
 
 -- ---- lines
 
-sound_here : (s : Size) (g : Grid) → IsSound s g
+pub sound_here : (s : Size) (g : Grid) → IsSound s g
     → IsSound s (settled g)
 sound_here s g h = sound_moved s g g.cursor.row g.cursor.column h h.cursor.row h.cursor.column
 
@@ -46,7 +46,7 @@ sound_back s g h =
     (sound_moved s g (g.cursor.row - 1) g.cursor.column h
     (omega (arith, h.cursor.row)) h.cursor.column)
 
-sound_next : (s : Size) (g : Grid) → IsSound s g → IsSound s (next_line s g)
+pub sound_next : (s : Size) (g : Grid) → IsSound s g → IsSound s (next_line s g)
 sound_next s g h =
     let k = sound_fed s g h in
     sound_moved s (line_fed s g) (line_fed s g).cursor.row 0 k k.cursor.row
@@ -76,16 +76,16 @@ sound_passed : (s : Size) (n : ℕ) (g : Grid) → IsSound s g → IsSound s (pa
 sound_passed s n g h = with_on s g (landed s.columns g.modes.wraps (g.cursor.column + n) g.cursor)
     h (on_landed s g.modes.wraps (g.cursor.column + n) g.cursor h.cursor)
 
-sound_opened : (s : Size) (n : ℕ) (g : Grid) → IsSound s g → IsSound s (opened s n g)
+pub sound_opened : (s : Size) (n : ℕ) (g : Grid) → IsSound s g → IsSound s (opened s n g)
 sound_opened s n g h = sound_if s g.modes.inserts _ _
     (sound_in_row s g (inserted g.cursor.erased n g.cursor.column s.columns)
     (length_inserted g.cursor.erased n g.cursor.column s.columns) h) h
 
-sound_joined : (s : Size) (g : Grid) → IsSound s g → IsSound s (joined g)
+pub sound_joined : (s : Size) (g : Grid) → IsSound s g → IsSound s (joined g)
 sound_joined s g h = sound_in_row s g (joined_at g.cursor.column)
     (λ ys. length-set ys g.cursor.column _) h
 
-sound_wrapped : (s : Size) (g : Grid) → IsSound s g → IsSound s (wrapped s g)
+pub sound_wrapped : (s : Size) (g : Grid) → IsSound s g → IsSound s (wrapped s g)
 sound_wrapped s g h = sound_if s g.cursor.pending _ _
     (sound_if s g.modes.wraps _ _ (sound_next s (joined g) (sound_joined s g h))
     (sound_here s g h)) h
@@ -95,7 +95,7 @@ sound_printed s c g h = sound_passed s 1 (in_row (put g.cursor.column g.cursor.l
     (sound_in_row s g (put g.cursor.column g.cursor.look c)
     (length_put g.cursor.column g.cursor.look c) h)
 
-sound_narrow : (s : Size) (c : ℕ) (g : Grid) → IsSound s g → IsSound s (narrow_printed s c g)
+pub sound_narrow : (s : Size) (c : ℕ) (g : Grid) → IsSound s g → IsSound s (narrow_printed s c g)
 sound_narrow s c g h =
     let w = wrapped s g in
     sound_printed s (shown w.cursor c) (opened s 1 w) (sound_opened s 1 w (sound_wrapped s g h))
@@ -106,12 +106,14 @@ sound_printed_wide s c g h =
     (sound_in_row s g (put_wide g.cursor.column g.cursor.look c)
     (length_put_wide g.cursor.column g.cursor.look c) h)
 
-sound_wide : (s : Size) (c : ℕ) (g : Grid) → IsSound s g → IsSound s (wide_printed s c g)
+pub sound_wrapped_wide : (s : Size) (g : Grid) → IsSound s g → IsSound s (wrapped_wide s g)
+sound_wrapped_wide s g h = sound_if s (nat_lt (g.cursor.column + 1) s.columns) _ _
+    (sound_wrapped s g h) (sound_next s (joined g) (sound_joined s g h))
+
+pub sound_wide : (s : Size) (c : ℕ) (g : Grid) → IsSound s g → IsSound s (wide_printed s c g)
 sound_wide s c g h = sound_if s (has_room s g) _ _
     (sound_printed_wide s c (opened s 2 (wrapped_wide s g))
-    (sound_opened s 2 (wrapped_wide s g)
-    (sound_if s (nat_lt (g.cursor.column + 1) s.columns) _ _ (sound_wrapped s g h)
-    (sound_next s (joined g) (sound_joined s g h))))) h
+    (sound_opened s 2 (wrapped_wide s g) (sound_wrapped_wide s g h))) h
 
 sound_mark : (s : Size) (c : ℕ) (g : Grid) → IsSound s g → IsSound s (mark_printed c g)
 sound_mark s c g h = sound_if s (has_before g) _ _
@@ -400,7 +402,7 @@ sound_setting s g setting.Reset h =
 
 -- ---- steps
 
-sound_by : (s : Size) (g : Grid) (x : Step) → IsSound s g → IsSound s (grid_by s g x)
+pub sound_by : (s : Size) (g : Grid) (x : Step) → IsSound s g → IsSound s (grid_by s g x)
 sound_by s g (step.Print c) h = sound_narrow s c g h
 sound_by s g (step.PrintWide c) h = sound_wide s c g h
 sound_by s g (step.Mark c) h = sound_mark s c g h

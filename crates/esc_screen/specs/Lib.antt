@@ -10,5 +10,6 @@ pub mod Steps
 pub mod Screens
 pub mod Paints
 pub mod Sound
+pub mod Halves
 pub mod Scrolled
 pub mod Logs
