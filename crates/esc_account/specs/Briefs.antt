@@ -1,4 +1,4 @@
--- What keeps actions, but of data the first byte alone.
+-- A sink that keeps actions, but of data the first byte alone.
 use Rattle.std.specs.Prelude.{◌≡◌, ◌&&◌, ◌||◌, if◌then◌else◌, List, [], ◌∷◌, ◌++◌}
 use Rattle.std.specs.List.{FoldsTo}
 use Rattle.esc_actions.specs.Values.{Value, value_of}

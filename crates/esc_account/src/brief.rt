@@ -1,4 +1,4 @@
-//! What keeps actions, but of the data of a device control string its first byte alone.
+//! A sink that keeps actions, but of the data of a device control string its first byte alone.
 #![tactic(auto)]
 
 ghost use Rattle.std.specs.Prelude.{◌≡◌};

@@ -1,4 +1,4 @@
-//! What becomes of a segment where a policy says which actions pass.
+//! The fate of a segment where a policy says which actions pass.
 #![tactic(auto)]
 
 ghost use Rattle.std.specs.Prelude.{◌≡◌, ◌∷◌, ℕ, if◌then◌else◌, IfOk, IfSome, List, None, OnErr, Option, Some, false, true};
@@ -92,7 +92,7 @@ impl<P: Admit<A>, A: Allocator + Copy> Judge<A> for PolicyJudge<P, A> {
 }
 
 impl<P: Admit<A>, A: Allocator + Copy> PolicyJudge<P, A> {
-    // What is known of the actions of a segment that comes after this character.
+    // Says what is known of the actions of a segment that comes after this character.
     fn weighed(&self, before: Option<char>, segment: Segment<'_>) -> Result<Weighed, AllocError>
         ensures given { (g : Shape) (gs : List Shape) → AreSegments (g ∷ gs)
             → IsItem segment.entry g (joined gs) → IfOk result (λ w. w
@@ -145,7 +145,7 @@ impl<P: Admit<A>, A: Allocator + Copy> PolicyJudge<P, A> {
         }
     }
 
-    // What becomes of a segment of whose actions this is known.
+    // Says what becomes of a segment of whose actions this is known.
     fn verdict_of(&self, segment: Segment<'_>, weighed: Weighed) -> Result<Verdict, AllocError>
         ensures given { (g : Shape) (gs : List Shape) → AreSegments (g ∷ gs)
             → IsItem segment.entry g (joined gs) → IfOk result (λ v. v ≡ record {
@@ -164,7 +164,7 @@ impl<P: Admit<A>, A: Allocator + Copy> PolicyJudge<P, A> {
         }
     }
 
-    // What becomes of its bytes.
+    // Says what becomes of its bytes.
     fn fate_of(&self, segment: Segment<'_>, weighed: Weighed) -> Result<Fate, AllocError>
         ensures given { (g : Shape) (gs : List Shape) → AreSegments (g ∷ gs)
             → IsItem segment.entry g (joined gs) → IfOk result (λ f. f
@@ -186,7 +186,7 @@ impl<P: Admit<A>, A: Allocator + Copy> PolicyJudge<P, A> {
         }
     }
 
-    // What becomes of the bytes of a segment whose text is written.
+    // Says what becomes of the bytes of a segment whose text is written.
     fn spelling(&self, segment: Segment<'_>) -> Result<Fate, AllocError>
         ensures given { (g : Shape) (gs : List Shape) → AreSegments (g ∷ gs)
             → IsItem segment.entry g (joined gs) → IfOk result (λ f. f
@@ -323,7 +323,7 @@ fn is_replaced(kind: SegmentKind) -> bool
     matches!(kind, SegmentKind::Broken | SegmentKind::Stray)
 }
 
-// What becomes of bytes that are written as this text.
+// Says what becomes of bytes that are written as this text.
 fn spelled(bytes: &[u8], text: &[u8]) -> Fate
     ensures { result ≡ spelling_of bytes.now text.now }
 {

@@ -243,7 +243,7 @@ pub fn read_segment<A: Allocator + Copy>(
     }
 }
 
-// The bytes, and ESC.
+// Copies the bytes, and appends ESC.
 fn ended<A: Allocator>(alloc: A, bytes: &[u8]) -> Result<Vec<u8, A>, AllocError>
     ensures given { IfOk result (λ v. v.items ≡ bytes.now ++ 0x1b ∷ []) }
     ensures refused { OnErr result (Refused A) }

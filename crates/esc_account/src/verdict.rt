@@ -1,8 +1,8 @@
-//! What becomes of a segment, and what is written last after it.
+//! The fate of a segment, and the character that is written last after it.
 
 use crate::fate::Fate;
 
-/// What becomes of a segment.
+/// The fate of a segment, and the character that is written last after it.
 #[derive(Clone, Copy, PartialEq, Eq, Debug)]
 pub struct Verdict {
     /// What becomes of its bytes.
