@@ -20,3 +20,5 @@ pub mod Weights
 pub mod Briefs
 pub mod Short
 pub mod ShortSequences
+pub mod Sequences
+pub mod Commands

@@ -134,11 +134,20 @@ fate_of by_lines u admits b k bytes vs =
     else if list_any (is_shown u b) vs then fates.Shown
     else spelling_of bytes (list_text vs)
 
+-- the verdict on a segment of this kind, these bytes and these values, after this character
+abbrev pub verdict_on : {A : Type 0} → Bool → Guard → (Value A → Bool) → Option ℕ → SegmentKind
+    → List ℕ → List (Value A) → Verdict
+verdict_on by_lines u admits b k bytes vs = record {
+  fate = fate_of by_lines u admits b k bytes vs;
+  before = before_after u admits b vs;
+}
+
+-- what is left out leaves the character before it as it was
+abbrev pub left_as : Option ℕ → Verdict
+left_as b = record { fate = fates.LeftOut; before = b }
+
 -- what becomes of a segment: by its reading under the limit
 abbrev pub rule_of : {A : Type 0} → Bool → Guard → ℕ → (Value A → Bool) → Option ℕ → Shape
     → Bool → Verdict
-rule_of by_lines u limit admits b g finished = record {
-  fate = fate_of by_lines u admits b (kind_of g) (bytes_of g)
-      (reading_within (Some limit) g finished);
-  before = before_after u admits b (reading_within (Some limit) g finished);
-}
+rule_of by_lines u limit admits b g finished =
+    verdict_on by_lines u admits b (kind_of g) (bytes_of g) (reading_within (Some limit) g finished)

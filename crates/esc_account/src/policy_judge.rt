@@ -6,7 +6,9 @@ ghost use Rattle.esc_frame.specs.Segments.{AreSegments, Segment as Shape, is_fin
 ghost use Rattle.esc_segments.specs.Items.{IsItem};
 ghost use Rattle.esc_actions.specs.Readings.{reading_within};
 ghost use Rattle.esc_actions.specs.Texts.{list_text};
-ghost use Rattle.esc_actions.specs.Values.{value_of};
+ghost use Rattle.esc_actions.specs.Values.{osc, value_of};
+ghost use Rattle.esc_osc.specs.Reading.{meaning as command_meant};
+ghost use Rattle.esc_values.specs.Clear.{parts_of};
 ghost use Rattle.memory.specs.Refusals.{Refused};
 ghost use Rattle.esc_filter.specs.Characters.{is_return, of_unicode};
 ghost use Rattle.esc_visible.specs.Characters.{is_deceiving};
@@ -17,6 +19,7 @@ ghost use Rattle.esc_account.specs.Weighed.{fate_by, unweighed, weighed_all};
 use crate::fate::Fate;
 use crate::judge::Judge;
 use crate::reading::{is_short, parse_into, segment_text, split_into};
+use crate::sequence::sequence_verdict;
 use crate::terminator::is_end;
 use crate::text::text_run;
 use crate::verdict::Verdict;
@@ -80,9 +83,9 @@ impl<P: Admit<A>, A: Allocator + Copy> Judge<A> for PolicyJudge<P, A> {
     ghost rule = { λ j. rule_of j.by_lines j.guard j.limit (P.admits j.policy) };
 
     fn verdict(&self, before: Option<char>, segment: Segment<'_>) -> Result<Verdict, AllocError> {
-        match self.weighed(before, segment) {
-            Ok(weighed) => self.verdict_of(segment, weighed),
-            Err(error) => Err(error),
+        match sequence_verdict(&self.policy, self.limit, before, segment) {
+            Some(verdict) => Ok(verdict),
+            None => self.any_verdict(before, segment),
         }
     }
 
@@ -92,6 +95,28 @@ impl<P: Admit<A>, A: Allocator + Copy> Judge<A> for PolicyJudge<P, A> {
 }
 
 impl<P: Admit<A>, A: Allocator + Copy> PolicyJudge<P, A> {
+    // The verdict on any segment, by its actions.
+    fn any_verdict(&self, before: Option<char>, segment: Segment<'_>) -> Result<Verdict, AllocError>
+        ensures given { (g : Shape) (gs : List Shape) → AreSegments (g ∷ gs)
+            → IsItem segment.entry g (joined gs) → IfOk result (λ v. v
+            ≡ rule_of self.now.by_lines self.now.guard self.now.limit
+            (P.admits self.now.policy) before g (is_finished g (joined gs))) }
+        ensures refused { OnErr result (Refused A) }
+    {
+        match self.weighed(before, segment) {
+            Ok(weighed) => self.verdict_of(segment, weighed),
+            Err(error) => Err(error),
+        }
+    }
+
+    /// Whether something is written of the command of this text, where the policy knows it.
+    pub(crate) fn admits_command(&self, text: &[u8]) -> Option<bool>
+        ensures { IfSome result (λ b. P.admits self.now.policy
+            (osc (command_meant (parts_of text.now))) ≡ b) }
+    {
+        self.policy.admits_command(text)
+    }
+
     // Says what is known of the actions of a segment that comes after this character.
     fn weighed(&self, before: Option<char>, segment: Segment<'_>) -> Result<Weighed, AllocError>
         ensures given { (g : Shape) (gs : List Shape) → AreSegments (g ∷ gs)

@@ -73,10 +73,11 @@ fn give_events<A: Allocator + Copy, V: VTActor>(
 }
 
 // The final byte of a control sequence after `ESC [` that is short, whose parameters are read.
-fn short_final(params: &mut Short, segment: Segment<'_>) -> Option<u8>
-    ensures { IfSome result (λ f. (g : Shape) (after : List ℕ) → HasShape g after
+pub(crate) fn short_final(params: &mut Short, segment: Segment<'_>) -> Option<u8>
+    ensures told { IfSome result (λ f. (g : Shape) (after : List ℕ) → HasShape g after
         → IsItem segment.entry g after → events_of g segment.entry.finished
         ≡ CsiDispatch (take params.new.count params.new.items) false f ∷ []) }
+    ensures csi { IfSome result (λ f. segment.entry.kind ≡ kinds.Csi) }
 {
     let bytes = segment.bytes;
     if !is_csi(segment.kind) || bytes.len() < 3 || bytes[0] != 0x1b || bytes[1] != b'[' {
@@ -240,6 +241,30 @@ pub fn read_segment<A: Allocator + Copy>(
     match parse_into(alloc, limit, segment, sink) {
         Ok(brief) => Ok(brief.actions),
         Err(error) => Err(error),
+    }
+}
+
+/// The same by splitting the bytes of the segment, in less time: where it is no device control
+/// string, has so few bytes that the limit leaves nothing out, and memory is not refused.
+pub fn read_short<A: Allocator + Copy>(
+    alloc: A,
+    limit: usize,
+    segment: Segment<'_>,
+) -> Option<Vec<Action<A>, A>>
+    ensures { (g : Shape) (gs : List Shape) → AreSegments (g ∷ gs)
+        → IsItem segment.entry g (joined gs) → IfSome result (λ v. map value_of v.items
+        ≡ brief (reading_within (Some limit) g (is_finished g (joined gs)))) }
+{
+    if !is_short(limit, segment) {
+        return None;
+    }
+    let sink = Brief {
+        actions: Vec::new(alloc),
+        has_datum: false,
+    };
+    match split_into(alloc, limit, segment, sink) {
+        Ok(brief) => Some(brief.actions),
+        Err(_) => None,
     }
 }
 

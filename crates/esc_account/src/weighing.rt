@@ -1,8 +1,9 @@
 //! What is told of the actions of a segment, and keeps none of them.
 #![tactic(auto)]
 
-ghost use Rattle.std.specs.Prelude.{◌≡◌};
-ghost use Rattle.esc_actions.specs.Values.{value_of};
+ghost use Rattle.std.specs.Prelude.{◌≡◌, if◌then◌else◌, None};
+ghost use Rattle.esc_actions.specs.Values.{osc, value_of};
+ghost use Rattle.esc_osc.specs.declared.command.OperatingSystemCommand.{OperatingSystemCommand};
 ghost use Rattle.esc_account.specs.Rules.{is_control, is_lone, is_own};
 ghost use Rattle.esc_account.specs.Weighings.{BeginsWeighing, Weighs};
 
@@ -61,6 +62,28 @@ impl<'j, P: Admit<A>, A: Allocator + Copy> Weighing<'j, P, A> {
     }
 }
 
+impl<'j, P: Admit<A>, A: Allocator + Copy> Weighing<'j, P, A> {
+    // Weighs a command that passes, or that does not.
+    fn weigh_command(&mut self, passes: bool)
+        ensures { (c : OperatingSystemCommand A)
+            → P.admits self.old.judge.now.policy (osc c) ≡ passes
+            → Weighs P.admits self.old (osc c) self.new }
+    {
+        let Weighed {
+            has_own: _,
+            writes_all,
+            shows_some,
+            last,
+        } = self.weighed;
+        self.weighed = Weighed {
+            has_own: true,
+            writes_all: writes_all & passes,
+            shows_some,
+            last: last_after(passes, last),
+        };
+    }
+}
+
 impl<'j, P: Admit<A>, A: Allocator + Copy> Sink<Action<A>> for Weighing<'j, P, A> {
     ghost is_ready = { λ _. Unit {0} };
 
@@ -74,6 +97,25 @@ impl<'j, P: Admit<A>, A: Allocator + Copy> Sink<Action<A>> for Weighing<'j, P, A
         self.weigh(&action);
         Ok(())
     }
+
+    // Weighs the command of which the policy knows by its text whether it passes.
+    fn receive_command(&mut self, text: &[u8]) -> Result<bool, AllocError> {
+        match self.judge.admits_command(text) {
+            Some(passes) => {
+                self.weigh_command(passes);
+                Ok(true)
+            }
+            None => Ok(false),
+        }
+    }
+}
+
+// The character that comes before what is written next, after a command that passes, or that does
+// not, and this character.
+fn last_after(passes: bool, last: Option<char>) -> Option<char>
+    ensures { result ≡ (if passes then None else last) }
+{
+    if passes { None } else { last }
 }
 
 fn is_own<A: Allocator>(kind: SegmentKind, action: &Action<A>) -> bool

@@ -5,7 +5,7 @@ use Rattle.esc_actions.specs.Readings.{reading_within}
 use Rattle.esc_account.proofs.Fates.{same_verdict}
 use Rattle.esc_account.proofs.Values.{spelled_ok}
 use Rattle.esc_account.proofs.Weights.{verdict_is}
-use Rattle.esc_account.proofs.policy_judge.PolicyJudgeJudge.verdict.Goals as goal
+use Rattle.esc_account.proofs.policy_judge.PolicyJudge.any_verdict.Goals as goal
 
 pub returns-in-Ok-clause-given : goal.returns-in-Ok-clause-given
 returns-in-Ok-clause-given g c = λ s gs each item.

@@ -1,0 +1,146 @@
+//! Control sequences of which a policy knows by their parameters what becomes of them.
+#![tactic(auto)]
+
+ghost use Rattle.std.specs.Prelude.{◌≡◌, ◌==◌, ◌∷◌, ◌++◌, Bool, IfSome, IsTrue, List, None, false, map};
+ghost use Rattle.esc_frame.specs.Segments.{AreSegments, Segment as Shape, is_finished, joined};
+ghost use Rattle.esc_sequences.specs.Csis.{csi_of, csi_text, unspecified};
+ghost use Rattle.esc_segments.specs.Items.{IsItem};
+ghost use Rattle.esc_segments.specs.declared.kind.SegmentKind.TheVariants as kinds;
+ghost use Rattle.esc_actions.specs.Values.{csi};
+ghost use Rattle.esc_filter.specs.declared.guard.Guard.{Guard};
+ghost use Rattle.esc_write.specs.Plain.{IsPlain, indexed_text, last_text};
+ghost use Rattle.esc_account.specs.Passing.{passed_as};
+ghost use Rattle.esc_account.specs.Rules.{left_as, rule_of, verdict_on};
+
+use crate::account::is_same;
+use crate::fate::Fate;
+use crate::reading::{is_short, short_final};
+use crate::verdict::Verdict;
+use esc_filter::Admit;
+use esc_frame::unfinished::short::Short;
+use esc_segments::Segment;
+use esc_values::CsiParam;
+use esc_write::indexed::Indexed;
+use esc_write::short_numbers::ShortNumbers;
+use std::alloc::Allocator;
+
+/// The verdict on a short control sequence after `ESC [`, where the policy knows that it does not
+/// pass, or that it does and is written as it came.
+pub(crate) fn sequence_verdict<P: Admit<A>, A: Allocator>(
+    policy: &P,
+    limit: usize,
+    before: Option<char>,
+    segment: Segment<'_>,
+) -> Option<Verdict>
+    ensures { (by_lines : Bool) (u : Guard) (g : Shape) (gs : List Shape) → AreSegments (g ∷ gs)
+        → IsItem segment.entry g (joined gs) → IfSome result (λ v. v
+        ≡ rule_of by_lines u limit (P.admits policy.now) before g (is_finished g (joined gs))) }
+{
+    if !is_short(limit, segment) {
+        return None;
+    }
+    let mut params = Short::new();
+    match short_final(&mut params, segment) {
+        Some(last) => known_verdict(policy, before, segment.bytes, params.as_slice(), last),
+        None => None,
+    }
+}
+
+// The same of one with these bytes, parameters and final byte.
+fn known_verdict<P: Admit<A>, A: Allocator>(
+    policy: &P,
+    before: Option<char>,
+    bytes: &[u8],
+    params: &[CsiParam],
+    last: u8,
+) -> Option<Verdict>
+    ensures { (by_lines : Bool) (u : Guard) → IfSome result (λ v. v
+        ≡ verdict_on by_lines u (P.admits policy.now) before kinds.Csi bytes.now
+        (map csi (csi_of params.now false last))) }
+{
+    match policy.admits_sequence(params, last) {
+        Some(true) => passed_sequence(bytes, params, last),
+        Some(false) => left_out(before, last),
+        None => None,
+    }
+}
+
+// The verdict on one that does not pass. Nothing is said of one that ends in `m`, which may be more
+// than one rendition.
+fn left_out(before: Option<char>, last: u8) -> Option<Verdict>
+    ensures { IfSome result (λ v. ((last == 0x6d) ≡ false) × (v ≡ left_as before)) }
+{
+    if last == b'm' {
+        return None;
+    }
+    Some(Verdict {
+        fate: Fate::LeftOut,
+        before,
+    })
+}
+
+// The verdict on one that passes, where its bytes are its text.
+fn passed_sequence(bytes: &[u8], params: &[CsiParam], last: u8) -> Option<Verdict>
+    ensures { IfSome result (λ v. (IsPlain params.now false last
+        × (csi_text (unspecified params.now false last) ≡ bytes.now)) × (v ≡ passed_as None)) }
+{
+    if !is_written_so(bytes, params, last) {
+        return None;
+    }
+    Some(Verdict {
+        fate: Fate::Passed,
+        before: None,
+    })
+}
+
+// Whether the bytes are the text of a rendition of one number, or of a colour of the palette.
+fn is_written_so(bytes: &[u8], params: &[CsiParam], last: u8) -> bool
+    ensures { IsTrue result → IsPlain params.now false last
+        × (csi_text (unspecified params.now false last) ≡ bytes.now) }
+{
+    match ShortNumbers::of(params, last) {
+        Some(ShortNumbers::Lone(number)) => is_headed(bytes, b"\x1b[", number, last),
+        Some(ShortNumbers::Palette(numbers)) => is_palette(bytes, numbers, last),
+        Some(ShortNumbers::Nothing) | Some(ShortNumbers::Pair(_, _)) | None => false,
+    }
+}
+
+// Whether they are the text of a control sequence of these numbers.
+fn is_palette(bytes: &[u8], numbers: Indexed, last: u8) -> bool
+    ensures { IsTrue result
+        → indexed_text numbers.first numbers.second numbers.third last ≡ bytes.now }
+{
+    let (tens, ones) = (48 + numbers.first / 10, 48 + numbers.first % 10);
+    let second = 48 + numbers.second;
+    let head = [0x1b, b'[', tens, ones, b';', second, b';'];
+    is_headed(bytes, &head, numbers.third, last)
+}
+
+// Whether they are this head, and then the number and the final byte.
+fn is_headed(bytes: &[u8], head: &[u8], number: u8, last: u8) -> bool
+    ensures { IsTrue result → head.now ++ last_text number last ≡ bytes.now }
+{
+    if bytes.len() < head.len() {
+        return false;
+    }
+    let (first, rest) = bytes.split_at(head.len());
+    if is_same(first, head) {
+        is_last(rest, number, last)
+    } else {
+        false
+    }
+}
+
+// Whether they are the number and the final byte.
+fn is_last(bytes: &[u8], number: u8, last: u8) -> bool
+    ensures { IsTrue result → last_text number last ≡ bytes.now }
+{
+    if number < 10 {
+        is_same(bytes, &[48 + number, last])
+    } else if number < 100 {
+        is_same(bytes, &[48 + number / 10, 48 + number % 10, last])
+    } else {
+        let tens = 48 + number / 10 % 10;
+        is_same(bytes, &[48 + number / 100, tens, 48 + number % 10, last])
+    }
+}
