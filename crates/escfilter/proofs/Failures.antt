@@ -4,13 +4,15 @@ use Rattle.std.specs.Prelude.{◌||◌}
 use Rattle.std.specs.List.{list_any}
 use Rattle.std.proofs.lemmas.List.Folds.{list_any-append}
 use Rattle.std.proofs.lemmas.Bool.{lt-ltb, ltb-true}
+use Rattle.std.proofs.lemmas.Bool.Decides.{nat_tests}
 use Rattle.esc_account.specs.Accounts.{count_of}
 use Rattle.esc_account.specs.declared.fate.Fate.{Fate}
 use Rattle.esc_account.specs.declared.fate.Fate.TheVariants as fates
 use Rattle.esc_account.specs.declared.sums.Sums.{Sums}
 use Rattle.escfilter.specs.declared.failing.Failing.{Failing}
 use Rattle.escfilter.specs.declared.failing.Gate.{Gate}
-use Rattle.escfilter.specs.Failures.{HasFailure, WasTold, are_met, fails, has_failure}
+use Rattle.escfilter.specs.Failures.{HasFailure, WasTold, are_met, fails, has_failure, less}
+use Rattle.escfilter.specs.Fates.{IsComplete}
 
 met_both : (a : Bool) (n : ℕ) → are_met a n ≡ true → (a ≡ true) × (0 < n)
 met_both true n h = (refl, ltb-true 0 n h)
@@ -89,3 +91,28 @@ told_more k xs s g b is was = (
       ∙ one (list_any (has_failure k) xs) (has_failure k s)
       ∙ sym (list_any-append (has_failure k) xs (s ∷ [])),
 )
+
+-- ---- that nothing is missing
+
+neither : (a b : Bool) → (a || b) ≡ false → (a ≡ false) × (b ≡ false)
+neither true b h = absurd cc
+neither false b h = (refl, h)
+
+none_met : (n : ℕ) → are_met true n ≡ false → n ≡ 0
+none_met n h = grind (arith, nat_tests)
+
+pub complete_is : (s : Sums) → (has_failure less s ≡ false) ↔ IsComplete s
+complete_is s = (there, λ z. rw (z.0, z.1, z.2, z.3, z.4) refl)
+  where
+    there : has_failure less s ≡ false → IsComplete s
+    there h =
+        let a = neither (are_met true s.shown) _ h in
+        let b = neither (are_met true s.replaced) _ a.1 in
+        let c = neither (are_met true s.left_out) _ b.1 in
+        let d = neither (are_met true s.swallowed) (are_met true s.overwritten) c.1 in (
+          none_met s.shown a.0,
+          none_met s.replaced b.0,
+          none_met s.left_out c.0,
+          none_met s.swallowed d.0,
+          none_met s.overwritten d.1,
+        )

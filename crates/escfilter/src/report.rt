@@ -4,6 +4,7 @@ ghost use Rattle.std.specs.Prelude.{◌≡◌, ◌↔◌, false};
 ghost use Rattle.escfilter.specs.Fates.{IsComplete};
 
 use crate::PROGRAM;
+use crate::failing::Failing;
 use crate::name::Name;
 use crate::rows::{Open, Rows};
 use crate::saying::{put, put_number};
@@ -31,11 +32,7 @@ pub fn tell_text<E: Write>(account: Account, rows: &Rows, name: &str, faults: &m
 pub fn is_less(sums: Sums) -> bool
     ensures { result ≡ false ↔ IsComplete sums }
 {
-    sums.shown > 0
-        || sums.replaced > 0
-        || sums.left_out > 0
-        || sums.swallowed > 0
-        || sums.overwritten > 0
+    Failing::LESS.is_met(sums)
 }
 
 /// What became of bytes, in words.

@@ -11,7 +11,8 @@ use crate::name::{Name, kind_name, name_of};
 use crate::named_groups::Choice;
 use crate::options::Options;
 use crate::report::bytes_of;
-use esc_account::{Account, Book, Entry, Fate, Place, Row, Table, read_segment};
+use esc_account::{Account, Book, Entry, Fate, Place, Row, Table, read_segment, read_short};
+use esc_actions::Action;
 use esc_sanitize::Judging;
 use esc_segments::Segment;
 use std::alloc::{AllocError, Global};
@@ -145,7 +146,7 @@ impl<'a> Rows<'a> {
         ensures { OnErr result (Refused Global) }
     {
         if fate == Fate::LeftOut || fate == Fate::Shown {
-            let actions = read_segment(self.alloc, self.options.filter.limit, segment)?;
+            let actions = read(self.alloc, self.options.filter.limit, segment)?;
             for action in &actions {
                 if !self.judge.writes(action) {
                     return Ok(name_of(action));
@@ -153,6 +154,16 @@ impl<'a> Rows<'a> {
             }
         }
         Ok(kind_name(segment.kind, segment.bytes))
+    }
+}
+
+// The actions of a segment, by splitting its bytes where that can be.
+fn read(alloc: Global, limit: usize, segment: Segment<'_>) -> Result<Vec<Action>, AllocError>
+    ensures { OnErr result (Refused Global) }
+{
+    match read_short(alloc, limit, segment) {
+        Some(actions) => Ok(actions),
+        None => read_segment(alloc, limit, segment),
     }
 }
 
