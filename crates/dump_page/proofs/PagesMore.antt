@@ -9,7 +9,7 @@ use Rattle.std.proofs.Math.Logic.{∥∥₁_map, ∥∥₁_elim, ∥∥₁_prop}
 use Rattle.std.specs.Option.{is_some}
 use Rattle.dump_page.specs.Pages.{Piece, IsPage, IsPiece, AppendsPage, is_fit, piece_text}
 use Rattle.dump_page.specs.Pages.Piece.{Quoted}
-use Rattle.dump_page.specs.Quoted.{IsQuote, is_quoted, unquoted}
+use Rattle.dump_page.specs.Quoted.{AddsQuote, IsQuote, is_quoted, unquoted}
 use Rattle.dump_page.specs.Quoted.Reader.{InText}
 
 page_piece : (s : List ℕ) (p : Piece) → is_fit p ≡ true → IsPage s → IsPage (s ++ piece_text p)
@@ -60,6 +60,10 @@ pub page_quoted : (s t q : List ℕ) → ∥ IsPage s ∥₁ → ∥ IsQuote q �
     → t ≡ s ++ 0x22 ∷ (q ++ 0x22 ∷ []) → ∥ IsPage t ∥₁
 page_quoted s t q h k e = subst (λ x. ∥ IsPage x ∥₁) (sym e)
     (∥∥₁_elim h ∥∥₁_prop (λ x. ∥∥₁_map k (page_quote s q x)))
+
+-- the same of what is added between quotes
+pub page_added : (s t : List ℕ) → ∥ IsPage s ∥₁ → AddsQuote s t → ∥ IsPage t ∥₁
+page_added s t h (q, k, e) = page_quoted s t q h ∣ k ∣₁ e
 
 -- the words of a phrase, that may be refused
 pub page_more : {U E : Type 0} (r : Result U E) (s t u : List ℕ) → ∥ IsPage u ∥₁ → ∥ IsPage s ∥₁

@@ -82,3 +82,13 @@ plain_pushed r s t bs h = on_ok r (λ e. subst (λ x. Quotes s x bs) (sym e) (pl
 -- plain bytes read as themselves
 pub plain_quote : (bs : List ℕ) → list_all is_plain bs ≡ true → ∥ IsQuote bs ∥₁
 plain_quote bs h = ∣ (bs, plain_quotes [] bs h) ∣₁
+
+-- plain bytes are bytes of words
+pub plain_words : (bs : List ℕ) → list_all is_plain bs ≡ true → list_all is_word_byte bs ≡ true
+plain_words [] h = refl
+plain_words (b ∷ bs) h =
+    let k = and_parts (is_plain b) (list_all is_plain bs) h in
+    let l = and_parts (nat_le 0x20 b) _ k.0 in
+    let m = and_parts (nat_le b 0x7e) _ l.1 in
+    let n = and_parts (not (b == 0x22)) (not (b == 0x5c)) m.1 in
+    rw (l.0, m.0, n.0, plain_words bs k.1) refl

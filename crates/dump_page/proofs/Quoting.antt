@@ -5,10 +5,11 @@ use Rattle.std.specs.Char.{encode_utf8, digit_value}
 use Rattle.std.specs.List.{flat_map}
 use Rattle.std.proofs.lemmas.List.Folds.{list_all-append}
 use Rattle.std.proofs.lemmas.Grind.{flat_map-append}
+use Rattle.std.proofs.lemmas.Str.{encode_ascii}
 use Rattle.std.proofs.Math.Nat.{div-add-mod}
 use Rattle.esc_visible.specs.Characters.{is_shown}
 use Rattle.std.proofs.Math.Logic.{∥∥₁_map}
-use Rattle.dump_page.specs.Quoted.{IsQuote, Quotes, QuotesSome, put, unquoted}
+use Rattle.dump_page.specs.Quoted.{AddsQuote, IsQuote, Quotes, QuotesSome, put, unquoted}
 use Rattle.dump_page.specs.Quoted.Reader.{InText}
 
 put_append : (x y : List ℕ) (r : Option (List ℕ)) → put (x ++ y) r ≡ put x (put y r)
@@ -89,3 +90,23 @@ no_quote = ∣ ([], quotes_nothing []) ∣₁
 -- what is quoted grows by more
 pub quote_more : (s t : List ℕ) → ∥ IsQuote s ∥₁ → QuotesSome s t → ∥ IsQuote t ∥₁
 quote_more s t h k = ∥∥₁_map h (λ x. (x.0 ++ k.0, quotes_more [] s t x.0 k.0 x.1 k.1))
+
+quote_sign : encode_utf8 0x22 ≡ 0x22 ∷ []
+quote_sign = encode_ascii 0x22 (omega arith)
+
+quote_ends : (s t u v a : List ℕ) → t ≡ s ++ encode_utf8 0x22 → u ≡ t ++ a
+    → v ≡ u ++ encode_utf8 0x22 → v ≡ s ++ 0x22 ∷ (a ++ 0x22 ∷ [])
+quote_ends s t u v a e k f =
+    f ∙ ap (λ z. u ++ z) quote_sign
+    ∙ ap (λ z. z ++ 0x22 ∷ []) (k ∙ ap (λ z. z ++ a) (e ∙ ap (λ z. s ++ z) quote_sign))
+    ∙ append_assoc (s ++ 0x22 ∷ []) a (0x22 ∷ [])
+    ∙ append_assoc s (0x22 ∷ []) (a ++ 0x22 ∷ [])
+
+-- what is added between two quotes
+pub quote_put : {U E : Type 0} (r : Result U E) (s t u v : List ℕ) → t ≡ s ++ encode_utf8 0x22
+    → QuotesSome t u → OnOk r (v ≡ u ++ encode_utf8 0x22) → OnOk r (AddsQuote s v)
+quote_put r s t u v e (bytes, k) = on_ok r (λ f. (
+  flat_map encode_utf8 k.added,
+  (bytes, record { added = k.added; shown = k.shown; appends = refl; reads = k.reads }),
+  quote_ends s t u v (flat_map encode_utf8 k.added) e k.appends f,
+))

@@ -76,3 +76,7 @@ QuotesSome s t = (bytes : List ℕ) × Quotes s t bytes
 -- a text that reads so by itself
 abbrev pub IsQuote : List ℕ → Type 0
 IsQuote t = QuotesSome [] t
+
+-- it grows by such a text between two quotes
+abbrev pub AddsQuote : List ℕ → List ℕ → Type 0
+AddsQuote s t = (q : List ℕ) × IsQuote q × (t ≡ s ++ 0x22 ∷ (q ++ 0x22 ∷ []))

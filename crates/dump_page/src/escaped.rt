@@ -29,7 +29,7 @@ impl Phrase {
         let most = end.saturating_sub(self.columns()).min(bytes.len());
         let (first, rest) = bytes.split_at(most);
         if let Some(text) = plain_text(first) {
-            self.push_words(text);
+            self.push_plain(text);
             return rest.is_empty();
         }
         if first.is_ascii() {
@@ -56,7 +56,7 @@ impl Phrase {
             let count = plain_run(&rest[..most]);
             let (plain, after) = rest.split_at(count.min(rest.len()));
             if let Some(text) = plain_text(plain) {
-                self.push_words(text);
+                self.push_plain(text);
             }
             rest = match after {
                 [byte, more @ ..] if count < most => {

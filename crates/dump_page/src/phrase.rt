@@ -2,14 +2,14 @@
 ghost use Rattle.std.specs.Prelude.{◌≡◌, true};
 ghost use Rattle.std.specs.List.{list_all};
 ghost use Rattle.dump_page.specs.Pages.{IsPage, IsPiece, is_word};
-ghost use Rattle.dump_page.specs.Quoted.{IsQuote, is_word_byte};
+ghost use Rattle.dump_page.specs.Quoted.{IsQuote, is_plain, is_word_byte};
 
 use crate::hidden::Hidden;
 use crate::member::Member;
 use crate::name::{Key, Name};
 use crate::plain::{are_words, boundary, digit, is_plain, plain_text, word_text};
 use crate::quote::Quote;
-use crate::quoted::push_between;
+use crate::quoted::{push_between, push_bytes_between, push_string_between};
 use crate::room::Room;
 use crate::short_base64;
 use esc_values::Text;
@@ -225,9 +225,8 @@ impl Phrase {
             self.add(before);
             return self.push_quote(text);
         }
-        let mut quote = self.quote();
-        quote.add(bytes);
-        self.add_quote(before, &quote);
+        self.add(before);
+        self.push_bytes(bytes);
     }
 
     // Adds words and, between quotes, the characters that are whole in so many bytes.
@@ -235,9 +234,30 @@ impl Phrase {
         let (first, rest) = bytes.split_at(boundary(bytes, room));
         self.room.leave_out(rest.len());
         if !first.is_empty() {
-            let mut quote = self.quote();
-            quote.add(first);
-            self.add_quote(before, &quote);
+            self.add(before);
+            self.push_bytes(first);
+        }
+    }
+
+    // Adds bytes of the stream between quotes, where there is room.
+    fn push_bytes(&mut self, bytes: &[u8]) {
+        if self.room.has_more(self.text.len()) {
+            self.append_bytes(bytes);
+        }
+    }
+
+    // Adds bytes of the stream between quotes.
+    #[tactic(auto, using(crate::proofs::PagesMore::no_page))]
+    fn append_bytes(&mut self, bytes: &[u8]) {
+        if self.is_refused {
+            return;
+        }
+        match push_bytes_between(bytes, &mut self.text, &mut self.hidden) {
+            Ok(()) => {}
+            Err(_) => {
+                self.text = Text::new(self.alloc);
+                self.is_refused = true;
+            }
         }
     }
 
@@ -277,13 +297,30 @@ impl Phrase {
 
     /// Adds words and a string of JSON (RFC 8259, 7) after them, of which the value is this.
     pub fn add_string(&mut self, before: &'static str, value: &str) {
-        if is_plain(value.as_bytes()) {
+        if !before.is_empty() {
             self.add(before);
+        }
+        if is_plain(value.as_bytes()) {
             return self.push_quote(value);
         }
-        let mut quote = self.quote();
-        quote.add_string(value);
-        self.add_quote(before, &quote);
+        if self.room.has_more(self.text.len()) {
+            self.append_string(value);
+        }
+    }
+
+    // Adds a string of JSON.
+    #[tactic(auto, using(crate::proofs::PagesMore::no_page))]
+    fn append_string(&mut self, value: &str) {
+        if self.is_refused {
+            return;
+        }
+        match push_string_between(value, &mut self.text) {
+            Ok(()) => {}
+            Err(_) => {
+                self.text = Text::new(self.alloc);
+                self.is_refused = true;
+            }
+        }
     }
 
     /// Adds a string of JSON that is the base64 (RFC 4648, 4) of these bytes.
@@ -357,6 +394,13 @@ impl Phrase {
         for c in words.chars() {
             self.push(c);
         }
+    }
+
+    /// Adds words of ASCII without a `\`.
+    pub(crate) fn push_plain(&mut self, words: &str)
+        requires { list_all is_plain words.now ≡ true }
+    {
+        self.push_ascii(words);
     }
 
     /// Adds words of ASCII.

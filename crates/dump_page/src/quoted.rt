@@ -3,7 +3,7 @@ ghost use Rattle.std.specs.Prelude.{◌≡◌, ◌≢◌, ◌<◌, ◌∷◌, �
 ghost use Rattle.std.specs.Str.Chunks.{utf8_chunk_invalid, utf8_chunk_valid};
 ghost use Rattle.std.specs.Char.{digit_value, encode_utf8};
 ghost use Rattle.esc_visible.specs.Characters.{is_shown};
-ghost use Rattle.dump_page.specs.Quoted.{Quotes, QuotesSome};
+ghost use Rattle.dump_page.specs.Quoted.{AddsQuote, Quotes, QuotesSome};
 
 use crate::columns::Columns;
 use crate::hidden::Hidden;
@@ -67,6 +67,28 @@ fn push_char(
     push_bytes(c.encode_utf8(&mut bytes).as_bytes(), to)
 }
 
+/// Appends bytes in the way of [`push_quoted`], between quotes.
+pub fn push_bytes_between(
+    bytes: &[u8],
+    to: &mut Text,
+    hidden: &mut Hidden,
+) -> Result<(), AllocError>
+    ensures { OnOk result (AddsQuote to.old to.new) }
+{
+    to.push('"')?;
+    push_quoted(bytes, to, hidden)?;
+    to.push('"')
+}
+
+/// Appends a text in the way of [`push_string`], between quotes.
+pub fn push_string_between(text: &str, to: &mut Text) -> Result<(), AllocError>
+    ensures { OnOk result (AddsQuote to.old to.new) }
+{
+    to.push('"')?;
+    push_string(text, to)?;
+    to.push('"')
+}
+
 /// Appends what is quoted, between quotes.
 pub fn push_between(quoted: &str, to: &mut Text) -> Result<(), AllocError>
     ensures { OnOk result (to.new ≡ to.old ++ 0x22 ∷ (quoted.now ++ 0x22 ∷ [])) }
@@ -82,25 +104,43 @@ pub fn push_string(text: &str, to: &mut Text) -> Result<(), AllocError>
 {
     let mut is_next = false;
     for part in text.split('\\') {
-        push_separator(is_next, to)?;
+        push_separator('\\', is_next, to)?;
         push_part(part, to)?;
         is_next = true;
     }
     Ok(())
 }
 
-// Appends a `\` in this way, before each part but the first.
-fn push_separator(is_next: bool, to: &mut Text) -> Result<(), AllocError>
+// Appends what separates parts in this way, before each part but the first.
+fn push_separator(separator: char, is_next: bool, to: &mut Text) -> Result<(), AllocError>
+    requires shown { is_shown separator ≡ true }
+    requires other { separator ≢ 0x78 }
     ensures { OnOk result (QuotesSome to.old to.new) }
 {
     if is_next {
-        return push_marked('\\', to);
+        return push_marked(separator, to);
     }
     Ok(())
 }
 
-// Appends a part of it in this way.
+// Appends a part of it in this way, by the `"` in it.
 fn push_part(text: &str, to: &mut Text) -> Result<(), AllocError>
+    ensures { OnOk result (QuotesSome to.old to.new) }
+{
+    if is_plain(text.as_bytes()) {
+        return to.push_str(text);
+    }
+    let mut is_next = false;
+    for part in text.split('"') {
+        push_separator('"', is_next, to)?;
+        push_run(part, to)?;
+        is_next = true;
+    }
+    Ok(())
+}
+
+// Appends what comes between them.
+fn push_run(text: &str, to: &mut Text) -> Result<(), AllocError>
     ensures { OnOk result (QuotesSome to.old to.new) }
 {
     if is_plain(text.as_bytes()) {

@@ -3,13 +3,15 @@ use Rattle.dump_page.proofs.PlainBytes.{plain_pushed}
 use Rattle.dump_page.proofs.Quoting.{on_ok, quotes_more, quotes_nothing}
 use Rattle.dump_page.proofs.quoted.push_part.Goals as goal
 
-pub loop-c-init : goal.loop-c-init
-loop-c-init c = ([], quotes_nothing _)
+pub loop-part-init : goal.loop-part-init
+loop-part-init c = ([], quotes_nothing _)
 
-pub loop-c-preserved : goal.loop-c-preserved
-loop-c-preserved c =
-    let held = c.loop-c.invariant in
-    (_, quotes_more _ _ _ _ _ held.1 c.in_ok-push_shown.ensures)
+pub loop-part-preserved : goal.loop-part-preserved
+loop-part-preserved c =
+    let held = c.loop-part.invariant in
+    let separated = c.in_ok-push_separator.ensures in
+    let pushed = c.in_ok-push_run.ensures in
+    (_, quotes_more _ _ _ _ _ (quotes_more _ _ _ _ _ held.1 separated.1) pushed.1)
 
 pub returns-then-is_plain : goal.returns-then-is_plain
 returns-then-is_plain c =

@@ -1,0 +1,8 @@
+use Rattle.dump_page.proofs.Quoting.{quote_put}
+use Rattle.dump_page.proofs.quoted.push_string_between.Goals as goal
+
+pub returns : goal.returns
+returns c =
+    quote_put c.push-2.result _ _ _ _ c.in_ok-push.ensures.ok
+    c.in_ok-push_string.ensures
+    c.push-2.ensures.ok
