@@ -7,14 +7,15 @@
 
 /// A row is a line, with `^` between: the private prefix, the intermediates and the final byte;
 /// what the data begin with, or after a `#` the parameters, or nothing; words; the fields of the
-/// data; the name; and the fields of the parameters. The kinds that are told apart come before the
-/// others.
+/// data, or `S:` and what comes before a setting; the name; and the fields of the parameters. The
+/// kinds that are told apart come before the others.
 pub static CONTROLS: &str = "\
 $q^$|^ask for a setting DECSCPP^^DECRQSS^
 $q^$~^ask for a setting DECSSDT^^DECRQSS^
 $q^*|^ask for a setting DECSNLS^^DECRQSS^
 $q^^ask for a setting^v:?m~SGR/r~DECSTBM/s~DECSLRM/t~DECSLPP/\"p~DECSCL/\"q~DECSCA/ q~DECSCUSR/$}~DECSASD/*x~DECSACE^DECRQSS^
-$r^^report of a setting^r:,^DECRPSS^v:,?1~valid/0~not valid
+$r^#0^report of a setting, not valid^r:,^DECRPSS^s:
+$r^^report of a setting^S:,^DECRPSS^v:,?1~valid/0~not valid
 +q^^ask for termcap data^*x:^XTGETTCAP^
 +r^^report of termcap data^*X:,^XTGETTCAP^v:,?1~valid/0~not valid
 +p^^set termcap data^*x:^XTSETTCAP^

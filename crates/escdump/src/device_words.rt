@@ -3,6 +3,7 @@
 use crate::device_table::CONTROLS;
 use crate::fields::add_fields;
 use crate::rows::{Row, headed};
+use crate::setting::add_setting;
 use crate::values::{cut, number_in};
 use dump_page::{Key, Name, Phrase};
 use esc_sixel::SixelBuilder;
@@ -79,14 +80,16 @@ fn digits_in(header: &[u8]) -> &[u8] {
 
 /// Adds a device control string of these bytes in words: by the row of its final byte with its
 /// intermediates, of which some are told apart by their data or their parameters. Of a sixel image
-/// that is whole only the size is said.
-pub fn add_device(text: &[u8], is_whole: bool, to: &mut Phrase) {
+/// that is whole only the size is said. Returns its name.
+pub fn add_device(text: &[u8], is_whole: bool, to: &mut Phrase) -> Name {
     let Some(parts) = parts_of(text) else {
         to.begin("DCS", "", "device control string");
-        return to.add_quoted(" ", text);
+        to.add_quoted(" ", text);
+        return to.name();
     };
     if is_whole && parts.key() == b"q".as_slice() {
-        return add_sixel(parts, to);
+        add_sixel(parts, to);
+        return to.name();
     }
     for line in CONTROLS.lines() {
         if let Some(row) = headed(line, parts.key()) {
@@ -100,6 +103,7 @@ pub fn add_device(text: &[u8], is_whole: bool, to: &mut Phrase) {
     if !parts.data.is_empty() {
         to.add_quoted(" ", parts.data);
     }
+    to.name()
 }
 
 // Adds a sixel image by its size.
@@ -150,21 +154,26 @@ fn data_rest<'t>(asked: &'static str, parts: Parts<'t>) -> Option<&'t [u8]> {
     if found == start { Some(rest) } else { None }
 }
 
-// Adds a device control string that a row has.
-fn add_row(row: Row, params: &[u8], data: &[u8], to: &mut Phrase) {
+// Adds a device control string that a row has, and returns its name.
+fn add_row(row: Row, params: &[u8], data: &[u8], to: &mut Phrase) -> Name {
     let (name, fields) = match row.more.split_once('^') {
         Some(halves) => halves,
         None => (row.more, ""),
     };
     to.begin("DCS", name, row.words);
+    let own = to.name();
     if fields.is_empty() {
         add_params(params, to);
     } else if !params.is_empty() {
         add_fields(fields, Some(params), to);
     }
     if !data.is_empty() {
-        add_fields(row.fields, Some(data), to);
+        match row.fields.strip_prefix("S:") {
+            Some(label) => add_setting(label, data, to),
+            None => add_fields(row.fields, Some(data), to),
+        }
     }
+    own
 }
 
 // Adds the parameters as they are.

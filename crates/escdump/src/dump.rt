@@ -2,6 +2,7 @@
 ghost use Rattle.std.specs.Prelude.{◌≤◌, length};
 
 use crate::carried::Carried;
+use crate::framed::{is_framed, is_left_open, may_hold_controls};
 use crate::item::Item;
 use crate::kind::Kind;
 use crate::line::{add_line, add_said};
@@ -9,6 +10,7 @@ use crate::objects::add_object;
 use crate::options::{Form, Options};
 use crate::resume::{held_back, resumed};
 use crate::stats::Stats;
+use crate::vt52::{Address, Vt52, address_in};
 use crate::words::Words;
 use dump_input::{Found, Sent, add_sent, found_in, paste_end_in};
 use dump_page::Page;
@@ -34,6 +36,7 @@ pub struct Dump<'n> {
     // it.
     is_closing: bool,
     carried: Carried,
+    vt52: Vt52,
     begun: Vec<u8>,
     known: usize,
     // The kind of what is begun.
@@ -60,6 +63,7 @@ impl<'n> Dump<'n> {
             is_framed: false,
             is_closing: false,
             carried: Carried::new(),
+            vt52: Vt52::new(),
             begun: Vec::new(alloc),
             known: 0,
             unfinished: SegmentKind::Control,
@@ -118,8 +122,8 @@ impl<'n> Dump<'n> {
         for _ in 0..u64::MAX {
             if known == 0 {
                 rest = self.take_shown(rest);
-                if self.options.is_input && !self.is_closing {
-                    rest = self.take_sent(rest);
+                if !self.is_closing {
+                    rest = self.take_joined(rest);
                     if self.is_waiting {
                         break;
                     }
@@ -140,6 +144,41 @@ impl<'n> Dump<'n> {
         let (shown, rest) = bytes.split_at(shown_run(bytes));
         if !shown.is_empty() {
             self.take_piece(SegmentKind::Character, shown);
+        }
+        rest
+    }
+
+    // Takes what comes first that is no segment of its own, and returns what is after it: what a
+    // terminal sends, or cursor positions of its VT52 mode.
+    fn take_joined<'b>(&mut self, bytes: &'b [u8]) -> &'b [u8] {
+        if self.options.is_input {
+            self.take_sent(bytes)
+        } else if self.vt52.is_on {
+            self.take_addresses(bytes)
+        } else {
+            bytes
+        }
+    }
+
+    // Takes the cursor positions of the VT52 that come first, and text between them. What may be
+    // one waits for more bytes.
+    fn take_addresses<'b>(&mut self, bytes: &'b [u8]) -> &'b [u8] {
+        let mut rest = bytes;
+        for _ in 0..u64::MAX {
+            match address_in(rest, self.is_last) {
+                Address::Other => break,
+                Address::Begun => {
+                    self.keep(rest);
+                    self.is_waiting = true;
+                    break;
+                }
+                Address::Whole => {
+                    let (first, after) = rest.split_at(rest.len().min(4));
+                    self.add_piece(SegmentKind::Escape, first);
+                    self.end_line(true);
+                    rest = self.take_shown(after);
+                }
+            }
         }
         rest
     }
@@ -346,6 +385,8 @@ impl<'n> Dump<'n> {
     // Adds the line of a run of text or a segment, after which nothing is unfinished.
     fn end_line(&mut self, is_finished: bool) {
         self.words.is_carried = self.carried.has(&self.item);
+        self.words.is_vt52 = self.vt52.is_on;
+        self.vt52.take(&self.item);
         if self.is_selected() {
             self.add_selected(is_finished);
         }
@@ -363,7 +404,7 @@ impl<'n> Dump<'n> {
             return only.has_kind(kind) && !skip.has_kind(kind);
         }
         add_said(&self.item, &mut self.words);
-        let name = self.words.phrase.name();
+        let name = self.words.name();
         only.has(&self.item, name) && !skip.has(&self.item, name)
     }
 
@@ -373,7 +414,7 @@ impl<'n> Dump<'n> {
             Form::Stats => {
                 add_said(&self.item, &mut self.words);
                 self.page.note(self.words.phrase.is_refused());
-                let name = self.words.phrase.name();
+                let name = self.words.name();
                 self.page.note(!self.stats.add(&self.item, name));
             }
             Form::Json => {
@@ -422,56 +463,4 @@ fn shown_run(bytes: &[u8]) -> usize
         }
     }
     bytes.len()
-}
-
-// Whether a segment that comes in pieces is given to the framer: it is a control sequence, or one
-// in which controls may be. Others leave the framer as it was.
-fn is_framed(kind: SegmentKind) -> bool {
-    match kind {
-        SegmentKind::Escape
-        | SegmentKind::Csi
-        | SegmentKind::Dcs
-        | SegmentKind::Osc
-        | SegmentKind::Apc
-        | SegmentKind::Ignored
-        | SegmentKind::CutShort => true,
-        SegmentKind::Character
-        | SegmentKind::Broken
-        | SegmentKind::Stray
-        | SegmentKind::Control
-        | SegmentKind::Terminator => false,
-    }
-}
-
-// Whether the last byte of a segment does not end it for the framer.
-fn is_left_open(kind: SegmentKind) -> bool {
-    is_framed(kind) && kind != SegmentKind::Escape && kind != SegmentKind::Csi
-}
-
-// Whether an item that came whole is a control sequence, or may have controls inside it: of a
-// string they come before its text.
-fn may_hold_controls(kind: SegmentKind, item: &Item) -> bool {
-    match kind {
-        SegmentKind::Csi => true,
-        SegmentKind::Osc | SegmentKind::Apc | SegmentKind::Ignored => item.has_controls(),
-        SegmentKind::Escape | SegmentKind::Dcs | SegmentKind::CutShort => {
-            has_control_after_first(item.bytes())
-        }
-        SegmentKind::Character
-        | SegmentKind::Broken
-        | SegmentKind::Stray
-        | SegmentKind::Control
-        | SegmentKind::Terminator => false,
-    }
-}
-
-// Whether bytes after the first are controls of C0.
-fn has_control_after_first(bytes: &[u8]) -> bool {
-    let mut has_any = false;
-    if let [_, rest @ ..] = bytes {
-        for byte in rest {
-            has_any = (*byte < 0x20) | has_any;
-        }
-    }
-    has_any
 }

@@ -1,5 +1,6 @@
 //! A run of text, or a segment.
 
+use crate::code::Code;
 use crate::kind::Kind;
 use esc_segments::SegmentKind;
 use std::alloc::Global;
@@ -17,6 +18,8 @@ pub struct Item {
     pub now: Option<u64>,
     /// The kind of what came of it last.
     pub segment: SegmentKind,
+    /// Its number, where it is an operating system command.
+    pub code: Code,
     // What a terminal sends by it, where its segment does not say that.
     sent: Option<Kind>,
     // The letter that opens it, as `]`; 0, where it has not come.
@@ -37,6 +40,7 @@ impl Item {
             time: None,
             now: None,
             segment: SegmentKind::Control,
+            code: Code::new(),
             sent: None,
             letter: 0,
             opened: 0,
@@ -79,8 +83,13 @@ impl Item {
         if segment == SegmentKind::Character {
             return self.bytes.extend_from_slice(bytes).is_ok();
         }
-        if self.letter == 0 {
-            self.open(bytes);
+        let after = if self.letter == 0 {
+            self.open(bytes)
+        } else {
+            bytes
+        };
+        if segment == SegmentKind::Osc {
+            self.code.take(after);
         }
         let room = limit.saturating_sub(self.bytes.len()).min(bytes.len());
         self.bytes.extend_from_slice(&bytes[..room]).is_ok()
@@ -98,19 +107,22 @@ impl Item {
     }
 
     // Looks for the letter that opens it: the first byte 20 to 7E, where it begins with ESC, with
-    // controls and bytes past 7F before it; or that which a control of C1 has after ESC.
-    fn open(&mut self, bytes: &[u8]) {
-        for byte in bytes {
+    // controls and bytes past 7F before it; or that which a control of C1 has after ESC. Returns
+    // what comes after it.
+    fn open<'b>(&mut self, bytes: &'b [u8]) -> &'b [u8] {
+        for at in 0..bytes.len() {
+            let byte = bytes[at];
             self.opened = self.opened.saturating_add(1);
-            match *byte {
-                0x20..=0x7e => self.letter = *byte,
-                0x80..=0x9f if self.opened <= 2 => self.letter = *byte - 0x40,
+            match byte {
+                0x20..=0x7e => self.letter = byte,
+                0x80..=0x9f if self.opened <= 2 => self.letter = byte - 0x40,
                 _ => {}
             }
             if self.letter != 0 {
-                return;
+                return &bytes[at + 1..];
             }
         }
+        &[]
     }
 
     /// Whether bytes come between ESC and the letter that opens it.
@@ -159,6 +171,7 @@ impl Item {
         self.place = self.place.saturating_add(self.length);
         self.length = 0;
         self.sent = None;
+        self.code = Code::new();
         self.letter = 0;
         self.opened = 0;
         self.closed = 0;

@@ -9,6 +9,7 @@ use crate::kind::Kind;
 use crate::options::Form;
 use crate::osc_words::add_command;
 use crate::times::add_seconds;
+use crate::vt52::add_vt52;
 use crate::words::Words;
 use dump_page::{Color, Page, Phrase};
 
@@ -175,6 +176,7 @@ pub fn add_said(item: &Item, words: &mut Words) {
     }
     words.is_whole = true;
     let kind = item.kind();
+    let is_whole = !words.is_unfinished && !item.is_cut();
     words.add_counted();
     let phrase = &mut words.phrase;
     match kind {
@@ -182,11 +184,13 @@ pub fn add_said(item: &Item, words: &mut Words) {
         Kind::Control => add_control(item.bytes(), phrase),
         Kind::Escape => {
             let (letter, rest) = item.letters();
-            add_escape(letter, rest, phrase);
+            if !words.is_vt52 || !add_vt52(letter, rest, phrase) {
+                add_escape(letter, rest, phrase);
+            }
         }
-        Kind::Osc => add_command(item.body(), phrase),
+        Kind::Osc => add_command(item.code.number(), item.body(), is_whole, phrase),
         Kind::Apc => add_application(item.body(), phrase),
-        Kind::Dcs => add_device(item.body(), !words.is_unfinished && !item.is_cut(), phrase),
+        Kind::Dcs => words.string = Some(add_device(item.body(), is_whole, phrase)),
         Kind::Csi if !words.has_said => phrase.begin("CSI", "", "malformed, ignored"),
         Kind::Csi => {}
         Kind::Sos | Kind::Pm => {

@@ -27,7 +27,7 @@ pub fn add_object(
         None => object.add_member(Member::Place),
     }
     add_head(item, kind, is_finished, object);
-    add_name(words.phrase.name(), &mut words.scratch, object);
+    add_name(words.name(), &mut words.scratch, object);
     if kind != Kind::Text {
         object.add_member(Member::Words);
         object.add_string("", words.phrase.as_str());

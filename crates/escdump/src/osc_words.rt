@@ -7,36 +7,6 @@ use crate::rows::find_row;
 use crate::values::{add_pairs, cut};
 use dump_page::{Key, Name, Phrase};
 
-/// The name of a command with this text: `OSC` and its number, or the letter that it has in place
-/// of one.
-pub fn command_name(text: &[u8]) -> Name {
-    Name("OSC", "", key_of(text))
-}
-
-// The number that a text begins with, up to a `;` or its end; or its first letter. Controls and
-// bytes past 7F inside a number are passed over.
-fn key_of(text: &[u8]) -> Key {
-    let (first, _) = cut(text, b';');
-    let mut number: u64 = 0;
-    let mut count: usize = 0;
-    for byte in first {
-        match *byte {
-            b'0'..=b'9' if count < 18 => {
-                let digit = u64::from(byte.saturating_sub(b'0'));
-                number = number.saturating_mul(10).saturating_add(digit);
-                count = count.saturating_add(1);
-            }
-            0x00..=0x1f | 0x80..=0xff => {}
-            _ => return letter_of(text),
-        }
-    }
-    if count == 0 {
-        letter_of(text)
-    } else {
-        Key::Number(number)
-    }
-}
-
 // The letter that a text begins with.
 fn letter_of(text: &[u8]) -> Key {
     match text {
@@ -45,15 +15,19 @@ fn letter_of(text: &[u8]) -> Key {
     }
 }
 
-/// Adds a command with this text in words.
-pub fn add_command(text: &[u8], to: &mut Phrase) {
-    let name = command_name(text);
+/// Adds a command of this number, if it has one, in words. Its text may be whole, or only begin.
+/// Its name is `OSC` and its number, or the letter that it has in place of one.
+pub fn add_command(number: Option<u64>, text: &[u8], is_whole: bool, to: &mut Phrase) {
+    let key = match number {
+        Some(number) => Key::Number(number),
+        None => letter_of(text),
+    };
+    let name = Name("OSC", "", key);
     let (_, rest) = cut(text, b';');
-    let Name(_, _, key) = name;
     match key {
-        Key::Number(52) => add_clipboard(name, rest, to),
-        Key::Number(8) => add_link(name, rest, to),
-        Key::Number(number) => add_numbered(name, number, rest, to),
+        Key::Number(52) => add_clipboard(name, rest, is_whole, to),
+        Key::Number(8) => add_link(name, rest, is_whole, to),
+        Key::Number(number) => add_numbered(name, number, rest, is_whole, to),
         Key::Bytes(bytes) => add_lettered(name, bytes[2], text, to),
         Key::Nothing => {
             to.begin_named(name, "without a number");
@@ -62,11 +36,12 @@ pub fn add_command(text: &[u8], to: &mut Phrase) {
     }
 }
 
-// Adds a command of this number.
-fn add_numbered(name: Name, number: u64, rest: Option<&[u8]>, to: &mut Phrase) {
+// Adds a command of this number. What it does without a text is said of a whole one.
+fn add_numbered(name: Name, number: u64, rest: Option<&[u8]>, is_whole: bool, to: &mut Phrase) {
     let mut digits = to.empty();
     digits.add_digits(number);
     match find_row(table_of(number), digits.as_str().as_bytes(), rest) {
+        Some((row, _)) if !is_whole && row.key == "-" => to.begin_named(name, ""),
         Some((row, after)) => {
             to.begin_named(name, row.words);
             add_fields(row.fields, after, to);
@@ -104,11 +79,18 @@ fn add_lettered(name: Name, letter: u8, text: &[u8], to: &mut Phrase) {
 }
 
 // A link, or the end of one.
-fn add_link(name: Name, rest: Option<&[u8]>, to: &mut Phrase) {
+fn add_link(name: Name, rest: Option<&[u8]>, is_whole: bool, to: &mut Phrase) {
     let (params, address) = cut(rest.unwrap_or(b""), b';');
     let address = address.unwrap_or(b"");
     if address.is_empty() {
-        to.begin_named(name, "hyperlink ends");
+        to.begin_named(
+            name,
+            if is_whole {
+                "hyperlink ends"
+            } else {
+                "hyperlink"
+            },
+        );
     } else {
         to.begin_named(name, "hyperlink");
         to.add_quoted(" ", address);
@@ -125,11 +107,12 @@ fn add_params(params: &[u8], to: &mut Phrase) {
 
 // The clipboard: what is copied to it, or that it is asked for or cleared. Its text is shown as the
 // bytes that it stands for.
-fn add_clipboard(name: Name, rest: Option<&[u8]>, to: &mut Phrase) {
+fn add_clipboard(name: Name, rest: Option<&[u8]>, is_whole: bool, to: &mut Phrase) {
     to.begin_named(name, "clipboard");
     let (selection, text) = cut(rest.unwrap_or(b""), b';');
     to.add_quoted(" ", selection);
     match text {
+        Some([]) | None if !is_whole => {}
         Some(b"?") => to.add(" is asked for"),
         Some([]) | Some(b"!") | None => to.add(" is cleared"),
         Some(text) => {

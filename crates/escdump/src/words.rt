@@ -2,7 +2,7 @@
 
 use crate::controls::{Count, add_controls};
 use crate::csi_words::add_sequence;
-use dump_page::Phrase;
+use dump_page::{Name, Phrase};
 use esc_frame::VTActor;
 use esc_values::CsiParam;
 use std::alloc::{AllocError, Global};
@@ -25,6 +25,10 @@ pub struct Words {
     pub is_whole: bool,
     /// Whether tmux passes on what they are of.
     pub is_carried: bool,
+    /// The name of a string in whose words a control sequence may be named after it.
+    pub string: Option<Name>,
+    /// Whether they are of a terminal in its VT52 mode.
+    pub is_vt52: bool,
     // How many bytes the words may have.
     room: usize,
     controls: Vec<Count>,
@@ -43,6 +47,8 @@ impl Words {
             is_unfinished: false,
             is_whole: false,
             is_carried: false,
+            string: None,
+            is_vt52: false,
             room,
             controls: Vec::new(alloc),
         }
@@ -56,7 +62,16 @@ impl Words {
         self.is_unfinished = false;
         self.is_whole = false;
         self.is_carried = false;
+        self.string = None;
         self.controls.clear();
+    }
+
+    /// The name of the segment.
+    pub fn name(&self) -> Name {
+        match self.string {
+            Some(name) => name,
+            None => self.phrase.name(),
+        }
     }
 
     /// How many bytes the words may have.
