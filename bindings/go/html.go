@@ -20,7 +20,7 @@ type HTMLOptions struct {
 	Limit int
 }
 
-// ToHTML returns a stream as HTML: its characters, tabs and line feeds, with colours and renditions
+// ToHTML returns a stream as HTML: its characters, tabs and lines, with colours and renditions
 // as spans, and links to http, https and mailto. A browser reads these spans and links from it,
 // inside the body of a page in UTF-8, and nothing else, whatever the stream is.
 func ToHTML(stream []byte, options HTMLOptions) ([]byte, error) {

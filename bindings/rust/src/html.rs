@@ -15,7 +15,7 @@ pub struct Layout {
     pub inline: bool,
 }
 
-/// A stream that comes in chunks, as HTML: its characters, tabs and line feeds, with colours and
+/// A stream that comes in chunks, as HTML: its characters, tabs and lines, with colours and
 /// renditions as spans and links to `http`, `https` and `mailto`. A browser reads from it, inside
 /// the body of a page in UTF-8, these spans and links and nothing else, whatever the stream is. It
 /// may move between threads.

@@ -1,5 +1,5 @@
 -- A page is no longer than its stream allows, and neither is what one piece of the stream adds.
-use Rattle.std.proofs.Common.{ℕ, ◌≡◌, ◌≤◌, ◌+◌, ◌-◌, ◌*◌, ◌==◌, ◌||◌, Bool, true, false, if◌then◌else◌, List, [], ◌∷◌, ◌++◌, length, map, Option, Some, None, refl, ap, sym, ◌∙◌, subst, arith}
+use Rattle.std.proofs.Common.{ℕ, ◌≡◌, ◌≤◌, ◌+◌, ◌-◌, ◌*◌, ◌==◌, Bool, true, false, if◌then◌else◌, List, [], ◌∷◌, ◌++◌, length, map, Option, Some, None, refl, ap, sym, ◌∙◌, subst, arith}
 use Rattle.std.proofs.lemmas.Bool.{leb-true}
 use Rattle.std.proofs.lemmas.Grind.{flat_map-append}
 use Rattle.std.proofs.lemmas.List.{append-nil, length-append}
@@ -21,12 +21,12 @@ use Rattle.esc_frame.specs.Stream.{added_within, events_within}
 use Rattle.esc_frame.proofs.Streams.{added_is}
 use Rattle.esc_html.specs.Bounds.{IsBounded, IsBoundedPiece}
 use Rattle.esc_html.specs.Characters.{shown_as}
-use Rattle.esc_html.specs.Marks.{Pen, Step, redirects, restyles, shows, nothing, address_of, command_step, ends_line, step_of}
+use Rattle.esc_html.specs.Marks.{Pen, Step, redirects, restyles, shows, nothing, address_of, begins_line, command_step, ends_line, escape_begins_line, step_of}
 use Rattle.esc_html.specs.Pages.{State, after_character, closing_text, first_state, page_text, pieces_by, pieces_from, state_by, state_from, state_of_stream}
 use Rattle.esc_html.specs.Pieces.{html_text, piece_text}
 use Rattle.esc_html.specs.declared.layout.Layout.{Layout}
 use Rattle.esc_html.proofs.Addressed.{capped, command_size, meant_within, parts_size, short_size}
-use Rattle.esc_html.proofs.Costs.{Pays, address_size, control_pays, core, csis_keep, ending_most, held_most, kept, nothing_pays, print_pays, redirects_pays, reserve_most}
+use Rattle.esc_html.proofs.Costs.{Pays, address_size, control_pays, core, csis_keep, ending_most, escape_pays, held_most, kept, nothing_pays, print_pays, redirects_pays, reserve_most}
 use Rattle.esc_html.proofs.Pages.{pieces_more, state_more}
 use Rattle.esc_html.proofs.Safe.{IsGoodLink, IsGoodStep, good_command, good_function, good_next}
 use Rattle.esc_html.proofs.Weights.{bytes_used, unused_most, weight, weights}
@@ -138,7 +138,7 @@ module _ (A : Type 0) where
   event_pays pl g limit m (Print c) = one_pays pl g (print c) 150 (print_pays pl g c)
   event_pays pl g limit m (Execute b) = executed_pays pl g (code_of b)
   event_pays pl g limit m (EscDispatch is more f) =
-      one_pays pl g (esc (esc_of (lone is) f)) 0 (nothing_pays pl g 0)
+      let e = esc_of (lone is) f in one_pays pl g (esc e) 150 (escape_pays pl g e)
   event_pays pl g limit m (CsiDispatch es more f) =
       csi_pays pl g (map csi (csi_of es more f)) (csis_keep A pl g (csi_of es more f))
   event_pays pl g limit m (OscDispatch ps) = osc_pays pl g ps
@@ -227,14 +227,19 @@ module _ (A : Type 0) where
   shows_if true c = tt
   shows_if false c = tt
 
+  good_control : (b x : Bool) (c : ℕ)
+      → IsGoodRedirect (if b then shows c else if x then shows 0x0a else nothing)
+  good_control true x c = tt
+  good_control false x c = shows_if x 0x0a
+
   good_redirect : (p : Pen) (v : Value A) → IsGoodRedirect (step_of p v)
   good_redirect p (print c) = if_shows (c == 0x7f) (shown_as c)
   good_redirect p (control c) =
-      shows_if (code_number c == 0x09 || code_number c == 0x0a) (code_number c)
+      good_control (code_number c == 0x09) (begins_line (code_number c)) (code_number c)
   good_redirect p (csi c) = redirect_of _ (good_function p (of_csi c))
   good_redirect p (osc c) = redirect_of _ (good_command p c)
   good_redirect p (string t) = tt
-  good_redirect p (esc e) = tt
+  good_redirect p (esc e) = shows_if (escape_begins_line e) 0x0a
   good_redirect p (kitty i) = tt
   good_redirect p (sixel s) = tt
   good_redirect p (termcap ns) = tt

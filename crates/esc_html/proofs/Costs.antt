@@ -1,7 +1,7 @@
 -- How much a page grows by a step: by no more than the step pays, with what was paid before. What
 -- is paid is kept for the tags that are not open, for the end tags of those that are, and for each
 -- line on which a link may be opened again.
-use Rattle.std.proofs.Common.{ℕ, zero, suc, ◌≡◌, ◌≤◌, ◌+◌, ◌-◌, ◌*◌, Bool, true, false, ◌==◌, ◌||◌, if◌then◌else◌, List, [], ◌∷◌, ◌++◌, codes, length, map, Option, Some, None, is_some, refl, ap, arith, true≢false}
+use Rattle.std.proofs.Common.{ℕ, zero, suc, ◌≡◌, ◌≤◌, ◌+◌, ◌-◌, ◌*◌, Bool, true, false, ◌==◌, if◌then◌else◌, List, [], ◌∷◌, ◌++◌, codes, length, map, Option, Some, None, is_some, refl, ap, arith, true≢false}
 use Rattle.std.specs.Char.{encode_utf8}
 use Rattle.std.specs.List.{flat_map}
 use Rattle.std.proofs.lemmas.Bool.{leb-true}
@@ -9,7 +9,7 @@ use Rattle.std.proofs.lemmas.Grind.{flat_map-append}
 use Rattle.std.proofs.lemmas.List.{append-nil, length-append}
 use Rattle.esc_actions.specs.Values.{csi}
 use Rattle.esc_html.specs.Characters.{shown_as}
-use Rattle.esc_html.specs.Marks.{Pen, Step, redirects, shows, nothing, control_step, ends_line, function_step, next_line, print_step, with_look}
+use Rattle.esc_html.specs.Marks.{Pen, Step, redirects, shows, nothing, begins_line, control_step, ends_line, escape_begins_line, escape_step, function_step, next_line, print_step, with_look}
 use Rattle.esc_html.specs.Pages.{State, after_character, before_character, closing, link_end_if, link_opening, opening, pieces_by, pieces_from, span_closing, span_end_unless, span_unless, state_by, state_from, without_span}
 use Rattle.esc_html.specs.Pieces.{Piece, escape_text, escape_value, html_text, link, piece_text, span, text}
 use Rattle.esc_html.specs.declared.tags.Tags.{Tags}
@@ -18,6 +18,7 @@ use Rattle.esc_html.proofs.Sizes.{char_size, span_size, value_size}
 use Rattle.esc_looks.specs.Looks.{is_plain}
 use Rattle.esc_looks.specs.declared.look.Look.{Look}
 use Rattle.esc_sequences.specs.Csis.{CsiValue}
+use Rattle.esc_sequences.specs.declared.esc.Esc.{Esc}
 use Rattle.esc_typed.specs.Functions.{Value as Function, of_csi, cursor, edit, device, keyboard, mouse, window, mode_status, charset, escape, modes, tabs, renditions, other}
 
 -- ---- a size so many times
@@ -309,8 +310,17 @@ print_pays pl g c = by (c == 0x7f)
     by false = shows_pays pl g (shown_as c)
 
 pub control_pays : (pl : Bool) (g : State) (n : ℕ) → Pays pl g (control_step n) 150
-control_pays pl g n = by (n == 0x09 || n == 0x0a)
+control_pays pl g n = by (n == 0x09) (begins_line n)
   where
-    by : (b : Bool) → Pays pl g (if b then shows n else nothing) 150
-    by true = shows_pays pl g n
+    by : (b x : Bool)
+        → Pays pl g (if b then shows n else if x then shows 0x0a else nothing) 150
+    by true x = shows_pays pl g n
+    by false true = shows_pays pl g 0x0a
+    by false false = nothing_pays pl g 150
+
+pub escape_pays : (pl : Bool) (g : State) (e : Esc) → Pays pl g (escape_step e) 150
+escape_pays pl g e = by (escape_begins_line e)
+  where
+    by : (b : Bool) → Pays pl g (if b then shows 0x0a else nothing) 150
+    by true = shows_pays pl g 0x0a
     by false = nothing_pays pl g 150

@@ -1,5 +1,5 @@
 -- The pieces of a stream are kept and safe.
-use Rattle.std.proofs.Common.{ℕ, suc, ◌≡◌, ◌<◌, ◌-◌, ◌==◌, Bool, true, false, not, ◌&&◌, ◌||◌, if◌then◌else◌, inl, inr, List, [], ◌∷◌, ◌++◌, length, get_or, Option, Some, None, is_some, chars, refl, ap, sym, subst, ◌∙◌, append_assoc, arith}
+use Rattle.std.proofs.Common.{ℕ, suc, ◌≡◌, ◌<◌, ◌-◌, ◌==◌, Bool, true, false, not, ◌&&◌, if◌then◌else◌, inl, inr, List, [], ◌∷◌, ◌++◌, length, get_or, Option, Some, None, is_some, chars, refl, ap, sym, subst, ◌∙◌, append_assoc, arith}
 use Rattle.std.specs.Char.{encode_utf8}
 use Rattle.std.specs.List.{list_all}
 use Rattle.std.specs.Str.{IsUtf8, encode_utf8_all}
@@ -14,12 +14,13 @@ use Rattle.esc_actions.specs.Writable.{AreHandedOut, IsHandedOut}
 use Rattle.esc_links.specs.declared.hyperlink.Hyperlink.{Hyperlink}
 use Rattle.esc_osc.specs.declared.command.OperatingSystemCommand.{OperatingSystemCommand}
 use Rattle.esc_osc.specs.declared.command.OperatingSystemCommand.TheVariants as command
+use Rattle.esc_sequences.specs.declared.esc.Esc.{Esc}
 use Rattle.esc_typed.specs.Functions.{Value as Function, of_csi, cursor, edit, device, keyboard, mouse, window, mode_status, charset, escape, modes, tabs, renditions, other}
 use Rattle.esc_values.specs.Clear.{is_clear}
 use Rattle.esc_html.specs.Addresses.{is_address_char, is_safe_address}
 use Rattle.esc_html.specs.Characters.{is_noncharacter, shown_as}
 use Rattle.esc_looks.specs.Looks.{is_plain}
-use Rattle.esc_html.specs.Marks.{Pen, Step, restyles, redirects, shows, nothing, address_if, address_of, command_step, control_step, ends_line, function_step, is_page_address, print_step, step_of}
+use Rattle.esc_html.specs.Marks.{Pen, Step, restyles, redirects, shows, nothing, address_if, address_of, begins_line, command_step, control_step, ends_line, escape_begins_line, escape_step, function_step, is_page_address, print_step, step_of}
 use Rattle.esc_html.specs.Pages.{State, after_character, before_character, closed, closing, link_end_if, link_opening, opening, pieces_by, pieces_from, span_closing, span_end_unless, span_unless, state_by, state_from}
 use Rattle.esc_html.specs.Pieces.{Piece, text, span, span_end, link, link_end, is_kept, is_unbroken}
 use Rattle.esc_looks.specs.declared.look.Look.{Look}
@@ -117,12 +118,20 @@ good_print c h = by (c == 0x7f)
     by false = kept_char (shown_as c) (shown_kept c (clear_kept c h))
 
 good_control : (n : ℕ) → IsGoodStep (control_step n)
-good_control n = by (n == 0x09 || n == 0x0a) refl
+good_control n = by (n == 0x09) (begins_line n) refl
   where
-    by : (b : Bool) → (n == 0x09 || n == 0x0a) ≡ b
-        → IsGoodStep (if b then shows n else nothing)
-    by true e = kept_char n (grind (arith, nat_tests))
-    by false e = tt
+    by : (b x : Bool) → (n == 0x09) ≡ b
+        → IsGoodStep (if b then shows n else if x then shows 0x0a else nothing)
+    by true x e = kept_char n (grind (arith, nat_tests))
+    by false true e = kept_char 0x0a refl
+    by false false e = tt
+
+good_escape : (e : Esc) → IsGoodStep (escape_step e)
+good_escape e = by (escape_begins_line e)
+  where
+    by : (b : Bool) → IsGoodStep (if b then shows 0x0a else nothing)
+    by true = kept_char 0x0a refl
+    by false = tt
 
 pub good_function : (p : Pen) (f : Function) → IsGoodStep (function_step p f)
 good_function p (cursor c) = tt
@@ -174,7 +183,7 @@ good_step : {A : Type 0} (p : Pen) (v : Value A) → IsHandedOut v → IsGoodSte
 good_step p (print c) k = good_print c (k refl)
 good_step p (string t) k = tt
 good_step p (control c) k = good_control (code_number c)
-good_step p (esc e) k = tt
+good_step p (esc e) k = good_escape e
 good_step p (csi c) k = good_function p (of_csi c)
 good_step p (osc c) k = good_command p c
 good_step p (kitty i) k = tt

@@ -28,12 +28,13 @@ use Rattle.esc_values.specs.Clear.{parts_of}
 use Rattle.esc_html.proofs.Addressed.{capped, capped_less, parts_size, parts_within}
 use Rattle.esc_html.proofs.Sizes.{value_added, value_size, value_small}
 
--- what an event uses: a character that is shown, a sequence that may change the look, and a command
--- that may have an address, which may be written sixteen times
+-- what an event uses: a character that is shown, an escape sequence that may begin a line, a
+-- control sequence that may change the look, and a command that may have an address, which may be
+-- written sixteen times
 abbrev pub weight : Event → ℕ
 weight (Print c) = 150
 weight (Execute b) = 150
-weight (EscDispatch is more f) = 0
+weight (EscDispatch is more f) = 150
 weight (CsiDispatch es more f) = 144
 weight (OscDispatch ps) = 144 + 16 * capped (parts_size ps)
 weight (DcsHook f ps is more) = 0
@@ -143,16 +144,16 @@ final_used x b (Introducer k) = by (is_empty (strip x))
     by : (y : Bool) → used (if y then (opened k (Long x), [])
         else (Ground, escape_event (strip x) b ∷ [])) ≤ 150
     by true = omega (arith, opened_used k (Long x))
-    by false = leb-true 0 150 refl
-final_used x b (Breaks k) = leb-true 0 150 refl
-final_used x b Lead = leb-true 0 150 refl
-final_used x b High = leb-true 0 150 refl
-final_used x b C0 = leb-true 0 150 refl
-final_used x b Bell = leb-true 0 150 refl
-final_used x b Intermediate = leb-true 0 150 refl
-final_used x b Parameter = leb-true 0 150 refl
-final_used x b Final = leb-true 0 150 refl
-final_used x b Delete = leb-true 0 150 refl
+    by false = leb-true 150 150 refl
+final_used x b (Breaks k) = leb-true 150 150 refl
+final_used x b Lead = leb-true 150 150 refl
+final_used x b High = leb-true 150 150 refl
+final_used x b C0 = leb-true 150 150 refl
+final_used x b Bell = leb-true 150 150 refl
+final_used x b Intermediate = leb-true 150 150 refl
+final_used x b Parameter = leb-true 150 150 refl
+final_used x b Final = leb-true 150 150 refl
+final_used x b Delete = leb-true 150 150 refl
 
 csi_used : (x : List ℕ) (f : ℕ) → weights (csi_events x f) ≤ 144
 csi_used x f = by (is_csi_body x)

@@ -2,10 +2,12 @@
 use Rattle.std.specs.Prelude.{ℕ, ◌==◌, ◌-◌, Bool, true, false, not, ◌&&◌, ◌||◌, if◌then◌else◌, List, [], ◌∷◌, ◌++◌, Option, Some, None}
 use Rattle.std.specs.List.{list_all}
 use Rattle.esc_actions.specs.ControlCodes.{code_number}
-use Rattle.esc_actions.specs.Values.{Value, print, control, csi, osc}
+use Rattle.esc_actions.specs.Values.{Value, print, control, esc, csi, osc}
 use Rattle.esc_links.specs.declared.hyperlink.Hyperlink.{Hyperlink}
 use Rattle.esc_osc.specs.declared.command.OperatingSystemCommand.{OperatingSystemCommand}
 use Rattle.esc_osc.specs.declared.command.OperatingSystemCommand.TheVariants.{SetHyperlink}
+use Rattle.esc_sequences.specs.declared.esc.Esc.{Esc}
+use Rattle.esc_sequences.specs.declared.esc.Esc.TheVariants.{Unspecified}
 use Rattle.esc_typed.specs.Functions.{Value as Function, renditions, of_csi}
 use Rattle.esc_html.specs.Addresses.{is_safe_address}
 use Rattle.esc_html.specs.Characters.{shown_as}
@@ -57,9 +59,23 @@ pub data Step : Type 0 where
 abbrev pub print_step : ℕ → Step
 print_step c = if c == 0x7f then nothing else shows (shown_as c)
 
--- tabs and line feeds are shown, and no other control
+-- a control that begins a line: line feed, line tabulation, form feed, and IND and NEL of C1
+abbrev pub begins_line : ℕ → Bool
+begins_line n = n == 0x0a || n == 0x0b || n == 0x0c || n == 0x84 || n == 0x85
+
+-- the same two in a 7-bit code, as ESC D and ESC E
+abbrev pub escape_begins_line : Esc → Bool
+escape_begins_line (Unspecified None c) = c == 0x44 || c == 0x45
+escape_begins_line _ = false
+
+-- a tab is shown, a line feed for each control that begins a line, and no other control
 abbrev pub control_step : ℕ → Step
-control_step n = if n == 0x09 || n == 0x0a then shows n else nothing
+control_step n = if n == 0x09 then shows n
+    else if begins_line n then shows 0x0a
+    else nothing
+
+abbrev pub escape_step : Esc → Step
+escape_step e = if escape_begins_line e then shows 0x0a else nothing
 
 abbrev pub with_look : Pen → Look → Pen
 with_look p l = record p { look = l }
@@ -87,6 +103,7 @@ command_step p _ = nothing
 abbrev pub step_of : {A : Type 0} → Pen → Value A → Step
 step_of p (print c) = print_step c
 step_of p (control c) = control_step (code_number c)
+step_of p (esc e) = escape_step e
 step_of p (csi c) = function_step p (of_csi c)
 step_of p (osc c) = command_step p c
 step_of p _ = nothing
@@ -94,7 +111,7 @@ step_of p _ = nothing
 -- ---- what leaves something in a page
 
 abbrev pub is_shown_control : ℕ → Bool
-is_shown_control n = n == 0x09 || n == 0x0a
+is_shown_control n = n == 0x09 || begins_line n
 
 abbrev pub is_shown_function : Function → Bool
 is_shown_function (renditions rs) = true
@@ -113,6 +130,7 @@ is_shown_command _ = false
 abbrev pub is_shown : {A : Type 0} → Value A → Bool
 is_shown (print c) = not (c == 0x7f)
 is_shown (control c) = is_shown_control (code_number c)
+is_shown (esc e) = escape_begins_line e
 is_shown (csi c) = is_shown_function (of_csi c)
 is_shown (osc c) = is_shown_command c
 is_shown _ = false

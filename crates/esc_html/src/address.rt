@@ -3,8 +3,12 @@ ghost use Rattle.std.specs.Prelude.{◌≡◌};
 ghost use Rattle.std.specs.List.{list_all};
 ghost use Rattle.std.specs.Str.{chars};
 ghost use Rattle.esc_html.specs.Addresses.{has_scheme, is_address_char, is_safe_address, is_short};
+ghost use Rattle.esc_html.specs.Marks.{address_of, is_page_address};
 
 use crate::character::is_noncharacter;
+use esc_links::Hyperlink;
+use esc_values::Text;
+use std::alloc::Allocator;
 
 // How many bytes of an address VTE and iTerm2 take.
 const LONGEST_ADDRESS: usize = 2083;
@@ -56,4 +60,25 @@ fn is_address_char(c: char) -> bool
     ensures { result ≡ is_address_char c }
 {
     '\u{20}' < c && (c < '\u{7f}' || '\u{9f}' < c) && !is_noncharacter(c)
+}
+
+// Where a link leads in a page: nowhere, where its address is not safe.
+pub(crate) fn address_of<A: Allocator>(link: Option<Hyperlink<A>>) -> Option<Text<A>>
+    ensures { result ≡ address_of link }
+{
+    let Some(link) = link else {
+        return None;
+    };
+    if is_page_address(link.uri.as_str()) {
+        Some(link.uri)
+    } else {
+        None
+    }
+}
+
+// Whether a page may lead to this address.
+pub(crate) fn is_page_address(address: &str) -> bool
+    ensures { result ≡ is_page_address address.now }
+{
+    is_safe_address(address)
 }

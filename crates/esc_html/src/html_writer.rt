@@ -11,9 +11,10 @@ use std::alloc::{Allocator, Global};
 use std::mem;
 
 /// Takes a stream in whatever pieces it comes, and gives for each the HTML that it adds: the
-/// characters of the stream but DEL, with U+FFFD in the place of noncharacters, and tabs and line
-/// feeds, in spans of their looks and in links to safe addresses, as the [`Layout`] says. All other
-/// actions show nothing. A link stays open where the look changes in it.
+/// characters of the stream but DEL, with U+FFFD in the place of noncharacters, tabs, and a line
+/// feed for each control that begins a line (LF, VT, FF, IND and NEL), in spans of their looks and
+/// in links to safe addresses, as the [`Layout`] says. All other actions show nothing. A link stays
+/// open where the look changes in it.
 ///
 /// All texts together are at most 150 times as long as the stream, and 150 bytes more; and one is
 /// at most 150 times as long as its piece, and 401,000 bytes more, whatever came before it.

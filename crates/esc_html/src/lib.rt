@@ -2,7 +2,7 @@
 //! <https://html.spec.whatwg.org/multipage/parsing.html#tokenization>).
 //!
 //! [`HtmlWriter`] takes a stream in pieces and gives the HTML of each: its characters, tabs and
-//! line feeds, in spans of their looks and in links to safe addresses.
+//! lines, in spans of their looks and in links to safe addresses.
 //!
 //! ```text
 //! let mut writer = HtmlWriter::new(alloc, 65_536, false);
@@ -18,6 +18,7 @@
 #![tactic(auto)]
 
 mod address;
+mod breaks;
 mod character;
 mod escaping;
 pub mod html_writer;

@@ -6,7 +6,7 @@ ghost use Rattle.esc_actions.specs.declared.action.Action.TheVariants.{Print};
 ghost use Rattle.esc_frame.specs.Scans.{is_text_byte};
 ghost use Rattle.esc_html.specs.Fed.{Adds, Takes, is_visible, state_of, text_of, with_text};
 ghost use Rattle.esc_looks.specs.Looks.{is_plain, look_by, look_by_all};
-ghost use Rattle.esc_html.specs.Marks.{address_of, command_step, control_step, function_step, is_page_address, next_line, print_step, redirects, restyles, shows, with_link};
+ghost use Rattle.esc_html.specs.Marks.{address_of, command_step, control_step, escape_step, function_step, next_line, print_step, redirects, restyles, shows, with_link};
 ghost use Rattle.esc_html.specs.Pages.{State, after_character, before_character, closed, first_state, link_opening, opened, span_closed, span_unless, with_tags, without_span};
 ghost use Rattle.esc_html.specs.Pieces.{html_text};
 ghost use Rattle.esc_html.specs.Renditions.{rendition_of};
@@ -17,7 +17,8 @@ ghost use Rattle.esc_typed.specs.Functions.{of_csi, value_of};
 ghost use Rattle.esc_typed.specs.Selections.{left};
 ghost use Rattle.memory.specs.Refusals.{Refused};
 
-use crate::address::is_safe_address;
+use crate::address::address_of;
+use crate::breaks::{begins_line, escape_begins_line};
 use crate::character::{are_characters, shown_as};
 use crate::layout::Layout;
 use crate::markup::Markup;
@@ -28,8 +29,8 @@ use esc_links::Hyperlink;
 use esc_looks::Look;
 use esc_osc::OperatingSystemCommand;
 use esc_parse::Sink;
-use esc_sequences::Sgr;
 use esc_sequences::csi::{is_unspecified, short_rendition};
+use esc_sequences::{Esc, Sgr};
 use esc_typed::{Function, Rendition, Renditions};
 use esc_values::{CsiParam, Text};
 use memchr::memchr;
@@ -275,13 +276,27 @@ impl<A: Allocator> Page<A> {
         Ok(())
     }
 
-    // Shows a tab or a line feed, and no other control.
+    // Shows a tab, a line feed where a control begins a line, and no other control.
     fn take_control(&mut self, c: char) -> Result<(), AllocError>
         ensures ok { OnOk result (Adds self.old (control_step c) self.new) }
         ensures refused { OnErr result (Refused A) }
     {
-        if c == '\t' || c == '\n' {
+        if c == '\t' {
             self.show(c)
+        } else if begins_line(c) {
+            self.show('\n')
+        } else {
+            Ok(())
+        }
+    }
+
+    // Shows a line feed where an escape sequence begins a line.
+    fn take_escape(&mut self, esc: Esc) -> Result<(), AllocError>
+        ensures ok { OnOk result (Adds self.old (escape_step esc) self.new) }
+        ensures refused { OnErr result (Refused A) }
+    {
+        if escape_begins_line(esc) {
+            self.show('\n')
         } else {
             Ok(())
         }
@@ -384,14 +399,14 @@ impl<A: Allocator> Sink<Action<A>> for Page<A> {
         match action {
             Action::Print(c) => self.take_print(c),
             Action::Control(code) => self.take_control(code.as_char()),
+            Action::Esc(esc) => self.take_escape(esc),
             Action::CSI(csi) => self.take_function(Function::of(&csi)),
             Action::OperatingSystemCommand(command) => self.take_command(command.into_inner()),
             Action::PrintString(_)
-            | Action::Esc(_)
             | Action::KittyImage(_)
             | Action::Sixel(_)
-            | Action::XtGetTcap(_)
-            | Action::DeviceControl(_) => Ok(()),
+            | Action::XtGetTcap(_) => Ok(()),
+            Action::DeviceControl(_) => Ok(()),
         }
     }
 
@@ -474,25 +489,4 @@ fn as_str(text: &[u8]) -> &str
     ensures { result.now ≡ text.now }
 {
     unsafe { str::from_utf8_unchecked(text) }
-}
-
-// Where a link leads in a page: nowhere, where its address is not safe.
-fn address_of<A: Allocator>(link: Option<Hyperlink<A>>) -> Option<Text<A>>
-    ensures { result ≡ address_of link }
-{
-    let Some(link) = link else {
-        return None;
-    };
-    if is_page_address(link.uri.as_str()) {
-        Some(link.uri)
-    } else {
-        None
-    }
-}
-
-// Whether a page may lead to this address.
-pub(crate) fn is_page_address(address: &str) -> bool
-    ensures { result ≡ is_page_address address.now }
-{
-    is_safe_address(address)
 }

@@ -4,7 +4,8 @@ ghost use Rattle.esc_actions.specs.Values.{value_of};
 ghost use Rattle.esc_html.specs.Marks.{is_shown, is_shown_command, is_shown_control, is_shown_function, leads};
 ghost use Rattle.esc_typed.specs.Functions.{value_of as function_value};
 
-use crate::page::is_page_address;
+use crate::address::is_page_address;
+use crate::breaks::{begins_line, escape_begins_line};
 use esc_actions::Action;
 use esc_links::Hyperlink;
 use esc_osc::OperatingSystemCommand;
@@ -12,18 +13,18 @@ use esc_typed::Function;
 use std::alloc::Allocator;
 
 /// Whether a page shows an action, or what it changes of looks and links: a character but DEL, a
-/// tab, a line feed, renditions, and a link to a safe address or the end of one. All other actions
-/// leave nothing in a page.
+/// tab, a control that begins a line, renditions, and a link to a safe address or the end of one.
+/// All other actions leave nothing in a page.
 pub fn is_shown<A: Allocator>(action: &Action<A>) -> bool
     ensures { result ≡ is_shown (value_of action.now) }
 {
     match action {
         Action::Print(c) => *c != '\u{7f}',
         Action::Control(code) => is_shown_control(code.as_char()),
+        Action::Esc(esc) => escape_begins_line(*esc),
         Action::CSI(csi) => is_shown_function(Function::of(csi)),
         Action::OperatingSystemCommand(command) => is_shown_command(command.as_ref()),
         Action::PrintString(_)
-        | Action::Esc(_)
         | Action::KittyImage(_)
         | Action::Sixel(_)
         | Action::XtGetTcap(_)
@@ -31,11 +32,11 @@ pub fn is_shown<A: Allocator>(action: &Action<A>) -> bool
     }
 }
 
-// Whether it is a tab or a line feed.
+// Whether it is a tab, or begins a line.
 fn is_shown_control(c: char) -> bool
     ensures { result ≡ is_shown_control c }
 {
-    c == '\t' || c == '\n'
+    c == '\t' || begins_line(c)
 }
 
 // Whether it asks for renditions.

@@ -497,7 +497,7 @@ uint32_t escape_stream_sanitizer_account(struct escape_stream_sanitizer *sanitiz
 void escape_stream_sanitizer_end(struct escape_stream_sanitizer *sanitizer);
 
 /*
- * A stream that comes in chunks, as HTML: its characters, tabs and line feeds, with colours and
+ * A stream that comes in chunks, as HTML: its characters, tabs and lines, with colours and
  * renditions as spans and links to http, https and mailto. A browser reads from the text, inside
  * the body of a page in UTF-8, these spans and links and nothing else, whatever the stream is. It
  * lies in the caller's memory as a filter does: set it to zero before the first call.
