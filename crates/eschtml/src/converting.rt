@@ -27,12 +27,15 @@ pub struct Converting<'a, W, E> {
     pub faults: E,
     /// Whether the name of a stream is a heading of the page.
     pub is_headed: bool,
+    /// How many streams came before.
+    pub streams: u64,
     /// How many lines of the page come before the next stream.
     pub line: u64,
 }
 
 impl<'a, W: Write, E: Write> Work for Converting<'a, W, E> {
     fn take<R: Read + Drop>(&mut self, name: &str, input: R) -> Ended {
+        self.streams = self.streams.saturating_add(1);
         let input = Input::new(self.alloc, self.options.order, input);
         let mut window = Window::new(self.alloc, self.options.cut, input);
         window.prepare();
@@ -52,7 +55,12 @@ impl<'a, W: Write, E: Write> Work for Converting<'a, W, E> {
 impl<'a, W: Write, E: Write> Converting<'a, W, E> {
     // Writes these lines of a stream of this name, with what comes before and after them.
     fn take_on_page<R: Read + Drop>(&mut self, name: &str, window: Window<R>) -> Ended {
-        let text = heading(self.alloc, name, self.is_headed, window.before());
+        let number = if self.is_headed {
+            Some(self.streams)
+        } else {
+            None
+        };
+        let text = heading(self.alloc, name, number, window.before());
         let ended = self.push(Ended::Whole, text);
         if ended != Ended::Whole {
             return ended;

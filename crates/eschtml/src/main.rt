@@ -10,6 +10,7 @@ mod lined;
 mod lines;
 mod options;
 mod page;
+mod palettes;
 mod piped;
 mod stream;
 mod strings;
@@ -22,7 +23,7 @@ use command_line::{
 use converting::Converting;
 use esc_filter::FilterError;
 use new_file::{NewFile, Output};
-use options::{Kind, Options, Task, Theme};
+use options::{Kind, Options, Task};
 use page::{END, head};
 use std::alloc::{AllocError, Global};
 use std::io;
@@ -33,8 +34,9 @@ use style::push_style;
 
 const USAGE: &str = "\
 usage: eschtml [--page] [--title text] [--css address] [--lang language] \
-[--theme auto|light|dark] [--numbers] [--wrap] [--lines] [--inline] [--show] [--lost] \
-[--final-lines[=rows]] [--head lines] [--tail lines] [--linkify] [--fold] [--style] \
+[--theme auto|light|dark] [--palette xterm|vga|solarized|tango|one-half] [--numbers] [--wrap] \
+[--lines] [--inline] [--show] [--lost] [--final-lines[=rows]] [--head lines] [--tail lines] \
+[--linkify] [--fold] [--style] \
 [--encoding utf-8|utf-16|utf-16le|utf-16be|latin1|windows-1250|windows-1251|windows-1252|\
 windows-1253|windows-1254|windows-1255|windows-1256|windows-1257|windows-1258] \
 [--c1 replace|obey] [--limit size] [-o|--output file] [-h|--help] [-V|--version] [--] [FILE..]";
@@ -50,6 +52,8 @@ renditions as spans, and links to http, https and mailto. Nothing of it becomes 
   --theme auto    follows the setting of the page's reader, as it does unless told otherwise
   --theme light   is light, also where it is printed by --style
   --theme dark    is dark, also there
+  --palette name  has the colours of a terminal as they are, also there: xterm, vga, solarized,
+                  tango or one-half
   --numbers       makes an element of each line, with an id, as L13, and its number, as --page
                   does
   --wrap          breaks long lines of the page
@@ -106,15 +110,15 @@ fn done(rt: &HostRuntime, task: &Task<'_>) -> u8 {
             Some(wrong) => refused(PROGRAM, wrong, &mut rt.stderr()),
             None => convert_to(rt, task.output, task.options, &task.files),
         },
-        Kind::Style => print_style(rt, task.options.theme),
+        Kind::Style => print_style(rt, &task.options),
         Kind::Help => said(rt, OUTPUT, println!(rt; "{USAGE}\n\n{HELP}")),
         Kind::Version => said(rt, OUTPUT, println!(rt; "{VERSION}")),
     }
 }
 
 // Prints the style sheet.
-fn print_style(rt: &HostRuntime, theme: Theme) -> u8 {
-    let Ok(text) = style_text(rt.alloc(), theme) else {
+fn print_style(rt: &HostRuntime, options: &Options<'_>) -> u8 {
+    let Ok(text) = style_text(rt.alloc(), options) else {
         tell(PROGRAM, OUTPUT, FilterError::Memory, &mut rt.stderr());
         return FAULT;
     };
@@ -122,9 +126,9 @@ fn print_style(rt: &HostRuntime, theme: Theme) -> u8 {
 }
 
 // The style sheet. The error is that memory was refused.
-fn style_text(alloc: Global, theme: Theme) -> Result<String, AllocError> {
+fn style_text(alloc: Global, options: &Options<'_>) -> Result<String, AllocError> {
     let mut text = String::new(alloc);
-    push_style(&mut text, theme)?;
+    push_style(&mut text, options.theme, options.palette)?;
     Ok(text)
 }
 
@@ -219,6 +223,7 @@ fn convert_all<W: Write>(
         output,
         faults: rt.stderr(),
         is_headed: files.len() > 1,
+        streams: 0,
         line: 0,
     };
     work_through(rt, PROGRAM, files, &mut converting, &mut rt.stderr())

@@ -1,5 +1,6 @@
 //! What the program's words ask for.
 
+use crate::palettes::{PALETTES, Palette};
 use command_line::{Apart, Found, Given, Known, Takes, Wrong, read};
 use esc_decode::{ByteOrder, CodePage, ENCODINGS, Encoding, encoding_of, order_of, page_of};
 use esc_html::Layout;
@@ -19,6 +20,8 @@ pub struct Options<'a> {
     pub lang: &'a str,
     /// Whether the page is light or dark.
     pub theme: Theme,
+    /// The palette of a terminal that the page has, in place of the program's colours.
+    pub palette: Option<Palette>,
     /// Whether long lines of the page are broken.
     pub wraps: bool,
     /// The number of the first line, where each line is an element.
@@ -54,6 +57,7 @@ impl<'a> Options<'a> {
             css: None,
             lang: "en",
             theme: Theme::Auto,
+            palette: None,
             wraps: false,
             first: None,
             layout: Layout {
@@ -87,6 +91,7 @@ impl<'a> Options<'a> {
             "--css" => self.css = Some(given.word),
             "--lang" => self.lang = given.word,
             "--theme" => self.theme = Theme::of(given.word),
+            "--palette" => self.palette = Palette::of(given.word),
             "--wrap" => self.wraps = true,
             "--lines" => self.layout.per_line = true,
             "--inline" => self.layout.inline = true,
@@ -186,6 +191,11 @@ const KNOWN: &[Known] = &[
         name: "--theme",
         letter: "",
         takes: Takes::OneOf("theme", &["auto", "light", "dark"]),
+    },
+    Known {
+        name: "--palette",
+        letter: "",
+        takes: Takes::OneOf("palette", PALETTES),
     },
     Known {
         name: "--numbers",

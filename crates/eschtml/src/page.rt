@@ -1,6 +1,7 @@
 //! What comes before and after a stream in a whole page.
 
 use crate::options::{Options, Theme};
+use crate::palettes::Palette;
 use crate::strings::Lost;
 use crate::style::{push_page_style, push_style};
 use esc_html::push_text;
@@ -46,7 +47,7 @@ fn push_head(text: &mut String, title: &str, options: &Options<'_>) -> Result<()
     )?;
     push_title(text, title)?;
     memory::push_str(text, "</title>\n")?;
-    push_sheet(text, options.css, theme_of(options))?;
+    push_sheet(text, options)?;
     memory::push_str(text, "</head>\n<body>\n<main>\n<h1>")?;
     push_title(text, title)?;
     memory::push_str(text, "</h1>\n")
@@ -92,18 +93,19 @@ fn allowed(css: Option<&str>) -> &'static str {
     }
 }
 
-// Whether the page is light or dark: light where it has the colours of a light one by themselves.
-fn theme_of(options: &Options<'_>) -> Theme {
+// Whether the page is light or dark, and its palette: light, with none, where it has the colours of
+// a light one by themselves.
+fn colors_of(options: &Options<'_>) -> (Theme, Option<Palette>) {
     if options.layout.inline {
-        Theme::Light
+        (Theme::Light, None)
     } else {
-        options.theme
+        (options.theme, options.palette)
     }
 }
 
-// The style sheet, or a link to that of this address.
-fn push_sheet(text: &mut String, css: Option<&str>, theme: Theme) -> Result<(), AllocError> {
-    match css {
+// The style sheet, or a link to that of the options.
+fn push_sheet(text: &mut String, options: &Options<'_>) -> Result<(), AllocError> {
+    match options.css {
         Some(address) => {
             memory::push_str(text, "<link rel=\"stylesheet\" href=\"")?;
             push_value(text, address)?;
@@ -111,8 +113,9 @@ fn push_sheet(text: &mut String, css: Option<&str>, theme: Theme) -> Result<(), 
         }
         None => {
             memory::push_str(text, "<style>\n")?;
-            push_style(text, theme)?;
-            push_page_style(text, theme)?;
+            let (theme, palette) = colors_of(options);
+            push_style(text, theme, palette)?;
+            push_page_style(text, theme, palette)?;
             memory::push_str(text, "</style>\n")
         }
     }
@@ -159,26 +162,29 @@ pub fn counted(lines: u64) -> &'static str {
 }
 
 /// What comes before a stream of this name, of which so many lines before those that are written
-/// are left out, where its name is a heading or not. The error is that memory was refused.
+/// are left out: a heading, where it has a number, which is in the id of the heading. The error is
+/// that memory was refused.
 pub fn heading(
     alloc: Global,
     name: &str,
-    is_headed: bool,
+    number: Option<u64>,
     left_out: u64,
 ) -> Result<String, AllocError> {
     let mut text = String::new(alloc);
-    let made = push_heading(&mut text, name, is_headed, left_out);
+    let made = push_heading(&mut text, name, number, left_out);
     whole(text, made)
 }
 
 fn push_heading(
     text: &mut String,
     name: &str,
-    is_headed: bool,
+    number: Option<u64>,
     left_out: u64,
 ) -> Result<(), AllocError> {
-    if is_headed {
-        memory::push_str(text, "<h2>")?;
+    if let Some(number) = number {
+        memory::push_str(text, "<h2 id=\"F")?;
+        memory::push_display(text, &number)?;
+        memory::push_str(text, "\">")?;
         push_title(text, name)?;
         memory::push_str(text, "</h2>\n")?;
     }

@@ -1,6 +1,7 @@
 //! The style sheet.
 
 use crate::options::Theme;
+use crate::palettes::{Palette, Rgb, Scheme};
 use esc_html::{Style, is_deep, palette};
 use esc_values::RgbColor;
 use std::alloc::AllocError;
@@ -41,19 +42,22 @@ const DARK: &str = "\
   --es-bright-magenta: #9a3fd5; --es-bright-cyan: #1b7c83; }
 ";
 
-// The rules for each class that a span can have, all below `.es-stream`, with names of their own. A
-// line through, over or under characters adds to the others; what blinks does not.
-//
 // Grounds have colours of their own: black and white can be read on each, and any other colour on a
-// deeper one, or on one that is nearly white. What stands on the ground of a line touches the one
-// of the next.
-const RULES: &str = "\
+// deeper one, or on one that is nearly white.
+const OWN_GROUNDS: &str = "\
 .es-stream {
   --es-on-black: #24292f; --es-on-red: #dd313d; --es-on-green: #258640; --es-on-yellow: #927100;
   --es-on-blue: #0a71eb; --es-on-magenta: #8959e1; --es-on-cyan: #1c8289; --es-on-white: #d0d7de;
   --es-on-bright-black: #6e7680; --es-on-bright-red: #eb060b; --es-on-bright-green: #178817;
   --es-on-bright-yellow: #986e1d; --es-on-bright-blue: #2672e0; --es-on-bright-magenta: #c64191;
   --es-on-bright-cyan: #098194; --es-on-bright-white: #eaeef2; }
+";
+
+// The rules for each class that a span can have, all below `.es-stream`, with names of their own. A
+// line through, over or under characters adds to the others; what blinks does not. A link has a
+// dashed line, lower than that of a rendition. What stands on the ground of a line touches the one
+// of the next.
+const RULES: &str = "\
 .es-stream { color: var(--es-text); background-color: var(--es-page);
   font: 0.875rem/1.45 ui-monospace, SFMono-Regular, Menlo, Consolas, monospace; }
 .es-stream pre { margin: 0; padding: 0.5rem 1rem; font: inherit; overflow-x: auto; tab-size: 8; }
@@ -67,9 +71,11 @@ const RULES: &str = "\
 .es-stream .es-line:target { background-color: var(--es-mark);
   box-shadow: inset 3px 0 var(--es-dim); }
 .es-stream .es-line:target > [tabindex] { color: var(--es-text); font-weight: bold; }
-.es-stream pre a { color: inherit; }
+.es-stream pre a { color: inherit; text-decoration: underline dashed;
+  text-underline-offset: 0.25em; }
+.es-stream pre a:hover { text-decoration-style: solid; }
 .es-stream pre span { text-decoration-line: var(--es-under,) var(--es-through,) var(--es-over,);
-  text-decoration-style: var(--es-kind, solid); }
+  text-decoration-style: var(--es-kind, solid); text-underline-offset: auto; }
 .es-stream .es-bold { font-weight: bold; }
 .es-stream .es-faint { opacity: 0.8; }
 .es-stream .es-italic { font-style: italic; }
@@ -81,6 +87,10 @@ const RULES: &str = "\
 .es-stream .es-strikethrough { --es-through: line-through; }
 .es-stream .es-overline { --es-over: overline; }
 .es-stream .es-inverse { color: var(--es-page); background-color: var(--es-text); }
+";
+
+// What characters with a colour that has a name have on any ground: lighter colours.
+const ON_GROUNDS: &str = "\
 .es-stream [class*=\"es-bg-\"] {
   --es-black: #000000; --es-white: #ffffff; --es-bright-white: #ffffff;
   --es-red: #ff7b72; --es-green: #3fb950; --es-yellow: #d29922; --es-blue: #58a6ff;
@@ -195,52 +205,167 @@ details > details, details > div { margin-left: 1.5rem; }
 @media print { details::details-content { content-visibility: visible; height: auto; } }
 ";
 
-// What it has, where it is light or dark as its reader's setting.
-const AUTO_PAGE: &str = "\
-:root { color-scheme: light dark; background: #ffffff; color: #1f2328; }
-@media (prefers-color-scheme: dark) { :root { background: #0d1117; color: #e6edf3; } }
-";
+// What holds where the reader's setting is dark.
+const IF_DARK: &str = "@media (prefers-color-scheme: dark) {\n";
 
-// What a light one has.
-const LIGHT_PAGE: &str = "\
-:root { color-scheme: light; background: #ffffff; color: #1f2328; }
-";
+// The colours of text and of what is around it, where they are the program's own.
+const LIGHT_PAGE: (Rgb, Rgb) = ((0x1f, 0x23, 0x28), (0xff, 0xff, 0xff));
 
-// What a dark one has.
-const DARK_PAGE: &str = "\
-:root { color-scheme: dark; background: #0d1117; color: #e6edf3; }
-";
+const DARK_PAGE: (Rgb, Rgb) = ((0xe6, 0xed, 0xf3), (0x0d, 0x11, 0x17));
 
-/// Appends the style sheet: light or dark, for a `div` of class `es-stream` and what is in it.
-pub fn push_style(text: &mut String, theme: Theme) -> Result<(), AllocError> {
-    match theme {
-        Theme::Auto => {
-            memory::push_str(text, LIGHT)?;
-            memory::push_str(text, "@media (prefers-color-scheme: dark) {\n")?;
-            memory::push_str(text, DARK)?;
-            memory::push_str(text, "}\n")?;
-        }
-        Theme::Light => memory::push_str(text, LIGHT)?,
-        Theme::Dark => memory::push_str(text, DARK)?,
+// The names of colours, in their order.
+const NAMES: [&str; 16] = [
+    "black",
+    "red",
+    "green",
+    "yellow",
+    "blue",
+    "magenta",
+    "cyan",
+    "white",
+    "bright-black",
+    "bright-red",
+    "bright-green",
+    "bright-yellow",
+    "bright-blue",
+    "bright-magenta",
+    "bright-cyan",
+    "bright-white",
+];
+
+/// Appends the style sheet, light or dark, with the colours of a palette or the program's own: for
+/// a `div` of class `es-stream` and what is in it.
+pub fn push_style(
+    text: &mut String,
+    theme: Theme,
+    palette: Option<Palette>,
+) -> Result<(), AllocError> {
+    match palette {
+        Some(palette) => push_given(text, theme, palette)?,
+        None => push_own(text, theme)?,
     }
-    memory::push_str(text, RULES)?;
-    push_light_grounds(text)?;
-    memory::push_str(text, GROUNDS)?;
     push_palette(text, true)?;
     memory::push_str(text, COLORS)?;
     push_palette(text, false)?;
     memory::push_str(text, LAST_RULES)
 }
 
+// Appends the rules up to the grounds that have names, with the colours of a palette.
+fn push_given(text: &mut String, theme: Theme, palette: Palette) -> Result<(), AllocError> {
+    memory::push_str(text, RULES)?;
+    match theme {
+        Theme::Auto => {
+            push_scheme(text, &palette.light())?;
+            memory::push_str(text, IF_DARK)?;
+            push_scheme(text, &palette.dark())?;
+            memory::push_str(text, "}\n")
+        }
+        Theme::Light => push_scheme(text, &palette.light()),
+        Theme::Dark => push_scheme(text, &palette.dark()),
+    }
+}
+
+// Appends the rules of colours that have names, on a light or a dark page.
+fn push_scheme(text: &mut String, scheme: &Scheme) -> Result<(), AllocError> {
+    memory::push_str(text, ".es-stream { ")?;
+    push_variable(text, "text", scheme.text)?;
+    push_variable(text, "page", scheme.page)?;
+    push_variable(text, "dim", scheme.dim)?;
+    push_variable(text, "mark", scheme.mark)?;
+    for (name, color) in NAMES.iter().zip(&scheme.colors) {
+        push_variable(text, name, *color)?;
+    }
+    memory::push_str(text, "}\n")?;
+    for (name, color) in NAMES.iter().zip(&scheme.colors) {
+        push_ground(text, name, *color)?;
+    }
+    Ok(())
+}
+
+// Appends the declaration of a variable.
+fn push_variable(text: &mut String, name: &str, color: Rgb) -> Result<(), AllocError> {
+    memory::push_str(text, "--es-")?;
+    memory::push_str(text, name)?;
+    memory::push_str(text, ": ")?;
+    push_rgb(text, color)?;
+    memory::push_str(text, " ")
+}
+
+// Appends the rule of a ground: text without a colour is black or white on it.
+fn push_ground(text: &mut String, name: &str, color: Rgb) -> Result<(), AllocError> {
+    let (red, green, blue) = color;
+    memory::push_str(text, ".es-stream .es-bg-")?;
+    memory::push_str(text, name)?;
+    memory::push_str(text, " {")?;
+    memory::push_str(text, text_on(RgbColor::new_8bpc(red, green, blue)))?;
+    memory::push_str(text, "background-color:")?;
+    push_rgb(text, color)?;
+    memory::push_str(text, "}\n")
+}
+
+// Appends a colour by its numbers, and a semicolon.
+fn push_rgb(text: &mut String, color: Rgb) -> Result<(), AllocError> {
+    let (red, green, blue) = color;
+    let code = Style::Color(red, green, blue).code();
+    memory::push_str(text, str::from_utf8(&code).unwrap_or(""))
+}
+
+// Appends the rules up to the grounds that have names, with colours of the program's own.
+fn push_own(text: &mut String, theme: Theme) -> Result<(), AllocError> {
+    match theme {
+        Theme::Auto => {
+            memory::push_str(text, LIGHT)?;
+            memory::push_str(text, IF_DARK)?;
+            memory::push_str(text, DARK)?;
+            memory::push_str(text, "}\n")?;
+        }
+        Theme::Light => memory::push_str(text, LIGHT)?,
+        Theme::Dark => memory::push_str(text, DARK)?,
+    }
+    memory::push_str(text, OWN_GROUNDS)?;
+    memory::push_str(text, RULES)?;
+    memory::push_str(text, ON_GROUNDS)?;
+    push_light_grounds(text)?;
+    memory::push_str(text, GROUNDS)
+}
+
 /// Appends what a whole page has beside it.
-pub fn push_page_style(text: &mut String, theme: Theme) -> Result<(), AllocError> {
-    let style = match theme {
-        Theme::Auto => AUTO_PAGE,
-        Theme::Light => LIGHT_PAGE,
-        Theme::Dark => DARK_PAGE,
+pub fn push_page_style(
+    text: &mut String,
+    theme: Theme,
+    palette: Option<Palette>,
+) -> Result<(), AllocError> {
+    let (light, dark) = match palette {
+        Some(palette) => (page_of(&palette.light()), page_of(&palette.dark())),
+        None => (LIGHT_PAGE, DARK_PAGE),
     };
-    memory::push_str(text, style)?;
+    match theme {
+        Theme::Auto => {
+            push_root(text, "color-scheme: light dark; ", light)?;
+            memory::push_str(text, IF_DARK)?;
+            push_root(text, "", dark)?;
+            memory::push_str(text, "}\n")?;
+        }
+        Theme::Light => push_root(text, "color-scheme: light; ", light)?,
+        Theme::Dark => push_root(text, "color-scheme: dark; ", dark)?,
+    }
     memory::push_str(text, PAGE)
+}
+
+// The colours of text and of what is around it.
+fn page_of(scheme: &Scheme) -> (Rgb, Rgb) {
+    (scheme.text, scheme.page)
+}
+
+// Appends the rule of what is around all.
+fn push_root(text: &mut String, first: &str, colors: (Rgb, Rgb)) -> Result<(), AllocError> {
+    memory::push_str(text, ":root { ")?;
+    memory::push_str(text, first)?;
+    memory::push_str(text, "background: ")?;
+    push_rgb(text, colors.1)?;
+    memory::push_str(text, " color: ")?;
+    push_rgb(text, colors.0)?;
+    memory::push_str(text, " }\n")
 }
 
 // Appends the rule of light grounds.
