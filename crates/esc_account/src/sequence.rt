@@ -32,9 +32,9 @@ pub(crate) fn sequence_verdict<P: Admit<A>, A: Allocator>(
     before: Option<char>,
     segment: Segment<'_>,
 ) -> Option<Verdict>
-    ensures { (by_lines : Bool) (u : Guard) (g : Shape) (gs : List Shape) → AreSegments (g ∷ gs)
+    ensures { (lined : Bool) (u : Guard) (g : Shape) (gs : List Shape) → AreSegments (g ∷ gs)
         → IsItem segment.entry g (joined gs) → IfSome result (λ v. v
-        ≡ rule_of by_lines u limit (P.admits policy.now) before g (is_finished g (joined gs))) }
+        ≡ rule_of lined u limit (P.admits policy.now) before g (is_finished g (joined gs))) }
 {
     if !is_short(limit, segment) {
         return None;
@@ -54,8 +54,8 @@ fn known_verdict<P: Admit<A>, A: Allocator>(
     params: &[CsiParam],
     last: u8,
 ) -> Option<Verdict>
-    ensures { (by_lines : Bool) (u : Guard) → IfSome result (λ v. v
-        ≡ verdict_on by_lines u (P.admits policy.now) before kinds.Csi bytes.now
+    ensures { (lined : Bool) (u : Guard) → IfSome result (λ v. v
+        ≡ verdict_on lined u (P.admits policy.now) before kinds.Csi bytes.now
         (map csi (csi_of params.now false last))) }
 {
     match policy.admits_sequence(params, last) {
