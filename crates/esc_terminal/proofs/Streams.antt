@@ -10,8 +10,10 @@ use Rattle.esc_parse.specs.Images.{is_image}
 use Rattle.esc_looks.specs.Looks.{plain_look}
 use Rattle.esc_screen.specs.Grids.{Size, first_grid}
 use Rattle.esc_screen.specs.Screens.{grid_of, size_of}
+use Rattle.esc_screen.specs.Halves.{HasWholeRows}
 use Rattle.esc_screen.specs.Sound.{IsSound}
 use Rattle.esc_screen.proofs.StaysSound.{stays_sound}
+use Rattle.esc_screen.proofs.StaysWhole.{stays_whole}
 use Rattle.esc_terminal.specs.Fed.{Shows, Takes, TakesSteps, TakesValue, looks_in, requests_in, shown_in}
 use Rattle.esc_terminal.specs.Laws.{GoesOn}
 use Rattle.esc_terminal.specs.Requests.{requests_of}
@@ -103,6 +105,14 @@ stays_sound_after z t [] h = h
 stays_sound_after z t (v ∷ vs) h =
     stays_sound_after z (shown_by z t v) vs
     (stays_sound z t.grid (steps_of t.looks t.grid.cursor v) h)
+
+pub stays_whole_after : {A : Type 0} (z : Size) (t : Shown) (vs : List (Value A))
+    → IsSound z t.grid → HasWholeRows t.grid → HasWholeRows (shown_after z t vs).grid
+stays_whole_after z t [] o h = h
+stays_whole_after z t (v ∷ vs) o h =
+    let xs = steps_of t.looks t.grid.cursor v in
+    stays_whole_after z (shown_by z t v) vs (stays_sound z t.grid xs o)
+    (stays_whole z t.grid xs o h)
 
 pub goes_on : (A : Type 0) → GoesOn A
 goes_on A = λ z s b.

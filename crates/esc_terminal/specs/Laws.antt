@@ -2,6 +2,7 @@
 use Rattle.std.specs.Prelude.{ℕ, ◌≡◌, ◌<◌, List, ◌++◌, Some}
 use Rattle.esc_actions.specs.Meaning.{yield_within}
 use Rattle.esc_screen.specs.Grids.{Size}
+use Rattle.esc_screen.specs.Halves.{HasWholeRows}
 use Rattle.esc_screen.specs.Sound.{IsSound}
 use Rattle.esc_terminal.specs.Streams.{shown_after, shown_of}
 
@@ -9,6 +10,11 @@ use Rattle.esc_terminal.specs.Streams.{shown_after, shown_of}
 abbrev pub IsAlwaysSound : Type 0 → Type 0
 IsAlwaysSound A = (z : Size) (s : List ℕ) → 0 < z.rows → 0 < z.columns
     → IsSound z (shown_of A z s).grid
+
+-- no half of a wide character stands alone
+abbrev pub IsAlwaysWhole : Type 0 → Type 0
+IsAlwaysWhole A = (z : Size) (s : List ℕ) → 0 < z.rows → 0 < z.columns
+    → HasWholeRows (shown_of A z s).grid
 
 -- what comes after a stream goes on from what is shown of it
 abbrev pub GoesOn : Type 0 → Type 0

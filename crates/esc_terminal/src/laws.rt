@@ -1,5 +1,5 @@
 //! What holds of terminals, for every allocator `A`, which the type of the actions names.
-ghost use Rattle.esc_terminal.specs.Laws.{GoesOn, IsAlwaysSound};
+ghost use Rattle.esc_terminal.specs.Laws.{GoesOn, IsAlwaysSound, IsAlwaysWhole};
 ghost use Rattle.esc_terminal.specs.Scrolled.{GoesOffOn};
 
 use std::alloc::Allocator;
@@ -8,6 +8,11 @@ use std::alloc::Allocator;
 /// the screen.
 pub fn is_always_sound<A: Allocator>()
     ensures { IsAlwaysSound A }
+{}
+
+/// Whatever a stream is, no half of a wide character stands alone.
+pub fn is_always_whole<A: Allocator>()
+    ensures { IsAlwaysWhole A }
 {}
 
 /// A stream in two pieces does what the first does and then the second.
