@@ -1,5 +1,5 @@
 //! What a screen shows, as text: rows, with the sequences that make their looks or without; an
-//! object of JSON; and in which cells two screens differ.
+//! object of JSON; in which cells two screens differ; and the lines that a terminal leaves.
 //!
 //! A [`Sheet`] is such a text. Each of its characters shows as itself, or belongs to the character
 //! before it, as in emoji, or ends a line, or is of a sequence that makes a look (SGR). A character
@@ -14,12 +14,14 @@
 
 mod differences;
 mod json;
+mod log;
 mod rows;
 mod sheet;
 mod view;
 
 pub use differences::push_differences;
 pub use json::push_object;
+pub use log::Log;
 pub use rows::push_rows;
 pub use sheet::Sheet;
 pub use view::View;

@@ -1,60 +1,66 @@
 //! The rows of a screen as text.
 
 use crate::sheet::Sheet;
-use crate::view::View;
+use crate::view::{Seen, View};
 use esc_looks::Look;
 use esc_screen::{Cell, Content, Marks};
 use std::alloc::AllocError;
 
 /// Adds the rows of a screen, a line each, without the last ones of which nothing is seen.
 pub fn push_rows(sheet: &mut Sheet, view: View<'_>) -> Result<(), AllocError> {
+    let seen = view.seen();
     let mut missing: u16 = 0;
     for at in 0..view.screen.height() {
         let cells = view.row(at);
-        if view.hides_all(cells) {
+        if seen.hides_all(cells) {
             missing = missing.saturating_add(1);
         } else {
             end_lines(sheet, missing)?;
             missing = 0;
-            push_row(sheet, cells, view)?;
+            push_row(sheet, cells, seen)?;
             sheet.end_line()?;
         }
     }
     Ok(())
 }
 
-// Adds so many empty lines.
-fn end_lines(sheet: &mut Sheet, count: u16) -> Result<(), AllocError> {
+/// Adds so many ends of lines.
+pub(crate) fn end_lines(sheet: &mut Sheet, count: u16) -> Result<(), AllocError> {
     for _ in 0..count {
         sheet.end_line()?;
     }
     Ok(())
 }
 
-// Adds a row, without the last cells of which nothing is seen.
-fn push_row(sheet: &mut Sheet, cells: &[Cell], view: View<'_>) -> Result<(), AllocError> {
+/// Adds a row, without the last cells of which nothing is seen, from the plain look to the plain
+/// look.
+pub(crate) fn push_row(
+    sheet: &mut Sheet,
+    cells: &[Cell],
+    seen: Seen<'_>,
+) -> Result<(), AllocError> {
     let mut held: Option<u16> = None;
     let mut blanks: u16 = 0;
     for cell in cells {
-        if view.hides(cell) {
+        if seen.hides(cell) {
             blanks = blanks.saturating_add(1);
         } else if !cell.content.is_rest() {
             if blanks > 0 {
-                push_blanks(sheet, view, held, blanks)?;
+                push_blanks(sheet, seen, held, blanks)?;
                 held = None;
                 blanks = 0;
             }
-            push_seen(sheet, view, held, cell)?;
+            push_seen(sheet, seen, held, cell)?;
             held = Some(cell.look);
         }
     }
-    sheet.push_change(&held_look(view, held), &Look::plain())
+    sheet.push_change(&held_look(seen, held), &Look::plain())
 }
 
 // The look that holds, where it has this number: the plain one, where it has none.
-fn held_look(view: View<'_>, held: Option<u16>) -> Look {
+fn held_look(seen: Seen<'_>, held: Option<u16>) -> Look {
     match held {
-        Some(number) => view.look_at(number),
+        Some(number) => seen.look_at(number),
         None => Look::plain(),
     }
 }
@@ -62,11 +68,11 @@ fn held_look(view: View<'_>, held: Option<u16>) -> Look {
 // Adds so many blank cells after characters of a look.
 fn push_blanks(
     sheet: &mut Sheet,
-    view: View<'_>,
+    seen: Seen<'_>,
     held: Option<u16>,
     count: u16,
 ) -> Result<(), AllocError> {
-    sheet.push_change(&held_look(view, held), &Look::plain())?;
+    sheet.push_change(&held_look(seen, held), &Look::plain())?;
     for _ in 0..count {
         sheet.push(' ')?;
     }
@@ -76,11 +82,11 @@ fn push_blanks(
 // Adds a cell after characters of a look.
 fn push_seen(
     sheet: &mut Sheet,
-    view: View<'_>,
+    seen: Seen<'_>,
     held: Option<u16>,
     cell: &Cell,
 ) -> Result<(), AllocError> {
-    sheet.push_change(&held_look(view, held), &view.look_of(cell))?;
+    sheet.push_change(&held_look(seen, held), &seen.look_of(cell))?;
     push_content(sheet, cell.content)
 }
 

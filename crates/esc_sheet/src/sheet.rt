@@ -1,4 +1,8 @@
 //! Text that is made of characters that show, ends of lines, and sequences that make looks.
+ghost use Rattle.std.specs.Prelude.{◌≡◌, ◌++◌, [], IsTrue, OnErr, OnOk, string_bytes, true};
+ghost use Rattle.std.specs.Fmt.{decimal};
+ghost use Rattle.esc_sgr.specs.Sgr.{change_text};
+ghost use Rattle.esc_sheet.specs.Sheets.{IsSheet, is_character};
 
 use esc_looks::Look;
 use esc_sgr::{is_same, push_change};
@@ -6,16 +10,19 @@ use esc_visible::{is_shown, may_follow, number_text};
 use std::alloc::{AllocError, Global};
 
 /// A text of which each character shows as itself, or belongs to the character before it, as in
-/// emoji; or ends a line; or is of a sequence that makes a look. Any other is spelled.
+/// emoji; or ends a line; or is of a sequence that makes a look. Any other is spelled. Once a
+/// request for memory is refused, some of it may be missing.
 #[derive(Drop)]
 pub struct Sheet {
     text: String,
     // the last character, where it may have one that belongs to it
     last: Option<char>,
+    ghost safe: { ∥ IsSheet (string_bytes text) ∥₁ },
 }
 
 impl Sheet {
     /// No text. Takes no memory.
+    #[tactic(auto, using(crate::proofs::Sheets::no_sheet))]
     pub fn new(alloc: Global) -> Sheet {
         Sheet {
             text: String::new(alloc),
@@ -24,14 +31,16 @@ impl Sheet {
     }
 
     /// The text.
-    pub fn as_str(&self) -> &str {
+    pub fn as_str(&self) -> &str
+        ensures { ∥ IsSheet result.now ∥₁ }
+    {
         self.text.as_str()
     }
 
     /// Adds a character: its number, as `<U+202E>`, where it does not show, and does not belong to
     /// the one before it.
     pub fn push(&mut self, c: char) -> Result<(), AllocError> {
-        if is_shown(c) || may_follow(self.last, c) {
+        if self.shows(c) {
             self.push_char(c)
         } else {
             self.push_text(number_text(c).as_str())
@@ -39,6 +48,7 @@ impl Sheet {
     }
 
     /// Adds the characters of a text that show; none other is in it.
+    #[tactic(auto, using(crate::proofs::Sheets::shown_fits))]
     pub fn push_text(&mut self, text: &str) -> Result<(), AllocError> {
         for c in text.chars() {
             if is_shown(c) {
@@ -50,9 +60,8 @@ impl Sheet {
 
     /// Adds a number in decimal.
     pub fn push_number(&mut self, number: u64) -> Result<(), AllocError> {
-        memory::push_display(&mut self.text, &number)?;
         self.last = None;
-        Ok(())
+        append_number(&mut self.text, number)
     }
 
     /// Ends the line.
@@ -67,12 +76,52 @@ impl Sheet {
             return Ok(());
         }
         self.last = None;
-        push_change(&mut self.text, from, to)
+        append_change(&mut self.text, from, to)
+    }
+
+    // Whether a character shows as itself, or belongs to the last one.
+    #[tactic(auto, using(crate::proofs::Sheets::shows_fits))]
+    fn shows(&self, c: char) -> bool
+        ensures { IsTrue result → is_character c ≡ true }
+    {
+        is_shown(c) || may_follow(self.last, c)
     }
 
     // Adds a character as it is.
-    fn push_char(&mut self, c: char) -> Result<(), AllocError> {
+    fn push_char(&mut self, c: char) -> Result<(), AllocError>
+        requires { is_character c ≡ true }
+    {
         self.last = Some(c);
         memory::push_char(&mut self.text, c)
+    }
+}
+
+// Appends a number in decimal; the error leaves nothing of the text.
+fn append_number(text: &mut String, number: u64) -> Result<(), AllocError>
+    ensures ok { OnOk result (string_bytes text.new
+        ≡ string_bytes text.old ++ decimal number) }
+    ensures err { OnErr result (string_bytes text.new ≡ []) }
+{
+    match memory::push_display(text, &number) {
+        Ok(()) => Ok(()),
+        Err(error) => {
+            text.clear();
+            Err(error)
+        }
+    }
+}
+
+// Appends what makes a look where another holds; the error leaves nothing of the text.
+fn append_change(text: &mut String, from: &Look, to: &Look) -> Result<(), AllocError>
+    ensures ok { OnOk result (string_bytes text.new
+        ≡ string_bytes text.old ++ change_text from.now to.now) }
+    ensures err { OnErr result (string_bytes text.new ≡ []) }
+{
+    match push_change(text, from, to) {
+        Ok(()) => Ok(()),
+        Err(error) => {
+            text.clear();
+            Err(error)
+        }
     }
 }

@@ -23,6 +23,38 @@ impl<'a> View<'a> {
         self.screen.row(at as usize)
     }
 
+    /// How its cells look.
+    pub(crate) fn seen(&self) -> Seen<'a> {
+        Seen {
+            looks: self.looks,
+            has_looks: self.has_looks,
+            is_reversed: self.screen.modes().reversed,
+        }
+    }
+
+    /// How a cell looks.
+    pub(crate) fn look_of(&self, cell: &Cell) -> Look {
+        self.seen().look_of(cell)
+    }
+
+    /// Whether nothing is seen of a cell: it is blank and looks plain.
+    pub(crate) fn hides(&self, cell: &Cell) -> bool {
+        self.seen().hides(cell)
+    }
+}
+
+/// How cells look, by the numbers of their looks.
+#[derive(Clone, Copy)]
+pub(crate) struct Seen<'a> {
+    /// The looks that have these numbers.
+    pub looks: &'a [Look],
+    /// Whether looks are seen. Where they are not, all cells look plain.
+    pub has_looks: bool,
+    /// Whether every cell is inverse.
+    pub is_reversed: bool,
+}
+
+impl<'a> Seen<'a> {
     /// How a cell looks.
     pub(crate) fn look_of(&self, cell: &Cell) -> Look {
         self.look_at(cell.look)
@@ -37,7 +69,7 @@ impl<'a> View<'a> {
             Some(look) => *look,
             None => Look::plain(),
         };
-        look.inverse = look.inverse != self.screen.modes().reversed;
+        look.inverse = look.inverse != self.is_reversed;
         look
     }
 
