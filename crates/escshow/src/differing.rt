@@ -2,8 +2,8 @@
 
 use crate::fault::{Fault, ended};
 use crate::options::Options;
-use crate::reading::terminal_of;
-use crate::showing::{print, view_of};
+use crate::reading::display_of;
+use crate::showing::{print_sheet, view_of};
 use command_line::{Ended, Work};
 use esc_sheet::{Sheet, push_differences};
 use esc_terminal::Terminal;
@@ -28,8 +28,8 @@ pub struct Differing<'a, W, E> {
 
 impl<'a, W: Write, E: Write> Work for Differing<'a, W, E> {
     fn take<R: Read + Drop>(&mut self, name: &str, input: R) -> Ended {
-        let done = match terminal_of(self.alloc, self.options, input) {
-            Ok(terminal) => self.take_terminal(terminal),
+        let done = match display_of(self.alloc, self.options, input) {
+            Ok(display) => self.take_terminal(display.terminal),
             Err(fault) => Err(fault),
         };
         ended(done, name, self.output_name, &mut self.faults)
@@ -50,6 +50,6 @@ impl<'a, W: Write, E: Write> Differing<'a, W, E> {
             view_of(&terminal, true)?,
         )?;
         self.differ = !sheet.as_str().is_empty();
-        print(sheet.as_str(), self.output)
+        print_sheet(&sheet, self.output)
     }
 }

@@ -3,6 +3,7 @@
 #![tactic(auto)]
 
 mod differing;
+mod display;
 mod fault;
 mod html;
 mod options;
@@ -24,7 +25,7 @@ use std::io::Write;
 use std::process::ExitCode;
 
 const USAGE: &str = "\
-usage: escshow [--size columnsxrows] [--newline] [--color] [--html] [--json] [--cast] \
+usage: escshow [--size columnsxrows] [--log] [--newline] [--color] [--html] [--json] [--cast] \
 [--at seconds] [--diff] [-o|--output file] [-h|--help] [-V|--version] [--] [FILE..]";
 
 const HELP: &str = "\
@@ -33,6 +34,8 @@ text.
 
   --size size     the size of the screen in columns and rows, as 80x24, which it is where none is
                   named; of a recording, that of its header
+  --log           prints all lines that the terminal leaves: the rows that were scrolled off, and
+                  then those of the screen
   --newline       takes a line feed to the first column too, as in a file of text (the mode LNM)
   --color         writes the looks of characters too, as control sequences (SGR)
   --html          writes a page of HTML in which nothing comes alive, with their looks

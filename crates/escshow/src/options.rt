@@ -32,6 +32,8 @@ pub struct Options {
     pub form: Form,
     /// How many columns and rows it has, where that is given.
     pub size: Option<Size>,
+    /// Whether the lines that a terminal leaves are written, and not its screen alone.
+    pub is_log: bool,
     /// Whether a line feed goes to the first column too, as in a file of text.
     pub has_new_lines: bool,
     /// Whether a file is a recording.
@@ -81,6 +83,11 @@ const KNOWN: &[Known] = &[
         name: "--size",
         letter: "",
         takes: Takes::OneOf("size of a screen, as 80x24", &[]),
+    },
+    Known {
+        name: "--log",
+        letter: "",
+        takes: Takes::Nothing,
     },
     Known {
         name: "--newline",
@@ -160,6 +167,22 @@ fn limited(count: u64) -> u16 {
     }
 }
 
+impl Options {
+    // Takes --log: an object of JSON is one of a screen alone.
+    fn take_log(&mut self) {
+        self.is_log = true;
+        if self.form == Form::Json {
+            self.form = Form::Text;
+        }
+    }
+
+    // Takes --json.
+    fn take_json(&mut self) {
+        self.is_log = false;
+        self.form = Form::Json;
+    }
+}
+
 impl<'a> Task<'a> {
     /// The task that these words, the program's arguments, name; of an option that is given twice,
     /// and of the forms, the last counts.
@@ -177,6 +200,7 @@ impl<'a> Task<'a> {
             options: Options {
                 form: Form::Text,
                 size: None,
+                is_log: false,
                 has_new_lines: false,
                 is_cast: false,
                 at: None,
@@ -197,10 +221,11 @@ impl<'a> Task<'a> {
     fn take(&mut self, given: Given<'a>) -> Result<(), Wrong<'a>> {
         match given.name {
             "--size" => self.options.size = Some(size_named(given.word)?),
+            "--log" => self.options.take_log(),
             "--newline" => self.options.has_new_lines = true,
             "--color" => self.options.form = Form::Color,
             "--html" => self.options.form = Form::Html,
-            "--json" => self.options.form = Form::Json,
+            "--json" => self.options.take_json(),
             "--cast" => self.options.is_cast = true,
             "--at" => {
                 self.options.is_cast = true;
@@ -216,7 +241,8 @@ impl<'a> Task<'a> {
     }
 
     // The task, where it has two files.
-    fn with_two_files(self) -> Result<Task<'a>, Wrong<'a>> {
+    fn with_two_files(mut self) -> Result<Task<'a>, Wrong<'a>> {
+        self.options.is_log = false;
         match self.files.as_slice() {
             [_, _] => Ok(self),
             [_, _, third, ..] => Err(Wrong::Value("--diff", "third file", *third, None)),

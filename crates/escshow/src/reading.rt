@@ -1,48 +1,43 @@
 //! The terminal of a stream.
 ghost use Rattle.std.specs.Prelude.{◌≤◌, IfOk, length};
 
+use crate::display::Display;
 use crate::fault::Fault;
-use crate::options::{DEFAULT_SIZE, Options, Size};
+use crate::options::{DEFAULT_SIZE, Options};
 use crate::recorded::Recorded;
 use command_line::{Noting, Reason};
 use esc_decode::Mask;
-use esc_terminal::Terminal;
-use std::alloc::{AllocError, Global};
+use std::alloc::Global;
 use std::io::Read;
 
-/// The terminal that was fed a stream, or the texts of a recording, by these options.
-pub fn terminal_of<R: Read + Drop>(
+/// The terminal that was fed a stream, or the texts of a recording, by these options, and the lines
+/// that it leaves.
+pub fn display_of<R: Read + Drop>(
     alloc: Global,
     options: Options,
     input: R,
-) -> Result<Terminal, Fault> {
+) -> Result<Display, Fault> {
     let mut chunk = memory::read_buffer(alloc)?;
     let mut reader = Noting::new(input);
     if options.is_cast {
         let mut recorded = Recorded::new(alloc, options);
         play(&mut recorded, &mut reader, &mut chunk)?;
-        recorded.into_terminal()
+        let mut display = recorded.into_display()?;
+        display.end()?;
+        Ok(display)
     } else {
         let size = options.size.unwrap_or(DEFAULT_SIZE);
-        let mut terminal = blank(alloc, size, options.has_new_lines)?;
-        feed(&mut terminal, &mut reader, &mut chunk)?;
-        Ok(terminal)
+        let mut display = Display::new(alloc, size, options)?;
+        feed(&mut display, &mut reader, &mut chunk)?;
+        display.end()?;
+        Ok(display)
     }
-}
-
-/// A terminal of this size, of which the mode LNM may be set.
-pub fn blank(alloc: Global, size: Size, has_new_lines: bool) -> Result<Terminal, AllocError> {
-    let mut terminal = Terminal::new(alloc, size.columns, size.rows)?;
-    if has_new_lines {
-        terminal.feed(b"\x1b[20h")?;
-    }
-    Ok(terminal)
 }
 
 // Feeds a stream to a terminal, chunk by chunk. A byte 80 to 9F that is no part of a character
 // begins nothing.
 fn feed<R: Read>(
-    terminal: &mut Terminal,
+    display: &mut Display,
     reader: &mut Noting<R>,
     chunk: &mut [u8],
 ) -> Result<(), Fault> {
@@ -54,7 +49,7 @@ fn feed<R: Read>(
         }
         let bytes = &mut chunk[..count];
         mask_all(&mut mask, bytes);
-        terminal.feed(bytes)?;
+        display.feed(bytes)?;
     }
     Ok(())
 }

@@ -1,10 +1,9 @@
 //! A recording that is played.
 
+use crate::display::Display;
 use crate::fault::Fault;
 use crate::options::{DEFAULT_SIZE, Options, Size};
-use crate::reading::blank;
 use esc_cast::{Event, event_in};
-use esc_terminal::Terminal;
 use json::{Scratch, Value};
 use memchr::memchr;
 use std::alloc::Global;
@@ -22,7 +21,7 @@ pub struct Recorded {
     count: u64,
     clock: Clock,
     // none before the header
-    terminal: Option<Terminal>,
+    display: Option<Display>,
 }
 
 // The time of a recording.
@@ -50,7 +49,7 @@ impl Recorded {
                 is_relative: false,
                 is_over: false,
             },
-            terminal: None,
+            display: None,
         }
     }
 
@@ -79,10 +78,10 @@ impl Recorded {
         self.end_line()
     }
 
-    /// The terminal. The error is that there was no header.
-    pub fn into_terminal(mut self) -> Result<Terminal, Fault> {
-        match self.terminal.take() {
-            Some(terminal) => Ok(terminal),
+    /// The terminal, and its lines so far. The error is that there was no header.
+    pub fn into_display(mut self) -> Result<Display, Fault> {
+        match self.display.take() {
+            Some(display) => Ok(display),
             None => Err(Fault::Line(self.count.saturating_add(1))),
         }
     }
@@ -127,8 +126,8 @@ impl Recorded {
         if self.clock.is_over {
             return Ok(());
         }
-        match &mut self.terminal {
-            Some(terminal) => Ok(terminal.feed(text.as_bytes())?),
+        match &mut self.display {
+            Some(display) => Ok(display.feed(text.as_bytes())?),
             None => Err(Fault::Line(self.count)),
         }
     }
@@ -139,7 +138,7 @@ impl Recorded {
             Some(size) => size,
             None => size_in(self.alloc, line)?,
         };
-        self.terminal = Some(blank(self.alloc, size, self.options.has_new_lines)?);
+        self.display = Some(Display::new(self.alloc, size, self.options)?);
         Ok(())
     }
 }

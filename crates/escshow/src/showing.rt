@@ -1,11 +1,13 @@
 //! Screens of streams that are written to one output, one after another.
 ghost use Rattle.std.specs.Prelude.{OnOk};
 ghost use Rattle.std.specs.Io.KnownBytes.{Appends};
+ghost use Rattle.esc_sheet.specs.Sheets.{AppendsSheet};
 
+use crate::display::Display;
 use crate::fault::{Fault, ended};
 use crate::html::{HEAD, html_of};
 use crate::options::{Form, Options};
-use crate::reading::terminal_of;
+use crate::reading::display_of;
 use command_line::{Ended, Reason, Work};
 use esc_sheet::{Sheet, View, push_object, push_rows};
 use esc_terminal::Terminal;
@@ -28,8 +30,8 @@ pub struct Showing<'a, W, E> {
 
 impl<'a, W: Write, E: Write> Work for Showing<'a, W, E> {
     fn take<R: Read + Drop>(&mut self, name: &str, input: R) -> Ended {
-        let done = match terminal_of(self.alloc, self.options, input) {
-            Ok(terminal) => self.write(&terminal),
+        let done = match display_of(self.alloc, self.options, input) {
+            Ok(display) => self.write(&display),
             Err(fault) => Err(fault),
         };
         ended(done, name, self.output_name, &mut self.faults)
@@ -37,11 +39,19 @@ impl<'a, W: Write, E: Write> Work for Showing<'a, W, E> {
 }
 
 impl<'a, W: Write, E: Write> Showing<'a, W, E> {
-    // Writes the screen of a terminal.
-    fn write(&mut self, terminal: &Terminal) -> Result<(), Fault> {
-        let sheet = sheet_of(self.alloc, terminal, self.options.form)?;
+    // Writes the lines that a terminal leaves, where they are asked for, or its screen.
+    fn write(&mut self, display: &Display) -> Result<(), Fault> {
+        if let Some(log) = &display.log {
+            return self.write_sheet(log.sheet());
+        }
+        let sheet = sheet_of(self.alloc, &display.terminal, self.options.form)?;
+        self.write_sheet(&sheet)
+    }
+
+    // Writes a text, or the HTML of it.
+    fn write_sheet(&mut self, sheet: &Sheet) -> Result<(), Fault> {
         if self.options.form != Form::Html {
-            return print(sheet.as_str(), self.output);
+            return print_sheet(sheet, self.output);
         }
         if self.is_first {
             self.is_first = false;
@@ -74,6 +84,13 @@ fn sheet_of(alloc: Global, terminal: &Terminal, form: Form) -> Result<Sheet, All
         Form::Color | Form::Html => push_rows(&mut sheet, view_of(terminal, true)?)?,
     }
     Ok(sheet)
+}
+
+/// Writes the text of a sheet, and flushes: no more is written.
+pub fn print_sheet<W: Write>(sheet: &Sheet, output: &mut W) -> Result<(), Fault>
+    ensures { OnOk result (AppendsSheet (W.contents output.old) (W.contents output.new)) }
+{
+    print(sheet.as_str(), output)
 }
 
 /// Writes a text, and flushes: no more is written.

@@ -1,0 +1,60 @@
+//! A terminal, and the lines that it leaves.
+
+use crate::options::{Form, Options, Size};
+use esc_sheet::Log;
+use esc_terminal::Terminal;
+use std::alloc::{AllocError, Global};
+
+// Ends a sequence that is unfinished (CAN), and shows the main screen.
+const TO_MAIN: &[u8] = b"\x18\x1b[?47l";
+
+/// A terminal, and the lines that it leaves, where they are asked for.
+#[derive(Drop)]
+pub struct Display {
+    /// The terminal.
+    pub terminal: Terminal,
+    /// The lines.
+    pub log: Option<Log>,
+}
+
+impl Display {
+    /// A terminal of this size that was fed nothing, by these options.
+    pub fn new(alloc: Global, size: Size, options: Options) -> Result<Display, AllocError> {
+        let mut terminal = if options.is_log && !options.is_cast {
+            Terminal::for_log(alloc, size.columns, size.rows)?
+        } else {
+            Terminal::new(alloc, size.columns, size.rows)?
+        };
+        if options.has_new_lines {
+            terminal.feed(b"\x1b[20h")?;
+        }
+        let log = if options.is_log {
+            Some(Log::new(alloc, options.form != Form::Text))
+        } else {
+            None
+        };
+        Ok(Display { terminal, log })
+    }
+
+    /// Takes bytes more.
+    pub fn feed(&mut self, bytes: &[u8]) -> Result<(), AllocError> {
+        let Some(log) = self.log.take() else {
+            return self.terminal.feed(bytes);
+        };
+        let (result, log) = self.terminal.feed_into(bytes, log);
+        self.log = Some(log);
+        result
+    }
+
+    /// Adds the rows of the main screen to the lines, where they are asked for.
+    pub fn end(&mut self) -> Result<(), AllocError> {
+        let Some(log) = &mut self.log else {
+            return Ok(());
+        };
+        self.terminal.feed(TO_MAIN)?;
+        match self.terminal.screen() {
+            Some(screen) => log.push_screen(screen, self.terminal.looks()),
+            None => Err(AllocError),
+        }
+    }
+}
