@@ -1,6 +1,6 @@
 //! What did not pass of a stream, as JSON (RFC 8259).
 
-use crate::name::Name;
+use crate::name::{Key, Name};
 use crate::report::{bytes_of, words_of};
 use crate::rows::{Open, Rows};
 use crate::saying::{put, put_number};
@@ -127,9 +127,27 @@ pub fn put_name<E: Write>(name: Name, faults: &mut E) {
     put("\"kind\":", faults);
     put_text(name.kind, faults);
     put(",\"name\":", faults);
-    put_text(name.name, faults);
+    match name.key {
+        Key::Nothing => put_text(name.name, faults),
+        Key::Number(number) => {
+            put_number("\"", number, faults);
+            put("\"", faults);
+        }
+        Key::Bytes(bytes) => put_bytes(bytes, faults),
+    }
     put(",\"words\":", faults);
-    put_text(name.words, faults);
+    put_text(name.said(), faults);
+}
+
+// Writes the characters of these numbers but 0 as a string.
+fn put_bytes<E: Write>(bytes: [u8; 3], faults: &mut E) {
+    put("\"", faults);
+    for byte in bytes {
+        if byte != 0 {
+            put_char(char::from(byte), faults);
+        }
+    }
+    put("\"", faults);
 }
 
 // Writes what the end of the stream leaves open.

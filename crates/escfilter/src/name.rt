@@ -1,12 +1,29 @@
 //! What is left out of a stream, by name.
 
 use esc_actions::Action;
-use esc_device::DeviceControlMode;
+use esc_device::{DeviceControlMode, EnterDeviceControlMode};
 use esc_functions::{C0, ControlFunction, EscapeFunction};
 use esc_osc::OperatingSystemCommand as Command;
 use esc_segments::SegmentKind;
+use esc_values::Items;
 
-/// The name of what an action asks for. All are texts of tables, so there are not many.
+// How many digits a number has at most that tells commands apart.
+const DIGITS: usize = 18;
+
+/// What tells things apart that no table has.
+#[derive(Clone, Copy, PartialEq, Eq)]
+pub enum Key {
+    /// Nothing.
+    Nothing,
+    /// The number of an operating system command.
+    Number(u64),
+    /// The intermediates and the final byte of a device control string, or the first byte of an
+    /// application program command; 0 is none.
+    Bytes([u8; 3]),
+}
+
+/// The name of what an action asks for. All but the keys are texts of tables, so without these
+/// there are not many.
 #[derive(Clone, Copy, PartialEq, Eq)]
 pub struct Name {
     /// Its kind, as `CSI`.
@@ -15,17 +32,47 @@ pub struct Name {
     pub name: &'static str,
     /// Its name in words, as `device status report`.
     pub words: &'static str,
+    /// What it has in place of its name and of these words, where no table has it.
+    pub key: Key,
+}
+
+impl Name {
+    /// Whether it has a key.
+    pub fn has_key(self) -> bool {
+        self.key != Key::Nothing
+    }
+
+    /// The name that it has without its key, in common with others of its kind.
+    pub fn without_key(self) -> Name {
+        named(self.kind, self.name, self.words)
+    }
+
+    /// Its words, where it has no key.
+    pub fn said(self) -> &'static str {
+        if self.has_key() { "" } else { self.words }
+    }
 }
 
 // A name of this kind.
 fn named(kind: &'static str, name: &'static str, words: &'static str) -> Name {
-    Name { kind, name, words }
+    keyed(kind, name, words, Key::Nothing)
+}
+
+// The same, with a key.
+fn keyed(kind: &'static str, name: &'static str, words: &'static str, key: Key) -> Name {
+    Name {
+        kind,
+        name,
+        words,
+        key,
+    }
 }
 
 const DECEIVING: Name = Name {
     kind: "character",
     name: "",
     words: "that hides or reorders text",
+    key: Key::Nothing,
 };
 
 /// The name of a segment of this kind and these bytes that means nothing of its own, or of which
@@ -41,9 +88,19 @@ pub fn kind_name(kind: SegmentKind, bytes: &[u8]) -> Name {
         SegmentKind::Csi => named("CSI", "", "malformed"),
         SegmentKind::Osc => named("OSC", "", ""),
         SegmentKind::Dcs => named("DCS", "", ""),
-        SegmentKind::Apc => named("APC", "", ""),
+        SegmentKind::Apc => keyed("APC", "", "", first_byte(bytes)),
         SegmentKind::Ignored => named("SOS or PM", "", ""),
         SegmentKind::CutShort => named(opened_by(bytes), "", "cut short"),
+    }
+}
+
+// The first byte of an application program command of these bytes, where it shows.
+fn first_byte(bytes: &[u8]) -> Key {
+    match bytes {
+        [0x1b, b'_', first, ..] if first.is_ascii_graphic() => Key::Bytes([0, 0, *first]),
+        [0xc2, 0x9f, first, ..] if first.is_ascii_graphic() => Key::Bytes([0, 0, *first]),
+        [0x9f, first, ..] if first.is_ascii_graphic() => Key::Bytes([0, 0, *first]),
+        _ => Key::Nothing,
     }
 }
 
@@ -104,10 +161,22 @@ fn escape_name(kind: &'static str, function: Option<EscapeFunction>) -> Name {
 fn device_name(mode: &DeviceControlMode) -> Name {
     match mode {
         DeviceControlMode::ShortDeviceControl(_) => named("DCS", "$q", "ask for a setting"),
-        DeviceControlMode::Enter(_) | DeviceControlMode::Data(_) | DeviceControlMode::Exit => {
+        DeviceControlMode::Enter(enter) => {
+            keyed("DCS", "", "of another kind", header_key(enter.as_ref()))
+        }
+        DeviceControlMode::Data(_) | DeviceControlMode::Exit => {
             named("DCS", "", "of another kind")
         }
     }
+}
+
+// The intermediates and the final byte of a header.
+fn header_key(enter: &EnterDeviceControlMode) -> Key {
+    Key::Bytes(match enter.intermediates.as_slice() {
+        [] => [0, 0, enter.byte],
+        [one] => [0, *one, enter.byte],
+        [one, other, ..] => [*one, *other, enter.byte],
+    })
 }
 
 // The name of an operating system command (xterm's list, "Operating System Commands").
@@ -132,7 +201,33 @@ fn command_name(command: &Command) -> Name {
         Command::FinalTermSemanticPrompt(_) => ("133", "prompt of a shell"),
         Command::RxvtExtension(_) => ("777", "extension of rxvt"),
         Command::ITermProprietary(_) => ("1337", "command of iTerm2"),
-        Command::Unspecified(_) => ("", "of another kind"),
+        Command::Unspecified(parts) => {
+            return keyed("OSC", "", "of another kind", number_key(parts.as_slice()));
+        }
     };
     named("OSC", number, words)
+}
+
+// The number that is the first of these parts of a command.
+fn number_key(parts: &[Items<u8>]) -> Key {
+    match parts {
+        [first, ..] => number_of(first.as_slice()),
+        [] => Key::Nothing,
+    }
+}
+
+// The number that these digits are.
+fn number_of(digits: &[u8]) -> Key {
+    if digits.is_empty() || digits.len() > DIGITS {
+        return Key::Nothing;
+    }
+    let mut number: u64 = 0;
+    for byte in digits {
+        if !byte.is_ascii_digit() {
+            return Key::Nothing;
+        }
+        let digit = u64::from(byte.saturating_sub(b'0'));
+        number = number.saturating_mul(10).saturating_add(digit);
+    }
+    Key::Number(number)
 }

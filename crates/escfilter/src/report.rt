@@ -7,7 +7,7 @@ use crate::PROGRAM;
 use crate::failing::Failing;
 use crate::name::Name;
 use crate::rows::{Open, Rows};
-use crate::saying::{put, put_number};
+use crate::saying::{put, put_key, put_number};
 use command_line::Shown;
 use esc_account::{Account, Fate, Place, Row, Sums};
 use std::io::Write;
@@ -100,11 +100,15 @@ fn tell_bytes<E: Write>(bytes: u64, faults: &mut E) {
 
 // The words of a name.
 fn tell_name<E: Write>(name: Name, faults: &mut E) {
-    for word in &[name.kind, name.name, name.words] {
+    for word in &[name.kind, name.name, name.said()] {
         if !word.is_empty() {
             put(" ", faults);
             put(*word, faults);
         }
+    }
+    if name.has_key() {
+        put(" ", faults);
+        put_key(name.key, faults);
     }
 }
 

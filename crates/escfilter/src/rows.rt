@@ -17,6 +17,9 @@ use esc_sanitize::Judging;
 use esc_segments::Segment;
 use std::alloc::{AllocError, Global};
 
+// How many rows there are at most of things that keys tell apart.
+const KEYS: usize = 64;
+
 /// What the end of a stream leaves unfinished.
 #[derive(Clone, Copy)]
 pub struct Open {
@@ -118,6 +121,7 @@ impl<'a> Rows<'a> {
         ensures refused { OnErr result (Refused Global) }
     {
         if self.options.report.is_some() {
+            let name = kept_name(self.table.rows(), made.fate, name);
             self.table.add(name, made)
         } else {
             Ok(())
@@ -154,6 +158,28 @@ impl<'a> Rows<'a> {
             }
         }
         Ok(kind_name(segment.kind, segment.bytes))
+    }
+}
+
+// The name of the row for this fate and name: without its key, where no row has it and there are
+// enough rows with keys.
+fn kept_name(rows: &[Row<Name>], fate: Fate, name: Name) -> Name {
+    if !name.has_key() {
+        return name;
+    }
+    let mut count: usize = 0;
+    for row in rows {
+        if row.fate == fate && row.name == name {
+            return name;
+        }
+        if row.name.has_key() {
+            count = count.saturating_add(1);
+        }
+    }
+    if count < KEYS {
+        name
+    } else {
+        name.without_key()
     }
 }
 

@@ -1,5 +1,6 @@
 //! Texts and numbers on standard error. Where one cannot be written there is nobody to tell.
 
+use crate::name::Key;
 use std::io::Write;
 
 /// Writes a text.
@@ -11,4 +12,20 @@ pub fn put<E: Write>(text: &str, faults: &mut E) {
 pub fn put_number<E: Write>(before: &str, number: u64, faults: &mut E) {
     put(before, faults);
     let _ = write!(faults, "{number}");
+}
+
+/// Writes a key.
+pub fn put_key<E: Write>(key: Key, faults: &mut E) {
+    match key {
+        Key::Nothing => {}
+        Key::Number(number) => put_number("", number, faults),
+        Key::Bytes(bytes) => {
+            for byte in bytes {
+                if byte != 0 {
+                    let c = char::from(byte);
+                    let _ = write!(faults, "{c}");
+                }
+            }
+        }
+    }
 }
