@@ -35,7 +35,7 @@ func unescaped(text string) []byte {
 
 // rows returns each row of each table, or skips the test if this package lies alone.
 func rows(t testing.TB) []row {
-	tables, _ := filepath.Glob("../../crates/check_rows/data/*.txt")
+	tables, _ := filepath.Glob("../../crates/stream_tables/data/*.txt")
 	if len(tables) == 0 {
 		t.Skip("the tables of the repository are not here")
 	}

@@ -4,7 +4,7 @@
 import { readFileSync, readdirSync } from "node:fs";
 
 export const TOP = new URL("../../../", import.meta.url);
-const TABLES = new URL("crates/check_rows/data/", TOP);
+const TABLES = new URL("crates/stream_tables/data/", TOP);
 
 /** The bytes that a text writes: `\xNN` is a byte, `\\` is `\`, any other character is itself. */
 export function unescaped(text) {

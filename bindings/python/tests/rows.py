@@ -9,7 +9,7 @@ from pathlib import Path
 
 # The top of the repository.
 TOP = Path(os.environ.get("ESCAPE_STREAM_TOP") or Path(__file__).resolve().parents[3])
-TABLES = TOP / "crates/check_rows/data"
+TABLES = TOP / "crates/stream_tables/data"
 
 
 class Row:

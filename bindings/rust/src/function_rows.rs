@@ -1,7 +1,7 @@
 // SPDX-License-Identifier: MIT
 //! The functions, a row a line: its variant, its key, its name, what it changes, what it does, and
 //! what its documentation says. `tools/functions-page` makes this file from the tables of
-//! `crates/esc_functions/src`.
+//! `crates/control_functions/src`.
 use crate::function::functions;
 
 functions! {

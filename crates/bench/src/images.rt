@@ -4,10 +4,10 @@ use crate::counted::Counted;
 use esc_frame::actor::VTActor;
 use esc_kitty::{KittyImage, KittyImageData};
 use esc_sixel::SixelBuilder;
-use esc_tcap::GetTcapBuilder;
 use esc_values::csi_param::CsiParam;
 use std::alloc::{AllocError, Global};
 use std::mem;
+use xtgettcap::GetTcapBuilder;
 
 /// A device control string whose data is read.
 #[derive(Drop)]
@@ -21,7 +21,7 @@ enum Open {
 }
 
 /// Reads each kitty image, sixel image and termcap query of a stream, counts them, and adds up how
-/// much they hold: the bytes of a payload, the pieces of a sixel's data, the names of a query.
+/// much they hold: the bytes of a payload, the chunks of a sixel's data, the names of a query.
 #[derive(Drop)]
 pub struct Images {
     alloc: Global,

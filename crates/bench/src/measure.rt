@@ -7,9 +7,9 @@ use crate::counted::Counted;
 use crate::images::Images;
 use crate::input::Input;
 use crate::tally::Tally;
+use caching_alloc::Reusing;
 use esc_frame::parser::VTParser;
 use escape_stream::{Action, Parser, Watched, encode, normalise, parse_borrowed};
-use reusing::Reusing;
 use std::alloc::{Allocator, Global};
 use std::fmt;
 

@@ -8,8 +8,8 @@ use Rattle.std.proofs.lemmas.Bool.{and_parts, cases_Bool}
 use Rattle.std.proofs.lemmas.Bool.Decides.{nat_tests}
 use Rattle.std.proofs.lemmas.List.Folds.{list_all-append}
 use Rattle.std.proofs.lemmas.Str.{chars-nil, chars_past_char, encode_ascii, encodes-append}
-use Rattle.esc_visible.specs.Characters.{is_among, is_shown}
-use Rattle.command_line.specs.ShownWords.{IsShown, byte_shown, escaped, is_plain, shown, shown_from, word_shown}
+use Rattle.unicode_visibility.specs.Characters.{is_among, is_shown}
+use Rattle.command_line.specs.ShownWords.{IsShown, byte_shown, escaped_character, is_plain, shown_character, shown_from, word_shown}
 
 -- a character of ASCII that prints
 abbrev printable : ℕ → Bool
@@ -62,7 +62,7 @@ number_shown c =
     (shown_more (digits_onto 64 16 false c []) (codes "}")
     (ascii_shown _ (digits_print 64 c [] refl)) (ascii_shown (codes "}") refl))
 
-escaped_shown : (c : ℕ) → IsShown (escaped c)
+escaped_shown : (c : ℕ) → IsShown (escaped_character c)
 escaped_shown c = elim (cases_Bool (c == 0x09)) [
   | inl tab ↦ rw tab (ascii_shown (codes "\\t") refl)
   | inr tab ↦ elim (cases_Bool (c == 0x0a)) [
@@ -81,7 +81,7 @@ byte_is_shown : (b : ℕ) → IsShown (byte_shown b)
 byte_is_shown b = ascii_shown (byte_shown b)
     (rw (glyph_prints (b / 16 % 16) (omega arith), glyph_prints (b % 16) (omega arith)) refl)
 
-char_shown : (is_byte : Bool) (c : ℕ) → IsShown (shown is_byte c)
+char_shown : (is_byte : Bool) (c : ℕ) → IsShown (shown_character is_byte c)
 char_shown true c = byte_is_shown c
 char_shown false c = elim (cases_Bool (c == 0)) [
   | inl none ↦ rw none ([], refl, refl)
@@ -96,18 +96,18 @@ char_shown false c = elim (cases_Bool (c == 0)) [
 pub chars_shown : (cs : List ℕ) (is_byte : Bool) → IsShown (shown_from is_byte cs)
 chars_shown [] is_byte = ([], refl, refl)
 chars_shown (c ∷ cs) is_byte =
-    shown_more (shown is_byte c) _ (char_shown is_byte c) (chars_shown cs _)
+    shown_more (shown_character is_byte c) _ (char_shown is_byte c) (chars_shown cs _)
 
 -- ---- how a word is written
 
 -- after its next character
 pub shown_step : (b n : Bool) (c : ℕ) (w done s t : List ℕ) → IsUtf8 s → s ≡ encode_utf8 c ++ t
     → n ≡ ((c == 0) && not b) → w ≡ done ++ shown_from b (chars s)
-    → w ≡ (done ++ shown b c) ++ shown_from n (chars t)
+    → w ≡ (done ++ shown_character b c) ++ shown_from n (chars t)
 shown_step b n c w done s t u h m e =
     e ∙ ap (λ z. done ++ shown_from b z) (chars_past_char s t c u h)
-    ∙ sym (append_assoc done (shown b c) (shown_from ((c == 0) && not b) (chars t)))
-    ∙ ap (λ z. (done ++ shown b c) ++ shown_from z (chars t)) (sym m)
+    ∙ sym (append_assoc done (shown_character b c) (shown_from ((c == 0) && not b) (chars t)))
+    ∙ ap (λ z. (done ++ shown_character b c) ++ shown_from z (chars t)) (sym m)
 
 -- after its last one
 pub shown_end : (b : Bool) (w done s : List ℕ) → length s ≡ 0

@@ -89,8 +89,8 @@ some_given (takes.MaybeSome c ws) v = if length v == 0 then 0 else bits_of ws.no
 -- ---- options that were read
 
 -- the name of an option that was read, its word, its size and the bits of its words
-abbrev pub said : Given → List ℕ × List ℕ × ℕ × ℕ
-said g = (g.name.now, g.word.now, g.size, g.some)
+abbrev pub said_option : Given → List ℕ × List ℕ × ℕ × ℕ
+said_option g = (g.name.now, g.word.now, g.size, g.some)
 
 -- those of an option with this value
 abbrev pub said_by : Known → List ℕ → List ℕ × List ℕ × ℕ × ℕ

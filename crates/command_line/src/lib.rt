@@ -22,13 +22,13 @@ pub use ending::{
     DONE, Ended, FAULT, Place, USAGE_FAULT, ended_by, last_status, refused, status_after,
     status_of_text, tell, unread, unwritable, unwritten,
 };
-pub use esc_visible::is_shown;
 pub use files::{INPUT, OUTPUT, Work, take_opened, work_through};
-pub use noting::Noting;
+pub use noting::ErrorCapture;
 pub use output_file::open_closed;
 pub use packed::{Packed, PackedFile, packed_in};
 pub use reading::{Found, Given, bits_are_words, read};
 pub use reason::Reason;
 pub use showing::Shown;
 pub use table::{Known, Takes};
+pub use unicode_visibility::is_shown;
 pub use wrong::Wrong;

@@ -11,15 +11,15 @@ use std::io::{ErrorKind, Read, Write};
 /// A reader or a writer around another, which notes the reason of the last error. A call that a
 /// signal interrupts is made again, so it is no error.
 #[derive(Drop)]
-pub struct Noting<T> {
+pub struct ErrorCapture<T> {
     inner: T,
     reason: Option<Reason>,
 }
 
-impl<T> Noting<T> {
+impl<T> ErrorCapture<T> {
     /// A reader or a writer around `inner`, of which no call has failed.
-    pub fn new(inner: T) -> Noting<T> {
-        Noting {
+    pub fn new(inner: T) -> ErrorCapture<T> {
+        ErrorCapture {
             inner,
             reason: None,
         }
@@ -32,12 +32,12 @@ impl<T> Noting<T> {
 
     /// The inner reader or writer.
     pub fn into_inner(self) -> T {
-        let Noting { inner, reason: _ } = self;
+        let ErrorCapture { inner, reason: _ } = self;
         inner
     }
 }
 
-impl<R: Read> Read for Noting<R> {
+impl<R: Read> Read for ErrorCapture<R> {
     ghost remaining = { λ n. R.remaining n.inner };
 
     fn read(&mut self, buf: &mut [u8]) -> io::Result<usize>
@@ -52,7 +52,7 @@ impl<R: Read> Read for Noting<R> {
     }
 }
 
-impl<W: Write> Write for Noting<W> {
+impl<W: Write> Write for ErrorCapture<W> {
     ghost contents = { λ n. W.contents n.inner };
 
     fn write(&mut self, buf: &[u8]) -> io::Result<usize>

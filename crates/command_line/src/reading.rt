@@ -2,7 +2,7 @@
 ghost use Rattle.std.specs.Prelude.{◌≡◌, ◌≤◌, ◌++◌, ◌∷◌, ℕ, List, [], IfErr, IfOk, MatchResult, drop, false, if◌then◌else◌, length, map, string_bytes, true, ◌<◌};
 ghost use denote.Ref.{Bor};
 ghost use Rattle.std.specs.List.{list_all, list_any};
-ghost use Rattle.command_line.specs.Given.{bit, bits_of, has_bit, is_among, is_one_of, is_place, is_value, parts, place_in, said, said_by};
+ghost use Rattle.command_line.specs.Given.{bit, bits_of, has_bit, is_among, is_one_of, is_place, is_value, parts, place_in, said_option, said_by};
 ghost use Rattle.command_line.specs.Words.{Decides, are_right, files_of, first_of, given_by, is_file, is_right, next_is_right, options_of, takes_next, takes_value};
 
 use crate::nearness::{nearest_name, nearest_word};
@@ -56,7 +56,7 @@ pub fn read<'a, A: Allocator + Copy>(
 ) -> Result<Found<'a, A>, Wrong<'a>>
     ensures files { IfOk result (λ found. map (λ f. f.now) found.files.items
         ≡ files_of known.now false (map string_bytes words.now)) }
-    ensures options { IfOk result (λ found. map said found.options.items
+    ensures options { IfOk result (λ found. map said_option found.options.items
         ≡ options_of known.now false (map string_bytes words.now)) }
     ensures right { Decides (are_right known.now false (map string_bytes words.now)) result }
 {
@@ -79,8 +79,8 @@ fn read_into<'a, A: Allocator + Copy>(
     ensures files { IfOk result (λ _. map (λ f. f.now) found.new.files.items
         ≡ map (λ f. f.now) found.old.files.items
         ++ files_of known.now false (map string_bytes words.now)) }
-    ensures options { IfOk result (λ _. map said found.new.options.items
-        ≡ map said found.old.options.items
+    ensures options { IfOk result (λ _. map said_option found.new.options.items
+        ≡ map said_option found.old.options.items
         ++ options_of known.now false (map string_bytes words.now)) }
     ensures right { Decides (are_right known.now false (map string_bytes words.now)) result }
 {
@@ -110,7 +110,7 @@ fn add_word<'a, A: Allocator + Copy>(
     ensures option { is_file word.now ≡ false → IfOk result (λ rest.
         (rest.now ≡ drop (if takes_next known.now word.now then 1 else 0) after.now)
         × (found.new.files.items ≡ found.old.files.items)
-        × (map said found.new.options.items ≡ map said found.old.options.items
+        × (map said_option found.new.options.items ≡ map said_option found.old.options.items
         ++ given_by known.now word.now (map string_bytes after.now))) }
     ensures right { Decides (if is_file word.now then true
         else is_right known.now word.now (map string_bytes after.now)) result }
@@ -156,7 +156,7 @@ fn option_of<'a>(
     ensures shorter { IfOk result (λ x. length x.1.now ≤ length after.now) }
     ensures rest { IfOk result (λ x.
         x.1.now ≡ drop (if takes_next known.now word.now then 1 else 0) after.now) }
-    ensures given { IfOk result (λ x. said x.0 ∷ []
+    ensures given { IfOk result (λ x. said_option x.0 ∷ []
         ≡ given_by known.now word.now (map string_bytes after.now)) }
     ensures right { Decides (is_right known.now word.now (map string_bytes after.now)) result }
 {
@@ -182,7 +182,7 @@ fn given_before<'a>(
     ensures shorter { IfOk result (λ x. length x.1.now ≤ length after.now) }
     ensures rest { IfOk result (λ x.
         x.1.now ≡ drop (if takes_value option.takes then 1 else 0) after.now) }
-    ensures given { IfOk result (λ x. said x.0 ≡ said_by option
+    ensures given { IfOk result (λ x. said_option x.0 ≡ said_by option
         (if takes_value option.takes then first_of (map string_bytes after.now) else [])) }
     ensures right { Decides (next_is_right option (map string_bytes after.now)) result }
 {
@@ -202,7 +202,7 @@ fn given_before<'a>(
 
 // An option with this value.
 fn given_with<'a>(option: Known, value: &'a str) -> Result<Given<'a>, Wrong<'a>>
-    ensures given { IfOk result (λ g. said g ≡ said_by option value.now) }
+    ensures given { IfOk result (λ g. said_option g ≡ said_by option value.now) }
     ensures right { Decides (is_value option.takes value.now) result }
 {
     match option.takes {
@@ -235,7 +235,7 @@ fn given_some<'a>(
     words: &'static [&'static str],
     value: &'a str,
 ) -> Result<Given<'a>, Wrong<'a>>
-    ensures given { IfOk result (λ g. said g
+    ensures given { IfOk result (λ g. said_option g
         ≡ (name.now, value.now, 0, bits_of words.now (parts value.now))) }
     ensures right { Decides (list_all (is_among words.now) (parts value.now)) result }
 {
@@ -308,7 +308,7 @@ pub fn bits_are_words()
 
 // The option, with a word or a size.
 fn taken<'a>(option: Known, word: &'a str, size: usize) -> Given<'a>
-    ensures { said result ≡ (option.name.now, word.now, size, 0) }
+    ensures { said_option result ≡ (option.name.now, word.now, size, 0) }
 {
     Given {
         name: option.name,
@@ -321,7 +321,7 @@ fn taken<'a>(option: Known, word: &'a str, size: usize) -> Given<'a>
 
 // The option without what it may take, before these words.
 fn followed<'a>(option: Known, after: &'a [String]) -> Given<'a>
-    ensures { said result ≡ (option.name.now, [], 0, 0) }
+    ensures { said_option result ≡ (option.name.now, [], 0, 0) }
 {
     let mut given = taken(option, "", 0);
     if let Some(next) = after.first() {

@@ -1,11 +1,11 @@
 //! Words that are safe to print.
 ghost use Rattle.std.specs.Prelude.{◌≡◌, ◌<◌, List, Some, false, ℕ};
 ghost use Rattle.std.specs.Fmt.{DisplaysOnOk, digit_glyph};
-ghost use Rattle.command_line.specs.ShownWords.{IsShown, byte_shown, escaped, shown, word_shown};
+ghost use Rattle.command_line.specs.ShownWords.{IsShown, byte_shown, escaped_character, shown_character, word_shown};
 
-use esc_visible::is_shown;
 use std::fmt;
 use std::fmt::Display;
+use unicode_visibility::is_shown;
 
 /// A word of unknown origin, as an argument or the name of a file, for a line on a terminal: a
 /// character that is shown is itself, and each other, and a backslash, is escaped, as `\u{1b}`; so
@@ -35,7 +35,7 @@ pub fn words_are_shown()
 
 // Writes a character of a word, which stands for a byte where it is said so.
 fn write_shown<W: fmt::Write>(is_byte: bool, c: char, f: &mut fmt::Formatter<W>) -> fmt::Result
-    ensures { DisplaysOnOk W.write_str_gives f.old result (Some (shown is_byte c)) f.new }
+    ensures { DisplaysOnOk W.write_str_gives f.old result (Some (shown_character is_byte c)) f.new }
 {
     if is_byte {
         return write_byte(c as u32, f);
@@ -51,7 +51,7 @@ fn write_shown<W: fmt::Write>(is_byte: bool, c: char, f: &mut fmt::Formatter<W>)
 
 // Writes a character that is escaped.
 fn write_escaped<W: fmt::Write>(c: char, f: &mut fmt::Formatter<W>) -> fmt::Result
-    ensures { DisplaysOnOk W.write_str_gives f.old result (Some (escaped c)) f.new }
+    ensures { DisplaysOnOk W.write_str_gives f.old result (Some (escaped_character c)) f.new }
 {
     match c {
         '\t' => f.write_str("\\t"),

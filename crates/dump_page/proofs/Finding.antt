@@ -4,34 +4,35 @@ use Rattle.std.proofs.lemmas.Bool.{false≢true}
 use Rattle.std.specs.List.{flat_map, list_all}
 use Rattle.std.specs.Option.{is_some}
 use Rattle.std.specs.Prelude.{Option, Some, None}
-use Rattle.dump_page.specs.Pages.{Piece, found, is_fit, piece_chars, quoted}
-use Rattle.dump_page.specs.Pages.Piece.{Word, Quoted, LineEnd, PlaceColor, BytesColor, NoColor}
+use Rattle.dump_page.specs.Pages.{PagePart, found_quotes, is_fit, page_part_chars, quoted_texts}
+use Rattle.dump_page.specs.Pages.PagePart.{Word, Quoted, LineEnd, PlaceColor, BytesColor, NoColor}
 use Rattle.dump_page.specs.Pages.Place.{Outside, Inside}
-use Rattle.esc_visible.specs.Characters.{is_shown}
-use Rattle.dump_page.specs.Quoted.{Reader, closes, given, is_quoted, next, put, unquoted}
+use Rattle.unicode_visibility.specs.Characters.{is_shown}
+use Rattle.dump_page.specs.Quoted.{Reader, closes, given_bytes, is_quoted, next, bytes_before, unquoted_bytes}
 use Rattle.dump_page.specs.Quoted.Reader.{InText, AfterBackslash, InNumber, AfterDigit}
 
-some_put : (s : List ℕ) (r : Option (List ℕ)) → is_some (put s r) ≡ is_some r
+some_put : (s : List ℕ) (r : Option (List ℕ)) → is_some (bytes_before s r) ≡ is_some r
 some_put s None = refl
 some_put s (Some t) = refl
 
 -- a character that ends no quotes, where the rest passes
 passed_one : (b : Bool) (r : Reader) (read : List ℕ) (c : ℕ) (cs rest : List ℕ) → closes r c ≡ b
-    → is_some (cond b None (put (given r c) (unquoted (next r c) cs))) ≡ true
-    → ((read : List ℕ) → is_some (unquoted (next r c) cs) ≡ true
-    → found (Inside (next r c) read) (cs ++ 0x22 ∷ rest) ≡ (read ++ cs) ∷ found Outside rest)
-    → cond b (read ∷ found Outside (cs ++ 0x22 ∷ rest))
-    (found (Inside (next r c) (read ++ c ∷ [])) (cs ++ 0x22 ∷ rest))
-    ≡ (read ++ c ∷ cs) ∷ found Outside rest
+    → is_some (cond b None (bytes_before (given_bytes r c) (unquoted_bytes (next r c) cs))) ≡ true
+    → ((read : List ℕ) → is_some (unquoted_bytes (next r c) cs) ≡ true
+    → found_quotes (Inside (next r c) read) (cs ++ 0x22 ∷ rest) ≡ (read ++ cs)
+    ∷ found_quotes Outside rest)
+    → cond b (read ∷ found_quotes Outside (cs ++ 0x22 ∷ rest))
+    (found_quotes (Inside (next r c) (read ++ c ∷ [])) (cs ++ 0x22 ∷ rest))
+    ≡ (read ++ c ∷ cs) ∷ found_quotes Outside rest
 passed_one true r read c cs rest e h f = absurd (false≢true h)
 passed_one false r read c cs rest e h f =
-    f (read ++ c ∷ []) (sym (some_put (given r c) (unquoted (next r c) cs)) ∙ h)
-    ∙ ap (λ x. x ∷ found Outside rest) (append_assoc read (c ∷ []) cs)
+    f (read ++ c ∷ []) (sym (some_put (given_bytes r c) (unquoted_bytes (next r c) cs)) ∙ h)
+    ∙ ap (λ x. x ∷ found_quotes Outside rest) (append_assoc read (c ∷ []) cs)
 
 -- characters that read as bytes do not end the quotes, and leave the reader in the text
-passed : (r : Reader) (read cs rest : List ℕ) → is_some (unquoted r cs) ≡ true
-    → found (Inside r read) (cs ++ 0x22 ∷ rest) ≡ (read ++ cs) ∷ found Outside rest
-passed InText read [] rest h = ap (λ x. x ∷ found Outside rest) (sym (append-nil read))
+passed : (r : Reader) (read cs rest : List ℕ) → is_some (unquoted_bytes r cs) ≡ true
+    → found_quotes (Inside r read) (cs ++ 0x22 ∷ rest) ≡ (read ++ cs) ∷ found_quotes Outside rest
+passed InText read [] rest h = ap (λ x. x ∷ found_quotes Outside rest) (sym (append-nil read))
 passed AfterBackslash read [] rest h = absurd (false≢true h)
 passed InNumber read [] rest h = absurd (false≢true h)
 passed (AfterDigit d) read [] rest h = absurd (false≢true h)
@@ -59,8 +60,8 @@ no_quote : (b : Bool) (s : List (List ℕ)) (t : List (List ℕ)) → not b ≡ 
 no_quote true s t h = absurd (false≢true h)
 no_quote false s t h = refl
 
-pub found_as_quoted : (ps : List Piece) → list_all is_fit ps ≡ true
-    → found Outside (flat_map piece_chars ps) ≡ quoted ps
+pub found_as_quoted : (ps : List PagePart) → list_all is_fit ps ≡ true
+    → found_quotes Outside (flat_map page_part_chars ps) ≡ quoted_texts ps
 found_as_quoted [] h = refl
 found_as_quoted (Word c ∷ ps) h =
     let fit = and_left (is_fit (Word c)) (list_all is_fit ps) h in
@@ -68,8 +69,8 @@ found_as_quoted (Word c ∷ ps) h =
     ∙ found_as_quoted ps (and_right (is_fit (Word c)) (list_all is_fit ps) h)
 found_as_quoted (Quoted cs ∷ ps) h =
     let fit = and_left (is_fit (Quoted cs)) (list_all is_fit ps) h in
-    ap (found (Inside InText [])) (append_assoc cs (0x22 ∷ []) (flat_map piece_chars ps))
-    ∙ passed InText [] cs (flat_map piece_chars ps)
+    ap (found_quotes (Inside InText [])) (append_assoc cs (0x22 ∷ []) (flat_map page_part_chars ps))
+    ∙ passed InText [] cs (flat_map page_part_chars ps)
     (and_right (list_all is_shown cs) (is_quoted cs) fit)
     ∙ ap (λ x. cs ∷ x) (found_as_quoted ps (and_right (is_fit (Quoted cs)) (list_all is_fit ps) h))
 found_as_quoted (LineEnd ∷ ps) h = found_as_quoted ps h

@@ -1,4 +1,4 @@
--- Pages that grow by a piece.
+-- Pages that grow by a part.
 use Rattle.std.proofs.Common.{ℕ, ◌≡◌, true, List, [], ◌∷◌, ◌++◌, refl, ap, sym, subst, ◌∙◌, append-nil, append_assoc}
 use Rattle.std.specs.Prelude.{Result, Ok, Err, OnOk, OnErr, Option, Some, None}
 use Rattle.std.specs.List.{flat_map}
@@ -7,32 +7,33 @@ use Rattle.std.proofs.lemmas.List.Folds.{list_all-append}
 use Rattle.std.proofs.lemmas.Grind.{flat_map-append}
 use Rattle.std.proofs.Math.Logic.{∥∥₁_map, ∥∥₁_elim, ∥∥₁_prop}
 use Rattle.std.specs.Option.{is_some}
-use Rattle.dump_page.specs.Pages.{Piece, IsPage, IsPiece, AppendsPage, is_fit, piece_text}
-use Rattle.dump_page.specs.Pages.Piece.{Quoted}
-use Rattle.dump_page.specs.Quoted.{AddsQuote, IsQuote, is_quoted, unquoted}
+use Rattle.dump_page.specs.Pages.{PagePart, IsPage, IsPagePart, AppendsPage, is_fit, page_part_text}
+use Rattle.dump_page.specs.Pages.PagePart.{Quoted}
+use Rattle.dump_page.specs.Quoted.{AddsQuote, IsQuote, is_quoted, unquoted_bytes}
 use Rattle.dump_page.specs.Quoted.Reader.{InText}
 
-page_piece : (s : List ℕ) (p : Piece) → is_fit p ≡ true → IsPage s → IsPage (s ++ piece_text p)
-page_piece s p fit (ps, all, e) = (
+page_page_part : (s : List ℕ) (p : PagePart) → is_fit p ≡ true → IsPage s
+    → IsPage (s ++ page_part_text p)
+page_page_part s p fit (ps, all, e) = (
   ps ++ p ∷ [],
   rw (list_all-append is_fit ps (p ∷ []), all, fit) refl,
-  flat_map-append piece_text ps (p ∷ []) ∙ ap (λ t. t ++ (piece_text p ++ [])) e
-      ∙ ap (λ t. s ++ t) (append-nil (piece_text p)),
+  flat_map-append page_part_text ps (p ∷ []) ∙ ap (λ t. t ++ (page_part_text p ++ [])) e
+      ∙ ap (λ t. s ++ t) (append-nil (page_part_text p)),
 )
 
 pub no_page : ∥ IsPage [] ∥₁
 no_page = ∣ ([], refl, refl) ∣₁
 
--- the text t after a push of a piece to the text s, that may be refused
-pub page_push : {U E : Type 0} (r : Result U E) (s t : List ℕ) (p : Piece) → is_fit p ≡ true
-    → ∥ IsPage s ∥₁ → OnOk r (t ≡ s ++ piece_text p) → OnErr r (t ≡ s)
+-- the text t after a push of a part to the text s, that may be refused
+pub page_push : {U E : Type 0} (r : Result U E) (s t : List ℕ) (p : PagePart) → is_fit p ≡ true
+    → ∥ IsPage s ∥₁ → OnOk r (t ≡ s ++ page_part_text p) → OnErr r (t ≡ s)
     → ∥ IsPage t ∥₁
 page_push (Ok u) s t p fit h ok err =
-    subst (λ x. ∥ IsPage x ∥₁) (sym ok) (∥∥₁_map h (page_piece s p fit))
+    subst (λ x. ∥ IsPage x ∥₁) (sym ok) (∥∥₁_map h (page_page_part s p fit))
 page_push (Err e) s t p fit h ok err = subst (λ x. ∥ IsPage x ∥₁) (sym err) h
 
 -- the same of a change of the colour or the end of a line
-pub page_grow : {U E : Type 0} (r : Result U E) (s t u : List ℕ) → IsPiece u → ∥ IsPage s ∥₁
+pub page_grow : {U E : Type 0} (r : Result U E) (s t u : List ℕ) → IsPagePart u → ∥ IsPage s ∥₁
     → OnOk r (t ≡ s ++ u) → OnErr r (t ≡ s) → ∥ IsPage t ∥₁
 page_grow r s t u (p, fit, e) h ok err =
     page_push r s t p fit h (subst (λ x. OnOk r (t ≡ s ++ x)) (sym e) ok) err
@@ -42,7 +43,7 @@ page_append : (s t : List ℕ) → IsPage s → IsPage t → IsPage (s ++ t)
 page_append s t (ps, all, e) (qs, more, f) = (
   ps ++ qs,
   rw (list_all-append is_fit ps qs, all, more) refl,
-  flat_map-append piece_text ps qs ∙ ap (λ x. x ++ flat_map piece_text qs) e
+  flat_map-append page_part_text ps qs ∙ ap (λ x. x ++ flat_map page_part_text qs) e
       ∙ ap (λ x. s ++ x) f,
 )
 
@@ -50,11 +51,11 @@ page_append s t (ps, all, e) (qs, more, f) = (
 page_quote : (s q : List ℕ) → IsPage s → IsQuote q → IsPage (s ++ 0x22 ∷ (q ++ 0x22 ∷ []))
 page_quote s q h (bytes, k) =
     let reads : is_quoted k.added ≡ true =
-    ap is_some (ap (unquoted InText) (sym (append-nil k.added)) ∙ k.reads []) in
-    let text : piece_text (Quoted k.added) ≡ 0x22 ∷ (q ++ 0x22 ∷ []) =
+    ap is_some (ap (unquoted_bytes InText) (sym (append-nil k.added)) ∙ k.reads []) in
+    let text : page_part_text (Quoted k.added) ≡ 0x22 ∷ (q ++ 0x22 ∷ []) =
     ap (λ x. 0x22 ∷ (x ++ 0x22 ∷ [])) (sym k.appends) in
     subst (λ x. IsPage (s ++ x)) text
-    (page_piece s (Quoted k.added) (rw (k.shown, reads) refl) h)
+    (page_page_part s (Quoted k.added) (rw (k.shown, reads) refl) h)
 
 pub page_quoted : (s t q : List ℕ) → ∥ IsPage s ∥₁ → ∥ IsQuote q ∥₁
     → t ≡ s ++ 0x22 ∷ (q ++ 0x22 ∷ []) → ∥ IsPage t ∥₁

@@ -6,10 +6,10 @@ use Rattle.std.specs.List.{list_all}
 use Rattle.std.proofs.lemmas.Bool.{and_parts, false≢true}
 use Rattle.std.proofs.lemmas.Bool.Decides.{nat_tests}
 use Rattle.std.proofs.lemmas.Str.{encode_ascii}
-use Rattle.esc_visible.specs.Characters.{is_shown}
+use Rattle.unicode_visibility.specs.Characters.{is_shown}
 use Rattle.dump_page.specs.Quoted.{IsQuote, Quotes, is_plain, is_word_byte}
 use Rattle.dump_page.specs.Pages.{IsPage, is_word}
-use Rattle.dump_page.specs.Pages.Piece.{Word}
+use Rattle.dump_page.specs.Pages.PagePart.{Word}
 use Rattle.dump_page.proofs.Quoting.{on_ok, quotes_itself, quotes_more, quotes_nothing}
 
 record IsPlain (b : ℕ) : Type 0 where

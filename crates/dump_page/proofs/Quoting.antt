@@ -7,16 +7,17 @@ use Rattle.std.proofs.lemmas.List.Folds.{list_all-append}
 use Rattle.std.proofs.lemmas.Grind.{flat_map-append}
 use Rattle.std.proofs.lemmas.Str.{encode_ascii}
 use Rattle.std.proofs.Math.Nat.{div-add-mod}
-use Rattle.esc_visible.specs.Characters.{is_shown}
+use Rattle.unicode_visibility.specs.Characters.{is_shown}
 use Rattle.std.proofs.Math.Logic.{∥∥₁_map}
-use Rattle.dump_page.specs.Quoted.{AddsQuote, IsQuote, Quotes, QuotesSome, put, unquoted}
+use Rattle.dump_page.specs.Quoted.{AddsQuote, IsQuote, Quotes, QuotesSome, bytes_before, unquoted_bytes}
 use Rattle.dump_page.specs.Quoted.Reader.{InText}
 
-put_append : (x y : List ℕ) (r : Option (List ℕ)) → put (x ++ y) r ≡ put x (put y r)
+put_append : (x y : List ℕ) (r : Option (List ℕ)) → bytes_before (x ++ y) r
+    ≡ bytes_before x (bytes_before y r)
 put_append x y None = refl
 put_append x y (Some t) = ap Some (append_assoc x y t)
 
-put_nothing : (r : Option (List ℕ)) → r ≡ put [] r
+put_nothing : (r : Option (List ℕ)) → r ≡ bytes_before [] r
 put_nothing None = refl
 put_nothing (Some t) = refl
 
@@ -25,7 +26,7 @@ quotes_nothing s = record {
   added = [];
   shown = refl;
   appends = sym (append-nil s);
-  reads = λ rest. put_nothing (unquoted InText rest);
+  reads = λ rest. put_nothing (unquoted_bytes InText rest);
 }
 
 pub quotes_more : (s t u x y : List ℕ) → Quotes s t x → Quotes t u y → Quotes s u (x ++ y)
@@ -35,9 +36,9 @@ quotes_more s t u x y h k = record {
   appends = k.appends ∙ ap (λ z. z ++ flat_map encode_utf8 k.added) h.appends
       ∙ append_assoc s (flat_map encode_utf8 h.added) (flat_map encode_utf8 k.added)
       ∙ ap (λ z. s ++ z) (sym (flat_map-append encode_utf8 h.added k.added));
-  reads = λ rest. ap (unquoted InText) (append_assoc h.added k.added rest)
-      ∙ h.reads (k.added ++ rest) ∙ ap (put x) (k.reads rest)
-      ∙ sym (put_append x y (unquoted InText rest));
+  reads = λ rest. ap (unquoted_bytes InText) (append_assoc h.added k.added rest)
+      ∙ h.reads (k.added ++ rest) ∙ ap (bytes_before x) (k.reads rest)
+      ∙ sym (put_append x y (unquoted_bytes InText rest));
 }
 
 -- a character that is shown and is no `"` and no `\`

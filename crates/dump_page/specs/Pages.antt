@@ -3,44 +3,44 @@ use Rattle.std.specs.Prelude.{ℕ, ◌≡◌, ◌==◌, Bool, true, not, ◌&&�
 use Rattle.std.specs.List.{list_all, flat_map}
 use Rattle.std.specs.Char.{encode_utf8}
 use Rattle.std.specs.Io.KnownBytes.{Appends}
-use Rattle.esc_visible.specs.Characters.{is_shown}
+use Rattle.unicode_visibility.specs.Characters.{is_shown}
 use Rattle.dump_page.specs.Quoted.{Reader, closes, is_quoted, next}
 use Rattle.dump_page.specs.Quoted.Reader.{InText}
 
--- A piece of a page: a character of the words, the characters between two quotes, the end of a
+-- A part of a page: a character of the words, the characters between two quotes, the end of a
 -- line, or a change of the colour.
-pub data Piece : Type 0 where
-  Word : ℕ → Piece
-  Quoted : List ℕ → Piece
-  LineEnd : Piece
-  PlaceColor : Piece
-  BytesColor : Piece
-  NoColor : Piece
+pub data PagePart : Type 0 where
+  Word : ℕ → PagePart
+  Quoted : List ℕ → PagePart
+  LineEnd : PagePart
+  PlaceColor : PagePart
+  BytesColor : PagePart
+  NoColor : PagePart
 
 -- its characters
-abbrev pub piece_chars : Piece → List ℕ
-piece_chars (Word c) = c ∷ []
-piece_chars (Quoted cs) = 0x22 ∷ (cs ++ 0x22 ∷ [])
-piece_chars LineEnd = 0x0a ∷ []
-piece_chars PlaceColor = 0x1b ∷ 0x5b ∷ 0x33 ∷ 0x33 ∷ 0x6d ∷ []
-piece_chars BytesColor = 0x1b ∷ 0x5b ∷ 0x33 ∷ 0x36 ∷ 0x6d ∷ []
-piece_chars NoColor = 0x1b ∷ 0x5b ∷ 0x6d ∷ []
+abbrev pub page_part_chars : PagePart → List ℕ
+page_part_chars (Word c) = c ∷ []
+page_part_chars (Quoted cs) = 0x22 ∷ (cs ++ 0x22 ∷ [])
+page_part_chars LineEnd = 0x0a ∷ []
+page_part_chars PlaceColor = 0x1b ∷ 0x5b ∷ 0x33 ∷ 0x33 ∷ 0x6d ∷ []
+page_part_chars BytesColor = 0x1b ∷ 0x5b ∷ 0x33 ∷ 0x36 ∷ 0x6d ∷ []
+page_part_chars NoColor = 0x1b ∷ 0x5b ∷ 0x6d ∷ []
 
 -- their UTF-8
-abbrev pub piece_text : Piece → List ℕ
-piece_text (Word c) = encode_utf8 c
-piece_text (Quoted cs) = 0x22 ∷ (flat_map encode_utf8 cs ++ 0x22 ∷ [])
-piece_text LineEnd = piece_chars LineEnd
-piece_text PlaceColor = piece_chars PlaceColor
-piece_text BytesColor = piece_chars BytesColor
-piece_text NoColor = piece_chars NoColor
+abbrev pub page_part_text : PagePart → List ℕ
+page_part_text (Word c) = encode_utf8 c
+page_part_text (Quoted cs) = 0x22 ∷ (flat_map encode_utf8 cs ++ 0x22 ∷ [])
+page_part_text LineEnd = page_part_chars LineEnd
+page_part_text PlaceColor = page_part_chars PlaceColor
+page_part_text BytesColor = page_part_chars BytesColor
+page_part_text NoColor = page_part_chars NoColor
 
 -- a character of words: it is shown, and is no quote
 abbrev pub is_word : ℕ → Bool
 is_word c = is_shown c && not (c == 0x22)
 
 -- what is quoted is shown, and reads as bytes
-abbrev pub is_fit : Piece → Bool
+abbrev pub is_fit : PagePart → Bool
 is_fit (Word c) = is_word c
 is_fit (Quoted cs) = list_all is_shown cs && is_quoted cs
 is_fit LineEnd = true
@@ -48,9 +48,9 @@ is_fit PlaceColor = true
 is_fit BytesColor = true
 is_fit NoColor = true
 
--- a text that is made of such pieces
+-- a text that is made of such parts
 abbrev pub IsPage : List ℕ → Type 0
-IsPage t = (ps : List Piece) × (list_all is_fit ps ≡ true) × (flat_map piece_text ps ≡ t)
+IsPage t = (ps : List PagePart) × (list_all is_fit ps ≡ true) × (flat_map page_part_text ps ≡ t)
 
 -- known bytes grow by a page
 pub record AppendsPage (old new : Option (List ℕ)) : Type 0 where
@@ -59,8 +59,8 @@ pub record AppendsPage (old new : Option (List ℕ)) : Type 0 where
   pub appends : Appends old new text
 
 -- a change of the colour or the end of a line
-abbrev pub IsPiece : List ℕ → Type 0
-IsPiece t = (p : Piece) × (is_fit p ≡ true) × (piece_text p ≡ t)
+abbrev pub IsPagePart : List ℕ → Type 0
+IsPagePart t = (p : PagePart) × (is_fit p ≡ true) × (page_part_text p ≡ t)
 
 -- where a reader of a page is: outside of quotes, or between them, after some characters
 pub data Place : Type 0 where
@@ -69,19 +69,20 @@ pub data Place : Type 0 where
 
 -- What a reader finds between quotes in these characters: a `"` begins it, and the next `"` ends it
 -- that no `\` escapes.
-abbrev pub found : Place → List ℕ → List (List ℕ)
-found Outside [] = []
-found (Inside r read) [] = []
-found Outside (c ∷ cs) = if c == 0x22 then found (Inside InText []) cs else found Outside cs
-found (Inside r read) (c ∷ cs) = if closes r c then read ∷ found Outside cs
-    else found (Inside (next r c) (read ++ c ∷ [])) cs
+abbrev pub found_quotes : Place → List ℕ → List (List ℕ)
+found_quotes Outside [] = []
+found_quotes (Inside r read) [] = []
+found_quotes Outside (c ∷ cs) = if c == 0x22 then found_quotes (Inside InText []) cs
+    else found_quotes Outside cs
+found_quotes (Inside r read) (c ∷ cs) = if closes r c then read ∷ found_quotes Outside cs
+    else found_quotes (Inside (next r c) (read ++ c ∷ [])) cs
 
--- what is quoted in pieces
-abbrev pub quoted : List Piece → List (List ℕ)
-quoted [] = []
-quoted (Word c ∷ ps) = quoted ps
-quoted (Quoted cs ∷ ps) = cs ∷ quoted ps
-quoted (LineEnd ∷ ps) = quoted ps
-quoted (PlaceColor ∷ ps) = quoted ps
-quoted (BytesColor ∷ ps) = quoted ps
-quoted (NoColor ∷ ps) = quoted ps
+-- what is quoted in parts
+abbrev pub quoted_texts : List PagePart → List (List ℕ)
+quoted_texts [] = []
+quoted_texts (Word c ∷ ps) = quoted_texts ps
+quoted_texts (Quoted cs ∷ ps) = cs ∷ quoted_texts ps
+quoted_texts (LineEnd ∷ ps) = quoted_texts ps
+quoted_texts (PlaceColor ∷ ps) = quoted_texts ps
+quoted_texts (BytesColor ∷ ps) = quoted_texts ps
+quoted_texts (NoColor ∷ ps) = quoted_texts ps

@@ -3,7 +3,7 @@ use Rattle.std.specs.Prelude.{ℕ, ◌≡◌, ◌+◌, ◌*◌, ◌==◌, ◌&&�
 use Rattle.std.specs.Char.{encode_utf8, digit_value}
 use Rattle.std.specs.List.{list_all, flat_map}
 use Rattle.std.specs.Option.{is_some}
-use Rattle.esc_visible.specs.Characters.{is_shown}
+use Rattle.unicode_visibility.specs.Characters.{is_shown}
 
 -- a byte that is a character which comes as it is, in words and between quotes
 abbrev pub is_plain : ℕ → Bool
@@ -14,9 +14,9 @@ abbrev pub is_word_byte : ℕ → Bool
 is_word_byte b = nat_le 0x20 b && (nat_le b 0x7e && not (b == 0x22))
 
 -- bytes before those of the rest
-abbrev pub put : List ℕ → Option (List ℕ) → Option (List ℕ)
-put s None = None
-put s (Some t) = Some (s ++ t)
+abbrev pub bytes_before : List ℕ → Option (List ℕ) → Option (List ℕ)
+bytes_before s None = None
+bytes_before s (Some t) = Some (s ++ t)
 
 -- where a reader is: in the text, after a `\`, after `\x`, or after the first digit of a number
 pub data Reader : Type 0 where
@@ -40,25 +40,26 @@ next InNumber c = AfterDigit (digit_value c)
 next (AfterDigit d) c = InText
 
 -- the bytes that such a character adds
-abbrev pub given : Reader → ℕ → List ℕ
-given InText c = if c == 0x5c then [] else encode_utf8 c
-given AfterBackslash c = if c == 0x78 then [] else encode_utf8 c
-given InNumber c = []
-given (AfterDigit d) c = (16 * d + digit_value c) ∷ []
+abbrev pub given_bytes : Reader → ℕ → List ℕ
+given_bytes InText c = if c == 0x5c then [] else encode_utf8 c
+given_bytes AfterBackslash c = if c == 0x78 then [] else encode_utf8 c
+given_bytes InNumber c = []
+given_bytes (AfterDigit d) c = (16 * d + digit_value c) ∷ []
 
 -- The bytes that the characters between two quotes stand for: a character after a `\` for itself,
 -- `\x` and two hexadecimal digits for a byte, and any other for itself. None, where a `"` is not
 -- escaped or an escape is not whole.
-abbrev pub unquoted : Reader → List ℕ → Option (List ℕ)
-unquoted InText [] = Some []
-unquoted AfterBackslash [] = None
-unquoted InNumber [] = None
-unquoted (AfterDigit d) [] = None
-unquoted r (c ∷ cs) = if closes r c then None else put (given r c) (unquoted (next r c) cs)
+abbrev pub unquoted_bytes : Reader → List ℕ → Option (List ℕ)
+unquoted_bytes InText [] = Some []
+unquoted_bytes AfterBackslash [] = None
+unquoted_bytes InNumber [] = None
+unquoted_bytes (AfterDigit d) [] = None
+unquoted_bytes r (c ∷ cs) = if closes r c then None
+    else bytes_before (given_bytes r c) (unquoted_bytes (next r c) cs)
 
 -- characters that stand for bytes
 abbrev pub is_quoted : List ℕ → Bool
-is_quoted cs = is_some (unquoted InText cs)
+is_quoted cs = is_some (unquoted_bytes InText cs)
 
 -- The text s, as UTF-8, grows to t by characters that are shown and that read as these bytes,
 -- whatever comes after them.
@@ -67,7 +68,7 @@ pub record Quotes (s t bytes : List ℕ) : Type 0 where
   pub shown : list_all is_shown added ≡ true
   pub appends : t ≡ s ++ flat_map encode_utf8 added
   pub reads : (rest : List ℕ)
-      → unquoted InText (added ++ rest) ≡ put bytes (unquoted InText rest)
+      → unquoted_bytes InText (added ++ rest) ≡ bytes_before bytes (unquoted_bytes InText rest)
 
 -- it grows so by some bytes
 abbrev pub QuotesSome : List ℕ → List ℕ → Type 0

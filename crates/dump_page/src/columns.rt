@@ -1,8 +1,8 @@
 //! How many columns characters take.
 ghost use Rattle.std.specs.Prelude.{◌≡◌, IfSome, true};
-ghost use Rattle.esc_visible.specs.Characters.{is_shown};
+ghost use Rattle.unicode_visibility.specs.Characters.{is_shown};
 
-use esc_visible::is_shown;
+use unicode_visibility::is_shown;
 use unicode_width::UnicodeWidthChar;
 
 // The most marks on a character: those of Vietnamese are two, with the vowels of Hebrew and their

@@ -1,6 +1,6 @@
 //! Bytes of a stream as words have them: those that are not shown as their numbers.
 ghost use Rattle.std.specs.Prelude.{◌≡◌, IfSome, true};
-ghost use Rattle.esc_visible.specs.Characters.{is_shown};
+ghost use Rattle.unicode_visibility.specs.Characters.{is_shown};
 
 use crate::columns::Columns;
 use crate::phrase::Phrase;

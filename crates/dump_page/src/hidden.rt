@@ -3,8 +3,8 @@
 
 use crate::columns::{is_noncharacter, is_space};
 use crate::phrase::Phrase;
-use esc_visible::is_deceiving;
 use std::alloc::Global;
+use unicode_visibility::is_deceiving;
 
 // A line for each row of what is counted: what the characters of it are, by Unicode's names or, of
 // several, by what they have in common.

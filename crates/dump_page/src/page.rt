@@ -96,9 +96,9 @@ impl Page {
             return;
         }
         match color {
-            Color::Place => self.words.push_piece("\x1b[33m"),
-            Color::Bytes => self.words.push_piece("\x1b[36m"),
-            Color::Plain => self.words.push_piece("\x1b[m"),
+            Color::Place => self.words.push_page_part("\x1b[33m"),
+            Color::Bytes => self.words.push_page_part("\x1b[36m"),
+            Color::Plain => self.words.push_page_part("\x1b[m"),
         }
     }
 

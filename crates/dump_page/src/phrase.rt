@@ -1,7 +1,7 @@
 //! Words, one after another.
 ghost use Rattle.std.specs.Prelude.{◌≡◌, true};
 ghost use Rattle.std.specs.List.{list_all};
-ghost use Rattle.dump_page.specs.Pages.{IsPage, IsPiece, is_word};
+ghost use Rattle.dump_page.specs.Pages.{IsPage, IsPagePart, is_word};
 ghost use Rattle.dump_page.specs.Quoted.{IsQuote, is_plain, is_word_byte};
 
 use crate::hidden::Hidden;
@@ -14,9 +14,9 @@ use crate::room::Room;
 use crate::short_base64;
 use esc_values::Text;
 use esc_values::base64_text::Encoded;
-use esc_visible::is_shown;
 use std::alloc::Global;
 use std::mem;
+use unicode_visibility::is_shown;
 
 /// The words of a line, to which more are added: static texts, numbers, and bytes of the stream
 /// between quotes or escaped. Once memory is refused no more are, and
@@ -432,17 +432,17 @@ impl Phrase {
     }
 
     /// Adds a change of the colour or the end of a line.
-    pub(crate) fn push_piece(&mut self, piece: &str)
-        requires { IsPiece piece.now }
+    pub(crate) fn push_page_part(&mut self, page_part: &str)
+        requires { IsPagePart page_part.now }
     {
         if !self.is_refused {
-            self.is_refused = self.text.push_str(piece).is_err();
+            self.is_refused = self.text.push_str(page_part).is_err();
         }
     }
 
     /// Ends the line.
     pub(crate) fn end_line(&mut self) {
-        self.push_piece("\n");
+        self.push_page_part("\n");
         self.columns = 0;
     }
 

@@ -2,16 +2,16 @@
 ghost use Rattle.std.specs.Prelude.{◌≡◌, ◌≢◌, ◌<◌, ◌∷◌, ◌++◌, [], OnOk, true};
 ghost use Rattle.std.specs.Str.Chunks.{utf8_chunk_invalid, utf8_chunk_valid};
 ghost use Rattle.std.specs.Char.{digit_value, encode_utf8};
-ghost use Rattle.esc_visible.specs.Characters.{is_shown};
+ghost use Rattle.unicode_visibility.specs.Characters.{is_shown};
 ghost use Rattle.dump_page.specs.Quoted.{AddsQuote, Quotes, QuotesSome};
 
 use crate::columns::Columns;
 use crate::hidden::Hidden;
 use crate::plain::is_plain;
 use esc_values::Text;
-use esc_visible::is_shown;
 use std::alloc::AllocError;
 use std::str::Utf8Chunk;
+use unicode_visibility::is_shown;
 
 /// Appends bytes of a stream as they come between quotes: a character that is shown as itself, but
 /// `"` as `\"` and `\` as `\\`, and each other byte as `\x` with two hexadecimal digits, also of a

@@ -2,7 +2,7 @@
 
 use crate::clock::Clock;
 use crate::time_error::TimeError;
-use esc_cast::{Event, event_in};
+use asciicast::{Event, event_in};
 use json::Scratch;
 use memchr::memchr;
 use std::alloc::Global;

@@ -1,9 +1,9 @@
 -- What did not pass adds up: the sums of an account are those of its entries.
 use Rattle.std.proofs.Common.{ℕ, ◌≡◌, ◌≢◌, ◌+◌, Bool, true, false, not, ◌&&◌, if◌then◌else◌, List, [], ◌∷◌, ◌++◌, length, bytes_eq, refl, sym, ap, ◌∙◌, arith}
 use Rattle.std.proofs.lemmas.Slice.Eq.{bytes_eq-Decides}
-use Rattle.esc_frame.specs.Segments.{Segment as Shape, is_finished, joined}
-use Rattle.esc_account.specs.Accounts.{Rule, added, all_passed, begun, count_of, line_begun, run, step}
-use Rattle.esc_account.specs.Entries.{Entry, bytes_with, entries, entry_of, is_passed, noted, part}
+use Rattle.esc_frame.specs.Segments.{Segment as Shape, is_finished, joined_bytes}
+use Rattle.esc_account.specs.Accounts.{Rule, sums_with, all_passed, begun, count_of, line_begun, run, step}
+use Rattle.esc_account.specs.Entries.{Entry, bytes_with, entries, entry_of, is_passed, noted_entries, part}
 use Rattle.esc_account.specs.Ledgers.{IsLineAccount, LineRuns, LinesRun, first, others}
 use Rattle.esc_account.specs.LineEnds.{ends_so, is_return_feed, line_entries, run_line}
 use Rattle.esc_account.specs.declared.account.Account.{Account}
@@ -13,7 +13,7 @@ use Rattle.esc_account.specs.declared.sums.Sums.{Sums}
 use Rattle.esc_account.proofs.Entering.{HasCut, noted_more}
 
 count_added : (f g : Fate) (n : ℕ) (x : Sums)
-    → count_of f (added g n x) ≡ count_of f x + part f g n
+    → count_of f (sums_with g n x) ≡ count_of f x + part f g n
 count_added fates.Passed fates.Passed n x = refl
 count_added fates.Passed _ n x = omega arith
 count_added fates.Respelled fates.Respelled n x = refl
@@ -49,7 +49,7 @@ module _ (f : Fate) (other : is_passed f ≡ false) where
   alone n = omega arith
 
   -- one entry
-  one_noted : (e : Entry) → bytes_with f (noted (e ∷ [])) ≡ of e
+  one_noted : (e : Entry) → bytes_with f (noted_entries (e ∷ [])) ≡ of e
   one_noted e = by e.fate refl
     where
       by : (g : Fate) → e.fate ≡ g
@@ -59,8 +59,8 @@ module _ (f : Fate) (other : is_passed f ≡ false) where
       by _ h = alone (of e)
 
   added_to : (x y : Sums) (e : Entry) (es : List Entry) (n : ℕ)
-      → y ≡ added e.fate (length e.bytes) x → n ≡ count_of f y + bytes_with f (noted es)
-      → n ≡ count_of f x + bytes_with f (noted (e ∷ es))
+      → y ≡ sums_with e.fate (length e.bytes) x → n ≡ count_of f y + bytes_with f (noted_entries es)
+      → n ≡ count_of f x + bytes_with f (noted_entries (e ∷ es))
   added_to x y e es n is h =
       omega (
         arith,
@@ -68,7 +68,7 @@ module _ (f : Fate) (other : is_passed f ≡ false) where
         ap (count_of f) is,
         count_added f e.fate (length e.bytes) x,
         ap (bytes_with f) (noted_more e es),
-        bytes_both f (noted (e ∷ [])) (noted es),
+        bytes_both f (noted_entries (e ∷ [])) (noted_entries es),
         one_noted e,
       )
 
@@ -80,34 +80,36 @@ module _ (f : Fate) (other : is_passed f ≡ false) where
   -- ---- segments, one after another
 
   pub run_adds : (r : Rule) (x : Account) (gs : List Shape)
-      → count_of f (run r x gs).sums ≡ count_of f x.sums + bytes_with f (noted (entries r x gs))
+      → count_of f (run r x gs).sums ≡ count_of f x.sums
+      + bytes_with f (noted_entries (entries r x gs))
   run_adds r x [] = omega arith
   run_adds r x (g ∷ gs) =
-      let y = step r x g (is_finished g (joined gs)) in
-      added_to x.sums y.sums (entry_of r x g (is_finished g (joined gs))) (entries r y gs)
+      let y = step r x g (is_finished g (joined_bytes gs)) in
+      added_to x.sums y.sums (entry_of r x g (is_finished g (joined_bytes gs))) (entries r y gs)
       (count_of f (run r y gs).sums) refl (run_adds r y gs)
 
   pub line_adds : (ends : Bool) (r : Rule) (x : Account) (gs : List Shape)
       → count_of f (run_line ends r x gs).sums
-      ≡ count_of f x.sums + bytes_with f (noted (line_entries ends r x gs))
+      ≡ count_of f x.sums + bytes_with f (noted_entries (line_entries ends r x gs))
   line_adds ends r x [] = omega arith
   line_adds ends r x (g ∷ gs) =
-      let y = step r x g (is_finished g (joined gs)) in
-      let e = entry_of r x g (is_finished g (joined gs)) in
-      by (ends && is_return_feed (joined (g ∷ gs)))
+      let y = step r x g (is_finished g (joined_bytes gs)) in
+      let e = entry_of r x g (is_finished g (joined_bytes gs)) in
+      by (ends && is_return_feed (joined_bytes (g ∷ gs)))
       (added_to x.sums y.sums e (line_entries ends r y gs)
       (count_of f (run_line ends r y gs).sums) refl (line_adds ends r y gs))
     where
       by : (t : Bool)
-          → (count_of f (run_line ends r (step r x g (is_finished g (joined gs))) gs).sums
-          ≡ count_of f x.sums + bytes_with f (noted (entry_of r x g (is_finished g (joined gs))
-          ∷ line_entries ends r (step r x g (is_finished g (joined gs))) gs)))
-          → count_of f (if t then all_passed (joined (g ∷ gs)) x
-          else run_line ends r (step r x g (is_finished g (joined gs))) gs).sums
-          ≡ count_of f x.sums + bytes_with f (noted (if t then [] else
-          entry_of r x g (is_finished g (joined gs))
-          ∷ line_entries ends r (step r x g (is_finished g (joined gs))) gs))
-      by true h = passed_adds x (joined (g ∷ gs))
+          → (count_of f (run_line ends r (step r x g (is_finished g (joined_bytes gs))) gs).sums
+          ≡ count_of f x.sums + bytes_with f
+          (noted_entries (entry_of r x g (is_finished g (joined_bytes gs))
+          ∷ line_entries ends r (step r x g (is_finished g (joined_bytes gs))) gs)))
+          → count_of f (if t then all_passed (joined_bytes (g ∷ gs)) x
+          else run_line ends r (step r x g (is_finished g (joined_bytes gs))) gs).sums
+          ≡ count_of f x.sums + bytes_with f (noted_entries (if t then [] else
+          entry_of r x g (is_finished g (joined_bytes gs))
+          ∷ line_entries ends r (step r x g (is_finished g (joined_bytes gs))) gs))
+      by true h = passed_adds x (joined_bytes (g ∷ gs))
       by false h = h
 
   -- ---- lines, one after another
@@ -157,9 +159,9 @@ module _ (f : Fate) (other : is_passed f ≡ false) where
       nothing_before _ n = omega arith
 
   pub whole_adds : (r : Rule) (gs : List Shape)
-      → count_of f (run r begun gs).sums ≡ bytes_with f (noted (entries r begun gs))
+      → count_of f (run r begun gs).sums ≡ bytes_with f (noted_entries (entries r begun gs))
   whole_adds r gs =
-      run_adds r begun gs ∙ nothing_before f (bytes_with f (noted (entries r begun gs)))
+      run_adds r begun gs ∙ nothing_before f (bytes_with f (noted_entries (entries r begun gs)))
     where
       nothing_before : (f : Fate) (n : ℕ) → count_of f begun.sums + n ≡ n
       nothing_before fates.Passed n = omega arith

@@ -1,18 +1,19 @@
 -- Blocks of a stream, one after another.
 use Rattle.std.proofs.Common.{ℕ, ◌≡◌, true, List, [], ◌∷◌, ◌++◌, refl, ap, sym, ◌∙◌, subst, append_assoc}
 use Rattle.std.proofs.lemmas.List.{append-nil}
-use Rattle.esc_frame.specs.Segments.{Segment as Shape, AreSegments, HasShape, IsCut, bytes_of, is_finished, joined}
+use Rattle.esc_frame.specs.Segments.{Segment as Shape, AreSegments, HasShape, IsCut, bytes_of, is_finished, joined_bytes}
 use Rattle.esc_frame.specs.Leads.{AreFinished}
 use Rattle.esc_frame.specs.Stream.{IsAtGround}
-use Rattle.esc_frame.proofs.Grows.{finished_before}
+use Rattle.esc_frame.proofs.Steps.CutGrows.{finished_before}
 use Rattle.esc_account.specs.Accounts.{GoesOn, IsAccount, Rule, begun, run, step}
 use Rattle.esc_account.specs.declared.account.Account.{Account}
 use Rattle.esc_account.proofs.Entering.{HasCut, OneCut}
 
-pub joined-append : (gs hs : List Shape) → joined (gs ++ hs) ≡ joined gs ++ joined hs
+pub joined-append : (gs hs : List Shape) → joined_bytes (gs ++ hs) ≡ joined_bytes gs
+    ++ joined_bytes hs
 joined-append [] hs = refl
 joined-append (g ∷ gs) hs = ap (λ x. bytes_of g ++ x) (joined-append gs hs)
-    ∙ sym (append_assoc (bytes_of g) (joined gs) (joined hs))
+    ∙ sym (append_assoc (bytes_of g) (joined_bytes gs) (joined_bytes hs))
 
 -- segments are finished whatever more follows
 pub stay_finished : (gs : List Shape) (t b : List ℕ) → AreFinished gs t → AreFinished gs (t ++ b)
@@ -21,12 +22,12 @@ stay_finished gs t (x ∷ b) h =
     subst (AreFinished gs) (append_assoc t (x ∷ []) b)
     (stay_finished gs (t ++ x ∷ []) b (finished_before gs t x h))
 
-one_more : (g : Shape) (gs : List Shape) → HasShape g (joined gs)
-    → is_finished g (joined gs) ≡ true → AreSegments gs → AreSegments (g ∷ gs)
+one_more : (g : Shape) (gs : List Shape) → HasShape g (joined_bytes gs)
+    → is_finished g (joined_bytes gs) ≡ true → AreSegments gs → AreSegments (g ∷ gs)
 one_more g [] shape finished each = shape
 one_more g (h ∷ gs) shape finished each = (shape, finished, each)
 
-pub are_joined : (gs hs : List Shape) → AreFinished gs (joined hs) → AreSegments hs
+pub are_joined : (gs hs : List Shape) → AreFinished gs (joined_bytes hs) → AreSegments hs
     → AreSegments (gs ++ hs)
 are_joined [] hs f each = each
 are_joined (g ∷ gs) hs (shape, finished, rest) each =
@@ -38,20 +39,21 @@ are_joined (g ∷ gs) hs (shape, finished, rest) each =
 cut_joined : (s b : List ℕ) (gs hs : List Shape) → IsCut s gs → AreFinished gs [] → IsCut b hs
     → IsCut (s ++ b) (gs ++ hs)
 cut_joined s b gs hs c f d = record {
-  whole = ap (λ x. x ++ b) c.whole ∙ ap (λ x. joined gs ++ x) d.whole ∙ sym (joined-append gs hs);
-  each = are_joined gs hs (stay_finished gs [] (joined hs) f) d.each;
+  whole = ap (λ x. x ++ b) c.whole ∙ ap (λ x. joined_bytes gs ++ x) d.whole
+      ∙ sym (joined-append gs hs);
+  each = are_joined gs hs (stay_finished gs [] (joined_bytes hs) f) d.each;
 }
 
 run_joined : (r : Rule) (x : Account) (gs hs : List Shape) → AreFinished gs []
-    → AreFinished gs (joined hs) → run r x (gs ++ hs) ≡ run r (run r x gs) hs
+    → AreFinished gs (joined_bytes hs) → run r x (gs ++ hs) ≡ run r (run r x gs) hs
 run_joined r x [] hs f k = refl
 run_joined r x (g ∷ gs) hs (s, f, m) (t, k, n) =
-    let short : is_finished g (joined gs) ≡ true =
-    ap (is_finished g) (sym (append-nil (joined gs))) ∙ f in
-    let long : is_finished g (joined (gs ++ hs)) ≡ true =
+    let short : is_finished g (joined_bytes gs) ≡ true =
+    ap (is_finished g) (sym (append-nil (joined_bytes gs))) ∙ f in
+    let long : is_finished g (joined_bytes (gs ++ hs)) ≡ true =
     ap (is_finished g) (joined-append gs hs) ∙ k in
     ap (λ b. run r (step r x g b) (gs ++ hs)) (long ∙ sym short)
-    ∙ run_joined r (step r x g (is_finished g (joined gs))) gs hs m n
+    ∙ run_joined r (step r x g (is_finished g (joined_bytes gs))) gs hs m n
 
 pub blocks : HasCut → OneCut → (r : Rule) (s b : List ℕ) (x y : Account) → IsAtGround s
     → IsAccount r s x → GoesOn r x b y → IsAccount r (s ++ b) y
@@ -62,5 +64,5 @@ blocks has once r s b x y (fs, cf, fin) (gs, cg, e) goes =
       gs ++ d.0,
       cut_joined s b gs d.0 cg f d.1,
       goes d.0 d.1 ∙ ap (λ z. run r z d.0) e
-          ∙ sym (run_joined r begun gs d.0 f (stay_finished gs [] (joined d.0) f)),
+          ∙ sym (run_joined r begun gs d.0 f (stay_finished gs [] (joined_bytes d.0) f)),
     )

@@ -3,7 +3,7 @@ use Rattle.std.proofs.Common.{◌≡◌, Bool, true, false, ◌&&◌, ◌||◌, 
 use Rattle.std.specs.List.{FoldsTo}
 use Rattle.std.proofs.lemmas.List.{map-append}
 use Rattle.esc_actions.specs.Values.{Value, value_of}
-use Rattle.esc_actions.specs.Writable.{AreHandedOut, IsHandedOut}
+use Rattle.esc_actions.specs.Writable.{EmittedAreWritable, IsHandedOut}
 use Rattle.esc_actions.specs.declared.action.Action.{Action}
 use Rattle.esc_parse.specs.Given.{At}
 use Rattle.esc_account.specs.Brief.{brief_after, is_datum}
@@ -42,12 +42,13 @@ module _ {A : Type 0} where
       ∙ ap (λ x. had ++ x) (one_more p.has_datum (is_datum (value_of a)) a vs))
 
   one_kept : (t : Bool) (v : Value A) (kept more : List (Value A)) → IsHandedOut v
-      → AreHandedOut kept → AreHandedOut more → AreHandedOut (if t then kept else v ∷ more)
+      → EmittedAreWritable kept → EmittedAreWritable more
+      → EmittedAreWritable (if t then kept else v ∷ more)
   one_kept true v kept more one k m = k
   one_kept false v kept more one k m = (one, m)
 
-  few_handed_out : (came : Bool) (vs : List (Value A)) → AreHandedOut vs
-      → AreHandedOut (brief_after came vs)
+  few_handed_out : (came : Bool) (vs : List (Value A)) → EmittedAreWritable vs
+      → EmittedAreWritable (brief_after came vs)
   few_handed_out came [] h = tt
   few_handed_out came (v ∷ vs) h =
       one_kept (came && is_datum v) v (brief_after true vs) (brief_after (came || is_datum v) vs)
@@ -55,8 +56,8 @@ module _ {A : Type 0} where
 
   -- what was kept of what a parser hands out is handed out
   pub keeps_handed_out : (p q : Brief A) → p.actions.items ≡ [] → p.has_datum ≡ false
-      → TookHandedOut Keeps p q → AreHandedOut (map value_of q.actions.items)
+      → TookHandedOut Keeps p q → EmittedAreWritable (map value_of q.actions.items)
   keeps_handed_out p q none yet (vs, handed, took) =
-      subst AreHandedOut (sym (keeps vs p q took
+      subst EmittedAreWritable (sym (keeps vs p q took
       ∙ ap (λ l. map value_of l ++ brief_after p.has_datum vs) none
       ∙ ap (λ b. brief_after b vs) yet)) (few_handed_out false vs handed)

@@ -1,13 +1,13 @@
 -- A segment by itself: an ESC after it ends it, and means nothing.
 use Rattle.std.proofs.Common.{ℕ, ◌≡◌, Bool, true, false, not, ◌&&◌, ◌==◌, if◌then◌else◌, List, [], ◌∷◌, ◌++◌, Option, refl, sym, ap, ◌∙◌, append-nil}
 use Rattle.esc_frame.specs.Sequences.{continues, is_broken_before, is_from, is_prefix, is_second, is_sequence, is_tail}
-use Rattle.esc_frame.specs.Segments.{Segment as Shape, AreSegments, ArePieces, HasShape, IsCut, Piece, bytes_of, ends_itself, is_finished, joined, text_bytes}
+use Rattle.esc_frame.specs.Segments.{Segment as Shape, AreSegments, AreOscUnits, HasShape, IsCut, OscUnit, bytes_of, ends_itself, is_finished, joined_bytes, text_bytes}
 use Rattle.esc_frame.specs.Segments.Ending.{Open, Rung, Waits}
-use Rattle.esc_frame.specs.Segments.Piece.{One, Sequence, BrokenOff}
+use Rattle.esc_frame.specs.Segments.OscUnit.{One, Sequence, BrokenOff}
 use Rattle.esc_frame.specs.Segments.Segment.{Character, Wide, Broken, Stray, Control, HighControl, Terminator, Escape, Csi, Osc, Dcs, Apc, Ignored}
 use Rattle.esc_frame.specs.Segments.Segment.{CutEscape, CutCsi, CutDcs}
-use Rattle.esc_frame.proofs.CsiRuns.{escape_class}
-use Rattle.esc_frame.proofs.Grows.{finished_before}
+use Rattle.esc_frame.proofs.ByteRuns.CsiRuns.{escape_class}
+use Rattle.esc_frame.proofs.Steps.CutGrows.{finished_before}
 use Rattle.esc_actions.specs.Meaning.{meaning_within}
 use Rattle.esc_actions.specs.Readings.{MeansItsCut, reading_within}
 
@@ -49,8 +49,8 @@ escape_instead : (f y : List ℕ) (a : ℕ) (t : List ℕ) → is_broken_before 
 escape_instead f [] a t h = escape_breaks f
 escape_instead f (c ∷ y) a t h = h
 
-pieces_ended : (ps : List Piece) (a : ℕ) (t : List ℕ) → ArePieces ps (a ∷ t)
-    → ArePieces ps (0x1b ∷ [])
+pieces_ended : (ps : List OscUnit) (a : ℕ) (t : List ℕ) → AreOscUnits ps (a ∷ t)
+    → AreOscUnits ps (0x1b ∷ [])
 pieces_ended [] a t h = tt
 pieces_ended (One b ∷ ps) a t (h, r) = (h, pieces_ended ps a t r)
 pieces_ended (Sequence x ∷ ps) a t (h, r) = (h, pieces_ended ps a t r)
@@ -63,8 +63,8 @@ same_break : (f y : List ℕ) (b : ℕ) (t u : List ℕ) → is_broken_before f 
 same_break f [] b t u h = h
 same_break f (c ∷ y) b t u h = h
 
-pieces_rung : (ps : List Piece) (b : ℕ) (t u : List ℕ) → ArePieces ps (b ∷ t)
-    → ArePieces ps (b ∷ u)
+pieces_rung : (ps : List OscUnit) (b : ℕ) (t u : List ℕ) → AreOscUnits ps (b ∷ t)
+    → AreOscUnits ps (b ∷ u)
 pieces_rung [] b t u h = tt
 pieces_rung (One c ∷ ps) b t u (h, r) = (h, pieces_rung ps b t u r)
 pieces_rung (Sequence x ∷ ps) b t u (h, r) = (h, pieces_rung ps b t u r)
@@ -101,7 +101,8 @@ ended : (g : Shape) (t : List ℕ) → HasShape g t → is_finished g t ≡ true
 ended g [] h f = let e = finished_before (g ∷ []) [] 0x1b (h, f, tt) in (e.0, e.1)
 ended g (a ∷ t) h f = ended_by g a t h f
 
-pub first_shape : (g : Shape) (gs : List Shape) → AreSegments (g ∷ gs) → HasShape g (joined gs)
+pub first_shape : (g : Shape) (gs : List Shape) → AreSegments (g ∷ gs)
+    → HasShape g (joined_bytes gs)
 first_shape g [] each = each
 first_shape g (h ∷ gs) each = each.0
 
@@ -115,24 +116,24 @@ same_end _ = refl
 
 module _ {A : Type 0} (means : MeansItsCut A) (limit : Option ℕ) where
   reads_ended : (g : Shape) (gs : List Shape) → AreSegments (g ∷ gs)
-      → is_finished g (joined gs) ≡ true
+      → is_finished g (joined_bytes gs) ≡ true
       → meaning_within {A = A} limit (bytes_of g ++ 0x1b ∷ []) ≡ reading_within limit g true
   reads_ended g gs each f =
-      let e = ended g (joined gs) (first_shape g gs each) f in
+      let e = ended g (joined_bytes gs) (first_shape g gs each) f in
       let cut : IsCut (bytes_of g ++ 0x1b ∷ []) (g ∷ CutEscape [] ∷ []) =
       record { whole = refl; each = (e.0, e.1, refl) } in
       means limit (bytes_of g ++ 0x1b ∷ []) (g ∷ CutEscape [] ∷ []) cut
       ∙ append-nil (reading_within limit g true)
 
   reads_open : (g : Shape) (gs : List Shape) → AreSegments (g ∷ gs)
-      → is_finished g (joined gs) ≡ false
+      → is_finished g (joined_bytes gs) ≡ false
       → meaning_within {A = A} limit (bytes_of g) ≡ reading_within limit g false
   reads_open g [] each f =
       let cut : IsCut (bytes_of g) (g ∷ []) =
       record { whole = sym (append-nil (bytes_of g)); each = each } in
       means limit (bytes_of g) (g ∷ []) cut
       ∙ ap (reading_within limit g) (same_end g ∙ f)
-  reads_open g (h ∷ gs) each f = absurd (both (is_finished g (joined (h ∷ gs))) each.1 f)
+  reads_open g (h ∷ gs) each f = absurd (both (is_finished g (joined_bytes (h ∷ gs))) each.1 f)
     where
       both : (b : Bool) → b ≡ true → b ≡ false → ⊥
       both true p q = cc
@@ -140,16 +141,18 @@ module _ {A : Type 0} (means : MeansItsCut A) (limit : Option ℕ) where
 
   -- by whether the item says that it is finished
   pub reads_finished : (g : Shape) (gs : List Shape) (b : Bool) (bytes : List ℕ)
-      → AreSegments (g ∷ gs) → b ≡ is_finished g (joined gs) → b ≡ true
+      → AreSegments (g ∷ gs) → b ≡ is_finished g (joined_bytes gs) → b ≡ true
       → bytes ≡ bytes_of g ++ 0x1b ∷ []
-      → meaning_within {A = A} limit bytes ≡ reading_within limit g (is_finished g (joined gs))
+      → meaning_within {A = A} limit bytes
+      ≡ reading_within limit g (is_finished g (joined_bytes gs))
   reads_finished g gs b bytes each e t same =
       ap (meaning_within limit) same ∙ reads_ended g gs each (sym e ∙ t)
       ∙ ap (reading_within limit g) (sym t ∙ e)
 
   pub reads_unfinished : (g : Shape) (gs : List Shape) (b : Bool) (bytes : List ℕ)
-      → AreSegments (g ∷ gs) → b ≡ is_finished g (joined gs) → b ≡ false → bytes ≡ bytes_of g
-      → meaning_within {A = A} limit bytes ≡ reading_within limit g (is_finished g (joined gs))
+      → AreSegments (g ∷ gs) → b ≡ is_finished g (joined_bytes gs) → b ≡ false → bytes ≡ bytes_of g
+      → meaning_within {A = A} limit bytes
+      ≡ reading_within limit g (is_finished g (joined_bytes gs))
   reads_unfinished g gs b bytes each e t same =
       ap (meaning_within limit) same ∙ reads_open g gs each (sym e ∙ t)
       ∙ ap (reading_within limit g) (sym t ∙ e)

@@ -2,7 +2,7 @@
 use Rattle.std.proofs.Common.{ℕ, ◌≡◌, ◌≢◌, Bool, true, false, if◌then◌else◌, Result, Ok, Err, IfOk, List, [], ◌∷◌, ◌++◌, refl, ap}
 use Rattle.esc_frame.specs.Segments.{Segment as Shape, IsCut}
 use Rattle.esc_account.specs.Accounts.{Rule, all_passed, line_begun}
-use Rattle.esc_account.specs.Entries.{Entry, is_noted, noted}
+use Rattle.esc_account.specs.Entries.{Entry, is_noted, noted_entries}
 use Rattle.esc_account.specs.Ledgers.{LineEnters, LineGives}
 use Rattle.esc_account.specs.LineEnds.{ends_so, line_entries, run_line}
 use Rattle.esc_account.specs.declared.account.Account.{Account}
@@ -16,11 +16,12 @@ OneCut = (stream : List ℕ) (gs hs : List Shape) → IsCut stream gs → IsCut 
 
 -- ---- what is written into a book
 
-pub noted_more : (e : Entry) (es : List Entry) → noted (e ∷ es) ≡ noted (e ∷ []) ++ noted es
+pub noted_more : (e : Entry) (es : List Entry) → noted_entries (e ∷ es) ≡ noted_entries (e ∷ [])
+    ++ noted_entries es
 noted_more e es = by (is_noted e)
   where
-    by : (b : Bool) → (if b then e ∷ noted es else noted es)
-        ≡ (if b then e ∷ [] else []) ++ noted es
+    by : (b : Bool) → (if b then e ∷ noted_entries es else noted_entries es)
+        ≡ (if b then e ∷ [] else []) ++ noted_entries es
     by true = refl
     by false = refl
 
@@ -51,10 +52,11 @@ line_other r x line written (Err e) n h = tt
 -- the entries of a line that was not written as it came
 pub gives_other : OneCut → (r : Rule) (x : Account) (line written : List ℕ) (gs : List Shape)
     → written ≢ line → IsCut line gs
-    → LineGives r x line written (noted (line_entries (ends_so written) r (line_begun x) gs))
+    → LineGives r x line written (noted_entries
+    (line_entries (ends_so written) r (line_begun x) gs))
 gives_other once r x line written gs n cut = record {
   same = λ e. absurd (n e);
   other = λ m ks more.
-      ap (λ z. noted (line_entries (ends_so written) r (line_begun x) z))
+      ap (λ z. noted_entries (line_entries (ends_so written) r (line_begun x) z))
       (once line gs ks cut more);
 }

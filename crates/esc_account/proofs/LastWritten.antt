@@ -1,11 +1,11 @@
 -- The character that is written last of a value.
 use Rattle.std.proofs.Common.{◌≡◌, ℕ, Bool, true, false, if◌then◌else◌, [], ◌∷◌, map, Option, None, Some, refl, sym}
-use Rattle.esc_visible.specs.Characters.{is_deceiving, number_text}
-use Rattle.esc_visible.specs.Following.{may_follow}
+use Rattle.unicode_visibility.specs.Characters.{is_deceiving, number_text}
+use Rattle.unicode_visibility.specs.Following.{may_follow}
 use Rattle.esc_actions.specs.Values.{Value, print, string, control, esc, csi, osc, kitty, sixel, termcap, short, enter, datum, exit}
 use Rattle.esc_actions.specs.declared.control_code.ControlCode.{ControlCode}
-use Rattle.esc_filter.proofs.Characters.{number_ends}
-use Rattle.esc_filter.specs.Characters.{in_guard, in_return, instead, is_return, last_after}
+use Rattle.esc_filter.proofs.Output.DeceivingCharacters.{number_ends}
+use Rattle.esc_filter.specs.Characters.{in_guard, in_return, replacement_values, is_return, last_after}
 use Rattle.esc_filter.specs.declared.guard.Guard.{Guard}
 use Rattle.esc_filter.specs.declared.returns.Returns.{Returns}
 use Rattle.esc_filter.specs.declared.returns.Returns.TheVariants as way
@@ -22,7 +22,7 @@ module _ (A : Type 0) where
 
   character_last : (k : Unicode) (b : Option ℕ) (c : ℕ) (d : Bool)
       → (if d then last_instead k b c else Some c)
-      ≡ last_after {A = A} b (if d then instead k b c else print c ∷ [])
+      ≡ last_after {A = A} b (if d then replacement_values k b c else print c ∷ [])
   character_last k b c false = refl
   character_last Keep b c true = refl
   character_last Join b c true = joined_last b c (may_follow b c)

@@ -1,7 +1,7 @@
 -- The account of lines, one after another.
 use Rattle.std.proofs.Common.{ℕ, suc, ◌≡◌, None, ◌+◌, ◌<◌, Bool, true, false, if◌then◌else◌, List, [], ◌∷◌, ◌++◌, length, refl, sym, ap, ◌∙◌, subst, append_assoc, append-nil, arith, length-append}
 use Rattle.esc_filter.specs.Lines.{is_line_feed, has_line_feed, IsLine, begin_with, ends_line, lines}
-use Rattle.esc_filter.proofs.LineBytes.{ends_append, line_ends, lines_append, one_line, open_line}
+use Rattle.esc_filter.proofs.ByLine.BytesOfLines.{ends_append, line_ends, lines_append, one_line, open_line}
 use Rattle.esc_account.specs.Accounts.{Counts, Rule, all_passed, begun, feeds}
 use Rattle.esc_account.proofs.LineCounts.{feeds_more}
 use Rattle.esc_account.specs.Entries.{Entry}

@@ -3,14 +3,14 @@ use Rattle.std.proofs.Common.{ℕ, ◌≡◌, ◌+◌, ◌<◌, ◌≤◌, Bool,
 use Rattle.std.proofs.lemmas.Bool.Decides.{nat_tests}
 use Rattle.esc_frame.specs.Classes.{class_of, is_text}
 use Rattle.esc_frame.specs.Leads.{AreFinished}
-use Rattle.esc_frame.specs.Segments.{Segment as Shape, HasShape, bytes_of, is_finished, joined}
+use Rattle.esc_frame.specs.Segments.{Segment as Shape, HasShape, bytes_of, is_finished, joined_bytes}
 use Rattle.esc_frame.specs.Segments.Segment.{Character, Control, Wide}
 use Rattle.esc_frame.specs.Sequences.{is_sequence}
-use Rattle.esc_frame.proofs.Characters.{two_is}
+use Rattle.esc_frame.proofs.Cut.WellFormedIsUtf8.{two_is}
 use Rattle.esc_segments.specs.Items.{kind_of}
-use Rattle.esc_account.specs.Accounts.{Rule, added, all_passed, carried, entered_as, fate_after, feeds, step}
-use Rattle.esc_account.specs.Entries.{Entry, entry_of, is_noted, is_passed, noted}
-use Rattle.esc_account.specs.Finished.{Finishes, HasNoEnd, ended, ended_entries}
+use Rattle.esc_account.specs.Accounts.{Rule, sums_with, all_passed, carried, entered_as, fate_after, feeds, step}
+use Rattle.esc_account.specs.Entries.{Entry, entry_of, is_noted, is_passed, noted_entries}
+use Rattle.esc_account.specs.Finished.{Finishes, HasNoEnd, account_after, ended_entries}
 use Rattle.esc_account.specs.LineEnds.{is_return_feed}
 use Rattle.esc_account.specs.Passing.{AllPass, IsPlain, Passes, passed_as, says}
 use Rattle.esc_account.specs.declared.account.Account.{Account}
@@ -53,13 +53,13 @@ one_passes r x g h p =
     let n = length (bytes_of g) in
     ap (entered_as x (kind_of g) (bytes_of g)) p
     ∙ ap (λ f. record {
-      sums = added f n x.sums;
+      sums = sums_with f n x.sums;
       string = carried (kind_of g) (bytes_of g) f;
       before = says g;
       lines = x.lines + feeds (bytes_of g);
     }) (own_fate x.string g fates.Passed h)
     ∙ ap (λ s. record {
-      sums = added fates.Passed n x.sums;
+      sums = sums_with fates.Passed n x.sums;
       string = s;
       before = says g;
       lines = x.lines + feeds (bytes_of g);
@@ -68,28 +68,29 @@ one_passes r x g h p =
 -- ---- all of them
 
 pub all_pass : (r : Rule) (x : Account) (g : Shape) (gs : List Shape) (c : Option ℕ)
-    → AllPass r x.before (g ∷ gs) c → ended r x (g ∷ gs) ≡ passed_to c (joined (g ∷ gs)) x
+    → AllPass r x.before (g ∷ gs) c → account_after r x (g ∷ gs)
+    ≡ passed_to c (joined_bytes (g ∷ gs)) x
 all_pass r x g [] c h =
     one_passes r x g h.0 h.1 ∙ ap (λ v. passed_to (says g) v x) (sym (append-nil (bytes_of g)))
-    ∙ ap (λ d. passed_to d (joined (g ∷ [])) x) h.2
+    ∙ ap (λ d. passed_to d (joined_bytes (g ∷ [])) x) h.2
 all_pass r x g (k ∷ gs) c h =
-    ap (λ y. ended r y (k ∷ gs)) (one_passes r x g h.0 h.1)
+    ap (λ y. account_after r y (k ∷ gs)) (one_passes r x g h.0 h.1)
     ∙ all_pass r (passed_to (says g) (bytes_of g) x) k gs c h.2
     ∙ ap {A = Account} (λ y. record y { before = c })
-    (passed_twice (bytes_of g) (joined (k ∷ gs)) x)
+    (passed_twice (bytes_of g) (joined_bytes (k ∷ gs)) x)
 
-not_noted : (e : Entry) → is_noted e ≡ false → noted (e ∷ []) ≡ []
+not_noted : (e : Entry) → is_noted e ≡ false → noted_entries (e ∷ []) ≡ []
 not_noted e h = ap (λ b. if b then e ∷ [] else []) h
 
 none_noted : (r : Rule) (x : Account) (gs : List Shape) (c : Option ℕ)
-    → AllPass r x.before gs c → noted (ended_entries r x gs) ≡ []
+    → AllPass r x.before gs c → noted_entries (ended_entries r x gs) ≡ []
 none_noted r x [] c h = refl
 none_noted r x (g ∷ gs) c h =
     let e = entry_of r x g true in
     let y = step r x g true in
     let es = ended_entries r y gs in
     noted_more e es
-    ∙ ap (λ v. v ++ noted es)
+    ∙ ap (λ v. v ++ noted_entries es)
     (not_noted e (ap (λ f. not (is_passed f))
     (own_fate x.string g (r x.before g true).fate h.0 ∙ ap (λ v. v.fate) h.1)))
     ∙ none_noted r y gs c
@@ -99,7 +100,8 @@ all_finished : (r : Rule) (b c : Option ℕ) (gs : List Shape) (t : List ℕ) �
     → AreFinished gs t
 all_finished r b c [] t h = tt
 all_finished r b c (g ∷ gs) t h =
-    let k = plain_shape g (joined gs ++ t) h.0 in (k.0, k.1, all_finished r (says g) c gs t h.2)
+    let k = plain_shape g (joined_bytes gs ++ t) h.0
+    in (k.0, k.1, all_finished r (says g) c gs t h.2)
 
 -- ---- none is a carriage return
 
@@ -136,8 +138,8 @@ no_ends : (ends : Bool) (r : Rule) (b c : Option ℕ) (gs : List Shape) (t : Lis
     → AllPass r b gs c → HasNoEnd ends gs t
 no_ends ends r b c [] t h = tt
 no_ends ends r b c (g ∷ gs) t h = (
-  ap (λ v. ends && is_return_feed v) (append_assoc (bytes_of g) (joined gs) t)
-      ∙ ap (λ d. ends && d) (plain_end g (joined gs ++ t) h.0) ∙ and_none ends,
+  ap (λ v. ends && is_return_feed v) (append_assoc (bytes_of g) (joined_bytes gs) t)
+      ∙ ap (λ d. ends && d) (plain_end g (joined_bytes gs ++ t) h.0) ∙ and_none ends,
   no_ends ends r (says g) c gs t h.2,
 )
 
@@ -165,7 +167,7 @@ passes_none r x s = record {
 }
 
 pub passes_some : (r : Rule) (x : Account) (s p t : List ℕ) (gs : List Shape) (c : Option ℕ)
-    → s ≡ p ++ t → 0 < length p → p ≡ joined gs → AllPass r x.before gs c
+    → s ≡ p ++ t → 0 < length p → p ≡ joined_bytes gs → AllPass r x.before gs c
     → Passes r x s t (passed_to c p x)
 passes_some r x s p t [] c e some f h = absurd (omega (arith, ap length f, some))
 passes_some r x s p t (g ∷ gs) c e some f h = record {

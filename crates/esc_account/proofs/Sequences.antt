@@ -10,7 +10,7 @@ use Rattle.esc_sequences.specs.Csis.{CsiValue, csi_of, csi_text, csi_value, unsp
 use Rattle.esc_sequences.specs.declared.csi.CSI.{CSI}
 use Rattle.esc_sequences.specs.declared.csi.CSI.TheVariants as csi_variant
 use Rattle.esc_frame.specs.Events.Event.{CsiDispatch}
-use Rattle.esc_frame.specs.Segments.{Segment as Shape, AreSegments, bytes_of, events_of, events_of_within, is_finished, joined}
+use Rattle.esc_frame.specs.Segments.{Segment as Shape, AreSegments, bytes_of, events_of, events_of_within, is_finished, joined_bytes}
 use Rattle.esc_segments.specs.Items.{kind_of}
 use Rattle.esc_segments.specs.declared.kind.SegmentKind.{SegmentKind}
 use Rattle.esc_segments.specs.declared.kind.SegmentKind.TheVariants as kinds
@@ -22,7 +22,7 @@ use Rattle.esc_actions.specs.Writable.{is_truncated}
 use Rattle.esc_normal.proofs.LoneNumbers.{lone_number}
 use Rattle.esc_write.specs.Plain.{IsPlain, indexed_text, last_text}
 use Rattle.esc_filter.specs.declared.guard.Guard.{Guard}
-use Rattle.esc_filter.proofs.Sequences.{each_whole, nameless}
+use Rattle.esc_filter.proofs.Renditions.SequencesFromParameters.{each_whole, nameless}
 use Rattle.esc_account.specs.Passing.{passed_as}
 use Rattle.esc_account.specs.Rules.{left_as, rule_of, verdict_on}
 use Rattle.esc_account.specs.Short.{IsShort}
@@ -112,19 +112,19 @@ one_reading limit g finished es f e =
 module _ {A : Type 0} (l : Bool) (u : Guard) (admits : Value A → Bool) (b : Option ℕ) where
   pub rule_is : (limit : ℕ) (k : SegmentKind) (bytes : List ℕ) (finished : Bool) (g : Shape)
       (gs : List Shape) (es items : List CsiParam) (f : ℕ) → AreSegments (g ∷ gs)
-      → k ≡ kind_of g → bytes ≡ bytes_of g → finished ≡ is_finished g (joined gs)
+      → k ≡ kind_of g → bytes ≡ bytes_of g → finished ≡ is_finished g (joined_bytes gs)
       → k ≡ kinds.Csi → IsShort limit k bytes
       → events_of g finished ≡ CsiDispatch items false f ∷ [] → es ≡ items
       → verdict_on l u admits b kinds.Csi bytes (map csi (csi_of es false f))
-      ≡ rule_of l u limit admits b g (is_finished g (joined gs))
+      ≡ rule_of l u limit admits b g (is_finished g (joined_bytes gs))
   rule_is limit k bytes finished g gs es items f each kind same end csi_kind short events given =
       let fit : IsShort limit (kind_of g) (bytes_of g) =
       subst (λ x. IsShort limit (kind_of g) x) same
       (subst (λ x. IsShort limit x bytes) kind short) in
-      let done = is_finished g (joined gs) in
+      let done = is_finished g (joined_bytes gs) in
       let reading : reading_within {A = A} (Some limit) g done ≡ map csi (csi_of es false f) =
       one_reading limit g done es f
-      (sym (same_events limit g (joined gs) done (first_shape g gs each) fit)
+      (sym (same_events limit g (joined_bytes gs) done (first_shape g gs each) fit)
       ∙ ap (λ t. events_of g t) (sym end) ∙ events
       ∙ ap (λ x. CsiDispatch x false f ∷ []) (sym given)) in
       same_verdict l u admits b kinds.Csi (kind_of g) bytes (bytes_of g)

@@ -14,7 +14,7 @@ use Rattle.esc_frame.specs.Scans.{is_body_byte}
 use Rattle.esc_frame.specs.Segments.Opener.{Long, Raw, Pair}
 use Rattle.esc_frame.specs.Segments.Segment.{Character, Wide, Broken, Stray, Control, HighControl, Terminator, Escape, Csi, Osc, Dcs, Apc, Ignored}
 use Rattle.esc_frame.specs.Segments.Segment.{CutEscape, CutCsi, CutDcs}
-use Rattle.esc_frame.proofs.SaysSequences.{body_of, body_strip}
+use Rattle.esc_frame.proofs.Emits.SequencesSay.{body_of, body_strip}
 use Rattle.esc_segments.specs.Items.{kind_of}
 use Rattle.esc_segments.specs.declared.kind.SegmentKind.TheVariants as kinds
 

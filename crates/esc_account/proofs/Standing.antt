@@ -4,7 +4,7 @@ use Rattle.std.proofs.Math.ListN.{drop_of_length-le}
 use Rattle.std.proofs.Math.Seq.{drop-length, drop-nil}
 use Rattle.std.proofs.lemmas.List.{take_rest}
 use Rattle.esc_filter.specs.Lines.{is_line_feed, has_line_feed, IsLine, begin_with, ends_line, lines}
-use Rattle.esc_filter.proofs.LineBytes.{feeds_append, line_ends, lines_append, open_line}
+use Rattle.esc_filter.proofs.ByLine.BytesOfLines.{feeds_append, line_ends, lines_append, open_line}
 use Rattle.esc_account.specs.Accounts.{Counts, HasRoom, Rule, all_passed, begun}
 use Rattle.esc_account.specs.Entries.{Entry}
 use Rattle.esc_account.specs.Ledgers.{AreOpen, IsCounted, IsLineAccount, LineEnters, LineGives, LineRuns, LinesRun, PassesSame, Stands, first, others}

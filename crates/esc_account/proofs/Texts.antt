@@ -6,13 +6,13 @@ use Rattle.std.proofs.lemmas.Bool.{and_parts}
 use Rattle.std.proofs.lemmas.Bool.Decides.{nat_tests}
 use Rattle.std.proofs.lemmas.Slice.Eq.{bytes_eq-Decides}
 use Rattle.std.proofs.lemmas.Str.{encode_ascii}
-use Rattle.esc_visible.specs.Characters.{is_deceiving}
-use Rattle.esc_visible.proofs.Ranges.{low_plain}
-use Rattle.esc_frame.proofs.Characters.{spelled}
-use Rattle.esc_frame.proofs.Says.{text_from}
+use Rattle.unicode_visibility.specs.Characters.{is_deceiving}
+use Rattle.unicode_visibility.proofs.Ranges.{low_plain}
+use Rattle.esc_frame.proofs.Cut.WellFormedIsUtf8.{spelled}
+use Rattle.esc_frame.proofs.Emits.SegmentsSay.{text_from}
 use Rattle.esc_frame.specs.Classes.{class_of}
 use Rattle.esc_frame.specs.Scans.{is_data_byte}
-use Rattle.esc_frame.specs.Segments.{Segment as Shape, joined}
+use Rattle.esc_frame.specs.Segments.{Segment as Shape, joined_bytes}
 use Rattle.esc_frame.specs.Segments.Segment.{Character, Control, Wide}
 use Rattle.esc_frame.specs.Sequences.{is_pair, is_sequence, number_of}
 use Rattle.esc_actions.specs.ControlCodes.{code_of}
@@ -150,7 +150,7 @@ pub both_pass : (r : Rule) (o m n : Option ℕ) (x y : List ℕ) → IsPassing r
     → IsPassing r m y n → IsPassing r o (x ++ y) n
 both_pass r o m n x y (gs, e, a) (hs, f, b) = (
   gs ++ hs,
-  ap (λ z. z ++ y) e ∙ ap (λ z. joined gs ++ z) f ∙ sym (joined-append gs hs),
+  ap (λ z. z ++ y) e ∙ ap (λ z. joined_bytes gs ++ z) f ∙ sym (joined-append gs hs),
   all_both r o m n gs hs a b,
 )
 

@@ -1,6 +1,6 @@
 -- What becomes of the segments of a stream, and of how many bytes.
 use Rattle.std.specs.Prelude.{ℕ, ◌≡◌, ◌+◌, ◌-◌, ◌*◌, ◌<◌, ◌≤◌, ◌^◌, Bool, true, false, not, ◌==◌, ◌&&◌, if◌then◌else◌, List, [], ◌∷◌, length, get_or, Option, None, Some}
-use Rattle.esc_frame.specs.Segments.{Segment as Shape, AreSegments, IsCut, bytes_of, is_finished, joined}
+use Rattle.esc_frame.specs.Segments.{Segment as Shape, AreSegments, IsCut, bytes_of, is_finished, joined_bytes}
 use Rattle.esc_segments.specs.declared.kind.SegmentKind.{SegmentKind}
 use Rattle.esc_segments.specs.declared.kind.SegmentKind.TheVariants as kinds
 use Rattle.esc_segments.specs.declared.item.Segment.{Segment as Item}
@@ -41,14 +41,14 @@ count_of fates.Swallowed x = x.swallowed
 count_of fates.Overwritten x = x.overwritten
 
 -- so many more have this fate
-abbrev pub added : Fate → ℕ → Sums → Sums
-added fates.Passed n x = record x { passed = x.passed + n }
-added fates.Respelled n x = record x { respelled = x.respelled + n }
-added fates.Shown n x = record x { shown = x.shown + n }
-added fates.Replaced n x = record x { replaced = x.replaced + n }
-added fates.LeftOut n x = record x { left_out = x.left_out + n }
-added fates.Swallowed n x = record x { swallowed = x.swallowed + n }
-added fates.Overwritten n x = record x { overwritten = x.overwritten + n }
+abbrev pub sums_with : Fate → ℕ → Sums → Sums
+sums_with fates.Passed n x = record x { passed = x.passed + n }
+sums_with fates.Respelled n x = record x { respelled = x.respelled + n }
+sums_with fates.Shown n x = record x { shown = x.shown + n }
+sums_with fates.Replaced n x = record x { replaced = x.replaced + n }
+sums_with fates.LeftOut n x = record x { left_out = x.left_out + n }
+sums_with fates.Swallowed n x = record x { swallowed = x.swallowed + n }
+sums_with fates.Overwritten n x = record x { overwritten = x.overwritten + n }
 
 abbrev pub total : Sums → ℕ
 total x = x.passed + (x.respelled + (x.shown + (x.replaced + (x.left_out + (x.swallowed
@@ -108,7 +108,7 @@ begun = record { sums = nothing; string = None; before = None; lines = 0 }
 -- after a segment of this kind and these bytes, which by itself becomes this
 abbrev pub entered_as : Account → SegmentKind → List ℕ → Verdict → Account
 entered_as x k bytes own = record {
-  sums = added (fate_after x.string k bytes own.fate) (length bytes) x.sums;
+  sums = sums_with (fate_after x.string k bytes own.fate) (length bytes) x.sums;
   string = carried k bytes (fate_after x.string k bytes own.fate);
   before = own.before;
   lines = x.lines + feeds bytes;
@@ -121,7 +121,7 @@ step r x g finished = entered_as x (kind_of g) (bytes_of g) (r x.before g finish
 -- after segments, one after another: each is finished where what comes after it finishes it
 abbrev pub run : Rule → Account → List Shape → Account
 run r x [] = x
-run r x (g ∷ gs) = run r (step r x g (is_finished g (joined gs))) gs
+run r x (g ∷ gs) = run r (step r x g (is_finished g (joined_bytes gs))) gs
 
 -- the account of a stream, by its one cut
 abbrev pub IsAccount : Rule → List ℕ → Account → Type 0
@@ -134,7 +134,7 @@ GoesOn r x b y = (hs : List Shape) → IsCut b hs → y ≡ run r x hs
 -- the item, whatever segment of a cut it is, makes y of x
 abbrev pub Enters : Rule → Account → Item → Account → Type 0
 Enters r x item y = (g : Shape) (gs : List Shape) → AreSegments (g ∷ gs)
-    → IsItem item g (joined gs) → y ≡ step r x g (is_finished g (joined gs))
+    → IsItem item g (joined_bytes gs) → y ≡ step r x g (is_finished g (joined_bytes gs))
 
 -- so many bytes more can be counted
 abbrev pub HasRoom : Account → ℕ → Type 0
@@ -149,7 +149,7 @@ Counts x n y = (total y.sums ≡ total x.sums + n) × (y.lines ≤ x.lines + n)
 -- these bytes are in the output as they came
 abbrev pub all_passed : List ℕ → Account → Account
 all_passed bytes x = record {
-  sums = added fates.Passed (length bytes) x.sums;
+  sums = sums_with fates.Passed (length bytes) x.sums;
   string = None;
   before = None;
   lines = x.lines + feeds bytes;

@@ -2,7 +2,7 @@
 use Rattle.std.specs.Prelude.{◌≡◌, ◌&&◌, ◌||◌, if◌then◌else◌, List, [], ◌∷◌, ◌++◌}
 use Rattle.std.specs.List.{FoldsTo}
 use Rattle.esc_actions.specs.Values.{Value, value_of}
-use Rattle.esc_actions.specs.Writable.{AreHandedOut}
+use Rattle.esc_actions.specs.Writable.{EmittedAreWritable}
 use Rattle.esc_actions.specs.declared.action.Action.{Action}
 use Rattle.esc_parse.specs.Given.{At}
 use Rattle.esc_account.specs.Brief.{is_datum}
@@ -17,4 +17,4 @@ Keeps p a q = (q.actions.items
 -- actions made q of p whose values a parser hands out
 abbrev pub TookHandedOut : {A S : Type 0} → (S → Action A → S → Type 0) → S → S → Type 0
 TookHandedOut {A} takes p q =
-    (vs : List (Value A)) × AreHandedOut vs × FoldsTo (At value_of takes) p vs q
+    (vs : List (Value A)) × EmittedAreWritable vs × FoldsTo (At value_of takes) p vs q

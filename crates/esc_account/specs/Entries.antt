@@ -1,7 +1,7 @@
 -- The entries of an account: one for each segment, with its place.
 use Rattle.std.specs.Prelude.{ℕ, ◌≡◌, ◌+◌, ◌==◌, Bool, true, false, not, if◌then◌else◌, List, [], ◌∷◌, ◌++◌, length, Option, None, Some}
 use Rattle.std.specs.List.{filter}
-use Rattle.esc_frame.specs.Segments.{Segment as Shape, bytes_of, is_finished, joined}
+use Rattle.esc_frame.specs.Segments.{Segment as Shape, bytes_of, is_finished, joined_bytes}
 use Rattle.esc_segments.specs.declared.kind.SegmentKind.{SegmentKind}
 use Rattle.esc_segments.specs.Items.{kind_of}
 use Rattle.esc_account.specs.Accounts.{Rule, fate_after, feeds, is_terminator, step, total}
@@ -47,8 +47,8 @@ entry_of r x g finished =
 -- those of segments after x
 abbrev pub entries : Rule → Account → List Shape → List Entry
 entries r x [] = []
-entries r x (g ∷ gs) = entry_of r x g (is_finished g (joined gs))
-    ∷ entries r (step r x g (is_finished g (joined gs))) gs
+entries r x (g ∷ gs) = entry_of r x g (is_finished g (joined_bytes gs))
+    ∷ entries r (step r x g (is_finished g (joined_bytes gs))) gs
 
 -- the entry as it is handed to a book
 abbrev pub as_entry : Written → Entry
@@ -71,8 +71,8 @@ is_passed _ = false
 abbrev pub is_noted : Entry → Bool
 is_noted e = not (is_passed e.fate)
 
-abbrev pub noted : List Entry → List Entry
-noted es = filter is_noted es
+abbrev pub noted_entries : List Entry → List Entry
+noted_entries es = filter is_noted es
 
 -- ---- how many bytes had each fate
 

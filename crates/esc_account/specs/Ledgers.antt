@@ -3,7 +3,7 @@ use Rattle.std.specs.Prelude.{ℕ, ◌≡◌, ◌≢◌, ◌<◌, ◌≤◌, ◌
 use Rattle.esc_frame.specs.Segments.{Segment as Shape, IsCut}
 use Rattle.esc_filter.specs.Lines.{ends_line, has_line_feed, lines}
 use Rattle.esc_account.specs.Accounts.{Rule, all_passed, begun, line_begun, total}
-use Rattle.esc_account.specs.Entries.{Entry, noted}
+use Rattle.esc_account.specs.Entries.{Entry, noted_entries}
 use Rattle.esc_account.specs.LineEnds.{ends_so, line_entries, run_line}
 use Rattle.esc_account.specs.declared.account.Account.{Account}
 use Rattle.esc_account.specs.declared.book.Book.{Ghosts as Writer}
@@ -23,7 +23,7 @@ pub record LineGives (r : Rule) (x : Account) (line written : List ℕ) (es : Li
     : Type 0 where
   pub same : written ≡ line → es ≡ []
   pub other : written ≢ line → (gs : List Shape) → IsCut line gs
-      → es ≡ noted (line_entries (ends_so written) r (line_begun x) gs)
+      → es ≡ noted_entries (line_entries (ends_so written) r (line_begun x) gs)
 
 -- the line makes y of x, and has these entries
 abbrev pub LineRuns : Rule → Account → List ℕ → List ℕ → Account → List Entry → Type 0

@@ -1,6 +1,6 @@
 -- The account of a line, whose end is apart from its segments.
 use Rattle.std.specs.Prelude.{ℕ, Bool, false, ◌==◌, ◌&&◌, if◌then◌else◌, List, [], ◌∷◌, length, drop, ◌-◌}
-use Rattle.esc_frame.specs.Segments.{Segment as Shape, is_finished, joined}
+use Rattle.esc_frame.specs.Segments.{Segment as Shape, is_finished, joined_bytes}
 use Rattle.esc_account.specs.Accounts.{Rule, all_passed, step}
 use Rattle.esc_account.specs.Entries.{Entry, entry_of}
 use Rattle.esc_account.specs.declared.account.Account.{Account}
@@ -19,13 +19,13 @@ ends_so s = is_return_feed (drop (length s - 2) s)
 abbrev pub run_line : Bool → Rule → Account → List Shape → Account
 run_line ends r x [] = x
 run_line ends r x (g ∷ gs) =
-    if ends && is_return_feed (joined (g ∷ gs)) then all_passed (joined (g ∷ gs)) x
-    else run_line ends r (step r x g (is_finished g (joined gs))) gs
+    if ends && is_return_feed (joined_bytes (g ∷ gs)) then all_passed (joined_bytes (g ∷ gs)) x
+    else run_line ends r (step r x g (is_finished g (joined_bytes gs))) gs
 
 -- the entries of those that are not its end
 abbrev pub line_entries : Bool → Rule → Account → List Shape → List Entry
 line_entries ends r x [] = []
 line_entries ends r x (g ∷ gs) =
-    if ends && is_return_feed (joined (g ∷ gs)) then []
-    else entry_of r x g (is_finished g (joined gs))
-    ∷ line_entries ends r (step r x g (is_finished g (joined gs))) gs
+    if ends && is_return_feed (joined_bytes (g ∷ gs)) then []
+    else entry_of r x g (is_finished g (joined_bytes gs))
+    ∷ line_entries ends r (step r x g (is_finished g (joined_bytes gs))) gs

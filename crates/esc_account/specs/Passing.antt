@@ -1,11 +1,11 @@
 -- Characters and controls that pass.
 use Rattle.std.specs.Prelude.{ℕ, ◌≡◌, ◌==◌, true, false, List, [], ◌∷◌, ◌++◌, Option, None, Some}
 use Rattle.esc_frame.specs.Classes.{class_of, is_control, is_text}
-use Rattle.esc_frame.specs.Segments.{Segment as Shape, joined}
+use Rattle.esc_frame.specs.Segments.{Segment as Shape, joined_bytes}
 use Rattle.esc_frame.specs.Segments.Segment.{Character, Control, Wide}
 use Rattle.esc_frame.specs.Sequences.{is_pair, is_sequence, number_of}
 use Rattle.esc_account.specs.Accounts.{Rule}
-use Rattle.esc_account.specs.Finished.{ended}
+use Rattle.esc_account.specs.Finished.{account_after}
 use Rattle.esc_account.specs.declared.account.Account.{Account}
 use Rattle.esc_account.specs.declared.fate.Fate.TheVariants as fates
 use Rattle.esc_account.specs.declared.verdict.Verdict.{Verdict}
@@ -35,12 +35,12 @@ AllPass r b (g ∷ gs) c =
 
 -- the bytes are such characters and controls, one after another
 abbrev pub IsPassing : Rule → Option ℕ → List ℕ → Option ℕ → Type 0
-IsPassing r b x c = (gs : List Shape) × (x ≡ joined gs) × AllPass r b gs c
+IsPassing r b x c = (gs : List Shape) × (x ≡ joined_bytes gs) × AllPass r b gs c
 
 -- The bytes begin with such characters and controls, and the rest follows these; they make y of x.
 pub record Passes (r : Rule) (x : Account) (bytes rest : List ℕ) (y : Account) : Type 0 where
   pub shapes : List Shape
   pub last : Option ℕ
-  pub whole : bytes ≡ joined shapes ++ rest
+  pub whole : bytes ≡ joined_bytes shapes ++ rest
   pub pass : AllPass r x.before shapes last
-  pub account : y ≡ ended r x shapes
+  pub account : y ≡ account_after r x shapes

@@ -1,8 +1,8 @@
 -- What becomes of a segment where a policy says which values pass: its own values tell it.
 use Rattle.std.specs.Prelude.{ℕ, ◌≡◌, ◌⊎◌, ◌-◌, Bool, true, false, not, ◌&&◌, ◌||◌, if◌then◌else◌, List, [], ◌∷◌, ◌++◌, length, take, drop, bytes_eq, Option, None, Some}
 use Rattle.std.specs.List.{list_all, list_any}
-use Rattle.esc_visible.specs.Characters.{is_deceiving}
-use Rattle.esc_visible.specs.Following.{may_follow}
+use Rattle.unicode_visibility.specs.Characters.{is_deceiving}
+use Rattle.unicode_visibility.specs.Following.{may_follow}
 use Rattle.esc_frame.specs.Segments.{Segment as Shape, bytes_of}
 use Rattle.esc_segments.specs.declared.kind.SegmentKind.{SegmentKind}
 use Rattle.esc_segments.specs.declared.kind.SegmentKind.TheVariants as kinds

@@ -12,14 +12,14 @@ pub data Way : Type 0 where
   ByLines : Rule → Way
   Whole : Rule → Way
 
-abbrev pub silent : Way
-silent = Way.Silent
+abbrev pub silent_way : Way
+silent_way = Way.Silent
 
 abbrev pub by_lines : Rule → Way
 by_lines r = Way.ByLines r
 
-abbrev pub whole : Rule → Way
-whole r = Way.Whole r
+abbrev pub whole_way : Rule → Way
+whole_way r = Way.Whole r
 
 -- the account of the stream s, of which t was written, where one is kept
 abbrev pub IsToldBy : Way → List ℕ → List ℕ → Account → Type 0

@@ -2,11 +2,11 @@
 #![tactic(auto)]
 
 ghost use Rattle.std.specs.Prelude.{◌≡◌, ◌++◌, ◌∷◌, ◌<◌, ◌^◌, ◌↔◌, IfOk, IsTrue, List, [], OnErr, OnOk, length};
-ghost use Rattle.esc_frame.specs.Segments.{AreSegments, Segment as Shape, IsCut, is_finished, joined};
+ghost use Rattle.esc_frame.specs.Segments.{AreSegments, Segment as Shape, IsCut, is_finished, joined_bytes};
 ghost use Rattle.esc_segments.specs.Items.{IsItem};
-ghost use Rattle.memory.specs.Refusals.{Refused};
+ghost use Rattle.fallible_alloc.specs.Refusals.{Refused};
 ghost use Rattle.esc_account.specs.Accounts.{Counts, Enters, HasRoom, all_passed, begun, carried, entered_as, run, total};
-ghost use Rattle.esc_account.specs.Entries.{Entry as Told, ends_string, entries, entry_as, entry_of, is_passed, noted};
+ghost use Rattle.esc_account.specs.Entries.{Entry as Told, ends_string, entries, entry_as, entry_of, is_passed, noted_entries};
 ghost use Rattle.esc_account.specs.Ledgers.{LineEnters, LineGives};
 
 use crate::book::Book;
@@ -87,7 +87,7 @@ impl Account {
         ensures counts { IfOk result (Counts self (length bytes.now)) × OnErr result (Refused A) }
         ensures given { (gs : List Shape) (es : List Told) → IsCut bytes.now gs
             → B.was_given book.old es → OnOk result (B.was_given book.new
-            (es ++ noted (entries (J.rule judge.now) self gs))) }
+            (es ++ noted_entries (entries (J.rule judge.now) self gs))) }
     {
         self.line_run(judge, book, bytes, false)
     }
@@ -138,9 +138,9 @@ impl Account {
         ensures counts { IfOk result (Counts self (length segment.entry.bytes.now))
             × OnErr result (Refused A) }
         ensures given { (g : Shape) (gs : List Shape) (es : List Told) → AreSegments (g ∷ gs)
-            → IsItem segment.entry g (joined gs) → B.was_given book.old es
-            → OnOk result (B.was_given book.new (es ++ noted
-            (entry_of (J.rule judge.now) self g (is_finished g (joined gs)) ∷ []))) }
+            → IsItem segment.entry g (joined_bytes gs) → B.was_given book.old es
+            → OnOk result (B.was_given book.new (es ++ noted_entries
+            (entry_of (J.rule judge.now) self g (is_finished g (joined_bytes gs)) ∷ []))) }
     {
         match judge.verdict(self.before, segment) {
             Ok(own) => self.written(book, segment, own),
@@ -162,7 +162,8 @@ impl Account {
         ensures counts { IfOk result (Counts self (length segment.entry.bytes.now))
             × OnErr result (Refused A) }
         ensures given { (es : List Told) → B.was_given book.old es
-            → OnOk result (B.was_given book.new (es ++ noted (entry_as self segment.entry.kind
+            → OnOk result (B.was_given book.new
+            (es ++ noted_entries (entry_as self segment.entry.kind
             segment.entry.bytes.now segment.entry.finished own.fate ∷ []))) }
     {
         match self.note(book, segment, own.fate) {
@@ -180,7 +181,8 @@ impl Account {
     ) -> Result<(), AllocError>
         requires room { HasRoom self (length segment.bytes.now) }
         ensures given { (es : List Told) → B.was_given book.old es
-            → OnOk result (B.was_given book.new (es ++ noted (entry_as self segment.entry.kind
+            → OnOk result (B.was_given book.new
+            (es ++ noted_entries (entry_as self segment.entry.kind
             segment.entry.bytes.now segment.entry.finished own ∷ []))) }
         ensures refused { OnErr result (Refused A) }
     {

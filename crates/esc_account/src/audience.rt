@@ -2,14 +2,14 @@
 #![tactic(auto)]
 
 ghost use Rattle.std.specs.Prelude.{◌≡◌, ◌++◌, ℕ, List, OnErr, OnOk};
-ghost use Rattle.memory.specs.Refusals.{Refused};
+ghost use Rattle.fallible_alloc.specs.Refusals.{Refused};
 ghost use Rattle.esc_account.specs.Ways.{Way};
 
 use std::alloc::{AllocError, Allocator};
 
 /// Hears what comes of a stream, each time with the text that a filter wrote of that: a
 /// [`LineLedger`](crate::LineLedger) or a [`Ledger`](crate::Ledger).
-pub trait Audience<A: Allocator> {
+pub trait Tap<A: Allocator> {
     // it heard this stream, of which this text was written
     ghost heard: { Self → List ℕ → List ℕ → Type 0 };
 
@@ -36,7 +36,7 @@ pub trait Audience<A: Allocator> {
 }
 
 // What is lent.
-impl<K: Audience<A>, A: Allocator> Audience<A> for &mut K {
+impl<K: Tap<A>, A: Allocator> Tap<A> for &mut K {
     ghost heard = { λ k s t. K.heard k.now s t };
 
     ghost heard_all = { λ k s t. K.heard_all k.now s t };

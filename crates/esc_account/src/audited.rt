@@ -1,8 +1,8 @@
 //! A filter, and an audience of what it writes.
 #![tactic(auto)]
 
-use crate::audience::Audience;
-use esc_normal::Feeding;
+use crate::audience::Tap;
+use esc_normal::StreamFilter;
 use std::alloc::{AllocError, Allocator};
 
 /// Feeds a stream to a filter, and tells an audience of it, and of the text that the filter has.
@@ -14,24 +14,24 @@ pub struct Audited<F, K> {
     pub audience: K,
 }
 
-impl<F: Feeding<A>, K: Audience<A>, A: Allocator> Feeding<A> for Audited<F, K> {
+impl<F: StreamFilter<A>, K: Tap<A>, A: Allocator> StreamFilter<A> for Audited<F, K> {
     ghost gives = { λ f m c s. F.gives f.inner m c s × K.heard f.audience s (m s) };
 
     ghost added = { λ f. F.added f.inner };
 
     ghost has_ended = { λ f c s. F.has_ended f.inner c s × K.heard_all f.audience s (c s) };
 
-    fn feed_piece(&mut self, bytes: &[u8]) -> Result<(), AllocError> {
-        self.inner.feed_piece(bytes)?;
-        self.audience.hear(bytes, self.inner.added_text())
+    fn feed_chunk(&mut self, bytes: &[u8]) -> Result<(), AllocError> {
+        self.inner.feed_chunk(bytes)?;
+        self.audience.hear(bytes, self.inner.output_text())
     }
 
     fn finish_all(&mut self) -> Result<(), AllocError> {
         self.inner.finish_all()?;
-        self.audience.hear_end(self.inner.added_text())
+        self.audience.hear_end(self.inner.output_text())
     }
 
-    fn added_text(&self) -> &str {
-        self.inner.added_text()
+    fn output_text(&self) -> &str {
+        self.inner.output_text()
     }
 }

@@ -5,7 +5,7 @@ ghost use Rattle.std.specs.Prelude.{◌≡◌};
 ghost use Rattle.esc_actions.specs.Values.{value_of};
 ghost use Rattle.esc_account.specs.Brief.{is_datum};
 ghost use Rattle.esc_account.specs.Briefs.{Keeps};
-ghost use Rattle.memory.specs.Refusals.{Refused};
+ghost use Rattle.fallible_alloc.specs.Refusals.{Refused};
 
 use esc_actions::Action;
 use esc_device::DeviceControlMode;
@@ -35,7 +35,7 @@ impl<A: Allocator> Sink<Action<A>> for Brief<A> {
         if self.has_datum && is_datum {
             return Ok(());
         }
-        memory::push(&mut self.actions, action)?;
+        fallible_alloc::push(&mut self.actions, action)?;
         self.has_datum = self.has_datum || is_datum;
         Ok(())
     }

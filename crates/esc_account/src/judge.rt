@@ -2,11 +2,11 @@
 #![tactic(auto)]
 
 ghost use Rattle.std.specs.Prelude.{◌≡◌, ◌≤◌, ℕ, Bool, IfOk, List, OnErr, Option, ◌∷◌, length, take};
-ghost use Rattle.esc_frame.specs.Segments.{AreSegments, Segment as Shape, is_finished, joined};
+ghost use Rattle.esc_frame.specs.Segments.{AreSegments, Segment as Shape, is_finished, joined_bytes};
 ghost use Rattle.esc_segments.specs.Items.{IsItem};
 ghost use Rattle.esc_account.specs.Passing.{IsPassing};
 ghost use Rattle.esc_account.specs.declared.verdict.Verdict.{Verdict};
-ghost use Rattle.memory.specs.Refusals.{Refused};
+ghost use Rattle.fallible_alloc.specs.Refusals.{Refused};
 
 use crate::verdict::Verdict;
 use esc_segments::Segment;
@@ -24,8 +24,8 @@ pub trait Judge<A: Allocator> {
     /// refused.
     fn verdict(&self, before: Option<char>, segment: Segment<'_>) -> Result<Verdict, AllocError>
         ensures given { (g : Shape) (gs : List Shape) → AreSegments (g ∷ gs)
-            → IsItem segment.entry g (joined gs)
-            → IfOk result (λ v. v ≡ rule self.now before g (is_finished g (joined gs))) }
+            → IsItem segment.entry g (joined_bytes gs)
+            → IfOk result (λ v. v ≡ rule self.now before g (is_finished g (joined_bytes gs))) }
         ensures refused { OnErr result (Refused A) };
 
     /// How many bytes come first that are characters of text, 20 to 7F or well-formed UTF-8, and

@@ -4,14 +4,14 @@
 
 ghost use Rattle.std.specs.Prelude.{◌≡◌, ◌++◌, ◌∷◌, ◌<◌, ℕ, Bool, List, Option, Some, [], false, length, true};
 ghost use Rattle.std.specs.List.{list_all};
-ghost use Rattle.esc_frame.specs.Segments.{Segment as Shape, bytes_of, joined};
+ghost use Rattle.esc_frame.specs.Segments.{Segment as Shape, bytes_of, joined_bytes};
 ghost use Rattle.esc_frame.specs.Stream.{IsAtGround};
 ghost use Rattle.esc_actions.specs.Readings.{reading_within};
 ghost use Rattle.esc_actions.specs.Texts.{list_text};
 ghost use Rattle.esc_actions.specs.Values.{Value};
 ghost use Rattle.esc_filter.specs.declared.guard.Guard.{Guard};
 ghost use Rattle.esc_account.specs.Accounts.{Counts, GoesOn, IsAccount, Rule, all_passed, begun, count_of, run, total};
-ghost use Rattle.esc_account.specs.Entries.{AllLie, Entry, bytes_with, entries, is_passed, noted};
+ghost use Rattle.esc_account.specs.Entries.{AllLie, Entry, bytes_with, entries, is_passed, noted_entries};
 ghost use Rattle.esc_account.specs.Ledgers.{HasRun, IsLineAccount, LineRuns};
 ghost use Rattle.esc_filter.specs.Lines.{IsLine, ends_line, has_line_feed};
 ghost use Rattle.esc_account.specs.Rules.{IsAsItCame, is_written, last_written, rule_of};
@@ -24,7 +24,8 @@ use std::alloc::Allocator;
 
 /// Each byte of a stream has one fate: the sums add up to the length of the stream.
 pub fn each_byte_has_one_fate()
-    ensures { (r : Rule) (gs : List Shape) → total (run r begun gs).sums ≡ length (joined gs) }
+    ensures { (r : Rule) (gs : List Shape) → total (run r begun gs).sums
+        ≡ length (joined_bytes gs) }
 {}
 
 /// Where no segment is unfinished the account goes on: into whatever blocks a stream is divided
@@ -55,13 +56,13 @@ pub fn lines_go_on()
 
 /// The place of each entry is that of its segment in the stream, and its bytes are the segment's.
 pub fn each_lies_at_its_place()
-    ensures { (r : Rule) (gs : List Shape) → AllLie (joined gs) (entries r begun gs) }
+    ensures { (r : Rule) (gs : List Shape) → AllLie (joined_bytes gs) (entries r begun gs) }
 {}
 
 /// What did not pass adds up: of each other fate a stream has so many bytes as its entries have.
 pub fn entries_add_up()
     ensures whole { (f : End) (r : Rule) (gs : List Shape) → is_passed f ≡ false
-        → count_of f (run r begun gs).sums ≡ bytes_with f (noted (entries r begun gs)) }
+        → count_of f (run r begun gs).sums ≡ bytes_with f (noted_entries (entries r begun gs)) }
     ensures lines { (f : End) (r : Rule) (s t : List ℕ) (x : Account) (es : List Entry)
         → is_passed f ≡ false → IsLineAccount r s t x es
         → count_of f x.sums ≡ bytes_with f es }

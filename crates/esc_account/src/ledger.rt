@@ -5,11 +5,11 @@ ghost use Rattle.std.specs.Prelude.{◌≡◌, List, OnErr, OnOk, [], length, �
 ghost use Rattle.esc_account.specs.Accounts.{HasRoom};
 ghost use Rattle.esc_account.specs.Ledgers.{IsCounted};
 ghost use Rattle.esc_account.specs.Wholes.{Closes, Hears};
-ghost use Rattle.esc_account.specs.Ways.{whole};
-ghost use Rattle.memory.specs.Refusals.{Refused};
+ghost use Rattle.esc_account.specs.Ways.{whole_way};
+ghost use Rattle.fallible_alloc.specs.Refusals.{Refused};
 
 use crate::account::Account;
-use crate::audience::Audience;
+use crate::audience::Tap;
 use crate::book::Book;
 use crate::judge::Judge;
 use crate::room::has_room;
@@ -107,18 +107,18 @@ impl<J: Judge<A>, B: Book<A>, A: Allocator> Ledger<J, B, A> {
     }
 }
 
-impl<J: Judge<A>, B: Book<A>, A: Allocator> Audience<A> for Ledger<J, B, A> {
+impl<J: Judge<A>, B: Book<A>, A: Allocator> Tap<A> for Ledger<J, B, A> {
     ghost heard = { λ k s _. IsCounted s → Hears J.Judge B.Book k s };
 
     ghost heard_all = { λ k s _. IsCounted s → Closes J.Judge B.Book k s };
 
-    ghost goes_by = { λ k. whole (J.rule k.judge) };
+    ghost goes_by = { λ k. whole_way (J.rule k.judge) };
 
     fn hear(&mut self, bytes: &[u8], _text: &str) -> Result<(), AllocError> {
         if !has_room(self.account, self.rest.len(), bytes.len()) {
             return Ok(());
         }
-        memory::extend(&mut self.rest, bytes)?;
+        fallible_alloc::extend(&mut self.rest, bytes)?;
         if self.waits() {
             return Ok(());
         }

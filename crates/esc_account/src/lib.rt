@@ -46,7 +46,7 @@ mod weighing;
 mod whole_lines;
 
 pub use account::Account;
-pub use audience::Audience;
+pub use audience::Tap;
 pub use audited::Audited;
 pub use book::{Book, NoBook};
 pub use entry::Entry;

@@ -2,14 +2,14 @@
 #![tactic(auto)]
 
 ghost use Rattle.std.specs.Prelude.{◌≡◌, ◌+◌, ◌++◌, ◌≤◌, List, OnErr, OnOk, [], length, take, true, ℕ};
-ghost use Rattle.memory.specs.Refusals.{Refused};
+ghost use Rattle.fallible_alloc.specs.Refusals.{Refused};
 ghost use Rattle.esc_filter.specs.Lines.{IsLine};
 ghost use Rattle.esc_account.specs.Accounts.{Counts, HasRoom};
 ghost use Rattle.esc_account.specs.Ways.{by_lines};
 ghost use Rattle.esc_account.specs.Ledgers.{AreOpen, IsCounted, Keeps, Leaves, Tells};
 
 use crate::account::Account;
-use crate::audience::Audience;
+use crate::audience::Tap;
 use crate::book::Book;
 use crate::judge::Judge;
 use crate::room::has_room;
@@ -129,8 +129,8 @@ impl<J: Judge<A>, B: Book<A>, A: Allocator> LineLedger<J, B, A> {
             × (self.new.line.items ≡ []) × (self.new.text.items ≡ [])) }
         ensures same { (self.new.judge ≡ self.old.judge) × OnErr result (Refused A) }
     {
-        memory::extend(&mut self.line, bytes)?;
-        memory::extend(&mut self.text, text)?;
+        fallible_alloc::extend(&mut self.line, bytes)?;
+        fallible_alloc::extend(&mut self.text, text)?;
         self.account = self
             .account
             .line_entered(&self.judge, &mut self.book, &self.line, &self.text)?;
@@ -149,8 +149,8 @@ impl<J: Judge<A>, B: Book<A>, A: Allocator> LineLedger<J, B, A> {
             × (self.new.judge ≡ self.old.judge) }
         ensures refused { OnErr result (Refused A) }
     {
-        memory::extend(&mut self.line, line)?;
-        memory::extend(&mut self.text, text)?;
+        fallible_alloc::extend(&mut self.line, line)?;
+        fallible_alloc::extend(&mut self.text, text)?;
         self.is_open = self.is_open && line_length(line).is_none() && line_length(text).is_none();
         Ok(())
     }
@@ -183,7 +183,7 @@ impl<J: Judge<A>, B: Book<A>, A: Allocator> LineLedger<J, B, A> {
     }
 }
 
-impl<J: Judge<A>, B: Book<A>, A: Allocator> Audience<A> for LineLedger<J, B, A> {
+impl<J: Judge<A>, B: Book<A>, A: Allocator> Tap<A> for LineLedger<J, B, A> {
     ghost heard = { λ k s t. IsCounted s → Keeps J.Judge B.Book k s t };
 
     ghost heard_all = { λ k s t. IsCounted s → Tells J.Judge B.Book k s t };
@@ -201,7 +201,7 @@ impl<J: Judge<A>, B: Book<A>, A: Allocator> Audience<A> for LineLedger<J, B, A> 
         if !has_room(self.account, self.line.len(), 0) {
             return Ok(());
         }
-        memory::extend(&mut self.text, text.as_bytes())?;
+        fallible_alloc::extend(&mut self.text, text.as_bytes())?;
         self.account = rest_entered(
             self.account,
             &self.judge,

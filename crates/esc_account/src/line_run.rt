@@ -3,9 +3,9 @@
 
 ghost use Rattle.std.specs.Prelude.{◌≡◌, ◌≤◌, ◌++◌, IfOk, List, OnErr, OnOk, drop, length};
 ghost use Rattle.esc_frame.specs.Segments.{Segment as Shape, IsCut};
-ghost use Rattle.memory.specs.Refusals.{Refused};
+ghost use Rattle.fallible_alloc.specs.Refusals.{Refused};
 ghost use Rattle.esc_account.specs.Accounts.{Counts, HasRoom};
-ghost use Rattle.esc_account.specs.Entries.{Entry as Told, noted};
+ghost use Rattle.esc_account.specs.Entries.{Entry as Told, noted_entries};
 ghost use Rattle.esc_account.specs.Finished.{Finishes, IsLast, Takes};
 ghost use Rattle.esc_account.specs.LineEnds.{line_entries, run_line};
 ghost use Rattle.esc_account.specs.Passing.{Passes};
@@ -34,7 +34,7 @@ impl Account {
         ensures counts { IfOk result (Counts self (length line.now)) × OnErr result (Refused A) }
         ensures given { (gs : List Shape) (es : List Told) → IsCut line.now gs
             → B.was_given book.old es → OnOk result (B.was_given book.new
-            (es ++ noted (line_entries ends (J.rule judge.now) self gs))) }
+            (es ++ noted_entries (line_entries ends (J.rule judge.now) self gs))) }
     {
         laws::one_cut();
         laws::has_cut();
@@ -58,7 +58,7 @@ impl Account {
         ensures counts { IfOk result (Counts self (length rest.now)) × OnErr result (Refused A) }
         ensures given { (gs : List Shape) (es : List Told) → IsCut rest.now gs
             → B.was_given book.old es → OnOk result (B.was_given book.new
-            (es ++ noted (line_entries ends (J.rule judge.now) self gs))) }
+            (es ++ noted_entries (line_entries ends (J.rule judge.now) self gs))) }
     {
         laws::has_cut();
         if is_end(ends, rest) {

@@ -2,16 +2,16 @@
 #![tactic(auto)]
 
 ghost use Rattle.std.specs.Prelude.{◌≡◌, ◌∷◌, ℕ, if◌then◌else◌, IfOk, IfSome, List, None, OnErr, Option, Some, false, true};
-ghost use Rattle.esc_frame.specs.Segments.{AreSegments, Segment as Shape, is_finished, joined};
+ghost use Rattle.esc_frame.specs.Segments.{AreSegments, Segment as Shape, is_finished, joined_bytes};
 ghost use Rattle.esc_segments.specs.Items.{IsItem};
 ghost use Rattle.esc_actions.specs.Readings.{reading_within};
 ghost use Rattle.esc_actions.specs.Texts.{list_text};
 ghost use Rattle.esc_actions.specs.Values.{osc, value_of};
 ghost use Rattle.esc_osc.specs.Reading.{meaning as command_meant};
 ghost use Rattle.esc_values.specs.Clear.{parts_of};
-ghost use Rattle.memory.specs.Refusals.{Refused};
+ghost use Rattle.fallible_alloc.specs.Refusals.{Refused};
 ghost use Rattle.esc_filter.specs.Characters.{is_return, of_unicode};
-ghost use Rattle.esc_visible.specs.Characters.{is_deceiving};
+ghost use Rattle.unicode_visibility.specs.Characters.{is_deceiving};
 ghost use Rattle.esc_filter.specs.Passing.{is_line_feed};
 ghost use Rattle.esc_account.specs.Rules.{before_next, drops, drops_returns, is_dropped, is_replaced, is_shown, is_written, last_instead, last_return, rule_of, shows, shows_returns, spelling_of};
 ghost use Rattle.esc_account.specs.Weighed.{fate_by, unweighed, weighed_all};
@@ -28,8 +28,8 @@ use crate::weighing::Weighing;
 use esc_actions::{Action, ControlCode};
 use esc_filter::{Admit, Guard, Returns, Unicode, is_deceiving, passes};
 use esc_segments::{Segment, SegmentKind};
-use esc_visible::may_follow;
 use std::alloc::{AllocError, Allocator, Global};
+use unicode_visibility::may_follow;
 
 /// Says what a filter with a policy does to a segment.
 ///
@@ -98,9 +98,9 @@ impl<P: Admit<A>, A: Allocator + Copy> PolicyJudge<P, A> {
     // The verdict on any segment, by its actions.
     fn any_verdict(&self, before: Option<char>, segment: Segment<'_>) -> Result<Verdict, AllocError>
         ensures given { (g : Shape) (gs : List Shape) → AreSegments (g ∷ gs)
-            → IsItem segment.entry g (joined gs) → IfOk result (λ v. v
+            → IsItem segment.entry g (joined_bytes gs) → IfOk result (λ v. v
             ≡ rule_of self.now.by_lines self.now.guard self.now.limit
-            (P.admits self.now.policy) before g (is_finished g (joined gs))) }
+            (P.admits self.now.policy) before g (is_finished g (joined_bytes gs))) }
         ensures refused { OnErr result (Refused A) }
     {
         match self.weighed(before, segment) {
@@ -120,10 +120,10 @@ impl<P: Admit<A>, A: Allocator + Copy> PolicyJudge<P, A> {
     // Says what is known of the actions of a segment that comes after this character.
     fn weighed(&self, before: Option<char>, segment: Segment<'_>) -> Result<Weighed, AllocError>
         ensures given { (g : Shape) (gs : List Shape) → AreSegments (g ∷ gs)
-            → IsItem segment.entry g (joined gs) → IfOk result (λ w. w
+            → IsItem segment.entry g (joined_bytes gs) → IfOk result (λ w. w
             ≡ weighed_all self.now.by_lines self.now.guard (P.admits self.now.policy) before
             segment.entry.kind (unweighed before)
-            (reading_within (Some self.now.limit) g (is_finished g (joined gs)))) }
+            (reading_within (Some self.now.limit) g (is_finished g (joined_bytes gs)))) }
         ensures refused { OnErr result (Refused A) }
     {
         match self.weighed_at_once(before, segment) {
@@ -135,10 +135,10 @@ impl<P: Admit<A>, A: Allocator + Copy> PolicyJudge<P, A> {
     // The same by splitting the segment, where it is short and memory is not refused.
     fn weighed_at_once(&self, before: Option<char>, segment: Segment<'_>) -> Option<Weighed>
         ensures { (g : Shape) (gs : List Shape) → AreSegments (g ∷ gs)
-            → IsItem segment.entry g (joined gs) → IfSome result (λ w. w
+            → IsItem segment.entry g (joined_bytes gs) → IfSome result (λ w. w
             ≡ weighed_all self.now.by_lines self.now.guard (P.admits self.now.policy) before
             segment.entry.kind (unweighed before)
-            (reading_within (Some self.now.limit) g (is_finished g (joined gs)))) }
+            (reading_within (Some self.now.limit) g (is_finished g (joined_bytes gs)))) }
     {
         if !is_short(self.limit, segment) {
             return None;
@@ -157,10 +157,10 @@ impl<P: Admit<A>, A: Allocator + Copy> PolicyJudge<P, A> {
         segment: Segment<'_>,
     ) -> Result<Weighed, AllocError>
         ensures given { (g : Shape) (gs : List Shape) → AreSegments (g ∷ gs)
-            → IsItem segment.entry g (joined gs) → IfOk result (λ w. w
+            → IsItem segment.entry g (joined_bytes gs) → IfOk result (λ w. w
             ≡ weighed_all self.now.by_lines self.now.guard (P.admits self.now.policy) before
             segment.entry.kind (unweighed before)
-            (reading_within (Some self.now.limit) g (is_finished g (joined gs)))) }
+            (reading_within (Some self.now.limit) g (is_finished g (joined_bytes gs)))) }
         ensures refused { OnErr result (Refused A) }
     {
         let sink = Weighing::new(self, before, segment.kind);
@@ -173,9 +173,9 @@ impl<P: Admit<A>, A: Allocator + Copy> PolicyJudge<P, A> {
     // Says what becomes of a segment of whose actions this is known.
     fn verdict_of(&self, segment: Segment<'_>, weighed: Weighed) -> Result<Verdict, AllocError>
         ensures given { (g : Shape) (gs : List Shape) → AreSegments (g ∷ gs)
-            → IsItem segment.entry g (joined gs) → IfOk result (λ v. v ≡ record {
+            → IsItem segment.entry g (joined_bytes gs) → IfOk result (λ v. v ≡ record {
               fate = fate_by weighed segment.entry.kind segment.entry.bytes.now (list_text {A = A}
-                  (reading_within (Some self.now.limit) g (is_finished g (joined gs))));
+                  (reading_within (Some self.now.limit) g (is_finished g (joined_bytes gs))));
               before = weighed.last;
             }) }
         ensures refused { OnErr result (Refused A) }
@@ -192,10 +192,10 @@ impl<P: Admit<A>, A: Allocator + Copy> PolicyJudge<P, A> {
     // Says what becomes of its bytes.
     fn fate_of(&self, segment: Segment<'_>, weighed: Weighed) -> Result<Fate, AllocError>
         ensures given { (g : Shape) (gs : List Shape) → AreSegments (g ∷ gs)
-            → IsItem segment.entry g (joined gs) → IfOk result (λ f. f
+            → IsItem segment.entry g (joined_bytes gs) → IfOk result (λ f. f
             ≡ fate_by weighed segment.entry.kind segment.entry.bytes.now
             (list_text {A = A} (reading_within (Some self.now.limit) g
-            (is_finished g (joined gs))))) }
+            (is_finished g (joined_bytes gs))))) }
         ensures refused { OnErr result (Refused A) }
     {
         if !weighed.has_own {
@@ -214,9 +214,9 @@ impl<P: Admit<A>, A: Allocator + Copy> PolicyJudge<P, A> {
     // Says what becomes of the bytes of a segment whose text is written.
     fn spelling(&self, segment: Segment<'_>) -> Result<Fate, AllocError>
         ensures given { (g : Shape) (gs : List Shape) → AreSegments (g ∷ gs)
-            → IsItem segment.entry g (joined gs) → IfOk result (λ f. f
+            → IsItem segment.entry g (joined_bytes gs) → IfOk result (λ f. f
             ≡ spelling_of segment.entry.bytes.now (list_text {A = A}
-            (reading_within (Some self.now.limit) g (is_finished g (joined gs))))) }
+            (reading_within (Some self.now.limit) g (is_finished g (joined_bytes gs))))) }
         ensures refused { OnErr result (Refused A) }
     {
         match segment_text(self.alloc, self.limit, segment) {

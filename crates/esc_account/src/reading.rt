@@ -7,8 +7,8 @@ ghost use Rattle.esc_actions.specs.Meaning.{meaning_within};
 ghost use Rattle.esc_actions.specs.Readings.{reading_within};
 ghost use Rattle.esc_actions.specs.Texts.{list_text};
 ghost use Rattle.esc_actions.specs.Values.{Value, value_of};
-ghost use Rattle.esc_actions.specs.Writable.{AreHandedOut};
-ghost use Rattle.esc_frame.specs.Segments.{AreSegments, HasShape, Segment as Shape, events_of, is_finished, joined};
+ghost use Rattle.esc_actions.specs.Writable.{EmittedAreWritable};
+ghost use Rattle.esc_frame.specs.Segments.{AreSegments, HasShape, Segment as Shape, events_of, is_finished, joined_bytes};
 ghost use Rattle.esc_frame.specs.Events.Event.{CsiDispatch};
 ghost use Rattle.esc_parse.specs.Given.{At};
 ghost use Rattle.esc_segments.specs.Items.{IsItem};
@@ -16,13 +16,13 @@ ghost use Rattle.esc_segments.specs.declared.kind.SegmentKind.TheVariants as kin
 ghost use Rattle.esc_account.specs.Brief.{brief};
 ghost use Rattle.esc_account.specs.Briefs.{TookHandedOut};
 ghost use Rattle.esc_account.specs.Short.{IsShort, is_dcs};
-ghost use Rattle.memory.specs.Refusals.{Refused};
+ghost use Rattle.fallible_alloc.specs.Refusals.{Refused};
 
 use crate::brief::Brief;
 use esc_actions::{Action, laws};
 use esc_frame::VTActor;
 use esc_frame::unfinished::short::Short;
-use esc_normal::{Spell, normal_text};
+use esc_normal::{TextSink, normal_text};
 use esc_parse::performer::Performer;
 use esc_parse::unfinished::Unfinished;
 use esc_parse::{Parser, Sink};
@@ -40,9 +40,9 @@ pub(crate) fn split_into<A: Allocator + Copy, S: Sink<Action<A>> + Drop>(
     requires ready { S.is_ready sink }
     requires short { IsShort limit segment.kind segment.bytes.now }
     ensures { (g : Shape) (gs : List Shape) → AreSegments (g ∷ gs)
-        → IsItem segment.entry g (joined gs)
+        → IsItem segment.entry g (joined_bytes gs)
         → IfOk result (λ q. FoldsTo (At value_of S.takes) sink
-        (reading_within (Some limit) g (is_finished g (joined gs))) q) }
+        (reading_within (Some limit) g (is_finished g (joined_bytes gs))) q) }
 {
     let mut performer = Performer {
         sink,
@@ -121,9 +121,9 @@ pub(crate) fn parse_into<A: Allocator + Copy, S: Sink<Action<A>> + Drop>(
 ) -> Result<S, AllocError>
     requires { S.is_ready sink }
     ensures given { (g : Shape) (gs : List Shape) → AreSegments (g ∷ gs)
-        → IsItem segment.entry g (joined gs)
+        → IsItem segment.entry g (joined_bytes gs)
         → IfOk result (λ q. FoldsTo (At value_of S.takes) sink
-        (reading_within (Some limit) g (is_finished g (joined gs))) q) }
+        (reading_within (Some limit) g (is_finished g (joined_bytes gs))) q) }
     ensures handed_out { IfOk result (λ q. TookHandedOut S.takes sink q) }
     ensures refused { ((p : S) (a : Action A) (q : S) → S.refuses p a q → Refused A)
         → OnErr result (Refused A) }
@@ -168,8 +168,8 @@ pub(crate) fn segment_text<A: Allocator + Copy>(
     segment: Segment<'_>,
 ) -> Result<Text<A>, AllocError>
     ensures given { (g : Shape) (gs : List Shape) → AreSegments (g ∷ gs)
-        → IsItem segment.entry g (joined gs) → IfOk result (λ t. t
-        ≡ list_text {A = A} (reading_within (Some limit) g (is_finished g (joined gs)))) }
+        → IsItem segment.entry g (joined_bytes gs) → IfOk result (λ t. t
+        ≡ list_text {A = A} (reading_within (Some limit) g (is_finished g (joined_bytes gs)))) }
     ensures refused { OnErr result (Refused A) }
 {
     match text_at_once(alloc, limit, segment) {
@@ -185,13 +185,13 @@ fn text_at_once<A: Allocator + Copy>(
     segment: Segment<'_>,
 ) -> Option<Text<A>>
     ensures { (g : Shape) (gs : List Shape) → AreSegments (g ∷ gs)
-        → IsItem segment.entry g (joined gs) → IfSome result (λ t. t
-        ≡ list_text {A = A} (reading_within (Some limit) g (is_finished g (joined gs)))) }
+        → IsItem segment.entry g (joined_bytes gs) → IfSome result (λ t. t
+        ≡ list_text {A = A} (reading_within (Some limit) g (is_finished g (joined_bytes gs)))) }
 {
     if !is_short(limit, segment) {
         return None;
     }
-    match split_into(alloc, limit, segment, Spell::new(alloc)) {
+    match split_into(alloc, limit, segment, TextSink::new(alloc)) {
         Ok(spell) => Some(spell.text),
         Err(_) => None,
     }
@@ -204,8 +204,8 @@ fn text_by_parser<A: Allocator + Copy>(
     segment: Segment<'_>,
 ) -> Result<Text<A>, AllocError>
     ensures given { (g : Shape) (gs : List Shape) → AreSegments (g ∷ gs)
-        → IsItem segment.entry g (joined gs) → IfOk result (λ t. t
-        ≡ list_text {A = A} (reading_within (Some limit) g (is_finished g (joined gs)))) }
+        → IsItem segment.entry g (joined_bytes gs) → IfOk result (λ t. t
+        ≡ list_text {A = A} (reading_within (Some limit) g (is_finished g (joined_bytes gs)))) }
     ensures refused { OnErr result (Refused A) }
 {
     laws::meaning_of_the_cut::<A>();
@@ -229,9 +229,9 @@ pub fn read_segment<A: Allocator + Copy>(
     segment: Segment<'_>,
 ) -> Result<Vec<Action<A>, A>, AllocError>
     ensures given { (g : Shape) (gs : List Shape) → AreSegments (g ∷ gs)
-        → IsItem segment.entry g (joined gs) → IfOk result (λ v. map value_of v.items
-        ≡ brief (reading_within (Some limit) g (is_finished g (joined gs)))) }
-    ensures handed_out { IfOk result (λ v. AreHandedOut (map value_of v.items)) }
+        → IsItem segment.entry g (joined_bytes gs) → IfOk result (λ v. map value_of v.items
+        ≡ brief (reading_within (Some limit) g (is_finished g (joined_bytes gs)))) }
+    ensures handed_out { IfOk result (λ v. EmittedAreWritable (map value_of v.items)) }
     ensures refused { OnErr result (Refused A) }
 {
     let sink = Brief {
@@ -252,8 +252,8 @@ pub fn read_short<A: Allocator + Copy>(
     segment: Segment<'_>,
 ) -> Option<Vec<Action<A>, A>>
     ensures { (g : Shape) (gs : List Shape) → AreSegments (g ∷ gs)
-        → IsItem segment.entry g (joined gs) → IfSome result (λ v. map value_of v.items
-        ≡ brief (reading_within (Some limit) g (is_finished g (joined gs)))) }
+        → IsItem segment.entry g (joined_bytes gs) → IfSome result (λ v. map value_of v.items
+        ≡ brief (reading_within (Some limit) g (is_finished g (joined_bytes gs)))) }
 {
     if !is_short(limit, segment) {
         return None;
@@ -273,7 +273,7 @@ fn ended<A: Allocator>(alloc: A, bytes: &[u8]) -> Result<Vec<u8, A>, AllocError>
     ensures given { IfOk result (λ v. v.items ≡ bytes.now ++ 0x1b ∷ []) }
     ensures refused { OnErr result (Refused A) }
 {
-    let mut ended = memory::copied(alloc, bytes)?;
-    memory::push(&mut ended, 0x1b)?;
+    let mut ended = fallible_alloc::copied(alloc, bytes)?;
+    fallible_alloc::push(&mut ended, 0x1b)?;
     Ok(ended)
 }

@@ -2,7 +2,7 @@
 #![tactic(auto)]
 
 ghost use Rattle.std.specs.Prelude.{◌≡◌, ◌==◌, ◌∷◌, ◌++◌, Bool, IfSome, IsTrue, List, None, false, map};
-ghost use Rattle.esc_frame.specs.Segments.{AreSegments, Segment as Shape, is_finished, joined};
+ghost use Rattle.esc_frame.specs.Segments.{AreSegments, Segment as Shape, is_finished, joined_bytes};
 ghost use Rattle.esc_sequences.specs.Csis.{csi_of, csi_text, unspecified};
 ghost use Rattle.esc_segments.specs.Items.{IsItem};
 ghost use Rattle.esc_segments.specs.declared.kind.SegmentKind.TheVariants as kinds;
@@ -33,8 +33,8 @@ pub(crate) fn sequence_verdict<P: Admit<A>, A: Allocator>(
     segment: Segment<'_>,
 ) -> Option<Verdict>
     ensures { (lined : Bool) (u : Guard) (g : Shape) (gs : List Shape) → AreSegments (g ∷ gs)
-        → IsItem segment.entry g (joined gs) → IfSome result (λ v. v
-        ≡ rule_of lined u limit (P.admits policy.now) before g (is_finished g (joined gs))) }
+        → IsItem segment.entry g (joined_bytes gs) → IfSome result (λ v. v
+        ≡ rule_of lined u limit (P.admits policy.now) before g (is_finished g (joined_bytes gs))) }
 {
     if !is_short(limit, segment) {
         return None;

@@ -2,7 +2,7 @@
 #![tactic(auto)]
 
 ghost use Rattle.std.specs.Prelude.{◌≡◌, ◌+◌, ◌<◌, ◌^◌};
-ghost use Rattle.esc_account.specs.Accounts.{added, count_of, nothing, total};
+ghost use Rattle.esc_account.specs.Accounts.{sums_with, count_of, nothing, total};
 
 use crate::fate::Fate;
 
@@ -73,7 +73,7 @@ impl Sums {
     /// So many more had this one.
     pub fn with(self, fate: Fate, count: u64) -> Sums
         requires { total self + count < 2 ^ 64 }
-        ensures { result ≡ added fate count self }
+        ensures { result ≡ sums_with fate count self }
     {
         let mut sums = self;
         match fate {

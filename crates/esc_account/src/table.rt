@@ -2,7 +2,7 @@
 #![tactic(auto)]
 
 ghost use Rattle.std.specs.Prelude.{◌≡◌, ◌++◌, ◌∷◌, ◌<◌, ℕ, IfOk, IfSome, List, OnErr, OnOk, [], if◌then◌else◌, length, true};
-ghost use Rattle.memory.specs.Refusals.{Refused};
+ghost use Rattle.fallible_alloc.specs.Refusals.{Refused};
 ghost use Rattle.esc_account.specs.Entries.{Entry as Told, as_entry};
 ghost use Rattle.esc_account.specs.Tables.{HasAll, HasAllRows, IsRow, SameRows, grown};
 ghost use Rattle.esc_account.specs.declared.row.Row.{Row as Line};
@@ -85,7 +85,7 @@ impl<N: Copy + PartialEq, A: Allocator> Table<N, A> {
                 line: made.line,
             },
         };
-        memory::push(&mut self.rows, row)?;
+        fallible_alloc::push(&mut self.rows, row)?;
         Ok(at)
     }
 

@@ -2,7 +2,7 @@
 #![tactic(auto)]
 
 ghost use Rattle.std.specs.Prelude.{◌≡◌, ◌++◌, ◌<◌, ◌≤◌, IfOk, IfSome, List, OnErr, drop, length, take, ℕ};
-ghost use Rattle.memory.specs.Refusals.{Refused};
+ghost use Rattle.fallible_alloc.specs.Refusals.{Refused};
 ghost use Rattle.esc_filter.specs.Lines.{IsLine, lines};
 ghost use Rattle.esc_account.specs.Accounts.{Counts, HasRoom};
 ghost use Rattle.esc_account.specs.Entries.{Entry as Told};

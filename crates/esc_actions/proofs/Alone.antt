@@ -3,7 +3,7 @@ use Rattle.std.proofs.Common.{ℕ, Option, ◌≡◌, List, [], ◌∷◌, true,
 use Rattle.esc_frame.specs.Leads.{finished_events_within}
 use Rattle.esc_frame.specs.Segments.{Segment, events_of_within}
 use Rattle.esc_frame.specs.Stream.{IsAfterFinished, added_within, events_within}
-use Rattle.esc_frame.proofs.Alone.{added_alone, events_alone}
+use Rattle.esc_frame.proofs.Emits.FinishedIsForgotten.{added_alone, events_alone}
 use Rattle.esc_actions.proofs.Meanings.{mode_append, yield_is}
 use Rattle.esc_actions.proofs.Readings.{closes}
 use Rattle.esc_actions.specs.Meaning.{mode_from, values_from, yield_within}

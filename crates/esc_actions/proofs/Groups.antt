@@ -2,7 +2,7 @@
 use Rattle.std.proofs.Common.{ℕ, ℤ, ◌≡◌, Bool, true, false, ◌||◌, if◌then◌else◌, List, [], ◌∷◌, ◌++◌, map, Option, Some, None, refl, ap, sym, ◌∙◌, subst}
 use Rattle.esc_sequences.specs.Csis.{CsiValue}
 use Rattle.esc_frame.specs.Bodies.{is_csi_body, is_dcs_header}
-use Rattle.esc_frame.specs.Classes.{is_c0, is_put, is_text, those, strip}
+use Rattle.esc_frame.specs.Classes.{is_c0, is_put, is_text, bytes_of_class, without_noise}
 use Rattle.esc_frame.specs.Events.{Event}
 use Rattle.esc_frame.specs.Events.Event.{Execute, DcsPut, DcsUnhook, ApcDispatch}
 use Rattle.esc_frame.specs.Segments.{Segment, HasEvents, Opener, events_of, events_of_cut, ends_itself, opener_events, executes, csi_event, csi_events}
@@ -15,8 +15,8 @@ use Rattle.esc_actions.proofs.Meanings.{mode_append, values_append}
 use Rattle.esc_actions.specs.ControlCodes.{code_of}
 use Rattle.esc_actions.specs.Groups.{AreGrouped, MeansGroups, MeansWritable, ends_in_mode, is_entered}
 use Rattle.esc_actions.specs.Meaning.{meaning, meaning_within, mode_from, values_from}
-use Rattle.esc_actions.specs.Values.{Mode, Value, plain, in_sixel, in_termcap, in_short, entered, given, csi, executed, imaged, opened, opened_gives}
-use Rattle.esc_actions.specs.Writable.{AreHandedOut, AreWritableFrom, is_exception, stays_within}
+use Rattle.esc_actions.specs.Values.{Mode, Value, plain, in_sixel, in_termcap, in_short, entered, event_values, csi, control_values, image_values, mode_at_hook, hook_values}
+use Rattle.esc_actions.specs.Writable.{EmittedAreWritable, AreWritableFrom, is_exception, stays_within}
 use Rattle.std.specs.List.{list_any}
 use Rattle.esc_device.specs.Kinds.{kind_of}
 use Rattle.esc_frame.specs.Stream.{events}
@@ -57,7 +57,7 @@ groups_after : (A : Type 0) (es fs : List Event) → mode_from plain es ≡ plai
 groups_after A es fs e h k = groups_append A plain es fs h (subst (λ m. Groups A m fs) (sym e) k)
 
 executed_grouped : (A : Type 0) (o : Option ControlCode)
-    → AreGrouped {A = A} false (executed o) false
+    → AreGrouped {A = A} false (control_values o) false
 executed_grouped A None = refl
 executed_grouped A (Some c) = (refl, refl)
 
@@ -66,34 +66,36 @@ csis_grouped A [] = refl
 csis_grouped A (v ∷ vs) = (refl, csis_grouped A vs)
 
 imaged_grouped : (A : Type 0) (o : Option (KittyImage A))
-    → AreGrouped {A = A} false (imaged o) false
+    → AreGrouped {A = A} false (image_values o) false
 imaged_grouped A None = refl
 imaged_grouped A (Some i) = (refl, refl)
 
 apc_grouped : (A : Type 0) (t : List ℕ) → Groups A plain (ApcDispatch t ∷ [])
-apc_grouped A t = grouped_append {A = A} false (imaged (image_of t)) false [] false
+apc_grouped A t = grouped_append {A = A} false (image_values (image_of t)) false [] false
     (imaged_grouped A (image_of t)) refl
 
 executes_grouped : (A : Type 0) (bs : List ℕ) → Groups A plain (map Execute bs)
 executes_grouped A [] = refl
 executes_grouped A (b ∷ bs) =
-    grouped_append false (executed (code_of b)) false (values_from None plain (map Execute bs)) _
+    grouped_append false (control_values (code_of b)) false
+    (values_from None plain (map Execute bs)) _
     (executed_grouped A (code_of b))
     (executes_grouped A bs)
 
 opener_grouped : (A : Type 0) (o : Opener) → Groups A plain (opener_events o)
-opener_grouped A (Long n) = executes_grouped A (those is_c0 n)
+opener_grouped A (Long n) = executes_grouped A (bytes_of_class is_c0 n)
 opener_grouped A Raw = refl
 opener_grouped A Pair = refl
 
 csi_grouped : (A : Type 0) (x : List ℕ) (f : ℕ) (t : Bool)
     → Groups A plain (if t then csi_event x f ∷ [] else [])
 csi_grouped A x f true = groups_append A plain [] (csi_event x f ∷ []) refl
-    (grouped_append false (given None plain (csi_event x f)) false [] false (csis_grouped A _) refl)
+    (grouped_append false (event_values None plain (csi_event x f)) false [] false
+    (csis_grouped A _) refl)
 csi_grouped A x f false = refl
 
 opened_grouped : (A : Type 0) (k : StringKind) (f : ℕ) (ns : List ℤ) (is : List ℕ) (more : Bool)
-    → AreGrouped {A = A} false (opened_gives k f ns is more) (is_entered (opened k f ns is))
+    → AreGrouped {A = A} false (hook_values k f ns is more) (is_entered (mode_at_hook k f ns is))
 opened_grouped A kind.Sixel f ns is more = refl
 opened_grouped A kind.Termcap f ns is more = refl
 opened_grouped A kind.Short f ns is more = refl
@@ -115,12 +117,12 @@ unhook_grouped A (in_short ps is f d) = (refl, refl)
 unhook_grouped A entered = (refl, refl)
 
 hook_grouped : (A : Type 0) (x : List ℕ) (f : ℕ) → Groups A plain (hook_event x f ∷ [])
-hook_grouped A x f = grouped_append false (given None plain (hook_event x f)) _ [] _
+hook_grouped A x f = grouped_append false (event_values None plain (hook_event x f)) _ [] _
     (opened_grouped A _ f _ _ _) refl
 
 data_grouped : (A : Type 0) (x d : List ℕ) (f : ℕ) → Groups A plain (hook_event x f ∷ puts d)
 data_grouped A x d f = groups_append A plain (hook_event x f ∷ []) (puts d) (hook_grouped A x f)
-    (puts_grouped A (mode_from plain (hook_event x f ∷ [])) (those is_put d))
+    (puts_grouped A (mode_from plain (hook_event x f ∷ [])) (bytes_of_class is_put d))
 
 dcs_grouped : (A : Type 0) (x d : List ℕ) (f : ℕ) (header finished : Bool)
     → Groups A plain (if header then (hook_event x f ∷ puts d)
@@ -147,32 +149,32 @@ segment_grouped A (Control b) finished = executes_grouped A (b ∷ [])
 segment_grouped A (HighControl p b) finished = executes_grouped A (b ∷ [])
 segment_grouped A (Terminator p b) finished = refl
 segment_grouped A (Escape x f) finished =
-    groups_after A (executes x) _ (executes_keep plain (those is_c0 x))
-    (executes_grouped A (those is_c0 x))
+    groups_after A (executes x) _ (executes_keep plain (bytes_of_class is_c0 x))
+    (executes_grouped A (bytes_of_class is_c0 x))
     (refl, refl)
 segment_grouped A (Csi o x f) finished =
-    groups_append A plain (opener_events o ++ executes x) (csi_events (strip x) f)
+    groups_append A plain (opener_events o ++ executes x) (csi_events (without_noise x) f)
     (groups_after A (opener_events o) (executes x) (opener_keeps plain o) (opener_grouped A o)
-    (executes_grouped A (those is_c0 x)))
-    (subst (λ m. Groups A m (csi_events (strip x) f))
+    (executes_grouped A (bytes_of_class is_c0 x)))
+    (subst (λ m. Groups A m (csi_events (without_noise x) f))
     (sym (mode_append plain (opener_events o) (executes x)
     ∙ ap (λ m. mode_from m (executes x)) (opener_keeps plain o)
-    ∙ executes_keep plain (those is_c0 x)))
-    (csi_grouped A (strip x) f (is_csi_body (strip x))))
+    ∙ executes_keep plain (bytes_of_class is_c0 x)))
+    (csi_grouped A (without_noise x) f (is_csi_body (without_noise x))))
 segment_grouped A (Osc o ps e) finished =
     groups_after A (opener_events o) _ (opener_keeps plain o) (opener_grouped A o)
     (emitted_grouped A _ finished (refl, refl))
 segment_grouped A (Dcs o x f d) finished =
     groups_after A (opener_events o) _ (opener_keeps plain o) (opener_grouped A o)
-    (dcs_grouped A (strip x) d f (is_dcs_header (strip x)) finished)
+    (dcs_grouped A (without_noise x) d f (is_dcs_header (without_noise x)) finished)
 segment_grouped A (Apc o d) finished =
     groups_after A (opener_events o) _ (opener_keeps plain o) (opener_grouped A o)
-    (emitted_grouped A _ finished (apc_grouped A (those is_text d)))
+    (emitted_grouped A _ finished (apc_grouped A (bytes_of_class is_text d)))
 segment_grouped A (Ignored k o d) finished = opener_grouped A o
-segment_grouped A (CutEscape x) finished = executes_grouped A (those is_c0 x)
+segment_grouped A (CutEscape x) finished = executes_grouped A (bytes_of_class is_c0 x)
 segment_grouped A (CutCsi o x) finished =
     groups_after A (opener_events o) (executes x) (opener_keeps plain o) (opener_grouped A o)
-    (executes_grouped A (those is_c0 x))
+    (executes_grouped A (bytes_of_class is_c0 x))
 segment_grouped A (CutDcs o x) finished = opener_grouped A o
 
 cut_grouped : (A : Type 0) (gs : List Segment) → Groups A plain (events_of_cut gs)
@@ -194,7 +196,7 @@ or_false true b h = absurd cc
 or_false false b h = (refl, h)
 
 writable_from : {A : Type 0} (from : Bool) (vs : List (Value A)) → AreGrouped from vs false
-    → AreHandedOut vs → list_any is_exception vs ≡ false
+    → EmittedAreWritable vs → list_any is_exception vs ≡ false
     → AreWritableFrom from vs
 writable_from from [] h k l = sym h
 writable_from {A = A} from (v ∷ vs) h k l = let q =
@@ -202,7 +204,7 @@ writable_from {A = A} from (v ∷ vs) h k l = let q =
     (h.0, k.0 q.0, writable_from (stays_within v) vs h.1 k.1 q.1)
 
 pub means_writable : (A : Type 0) → MeansGroups A
-    → ((s : List ℕ) → AreHandedOut {A = A} (meaning s)) → MeansWritable A
+    → ((s : List ℕ) → EmittedAreWritable {A = A} (meaning s)) → MeansWritable A
 means_writable A groups handed s none outside =
     writable_from false (meaning s) (subst (λ b. AreGrouped {A = A} false (meaning s) b) outside
     (groups s)) (handed s) none

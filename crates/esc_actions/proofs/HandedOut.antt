@@ -18,7 +18,7 @@ use Rattle.esc_device.specs.declared.kind.StringKind.TheVariants as kind
 use Rattle.esc_sixel.specs.Items.{items}
 use Rattle.esc_sixel.specs.Meaning.{sixel_of}
 use Rattle.esc_sixel.specs.Writable.{AreNatural}
-use Rattle.esc_tcap.specs.Names.{names_of}
+use Rattle.xtgettcap.specs.Names.{names_of}
 use Rattle.esc_frame.specs.Classes.{class_of, AllOf, is_control, is_c1, is_intermediate, is_put, is_text, ends_csi, ends_escape, opens}
 use Rattle.esc_frame.specs.Bodies.{is_csi_body, kept_csi_params, has_more_csi_params}
 use Rattle.esc_frame.specs.Events.{Event}
@@ -34,23 +34,24 @@ use Rattle.esc_kitty.specs.Images.{image_of}
 use Rattle.esc_kitty.specs.Writable.{is_kept}
 use Rattle.esc_kitty.specs.declared.image.KittyImage.{KittyImage}
 use Rattle.std.specs.List.{list_all}
-use Rattle.esc_frame.proofs.SaysSequences.{body_of, one_csi}
+use Rattle.esc_frame.proofs.Emits.SequencesSay.{body_of, one_csi}
 use Rattle.esc_actions.proofs.Meanings.{meaning_more}
 use Rattle.esc_actions.specs.ControlCodes.{code_of}
 use Rattle.esc_actions.specs.LowerLaws.{LowerLaws}
 use Rattle.esc_actions.specs.Meaning.{meaning_within, values_from, yield_within}
-use Rattle.esc_actions.specs.Values.{Mode, Value, esc, csi, sixel, termcap, short as short_value, after, executed, given, imaged, lone, plain, in_sixel}
+use Rattle.esc_actions.specs.Values.{Mode, Value, esc, csi, sixel, termcap, short as short_value, mode_after, control_values, event_values, image_values, only_item, plain, in_sixel}
 use Rattle.esc_actions.specs.Values.{in_termcap, in_short, entered}
-use Rattle.esc_actions.specs.Values.{opened, taken, opened_gives, taken_gives, closed_gives}
-use Rattle.esc_actions.specs.Writable.{IsWritable, AreHandedOut, IsHandedOut, is_lone_control, is_opening}
+use Rattle.esc_actions.specs.Values.{mode_at_hook, mode_with_byte, hook_values, taken_gives, unhook_values}
+use Rattle.esc_actions.specs.Writable.{IsWritable, EmittedAreWritable, IsHandedOut, is_lone_control, is_opening}
 use Rattle.esc_actions.specs.declared.control_code.ControlCode.{ControlCode}
 
-hands_append : {A : Type 0} (vs ws : List (Value A)) → AreHandedOut vs → AreHandedOut ws
-    → AreHandedOut (vs ++ ws)
+hands_append : {A : Type 0} (vs ws : List (Value A)) → EmittedAreWritable vs → EmittedAreWritable ws
+    → EmittedAreWritable (vs ++ ws)
 hands_append [] ws h k = k
 hands_append (v ∷ vs) ws h k = (h.0, hands_append vs ws h.1 k)
 
-hands_after : {A : Type 0} (vs ws : List (Value A)) → AreHandedOut (vs ++ ws) → AreHandedOut ws
+hands_after : {A : Type 0} (vs ws : List (Value A)) → EmittedAreWritable (vs ++ ws)
+    → EmittedAreWritable ws
 hands_after [] ws h = h
 hands_after (v ∷ vs) ws h = hands_after vs ws h.1
 
@@ -103,7 +104,7 @@ executed_lone b c h k = elim (cases_lt b 128) [
 ]
 
 control_handed : (A : Type 0) (b : ℕ) (o : Option ControlCode) → code_of b ≡ o → IsFit (Execute b)
-    → AreHandedOut {A = A} (executed o)
+    → EmittedAreWritable {A = A} (control_values o)
 control_handed A b None e h = tt
 control_handed A b (Some c) e h =
     let P : ℕ → Type 0 = λ n. is_lone_control n ≡ true in
@@ -169,8 +170,8 @@ with_none f h o = (
 )
 
 esc_handed : {A : Type 0} (is : List ℕ) (f : ℕ) → AllOf is_intermediate is
-    → ends_escape (class_of f) ≡ true → is_opening (esc_of (lone is) f) ≡ false
-    → IsWritable {A = A} (esc (esc_of (lone is) f))
+    → ends_escape (class_of f) ≡ true → is_opening (esc_of (only_item is) f) ≡ false
+    → IsWritable {A = A} (esc (esc_of (only_item is) f))
 esc_handed [] f all h o = with_none f h o
 esc_handed (i ∷ []) f all h o = let q =
     intermediate_is i (and_parts (is_intermediate (class_of i)) true all).0 in
@@ -204,28 +205,29 @@ csi_writable A f v ends (text, (bytes, form, few), one) =
     )
 
 all_handed : (A : Type 0) (f : ℕ) (vs : List CsiValue) → ends_csi (class_of f) ≡ true
-    → ReadBack f vs → AreHandedOut {A = A} (map csi vs)
+    → ReadBack f vs → EmittedAreWritable {A = A} (map csi vs)
 all_handed A f [] ends h = tt
 all_handed A f (v ∷ vs) ends h = (λ whole. csi_writable A f v ends h.0, all_handed A f vs ends h.1)
 
 body_handed : (A : Type 0) (low : LowerLaws A) (x : List ℕ) (f : ℕ) (more : Bool)
     → has_more_csi_params x ≡ more → is_csi_body x ≡ true
     → ends_csi (class_of f) ≡ true
-    → AreHandedOut {A = A} (map csi (csi_of (kept_csi_params x) more f))
+    → EmittedAreWritable {A = A} (map csi (csi_of (kept_csi_params x) more f))
 body_handed A low x f true e form ends =
-    let P : List CsiValue → Type 0 = λ vs. AreHandedOut {A = A} (map csi vs) in
+    let P : List CsiValue → Type 0 = λ vs. EmittedAreWritable {A = A} (map csi vs) in
     subst P (sym (low.csi_truncated (kept_csi_params x) f)) (λ whole. absurd cc, tt)
 body_handed A low x f false e form ends =
     let few = few_are x e in
-    let P : List CsiParam → Type 0 = λ es. AreHandedOut {A = A} (map csi (csi_of es false f)) in
+    let P : List CsiParam → Type 0 = λ es. EmittedAreWritable {A = A} (map csi (csi_of es false f))
+    in
     subst P (sym (few_kept x few).0) (all_handed A f (csi_of (csi_params x) false f) ends
     (low.csi_back x f form few (csi_small f ends)))
 
 csi_handed : (A : Type 0) (low : LowerLaws A) (es : List CsiParam) (more : Bool) (f : ℕ)
     → IsFit (CsiDispatch es more f)
-    → AreHandedOut {A = A} (given None plain (CsiDispatch es more f))
+    → EmittedAreWritable {A = A} (event_values None plain (CsiDispatch es more f))
 csi_handed A low es more f (x, bytes, form, is, ends) =
-    let P : Event → Type 0 = λ e. AreHandedOut {A = A} (given None plain e) in
+    let P : Event → Type 0 = λ e. EmittedAreWritable {A = A} (event_values None plain e) in
     subst P (sym is) (body_handed A low x f (has_more_csi_params x) refl form ends)
 
 -- images
@@ -240,7 +242,7 @@ text_kept (b ∷ t) h =
     let one : is_kept b ≡ true = text_byte b k.0 in rw (one, text_kept t k.1) refl
 
 image_handed : (A : Type 0) (low : LowerLaws A) (t : List ℕ) (o : Option (KittyImage A))
-    → image_of t ≡ o → AllOf is_text t → AreHandedOut (imaged o)
+    → image_of t ≡ o → AllOf is_text t → EmittedAreWritable (image_values o)
 image_handed A low t None e h = tt
 image_handed A low t (Some i) e h = (λ _. low.image_writable t (text_kept t h) i e, tt)
 
@@ -261,13 +263,14 @@ put_more (c ∷ d) b h k =
 opened_fit : (A : Type 0) (low : LowerLaws A) (f : ℕ) (ps : List ℤ) (is : List ℕ) (more : Bool)
     (k : StringKind) → kind_of f is more ≡ k
     → IsFit (DcsHook f ps is more)
-    → IsFitMode (opened k f ps is)
+    → IsFitMode (mode_at_hook k f ps is)
 opened_fit A low f ps is more kind.Sixel e h = low.header_natural f ps is more h
 opened_fit A low f ps is more kind.Termcap e h = tt
 opened_fit A low f ps is more kind.Short e h = (more, h, e, refl)
 opened_fit A low f ps is more kind.Other e h = tt
 
-taken_fit : (m : Mode) (b : ℕ) → IsFitMode m → is_put (class_of b) ≡ true → IsFitMode (taken m b)
+taken_fit : (m : Mode) (b : ℕ) → IsFitMode m → is_put (class_of b) ≡ true
+    → IsFitMode (mode_with_byte m b)
 taken_fit plain b k h = tt
 taken_fit (in_sixel ps d) b k h = k
 taken_fit (in_termcap d) b k h = tt
@@ -275,7 +278,7 @@ taken_fit (in_short ps is f d) b (more, fit, short, put) h = (more, fit, short, 
 taken_fit entered b k h = tt
 
 after_fit : (A : Type 0) (low : LowerLaws A) (m : Mode) (e : Event) → IsFitMode m → IsFit e
-    → IsFitMode (after m e)
+    → IsFitMode (mode_after m e)
 after_fit A low m (Print c) k h = k
 after_fit A low m (Execute b) k h = k
 after_fit A low m (EscDispatch is more f) k h = k
@@ -290,7 +293,7 @@ after_fit A low m (ApcDispatch t) k h = k
 opened_handed : (A : Type 0) (low : LowerLaws A) (f : ℕ) (ps : List ℤ) (is : List ℕ) (more : Bool)
     (k : StringKind) → kind_of f is more ≡ k
     → IsFit (DcsHook f ps is more)
-    → AreHandedOut {A = A} (opened_gives k f ps is more)
+    → EmittedAreWritable {A = A} (hook_values k f ps is more)
 opened_handed A low f ps is more kind.Sixel e h = tt
 opened_handed A low f ps is more kind.Termcap e h = tt
 opened_handed A low f ps is more kind.Short e h = tt
@@ -302,7 +305,7 @@ unfolding class_of
 put_datum b h k = grind (arith, nat_tests)
 
 taken_handed : (A : Type 0) (m : Mode) (b : ℕ) → is_put (class_of b) ≡ true
-    → AreHandedOut {A = A} (taken_gives m b)
+    → EmittedAreWritable {A = A} (taken_gives m b)
 taken_handed A plain b h = tt
 taken_handed A (in_sixel ps d) b h = tt
 taken_handed A (in_termcap d) b h = tt
@@ -311,12 +314,12 @@ taken_handed A entered b h = (λ low. put_datum b h low, tt)
 
 -- what the end of a string gives, where it gives anything
 given_where : {A : Type 0} (v : Value A) (t : Bool) → IsHandedOut v
-    → AreHandedOut (if t then v ∷ [] else [])
+    → EmittedAreWritable (if t then v ∷ [] else [])
 given_where v true h = (h, tt)
 given_where v false h = tt
 
 closed_handed : (A : Type 0) (low : LowerLaws A) (limit : Option ℕ) (m : Mode) → IsFitMode m
-    → AreHandedOut {A = A} (closed_gives limit m)
+    → EmittedAreWritable {A = A} (unhook_values limit m)
 closed_handed A low limit plain k = tt
 closed_handed A low limit (in_sixel ps d) k =
     given_where (sixel (sixel_of ps (items d))) (is_within limit (length d)) (λ _.
@@ -329,7 +332,7 @@ closed_handed A low limit (in_short ps is f d) (more, fit, short, put) =
 closed_handed A low limit entered k = (λ _. tt, tt)
 
 event_handed : (A : Type 0) (low : LowerLaws A) (limit : Option ℕ) (m : Mode) (e : Event)
-    → IsFitMode m → IsFit e → AreHandedOut {A = A} (given limit m e)
+    → IsFitMode m → IsFit e → EmittedAreWritable {A = A} (event_values limit m e)
 event_handed A low limit m (Print c) k h = (λ _. h, tt)
 event_handed A low limit m (Execute b) k h = control_handed A b (code_of b) refl h
 event_handed A low limit m (EscDispatch is more f) k h = (esc_handed is f h.0 h.1, tt)
@@ -343,23 +346,23 @@ event_handed A low limit m (ApcDispatch t) k h = image_handed A low t (image_of 
 
 events_handed : (A : Type 0) (low : LowerLaws A) (limit : Option ℕ) (m : Mode) (es : List Event)
     → IsFitMode m → AreFit es
-    → AreHandedOut {A = A} (values_from limit m es)
+    → EmittedAreWritable {A = A} (values_from limit m es)
 events_handed A low limit m [] k h = tt
 events_handed A low limit m (e ∷ es) k h =
-    hands_append (given {A = A} limit m e) (values_from limit (after m e) es)
+    hands_append (event_values {A = A} limit m e) (values_from limit (mode_after m e) es)
     (event_handed A low limit m e k h.0)
-    (events_handed A low limit (after m e) es (after_fit A low m e k h.0) h.1)
+    (events_handed A low limit (mode_after m e) es (after_fit A low m e k h.0) h.1)
 
 pub handed_out : (A : Type 0) → LowerLaws A → (limit : Option ℕ) (s : List ℕ)
-    → AreHandedOut {A = A} (meaning_within limit s)
+    → EmittedAreWritable {A = A} (meaning_within limit s)
 unfolding meaning_within
 handed_out A low limit s =
     events_handed A low limit plain (events_within limit s) tt (low.events_fit limit s)
 
 pub yield_handed : (A : Type 0)
-    → ((limit : Option ℕ) (s : List ℕ) → AreHandedOut {A = A} (meaning_within limit s))
-    → (limit : Option ℕ) (s b : List ℕ) → AreHandedOut {A = A} (yield_within limit s b)
+    → ((limit : Option ℕ) (s : List ℕ) → EmittedAreWritable {A = A} (meaning_within limit s))
+    → (limit : Option ℕ) (s b : List ℕ) → EmittedAreWritable {A = A} (yield_within limit s b)
 yield_handed A handed limit s b =
-    let P : List (Value A) → Type 0 = λ x. AreHandedOut x in
+    let P : List (Value A) → Type 0 = λ x. EmittedAreWritable x in
     hands_after (meaning_within limit s) (yield_within limit s b)
     (subst P (sym (meaning_more limit s b)) (handed limit (s ++ b)))

@@ -6,13 +6,13 @@ use Rattle.esc_actions.specs.Meaning.{meaning}
 use Rattle.esc_actions.specs.Readings.{MeansItsCut}
 use Rattle.esc_actions.specs.Texts.{list_text, normal}
 use Rattle.esc_actions.specs.Values.{Value}
-use Rattle.esc_actions.specs.Writable.{AreHandedOut, AreWritable}
+use Rattle.esc_actions.specs.Writable.{EmittedAreWritable, AreWritable}
 
 module _ {A : Type 0}
     (has_cut : (s : List ℕ) → (gs : List Segment) × IsCut s gs)
     (one_cut : (s : List ℕ) (gs hs : List Segment) → IsCut s gs → IsCut s hs → gs ≡ hs)
     (of_the_cut : MeansItsCut A)
-    (handed_out : (s : List ℕ) → AreHandedOut {A = A} (meaning s))
+    (handed_out : (s : List ℕ) → EmittedAreWritable {A = A} (meaning s))
     (back : (vs : List (Value A)) → AreWritable vs → meaning (list_text vs) ≡ normal vs)
     (same : (vs : List (Value A)) → AreWritable vs → list_text (normal vs) ≡ list_text vs)
   where

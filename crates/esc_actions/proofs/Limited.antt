@@ -5,7 +5,7 @@ use Rattle.std.proofs.lemmas.List.{append-nil}
 use Rattle.std.specs.List.{list_all}
 use Rattle.esc_values.specs.Clear.{parts_of}
 use Rattle.esc_frame.specs.Bodies.{is_csi_body, is_dcs_header}
-use Rattle.esc_frame.specs.Classes.{is_c0, is_put, is_text, those, strip}
+use Rattle.esc_frame.specs.Classes.{is_c0, is_put, is_text, bytes_of_class, without_noise}
 use Rattle.esc_frame.specs.Counts.{AreWithin}
 use Rattle.esc_frame.specs.Events.{Event}
 use Rattle.esc_frame.specs.Events.Event.{Print, Execute, EscDispatch, CsiDispatch, OscDispatch, DcsHook, DcsPut, DcsUnhook, ApcDispatch}
@@ -21,7 +21,7 @@ use Rattle.esc_actions.proofs.Readings.{closes, opener_keeps}
 use Rattle.esc_actions.specs.Limited.{IsDataWithin, AreDataWithin, IsWithin}
 use Rattle.esc_actions.specs.Meaning.{meaning, meaning_within, mode_from, values_from}
 use Rattle.esc_actions.specs.Texts.{list_text, normal}
-use Rattle.esc_actions.specs.Values.{Mode, Value, plain, in_sixel, in_termcap, in_short, entered, given, after, closed_gives, data_count}
+use Rattle.esc_actions.specs.Values.{Mode, Value, plain, in_sixel, in_termcap, in_short, entered, event_values, mode_after, unhook_values, data_count}
 use Rattle.esc_actions.specs.Writable.{AreWritable}
 
 none_kept : (t : Bool) (n : ℕ) → n ≡ 0 → (if t then n else n) ≡ 0
@@ -44,7 +44,7 @@ goes_on (DcsPut b) = true
 goes_on (ApcDispatch t) = true
 
 given_same : {A : Type 0} (limit : Option ℕ) (m : Mode) (e : Event) → goes_on e ≡ true
-    → given {A = A} limit m e ≡ given None m e
+    → event_values {A = A} limit m e ≡ event_values None m e
 given_same limit m DcsUnhook h = absurd cc
 given_same limit m (Print c) h = refl
 given_same limit m (Execute b) h = refl
@@ -60,12 +60,12 @@ all_same : {A : Type 0} (limit : Option ℕ) (m : Mode) (es : List Event) → li
 all_same limit m [] h = refl
 all_same limit m (e ∷ es) h =
     let q = and_parts (goes_on e) (list_all goes_on es) h in
-    ap (λ x. x ++ values_from limit (after m e) es) (given_same limit m e q.0)
-    ∙ ap (λ x. given None m e ++ x) (all_same limit (after m e) es q.1)
+    ap (λ x. x ++ values_from limit (mode_after m e) es) (given_same limit m e q.0)
+    ∙ ap (λ x. event_values None m e ++ x) (all_same limit (mode_after m e) es q.1)
 
 -- the end of a string whose data is within the limit
 closed_same : {A : Type 0} (limit : Option ℕ) (m : Mode) → is_within limit (data_count m) ≡ true
-    → closed_gives {A = A} limit m ≡ closed_gives None m
+    → unhook_values {A = A} limit m ≡ unhook_values None m
 closed_same limit plain h = refl
 closed_same limit (in_sixel ps d) h = rw h refl
 closed_same limit (in_termcap d) h = rw h refl
@@ -87,7 +87,7 @@ both_go_on (e ∷ es) fs h k = let q = and_parts (goes_on e) (list_all goes_on e
     rw (q.0, both_go_on es fs q.1 k) refl
 
 opener_goes_on : (o : Opener) → list_all goes_on (opener_events o) ≡ true
-opener_goes_on (Long n) = executes_go_on (those is_c0 n)
+opener_goes_on (Long n) = executes_go_on (bytes_of_class is_c0 n)
 opener_goes_on Raw = refl
 opener_goes_on Pair = refl
 
@@ -106,7 +106,7 @@ ended_same {A = A} limit es fs h k keeps within =
     let m = mode_from plain fs in
     let tail : values_from {A = A} limit plain (fs ++ DcsUnhook ∷ [])
     ≡ values_from None plain (fs ++ DcsUnhook ∷ []) =
-    values_append limit plain fs (DcsUnhook ∷ []) ∙ ap (λ x. x ++ (closed_gives limit m ++ []))
+    values_append limit plain fs (DcsUnhook ∷ []) ∙ ap (λ x. x ++ (unhook_values limit m ++ []))
     (all_same limit plain fs k)
     ∙ ap (λ x. values_from None plain fs ++ (x ++ [])) (closed_same limit m within)
     ∙ sym (values_append None plain fs (DcsUnhook ∷ [])) in
@@ -153,35 +153,37 @@ segment_same limit (HighControl p b) finished h = refl
 segment_same limit (Terminator p b) finished h = refl
 segment_same limit (Escape x f) finished h =
     all_same limit plain (events_of (Escape x f) finished)
-    (both_go_on (executes x) (escape_event (strip x) f ∷ []) (executes_go_on (those is_c0 x))
+    (both_go_on (executes x) (escape_event (without_noise x) f ∷ [])
+    (executes_go_on (bytes_of_class is_c0 x))
     refl)
 segment_same limit (Csi o x f) finished h =
     all_same limit plain (events_of (Csi o x f) finished)
-    (both_go_on (opener_events o ++ executes x) (csi_events (strip x) f)
+    (both_go_on (opener_events o ++ executes x) (csi_events (without_noise x) f)
     (both_go_on (opener_events o) (executes x) (opener_goes_on o)
-    (executes_go_on (those is_c0 x)))
-    (one_goes_on (csi_event (strip x) f) (is_csi_body (strip x)) refl))
+    (executes_go_on (bytes_of_class is_c0 x)))
+    (one_goes_on (csi_event (without_noise x) f) (is_csi_body (without_noise x)) refl))
 segment_same limit (Osc o ps e) finished h =
     let emitted = OscDispatch (parts_of (text_of ps)) in
     all_same limit plain (events_of (Osc o ps e) finished)
     (both_go_on (opener_events o) (if finished then emitted ∷ [] else []) (opener_goes_on o)
     (one_goes_on emitted finished refl))
 segment_same limit (Dcs o x f d) finished h =
-    dcs_same limit o (hook_event (strip x) f ∷ puts d) (is_dcs_header (strip x)) finished
-    (puts_go_on (those is_put d)) h
+    dcs_same limit o (hook_event (without_noise x) f ∷ puts d) (is_dcs_header (without_noise x))
+    finished
+    (puts_go_on (bytes_of_class is_put d)) h
 segment_same limit (Apc o d) finished h =
-    let emitted = ApcDispatch (those is_text d) in
+    let emitted = ApcDispatch (bytes_of_class is_text d) in
     all_same limit plain (events_of (Apc o d) finished)
     (both_go_on (opener_events o) (if finished then emitted ∷ [] else []) (opener_goes_on o)
     (one_goes_on emitted finished refl))
 segment_same limit (Ignored k o d) finished h =
     all_same limit plain (opener_events o) (opener_goes_on o)
 segment_same limit (CutEscape x) finished h =
-    all_same limit plain (executes x) (executes_go_on (those is_c0 x))
+    all_same limit plain (executes x) (executes_go_on (bytes_of_class is_c0 x))
 segment_same limit (CutCsi o x) finished h =
     all_same limit plain (opener_events o ++ executes x)
     (both_go_on (opener_events o) (executes x) (opener_goes_on o)
-    (executes_go_on (those is_c0 x)))
+    (executes_go_on (bytes_of_class is_c0 x)))
 segment_same limit (CutDcs o x) finished h =
     all_same limit plain (opener_events o) (opener_goes_on o)
 

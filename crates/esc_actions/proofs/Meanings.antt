@@ -3,23 +3,23 @@ use Rattle.std.proofs.Common.{◌≡◌, ℕ, List, [], ◌∷◌, ◌++◌, len
 use Rattle.std.proofs.Math.Seq.{drop-append_seam}
 use Rattle.esc_frame.specs.Events.{Event}
 use Rattle.esc_frame.specs.Stream.{events_within, added_within}
-use Rattle.esc_frame.proofs.Streams.{events_more}
+use Rattle.esc_frame.proofs.Emits.EventsAreTheCuts.{events_more}
 use Rattle.esc_actions.specs.Meaning.{meaning_within, mode_from, values_from, yield_within}
-use Rattle.esc_actions.specs.Values.{Mode, Value, after, given, plain}
+use Rattle.esc_actions.specs.Values.{Mode, Value, mode_after, event_values, plain}
 
 pub mode_append : (m : Mode) (es fs : List Event)
     → mode_from m (es ++ fs) ≡ mode_from (mode_from m es) fs
 mode_append m [] fs = refl
-mode_append m (e ∷ es) fs = mode_append (after m e) es fs
+mode_append m (e ∷ es) fs = mode_append (mode_after m e) es fs
 
 pub values_append : {A : Type 0} (limit : Option ℕ) (m : Mode) (es fs : List Event)
     → values_from {A = A} limit m (es ++ fs) ≡ values_from limit m es
     ++ values_from limit (mode_from m es) fs
 values_append limit m [] fs = refl
 values_append limit m (e ∷ es) fs =
-    ap (λ x. given limit m e ++ x) (values_append limit (after m e) es fs)
-    ∙ sym (append_assoc (given limit m e) (values_from limit (after m e) es)
-    (values_from limit (mode_from (after m e) es) fs))
+    ap (λ x. event_values limit m e ++ x) (values_append limit (mode_after m e) es fs)
+    ∙ sym (append_assoc (event_values limit m e) (values_from limit (mode_after m e) es)
+    (values_from limit (mode_from (mode_after m e) es) fs))
 
 -- what is unfinished after s and b, and after nothing
 pub mode_more : (limit : Option ℕ) (s b : List ℕ)

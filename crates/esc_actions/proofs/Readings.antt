@@ -1,10 +1,10 @@
 -- Nothing is unfinished between two segments, so a stream means the readings of its cut.
 use Rattle.std.proofs.Common.{ℕ, ◌≡◌, Bool, true, false, if◌then◌else◌, List, [], ◌∷◌, ◌++◌, map, length, Option, None, ◌⊎◌, inl, inr, refl, ap, sym, ◌∙◌, append-nil}
 use Rattle.esc_frame.specs.Bodies.{is_csi_body}
-use Rattle.esc_frame.specs.Classes.{is_c0, is_text, those, strip}
+use Rattle.esc_frame.specs.Classes.{is_c0, is_text, bytes_of_class, without_noise}
 use Rattle.esc_frame.specs.Events.{Event}
 use Rattle.esc_frame.specs.Events.Event.{Execute, OscDispatch, DcsUnhook, ApcDispatch}
-use Rattle.esc_frame.specs.Segments.{Segment, AreSegments, IsCut, HasEventsWithin, Opener, Piece, Ending, events_of_within, events_of_cut_within, ends_itself, is_finished, joined, opener_events}
+use Rattle.esc_frame.specs.Segments.{Segment, AreSegments, IsCut, HasEventsWithin, Opener, OscUnit, Ending, events_of_within, events_of_cut_within, ends_itself, is_finished, joined_bytes, opener_events}
 use Rattle.esc_frame.specs.Segments.{executes, csi_events, hook_event, puts, text_of}
 use Rattle.esc_frame.specs.Segments.Ending.{Open, Rung, Waits}
 use Rattle.esc_frame.specs.Counts.{kept_of, kept_of_cut}
@@ -16,18 +16,18 @@ use Rattle.esc_frame.specs.Segments.Segment.{CutCsi, CutDcs}
 use Rattle.esc_frame.specs.Fits.{IsOneSegment}
 use Rattle.esc_frame.specs.Leads.{AreFinished}
 use Rattle.esc_frame.specs.Stream.{events_within, IsAtGround}
-use Rattle.esc_frame.proofs.Cuts.{itself}
+use Rattle.esc_frame.proofs.Cut.CutExists.{itself}
 use Rattle.esc_actions.proofs.Meanings.{mode_append, values_append}
 use Rattle.esc_actions.specs.Meaning.{meaning_within, mode_from, values_from}
 use Rattle.esc_actions.specs.Readings.{reading_within, readings_of_each, readings_within, MeansItsCut, MeansItsSegments}
-use Rattle.esc_actions.specs.Values.{Mode, plain, after}
+use Rattle.esc_actions.specs.Values.{Mode, plain, mode_after}
 
 pub executes_keep : (m : Mode) (bs : List ℕ) → mode_from m (map Execute bs) ≡ m
 executes_keep m [] = refl
 executes_keep m (b ∷ bs) = executes_keep m bs
 
 pub opener_keeps : (m : Mode) (o : Opener) → mode_from m (opener_events o) ≡ m
-opener_keeps m (Long n) = executes_keep m (those is_c0 n)
+opener_keeps m (Long n) = executes_keep m (bytes_of_class is_c0 n)
 opener_keeps m Raw = refl
 opener_keeps m Pair = refl
 
@@ -46,7 +46,7 @@ unhooked : (m : Mode) (es : List Event) → mode_from m (es ++ DcsUnhook ∷ [])
 unhooked m es = mode_append m es (DcsUnhook ∷ [])
 
 -- an event of a whole string, where it is within the limit
-emitted_keeps : (e : Event) (t : Bool) → after plain e ≡ plain
+emitted_keeps : (e : Event) (t : Bool) → mode_after plain e ≡ plain
     → mode_from plain (if t then e ∷ [] else []) ≡ plain
 emitted_keeps e true h = h
 emitted_keeps e false h = refl
@@ -67,26 +67,26 @@ closes limit (Control b) = refl
 closes limit (HighControl p b) = refl
 closes limit (Terminator p b) = refl
 closes limit (Escape x f) =
-    after_kept plain (executes x) _ plain (executes_keep plain (those is_c0 x)) refl
+    after_kept plain (executes x) _ plain (executes_keep plain (bytes_of_class is_c0 x)) refl
 closes limit (Csi o x f) =
-    after_kept plain (opener_events o ++ executes x) (csi_events (strip x) f) plain
+    after_kept plain (opener_events o ++ executes x) (csi_events (without_noise x) f) plain
     (after_kept plain (opener_events o) (executes x) plain (opener_keeps plain o)
-    (executes_keep plain (those is_c0 x)))
-    (csi_keeps (strip x) f (is_csi_body (strip x)) refl)
+    (executes_keep plain (bytes_of_class is_c0 x)))
+    (csi_keeps (without_noise x) f (is_csi_body (without_noise x)) refl)
 closes limit (Osc o ps e) =
     after_kept plain (opener_events o) _ plain (opener_keeps plain o)
     (emitted_keeps (OscDispatch (parts_of (text_of ps)))
     (is_within limit (length (text_of ps))) refl)
 closes limit (Dcs o x f d) = after_kept plain (opener_events o) _ plain (opener_keeps plain o)
-    (dcs_closes (strip x) d f (is_read limit (strip x)))
+    (dcs_closes (without_noise x) d f (is_read limit (without_noise x)))
 closes limit (Apc o d) =
     after_kept plain (opener_events o) _ plain (opener_keeps plain o)
-    (emitted_keeps (ApcDispatch (those is_text d))
-    (is_within limit (length (those is_text d))) refl)
+    (emitted_keeps (ApcDispatch (bytes_of_class is_text d))
+    (is_within limit (length (bytes_of_class is_text d))) refl)
 closes limit (Ignored k o d) = opener_keeps plain o
-closes limit (CutEscape x) = executes_keep plain (those is_c0 x)
+closes limit (CutEscape x) = executes_keep plain (bytes_of_class is_c0 x)
 closes limit (CutCsi o x) = after_kept plain (opener_events o) (executes x) plain
-    (opener_keeps plain o) (executes_keep plain (those is_c0 x))
+    (opener_keeps plain o) (executes_keep plain (bytes_of_class is_c0 x))
 closes limit (CutDcs o x) = opener_keeps plain o
 
 values_of_cut : {A : Type 0} (limit : Option ℕ) (gs : List Segment)
@@ -117,7 +117,7 @@ cut_closes limit (g ∷ h ∷ gs) (shape, finished, rest) =
     ∙ ap (λ m. mode_from m (events_of_cut_within limit (h ∷ gs))) (closes limit g)
     ∙ cut_closes limit (h ∷ gs) rest
 
-last_osc : (limit : Option ℕ) (o : Opener) (ps : List Piece) (e : Ending)
+last_osc : (limit : Option ℕ) (o : Opener) (ps : List OscUnit) (e : Ending)
     → mode_from plain (events_of_within limit (Osc o ps e) (ends_itself (Osc o ps e))) ≡ plain
 last_osc limit o ps Rung = closes limit (Osc o ps Rung)
 last_osc limit o ps Open = after_kept plain (opener_events o) [] plain (opener_keeps plain o) refl
@@ -202,9 +202,9 @@ same_readings limit (g ∷ []) each =
     ap (reading_within limit g) (same_end g) ∙ sym (append-nil (reading_within limit g _))
 same_readings limit (g ∷ h ∷ gs) (shape, finished, each) =
     ap (λ b. reading_within limit g b ++ readings_within limit (h ∷ gs)) (sym finished)
-    ∙ ap (λ vs. reading_within limit g (is_finished g (joined (h ∷ gs))) ++ vs)
+    ∙ ap (λ vs. reading_within limit g (is_finished g (joined_bytes (h ∷ gs))) ++ vs)
     (same_readings limit (h ∷ gs) each)
 
 pub meaning_by_segments : (A : Type 0) → MeansItsCut A → MeansItsSegments A
 meaning_by_segments A means limit gs cut =
-    means limit (joined gs) gs cut ∙ same_readings limit gs cut.each
+    means limit (joined_bytes gs) gs cut ∙ same_readings limit gs cut.each

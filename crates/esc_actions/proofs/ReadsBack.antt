@@ -23,7 +23,7 @@ use Rattle.esc_device.specs.declared.kind.StringKind.TheVariants as kind
 use Rattle.esc_device.specs.declared.short.ShortDeviceControl.{ShortDeviceControl}
 use Rattle.esc_sixel.specs.Writable.{IsWritable as IsWritableSixel}
 use Rattle.esc_sixel.specs.declared.sixel.Sixel.{Sixel}
-use Rattle.esc_tcap.specs.Names.{names_text, AreWritable as AreWritableNames}
+use Rattle.xtgettcap.specs.Names.{names_text, AreWritable as AreWritableNames}
 use Rattle.esc_frame.specs.Classes.{class_of, AllOf, is_control, is_c1, is_text}
 use Rattle.esc_frame.specs.Events.{Event}
 use Rattle.esc_frame.specs.Events.Event.{Print, Execute, EscDispatch, OscDispatch, DcsHook, ApcDispatch}
@@ -43,10 +43,10 @@ use Rattle.esc_actions.specs.ControlCodes.{code_number}
 use Rattle.esc_actions.specs.LowerLaws.{LowerLaws}
 use Rattle.esc_actions.specs.Meaning.{meaning, meaning_within, mode_from, values_from, Reads}
 use Rattle.esc_actions.specs.Texts.{value_text, whole_text, is_string, is_terminator, terminator, begins_terminator, text_after, texts_after, list_text}
-use Rattle.esc_actions.specs.Texts.{spelled}
+use Rattle.esc_actions.specs.Texts.{spelled_values}
 use Rattle.esc_actions.specs.Texts.{normal}
-use Rattle.esc_actions.specs.Values.{Value, print, string, control, esc, csi, osc, kitty, sixel, termcap, short, enter, datum, exit, executed, imaged, plain}
-use Rattle.esc_actions.specs.Values.{Mode, in_sixel, in_termcap, in_short, after, given, taken, taken_gives, closed_gives, opened, opened_gives}
+use Rattle.esc_actions.specs.Values.{Value, print, string, control, esc, csi, osc, kitty, sixel, termcap, short, enter, datum, exit, control_values, image_values, plain}
+use Rattle.esc_actions.specs.Values.{Mode, in_sixel, in_termcap, in_short, mode_after, event_values, mode_with_byte, taken_gives, unhook_values, mode_at_hook, hook_values}
 use Rattle.esc_actions.specs.Writable.{IsWritable, AreWritable, AreWritableFrom, is_lone_control, is_within, stays_within}
 use Rattle.esc_actions.specs.declared.control_code.ControlCode.{ControlCode}
 
@@ -118,7 +118,7 @@ encode_high b l h =
 
 executes : {A : Type 0} (c : ControlCode)
     → values_from {A = A} None plain (Execute (code_number c) ∷ []) ≡ control c ∷ []
-executes c = ap (λ o. executed o ++ []) (code_of-code_number c)
+executes c = ap (λ o. control_values o ++ []) (code_of-code_number c)
 
 reads_control : {A : Type 0} (low : LowerLaws A) (c : ControlCode)
     → is_lone_control (code_number c) ≡ true
@@ -138,7 +138,7 @@ reads_control {A = A} low c h =
 -- what the text of one value means by itself: its characters, and after a string action the
 -- terminator
 abbrev pub meant : {A : Type 0} → Value A → List (Value A)
-meant v = spelled v ++ (if is_string v then terminator ∷ [] else [])
+meant v = spelled_values v ++ (if is_string v then terminator ∷ [] else [])
 
 reads_osc : {A : Type 0} (low : LowerLaws A) (c : OperatingSystemCommand A) → IsWritableCommand c
     → Reads (value_text (osc c)) (osc c ∷ terminator ∷ [])
@@ -170,28 +170,28 @@ reads_kitty low i h =
     reads_by ((0x1b ∷ 0x5f ∷ t) ++ 0x1b ∷ 0x5c ∷ []) (whole_text (kitty i))
     (values_from None plain (ApcDispatch t ∷ EscDispatch [] false 0x5c ∷ []))
     (kitty i ∷ terminator ∷ [])
-    refl (ap (λ o. imaged o ++ terminator ∷ []) back.1)
+    refl (ap (λ o. image_values o ++ terminator ∷ []) back.1)
     (reads_says ((0x1b ∷ 0x5f ∷ t) ++ 0x1b ∷ 0x5c ∷ []) (ApcDispatch t ∷ EscDispatch [] false 0x5c
     ∷ []) refl
     (low.application t (kept_text t back.0)))
 
 -- strings that are given at their end: what is kept of the data gives this one value
 module _ (kept : List ℕ → Mode) (keeps : (d : List ℕ) (b : ℕ)
-    → taken (kept d) b ≡ kept (d ++ b ∷ [])) where
+    → mode_with_byte (kept d) b ≡ kept (d ++ b ∷ [])) where
   kept_gives : {A : Type 0} (hook : Event) (d : List ℕ) (v : Value A)
-      → given {A = A} None plain hook ≡ [] → after plain hook ≡ kept []
+      → event_values {A = A} None plain hook ≡ [] → mode_after plain hook ≡ kept []
       → ((y : List ℕ) (b : ℕ) → taken_gives {A = A} (kept y) b ≡ [])
-      → closed_gives None (kept d) ≡ v ∷ []
+      → unhook_values None (kept d) ≡ v ∷ []
       → values_from None plain (string_events hook d) ≡ v ∷ terminator ∷ []
   kept_gives hook d v none opens quiet closed =
       string_gives hook d
       ∙ rw (none, opens, puts_quiet kept keeps quiet d [], puts_kept kept keeps d [], closed) refl
 
   reads_kept : {A : Type 0} (t d : List ℕ) (v : Value A) (hook : Event)
-      → Says t (string_events hook d) → given {A = A} None plain hook ≡ []
-      → after plain hook ≡ kept []
+      → Says t (string_events hook d) → event_values {A = A} None plain hook ≡ []
+      → mode_after plain hook ≡ kept []
       → ((y : List ℕ) (b : ℕ) → taken_gives {A = A} (kept y) b ≡ [])
-      → closed_gives None (kept d) ≡ v ∷ []
+      → unhook_values None (kept d) ≡ v ∷ []
       → Reads t (v ∷ terminator ∷ [])
   reads_kept t d v hook says none opens quiet closed =
       reads_by t t (values_from None plain (string_events hook d)) (v ∷ terminator ∷ []) refl
@@ -226,8 +226,8 @@ reads_short {A = A} low s h =
     reads_kept (in_short s.params s.intermediates s.byte) (λ x b. refl) (value_text (short s))
     s.content (short s)
     (DcsHook s.byte s.params s.intermediates false) (low.short_says s h)
-    (ap (λ x. opened_gives {A = A} x s.byte s.params s.intermediates false) k)
-    (ap (λ x. opened x s.byte s.params s.intermediates) k) (λ x b. refl) refl
+    (ap (λ x. hook_values {A = A} x s.byte s.params s.intermediates false) k)
+    (ap (λ x. mode_at_hook x s.byte s.params s.intermediates) k) (λ x b. refl) refl
 
 -- a mode, its bytes and its end
 group_gives : {A : Type 0} (e : EnterDeviceControlMode A) (d : List ℕ)

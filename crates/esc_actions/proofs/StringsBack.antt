@@ -7,11 +7,11 @@ use Rattle.esc_frame.specs.Events.Event.{EscDispatch, DcsPut, DcsUnhook}
 use Rattle.esc_actions.proofs.Meanings.{mode_append, values_append}
 use Rattle.esc_actions.specs.Meaning.{mode_from, values_from}
 use Rattle.esc_actions.specs.Texts.{terminator}
-use Rattle.esc_actions.specs.Values.{Mode, Value, plain, entered, after, given, taken, taken_gives, closed_gives, datum}
+use Rattle.esc_actions.specs.Values.{Mode, Value, plain, entered, mode_after, event_values, mode_with_byte, taken_gives, unhook_values, datum}
 
 -- what bytes of data make of what is unfinished, where each is kept and gives nothing
 module _ (kept : List ℕ → Mode) (keeps : (d : List ℕ) (b : ℕ)
-    → taken (kept d) b ≡ kept (d ++ b ∷ [])) where
+    → mode_with_byte (kept d) b ≡ kept (d ++ b ∷ [])) where
   pub puts_kept : (d x : List ℕ) → mode_from (kept x) (map DcsPut d) ≡ kept (x ++ d)
   puts_kept [] x = ap kept (sym (append-nil x))
   puts_kept (b ∷ d) x = ap (λ m. mode_from m (map DcsPut d)) (keeps x b) ∙ puts_kept d (x ++ b ∷ [])
@@ -22,7 +22,7 @@ module _ (kept : List ℕ → Mode) (keeps : (d : List ℕ) (b : ℕ)
       → values_from {A = A} None (kept x) (map DcsPut d) ≡ []
   puts_quiet quiet [] x = refl
   puts_quiet quiet (b ∷ d) x =
-      ap (λ v. v ++ values_from None (taken (kept x) b) (map DcsPut d)) (quiet x b)
+      ap (λ v. v ++ values_from None (mode_with_byte (kept x) b) (map DcsPut d)) (quiet x b)
       ∙ ap (λ m. values_from None m (map DcsPut d)) (keeps x b) ∙ puts_quiet quiet d (x ++ b ∷ [])
 
 -- in a mode each is given at once
@@ -44,8 +44,9 @@ string_closes hook d =
 -- and gives what the header gives, what the data gives, and what the end gives
 pub string_gives : {A : Type 0} (hook : Event) (d : List ℕ)
     → values_from {A = A} None plain (string_events hook d)
-    ≡ ((given None plain hook ++ values_from None (after plain hook) (map DcsPut d)) ++
-    (closed_gives None (mode_from (after plain hook) (map DcsPut d)) ++ [])) ++ terminator ∷ []
+    ≡ ((event_values None plain hook ++ values_from None (mode_after plain hook) (map DcsPut d)) ++
+    (unhook_values None (mode_from (mode_after plain hook) (map DcsPut d)) ++ [])) ++ terminator
+    ∷ []
 string_gives hook d =
     values_append None plain ((hook ∷ map DcsPut d) ++ DcsUnhook ∷ []) (EscDispatch [] false 0x5c
     ∷ [])

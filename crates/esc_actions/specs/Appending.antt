@@ -10,10 +10,10 @@ is_characters (string t) = true
 is_characters v = false
 
 -- a value after another: a character joins a character or a string of them, as one string
-abbrev pub joined : {A : Type 0} → Value A → Value A → List (Value A)
-joined (print c) (print d) = string (encode_utf8 c ++ encode_utf8 d) ∷ []
-joined (string t) (print d) = string (t ++ encode_utf8 d) ∷ []
-joined v w = v ∷ w ∷ []
+abbrev pub joined_values : {A : Type 0} → Value A → Value A → List (Value A)
+joined_values (print c) (print d) = string (encode_utf8 c ++ encode_utf8 d) ∷ []
+joined_values (string t) (print d) = string (t ++ encode_utf8 d) ∷ []
+joined_values v w = v ∷ w ∷ []
 
 -- whether characters come last in a list
 abbrev pub ends_in_characters : {A : Type 0} → List (Value A) → Bool
@@ -22,15 +22,15 @@ ends_in_characters (v ∷ []) = is_characters v
 ends_in_characters (v ∷ u ∷ vs) = ends_in_characters (u ∷ vs)
 
 -- a list with a value at its end
-abbrev pub appended : {A : Type 0} → List (Value A) → Value A → List (Value A)
-appended [] w = w ∷ []
-appended (v ∷ []) w = joined v w
-appended (v ∷ u ∷ vs) w = v ∷ appended (u ∷ vs) w
+abbrev pub appended_list : {A : Type 0} → List (Value A) → Value A → List (Value A)
+appended_list [] w = w ∷ []
+appended_list (v ∷ []) w = joined_values v w
+appended_list (v ∷ u ∷ vs) w = v ∷ appended_list (u ∷ vs) w
 
 -- a list with these values at its end, each appended to what the ones before it made
 abbrev pub appended_all : {A : Type 0} → List (Value A) → List (Value A) → List (Value A)
 appended_all us [] = us
-appended_all us (v ∷ vs) = appended_all (appended us v) vs
+appended_all us (v ∷ vs) = appended_all (appended_list us v) vs
 
 -- a value and those after it, where it takes in the characters that directly follow it
 abbrev pub gathered_from : {A : Type 0} → Value A → List (Value A) → List (Value A)
@@ -42,6 +42,6 @@ gathered_from v (w ∷ vs) = v ∷ gathered_from w vs
 
 -- these values, where each run of characters, and each string with those that directly follow it,
 -- is one string
-abbrev pub gathered : {A : Type 0} → List (Value A) → List (Value A)
-gathered [] = []
-gathered (v ∷ vs) = gathered_from v vs
+abbrev pub gathered_values : {A : Type 0} → List (Value A) → List (Value A)
+gathered_values [] = []
+gathered_values (v ∷ vs) = gathered_from v vs

@@ -10,12 +10,13 @@ abbrev pub one_based : OneBased → ℕ
 one_based o = non_zero_u32_get o.value
 
 -- the coordinate that a number names: 0 names `default`, and a number of 32 bits itself
-abbrev pub numbered : ℕ → ℕ → Option ℕ
-numbered default n = if n == 0 then Some default else if nat_lt n (2 ^ 32) then Some n else None
+abbrev pub coordinate_at : ℕ → ℕ → Option ℕ
+coordinate_at default n = if n == 0 then Some default else if nat_lt n (2 ^ 32) then Some n
+    else None
 
 -- the coordinate that a parameter names
 abbrev pub coordinate : ℕ → CsiParam → Option ℕ
-coordinate default (Integer (pos n)) = numbered default n
+coordinate default (Integer (pos n)) = coordinate_at default n
 coordinate default (Integer _) = None
 coordinate default (P b) = None
 

@@ -30,7 +30,7 @@ use Rattle.esc_sixel.specs.Items.{items}
 use Rattle.esc_sixel.specs.Meaning.{sixel_of}
 use Rattle.esc_sixel.specs.Writable.{AreNatural, IsWritable as IsWritableSixel}
 use Rattle.esc_sixel.specs.declared.sixel.Sixel.{Sixel}
-use Rattle.esc_tcap.specs.Names.{names_of, AreWritable as AreWritableNames}
+use Rattle.xtgettcap.specs.Names.{names_of, AreWritable as AreWritableNames}
 
 pub record LowerLaws (A : Type 0) : Type 0 where
   -- what texts say, whatever follows them

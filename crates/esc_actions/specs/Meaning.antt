@@ -3,18 +3,18 @@ use Rattle.std.specs.Prelude.{ℕ, ◌≡◌, ◌≢◌, ◌⊎◌, List, [], �
 use Rattle.esc_frame.specs.Events.{Event}
 use Rattle.esc_frame.specs.Memory.{MayTake}
 use Rattle.esc_frame.specs.Stream.{events_within}
-use Rattle.esc_actions.specs.Values.{Value, Mode, plain, after, given}
+use Rattle.esc_actions.specs.Values.{Value, Mode, plain, mode_after, event_values}
 
 -- what events give, one after another, where m is unfinished before them and no more than the limit
 -- is kept of a string's data
 abbrev pub values_from : {A : Type 0} → Option ℕ → Mode → List Event → List (Value A)
 values_from limit m [] = []
-values_from limit m (e ∷ es) = given limit m e ++ values_from limit (after m e) es
+values_from limit m (e ∷ es) = event_values limit m e ++ values_from limit (mode_after m e) es
 
 -- what is unfinished after them
 abbrev pub mode_from : Mode → List Event → Mode
 mode_from m [] = m
-mode_from m (e ∷ es) = mode_from (after m e) es
+mode_from m (e ∷ es) = mode_from (mode_after m e) es
 
 -- the values of the events of the stream's one cut, the last segment of which may be unfinished,
 -- where no more than the limit is kept of a segment

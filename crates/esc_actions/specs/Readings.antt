@@ -1,6 +1,6 @@
 -- What segments mean, each by itself.
 use Rattle.std.specs.Prelude.{ℕ, ◌≡◌, Bool, true, List, [], ◌∷◌, ◌++◌, Option, None}
-use Rattle.esc_frame.specs.Segments.{Segment, IsCut, events_of_within, ends_itself, is_finished, joined}
+use Rattle.esc_frame.specs.Segments.{Segment, IsCut, events_of_within, ends_itself, is_finished, joined_bytes}
 use Rattle.esc_actions.specs.Meaning.{meaning_within, values_from}
 use Rattle.esc_actions.specs.Values.{Value, plain}
 
@@ -31,9 +31,9 @@ MeansItsCut A = (limit : Option ℕ) (s : List ℕ) (gs : List Segment) → IsCu
 abbrev pub readings_of_each : {A : Type 0} → Option ℕ → List Segment → List (Value A)
 readings_of_each limit [] = []
 readings_of_each limit (g ∷ gs) =
-    reading_within limit g (is_finished g (joined gs)) ++ readings_of_each limit gs
+    reading_within limit g (is_finished g (joined_bytes gs)) ++ readings_of_each limit gs
 
 -- a stream means the readings of the segments of its cut, each by itself
 abbrev pub MeansItsSegments : Type 0 → Type 0
-MeansItsSegments A = (limit : Option ℕ) (gs : List Segment) → IsCut (joined gs) gs
-    → meaning_within {A = A} limit (joined gs) ≡ readings_of_each limit gs
+MeansItsSegments A = (limit : Option ℕ) (gs : List Segment) → IsCut (joined_bytes gs) gs
+    → meaning_within {A = A} limit (joined_bytes gs) ≡ readings_of_each limit gs

@@ -11,7 +11,7 @@ use Rattle.esc_device.specs.Texts.{enter_text, short_text}
 use Rattle.esc_kitty.specs.Texts.{image_text}
 use Rattle.esc_osc.specs.Commands.{command_text}
 use Rattle.esc_sixel.specs.Texts.{is_sixel, sixel_text}
-use Rattle.esc_tcap.specs.Names.{query_text}
+use Rattle.xtgettcap.specs.Names.{query_text}
 use Rattle.esc_actions.specs.ControlCodes.{code_number}
 use Rattle.esc_actions.specs.Values.{Value, print, string, control, esc, csi, osc, kitty, sixel, termcap, short, enter, datum, exit}
 
@@ -87,13 +87,13 @@ abbrev pub list_text : {A : Type 0} → List (Value A) → List ℕ
 list_text vs = texts_after false vs
 
 -- a string of characters as its characters
-abbrev pub spelled : {A : Type 0} → Value A → List (Value A)
-spelled (string t) = map print (chars t)
-spelled v = v ∷ []
+abbrev pub spelled_values : {A : Type 0} → Value A → List (Value A)
+spelled_values (string t) = map print (chars t)
+spelled_values v = v ∷ []
 
 -- the normal list: each string of characters as its characters, and a string terminator after each
 -- string action that has none directly after it
 abbrev pub normal : {A : Type 0} → List (Value A) → List (Value A)
 normal [] = []
-normal (v ∷ vs) = spelled v ++ (if is_string v && not (begins_terminator vs) then terminator
+normal (v ∷ vs) = spelled_values v ++ (if is_string v && not (begins_terminator vs) then terminator
     ∷ [] else []) ++ normal vs

@@ -21,7 +21,7 @@ use Rattle.esc_osc.specs.declared.command.OperatingSystemCommand.{OperatingSyste
 use Rattle.esc_sixel.specs.Items.{items}
 use Rattle.esc_sixel.specs.Meaning.{sixel_of}
 use Rattle.esc_sixel.specs.declared.sixel.Sixel.{Sixel}
-use Rattle.esc_tcap.specs.Names.{names_of}
+use Rattle.xtgettcap.specs.Names.{names_of}
 use Rattle.esc_actions.specs.ControlCodes.{code_of}
 use Rattle.esc_actions.specs.declared.control_code.ControlCode.{ControlCode}
 use Rattle.esc_actions.specs.declared.action.Action.{Action}
@@ -85,79 +85,79 @@ data_count (in_short ps is f d) = length d
 data_count entered = 0
 
 -- what a header opens, by its kind
-abbrev pub opened : StringKind → ℕ → List ℤ → List ℕ → Mode
-opened kind.Sixel f ps is = in_sixel ps []
-opened kind.Termcap f ps is = in_termcap []
-opened kind.Short f ps is = in_short ps is f []
-opened kind.Other f ps is = entered
+abbrev pub mode_at_hook : StringKind → ℕ → List ℤ → List ℕ → Mode
+mode_at_hook kind.Sixel f ps is = in_sixel ps []
+mode_at_hook kind.Termcap f ps is = in_termcap []
+mode_at_hook kind.Short f ps is = in_short ps is f []
+mode_at_hook kind.Other f ps is = entered
 
 -- what is unfinished after a byte of data
-abbrev pub taken : Mode → ℕ → Mode
-taken plain b = plain
-taken (in_sixel ps d) b = in_sixel ps (d ++ b ∷ [])
-taken (in_termcap d) b = in_termcap (d ++ b ∷ [])
-taken (in_short ps is f d) b = in_short ps is f (d ++ b ∷ [])
-taken entered b = entered
+abbrev pub mode_with_byte : Mode → ℕ → Mode
+mode_with_byte plain b = plain
+mode_with_byte (in_sixel ps d) b = in_sixel ps (d ++ b ∷ [])
+mode_with_byte (in_termcap d) b = in_termcap (d ++ b ∷ [])
+mode_with_byte (in_short ps is f d) b = in_short ps is f (d ++ b ∷ [])
+mode_with_byte entered b = entered
 
 -- what is unfinished after an event
-abbrev pub after : Mode → Event → Mode
-after m (Print c) = m
-after m (Execute b) = m
-after m (EscDispatch is more f) = m
-after m (CsiDispatch es more f) = m
-after m (OscDispatch ps) = m
-after m (DcsHook f ps is more) = opened (kind_of f is more) f ps is
-after m (DcsPut b) = taken m b
-after m DcsUnhook = plain
-after m (ApcDispatch t) = m
+abbrev pub mode_after : Mode → Event → Mode
+mode_after m (Print c) = m
+mode_after m (Execute b) = m
+mode_after m (EscDispatch is more f) = m
+mode_after m (CsiDispatch es more f) = m
+mode_after m (OscDispatch ps) = m
+mode_after m (DcsHook f ps is more) = mode_at_hook (kind_of f is more) f ps is
+mode_after m (DcsPut b) = mode_with_byte m b
+mode_after m DcsUnhook = plain
+mode_after m (ApcDispatch t) = m
 
 -- What a header, a byte of data and the end of a string give. An image, a query and a short control
 -- are given whole at the end, and only where their data is within the limit: past it none is kept.
-abbrev pub opened_gives : {A : Type 0} → StringKind → ℕ → List ℤ → List ℕ → Bool → List (Value A)
-opened_gives kind.Other f ps is more = enter (enter_of f ps is more) ∷ []
-opened_gives _ f ps is more = []
+abbrev pub hook_values : {A : Type 0} → StringKind → ℕ → List ℤ → List ℕ → Bool → List (Value A)
+hook_values kind.Other f ps is more = enter (enter_of f ps is more) ∷ []
+hook_values _ f ps is more = []
 
 abbrev pub taken_gives : {A : Type 0} → Mode → ℕ → List (Value A)
 taken_gives entered b = datum b ∷ []
 taken_gives _ b = []
 
-abbrev pub closed_gives : {A : Type 0} → Option ℕ → Mode → List (Value A)
-closed_gives limit plain = []
-closed_gives limit (in_sixel ps d) =
+abbrev pub unhook_values : {A : Type 0} → Option ℕ → Mode → List (Value A)
+unhook_values limit plain = []
+unhook_values limit (in_sixel ps d) =
     if is_within limit (length d) then sixel (sixel_of ps (items d)) ∷ [] else []
-closed_gives limit (in_termcap d) =
+unhook_values limit (in_termcap d) =
     if is_within limit (length d) then termcap (names_of d) ∷ [] else []
-closed_gives limit (in_short ps is f d) =
+unhook_values limit (in_short ps is f d) =
     if is_within limit (length d) then short (short_of ps is f d) ∷ [] else []
-closed_gives limit entered = exit ∷ []
+unhook_values limit entered = exit ∷ []
 
 -- the one of a list
-abbrev pub lone : List ℕ → Option ℕ
-lone [] = None
-lone (i ∷ []) = Some i
-lone (i ∷ j ∷ is) = None
+abbrev pub only_item : List ℕ → Option ℕ
+only_item [] = None
+only_item (i ∷ []) = Some i
+only_item (i ∷ j ∷ is) = None
 
 -- a control without a code gives nothing
-abbrev pub executed : {A : Type 0} → Option ControlCode → List (Value A)
-executed None = []
-executed (Some c) = control c ∷ []
+abbrev pub control_values : {A : Type 0} → Option ControlCode → List (Value A)
+control_values None = []
+control_values (Some c) = control c ∷ []
 
 -- data that is no image gives nothing
-abbrev pub imaged : {A : Type 0} → Option (KittyImage A) → List (Value A)
-imaged None = []
-imaged (Some i) = kitty i ∷ []
+abbrev pub image_values : {A : Type 0} → Option (KittyImage A) → List (Value A)
+image_values None = []
+image_values (Some i) = kitty i ∷ []
 
 -- the values that an event gives, where no more than the limit is kept of a string's data
-abbrev pub given : {A : Type 0} → Option ℕ → Mode → Event → List (Value A)
-given limit m (Print c) = print c ∷ []
-given limit m (Execute b) = executed (code_of b)
-given limit m (EscDispatch is more f) = esc (esc_of (lone is) f) ∷ []
-given limit m (CsiDispatch es more f) = map csi (csi_of es more f)
-given limit m (OscDispatch ps) = osc (command_meant ps) ∷ []
-given limit m (DcsHook f ps is more) = opened_gives (kind_of f is more) f ps is more
-given limit m (DcsPut b) = taken_gives m b
-given limit m DcsUnhook = closed_gives limit m
-given limit m (ApcDispatch t) = imaged (image_of t)
+abbrev pub event_values : {A : Type 0} → Option ℕ → Mode → Event → List (Value A)
+event_values limit m (Print c) = print c ∷ []
+event_values limit m (Execute b) = control_values (code_of b)
+event_values limit m (EscDispatch is more f) = esc (esc_of (only_item is) f) ∷ []
+event_values limit m (CsiDispatch es more f) = map csi (csi_of es more f)
+event_values limit m (OscDispatch ps) = osc (command_meant ps) ∷ []
+event_values limit m (DcsHook f ps is more) = hook_values (kind_of f is more) f ps is more
+event_values limit m (DcsPut b) = taken_gives m b
+event_values limit m DcsUnhook = unhook_values limit m
+event_values limit m (ApcDispatch t) = image_values (image_of t)
 
 -- whether an action of the event may have to be kept in memory
 abbrev pub wants_memory : Event → Bool

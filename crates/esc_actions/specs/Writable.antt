@@ -13,7 +13,7 @@ use Rattle.esc_device.specs.Writable.{IsWritableEnter, IsWritableShort, is_datum
 use Rattle.esc_kitty.specs.Writable.{IsWritableImage}
 use Rattle.esc_osc.specs.Writable.{IsWritable as IsWritableCommand}
 use Rattle.esc_sixel.specs.Writable.{IsWritable as IsWritableSixel}
-use Rattle.esc_tcap.specs.Names.{AreWritable as AreWritableNames}
+use Rattle.xtgettcap.specs.Names.{AreWritable as AreWritableNames}
 use Rattle.esc_actions.specs.ControlCodes.{code_number}
 use Rattle.esc_actions.specs.Meaning.{values_from}
 use Rattle.esc_actions.specs.Values.{Value, print, string, control, esc, csi, osc, kitty, sixel, termcap, short, enter, datum, exit, plain}
@@ -96,6 +96,6 @@ is_exception _ = false
 abbrev pub IsHandedOut : {A : Type 0} → Value A → Type 0
 IsHandedOut v = is_exception v ≡ false → IsWritable v
 
-abbrev pub AreHandedOut : {A : Type 0} → List (Value A) → Type 0
-AreHandedOut [] = Unit {0}
-AreHandedOut (v ∷ vs) = IsHandedOut v × AreHandedOut vs
+abbrev pub EmittedAreWritable : {A : Type 0} → List (Value A) → Type 0
+EmittedAreWritable [] = Unit {0}
+EmittedAreWritable (v ∷ vs) = IsHandedOut v × EmittedAreWritable vs

@@ -10,11 +10,11 @@ use esc_kitty::KittyImage;
 use esc_osc::OperatingSystemCommand;
 use esc_sequences::{CSI, Esc, EscCode};
 use esc_sixel::Sixel;
-use esc_tcap::TcapQuery;
 use esc_values::{Boxed, Items, Text};
 use std::alloc::{Allocator, Global};
 use std::fmt;
 use std::fmt::Display;
+use xtgettcap::TcapQuery;
 
 /// What a terminal is asked to do by a piece of a stream.
 #[derive(Drop)]

@@ -1,8 +1,8 @@
 //! Lists of actions that grow at their end.
 ghost use Rattle.std.specs.Prelude.{◌≡◌, ◌++◌, ◌∷◌, [], IfErr, IfOk, Ok, OnErr, OnOk, false, map, true};
 ghost use Rattle.std.specs.Char.{encode_utf8};
-ghost use Rattle.memory.specs.Refusals.{Refused};
-ghost use Rattle.esc_actions.specs.Appending.{appended, ends_in_characters, is_characters, joined};
+ghost use Rattle.fallible_alloc.specs.Refusals.{Refused};
+ghost use Rattle.esc_actions.specs.Appending.{appended_list, ends_in_characters, is_characters, joined_values};
 ghost use Rattle.esc_actions.specs.Values.{print, value_of};
 
 use crate::action::Action;
@@ -18,7 +18,7 @@ impl<A: Allocator + Copy> Action<A> {
     #[tactic(auto, using(crate::proofs::Appends::pushed_after_others, crate::proofs::Appends::pushed_no_print))]
     pub fn append_to(self, dest: &mut Vec<Action<A>, A>) -> Result<(), Action<A>>
         ensures appended { OnOk result (map value_of dest.new.items
-            ≡ appended (map value_of dest.old.items) (value_of self)) }
+            ≡ appended_list (map value_of dest.old.items) (value_of self)) }
         ensures refused { IfErr result (λ a. (a ≡ self) × (dest.new.items ≡ dest.old.items)) }
         ensures memory_refused { OnErr result (Refused A) }
     {
@@ -29,7 +29,7 @@ impl<A: Allocator + Copy> Action<A> {
                 Err(_) => return Err(self),
             }
         }
-        match memory::push(dest, self) {
+        match fallible_alloc::push(dest, self) {
             Ok(()) => Ok(()),
             Err(refused) => Err(refused.value),
         }
@@ -46,7 +46,8 @@ impl<A: Allocator + Copy> Action<A> {
     // and it stays as it was.
     fn push_char(&mut self, alloc: A, c: char) -> Result<(), AllocError>
         requires { is_characters (value_of self.old) ≡ true }
-        ensures ok { OnOk result (value_of self.new ∷ [] ≡ joined (value_of self.old) (print c)) }
+        ensures ok { OnOk result (value_of self.new ∷ []
+            ≡ joined_values (value_of self.old) (print c)) }
         ensures err { OnErr result (self.new ≡ self.old) }
         ensures refused { OnErr result (Refused A) }
     {
@@ -78,7 +79,7 @@ fn two_characters<A: Allocator>(alloc: A, first: char, second: char) -> Result<T
 #[tactic(auto, using(crate::proofs::Appends::joined_said, crate::proofs::Appends::ends_said))]
 fn join_last<A: Allocator + Copy>(dest: &mut Vec<Action<A>, A>, c: char) -> Result<bool, AllocError>
     ensures joined { result ≡ Ok true
-        → map value_of dest.new.items ≡ appended (map value_of dest.old.items) (print c) }
+        → map value_of dest.new.items ≡ appended_list (map value_of dest.old.items) (print c) }
     ensures other { result ≡ Ok false → (dest.new.items ≡ dest.old.items)
         × (ends_in_characters (map value_of dest.old.items) ≡ false) }
     ensures refused { OnErr result (dest.new.items ≡ dest.old.items) }

@@ -6,7 +6,7 @@ ghost use Rattle.std.specs.List.{list_any};
 ghost use Rattle.esc_frame.specs.Stream.{IsAfterFinished, IsAtGround, events_within};
 ghost use Rattle.esc_frame.specs.Counts.{kept_of_cut};
 ghost use Rattle.esc_frame.specs.Segments.{Segment, IsCut};
-ghost use Rattle.esc_actions.specs.Appending.{appended_all, gathered};
+ghost use Rattle.esc_actions.specs.Appending.{appended_all, gathered_values};
 ghost use Rattle.esc_actions.specs.Limited.{IsWithin, data_kept};
 ghost use Rattle.esc_actions.specs.Headline.{Headline};
 ghost use Rattle.esc_actions.specs.Groups.{JoinsGroups, MeansGroups, MeansWritable, ends_in_mode};
@@ -15,7 +15,7 @@ ghost use Rattle.esc_actions.specs.Meaning.{meaning, meaning_within, mode_from, 
 ghost use Rattle.esc_actions.specs.Readings.{MeansItsCut, MeansItsSegments};
 ghost use Rattle.esc_actions.specs.Texts.{list_text, normal};
 ghost use Rattle.esc_actions.specs.Values.{Value, plain};
-ghost use Rattle.esc_actions.specs.Writable.{AreHandedOut, AreWritable, is_exception};
+ghost use Rattle.esc_actions.specs.Writable.{EmittedAreWritable, AreWritable, is_exception};
 
 pub use esc_frame::laws::{has_cut, has_unfinished, one_cut};
 use std::alloc::Allocator;
@@ -77,7 +77,7 @@ fn lower_laws<A: Allocator>()
     esc_device::laws::hook_is_writable::<A>();
     esc_device::laws::short_is_writable::<A>();
     esc_sixel::laws::data_is_writable::<A>();
-    esc_tcap::laws::data_is_writable();
+    xtgettcap::laws::data_is_writable();
 }
 
 /// The text of a writable list means its normal list.
@@ -145,14 +145,16 @@ pub fn normal_normal<A: Allocator>()
 /// sequence of which parameters were left out; the header of a mode of which intermediates were
 /// left out; and a byte A0 to FF of a mode, or a short control that has one.
 pub fn handed_out<A: Allocator>()
-    ensures { (limit : Option ℕ) (s : List ℕ) → AreHandedOut {A = A} (meaning_within limit s) }
+    ensures { (limit : Option ℕ) (s : List ℕ)
+        → EmittedAreWritable {A = A} (meaning_within limit s) }
 {
     lower_laws::<A>();
 }
 
 /// So is every value that one call hands out, whatever was fed before.
 pub fn yield_handed_out<A: Allocator>()
-    ensures { (limit : Option ℕ) (s b : List ℕ) → AreHandedOut {A = A} (yield_within limit s b) }
+    ensures { (limit : Option ℕ) (s b : List ℕ)
+        → EmittedAreWritable {A = A} (yield_within limit s b) }
 {
     handed_out::<A>();
 }
@@ -225,5 +227,5 @@ pub fn normal_is_idempotent<A: Allocator>()
 /// [`Action::append_to`](crate::Action::append_to) appends each, make the list in which each run of
 /// characters is one string.
 pub fn appended_one_by_one<A: Allocator>()
-    ensures { (vs : List (Value A)) → appended_all [] vs ≡ gathered vs }
+    ensures { (vs : List (Value A)) → appended_all [] vs ≡ gathered_values vs }
 {}

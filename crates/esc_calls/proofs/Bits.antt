@@ -3,7 +3,7 @@ use Rattle.std.proofs.Common.{arith, ◌≡◌, ℕ, ◌+◌, ◌<◌, ◌==◌,
 use Rattle.std.proofs.lemmas.Bool.{cases_Bool, eqb-true, eqb-false}
 use Rattle.std.proofs.lemmas.Bool.Decides.{nat_tests}
 use Rattle.std.proofs.lemmas.List.{get_or-set_other, get_or-set_same}
-use Rattle.esc_filter.proofs.Choices.{below}
+use Rattle.esc_filter.proofs.Admission.ChoicesAdmit.{below}
 use Rattle.esc_filter.specs.Groups.{place}
 use Rattle.esc_filter.specs.declared.group.Group.{Group}
 use Rattle.esc_calls.specs.SanitizerGroups.{has_bit}

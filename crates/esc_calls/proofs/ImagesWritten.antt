@@ -2,9 +2,9 @@
 use Rattle.std.proofs.Common.{ℕ, ◌≡◌, true, Option, Some, sym, subst, ap, unwrap_or, ◌∙◌}
 use Rattle.std.specs.Global.{Global}
 use Rattle.std.specs.List.{list_all}
-use Rattle.esc_fields.proofs.ImagesWhole.{images_whole}
-use Rattle.esc_fields.specs.Fields.{Table}
-use Rattle.esc_fields.specs.HeldImages.{HasImage}
+use Rattle.flat_values.proofs.ImagesWhole.{images_whole}
+use Rattle.flat_values.specs.Fields.{Table}
+use Rattle.flat_values.specs.HeldImages.{HasImage}
 use Rattle.esc_kitty.proofs.ImagesBack.{reads_back}
 use Rattle.esc_kitty.specs.Texts.{image_body}
 use Rattle.esc_kitty.specs.Writable.{IsWritableImage, is_kept}

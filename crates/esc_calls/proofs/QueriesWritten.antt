@@ -1,11 +1,11 @@
 -- Names that a query can ask for are written as a text that asks for them.
 use Rattle.std.proofs.Common.{ℕ, ◌≡◌, List, sym, subst, ap, ◌∙◌}
-use Rattle.esc_fields.proofs.SixelsFound.{queries_whole}
-use Rattle.esc_fields.specs.Fields.{Table, table_of}
-use Rattle.esc_fields.specs.FoundNames.{HasNames}
-use Rattle.esc_fields.specs.Queries.{query_fields}
-use Rattle.esc_tcap.proofs.ReadsBack.{data_is_writable, writes_back}
-use Rattle.esc_tcap.specs.Names.{AreWritable, names_of, names_text}
+use Rattle.flat_values.proofs.SixelsFound.{queries_whole}
+use Rattle.flat_values.specs.Fields.{Table, table_of}
+use Rattle.flat_values.specs.FoundNames.{HasNames}
+use Rattle.flat_values.specs.Queries.{query_fields}
+use Rattle.xtgettcap.proofs.ReadsBack.{data_is_writable, writes_back}
+use Rattle.xtgettcap.specs.Names.{AreWritable, names_of, names_text}
 use Rattle.esc_calls.specs.QueryValues.{query_table}
 use Rattle.esc_calls.specs.WrittenQueries.{IsWrittenAs}
 

@@ -2,9 +2,9 @@
 use Rattle.std.proofs.Common.{ℕ, pos, suc, arith, ◌≡◌, ◌<◌, ◌↔◌, ◌+◌, Bool, List, [], ◌∷◌, drop, get_or, length, map, Option, Some, None, refl, sym, ap, subst, ◌∙◌}
 use Rattle.std.proofs.Math.Seq.{drop-cons}
 use Rattle.std.specs.Global.{Global}
-use Rattle.esc_fields.proofs.SixelsFound.{sixels_whole}
-use Rattle.esc_fields.specs.Sixels.{sixel_row}
-use Rattle.esc_fields.specs.declared.sixel_row.SixelRow.{SixelRow}
+use Rattle.flat_values.proofs.SixelsFound.{sixels_whole}
+use Rattle.flat_values.specs.Sixels.{sixel_row}
+use Rattle.flat_values.specs.declared.sixel_row.SixelRow.{SixelRow}
 use Rattle.esc_sixel.proofs.WritesBack.{writes_back}
 use Rattle.esc_sixel.specs.Writable.{AreWritableData, IsWritable, IsWritableData}
 use Rattle.esc_sixel.specs.declared.sixel.Sixel.{Sixel}

@@ -11,9 +11,9 @@ use Rattle.esc_osc.proofs.ReadsBack.{reads_back, writes_clear}
 use Rattle.esc_osc.specs.Commands.{inner_text}
 use Rattle.esc_osc.specs.Writable.{IsWritable}
 use Rattle.esc_osc.specs.declared.command.OperatingSystemCommand.{OperatingSystemCommand}
-use Rattle.esc_fields.proofs.Whole.{whole}
-use Rattle.esc_fields.specs.Fields.{Table}
-use Rattle.esc_fields.specs.Held.{Has}
+use Rattle.flat_values.proofs.Whole.{whole}
+use Rattle.flat_values.specs.Fields.{Table}
+use Rattle.flat_values.specs.Held.{Has}
 use Rattle.esc_calls.specs.OscValues.{command_of}
 
 -- a text whose characters are all clear

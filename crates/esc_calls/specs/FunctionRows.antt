@@ -1,14 +1,14 @@
 -- What is noted of a control function.
 use Rattle.std.specs.Prelude.{ℕ, ◌≡◌, Bool, true, false, ◌==◌, if◌then◌else◌, List, [], ◌++◌, take, drop, length, replicate, Option, None, Some}
-use Rattle.esc_functions.specs.declared.control_function.ControlFunction.{ControlFunction}
-use Rattle.esc_functions.specs.declared.escape_function.EscapeFunction.{EscapeFunction}
-use Rattle.esc_functions.specs.declared.c0.C0.{C0}
-use Rattle.esc_functions.specs.Controls.{changes_screen as control_changes_screen, is_answered as control_is_answered, name_of as control_name_of, words_of as control_words_of}
-use Rattle.esc_functions.specs.Effects.{changes_screen, is_answered}
-use Rattle.esc_functions.specs.EscapeEffects.{changes_screen as escape_changes_screen, is_answered as escape_is_answered}
-use Rattle.esc_functions.specs.Escapes.{function_of as escape_function_of, name_of as escape_name_of, sequence_key as escape_sequence_key, words_of as escape_words_of}
-use Rattle.esc_functions.specs.Functions.{function_of, key_with, name_of, put_mark, words_of}
-use Rattle.esc_functions.specs.Rows.{packed}
+use Rattle.control_functions.specs.declared.control_function.ControlFunction.{ControlFunction}
+use Rattle.control_functions.specs.declared.escape_function.EscapeFunction.{EscapeFunction}
+use Rattle.control_functions.specs.declared.c0.C0.{C0}
+use Rattle.control_functions.specs.Controls.{changes_screen as control_changes_screen, is_answered as control_is_answered, name_of as control_name_of, words_of as control_words_of}
+use Rattle.control_functions.specs.Effects.{changes_screen, is_answered}
+use Rattle.control_functions.specs.EscapeEffects.{changes_screen as escape_changes_screen, is_answered as escape_is_answered}
+use Rattle.control_functions.specs.Escapes.{function_of as escape_function_of, name_of as escape_name_of, sequence_key as escape_sequence_key, words_of as escape_words_of}
+use Rattle.control_functions.specs.Functions.{function_of, key_with, name_of, put_mark, words_of}
+use Rattle.control_functions.specs.Rows.{packed}
 use Rattle.esc_calls.specs.declared.function_row.FunctionRow.{FunctionRow}
 
 -- a byte, of which 0 says that there is none
@@ -28,13 +28,13 @@ escape_function_with intermediate last =
     escape_function_of (escape_sequence_key (byte_of intermediate) last)
 
 -- n bytes: a text, as much of it as fits, and zeros
-abbrev pub padded : ℕ → List ℕ → List ℕ
-padded n t = take n t ++ drop (length t) (replicate n 0)
+abbrev pub padded_bytes : ℕ → List ℕ → List ℕ
+padded_bytes n t = take n t ++ drop (length t) (replicate n 0)
 
 -- the row r has the name n, the words w and these flags
 pub record IsRow (r : FunctionRow) (n w : List ℕ) (screen answered : Bool) : Type 0 where
-  pub named : r.name ≡ padded 16 n
-  pub worded : r.phrase ≡ padded 80 w
+  pub named : r.name ≡ padded_bytes 16 n
+  pub worded : r.phrase ≡ padded_bytes 80 w
   pub changes : r.changes_screen ≡ screen
   pub answers : r.is_answered ≡ answered
 

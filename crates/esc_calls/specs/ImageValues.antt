@@ -3,9 +3,9 @@ use Rattle.std.specs.Prelude.{ℕ, ◌≡◌, List, Option, length}
 use Rattle.std.specs.Global.{Global}
 use Rattle.esc_kitty.specs.Images.{image_of}
 use Rattle.esc_kitty.specs.declared.image.KittyImage.{KittyImage}
-use Rattle.esc_fields.specs.Fields.{Table, table_of}
-use Rattle.esc_fields.specs.ImageKinds.{image_kind, image_number}
-use Rattle.esc_fields.specs.Images.{fields_of_image}
+use Rattle.flat_values.specs.Fields.{Table, table_of}
+use Rattle.flat_values.specs.ImageKinds.{image_kind, image_number}
+use Rattle.flat_values.specs.Images.{fields_of_image}
 use Rattle.esc_calls.specs.declared.image_value.ImageValue.{ImageValue}
 
 -- the image that a text is, where it is one

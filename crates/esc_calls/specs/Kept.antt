@@ -1,4 +1,4 @@
--- What a stream in pieces keeps.
+-- What a stream in chunks keeps.
 use Rattle.std.specs.Prelude.{ℕ, if◌then◌else◌, List, Option, None, Some}
 use Rattle.std.specs.Global.{Global}
 use Rattle.esc_filter.specs.Fed.{added_by as added_by_filter}
@@ -13,7 +13,7 @@ use Rattle.esc_calls.specs.declared.kept.Kept.TheVariants as kept
 use Rattle.esc_calls.specs.Sanitizers.{Sanitizing, chain}
 use Rattle.esc_calls.specs.declared.page_state.PageState.{PageState}
 
--- the text of a page: what the last piece added, or what closes it
+-- the text of a page: what the last chunk added, or what closes it
 abbrev pub state_text : PageState → List ℕ
 state_text p = if p.has_ended then closing_of p.writer else added_by_page p.writer
 

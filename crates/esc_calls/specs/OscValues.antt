@@ -4,9 +4,9 @@ use Rattle.std.specs.Global.{Global}
 use Rattle.esc_values.specs.Clear.{parts_of}
 use Rattle.esc_osc.specs.Reading.{meaning}
 use Rattle.esc_osc.specs.declared.command.OperatingSystemCommand.{OperatingSystemCommand}
-use Rattle.esc_fields.specs.Commands.{fields_of}
-use Rattle.esc_fields.specs.Fields.{Table, table_of}
-use Rattle.esc_fields.specs.Kinds.{kind_number, kind_of}
+use Rattle.flat_values.specs.Commands.{fields_of}
+use Rattle.flat_values.specs.Fields.{Table, table_of}
+use Rattle.flat_values.specs.Kinds.{kind_number, kind_of}
 use Rattle.esc_calls.specs.declared.osc_value.OscValue.{OscValue}
 
 -- the command that the parts of a text mean

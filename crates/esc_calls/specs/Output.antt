@@ -2,7 +2,7 @@
 use Rattle.std.specs.Prelude.{ℕ, ◌≡◌, ◌≢◌, List, ◌++◌, drop, length, min, take}
 use Rattle.std.specs.Global.{Global}
 use Rattle.esc_calls.specs.declared.TheConstants.{DONE, NO_MEMORY}
-use Rattle.memory.specs.Refusals.{Refused}
+use Rattle.fallible_alloc.specs.Refusals.{Refused}
 
 -- as many of these as there is room for, and after them what was there
 abbrev pub put_into : {X : Type 0} → List X → List X → List X

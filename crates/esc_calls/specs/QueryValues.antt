@@ -1,8 +1,8 @@
 -- What is written of the termcap query that data is.
 use Rattle.std.specs.Prelude.{ℕ, ◌≡◌, List, length}
-use Rattle.esc_fields.specs.Fields.{Table, table_of}
-use Rattle.esc_fields.specs.Queries.{query_fields}
-use Rattle.esc_tcap.specs.Names.{names_of}
+use Rattle.flat_values.specs.Fields.{Table, table_of}
+use Rattle.flat_values.specs.Queries.{query_fields}
+use Rattle.xtgettcap.specs.Names.{names_of}
 use Rattle.esc_calls.specs.declared.query_value.QueryValue.{QueryValue}
 
 -- the rows of the names that the data asks for, and these names one after another

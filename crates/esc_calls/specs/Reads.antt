@@ -1,7 +1,7 @@
 -- What the calls that read a value and fields have in common.
 use Rattle.std.specs.Prelude.{ℕ, ◌≡◌, ◌≢◌, List}
-use Rattle.esc_fields.specs.Fields.{Table}
-use Rattle.esc_fields.specs.declared.field_row.FieldRow.{FieldRow}
+use Rattle.flat_values.specs.Fields.{Table}
+use Rattle.flat_values.specs.declared.field_row.FieldRow.{FieldRow}
 use Rattle.esc_calls.specs.Output.{LacksMemory, put_into}
 use Rattle.esc_calls.specs.declared.TheConstants.{DONE}
 

@@ -18,8 +18,9 @@ pub record AreWith (bits : ℕ) (passes : Bool) (g h : Groups) : Type 0 where
   pub schemes : h.schemes ≡ g.schemes
 
 -- where rows may be written again, with what moves the cursor or erases
-abbrev pub moved : ℕ → Groups → Groups
-moved rows g = if rows == 0 then g else with_group (with_group (with_group g group.Controls true)
+abbrev pub groups_with_moves : ℕ → Groups → Groups
+groups_with_moves rows g = if rows == 0 then g
+    else with_group (with_group (with_group g group.Controls true)
     group.Cursor true) group.Erase true
 
 -- the schemes of the links that pass, of http, https and mailto, each with its bit; those of all
@@ -43,5 +44,5 @@ pub record AreSaid (r : SanitizerOptions) (p : Policy) (h : Groups) : Type 0 whe
   pub allowed : AreWith r.allowed true (groups_of p) more
   pub fewer : Groups
   pub denied : AreWith r.denied false more fewer
-  pub groups : h.allowed ≡ (moved r.rows fewer).allowed
+  pub groups : h.allowed ≡ (groups_with_moves r.rows fewer).allowed
   pub links : links_numbered r.links ≡ Some (option_map (λ s. s.now) h.schemes)

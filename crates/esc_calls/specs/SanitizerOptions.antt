@@ -10,8 +10,8 @@ use Rattle.esc_filter.specs.declared.returns.Returns.{Returns}
 use Rattle.esc_filter.specs.declared.returns.Returns.TheVariants as returns
 use Rattle.esc_filter.specs.declared.unicode.Unicode.{Unicode}
 use Rattle.esc_filter.specs.declared.unicode.Unicode.TheVariants as unicode
-use Rattle.esc_reveal.specs.declared.marking.Marking.{Marking}
-use Rattle.esc_reveal.specs.declared.marking.Marking.TheVariants as marking
+use Rattle.caret_notation.specs.declared.marking.Marking.{Marking}
+use Rattle.caret_notation.specs.declared.marking.Marking.TheVariants as marking
 use Rattle.esc_sanitize.specs.Defaults.{is_for_reading}
 use Rattle.esc_sanitize.specs.declared.options.FilterOptions.{FilterOptions}
 use Rattle.esc_calls.specs.Policies.{policy_numbered}

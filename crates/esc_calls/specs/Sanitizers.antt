@@ -1,21 +1,21 @@
 -- The sanitizers that are kept: by groups.
 use Rattle.std.specs.Prelude.{ℕ, ◌≡◌, Bool, List, Some, false, string_bytes}
 use Rattle.std.specs.Global.{Global}
-use Rattle.esc_filter.specs.Fed.{WasFedIn, added_by, policy_of}
+use Rattle.esc_filter.specs.Fed.{HasConsumedIn, added_by, policy_of}
 use Rattle.esc_filter.specs.Groups.{admits_groups}
-use Rattle.esc_filter.specs.Lines.{WasFedLines, added_by as added_by_lines, closed_by_lines_as, policy_of_lines, text_by_lines_as}
+use Rattle.esc_filter.specs.Lines.{HasConsumedLines, added_by as added_by_lines, closed_by_lines_as, policy_of_lines, text_by_lines_as}
 use Rattle.esc_filter.specs.Openings.{resumed_closed, resumed_text}
 use Rattle.esc_filter.specs.Passing.{closed_text_as, passed_text_as}
-use Rattle.esc_filter.specs.Resumed.{WasFedResumed, added_by as added_by_resuming, policy_of_resuming}
+use Rattle.esc_filter.specs.Resumed.{ResumedHasConsumed, added_by as added_by_resuming, policy_of_resuming}
 use Rattle.esc_filter.specs.declared.admit.Admit.{Ghosts as Admitter}
 use Rattle.esc_filter.specs.declared.filter.Filter.{Filter}
 use Rattle.esc_filter.specs.declared.groups.Groups.{Groups}
 use Rattle.esc_filter.specs.declared.guard.Guard.{Guard}
 use Rattle.esc_filter.specs.declared.line_filter.LineFilter.{LineFilter}
 use Rattle.esc_filter.specs.declared.resuming.ResumingFilter.{ResumingFilter}
-use Rattle.esc_normal.specs.declared.feeding.Feeding.{Ghosts as Feeder}
-use Rattle.esc_reveal.specs.Through.{GivesThrough}
-use Rattle.esc_reveal.specs.declared.revealing.Revealing.{Revealing}
+use Rattle.esc_normal.specs.declared.feeding.StreamFilter.{Ghosts as Feeder}
+use Rattle.caret_notation.specs.Through.{GivesThrough}
+use Rattle.caret_notation.specs.declared.revealing.Revealing.{Revealing}
 use Rattle.esc_sanitize.specs.Chains.{added_either, ended_either, gives_either}
 use Rattle.esc_sanitize.specs.Sanitized.{Chain, Framed}
 use Rattle.esc_sanitize.specs.declared.either.Either.{Either}
@@ -32,12 +32,12 @@ Sanitizing = Sanitizer Groups Global
 abbrev pub admitter : Admitter Groups Global
 admitter = record { admits = admits_groups }
 
--- ---- the filters of a sanitizer, as what takes a stream in pieces
+-- ---- the filters of a sanitizer, as what takes a stream in chunks
 
 abbrev pub resuming : Feeder (ResumingFilter Groups Global) Global
 resuming = record {
   gives = λ f m c s. (k : Bool) × (u : Guard) × (limit : ℕ)
-      × WasFedResumed k u limit (admits_groups (policy_of_resuming f)) s f
+      × ResumedHasConsumed k u limit (admits_groups (policy_of_resuming f)) s f
       × (m ≡ resumed_text {A = Global} k u limit (admits_groups (policy_of_resuming f)))
       × (c ≡ resumed_closed {A = Global} k u limit (admits_groups (policy_of_resuming f)));
   added = λ f. added_by_resuming f;
@@ -47,17 +47,17 @@ resuming = record {
 abbrev pub lines : Feeder (LineFilter Groups Global) Global
 lines = record {
   gives = λ f m c s. (u : Guard) × (limit : ℕ)
-      × WasFedLines u limit (admits_groups (policy_of_lines f)) s f
+      × HasConsumedLines u limit (admits_groups (policy_of_lines f)) s f
       × (m ≡ text_by_lines_as {A = Global} u limit (admits_groups (policy_of_lines f)))
       × (c ≡ closed_by_lines_as {A = Global} u limit (admits_groups (policy_of_lines f)));
   added = λ f. added_by_lines f;
   has_ended = λ _ _ _. Unit {0};
 }
 
-abbrev pub whole : Feeder (Filter Groups Global) Global
-whole = record {
+abbrev pub whole_feeder : Feeder (Filter Groups Global) Global
+whole_feeder = record {
   gives = λ f m c s. (u : Guard) × (limit : ℕ)
-      × WasFedIn u false limit (admits_groups (policy_of f)) s f
+      × HasConsumedIn u false limit (admits_groups (policy_of f)) s f
       × (m ≡ passed_text_as {A = Global} u (Some limit) (admits_groups (policy_of f)))
       × (c ≡ closed_text_as {A = Global} u (Some limit) (admits_groups (policy_of f)));
   added = λ f. added_by f;
@@ -79,8 +79,8 @@ revealing G = record {
   has_ended = λ f _ _. (c : List ℕ → List ℕ) × (s : List ℕ) × G.has_ended f.filter c s;
 }
 
-abbrev pub framed : Feeder (Framed Groups Global) Global
-framed = either (either resuming lines) whole
+abbrev pub framed_feeder : Feeder (Framed Groups Global) Global
+framed_feeder = either (either resuming lines) whole_feeder
 
 abbrev pub chain : Feeder (Chain Groups Global) Global
-chain = either framed (revealing framed)
+chain = either framed_feeder (revealing framed_feeder)

@@ -2,8 +2,8 @@
 use Rattle.std.specs.Prelude.{ℕ, ℤ, pos, ◌≡◌, Bool, List, Option, length, map}
 use Rattle.std.specs.Global.{Global}
 use Rattle.std.specs.Option.{is_some, unwrap_or}
-use Rattle.esc_fields.specs.Sixels.{sixel_row}
-use Rattle.esc_fields.specs.declared.sixel_row.SixelRow.{SixelRow}
+use Rattle.flat_values.specs.Sixels.{sixel_row}
+use Rattle.flat_values.specs.declared.sixel_row.SixelRow.{SixelRow}
 use Rattle.esc_sixel.specs.Dimensions.{dimensions_of}
 use Rattle.esc_sixel.specs.Items.{items}
 use Rattle.esc_sixel.specs.Meaning.{sixel_of}

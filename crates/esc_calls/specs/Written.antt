@@ -4,7 +4,7 @@ use Rattle.std.specs.Global.{Global}
 use Rattle.esc_calls.specs.declared.TheConstants.{NO_COMMAND, NO_MEMORY, NOT_WRITABLE}
 use Rattle.esc_calls.specs.declared.refusal.Refusal.{Refusal}
 use Rattle.esc_calls.specs.declared.refusal.Refusal.TheVariants as refusal
-use Rattle.memory.specs.Refusals.{Refused}
+use Rattle.fallible_alloc.specs.Refusals.{Refused}
 
 -- what ends a string
 abbrev pub string_end : List ℕ

@@ -2,8 +2,8 @@
 use Rattle.std.specs.Prelude.{ℕ, ◌≡◌, true, List, ◌++◌, Some}
 use Rattle.std.specs.Global.{Global}
 use Rattle.std.specs.List.{list_all}
-use Rattle.esc_fields.specs.Fields.{Table}
-use Rattle.esc_fields.specs.HeldImages.{HasImage, IsHeldImage}
+use Rattle.flat_values.specs.Fields.{Table}
+use Rattle.flat_values.specs.HeldImages.{HasImage, IsHeldImage}
 use Rattle.esc_kitty.specs.Texts.{image_body, image_text}
 use Rattle.esc_kitty.specs.Writable.{IsWritableImage, is_kept}
 use Rattle.esc_kitty.specs.declared.image.KittyImage.{KittyImage}

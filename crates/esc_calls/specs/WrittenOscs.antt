@@ -5,8 +5,8 @@ use Rattle.esc_values.specs.Clear.{IsClearText}
 use Rattle.esc_osc.specs.Commands.{command_text, inner_text}
 use Rattle.esc_osc.specs.Writable.{IsWritable}
 use Rattle.esc_osc.specs.declared.command.OperatingSystemCommand.{OperatingSystemCommand}
-use Rattle.esc_fields.specs.Fields.{Table}
-use Rattle.esc_fields.specs.Held.{Has, IsHeld}
+use Rattle.flat_values.specs.Fields.{Table}
+use Rattle.flat_values.specs.Held.{Has, IsHeld}
 use Rattle.esc_calls.specs.OscValues.{command_of}
 use Rattle.esc_calls.specs.Written.{RefusedFor}
 

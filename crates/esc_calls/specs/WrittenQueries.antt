@@ -1,10 +1,10 @@
 -- What is written of the termcap query that fields say.
 use Rattle.std.specs.Prelude.{ℕ, ◌≡◌, true, List, ◌++◌}
 use Rattle.std.specs.List.{list_all}
-use Rattle.esc_fields.specs.Fields.{Table}
-use Rattle.esc_fields.specs.FoundNames.{HasNames}
-use Rattle.esc_fields.specs.Held.{AreTexts, types}
-use Rattle.esc_tcap.specs.Names.{AreWritable, is_query_byte, names_of, names_text, query_text}
+use Rattle.flat_values.specs.Fields.{Table}
+use Rattle.flat_values.specs.FoundNames.{HasNames}
+use Rattle.flat_values.specs.Held.{AreTexts, types}
+use Rattle.xtgettcap.specs.Names.{AreWritable, is_query_byte, names_of, names_text, query_text}
 use Rattle.esc_calls.specs.Written.{RefusedFor, string_end}
 
 -- the fields are those of names that a query can ask for; what is between `ESC P + q` and `ESC \`

@@ -2,8 +2,8 @@
 use Rattle.std.specs.Prelude.{ℕ, pos, ◌≡◌, Bool, true, if◌then◌else◌, List, ◌∷◌, ◌++◌, Option, Some, None, map, ⊤}
 use Rattle.std.specs.Global.{Global}
 use Rattle.std.specs.List.{list_all}
-use Rattle.esc_fields.specs.Sixels.{sixel_row}
-use Rattle.esc_fields.specs.declared.sixel_row.SixelRow.{SixelRow}
+use Rattle.flat_values.specs.Sixels.{sixel_row}
+use Rattle.flat_values.specs.declared.sixel_row.SixelRow.{SixelRow}
 use Rattle.esc_sixel.specs.Texts.{sixel_output}
 use Rattle.esc_sixel.specs.Writable.{IsWritable, is_data_byte, is_parameter_byte, params_of}
 use Rattle.esc_sixel.specs.declared.sixel.Sixel.{Sixel}

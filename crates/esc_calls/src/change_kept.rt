@@ -1,4 +1,4 @@
-//! How a call changes what a stream in pieces keeps.
+//! How a call changes what a stream in chunks keeps.
 
 // Takes what the stream keeps, where that is of this kind, and changes it. Where that is done the
 // stream keeps it on. Else it has ended, and the status says why: it kept none, or memory was
@@ -12,7 +12,7 @@ macro_rules! change_kept {
             return NOT_BEGUN;
         };
         $change;
-        *$stream = InPieces::of(kept);
+        *$stream = InChunks::of(kept);
         DONE
     }};
     ($alloc:ident, $stream:ident, $kind:ident($inner:ident), $change:expr) => {{
@@ -24,7 +24,7 @@ macro_rules! change_kept {
         };
         match $change {
             Ok(()) => {
-                *$stream = InPieces::of(kept);
+                *$stream = InChunks::of(kept);
                 DONE
             }
             Err(_) => NO_MEMORY,

@@ -1,10 +1,10 @@
-//! What the calls that take a stream in pieces have in common.
+//! What the calls that take a stream in chunks have in common.
 ghost use Rattle.std.specs.Prelude.{◌≡◌, ◌≢◌, Some};
-ghost use Rattle.esc_calls.specs.InPieces.{IsEnded, Stays, text_of};
+ghost use Rattle.esc_calls.specs.InChunks.{IsEnded, Stays, text_of};
 ghost use Rattle.esc_calls.specs.Output.{Copies};
-ghost use Rattle.memory.specs.Refusals.{Refused};
+ghost use Rattle.fallible_alloc.specs.Refusals.{Refused};
 
-use crate::in_pieces::InPieces;
+use crate::in_chunks::InChunks;
 use crate::kept::Kept;
 use crate::output::put_from;
 use crate::{DONE, NO_MEMORY};
@@ -12,14 +12,14 @@ use std::alloc::Global;
 
 /// Ends a stream, and begins the next with this, in a block of its own. The status is `DONE` or
 /// `NO_MEMORY`.
-pub(crate) fn begin(alloc: Global, stream: &mut InPieces, kept: Kept) -> u32
+pub(crate) fn begin(alloc: Global, stream: &mut InChunks, kept: Kept) -> u32
     ensures begun { result ≡ DONE → stream.new.held.kept ≡ Some kept }
     ensures refused { result ≢ DONE → (result ≡ NO_MEMORY) × IsEnded stream.new × Refused Global }
 {
     drop(stream.take(alloc));
-    match memory::boxed(alloc, kept) {
+    match fallible_alloc::boxed(alloc, kept) {
         Ok(kept) => {
-            *stream = InPieces::of(kept);
+            *stream = InChunks::of(kept);
             DONE
         }
         Err(_) => NO_MEMORY,
@@ -28,7 +28,7 @@ pub(crate) fn begin(alloc: Global, stream: &mut InPieces, kept: Kept) -> u32
 
 /// Copies the text that the last call added, from its byte `from` on, to the beginning of `out`,
 /// as much as fits, and leaves the rest of `out` as it is. Returns how many bytes these are.
-pub(crate) fn copy_text(alloc: Global, stream: &mut InPieces, from: usize, out: &mut [u8]) -> usize
+pub(crate) fn copy_text(alloc: Global, stream: &mut InChunks, from: usize, out: &mut [u8]) -> usize
     ensures copied { Copies (text_of stream.old) from out.old out.new result }
     ensures kept { Stays stream.old stream.new }
 {
@@ -36,6 +36,6 @@ pub(crate) fn copy_text(alloc: Global, stream: &mut InPieces, from: usize, out: 
         return 0;
     };
     let count = put_from(kept.text().as_bytes(), from, out);
-    *stream = InPieces::of(kept);
+    *stream = InChunks::of(kept);
     count
 }

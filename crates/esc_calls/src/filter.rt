@@ -1,10 +1,10 @@
 //! What a policy admits of a stream.
 ghost use Rattle.std.specs.Prelude.{◌≡◌, ◌↔◌, IfOk, None, OnErr};
 ghost use Rattle.esc_filter.specs.Fed.{added_by};
-ghost use Rattle.esc_calls.specs.Filtered.{IsAdmitted, IsFilterRefusal, passed};
+ghost use Rattle.esc_calls.specs.Filtered.{IsAdmitted, IsFilterRefusal, open_text};
 ghost use Rattle.esc_calls.specs.Output.{LacksMemory, Writes};
 ghost use Rattle.esc_calls.specs.Policies.{policy_numbered};
-ghost use Rattle.memory.specs.Refusals.{Refused};
+ghost use Rattle.fallible_alloc.specs.Refusals.{Refused};
 
 use crate::output::put;
 use crate::{DONE, NO_MEMORY, UNKNOWN_POLICY};
@@ -54,7 +54,7 @@ fn filter_by(
     out: &mut [u8],
     needed: &mut usize,
 ) -> u32
-    ensures { Writes (λ t. t ≡ passed limit policy bytes.now) LacksMemory result
+    ensures { Writes (λ t. t ≡ open_text limit policy bytes.now) LacksMemory result
         (out.old, needed.old) (out.new, needed.new) }
 {
     match filtered(alloc, policy, limit, bytes) {
@@ -73,7 +73,7 @@ fn filtered(
     limit: usize,
     bytes: &[u8],
 ) -> Result<Filter<Policy>, ParseError>
-    ensures ok { IfOk result (λ f. added_by f ≡ passed limit policy bytes.now) }
+    ensures ok { IfOk result (λ f. added_by f ≡ open_text limit policy bytes.now) }
     ensures refused { OnErr result (Refused Global) }
 {
     let mut filter = Filter::new(alloc, limit, policy);

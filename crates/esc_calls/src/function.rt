@@ -1,10 +1,10 @@
 //! Control functions by name.
 ghost use Rattle.std.specs.Prelude.{◌≡◌};
-ghost use Rattle.esc_functions.specs.Controls.{control_of};
+ghost use Rattle.control_functions.specs.Controls.{control_of};
 ghost use Rattle.esc_calls.specs.FunctionRows.{Says, SaysControl, SaysEscape, byte_of, escape_function_with, function_with};
 
 use crate::function_row::{FunctionRow, note};
-use esc_functions::{C0, ControlFunction, EscapeFunction};
+use control_functions::{C0, ControlFunction, EscapeFunction};
 
 /// What `escape_stream_function` of `escape_c` does.
 pub fn function(

@@ -3,7 +3,7 @@ ghost use Rattle.esc_calls.specs.FunctionRows.{IsRow};
 
 use crate::output::put;
 
-/// What a control function is, for its caller: a row of a table of `esc_functions`, or zeros.
+/// What a control function is, for its caller: a row of a table of `control_functions`, or zeros.
 #[repr(C)]
 #[derive(Clone, Copy)]
 pub struct FunctionRow {

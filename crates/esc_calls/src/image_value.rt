@@ -5,7 +5,7 @@
 #[repr(C)]
 #[derive(Clone, Copy)]
 pub struct ImageValue {
-    /// Which command of the protocol: the number of an [`ImageKind`](esc_fields::ImageKind).
+    /// Which command of the protocol: the number of an [`ImageKind`](flat_values::ImageKind).
     pub kind: u32,
     /// How many fields it has.
     pub field_count: usize,

@@ -2,12 +2,12 @@
 ghost use Rattle.std.specs.Prelude.{◌≡◌, IfOk, OnErr};
 ghost use Rattle.esc_calls.specs.ImageValues.{IsImage, image_table};
 ghost use Rattle.esc_calls.specs.Reads.{Reads};
-ghost use Rattle.memory.specs.Refusals.{Refused};
+ghost use Rattle.fallible_alloc.specs.Refusals.{Refused};
 
 use crate::image_value::ImageValue;
 use crate::output::put_read;
-use esc_fields::{FieldRow, Fields, ImageKind};
 use esc_kitty::KittyImage;
+use flat_values::{FieldRow, Fields, ImageKind};
 use std::alloc::{AllocError, Global};
 
 /// What `escape_stream_read_kitty` of `escape_c` does.

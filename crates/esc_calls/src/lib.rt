@@ -8,21 +8,21 @@ mod clear;
 mod common;
 pub mod fault;
 pub mod filter;
-pub mod filter_pieces;
+pub mod filter_chunks;
 pub mod function;
 pub mod function_row;
 mod held;
 pub mod image_value;
-pub mod in_pieces;
+pub mod in_chunks;
 pub mod is_normal;
 mod kept;
 pub mod kitty;
 pub mod normal;
-pub mod normal_pieces;
+pub mod normal_chunks;
 pub mod osc;
 pub mod osc_value;
 mod output;
-pub mod page_pieces;
+pub mod page_chunks;
 mod page_state;
 mod parts;
 pub mod query_value;
@@ -30,8 +30,8 @@ mod refusal;
 mod said;
 mod said_groups;
 mod said_guard;
+pub mod sanitizer_chunks;
 pub mod sanitizer_options;
-pub mod sanitizer_pieces;
 mod shown;
 pub mod sixel;
 pub mod sixel_value;
@@ -51,7 +51,7 @@ pub const NO_MEMORY: u32 = 1;
 /// No policy has this number. Nothing was written.
 pub const UNKNOWN_POLICY: u32 = 2;
 
-/// The filter, the page, the normaliser or the sanitizer in pieces was not begun, or has ended.
+/// The filter, the page, the normaliser or the sanitizer in chunks was not begun, or has ended.
 /// Nothing was taken.
 pub const NOT_BEGUN: u32 = 3;
 

@@ -2,12 +2,12 @@
 ghost use Rattle.std.specs.Prelude.{◌≡◌, IfOk, OnErr};
 ghost use Rattle.esc_calls.specs.OscValues.{IsValue, table_in};
 ghost use Rattle.esc_calls.specs.Reads.{Reads};
-ghost use Rattle.memory.specs.Refusals.{Refused};
+ghost use Rattle.fallible_alloc.specs.Refusals.{Refused};
 
 use crate::osc_value::OscValue;
 use crate::output::put_read;
-use esc_fields::{CommandKind, FieldRow, Fields};
 use esc_parse::commands::command_in;
+use flat_values::{CommandKind, FieldRow, Fields};
 use std::alloc::{AllocError, Global};
 
 /// What `escape_stream_read_osc` of `escape_c` does.

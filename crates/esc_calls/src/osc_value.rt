@@ -4,7 +4,7 @@
 #[repr(C)]
 #[derive(Clone, Copy)]
 pub struct OscValue {
-    /// Which command: the number of a [`CommandKind`](esc_fields::CommandKind).
+    /// Which command: the number of a [`CommandKind`](flat_values::CommandKind).
     pub kind: u32,
     /// How many fields it has.
     pub field_count: usize,

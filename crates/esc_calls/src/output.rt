@@ -5,8 +5,8 @@ ghost use Rattle.esc_calls.specs.Written.{status_of};
 
 use crate::refusal::Refusal;
 use crate::{DONE, NO_MEMORY};
-use esc_fields::{FieldRow, Fields};
 use esc_values::Text;
+use flat_values::{FieldRow, Fields};
 use std::alloc::AllocError;
 
 /// Copies as many of these as fit to the beginning of the buffer, and leaves the rest of the buffer

@@ -1,15 +1,15 @@
-//! What a page in pieces keeps.
+//! What a page in chunks keeps.
 ghost use Rattle.std.specs.Prelude.{◌≡◌, ◌≢◌, ℕ, List};
 ghost use Rattle.esc_html.specs.declared.layout.Layout.{Layout};
 ghost use Rattle.esc_calls.specs.Kept.{state_text};
 ghost use Rattle.esc_calls.specs.PageStates.{IsFed, IsFedMore};
-ghost use Rattle.memory.specs.Refusals.{Refused};
+ghost use Rattle.fallible_alloc.specs.Refusals.{Refused};
 
 use crate::{DONE, NO_MEMORY, NOT_BEGUN};
 use esc_html::HtmlWriter;
 use std::alloc::Global;
 
-/// What a page in pieces keeps.
+/// What a page in chunks keeps.
 #[derive(Drop)]
 pub struct PageState {
     /// What makes HTML of the stream.

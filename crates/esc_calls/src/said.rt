@@ -2,9 +2,9 @@
 ghost use Rattle.std.specs.Prelude.{◌≡◌};
 ghost use Rattle.esc_calls.specs.SanitizerOptions.{characters_numbered, encoding_numbered, framing_numbered, marking_numbered, returns_numbered, usual_guard};
 
+use caret_notation::Marking;
 use esc_decode::{CodePage, Encoding};
 use esc_filter::{Guard, Policy, Returns, Unicode};
-use esc_reveal::Marking;
 
 /// Whether each line is a stream of its own; by the number 0 as is usual.
 pub(crate) fn framing_of(number: u32, usual: bool) -> Option<bool>

@@ -2,7 +2,7 @@
 ghost use Rattle.std.specs.Prelude.{◌≡◌, IfErr, IfOk};
 ghost use Rattle.std.specs.Option.{option_map};
 ghost use Rattle.esc_filter.specs.Groups.{with_group};
-ghost use Rattle.esc_calls.specs.SanitizerGroups.{AreSaid, AreWith, links_numbered, moved};
+ghost use Rattle.esc_calls.specs.SanitizerGroups.{AreSaid, AreWith, links_numbered, groups_with_moves};
 ghost use Rattle.esc_calls.specs.SanitizerOptions.{IsFault};
 
 use crate::fault::Fault;
@@ -83,7 +83,7 @@ fn with_group(groups: Groups<'static>, group: Group, passes: bool) -> Groups<'st
 
 // These groups, and where rows may be written again what moves the cursor or erases.
 fn with_movements(groups: Groups<'static>, rows: u32) -> Groups<'static>
-    ensures { result ≡ moved rows groups.entry }
+    ensures { result ≡ groups_with_moves rows groups.entry }
 {
     if rows == 0 {
         return groups;

@@ -2,7 +2,7 @@
 ghost use Rattle.std.specs.Prelude.{◌≡◌, ◌++◌, IfOk, IfSome, OnErr};
 ghost use Rattle.std.specs.Global.{Global};
 ghost use Rattle.esc_calls.specs.Written.{string_end};
-ghost use Rattle.memory.specs.Refusals.{Refused};
+ghost use Rattle.fallible_alloc.specs.Refusals.{Refused};
 
 use esc_values::Text;
 use std::alloc::{AllocError, Global};

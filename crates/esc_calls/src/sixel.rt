@@ -1,14 +1,14 @@
 //! The sixel image that parameters and data are, as rows.
 ghost use Rattle.std.specs.Prelude.{◌≡◌, ◌≢◌, IfOk, OnErr, map};
-ghost use Rattle.esc_fields.specs.Sixels.{sixel_row};
+ghost use Rattle.flat_values.specs.Sixels.{sixel_row};
 ghost use Rattle.esc_calls.specs.Output.{put_into};
 ghost use Rattle.esc_calls.specs.SixelValues.{IsSixel, sixel_in, sixel_rows};
-ghost use Rattle.memory.specs.Refusals.{Refused};
+ghost use Rattle.fallible_alloc.specs.Refusals.{Refused};
 
 use crate::sixel_value::SixelValue;
 use crate::{DONE, NO_MEMORY};
-use esc_fields::SixelRow;
 use esc_sixel::{Sixel, SixelBuilder, SixelData};
+use flat_values::SixelRow;
 use std::alloc::{AllocError, Global};
 
 /// What `escape_stream_read_sixel` of `escape_c` does.

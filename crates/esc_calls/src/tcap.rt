@@ -2,13 +2,13 @@
 ghost use Rattle.std.specs.Prelude.{◌≡◌, IfOk, OnErr};
 ghost use Rattle.esc_calls.specs.QueryValues.{IsQuery, query_table};
 ghost use Rattle.esc_calls.specs.Reads.{Reads};
-ghost use Rattle.memory.specs.Refusals.{Refused};
+ghost use Rattle.fallible_alloc.specs.Refusals.{Refused};
 
 use crate::output::put_read;
 use crate::query_value::QueryValue;
-use esc_fields::{FieldRow, Fields};
-use esc_tcap::GetTcapBuilder;
+use flat_values::{FieldRow, Fields};
 use std::alloc::{AllocError, Global};
+use xtgettcap::GetTcapBuilder;
 
 /// What `escape_stream_read_tcap` of `escape_c` does.
 pub fn read_tcap(

@@ -1,7 +1,7 @@
 //! The text of the kitty image that a kind and fields say.
 ghost use Rattle.std.specs.Prelude.{◌≡◌, ◌↔◌, IfErr, IfOk, IsTrue, OnErr, Some, drop, true};
 ghost use Rattle.std.specs.List.{list_all};
-ghost use Rattle.esc_fields.specs.HeldImages.{HasImage};
+ghost use Rattle.flat_values.specs.HeldImages.{HasImage};
 ghost use Rattle.esc_kitty.specs.Texts.{image_text};
 ghost use Rattle.esc_kitty.specs.Writable.{is_kept};
 ghost use Rattle.esc_kitty.specs.declared.image.KittyImage.{KittyImage};
@@ -9,14 +9,14 @@ ghost use Rattle.esc_calls.specs.ImageValues.{image_read};
 ghost use Rattle.esc_calls.specs.Output.{Writes};
 ghost use Rattle.esc_calls.specs.Written.{status_of};
 ghost use Rattle.esc_calls.specs.WrittenImages.{IsRefusal, IsText};
-ghost use Rattle.memory.specs.Refusals.{Refused};
+ghost use Rattle.fallible_alloc.specs.Refusals.{Refused};
 
 use crate::output::put_text;
 use crate::refusal::Refusal;
 use crate::shown::{display, ended};
-use esc_fields::{FieldRow, has_image, image_of};
 use esc_kitty::KittyImage as Image;
 use esc_values::Text;
+use flat_values::{FieldRow, has_image, image_of};
 use std::alloc::{AllocError, Global};
 
 /// What `escape_stream_write_kitty` of `escape_c` does.

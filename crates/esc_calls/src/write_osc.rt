@@ -1,22 +1,22 @@
 //! The text of the command that a kind and fields say.
 ghost use Rattle.std.specs.Prelude.{◌≡◌, ◌↔◌, ℕ, IfErr, IfOk, IsTrue, List, OnErr};
-ghost use Rattle.esc_values.specs.Clear.{framed, IsClearText};
+ghost use Rattle.esc_values.specs.Clear.{framed_text, IsClearText};
 ghost use Rattle.esc_osc.specs.Commands.{command_text};
 ghost use Rattle.esc_osc.specs.declared.command.OperatingSystemCommand.{OperatingSystemCommand};
-ghost use Rattle.esc_fields.specs.Held.{Has};
+ghost use Rattle.flat_values.specs.Held.{Has};
 ghost use Rattle.esc_calls.specs.OscValues.{command_of};
 ghost use Rattle.esc_calls.specs.Output.{Writes};
 ghost use Rattle.esc_calls.specs.Written.{status_of};
 ghost use Rattle.esc_calls.specs.WrittenOscs.{IsRefusal, IsText};
-ghost use Rattle.memory.specs.Refusals.{Refused};
+ghost use Rattle.fallible_alloc.specs.Refusals.{Refused};
 
 use crate::clear::is_clear_text;
 use crate::output::put_text;
 use crate::refusal::Refusal;
 use crate::shown::display;
-use esc_fields::{FieldRow, command_of, has_fields};
 use esc_parse::commands::command_in;
 use esc_values::Text;
+use flat_values::{FieldRow, command_of, has_fields};
 use std::alloc::{AllocError, Global};
 
 /// What `escape_stream_write_osc` of `escape_c` does.
@@ -60,7 +60,7 @@ fn text_of(alloc: Global, kind: u32, fields: &[FieldRow], text: &[u8]) -> Result
 
 // What is between `ESC ]` and `ESC \`.
 fn inner(text: &[u8]) -> &[u8]
-    ensures { (t : List ℕ) → text.now ≡ framed t → result.now ≡ t }
+    ensures { (t : List ℕ) → text.now ≡ framed_text t → result.now ≡ t }
 {
     let start = text.len().min(2);
     let end = text.len().saturating_sub(2).max(start);

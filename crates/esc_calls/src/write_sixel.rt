@@ -6,16 +6,16 @@ ghost use Rattle.esc_calls.specs.Output.{Writes};
 ghost use Rattle.esc_calls.specs.SixelValues.{IsHeader};
 ghost use Rattle.esc_calls.specs.Written.{status_of};
 ghost use Rattle.esc_calls.specs.WrittenSixels.{AreGiven, HasSixel, IsGiven, IsRefusal, IsText, optional};
-ghost use Rattle.memory.specs.Refusals.{Refused};
+ghost use Rattle.fallible_alloc.specs.Refusals.{Refused};
 
 use crate::output::put_text;
 use crate::refusal::Refusal;
 use crate::shown::{display, ended};
 use crate::sixel_value::SixelValue;
 use crate::sixel_writable::is_writable;
-use esc_fields::{SixelRow, sixel_items_of};
 use esc_sixel::{Sixel, SixelData};
 use esc_values::{Items, Text};
+use flat_values::{SixelRow, sixel_items_of};
 use std::alloc::{AllocError, Global};
 
 /// What `escape_stream_write_sixel` of `escape_c` does.

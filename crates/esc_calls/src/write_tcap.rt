@@ -4,16 +4,16 @@ ghost use Rattle.esc_calls.specs.Output.{Writes};
 ghost use Rattle.esc_calls.specs.QueryValues.{query_table};
 ghost use Rattle.esc_calls.specs.Written.{status_of};
 ghost use Rattle.esc_calls.specs.WrittenQueries.{IsRefusal, IsText};
-ghost use Rattle.memory.specs.Refusals.{Refused};
+ghost use Rattle.fallible_alloc.specs.Refusals.{Refused};
 
 use crate::output::put_text;
 use crate::refusal::Refusal;
 use crate::shown::{display, ended};
 use crate::tcap::names_of_query;
-use esc_fields::{FieldRow, are_those, names_of};
-use esc_tcap::TcapQuery;
 use esc_values::Text;
+use flat_values::{FieldRow, are_those, names_of};
 use std::alloc::{AllocError, Global};
+use xtgettcap::TcapQuery;
 
 /// What `escape_stream_write_tcap` of `escape_c` does.
 pub fn write_tcap(

@@ -4,7 +4,7 @@ use Rattle.std.specs.Str.{IsAscii}
 use Rattle.std.proofs.lemmas.List.{take_all, take_rest}
 use Rattle.std.proofs.lemmas.Nat.{le_or_l, le_or_r}
 use Rattle.std.proofs.lemmas.Str.{IsAscii-append}
-use Rattle.esc_frame.proofs.CsiRuns.{run_joins}
+use Rattle.esc_frame.proofs.ByteRuns.CsiRuns.{run_joins}
 use lib.Lanes.{zip2}
 
 -- the bits of both

@@ -7,9 +7,9 @@ use Rattle.std.proofs.lemmas.Str.{encode_ascii}
 use Rattle.std.specs.Char.{encode_utf8}
 use Rattle.std.specs.Str.{IsUtf8, encode_utf8_all}
 use lib.Utf8.{scalar, scalars}
-use Rattle.esc_frame.proofs.Characters.{four_is, none_five, none_none, none_one, spells_clear, three_is, two_is}
+use Rattle.esc_frame.proofs.Cut.WellFormedIsUtf8.{four_is, none_five, none_none, none_one, spells_clear, three_is, two_is}
 use Rattle.esc_frame.specs.Sequences.{is_from, is_prefix, is_second, is_sequence, is_tail}
-use Rattle.esc_decode.specs.Masks.{Stay, begun_after, masked, masked_after}
+use Rattle.esc_decode.specs.Masks.{Stay, begun_after, masked_bytes, masked_after}
 use Rattle.esc_decode.proofs.Masks.{low_step}
 use Rattle.esc_decode.proofs.Outcomes.{is_more, is_whole, more_step, no_sequence, whole_step}
 
@@ -153,5 +153,5 @@ characters_stay (c ∷ cs) h =
 pub utf8_stays : (s : List ℕ) → IsUtf8 s → Stay s
 utf8_stays s u = subst Stay u.1.1 (characters_stay u.0 u.1.0)
 
-pub text_stays : (s : List ℕ) → IsUtf8 s → masked s ≡ s
+pub text_stays : (s : List ℕ) → IsUtf8 s → masked_bytes s ≡ s
 text_stays s u = (utf8_stays s u).0

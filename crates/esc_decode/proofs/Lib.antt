@@ -4,5 +4,5 @@ pub mod Masks
 pub mod Characters
 pub mod Raw
 pub mod Reading
-pub mod Feeding
+pub mod StreamFilter
 pub mod Units

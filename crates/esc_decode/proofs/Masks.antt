@@ -7,7 +7,7 @@ use Rattle.esc_frame.specs.Scans.{is_text_byte}
 use Rattle.esc_frame.specs.Sequences.{outcome}
 use Rattle.esc_frame.specs.declared.utf8.sequence.Outcome.{Outcome}
 use Rattle.esc_frame.specs.declared.utf8.sequence.Outcome.TheVariants.{Whole, More, Broken}
-use Rattle.esc_decode.specs.Masks.{IsMaskOf, Stay, begun_after, is_raw, masked, masked_after, masked_byte, next_begun}
+use Rattle.esc_decode.specs.Masks.{IsMaskOf, Stay, begun_after, is_raw, masked_bytes, masked_after, masked_byte, next_begun}
 use Rattle.esc_decode.proofs.Outcomes.{low_byte}
 
 -- ---- bytes, and then more
@@ -22,8 +22,9 @@ pub begun_append : (f x y : List ℕ) → begun_after f (x ++ y) ≡ begun_after
 begun_append f [] y = refl
 begun_append f (b ∷ x) y = begun_append (next_begun f b (outcome f b)) x y
 
-pub by_pieces : (s t : List ℕ) → masked (s ++ t) ≡ masked s ++ masked_after (begun_after [] s) t
-by_pieces s t = masked_append [] s t
+pub by_chunks : (s t : List ℕ) → masked_bytes (s ++ t) ≡ masked_bytes s
+    ++ masked_after (begun_after [] s) t
+by_chunks s t = masked_append [] s t
 
 -- ---- each byte
 
@@ -31,7 +32,7 @@ length_after : (f s : List ℕ) → length (masked_after f s) ≡ length s
 length_after f [] = refl
 length_after f (b ∷ s) = ap suc (length_after (next_begun f b (outcome f b)) s)
 
-pub length_stays : (s : List ℕ) → length (masked s) ≡ length s
+pub length_stays : (s : List ℕ) → length (masked_bytes s) ≡ length s
 length_stays s = length_after [] s
 
 one_by : (b : ℕ) (t : Bool) → is_raw b ≡ t
@@ -50,7 +51,7 @@ each_after f [] = tt
 each_after f (b ∷ s) =
     (one_is b (outcome f b), each_after (next_begun f b (outcome f b)) s)
 
-pub each_is : (s : List ℕ) → IsMaskOf s (masked s)
+pub each_is : (s : List ℕ) → IsMaskOf s (masked_bytes s)
 each_is s = each_after [] s
 
 -- ---- ASCII
@@ -65,9 +66,9 @@ low_step f b t l = let q = low_byte f b l in (
 )
 
 pub ascii_stays : (s t : List ℕ) (b : ℕ) → b < 0x80
-    → masked (s ++ b ∷ t) ≡ masked s ++ b ∷ masked t
+    → masked_bytes (s ++ b ∷ t) ≡ masked_bytes s ++ b ∷ masked_bytes t
 ascii_stays s t b l = masked_append [] s (b ∷ t)
-    ∙ ap (λ y. masked s ++ y) (low_step (begun_after [] s) b t l).0
+    ∙ ap (λ y. masked_bytes s ++ y) (low_step (begun_after [] s) b t l).0
 
 -- a byte of ASCII at the end leaves nothing begun
 pub begun_low : (f x : List ℕ) (b : ℕ) → b < 0x80 → begun_after f (x ++ b ∷ []) ≡ []

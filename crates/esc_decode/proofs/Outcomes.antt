@@ -1,7 +1,7 @@
 -- What a byte makes of what has begun.
 use Rattle.std.proofs.Common.{ℕ, ◌≡◌, ◌<◌, ◌≤◌, Bool, true, false, if◌then◌else◌, List, [], ◌∷◌, ◌++◌, arith, refl, ap, sym, ◌∙◌}
 use Rattle.std.proofs.lemmas.Bool.Decides.{nat_tests}
-use Rattle.esc_frame.proofs.Characters.{four_is, none_five, none_one, three_is, two_is}
+use Rattle.esc_frame.proofs.Cut.WellFormedIsUtf8.{four_is, none_five, none_one, three_is, two_is}
 use Rattle.esc_frame.specs.Sequences.{is_prefix, is_sequence, outcome}
 use Rattle.esc_frame.specs.declared.utf8.sequence.Outcome.TheVariants.{Whole, More, Broken}
 use Rattle.esc_decode.specs.Masks.{begun_after, first_begun, is_raw, masked_after, masked_byte, next_begun}

@@ -3,13 +3,13 @@ use Rattle.std.proofs.Common.{ℕ, ◌≡◌, ◌<◌, ◌⊎◌, inl, inr, Bool
 use Rattle.std.specs.List.{list_any}
 use Rattle.std.proofs.lemmas.Bool.Decides.{nat_tests}
 use Rattle.std.proofs.lemmas.List.{append-nil}
-use Rattle.esc_frame.proofs.Bytes.{outcome_more, outcome_whole}
-use Rattle.esc_frame.proofs.Scan.{is_lead, prefix_lead}
+use Rattle.esc_frame.proofs.Cut.OneByteMore.{outcome_more, outcome_whole}
+use Rattle.esc_frame.proofs.Cut.FirstSequence.{is_lead, prefix_lead}
 use Rattle.esc_frame.specs.Classes.{class_of, ends_csi, ends_escape, in_osc, is_c1, is_control, is_high, is_terminator, is_text}
-use Rattle.esc_frame.specs.Segments.{AreSegments, ArePieces, HasShape, IsCut, IsPiece, Opener, Piece, Segment, bytes_of, is_finished, joined, opener, piece_bytes, text_bytes}
+use Rattle.esc_frame.specs.Segments.{AreSegments, AreOscUnits, HasShape, IsCut, IsOscUnit, Opener, OscUnit, Segment, bytes_of, is_finished, joined_bytes, opener, osc_unit_bytes, text_bytes}
 use Rattle.esc_frame.specs.Segments.Ending.{Open, Rung, Waits}
 use Rattle.esc_frame.specs.Segments.Opener.{Long, Pair, Raw}
-use Rattle.esc_frame.specs.Segments.Piece.{BrokenOff, One, Sequence}
+use Rattle.esc_frame.specs.Segments.OscUnit.{BrokenOff, One, Sequence}
 use Rattle.esc_frame.specs.Segments.Segment.{Apc, Broken as BrokenSegment, Character, Control, Csi, CutCsi, CutDcs, CutEscape, Dcs, Escape, HighControl, Ignored, Osc, Stray, Terminator, Wide}
 use Rattle.esc_frame.specs.Sequences.{continues, is_broken_before, is_prefix, is_sequence, outcome}
 use Rattle.esc_frame.specs.declared.classes.Class.{Class}
@@ -17,7 +17,7 @@ use Rattle.esc_frame.specs.declared.classes.Class.TheVariants as class
 use Rattle.esc_frame.specs.declared.classes.Kind.TheVariants as kind
 use Rattle.esc_frame.specs.declared.utf8.sequence.Outcome.{Outcome}
 use Rattle.esc_frame.specs.declared.utf8.sequence.Outcome.TheVariants.{Whole, More, Broken}
-use Rattle.esc_decode.specs.Masks.{begins_raw, begun_after, first_begun, first_is_raw, is_bytewise, is_raw, masked, masked_after, masked_byte, next_begun}
+use Rattle.esc_decode.specs.Masks.{begins_raw, begun_after, first_begun, first_is_raw, is_bytewise, is_raw, masked_bytes, masked_after, masked_byte, next_begun}
 use Rattle.esc_decode.proofs.Characters.{prefix_begun, sequence_begun}
 use Rattle.esc_decode.proofs.Masks.{begun_append, begun_low}
 use Rattle.esc_decode.proofs.Outcomes.{nothing_begun, outcome_mask}
@@ -87,7 +87,7 @@ raw_after f (a ∷ s) (c ∷ x) y b e h =
     subst (λ k. continues (begun_after k x) b ≡ true) same
     (raw_after g s x y b (tail_same _ _ _ _ e) h)
 
-pub raw_goes_on : (s x y : List ℕ) (b : ℕ) → masked s ≡ x ++ b ∷ y → is_raw b ≡ true
+pub raw_goes_on : (s x y : List ℕ) (b : ℕ) → masked_bytes s ≡ x ++ b ∷ y → is_raw b ≡ true
     → continues (begun_after [] x) b ≡ true
 raw_goes_on s x y b e h = raw_after [] s x y b e h
 
@@ -182,23 +182,24 @@ pair_sequence b h = grind (arith, nat_tests)
 
 -- ---- the text of an operating system command
 
-piece_over : (f : List ℕ) (p : Piece) (t : List ℕ) → IsOver f (piece_bytes p ++ t) → IsPiece p t
-    → IsOver (begun_after f (piece_bytes p)) t
-piece_over f (One b) t h k =
+chunk_over : (f : List ℕ) (p : OscUnit) (t : List ℕ) → IsOver f (osc_unit_bytes p ++ t)
+    → IsOscUnit p t
+    → IsOver (begun_after f (osc_unit_bytes p)) t
+chunk_over f (One b) t h k =
     over_after f (b ∷ []) t h (inl (single b (osc_no_lead (class_of b) k)))
-piece_over f (Sequence x) t h k = over_after f x t h (inl (sequence_begun x k.0))
-piece_over f (BrokenOff x) t h k =
+chunk_over f (Sequence x) t h k = over_after f x t h (inl (sequence_begun x k.0))
+chunk_over f (BrokenOff x) t h k =
     over_after f x t h (inr (ap (λ g. is_broken_before g t) (prefix_begun x k.0) ∙ k.1))
 
-pieces_over : (f : List ℕ) (ps : List Piece) (t : List ℕ) → IsOver f (text_bytes ps ++ t)
-    → ArePieces ps t → IsOver (begun_after f (text_bytes ps)) t
-pieces_over f [] t h k = h
-pieces_over f (p ∷ ps) t h k =
+chunks_over : (f : List ℕ) (ps : List OscUnit) (t : List ℕ) → IsOver f (text_bytes ps ++ t)
+    → AreOscUnits ps t → IsOver (begun_after f (text_bytes ps)) t
+chunks_over f [] t h k = h
+chunks_over f (p ∷ ps) t h k =
     let rest = text_bytes ps in
-    let one = piece_over f p (rest ++ t)
-    (subst (IsOver f) (append_assoc (piece_bytes p) rest t) h) k.0 in
-    subst (λ g. IsOver g t) (sym (begun_append f (piece_bytes p) rest))
-    (pieces_over (begun_after f (piece_bytes p)) ps t one k.1)
+    let one = chunk_over f p (rest ++ t)
+    (subst (IsOver f) (append_assoc (osc_unit_bytes p) rest t) h) k.0 in
+    subst (λ g. IsOver g t) (sym (begun_append f (osc_unit_bytes p) rest))
+    (chunks_over (begun_after f (osc_unit_bytes p)) ps t one k.1)
 
 raw_no_lead : is_lead (class_of 0x9d) ≡ false
 unfolding class_of
@@ -234,7 +235,7 @@ segment_over (Csi o x b) t h f w r = low_over (opener kind.Csi o ++ x) b t (csi_
 segment_over (Osc o ps Open) t h f w r =
     let k = opener kind.Osc o in
     let text = text_bytes ps in
-    let inside : IsOver (begun_after [] text) t = pieces_over [] ps t (inl refl) h.1 in
+    let inside : IsOver (begun_after [] text) t = chunks_over [] ps t (inl refl) h.1 in
     subst (λ y. IsOver (begun_after [] y) t) (sym (append-nil (k ++ text)))
     (subst (λ g. IsOver g t) (sym (begun_append [] k text
     ∙ ap (λ g. begun_after g text) (opener_begun o))) inside)
@@ -256,7 +257,7 @@ or_false false t h = (refl, h)
 
 module _ (s : List ℕ) where
   -- bytes that come after these, which nothing goes on into, do not begin with a raw control
-  first_by : (x y t : List ℕ) → masked s ≡ x ++ (y ++ t) → IsOver (begun_after [] x) (y ++ t)
+  first_by : (x y t : List ℕ) → masked_bytes s ≡ x ++ (y ++ t) → IsOver (begun_after [] x) (y ++ t)
       → first_is_raw y ≡ false
   first_by x [] t e over = refl
   first_by x (b ∷ y) t e over = by (is_raw b) refl
@@ -266,14 +267,14 @@ module _ (s : List ℕ) where
           (raw_goes_on s x (y ++ t) b e h))
       by false h = refl
 
-  walk : (x : List ℕ) (gs : List Segment) → masked s ≡ x ++ joined gs
-      → IsOver (begun_after [] x) (joined gs) → AreSegments gs
+  walk : (x : List ℕ) (gs : List Segment) → masked_bytes s ≡ x ++ joined_bytes gs
+      → IsOver (begun_after [] x) (joined_bytes gs) → AreSegments gs
       → list_any is_bytewise gs ≡ false → list_any begins_raw gs ≡ false
   walk x [] e over each none = refl
   walk x (g ∷ []) e over each none = rw (first_by x (bytes_of g) [] e over) refl
   walk x (g ∷ h ∷ gs) e over each none =
       let y = bytes_of g in
-      let t = joined (h ∷ gs) in
+      let t = joined_bytes (h ∷ gs) in
       let a = first_by x y t e over in
       let n = or_false (is_bytewise g) (list_any is_bytewise (h ∷ gs)) none in
       let next = over_after (begun_after [] x) y t over
@@ -282,10 +283,11 @@ module _ (s : List ℕ) where
       (subst (λ f. IsOver f t) (sym (begun_append [] x y)) next) each.2 n.1 in
       rw (a, more) refl
 
-  pub none_begins_in : (gs : List Segment) → IsCut (masked s) gs → list_any is_bytewise gs ≡ false
+  pub none_begins_in : (gs : List Segment) → IsCut (masked_bytes s) gs → list_any is_bytewise gs
+      ≡ false
       → list_any begins_raw gs ≡ false
   none_begins_in gs cut none = walk [] gs cut.whole (inl refl) cut.each none
 
-pub none_begins : (s : List ℕ) (gs : List Segment) → IsCut (masked s) gs
+pub none_begins : (s : List ℕ) (gs : List Segment) → IsCut (masked_bytes s) gs
     → list_any is_bytewise gs ≡ false → list_any begins_raw gs ≡ false
 none_begins s gs cut none = none_begins_in s gs cut none

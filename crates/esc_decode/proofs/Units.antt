@@ -1,10 +1,10 @@
--- A stream of UTF-16 in pieces.
+-- A stream of UTF-16 in chunks.
 use Rattle.std.proofs.Common.{ℕ, ◌≡◌, ◌++◌, ◌∷◌, ◌∙◌, Bool, List, [], Option, None, Some, refl, sym, ap}
 use Rattle.std.proofs.lemmas.List.{append_assoc}
 use Rattle.std.proofs.lemmas.Str.{encodes-append}
 use Rattle.std.specs.Str.{encode_utf8_all}
 use Rattle.esc_decode.specs.declared.utf16.Utf16.{Utf16}
-use Rattle.esc_decode.specs.Units.{added, after, given, given_after, left, left_after, odd_after, unit, units_after}
+use Rattle.esc_decode.specs.Units.{unit_text, after, unit_utf8, given_after, left, left_after, odd_after, unit, units_after}
 
 pub units_append : (little : Bool) (odd : Option ℕ) (s t : List ℕ)
     → units_after little odd (s ++ t)
@@ -24,8 +24,8 @@ pub given_append : (h : Option ℕ) (us vs : List ℕ)
     → given_after h (us ++ vs) ≡ given_after h us ++ given_after (left_after h us) vs
 given_append h [] vs = refl
 given_append h (u ∷ us) vs =
-    ap (λ x. given h u ++ x) (given_append (left h u) us vs)
-    ∙ sym (append_assoc (given h u) (given_after (left h u) us)
+    ap (λ x. unit_utf8 h u ++ x) (given_append (left h u) us vs)
+    ∙ sym (append_assoc (unit_utf8 h u) (given_after (left h u) us)
     (given_after (left_after (left h u) us) vs))
 
 pub left_append : (h : Option ℕ) (us vs : List ℕ)
@@ -33,7 +33,7 @@ pub left_append : (h : Option ℕ) (us vs : List ℕ)
 left_append h [] vs = refl
 left_append h (u ∷ us) vs = left_append (left h u) us vs
 
--- ---- in pieces
+-- ---- in chunks
 
 pub after_append : (u : Utf16) (s t : List ℕ) → after (after u s) t ≡ after u (s ++ t)
 after_append u s t =
@@ -45,7 +45,7 @@ after_append u s t =
     ) refl
 
 pub added_append : (u : Utf16) (s t : List ℕ)
-    → added u (s ++ t) ≡ added u s ++ added (after u s) t
+    → unit_text u (s ++ t) ≡ unit_text u s ++ unit_text (after u s) t
 added_append u s t =
     ap (λ us. encode_utf8_all (given_after u.high us)) (units_append u.is_little u.odd s t)
     ∙ ap encode_utf8_all (given_append u.high (units_after u.is_little u.odd s)

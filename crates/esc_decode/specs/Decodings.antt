@@ -2,7 +2,7 @@
 use Rattle.std.specs.Prelude.{ℕ, ◌≡◌, List, [], ◌++◌}
 use Rattle.esc_frame.specs.Machine.Prefixes.{prefix_of}
 use Rattle.esc_frame.specs.declared.utf8.sequence.Pending.{Pending}
-use Rattle.esc_normal.specs.declared.feeding.Feeding.{Ghosts as Feeder}
+use Rattle.esc_normal.specs.declared.feeding.StreamFilter.{Ghosts as Feeder}
 use Rattle.esc_decode.specs.Masks.{begun_after, masked_after}
 use Rattle.esc_decode.specs.declared.encoding.Encoding.{Encoding}
 use Rattle.esc_decode.specs.declared.encoding.Encoding.TheVariants.{EightBit, Utf8}
@@ -22,12 +22,12 @@ begun_by EightBit f s = f
 begun_by (encoding.CodePage p) f s = f
 
 -- what a stream becomes
-abbrev pub decoded : Encoding → List ℕ → List ℕ
-decoded e s = decoded_after e [] s
+abbrev pub decoded_stream : Encoding → List ℕ → List ℕ
+decoded_stream e s = decoded_after e [] s
 
 -- the text of a stream in this encoding, where this is that of what it becomes
 abbrev pub through : Encoding → (List ℕ → List ℕ) → List ℕ → List ℕ
-through e m s = m (decoded e s)
+through e m s = m (decoded_stream e s)
 
 -- More of a stream adds to its text, and so does its end: nothing that was written is taken back.
 pub record OnlyAdds (m c : List ℕ → List ℕ) : Type 0 where
@@ -41,7 +41,7 @@ pub record Decodes {F A : Type 0} (G : Feeder F A) (e : Encoding) (begun : Pendi
   pub inner : List ℕ → List ℕ
   pub inner_end : List ℕ → List ℕ
   pub adds : OnlyAdds inner inner_end
-  pub given : G.gives filter inner inner_end (decoded e s)
+  pub given : G.gives filter inner inner_end (decoded_stream e s)
   pub left : prefix_of begun ≡ begun_by e [] s
   pub goes_on : m ≡ through e inner
   pub ended : c ≡ through e inner_end

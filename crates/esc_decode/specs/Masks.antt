@@ -43,8 +43,8 @@ abbrev pub begun_after : List ℕ → List ℕ → List ℕ
 begun_after f [] = f
 begun_after f (b ∷ s) = begun_after (next_begun f b (outcome f b)) s
 
-abbrev pub masked : List ℕ → List ℕ
-masked s = masked_after [] s
+abbrev pub masked_bytes : List ℕ → List ℕ
+masked_bytes s = masked_after [] s
 
 -- ---- what the laws speak of
 
@@ -78,8 +78,8 @@ begins_raw g = first_is_raw (bytes_of g)
 -- ---- one byte after another
 
 -- this is known of the stream that it was fed
-abbrev pub WasFed : List ℕ → Mask → Type 0
-WasFed s m = prefix_of m.begun ≡ begun_after [] s
+abbrev pub HasConsumed : List ℕ → Mask → Type 0
+HasConsumed s m = prefix_of m.begun ≡ begun_after [] s
 
 -- these bytes stay, and leave nothing begun
 abbrev pub Stay : List ℕ → Type 0

@@ -39,9 +39,9 @@ pair h l = 0x10000 + 0x400 * (h % 0x400) + l % 0x400
 abbrev pub given_alone : ℕ → List ℕ
 given_alone u = if is_high u then [] else if is_low u then 0xfffd ∷ [] else u ∷ []
 
-abbrev pub given : Option ℕ → ℕ → List ℕ
-given None u = given_alone u
-given (Some h) u = if is_low u then pair h u ∷ [] else 0xfffd ∷ given_alone u
+abbrev pub unit_utf8 : Option ℕ → ℕ → List ℕ
+unit_utf8 None u = given_alone u
+unit_utf8 (Some h) u = if is_low u then pair h u ∷ [] else 0xfffd ∷ given_alone u
 
 -- the first one of a pair that is left after it
 abbrev pub left_alone : ℕ → Option ℕ
@@ -54,7 +54,7 @@ left (Some h) u = if is_low u then None else left_alone u
 -- the same of units, one after another
 abbrev pub given_after : Option ℕ → List ℕ → List ℕ
 given_after h [] = []
-given_after h (u ∷ us) = given h u ++ given_after (left h u) us
+given_after h (u ∷ us) = unit_utf8 h u ++ given_after (left h u) us
 
 abbrev pub left_after : Option ℕ → List ℕ → Option ℕ
 left_after h [] = h
@@ -76,8 +76,8 @@ abbrev pub all_characters : Bool → List ℕ → List ℕ
 all_characters little s = characters little s
     ++ cut_short (odd_after None s) (left_after None (units_after little None s))
 
-abbrev pub decoded : Bool → List ℕ → List ℕ
-decoded little s = encode_utf8_all (characters little s)
+abbrev pub utf16_text : Bool → List ℕ → List ℕ
+utf16_text little s = encode_utf8_all (characters little s)
 
 -- whether the lower byte of a unit comes first by these two, where they are a byte order mark
 abbrev pub mark_of : ℕ → ℕ → Option Bool
@@ -86,11 +86,11 @@ mark_of a b =
     else if (a == 0xfe) && (b == 0xff) then Some false
     else None
 
--- ---- in pieces
+-- ---- in chunks
 
 -- at the beginning of a stream
-abbrev pub begun : Bool → Utf16
-begun little = record { is_little = little; odd = None; high = None }
+abbrev pub fresh_units : Bool → Utf16
+fresh_units little = record { is_little = little; odd = None; high = None }
 
 -- what is kept after bytes more
 abbrev pub after : Utf16 → List ℕ → Utf16
@@ -101,5 +101,5 @@ after u s = record {
 }
 
 -- the text that they add
-abbrev pub added : Utf16 → List ℕ → List ℕ
-added u s = encode_utf8_all (given_after u.high (units_after u.is_little u.odd s))
+abbrev pub unit_text : Utf16 → List ℕ → List ℕ
+unit_text u s = encode_utf8_all (given_after u.high (units_after u.is_little u.odd s))

@@ -1,7 +1,7 @@
 //! Bytes of an 8-bit encoding as characters.
 ghost use Rattle.std.specs.Prelude.{◌≡◌, ◌++◌, ◌<◌, ◌≤◌, IfOk, OnErr, OnOk, encode_utf8, length, take};
 ghost use Rattle.esc_decode.specs.Pages.{character_in, read_in, scalar_or};
-ghost use Rattle.memory.specs.Refusals.{Refused};
+ghost use Rattle.fallible_alloc.specs.Refusals.{Refused};
 
 use esc_frame::ascii_run;
 use std::alloc::{AllocError, Allocator};
@@ -37,7 +37,7 @@ fn push_some<A: Allocator>(
 {
     let run = ascii_run(bytes);
     if run > 0 {
-        memory::extend(text, &bytes[..run])?;
+        fallible_alloc::extend(text, &bytes[..run])?;
         return Ok(run);
     }
     push_scalar(text, character_of(table, bytes[0]))?;
@@ -75,13 +75,13 @@ fn push_scalar<A: Allocator>(text: &mut Vec<u8, A>, n: u16) -> Result<(), AllocE
     ensures refused { OnErr result (Refused A) }
 {
     if n < 0x80 {
-        return memory::extend(text, &[n as u8]);
+        return fallible_alloc::extend(text, &[n as u8]);
     }
     let last = (128 + n % 64) as u8;
     if n < 0x800 {
-        memory::extend(text, &[(192 + n / 64) as u8, last])?;
+        fallible_alloc::extend(text, &[(192 + n / 64) as u8, last])?;
     } else {
-        memory::extend(
+        fallible_alloc::extend(
             text,
             &[(224 + n / 4096) as u8, (128 + n / 64 % 64) as u8, last],
         )?;

@@ -2,7 +2,7 @@
 ghost use Rattle.std.specs.Prelude.{◌≡◌, ◌++◌, ◌∷◌, ◌<◌, ℕ, List, [], false, length, true};
 ghost use Rattle.std.specs.List.{list_any};
 ghost use Rattle.std.specs.Str.{IsAscii, IsUtf8};
-ghost use Rattle.esc_decode.specs.Masks.{IsMaskOf, begins_raw, begun_after, is_bytewise, is_raw, masked, masked_after};
+ghost use Rattle.esc_decode.specs.Masks.{IsMaskOf, begins_raw, begun_after, is_bytewise, is_raw, masked_bytes, masked_after};
 ghost use Rattle.esc_decode.specs.Pages.{read_by};
 ghost use Rattle.esc_decode.specs.declared.code_page.CodePage.{CodePage};
 ghost use Rattle.esc_frame.specs.Segments.{IsCut, Segment};
@@ -11,33 +11,34 @@ ghost use Rattle.esc_frame.specs.Sequences.{continues};
 /// The length is kept: so each byte has its place.
 #[tactic(auto, using(crate::proofs::Masks::length_stays))]
 pub fn length_stays()
-    ensures { (s : List ℕ) → length (masked s) ≡ length s }
+    ensures { (s : List ℕ) → length (masked_bytes s) ≡ length s }
 {}
 
 /// Each byte stays in its place, or is FF there in place of a raw control of C1.
 #[tactic(auto, using(crate::proofs::Masks::each_is))]
 pub fn each_byte_stays_or_is_masked()
-    ensures { (s : List ℕ) → IsMaskOf s (masked s) }
+    ensures { (s : List ℕ) → IsMaskOf s (masked_bytes s) }
 {}
 
 /// Text in UTF-8 stays as it is.
 #[tactic(auto, using(crate::proofs::Characters::text_stays))]
 pub fn characters_stay()
-    ensures { (s : List ℕ) → IsUtf8 s → masked s ≡ s }
+    ensures { (s : List ℕ) → IsUtf8 s → masked_bytes s ≡ s }
 {}
 
 /// A byte of ASCII stays, and what follows it is as a stream of its own.
 #[tactic(auto, using(crate::proofs::Masks::ascii_stays))]
 pub fn ascii_stays()
     ensures { (s t : List ℕ) (b : ℕ) → b < 0x80
-        → masked (s ++ b ∷ t) ≡ masked s ++ b ∷ masked t }
+        → masked_bytes (s ++ b ∷ t) ≡ masked_bytes s ++ b ∷ masked_bytes t }
 {}
 
 /// What a byte becomes depends on what came before it alone, and of that on what has begun: so
 /// nothing is held back.
 #[tactic(auto, using(crate::proofs::Masks::masked_append))]
-pub fn masks_piece_by_piece()
-    ensures { (s t : List ℕ) → masked (s ++ t) ≡ masked s ++ masked_after (begun_after [] s) t }
+pub fn masks_chunk_by_chunk()
+    ensures { (s t : List ℕ) → masked_bytes (s ++ t) ≡ masked_bytes s
+        ++ masked_after (begun_after [] s) t }
 {}
 
 /// What a stream in an 8-bit encoding becomes is text in UTF-8.
@@ -55,7 +56,7 @@ pub fn code_page_keeps_ascii()
 /// A raw control that is left goes on a well-formed character.
 #[tactic(auto, using(crate::proofs::Raw::raw_goes_on))]
 pub fn raw_bytes_go_on()
-    ensures { (s x y : List ℕ) (b : ℕ) → masked s ≡ x ++ b ∷ y → is_raw b ≡ true
+    ensures { (s x y : List ℕ) (b : ℕ) → masked_bytes s ≡ x ++ b ∷ y → is_raw b ≡ true
         → continues (begun_after [] x) b ≡ true }
 {}
 
@@ -63,6 +64,6 @@ pub fn raw_bytes_go_on()
 /// a sequence that is cut short, or a string other than an operating system command.
 #[tactic(auto, using(crate::proofs::Raw::none_begins))]
 pub fn no_raw_control_begins()
-    ensures { (s : List ℕ) (gs : List Segment) → IsCut (masked s) gs
+    ensures { (s : List ℕ) (gs : List Segment) → IsCut (masked_bytes s) gs
         → list_any is_bytewise gs ≡ false → list_any begins_raw gs ≡ false }
 {}

@@ -8,8 +8,8 @@
 //! ```text
 //! let inner = Filter::new(alloc, 65_536, Policy::Color);
 //! let mut filter = Decoding::new(alloc, Encoding::Utf8, inner);
-//! filter.feed_piece(b"\x9ele\n")?;
-//! filter.added_text()       // "\u{fffd}le\n"
+//! filter.feed_chunk(b"\x9ele\n")?;
+//! filter.output_text()       // "\u{fffd}le\n"
 //! ```
 #![tactic(auto)]
 
@@ -34,7 +34,7 @@ pub use encoding::Encoding;
 pub use input::Input;
 pub use laws::{
     ascii_stays, characters_stay, code_page_is_text, code_page_keeps_ascii,
-    each_byte_stays_or_is_masked, length_stays, masks_piece_by_piece, no_raw_control_begins,
+    each_byte_stays_or_is_masked, length_stays, masks_chunk_by_chunk, no_raw_control_begins,
     raw_bytes_go_on,
 };
 pub use mask::Mask;

@@ -2,7 +2,7 @@
 ghost use Rattle.std.specs.Prelude.{◌≡◌, ◌++◌, ◌∷◌, ℕ, List, []};
 ghost use Rattle.esc_frame.specs.Machine.Prefixes.{prefix_of};
 ghost use Rattle.esc_frame.specs.Sequences.{is_prefix, outcome};
-ghost use Rattle.esc_decode.specs.Masks.{WasFed, first_begun, lone, masked, masked_byte, next_begun};
+ghost use Rattle.esc_decode.specs.Masks.{HasConsumed, first_begun, lone, masked_bytes, masked_byte, next_begun};
 
 use esc_frame::utf8::sequence::{Outcome, Pending, lies_from};
 
@@ -17,7 +17,7 @@ pub struct Mask {
 impl Mask {
     /// At the beginning of a stream.
     pub fn new() -> Mask
-        ensures { WasFed [] result }
+        ensures { HasConsumed [] result }
     {
         Mask {
             begun: Pending::Nothing,
@@ -26,9 +26,10 @@ impl Mask {
 
     /// What the next byte becomes.
     pub fn take(&mut self, byte: u8) -> u8
-        ensures fed { (s : List ℕ) → WasFed s self.old → WasFed (s ++ byte ∷ []) self.new }
-        ensures masked { (s : List ℕ) → WasFed s self.old
-            → masked (s ++ byte ∷ []) ≡ masked s ++ result ∷ [] }
+        ensures fed { (s : List ℕ) → HasConsumed s self.old
+            → HasConsumed (s ++ byte ∷ []) self.new }
+        ensures masked { (s : List ℕ) → HasConsumed s self.old
+            → masked_bytes (s ++ byte ∷ []) ≡ masked_bytes s ++ result ∷ [] }
     {
         let (begun, becomes) = step(self.begun, byte);
         self.begun = begun;

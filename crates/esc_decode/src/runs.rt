@@ -2,7 +2,7 @@
 ghost use Rattle.std.specs.Prelude.{[], ◌≡◌, ◌++◌, ◌<◌, ◌≤◌, IfOk, IsTrue, OnErr, OnOk, length, take};
 ghost use Rattle.esc_decode.specs.Masks.{Stay, begun_after, masked_after};
 ghost use Rattle.esc_frame.specs.Machine.Prefixes.{prefix_of};
-ghost use Rattle.memory.specs.Refusals.{Refused};
+ghost use Rattle.fallible_alloc.specs.Refusals.{Refused};
 
 use crate::ascii::ascii_blocks;
 use crate::mask::step;
@@ -100,10 +100,10 @@ fn push_some<A: Allocator>(
     let run = stay_run(begun, bytes, false);
     if run == 0 {
         let (next, becomes) = step(begun, bytes[0]);
-        memory::extend(text, &[becomes])?;
+        fallible_alloc::extend(text, &[becomes])?;
         Ok((next, 1))
     } else {
-        memory::extend(text, &bytes[..run])?;
+        fallible_alloc::extend(text, &bytes[..run])?;
         Ok((Pending::Nothing, run))
     }
 }

@@ -1,13 +1,13 @@
 //! A stream of UTF-16 as UTF-8.
 ghost use Rattle.std.specs.Prelude.{◌≡◌, ◌++◌, ◌∷◌, [], OnErr, OnOk, string_bytes, encode_utf8, true};
 ghost use Rattle.std.specs.Str.{encode_utf8_all};
-ghost use Rattle.memory.specs.Refusals.{Refused};
-ghost use Rattle.esc_decode.specs.Units.{added, after, begun, cut_short, given, given_alone, is_high, is_low, left, left_alone, pair, unit};
+ghost use Rattle.fallible_alloc.specs.Refusals.{Refused};
+ghost use Rattle.esc_decode.specs.Units.{unit_text, after, fresh_units, cut_short, unit_utf8, given_alone, is_high, is_low, left, left_alone, pair, unit};
 ghost use lib.Utf8.{scalar};
 
 use std::alloc::{AllocError, Allocator};
 
-/// Makes UTF-8 of a stream of UTF-16, piece by piece. It keeps the first byte of a unit, and the
+/// Makes UTF-8 of a stream of UTF-16, chunk by chunk. It keeps the first byte of a unit, and the
 /// first unit of a pair.
 #[derive(Clone, Copy)]
 pub struct Utf16 {
@@ -19,7 +19,7 @@ pub struct Utf16 {
 impl Utf16 {
     /// At the beginning of a stream, of whose units the lower byte comes first, or the higher.
     pub fn new(is_little: bool) -> Utf16
-        ensures { result ≡ begun is_little }
+        ensures { result ≡ fresh_units is_little }
     {
         Utf16 {
             is_little,
@@ -36,7 +36,7 @@ impl Utf16 {
     ) -> Result<(), AllocError>
         ensures state { OnOk result (self.new ≡ after self.old bytes.now) }
         ensures text { OnOk result
-            (string_bytes text.new ≡ string_bytes text.old ++ added self.old bytes.now) }
+            (string_bytes text.new ≡ string_bytes text.old ++ unit_text self.old bytes.now) }
         ensures refused { OnErr result (Refused A) }
     {
         for byte in bytes {
@@ -65,7 +65,7 @@ impl Utf16 {
     fn take<A: Allocator>(&mut self, byte: u8, text: &mut String<A>) -> Result<(), AllocError>
         ensures state { self.new ≡ after self.old (byte ∷ []) }
         ensures text { OnOk result
-            (string_bytes text.new ≡ string_bytes text.old ++ added self.old (byte ∷ [])) }
+            (string_bytes text.new ≡ string_bytes text.old ++ unit_text self.old (byte ∷ [])) }
         ensures refused { OnErr result (Refused A) }
     {
         match self.odd {
@@ -140,7 +140,7 @@ fn push_given<A: Allocator>(
     unit: u16,
 ) -> Result<(), AllocError>
     ensures text { OnOk result
-        (string_bytes text.new ≡ string_bytes text.old ++ encode_utf8_all (given high unit)) }
+        (string_bytes text.new ≡ string_bytes text.old ++ encode_utf8_all (unit_utf8 high unit)) }
     ensures refused { OnErr result (Refused A) }
 {
     match high {
@@ -179,7 +179,7 @@ fn push_scalar<A: Allocator>(text: &mut String<A>, number: u32) -> Result<(), Al
     ensures refused { OnErr result (Refused A) }
 {
     match char::from_u32(number) {
-        Some(c) => memory::push_char(text, c),
+        Some(c) => fallible_alloc::push_char(text, c),
         None => Ok(()),
     }
 }

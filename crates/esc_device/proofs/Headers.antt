@@ -9,12 +9,12 @@ use Rattle.std.proofs.lemmas.List.{append_cancel_left}
 use Rattle.std.proofs.lemmas.List.Folds.{list_all-append, flat_map-map}
 use Rattle.std.proofs.lemmas.List.Sums.{take_while-cons}
 use Rattle.esc_values.specs.Clear.{AreClearParts, joined}
-use Rattle.esc_values.specs.Params.{is_private_prefix, is_intermediate_byte, after_private_prefix, drop_while, held, value_after}
+use Rattle.esc_values.specs.Params.{is_private_prefix, is_intermediate_byte, after_private_prefix, drop_while, capped_at_i64, value_after}
 use Rattle.esc_values.proofs.Numerals.{decimal_part, decimal_passes}
 use Rattle.esc_values.proofs.Split.{parts_text}
 use Rattle.esc_frame.specs.Bodies.{is_dcs_parameter, is_dcs_header, dcs_params, dcs_intermediates, private_prefix_of}
 use Rattle.esc_sixel.specs.Writable.{IsNatural, AreNatural, params_of}
-use Rattle.esc_sixel.proofs.Pieces.{decimal_piece}
+use Rattle.esc_sixel.proofs.Slices.{decimal_slice}
 use Rattle.esc_device.proofs.Bytes.{intermediate_no_private_prefix, intermediate_no_parameter, parameter_no_private_prefix}
 use Rattle.esc_device.specs.Says.{IsMark, ReadsBack}
 use Rattle.esc_device.specs.Texts.{params_text}
@@ -138,18 +138,18 @@ not_one_empty (pos n ∷ ps) h e =
     let zero = ap length none in omega (arith, some, zero)
 not_one_empty (negsuc n ∷ ps) h e = absurd h.0
 
-abbrev number_of_piece : List ℕ → ℤ
-number_of_piece p = pos (held (value_after 0 p))
+abbrev number_of_slice : List ℕ → ℤ
+number_of_slice p = pos (capped_at_i64 (value_after 0 p))
 
-held_small : (n : ℕ) → n < 2 ^ 63 → held n ≡ n
+held_small : (n : ℕ) → n < 2 ^ 63 → capped_at_i64 n ≡ n
 held_small n small = omega arith
 
-numbers_back : (ps : List ℤ) → AreNatural ps → map number_of_piece (map signed_decimal ps) ≡ ps
+numbers_back : (ps : List ℤ) → AreNatural ps → map number_of_slice (map signed_decimal ps) ≡ ps
 numbers_back [] h = refl
 numbers_back (pos n ∷ ps) h =
-    let piece = decimal_piece n (omega (arith, h.0)) in
-    ap (λ k. pos (held k) ∷ map number_of_piece (map signed_decimal ps)) piece.value
-    ∙ ap (λ k. pos k ∷ map number_of_piece (map signed_decimal ps)) (held_small n h.0)
+    let slice = decimal_slice n (omega (arith, h.0)) in
+    ap (λ k. pos (capped_at_i64 k) ∷ map number_of_slice (map signed_decimal ps)) slice.value
+    ∙ ap (λ k. pos k ∷ map number_of_slice (map signed_decimal ps)) (held_small n h.0)
     ∙ ap (λ r. pos n ∷ r) (numbers_back ps h.1)
 numbers_back (negsuc n ∷ ps) h = absurd h.0
 
@@ -161,7 +161,7 @@ params_joined (p ∷ ps) =
 params_back : (ps : List ℤ) → AreNatural ps → params_of (params_text ps) ≡ ps
 params_back ps h =
     ap params_of (params_joined ps)
-    ∙ ap (map number_of_piece) (parts_text (map signed_decimal ps) (
+    ∙ ap (map number_of_slice) (parts_text (map signed_decimal ps) (
       are_parts ps h,
       not_one_empty ps h,
     )).1 ∙ numbers_back ps h

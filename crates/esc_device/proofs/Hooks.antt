@@ -5,7 +5,7 @@ use Rattle.std.specs.List.{list_all, list_any, take_while}
 use Rattle.std.proofs.lemmas.Bool.{cases_Bool, eqb-true}
 use Rattle.std.proofs.lemmas.Bool.Decides.{nat_tests}
 use Rattle.esc_values.specs.Clear.{parts_of}
-use Rattle.esc_values.specs.Params.{is_private_prefix, is_intermediate_byte, after_private_prefix, drop_while, held, value_after}
+use Rattle.esc_values.specs.Params.{is_private_prefix, is_intermediate_byte, after_private_prefix, drop_while, capped_at_i64, value_after}
 use Rattle.esc_frame.specs.Bodies.{is_dcs_parameter, is_dcs_header, dcs_params, dcs_intermediates, private_prefix_of}
 use Rattle.esc_frame.specs.Classes.{AllOf, is_put}
 use Rattle.esc_frame.specs.Events.Event.{DcsHook}
@@ -20,8 +20,8 @@ use Rattle.esc_device.specs.Writable.{AreIntermediates, IsWritableEnter, IsWrita
 use Rattle.esc_device.specs.declared.kind.StringKind.TheVariants as kind
 
 -- parameters
-are_natural : (pieces : List (List ℕ))
-    → AreNatural (map (λ p. pos (held (value_after 0 p))) pieces)
+are_natural : (slices : List (List ℕ))
+    → AreNatural (map (λ p. pos (capped_at_i64 (value_after 0 p))) slices)
 are_natural [] = tt
 are_natural (p ∷ ps) = (omega arith, are_natural ps)
 

@@ -12,15 +12,15 @@ use Rattle.esc_frame.specs.Classes.{is_put}
 use Rattle.esc_frame.specs.Events.Event.{DcsHook}
 use Rattle.esc_frame.specs.Segments.{hook_event}
 use Rattle.esc_frame.specs.Stream.{Says}
-use Rattle.esc_frame.proofs.Says.{says_by}
-use Rattle.esc_frame.proofs.SaysSequences.{all_those}
-use Rattle.esc_frame.proofs.SaysStrings.{says_dcs}
+use Rattle.esc_frame.proofs.Emits.SegmentsSay.{says_by}
+use Rattle.esc_frame.proofs.Emits.SequencesSay.{all_those}
+use Rattle.esc_frame.proofs.Emits.StringsSay.{says_dcs}
 use Rattle.esc_sixel.specs.Texts.{is_sixel, sixel_text}
 use Rattle.esc_sixel.specs.Writable.{AreNatural, params_of, is_data_byte, IsWritable as IsWritableSixel}
 use Rattle.esc_sixel.specs.declared.sixel.Sixel.{Sixel}
 use Rattle.esc_sixel.proofs.WritesBack.{writes_back as sixel_writes_back}
-use Rattle.esc_tcap.specs.Names.{names_text, query_text, is_query_byte, AreWritable as AreWritableNames}
-use Rattle.esc_tcap.proofs.ReadsBack.{writes_back as query_writes_back}
+use Rattle.xtgettcap.specs.Names.{names_text, query_text, is_query_byte, AreWritable as AreWritableNames}
+use Rattle.xtgettcap.proofs.ReadsBack.{writes_back as query_writes_back}
 use Rattle.esc_device.proofs.Bytes.{all_pass, in_body_all, private_prefix_in_body, parameter_in_body, intermediate_in_body, private_prefix_small, final_ends, final_small}
 use Rattle.esc_device.proofs.Bytes.{data_put, data_text, no_private_prefixes, all_others}
 use Rattle.esc_device.proofs.Headers.{formed, params_pass, headers_read_back}

@@ -9,7 +9,7 @@ use Rattle.esc_sixel.specs.Items.{items}
 use Rattle.esc_sixel.specs.Meaning.{sixel_of}
 use Rattle.esc_sixel.specs.Texts.{sixel_text}
 use Rattle.esc_sixel.specs.declared.sixel.Sixel.{Sixel}
-use Rattle.esc_tcap.specs.Names.{names_of, names_text, query_text}
+use Rattle.xtgettcap.specs.Names.{names_of, names_text, query_text}
 use Rattle.esc_device.specs.Texts.{as_text, params_text, enter_text, short_text}
 use Rattle.esc_device.specs.declared.enter.EnterDeviceControlMode.{EnterDeviceControlMode}
 use Rattle.esc_device.specs.declared.short.ShortDeviceControl.{ShortDeviceControl as Short}

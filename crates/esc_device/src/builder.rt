@@ -1,7 +1,7 @@
 //! How a short device control is read, byte by byte.
 ghost use Rattle.std.specs.Prelude.{◌≡◌, ◌<◌, ◌++◌, ◌∷◌, [], ℕ, ℤ, List, IfOk, OnOk, OnErr, length, take};
 ghost use Rattle.std.specs.List.{FoldsTo};
-ghost use Rattle.memory.specs.Refusals.{Refused};
+ghost use Rattle.fallible_alloc.specs.Refusals.{Refused};
 ghost use Rattle.esc_device.specs.Leads.{LeadsShort, Pushes};
 ghost use Rattle.esc_device.specs.Values.{short_of};
 

@@ -1,6 +1,6 @@
 //! Modes that a device control string enters.
 ghost use Rattle.std.specs.Prelude.{◌≡◌, IfOk, OnErr, Some};
-ghost use Rattle.memory.specs.Refusals.{Refused};
+ghost use Rattle.fallible_alloc.specs.Refusals.{Refused};
 ghost use Rattle.esc_device.specs.Texts.{enter_text};
 ghost use Rattle.esc_device.specs.Values.{enter_of};
 

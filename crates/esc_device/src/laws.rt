@@ -8,7 +8,7 @@ ghost use Rattle.esc_frame.specs.Events.Event.{DcsHook};
 ghost use Rattle.esc_frame.specs.Fits.{IsFit};
 ghost use Rattle.esc_sixel.specs.Writable.{AreNatural, IsWritable as IsWritableSixel};
 ghost use Rattle.esc_sixel.specs.declared.sixel.Sixel.{Sixel};
-ghost use Rattle.esc_tcap.specs.Names.{AreWritable as AreWritableNames};
+ghost use Rattle.xtgettcap.specs.Names.{AreWritable as AreWritableNames};
 ghost use Rattle.esc_device.specs.Kinds.{kind_of};
 ghost use Rattle.esc_device.specs.Says.{IsMark, ReadsBack, EnterSays, ShortSays, SixelSays, QuerySays};
 ghost use Rattle.esc_device.specs.Values.{enter_of, short_of};

@@ -1,7 +1,7 @@
 -- What is written of characters that deceive, and of carriage returns.
 use Rattle.std.specs.Prelude.{ℕ, Bool, true, false, ◌&&◌, ◌||◌, if◌then◌else◌, List, [], ◌∷◌, ◌++◌, map, Option, None, Some}
-use Rattle.esc_visible.specs.Characters.{is_deceiving, number_text}
-use Rattle.esc_visible.specs.Following.{is_stray, may_follow}
+use Rattle.unicode_visibility.specs.Characters.{is_deceiving, number_text}
+use Rattle.unicode_visibility.specs.Following.{is_stray, may_follow}
 use Rattle.esc_actions.specs.Values.{Value, control, print}
 use Rattle.esc_actions.specs.declared.control_code.ControlCode.{ControlCode}
 use Rattle.esc_actions.specs.declared.control_code.ControlCode.TheVariants.{CarriageReturn}
@@ -16,8 +16,8 @@ abbrev pub of_unicode : Unicode → Guard
 of_unicode u = record { characters = u; returns = way.Keep }
 
 -- all is
-abbrev pub kept : Guard
-kept = of_unicode Keep
+abbrev pub keep_all : Guard
+keep_all = of_unicode Keep
 
 abbrev pub keeps_characters : Unicode → Bool
 keeps_characters Keep = true
@@ -35,11 +35,11 @@ is_return CarriageReturn = true
 is_return _ = false
 
 -- what is written of a character that deceives, where this one was written before it
-abbrev pub instead : {A : Type 0} → Unicode → Option ℕ → ℕ → List (Value A)
-instead Keep b c = print c ∷ []
-instead Join b c = if may_follow b c then print c ∷ [] else map print (number_text c)
-instead Show b c = map print (number_text c)
-instead Drop b c = []
+abbrev pub replacement_values : {A : Type 0} → Unicode → Option ℕ → ℕ → List (Value A)
+replacement_values Keep b c = print c ∷ []
+replacement_values Join b c = if may_follow b c then print c ∷ [] else map print (number_text c)
+replacement_values Show b c = map print (number_text c)
+replacement_values Drop b c = []
 
 -- what is written of a carriage return: `^M` where it is shown
 abbrev pub in_return : {A : Type 0} → Returns → List (Value A)
@@ -49,7 +49,8 @@ in_return way.Drop = []
 
 -- what is written of a value, where this character was written before it, or none was
 abbrev pub in_guard : {A : Type 0} → Guard → Option ℕ → Value A → List (Value A)
-in_guard g b (print c) = if is_deceiving c then instead g.characters b c else print c ∷ []
+in_guard g b (print c) = if is_deceiving c then replacement_values g.characters b c else print c
+    ∷ []
 in_guard g b (control c) = if is_return c then in_return g.returns else control c ∷ []
 in_guard g b v = v ∷ []
 

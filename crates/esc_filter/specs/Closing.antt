@@ -7,8 +7,8 @@ use Rattle.esc_sequences.specs.declared.sgr.Sgr.{Sgr}
 use Rattle.esc_sequences.specs.declared.sgr.Sgr.TheVariants as sgr_variant
 use Rattle.esc_values.specs.declared.csi_param.CsiParam.{CsiParam}
 use Rattle.esc_values.specs.declared.csi_param.CsiParam.TheVariants.{Integer, P}
-use Rattle.esc_functions.specs.Escapes.{named as named_escape}
-use Rattle.esc_functions.specs.Functions.{function_of, sequence_key}
+use Rattle.control_functions.specs.Escapes.{escape_of_name as named_escape}
+use Rattle.control_functions.specs.Functions.{function_of, sequence_key}
 use Rattle.esc_frame.specs.Segments.{is_empty}
 use Rattle.esc_links.specs.declared.hyperlink.Hyperlink.{Hyperlink}
 use Rattle.esc_osc.specs.declared.command.OperatingSystemCommand.{OperatingSystemCommand}
@@ -36,17 +36,17 @@ abbrev pub is_reset : Sgr → Bool
 is_reset sgr_variant.Reset = true
 is_reset _ = false
 
-abbrev pub turned : Bool → Terminal → Terminal
-turned b t = record t { rendition = b }
+abbrev pub turned_terminal : Bool → Terminal → Terminal
+turned_terminal b t = record t { rendition = b }
 
 abbrev pub after_sequence : CsiValue → Terminal → Terminal
-after_sequence (sgr s) t = turned (not (is_reset s)) t
+after_sequence (sgr s) t = turned_terminal (not (is_reset s)) t
 after_sequence (unspecified es more f) t = after_body es f t
 
 -- a sequence of these parameters and `m` is one action, after which renditions are on, or not
 abbrev pub Turns : List CsiParam → Bool → Type 0
 Turns es b = (v : CsiValue) × (csi_of es false 0x6d ≡ v ∷ [])
-    × ((t : Terminal) → after_sequence v t ≡ turned b t)
+    × ((t : Terminal) → after_sequence v t ≡ turned_terminal b t)
     × ((p : Option Pen) → pen_after_sequence v p ≡ pen_selected es p)
 
 -- the sequence is one value, after which t is u
@@ -63,9 +63,9 @@ lights (short.Palette i) = true
 
 -- after a sequence of these parameters, where it is known whether renditions are on then, or its
 -- function says what it leaves changed
-abbrev pub noted : Option Bool → List CsiParam → ℕ → Terminal → Terminal
-noted None es f t = after_body es f t
-noted (Some b) es f t = turned b t
+abbrev pub noted_terminal : Option Bool → List CsiParam → ℕ → Terminal → Terminal
+noted_terminal None es f t = after_body es f t
+noted_terminal (Some b) es f t = turned_terminal b t
 
 -- this number comes first
 abbrev pub BeginsWith : ℕ → List CsiParam → Type 0
@@ -128,9 +128,9 @@ give true v = v ∷ []
 give false v = []
 
 -- lists, one after another
-abbrev pub joined : {X : Type 0} → List (List X) → List X
-joined [] = []
-joined (x ∷ xs) = x ++ joined xs
+abbrev pub joined_lists : {X : Type 0} → List (List X) → List X
+joined_lists [] = []
+joined_lists (x ∷ xs) = x ++ joined_lists xs
 
 -- the main screen, by the mode that shows the other
 abbrev pub main_by : {A : Type 0} → Screen → List (Value A)
@@ -146,7 +146,7 @@ screen_back t = main_by t.screen
 -- are not reversed; lines that wrap; a screen that is drawn; no rendition; no link; and the
 -- character sets.
 abbrev pub states_back : {A : Type 0} → Terminal → List (Value A)
-states_back t = joined (
+states_back t = joined_lists (
     give t.sides (private_mode 69 0x6c)
     ∷ give t.origin (private_mode 6 0x6c)
     ∷ give t.insert (csi (unspecified (Integer (pos 4) ∷ []) false 0x6c))
@@ -200,8 +200,8 @@ abbrev pub closing : {A : Type 0} → (Value A → Bool) → List (Value A) → 
 closing admits vs = given_back (keeps_cursor admits) (after_values vs unchanged)
 
 -- values, and what gives back what they leave changed
-abbrev pub closed : {A : Type 0} → (Value A → Bool) → List (Value A) → List (Value A)
-closed admits vs = vs ++ closing admits vs
+abbrev pub closed_values : {A : Type 0} → (Value A → Bool) → List (Value A) → List (Value A)
+closed_values admits vs = vs ++ closing admits vs
 
 -- ---- as at the start
 

@@ -7,9 +7,9 @@ use Rattle.esc_osc.specs.Reading.{meaning as command_meant}
 use Rattle.esc_parse.specs.Given.{TakesAtOnce}
 use Rattle.esc_actions.specs.Values.{Value, csi, osc, value_of}
 use Rattle.esc_actions.specs.declared.action.Action.{Action}
-use Rattle.esc_parse.specs.Fed.{IsBroken as IsBrokenParser, WasFedWithin}
+use Rattle.esc_parse.specs.Fed.{IsBroken as IsBrokenParser, ParserHasConsumedWithin}
 use Rattle.esc_actions.specs.Texts.{list_text}
-use Rattle.esc_filter.specs.Characters.{kept}
+use Rattle.esc_filter.specs.Characters.{keep_all}
 use Rattle.esc_filter.specs.Closing.{closing}
 use Rattle.esc_filter.specs.Noted.{HasNoted, Notes, WriteDenies}
 use Rattle.esc_filter.specs.Passing.{in_lines, passed_as, passed_text_as, passes}
@@ -51,14 +51,14 @@ MayTakeCommand allows p ps result q =
 -- The filter, of this limit and of a policy that admits these values, was fed these bytes, where u
 -- says what is written of characters that deceive. Where `by_lines`, they are of one line, whose
 -- line feed it drops.
-abbrev pub WasFedIn : {P A : Type 0} → Guard → Bool → ℕ → (Value A → Bool) → List ℕ
+abbrev pub HasConsumedIn : {P A : Type 0} → Guard → Bool → ℕ → (Value A → Bool) → List ℕ
     → Filter P A → Type 0
-WasFedIn u by_lines limit admits s f = WasFedWithin (Some limit) s f.parser
+HasConsumedIn u by_lines limit admits s f = ParserHasConsumedWithin (Some limit) s f.parser
     × HasNoted by_lines u (passed_as u (Some limit) (in_lines by_lines admits) s) f.written
 
 -- of a stream that is one, where they are kept
-abbrev pub WasFed : {P A : Type 0} → ℕ → (Value A → Bool) → List ℕ → Filter P A → Type 0
-WasFed limit admits s f = WasFedIn kept false limit admits s f
+abbrev pub HasConsumed : {P A : Type 0} → ℕ → (Value A → Bool) → List ℕ → Filter P A → Type 0
+HasConsumed limit admits s f = HasConsumedIn keep_all false limit admits s f
 
 -- an earlier call was refused memory
 abbrev pub IsBroken : {P A : Type 0} → Filter P A → Type 0
@@ -77,37 +77,38 @@ policy_of f = f.policy
 abbrev pub AfterIn : {P A : Type 0} → Bool → Admitter P A → Filter P A
     → (Guard → ℕ → (Value A → Bool) → List ℕ → Type 0) → Type 0
 AfterIn by_lines V f C =
-    (u : Guard) (limit : ℕ) (s : List ℕ) → WasFedIn u by_lines limit (V.admits (policy_of f)) s f
+    (u : Guard) (limit : ℕ) (s : List ℕ)
+    → HasConsumedIn u by_lines limit (V.admits (policy_of f)) s f
     → C u limit (V.admits (policy_of f)) s
 
 -- the same where they are kept
 abbrev pub After : {P A : Type 0} → Admitter P A → Filter P A
     → (ℕ → (Value A → Bool) → List ℕ → Type 0) → Type 0
 After V f C =
-    (limit : ℕ) (s : List ℕ) → WasFed limit (V.admits (policy_of f)) s f
+    (limit : ℕ) (s : List ℕ) → HasConsumed limit (V.admits (policy_of f)) s f
     → C limit (V.admits (policy_of f)) s
 
 -- the filter, which was fed s, was fed b too, and has the text that b adds
 abbrev pub TakesAs : {P A : Type 0} → Guard → Bool → (Value A → Bool) → ℕ → List ℕ → List ℕ
     → Filter P A → Type 0
-TakesAs u by_lines admits limit s b f = WasFedIn u by_lines limit admits (s ++ b) f
+TakesAs u by_lines admits limit s b f = HasConsumedIn u by_lines limit admits (s ++ b) f
     × (passed_text_as u (Some limit) (in_lines by_lines admits) (s ++ b)
     ≡ passed_text_as u (Some limit) (in_lines by_lines admits) s ++ added_by f)
 
 abbrev pub TakesIn : {P A : Type 0} → Bool → (Value A → Bool) → ℕ → List ℕ → List ℕ → Filter P A
     → Type 0
-TakesIn by_lines admits limit s b f = TakesAs kept by_lines admits limit s b f
+TakesIn by_lines admits limit s b f = TakesAs keep_all by_lines admits limit s b f
 
 -- the stream s has ended, and the filter has what gives back what it left changed; it is at the
 -- beginning of the next
 abbrev pub EndsAs : {P A : Type 0} → Guard → Bool → (Value A → Bool) → ℕ → List ℕ → Filter P A
     → Type 0
-EndsAs u by_lines admits limit s f = WasFedIn u by_lines limit admits [] f
+EndsAs u by_lines admits limit s f = HasConsumedIn u by_lines limit admits [] f
     × (added_by f
     ≡ list_text (closing admits (passed_as u (Some limit) (in_lines by_lines admits) s)))
 
 abbrev pub Ends : {P A : Type 0} → Bool → (Value A → Bool) → ℕ → List ℕ → Filter P A → Type 0
-Ends by_lines admits limit s f = EndsAs kept by_lines admits limit s f
+Ends by_lines admits limit s f = EndsAs keep_all by_lines admits limit s f
 
 -- nothing is left changed
 abbrev pub IsUnchanged : {P A : Type 0} → Filter P A → Type 0

@@ -1,7 +1,7 @@
 -- The text of what gives back what is left changed.
 use Rattle.std.specs.Prelude.{ℕ, Bool, true, false, not, ◌&&◌, ◌||◌, if◌then◌else◌, List, [], ◌∷◌, ◌++◌, codes}
-use Rattle.esc_filter.specs.Closing.{joined}
-use Rattle.esc_filter.specs.Terminal.{is_changed_saved, shown, with_cursor}
+use Rattle.esc_filter.specs.Closing.{joined_lists}
+use Rattle.esc_filter.specs.Terminal.{is_changed_saved, screen_shown, with_cursor}
 use Rattle.esc_filter.specs.declared.terminal.Screen.{Screen}
 use Rattle.esc_filter.specs.declared.terminal.Screen.TheVariants as screen
 use Rattle.esc_filter.specs.declared.terminal.Terminal.{Terminal}
@@ -26,8 +26,8 @@ main_part screen.WithCursor = sequence (codes "?1049l")
 
 abbrev pub with_main : Screen → Terminal → Terminal
 with_main screen.Main t = t
-with_main screen.Alternate t = shown screen.Alternate false t
-with_main screen.Cleared t = shown screen.Cleared false t
+with_main screen.Alternate t = screen_shown screen.Alternate false t
+with_main screen.Cleared t = screen_shown screen.Cleared false t
 with_main screen.WithCursor t = with_cursor false t
 
 abbrev pub on_main : Terminal → Terminal
@@ -74,4 +74,4 @@ abbrev pub parts_back : Bool → Terminal → List (List ℕ)
 parts_back keeps t = main_part t.screen ∷ parts_on_main keeps (on_main t)
 
 abbrev pub text_given_back : Bool → Terminal → List ℕ
-text_given_back keeps t = joined (parts_back keeps t)
+text_given_back keeps t = joined_lists (parts_back keeps t)

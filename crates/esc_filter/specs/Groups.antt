@@ -5,12 +5,12 @@ use Rattle.std.specs.Option.{option_map}
 use Rattle.esc_sequences.specs.Csis.{CsiValue, sgr, unspecified}
 use Rattle.esc_sequences.specs.declared.esc.Esc.{Esc}
 use Rattle.esc_values.specs.declared.csi_param.CsiParam.{CsiParam}
-use Rattle.esc_functions.specs.Escapes.{named as escape_named}
-use Rattle.esc_functions.specs.Functions.{function_of, sequence_key}
-use Rattle.esc_functions.specs.declared.control_function.ControlFunction.{ControlFunction}
-use Rattle.esc_functions.specs.declared.control_function.ControlFunction.TheVariants as function
-use Rattle.esc_functions.specs.declared.escape_function.EscapeFunction.{EscapeFunction}
-use Rattle.esc_functions.specs.declared.escape_function.EscapeFunction.TheVariants as escape_function
+use Rattle.control_functions.specs.Escapes.{escape_of_name as escape_named}
+use Rattle.control_functions.specs.Functions.{function_of, sequence_key}
+use Rattle.control_functions.specs.declared.control_function.ControlFunction.{ControlFunction}
+use Rattle.control_functions.specs.declared.control_function.ControlFunction.TheVariants as function
+use Rattle.control_functions.specs.declared.escape_function.EscapeFunction.{EscapeFunction}
+use Rattle.control_functions.specs.declared.escape_function.EscapeFunction.TheVariants as escape_function
 use Rattle.esc_osc.specs.declared.command.OperatingSystemCommand.{OperatingSystemCommand}
 use Rattle.esc_osc.specs.declared.command.OperatingSystemCommand.TheVariants as command
 use Rattle.esc_actions.specs.ControlCodes.{code_number}

@@ -15,4 +15,4 @@ pub mod Resumed
 pub mod Concealed
 pub mod Schemes
 pub mod Groups
-pub mod Pieces
+pub mod Tokens

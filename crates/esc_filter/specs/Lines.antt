@@ -5,15 +5,15 @@ use Rattle.std.specs.List.{list_any, flat_map}
 use lib.Utf8.{scalar}
 use Rattle.esc_values.specs.Clear.{IsTextOf}
 use Rattle.esc_values.specs.Params.{is_from}
-use Rattle.esc_visible.specs.Characters.{is_deceiving}
+use Rattle.unicode_visibility.specs.Characters.{is_deceiving}
 use Rattle.esc_actions.specs.Meaning.{meaning, Reads}
 use Rattle.esc_actions.specs.Texts.{list_text, normal}
 use Rattle.esc_actions.specs.Values.{Value, control}
 use Rattle.esc_actions.specs.declared.control_code.ControlCode.TheVariants.{CarriageReturn, LineFeed}
 use Rattle.esc_frame.specs.Segments.{is_empty}
-use Rattle.esc_filter.specs.Characters.{kept}
-use Rattle.esc_filter.specs.Closing.{closed, closing}
-use Rattle.esc_filter.specs.Fed.{WasFedIn, policy_of}
+use Rattle.esc_filter.specs.Characters.{keep_all}
+use Rattle.esc_filter.specs.Closing.{closed_values, closing}
+use Rattle.esc_filter.specs.Fed.{HasConsumedIn, policy_of}
 use Rattle.esc_filter.specs.Passing.{in_lines, passed_as}
 use Rattle.esc_write.specs.Plain.{last_text}
 use Rattle.esc_filter.specs.declared.admit.Admit.{Ghosts as Admitter}
@@ -107,7 +107,7 @@ end_text admits r = if r && admits (control CarriageReturn) then 0x0d ∷ 0x0a �
 abbrev pub line_text : {A : Type 0} → Guard → ℕ → (Value A → Bool) → List ℕ → List ℕ
 line_text u limit admits l =
     if ends_line false l then
-    list_text (closed admits (passed_of_content u limit admits (content l)))
+    list_text (closed_values admits (passed_of_content u limit admits (content l)))
     ++ end_text admits (ends_return false (content l))
     else list_text (passed_of_line u limit admits (body l))
 
@@ -148,7 +148,7 @@ IsShortRendition x b = (y : List ℕ) × (((x ≡ 0x1b ∷ 0x5b ∷ y) × IsNumb
 -- what is written of the last line, without a line feed, once the stream has ended: what passes of
 -- all of it, and what gives back what that leaves changed
 abbrev pub last_values : {A : Type 0} → Guard → ℕ → (Value A → Bool) → List ℕ → List (Value A)
-last_values u limit admits s = closed admits (passed_of_line u limit admits (last_line s))
+last_values u limit admits s = closed_values admits (passed_of_line u limit admits (last_line s))
 
 -- the text of a stream that has ended
 abbrev pub closed_by_lines_as : {A : Type 0} → Guard → ℕ → (Value A → Bool) → List ℕ → List ℕ
@@ -158,7 +158,8 @@ closed_by_lines_as u limit admits s =
 -- what the text of a line means
 abbrev pub line_values : {A : Type 0} → Guard → ℕ → (Value A → Bool) → List ℕ → List (Value A)
 line_values u limit admits l =
-    if ends_line false l then normal (closed admits (passed_of_content u limit admits (content l)))
+    if ends_line false l then normal
+    (closed_values admits (passed_of_content u limit admits (content l)))
     ++ end_values admits (ends_return false (content l))
     else normal (passed_of_line u limit admits (body l))
 
@@ -187,30 +188,30 @@ pub record IsFilteredByLinesAs {A : Type 0} (has_ended : Bool) (u : Guard) (limi
 
 -- the same where characters that deceive are kept
 abbrev pub text_by_lines : {A : Type 0} → ℕ → (Value A → Bool) → List ℕ → List ℕ
-text_by_lines limit admits s = text_by_lines_as kept limit admits s
+text_by_lines limit admits s = text_by_lines_as keep_all limit admits s
 
 abbrev pub closed_by_lines : {A : Type 0} → ℕ → (Value A → Bool) → List ℕ → List ℕ
-closed_by_lines limit admits s = closed_by_lines_as kept limit admits s
+closed_by_lines limit admits s = closed_by_lines_as keep_all limit admits s
 
 abbrev pub lines_text : {A : Type 0} → Bool → ℕ → (Value A → Bool) → List ℕ → List ℕ
-lines_text has_ended limit admits s = lines_text_as has_ended kept limit admits s
+lines_text has_ended limit admits s = lines_text_as has_ended keep_all limit admits s
 
 abbrev pub IsFilteredByLines : {A : Type 0} → Bool → ℕ → (Value A → Bool) → List ℕ → List ℕ
     → Type 0
 IsFilteredByLines has_ended limit admits s t =
-    IsFilteredByLinesAs has_ended kept limit admits s t
+    IsFilteredByLinesAs has_ended keep_all limit admits s t
 
 -- The filter, of this limit and of a policy that admits these values, was fed these bytes, where u
 -- says what is written of what deceives: lines that have ended, and then the rest of one, which is
 -- all that its filter was fed but for a carriage return that comes last and is held back.
-pub record WasFedLines {P A : Type 0} (u : Guard) (limit : ℕ) (admits : Value A → Bool)
+pub record HasConsumedLines {P A : Type 0} (u : Guard) (limit : ℕ) (admits : Value A → Bool)
     (s : List ℕ) (f : LineFilter P A) : Type 0 where
   pub ended : List ℕ
   pub rest : List ℕ
   pub whole : s ≡ ended ++ rest
   pub ends : ends_line true ended ≡ true
   pub unended : has_line_feed rest ≡ false
-  pub fed : WasFedIn u true limit admits (body rest) f.filter
+  pub fed : HasConsumedIn u true limit admits (body rest) f.filter
   pub holds : f.holds ≡ ends_return false rest
   pub unfailed : f.has_failed ≡ false
 
@@ -226,13 +227,14 @@ policy_of_lines f = policy_of f.filter
 abbrev pub AfterLines : {P A : Type 0} → Admitter P A → LineFilter P A
     → (Guard → ℕ → (Value A → Bool) → List ℕ → Type 0) → Type 0
 AfterLines V f C =
-    (u : Guard) (limit : ℕ) (s : List ℕ) → WasFedLines u limit (V.admits (policy_of_lines f)) s f
+    (u : Guard) (limit : ℕ) (s : List ℕ)
+    → HasConsumedLines u limit (V.admits (policy_of_lines f)) s f
     → C u limit (V.admits (policy_of_lines f)) s
 
 -- the filter, which was fed s, was fed b too, and t is the text that b adds
 abbrev pub AddsText : {P A : Type 0} → Guard → (Value A → Bool) → ℕ → List ℕ → List ℕ → List ℕ
     → LineFilter P A → Type 0
-AddsText {P} {A} u admits limit s b t f = WasFedLines u limit admits (s ++ b) f
+AddsText {P} {A} u admits limit s b t f = HasConsumedLines u limit admits (s ++ b) f
     × (text_by_lines_as {A = A} u limit admits (s ++ b)
     ≡ text_by_lines_as {A = A} u limit admits s ++ t)
 
@@ -246,7 +248,7 @@ GrowsBy u admits limit s b old new =
 -- the next
 abbrev pub EndsLines : {P A : Type 0} → Guard → (Value A → Bool) → ℕ → List ℕ → List ℕ
     → LineFilter P A → Type 0
-EndsLines {P} {A} u admits limit s t f = WasFedLines u limit admits [] f
+EndsLines {P} {A} u admits limit s t f = HasConsumedLines u limit admits [] f
     × (closed_by_lines_as {A = A} u limit admits s ≡ text_by_lines_as {A = A} u limit admits s ++ t)
 
 -- the same, and it grew its text by that
@@ -263,7 +265,7 @@ abbrev pub OnLine : {P A : Type 0} → Admitter P A → LineFilter P A
     → (Guard → ℕ → (Value A → Bool) → List ℕ → Type 0) → Type 0
 OnLine V f C =
     (u : Guard) (limit : ℕ) (l : List ℕ)
-    → WasFedIn u true limit (V.admits (policy_of_lines f)) l f.filter
+    → HasConsumedIn u true limit (V.admits (policy_of_lines f)) l f.filter
     → C u limit (V.admits (policy_of_lines f)) l
 
 -- the same of each that may have come, of which a carriage return that comes last is held back
@@ -271,7 +273,7 @@ abbrev pub OnRest : {P A : Type 0} → Admitter P A → LineFilter P A
     → (Guard → ℕ → (Value A → Bool) → List ℕ → Type 0) → Type 0
 OnRest V f C =
     (u : Guard) (limit : ℕ) (r : List ℕ)
-    → WasFedIn u true limit (V.admits (policy_of_lines f)) (body r) f.filter
+    → HasConsumedIn u true limit (V.admits (policy_of_lines f)) (body r) f.filter
     → f.holds ≡ ends_return false r → C u limit (V.admits (policy_of_lines f)) r
 
 -- the filter of the last line, which was fed l, was fed more, so that it is m, and the text grew by
@@ -279,7 +281,7 @@ OnRest V f C =
 abbrev pub GrowsTo : {P A : Type 0} → Guard → (Value A → Bool) → ℕ → List ℕ → List ℕ
     → LineFilter P A → LineFilter P A → Type 0
 GrowsTo {P} {A} u admits limit l m old new =
-    WasFedIn u true limit admits m new.filter
+    HasConsumedIn u true limit admits m new.filter
     × ((t : List ℕ)
     × (list_text (passed_of_line {A = A} u limit admits m)
     ≡ list_text (passed_of_line {A = A} u limit admits l) ++ t)
@@ -307,7 +309,7 @@ FillsLine u admits limit r x old new =
 abbrev pub ClosesLine : {P A : Type 0} → Guard → (Value A → Bool) → ℕ → List ℕ → LineFilter P A
     → LineFilter P A → Type 0
 ClosesLine {P} {A} u admits limit l old new =
-    WasFedIn u true limit admits [] new.filter
+    HasConsumedIn u true limit admits [] new.filter
     × (added_by new
     ≡ added_by old ++ list_text (closing admits (passed_of_line {A = A} u limit admits l)))
 
@@ -315,7 +317,7 @@ ClosesLine {P} {A} u admits limit l old new =
 abbrev pub EndsLine : {P A : Type 0} → Guard → (Value A → Bool) → ℕ → List ℕ → LineFilter P A
     → LineFilter P A → Type 0
 EndsLine {P} {A} u admits limit l old new =
-    WasFedIn u true limit admits [] new.filter
+    HasConsumedIn u true limit admits [] new.filter
     × (added_by new ≡ added_by old
     ++ (list_text (closing admits (passed_of_line {A = A} u limit admits l))
     ++ end_text admits old.holds))

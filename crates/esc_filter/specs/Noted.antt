@@ -8,8 +8,8 @@ use Rattle.esc_actions.specs.Texts.{texts_after}
 use Rattle.esc_actions.specs.Values.{Value, csi, osc, value_of}
 use Rattle.esc_actions.specs.declared.action.Action.{Action}
 use Rattle.esc_normal.specs.Spelled.{Denies}
-use Rattle.esc_visible.specs.Characters.{is_deceiving}
-use Rattle.esc_visible.specs.Following.{has_stray}
+use Rattle.unicode_visibility.specs.Characters.{is_deceiving}
+use Rattle.unicode_visibility.specs.Following.{has_stray}
 use Rattle.esc_filter.specs.Characters.{in_guard, last_after}
 use Rattle.esc_filter.specs.Closing.{after_values}
 use Rattle.esc_filter.specs.Terminal.{unchanged}

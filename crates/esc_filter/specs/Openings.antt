@@ -2,7 +2,7 @@
 use Rattle.std.specs.Prelude.{ℕ, ◌≡◌, Bool, true, false, not, ◌&&◌, if◌then◌else◌, List, [], ◌∷◌, ◌++◌, IsTrue, Option}
 use Rattle.std.specs.Str.{IsUtf8}
 use Rattle.esc_actions.specs.Values.{Value}
-use Rattle.esc_filter.specs.Closing.{after_values, joined}
+use Rattle.esc_filter.specs.Closing.{after_values, joined_lists}
 use Rattle.esc_filter.specs.Known.{ArePassedRenditions, IsPassedText}
 use Rattle.esc_filter.specs.Lines.{IsLine, closed_by_lines_as, content, ends_line, is_line_feed, lines, passed_of_content, text_by_lines_as}
 use Rattle.esc_filter.specs.Terminal.{unchanged}
@@ -78,7 +78,7 @@ AreQuiet u limit admits (l ∷ ls) =
 -- a stream of such lines
 abbrev pub IsQuiet : {A : Type 0} → Guard → ℕ → (Value A → Bool) → List ℕ → Type 0
 IsQuiet u limit admits s =
-    (ls : List (List ℕ)) × (s ≡ joined ls) × AreQuiet u limit admits ls
+    (ls : List (List ℕ)) × (s ≡ joined_lists ls) × AreQuiet u limit admits ls
 
 -- whatever is written of what deceives, and whatever the limit is
 abbrev pub LeavesNone : {A : Type 0} → (Value A → Bool) → List ℕ → Type 0

@@ -6,8 +6,8 @@ use Rattle.esc_actions.specs.Texts.{list_text, normal}
 use Rattle.esc_actions.specs.Values.{Value, control, enter, datum, exit}
 use Rattle.esc_actions.specs.declared.control_code.ControlCode.TheVariants.{LineFeed}
 use Rattle.esc_actions.specs.Writable.{AreWritable, is_exception}
-use Rattle.esc_filter.specs.Characters.{in_values, kept}
-use Rattle.esc_filter.specs.Closing.{closed}
+use Rattle.esc_filter.specs.Characters.{in_values, keep_all}
+use Rattle.esc_filter.specs.Closing.{closed_values}
 use Rattle.esc_filter.specs.declared.guard.Guard.{Guard}
 
 -- a step of a mode: its header, a byte of its data, or its end
@@ -36,13 +36,13 @@ in_lines true admits v = not (is_line_feed v) && admits v
 in_lines false admits v = admits v
 
 -- the values of a stream that pass, in order
-abbrev pub passed : {A : Type 0} → Option ℕ → (Value A → Bool) → List ℕ → List (Value A)
-passed limit admits s = filter (passes admits) (meaning_within limit s)
+abbrev pub passed_values : {A : Type 0} → Option ℕ → (Value A → Bool) → List ℕ → List (Value A)
+passed_values limit admits s = filter (passes admits) (meaning_within limit s)
 
 -- what is written of them
 abbrev pub passed_as : {A : Type 0} → Guard → Option ℕ → (Value A → Bool) → List ℕ
     → List (Value A)
-passed_as u limit admits s = in_values u (passed limit admits s)
+passed_as u limit admits s = in_values u (passed_values limit admits s)
 
 -- its text
 abbrev pub passed_text_as : {A : Type 0} → Guard → Option ℕ → (Value A → Bool) → List ℕ
@@ -51,21 +51,21 @@ passed_text_as u limit admits s = list_text (passed_as u limit admits s)
 
 -- the same where characters that deceive are kept
 abbrev pub passed_text : {A : Type 0} → Option ℕ → (Value A → Bool) → List ℕ → List ℕ
-passed_text limit admits s = list_text (passed limit admits s)
+passed_text limit admits s = list_text (passed_values limit admits s)
 
 -- the values that are written: these, and once the stream has ended what gives back what they leave
 -- changed
 abbrev pub when_ended : {A : Type 0} → Bool → (Value A → Bool) → List (Value A) → List (Value A)
-when_ended true admits vs = closed admits vs
+when_ended true admits vs = closed_values admits vs
 when_ended false admits vs = vs
 
 -- the text of a stream that has ended
 abbrev pub closed_text_as : {A : Type 0} → Guard → Option ℕ → (Value A → Bool) → List ℕ
     → List ℕ
-closed_text_as u limit admits s = list_text (closed admits (passed_as u limit admits s))
+closed_text_as u limit admits s = list_text (closed_values admits (passed_as u limit admits s))
 
 abbrev pub closed_text : {A : Type 0} → Option ℕ → (Value A → Bool) → List ℕ → List ℕ
-closed_text limit admits s = list_text (closed admits (passed limit admits s))
+closed_text limit admits s = list_text (closed_values admits (passed_values limit admits s))
 
 -- What holds of the text t that a filter wrote for the stream s, which has ended, or goes on, where
 -- u says what is written of characters that deceive:
@@ -84,4 +84,4 @@ pub record IsFilteredAs {A : Type 0} (u : Guard) (has_ended : Bool) (limit : Opt
 -- the same where they are kept
 abbrev pub IsFiltered : {A : Type 0} → Bool → Option ℕ → (Value A → Bool) → List ℕ → List ℕ
     → Type 0
-IsFiltered has_ended limit admits s t = IsFilteredAs kept has_ended limit admits s t
+IsFiltered has_ended limit admits s t = IsFilteredAs keep_all has_ended limit admits s t

@@ -10,9 +10,9 @@ use Rattle.esc_actions.specs.Values.{Value, csi}
 use Rattle.esc_pen.specs.Pens.{pen_by, pen_by_all, plain_pen}
 use Rattle.esc_pen.specs.Texts.{pen_text}
 use Rattle.esc_pen.specs.declared.pen.Pen.{Pen}
-use Rattle.esc_typed.specs.Selections.{selections}
-use Rattle.esc_typed.specs.declared.rendition.Rendition.{Rendition}
-use Rattle.esc_typed.specs.declared.rendition.Rendition.TheVariants as rendition
+use Rattle.typed_functions.specs.Selections.{selections}
+use Rattle.typed_functions.specs.declared.rendition.Rendition.{Rendition}
+use Rattle.typed_functions.specs.declared.rendition.Rendition.TheVariants as rendition
 use Rattle.esc_filter.specs.Rules.{is_plain_param}
 
 -- none are at the start; they are noted where lines are streams of their own

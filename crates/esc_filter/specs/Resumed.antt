@@ -1,7 +1,7 @@
 -- What a filter was fed that writes renditions again which go on over a line feed.
 use Rattle.std.specs.Prelude.{ℕ, ◌≡◌, ◌<◌, Bool, true, false, not, if◌then◌else◌, List, [], ◌++◌, length, string_bytes}
 use Rattle.esc_actions.specs.Values.{Value}
-use Rattle.esc_filter.specs.Lines.{EndsLine, GrowsBy, WasFedLines, added_by as added_by_lines, ends_line, passed_of_line, policy_of_lines}
+use Rattle.esc_filter.specs.Lines.{EndsLine, GrowsBy, HasConsumedLines, added_by as added_by_lines, ends_line, passed_of_line, policy_of_lines}
 use Rattle.esc_filter.specs.Openings.{opening_at, opening_left, resumed, resumed_closed, resumed_from, resumed_text}
 use Rattle.esc_filter.specs.declared.admit.Admit.{Ghosts as Admitter}
 use Rattle.esc_filter.specs.declared.guard.Guard.{Guard}
@@ -18,9 +18,9 @@ pub record IsMarked {P A : Type 0} (k : Bool) (u : Guard) (limit : ℕ) (admits 
 
 -- The filter, of this limit and of a policy that admits these values, was fed these bytes: its
 -- filter of lines was fed the stream in which renditions are written again.
-pub record WasFedResumed {P A : Type 0} (k : Bool) (u : Guard) (limit : ℕ)
+pub record ResumedHasConsumed {P A : Type 0} (k : Bool) (u : Guard) (limit : ℕ)
     (admits : Value A → Bool) (s : List ℕ) (f : ResumingFilter P A) : Type 0 where
-  pub fed : WasFedLines u limit admits (resumed k u limit admits s) f.lines
+  pub fed : HasConsumedLines u limit admits (resumed k u limit admits s) f.lines
   pub marks : IsMarked k u limit admits (resumed k u limit admits s) f
 
 -- what the bytes fed last added
@@ -36,13 +36,13 @@ abbrev pub AfterResumed : {P A : Type 0} → Admitter P A → ResumingFilter P A
     → (Bool → Guard → ℕ → (Value A → Bool) → List ℕ → Type 0) → Type 0
 AfterResumed V f C =
     (k : Bool) (u : Guard) (limit : ℕ) (s : List ℕ)
-    → WasFedResumed k u limit (V.admits (policy_of_resuming f)) s f
+    → ResumedHasConsumed k u limit (V.admits (policy_of_resuming f)) s f
     → C k u limit (V.admits (policy_of_resuming f)) s
 
 -- the filter, which was fed s, was fed b too, and t is the text that b adds
 abbrev pub AddsResumed : {P A : Type 0} → Bool → Guard → (Value A → Bool) → ℕ → List ℕ → List ℕ
     → List ℕ → ResumingFilter P A → Type 0
-AddsResumed {P} {A} k u admits limit s b t f = WasFedResumed k u limit admits (s ++ b) f
+AddsResumed {P} {A} k u admits limit s b t f = ResumedHasConsumed k u limit admits (s ++ b) f
     × (resumed_text {A = A} k u limit admits (s ++ b)
     ≡ resumed_text {A = A} k u limit admits s ++ t)
 
@@ -50,7 +50,7 @@ AddsResumed {P} {A} k u admits limit s b t f = WasFedResumed k u limit admits (s
 -- the next
 abbrev pub EndsResumed : {P A : Type 0} → Bool → Guard → (Value A → Bool) → ℕ → List ℕ → List ℕ
     → ResumingFilter P A → Type 0
-EndsResumed {P} {A} k u admits limit s t f = WasFedResumed k u limit admits [] f
+EndsResumed {P} {A} k u admits limit s t f = ResumedHasConsumed k u limit admits [] f
     × (resumed_closed {A = A} k u limit admits s
     ≡ resumed_text {A = A} k u limit admits s ++ t)
 
@@ -61,7 +61,7 @@ abbrev pub OnStream : {P A : Type 0} → Admitter P A → ResumingFilter P A
     → (Bool → Guard → ℕ → (Value A → Bool) → List ℕ → Type 0) → Type 0
 OnStream V f C =
     (k : Bool) (u : Guard) (limit : ℕ) (d : List ℕ)
-    → WasFedLines u limit (V.admits (policy_of_resuming f)) d f.lines
+    → HasConsumedLines u limit (V.admits (policy_of_resuming f)) d f.lines
     → IsMarked k u limit (V.admits (policy_of_resuming f)) d f
     → C k u limit (V.admits (policy_of_resuming f)) d
 

@@ -6,17 +6,17 @@ use Rattle.esc_values.specs.declared.csi_param.CsiParam.{CsiParam}
 use Rattle.esc_values.specs.declared.csi_param.CsiParam.TheVariants.{Integer, P}
 use Rattle.esc_sequences.specs.declared.esc.Esc.{Esc}
 use Rattle.esc_sequences.specs.declared.esc.Esc.TheVariants as esc_variant
-use Rattle.esc_functions.specs.Controls.{control_of, is_screen as is_screen_c0}
-use Rattle.esc_functions.specs.Effects.{changes_screen}
-use Rattle.esc_functions.specs.EscapeEffects.{changes_screen as escape_changes_screen}
-use Rattle.esc_functions.specs.Escapes.{named as escape_named}
-use Rattle.esc_functions.specs.Functions.{function_of, sequence_key}
-use Rattle.esc_functions.specs.Modes.{mode_of, is_screen as is_screen_mode}
-use Rattle.esc_functions.specs.PrivateModes.{mode_of as private_mode_of, is_screen as is_screen_private_mode}
-use Rattle.esc_functions.specs.declared.control_function.ControlFunction.{ControlFunction}
-use Rattle.esc_functions.specs.declared.control_function.ControlFunction.TheVariants as function
-use Rattle.esc_functions.specs.declared.escape_function.EscapeFunction.{EscapeFunction}
-use Rattle.esc_functions.specs.declared.escape_function.EscapeFunction.TheVariants as escape_function
+use Rattle.control_functions.specs.Controls.{control_of, is_screen as is_screen_c0}
+use Rattle.control_functions.specs.Effects.{changes_screen}
+use Rattle.control_functions.specs.EscapeEffects.{changes_screen as escape_changes_screen}
+use Rattle.control_functions.specs.Escapes.{escape_of_name as escape_named}
+use Rattle.control_functions.specs.Functions.{function_of, sequence_key}
+use Rattle.control_functions.specs.Modes.{mode_of, is_screen as is_screen_mode}
+use Rattle.control_functions.specs.PrivateModes.{mode_of as private_mode_of, is_screen as is_screen_private_mode}
+use Rattle.control_functions.specs.declared.control_function.ControlFunction.{ControlFunction}
+use Rattle.control_functions.specs.declared.control_function.ControlFunction.TheVariants as function
+use Rattle.control_functions.specs.declared.escape_function.EscapeFunction.{EscapeFunction}
+use Rattle.control_functions.specs.declared.escape_function.EscapeFunction.TheVariants as escape_function
 use Rattle.esc_osc_values.specs.declared.change_color_pair.ChangeColorPair.{ChangeColorPair}
 use Rattle.esc_osc_values.specs.declared.color_or_query.ColorOrQuery.{ColorOrQuery}
 use Rattle.esc_osc_values.specs.declared.color_or_query.ColorOrQuery.TheVariants as color
@@ -64,10 +64,10 @@ is_link _ = false
 abbrev pub BeginsOther : List ℕ → Type 0
 BeginsOther t = (b : ℕ) × (rest : List ℕ) × (t ≡ b ∷ rest) × (0x30 ≤ b) × (b ≤ 0x39) × (b ≢ 0x38)
 
-abbrev pub is_colour : {A : Type 0} → Value A → Bool
-is_colour (csi c) = is_rendition c
-is_colour (osc c) = is_link c
-is_colour _ = false
+abbrev pub is_color : {A : Type 0} → Value A → Bool
+is_color (csi c) = is_rendition c
+is_color (osc c) = is_link c
+is_color _ = false
 
 -- Screen: what moves the cursor, erases, scrolls, and changes what is shown.
 
@@ -173,6 +173,6 @@ is_screen _ = false
 -- what a policy admits: each all that the one before it does
 abbrev pub admits : {A : Type 0} → Policy → Value A → Bool
 admits policy.Text v = is_text v
-admits policy.Color v = is_text v || is_colour v
-admits policy.Screen v = is_text v || (is_colour v || is_screen v)
+admits policy.Color v = is_text v || is_color v
+admits policy.Screen v = is_text v || (is_color v || is_screen v)
 admits policy.All v = true

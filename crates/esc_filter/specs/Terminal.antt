@@ -2,10 +2,10 @@
 use Rattle.std.specs.Prelude.{ℕ, Bool, true, false, not, ◌==◌, ◌||◌, pos, negsuc, if◌then◌else◌, List, [], ◌∷◌, Option, None, Some}
 use Rattle.esc_values.specs.declared.csi_param.CsiParam.{CsiParam}
 use Rattle.esc_values.specs.declared.csi_param.CsiParam.TheVariants.{Integer, P}
-use Rattle.esc_functions.specs.declared.control_function.ControlFunction.{ControlFunction}
-use Rattle.esc_functions.specs.declared.control_function.ControlFunction.TheVariants as function
-use Rattle.esc_functions.specs.declared.escape_function.EscapeFunction.{EscapeFunction}
-use Rattle.esc_functions.specs.declared.escape_function.EscapeFunction.TheVariants as escape
+use Rattle.control_functions.specs.declared.control_function.ControlFunction.{ControlFunction}
+use Rattle.control_functions.specs.declared.control_function.ControlFunction.TheVariants as function
+use Rattle.control_functions.specs.declared.escape_function.EscapeFunction.{EscapeFunction}
+use Rattle.control_functions.specs.declared.escape_function.EscapeFunction.TheVariants as escape
 use Rattle.esc_filter.specs.declared.terminal.Change.{Change}
 use Rattle.esc_filter.specs.declared.terminal.Change.TheVariants as change
 use Rattle.esc_filter.specs.declared.kept_modes.Modes.{Modes}
@@ -100,16 +100,16 @@ either_sets a b = record {
 }
 
 -- Not every terminal saves all of it, so what is changed now is taken to stay so.
-abbrev pub restored : Saved → Terminal → Terminal
-restored s t = record t {
+abbrev pub restored_terminal : Saved → Terminal → Terminal
+restored_terminal s t = record t {
   rendition = t.rendition || s.rendition;
   origin = t.origin || s.origin;
   sets = either_sets t.sets s.sets;
 }
 
 abbrev pub restored_on : Bool → Terminal → Terminal
-restored_on true t = restored t.saved t
-restored_on false t = restored t.saved_aside t
+restored_on true t = restored_terminal t.saved t
+restored_on false t = restored_terminal t.saved_aside t
 
 abbrev pub restore : Terminal → Terminal
 restore t = restored_on (is_main t.screen) t
@@ -117,15 +117,15 @@ restore t = restored_on (is_main t.screen) t
 -- ---- modes
 
 -- the alternate screen, by this mode, or the main one
-abbrev pub shown : Screen → Bool → Terminal → Terminal
-shown s true t = record t { screen = s }
-shown s false t = record t { screen = screen.Main }
+abbrev pub screen_shown : Screen → Bool → Terminal → Terminal
+screen_shown s true t = record t { screen = s }
+screen_shown s false t = record t { screen = screen.Main }
 
 -- mode 1049 saves the cursor and shows the alternate screen; its reset shows the main one, and
 -- restores the cursor
 abbrev pub with_cursor : Bool → Terminal → Terminal
-with_cursor true t = shown screen.WithCursor true (save t)
-with_cursor false t = restore (shown screen.WithCursor false t)
+with_cursor true t = screen_shown screen.WithCursor true (save t)
+with_cursor false t = restore (screen_shown screen.WithCursor false t)
 
 -- mode 1048 saves the cursor, and its reset restores it
 abbrev pub cursor_kept : Bool → Terminal → Terminal
@@ -139,9 +139,9 @@ after_private n b t =
     else if n == 6 then record t { origin = b }
     else if n == 7 then record t { no_wrap = not b }
     else if n == 25 then record t { hidden = not b }
-    else if n == 47 then shown screen.Alternate b t
+    else if n == 47 then screen_shown screen.Alternate b t
     else if n == 69 then record t { sides = b }
-    else if n == 1047 then shown screen.Cleared b t
+    else if n == 1047 then screen_shown screen.Cleared b t
     else if n == 1048 then cursor_kept b t
     else if n == 1049 then with_cursor b t
     else if n == 2026 then record t { held = b }
@@ -176,8 +176,8 @@ was_set n m =
     else m.alternate
 
 -- after XTRESTORE set it as it was kept; of 1048 nothing is
-abbrev pub again : ℕ → Terminal → Terminal
-again n t = if n == 1048 then t else after_private n (was_set n t.kept) t
+abbrev pub mode_restored : ℕ → Terminal → Terminal
+mode_restored n t = if n == 1048 then t else after_private n (was_set n t.kept) t
 
 -- ---- control functions
 
@@ -185,7 +185,7 @@ abbrev pub after_change : Change → ℕ → Terminal → Terminal
 after_change (change.Mode b) n t = after_mode n b t
 after_change (change.PrivateMode b) n t = after_private n b t
 after_change change.Keep n t = kept_mode n t
-after_change change.SetAgain n t = again n t
+after_change change.SetAgain n t = mode_restored n t
 
 abbrev pub after_param : Change → CsiParam → Terminal → Terminal
 after_param c (Integer (pos n)) t = after_change c n t
@@ -202,13 +202,13 @@ has_params [] = false
 has_params (e ∷ es) = true
 
 -- renditions may be on
-abbrev pub lit : Terminal → Terminal
-lit t = record t { rendition = true }
+abbrev pub with_renditions : Terminal → Terminal
+with_renditions t = record t { rendition = true }
 
 -- After a control sequence of this function. What XTPUSHSGR put aside is not known to XTPOPSGR;
 -- DECSTR lets lines wrap no more (VT510), and what else it resets is taken for changed.
 unfoldable pub after_function : ControlFunction → List CsiParam → Terminal → Terminal
-after_function function.SGR es t = lit t
+after_function function.SGR es t = with_renditions t
 after_function function.SM es t = after_params (change.Mode true) es t
 after_function function.RM es t = after_params (change.Mode false) es t
 after_function function.DECSET es t = after_params (change.PrivateMode true) es t
@@ -218,8 +218,8 @@ after_function function.XTRESTORE es t = after_params change.SetAgain es t
 after_function function.DECSTBM es t = record t { margins = has_params es }
 after_function function.SCOSC es t = save t
 after_function function.SCORC es t = restore t
-after_function function.XTPOPSGR es t = lit t
-after_function function.XTPOPSGR_2 es t = lit t
+after_function function.XTPOPSGR es t = with_renditions t
+after_function function.XTPOPSGR_2 es t = with_renditions t
 after_function function.DECSTR es t = record t { no_wrap = true }
 after_function f es t = t
 

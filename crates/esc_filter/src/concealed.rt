@@ -7,7 +7,7 @@ use esc_values::CsiParam;
 
 // Whether one of the renditions with these parameters may conceal text: 8 (ECMA-48, 8.3.117), where
 // it is not a number of a colour, as in `38;5;8`, and no part of an item, as in `4:8`.
-#[tactic(auto, using(crate::proofs::Conceals::without_first))]
+#[tactic(auto, using(crate::proofs::GivingBack::ConcealedFrom::without_first))]
 pub(crate) fn conceals(params: &[CsiParam]) -> bool
     ensures { result ≡ conceals params.now }
 {

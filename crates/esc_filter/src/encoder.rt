@@ -2,7 +2,7 @@
 ghost use Rattle.std.specs.Prelude.{◌≡◌, ◌∷◌, ◌++◌, ◌↔◌, [], List, true, false, IfOk, IsErrOf, OnErr, OnOk, string_bytes};
 ghost use Rattle.esc_actions.specs.Texts.{has_text, text_after};
 ghost use Rattle.esc_actions.specs.Values.{Value, value_of};
-ghost use Rattle.memory.specs.Refusals.{Refused};
+ghost use Rattle.fallible_alloc.specs.Refusals.{Refused};
 
 use esc_actions::Action;
 use esc_values::Text;
@@ -76,7 +76,7 @@ fn append_after<A: Allocator>(
     let Ok(own) = own_text(alloc, follows_string, action) else {
         return Err(EncodeError::Memory);
     };
-    match memory::push_str(text, own.as_str()) {
+    match fallible_alloc::push_str(text, own.as_str()) {
         Ok(()) => Ok(()),
         Err(_) => Err(EncodeError::Memory),
     }

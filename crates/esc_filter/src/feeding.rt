@@ -1,9 +1,9 @@
 //! Filters, as what takes a stream in pieces.
 ghost use Rattle.std.specs.Prelude.{◌≡◌, ℕ, Bool, Some, false};
-ghost use Rattle.esc_filter.specs.Fed.{WasFedIn, added_by, policy_of};
-ghost use Rattle.esc_filter.specs.Lines.{WasFedLines, added_by as added_by_lines, closed_by_lines_as, policy_of_lines, text_by_lines_as};
+ghost use Rattle.esc_filter.specs.Fed.{HasConsumedIn, added_by, policy_of};
+ghost use Rattle.esc_filter.specs.Lines.{HasConsumedLines, added_by as added_by_lines, closed_by_lines_as, policy_of_lines, text_by_lines_as};
 ghost use Rattle.esc_filter.specs.Openings.{resumed_closed, resumed_text};
-ghost use Rattle.esc_filter.specs.Resumed.{WasFedResumed, added_by as added_by_resuming, policy_of_resuming};
+ghost use Rattle.esc_filter.specs.Resumed.{ResumedHasConsumed, added_by as added_by_resuming, policy_of_resuming};
 ghost use Rattle.esc_filter.specs.Passing.{closed_text_as, passed_text_as};
 ghost use Rattle.esc_filter.specs.declared.guard.Guard.{Guard};
 
@@ -11,12 +11,12 @@ use crate::admit::Admit;
 use crate::filter::Filter;
 use crate::line_filter::LineFilter;
 use crate::resuming::ResumingFilter;
-use esc_normal::Feeding;
+use esc_normal::StreamFilter;
 use std::alloc::{AllocError, Allocator};
 
-impl<P: Admit<A>, A: Allocator + Copy> Feeding<A> for Filter<P, A> {
+impl<P: Admit<A>, A: Allocator + Copy> StreamFilter<A> for Filter<P, A> {
     ghost gives = { λ f m c s. (u : Guard) × (limit : ℕ)
-        × WasFedIn u false limit (P.admits (policy_of f)) s f
+        × HasConsumedIn u false limit (P.admits (policy_of f)) s f
         × (m ≡ passed_text_as {A = A} u (Some limit) (P.admits (policy_of f)))
         × (c ≡ closed_text_as {A = A} u (Some limit) (P.admits (policy_of f))) };
 
@@ -24,7 +24,7 @@ impl<P: Admit<A>, A: Allocator + Copy> Feeding<A> for Filter<P, A> {
 
     ghost has_ended = { λ _ _ _. Unit {0} };
 
-    fn feed_piece(&mut self, bytes: &[u8]) -> Result<(), AllocError> {
+    fn feed_chunk(&mut self, bytes: &[u8]) -> Result<(), AllocError> {
         match self.feed(bytes) {
             Ok(()) => Ok(()),
             Err(_) => Err(AllocError),
@@ -35,14 +35,14 @@ impl<P: Admit<A>, A: Allocator + Copy> Feeding<A> for Filter<P, A> {
         self.finish()
     }
 
-    fn added_text(&self) -> &str {
+    fn output_text(&self) -> &str {
         self.text()
     }
 }
 
-impl<P: Admit<A>, A: Allocator + Copy> Feeding<A> for LineFilter<P, A> {
+impl<P: Admit<A>, A: Allocator + Copy> StreamFilter<A> for LineFilter<P, A> {
     ghost gives = { λ f m c s. (u : Guard) × (limit : ℕ)
-        × WasFedLines u limit (P.admits (policy_of_lines f)) s f
+        × HasConsumedLines u limit (P.admits (policy_of_lines f)) s f
         × (m ≡ text_by_lines_as {A = A} u limit (P.admits (policy_of_lines f)))
         × (c ≡ closed_by_lines_as {A = A} u limit (P.admits (policy_of_lines f))) };
 
@@ -50,7 +50,7 @@ impl<P: Admit<A>, A: Allocator + Copy> Feeding<A> for LineFilter<P, A> {
 
     ghost has_ended = { λ _ _ _. Unit {0} };
 
-    fn feed_piece(&mut self, bytes: &[u8]) -> Result<(), AllocError> {
+    fn feed_chunk(&mut self, bytes: &[u8]) -> Result<(), AllocError> {
         match self.feed(bytes) {
             Ok(()) => Ok(()),
             Err(_) => Err(AllocError),
@@ -64,14 +64,14 @@ impl<P: Admit<A>, A: Allocator + Copy> Feeding<A> for LineFilter<P, A> {
         }
     }
 
-    fn added_text(&self) -> &str {
+    fn output_text(&self) -> &str {
         self.text()
     }
 }
 
-impl<P: Admit<A>, A: Allocator + Copy> Feeding<A> for ResumingFilter<P, A> {
+impl<P: Admit<A>, A: Allocator + Copy> StreamFilter<A> for ResumingFilter<P, A> {
     ghost gives = { λ f m c s. (k : Bool) × (u : Guard) × (limit : ℕ)
-        × WasFedResumed k u limit (P.admits (policy_of_resuming f)) s f
+        × ResumedHasConsumed k u limit (P.admits (policy_of_resuming f)) s f
         × (m ≡ resumed_text {A = A} k u limit (P.admits (policy_of_resuming f)))
         × (c ≡ resumed_closed {A = A} k u limit (P.admits (policy_of_resuming f))) };
 
@@ -79,7 +79,7 @@ impl<P: Admit<A>, A: Allocator + Copy> Feeding<A> for ResumingFilter<P, A> {
 
     ghost has_ended = { λ _ _ _. Unit {0} };
 
-    fn feed_piece(&mut self, bytes: &[u8]) -> Result<(), AllocError> {
+    fn feed_chunk(&mut self, bytes: &[u8]) -> Result<(), AllocError> {
         match self.feed(bytes) {
             Ok(()) => Ok(()),
             Err(_) => Err(AllocError),
@@ -93,7 +93,7 @@ impl<P: Admit<A>, A: Allocator + Copy> Feeding<A> for ResumingFilter<P, A> {
         }
     }
 
-    fn added_text(&self) -> &str {
+    fn output_text(&self) -> &str {
         self.text()
     }
 }

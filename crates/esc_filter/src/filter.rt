@@ -9,7 +9,7 @@ ghost use Rattle.esc_frame.specs.Segments.{IsCut, Segment};
 ghost use Rattle.esc_filter.specs.Characters.{of_unicode};
 ghost use Rattle.esc_filter.specs.Openings.{opening};
 ghost use Rattle.esc_filter.specs.Known.{ArePassedRenditions, IsPassedText};
-ghost use Rattle.memory.specs.Refusals.{Refused};
+ghost use Rattle.fallible_alloc.specs.Refusals.{Refused};
 
 use crate::admit::Admit;
 use crate::giving_back::keeps_cursor_of;
@@ -42,12 +42,12 @@ pub struct Filter<P, A: Allocator = Global> {
 }
 
 impl<P: Admit<A>, A: Allocator + Copy> Filter<P, A> {
-    ghost use Rattle.esc_filter.specs.Fed.{AfterIn, EndsAs, IsBroken, IsUnchanged, TakesAs, WasFed, WasFedIn, added_by, policy_of};
+    ghost use Rattle.esc_filter.specs.Fed.{AfterIn, EndsAs, IsBroken, IsUnchanged, TakesAs, HasConsumed, HasConsumedIn, added_by, policy_of};
 
     /// A filter at the beginning of a stream, which keeps at most `limit` bytes of a segment, as
     /// [`Parser::with_limit`](esc_parse::Parser::with_limit) does. Takes no memory.
     pub fn new(alloc: A, limit: usize, policy: P) -> Filter<P, A>
-        ensures fed { WasFed limit (P.admits policy) [] result }
+        ensures fed { HasConsumed limit (P.admits policy) [] result }
         ensures policy { policy_of result ≡ policy }
         ensures empty { added_by result ≡ [] }
     {
@@ -57,7 +57,7 @@ impl<P: Admit<A>, A: Allocator + Copy> Filter<P, A> {
     /// The same, where `unicode` says what is written of characters that deceive. What is within a
     /// string, as the address of a link, stays as it is, and so do carriage returns.
     pub fn with_unicode(alloc: A, limit: usize, policy: P, unicode: Unicode) -> Filter<P, A>
-        ensures fed { WasFedIn (of_unicode unicode) false limit (P.admits policy) [] result }
+        ensures fed { HasConsumedIn (of_unicode unicode) false limit (P.admits policy) [] result }
         ensures policy { policy_of result ≡ policy }
         ensures empty { added_by result ≡ [] }
     {
@@ -66,7 +66,7 @@ impl<P: Admit<A>, A: Allocator + Copy> Filter<P, A> {
 
     /// The same, where `guard` says what is written of these, and of carriage returns.
     pub fn with_guard(alloc: A, limit: usize, policy: P, guard: Guard) -> Filter<P, A>
-        ensures fed { WasFedIn guard false limit (P.admits policy) [] result }
+        ensures fed { HasConsumedIn guard false limit (P.admits policy) [] result }
         ensures policy { policy_of result ≡ policy }
         ensures empty { added_by result ≡ [] }
     {
@@ -81,7 +81,7 @@ impl<P: Admit<A>, A: Allocator + Copy> Filter<P, A> {
         guard: Guard,
         by_lines: bool,
     ) -> Filter<P, A>
-        ensures fed { WasFedIn guard by_lines limit (P.admits policy) [] result }
+        ensures fed { HasConsumedIn guard by_lines limit (P.admits policy) [] result }
         ensures policy { policy_of result ≡ policy }
         ensures empty { added_by result ≡ [] }
     {
@@ -138,7 +138,7 @@ impl<P: Admit<A>, A: Allocator + Copy> Filter<P, A> {
         ensures policy { policy_of self.new ≡ policy_of self.old }
         ensures refused { OnErr result (Refused A × (added_by self.new ≡ [])
             × ((by_lines : Bool) → AfterIn by_lines P.Admit self.old (λ u limit admits s.
-            WasFedIn u by_lines limit admits s self.new))) }
+            HasConsumedIn u by_lines limit admits s self.new))) }
         ensures failed { IsBroken self.old → IsBroken self.new }
     {
         let mut text = mem::replace(&mut self.written.spell.text, Text::new(self.alloc));
@@ -157,7 +157,7 @@ impl<P: Admit<A>, A: Allocator + Copy> Filter<P, A> {
     /// Begins a new stream. What is unfinished is dropped.
     pub(crate) fn restart(&mut self)
         ensures fed { (by_lines : Bool) → AfterIn by_lines P.Admit self.old (λ u limit admits s.
-            WasFedIn u by_lines limit admits [] self.new) }
+            HasConsumedIn u by_lines limit admits [] self.new) }
         ensures policy { policy_of self.new ≡ policy_of self.old }
         ensures failed { IsBroken self.old → IsBroken self.new }
     {

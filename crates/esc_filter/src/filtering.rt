@@ -3,13 +3,13 @@ ghost use Rattle.std.specs.Prelude.{IsErrOf, Some};
 ghost use Rattle.esc_normal.specs.Streams.{Filters};
 ghost use Rattle.esc_filter.specs.Lines.{IsFilteredByLines, closed_by_lines};
 ghost use Rattle.esc_filter.specs.Passing.{IsFiltered, closed_text};
-ghost use Rattle.memory.specs.Refusals.{Refused};
+ghost use Rattle.fallible_alloc.specs.Refusals.{Refused};
 
 use crate::admit::Admit;
 use crate::filter::Filter;
 use crate::laws;
 use crate::line_filter::LineFilter;
-use esc_normal::{FilterError, Watched, filter_from};
+use esc_normal::{FilterError, Watched, pump};
 use std::alloc::Allocator;
 use std::io::{Read, Write};
 
@@ -38,7 +38,7 @@ pub fn filter_stream<R: Read, W: Write, P: Admit<A> + Drop, A: Allocator + Copy>
 {
     laws::passed_reads_back::<A>();
     let mut filter = Filter::new(alloc, limit, policy);
-    filter_from(alloc, &mut filter, reader, writer)
+    pump(alloc, &mut filter, reader, writer)
 }
 
 /// The same, to which each line is a stream of its own, as it is to a
@@ -58,5 +58,5 @@ pub fn filter_lines<R: Read, W: Write, P: Admit<A> + Drop, A: Allocator + Copy>(
 {
     laws::lines_read_back::<A>();
     let mut filter = LineFilter::new(alloc, limit, policy);
-    filter_from(alloc, &mut filter, reader, writer)
+    pump(alloc, &mut filter, reader, writer)
 }

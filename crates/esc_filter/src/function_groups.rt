@@ -3,7 +3,7 @@ ghost use Rattle.std.specs.Prelude.{◌≡◌};
 ghost use Rattle.esc_filter.specs.Groups.{of_escape_function, of_escape_key, of_function, of_key};
 
 use crate::group::Group;
-use esc_functions::{ControlFunction, EscapeFunction};
+use control_functions::{ControlFunction, EscapeFunction};
 
 // The key of a row of the tables: the bytes of the sequence but its parameters, after a 1; after a
 // 2 where another function has the same bytes and fewer parameters.

@@ -1,9 +1,9 @@
 //! What gives back what is left changed at a terminal.
 ghost use Rattle.std.specs.Prelude.{◌≡◌, ◌++◌, ◌&&◌, None, map, OnErr, OnOk};
 ghost use Rattle.esc_actions.specs.Values.{value_of};
-ghost use Rattle.esc_filter.specs.Closing.{escape, joined, keeps_cursor};
+ghost use Rattle.esc_filter.specs.Closing.{escape, joined_lists, keeps_cursor};
 ghost use Rattle.esc_filter.specs.GivenBack.{is_cursor_due, is_saved_due, main_part, margins_part, on_main, part, parts_back, saved_part, text_given_back};
-ghost use Rattle.memory.specs.Refusals.{Refused};
+ghost use Rattle.fallible_alloc.specs.Refusals.{Refused};
 
 use crate::admit::Admit;
 use crate::terminal::{Screen, Terminal};
@@ -122,7 +122,7 @@ fn saved_part(keeps_cursor: bool) -> &'static str
 
 // Appends these texts.
 fn push_all<A: Allocator>(text: &mut Text<A>, parts: &[&'static str]) -> Result<(), AllocError>
-    ensures ok { OnOk result (text.new ≡ text.old ++ joined (map (λ s. s.now) parts.now)) }
+    ensures ok { OnOk result (text.new ≡ text.old ++ joined_lists (map (λ s. s.now) parts.now)) }
     ensures refused { OnErr result (Refused A) }
 {
     for part in parts {

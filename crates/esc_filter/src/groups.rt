@@ -82,7 +82,7 @@ impl<'a> Groups<'a> {
 
     // Whether the actions of a control sequence pass; not known where it is renditions of which one
     // conceals text, and those pass and others do not, or the other way round.
-    #[tactic(auto, using(crate::proofs::Choices::choices))]
+    #[tactic(auto, using(crate::proofs::Admission::ChoicesAdmit::choices))]
     fn has_sequence(&self, params: &[CsiParam], control: u8) -> Option<bool>
         ensures passes { result ≡ Some true → list_all (has_sequence self.now)
             (csi_of params.now false control) ≡ true }
@@ -136,7 +136,7 @@ impl<'a, A: Allocator> Admit<A> for Groups<'a> {
         self.has_sequence(params, control)
     }
 
-    #[tactic(auto, using(crate::proofs::Choices::images_stay))]
+    #[tactic(auto, using(crate::proofs::Admission::ChoicesAdmit::images_stay))]
     fn admits_images(&self) -> bool {
         self.has(Group::Images)
     }

@@ -7,20 +7,20 @@ ghost use Rattle.esc_actions.specs.Texts.{list_text};
 ghost use Rattle.esc_actions.specs.Values.{Value};
 ghost use Rattle.esc_frame.specs.Segments.{is_empty};
 ghost use Rattle.esc_filter.specs.Characters.{in_values, keeps_characters, some_strays};
-ghost use Rattle.esc_filter.specs.Closing.{IsAtStart, after_values, closed, closing};
+ghost use Rattle.esc_filter.specs.Closing.{IsAtStart, after_values, closed_values, closing};
 ghost use Rattle.esc_filter.specs.Terminal.{unchanged};
 ghost use Rattle.esc_filter.specs.Lines.{IsFilteredByLines, IsFilteredByLinesAs, IsLine, closed_by_lines_as, has_line_feed, line_text, lines, lines_text, lines_text_as, text_by_lines_as};
 ghost use Rattle.esc_sequences.specs.Csis.{CsiValue};
 ghost use Rattle.esc_sequences.specs.declared.esc.Esc.{Esc};
-ghost use Rattle.esc_functions.specs.Effects.{is_answered};
-ghost use Rattle.esc_functions.specs.EscapeEffects.{is_answered as escape_is_answered};
-ghost use Rattle.esc_functions.specs.Escapes.{named as escape_named};
-ghost use Rattle.esc_functions.specs.Functions.{named};
-ghost use Rattle.esc_functions.specs.declared.control_function.ControlFunction.{ControlFunction};
-ghost use Rattle.esc_functions.specs.declared.escape_function.EscapeFunction.{EscapeFunction};
+ghost use Rattle.control_functions.specs.Effects.{is_answered};
+ghost use Rattle.control_functions.specs.EscapeEffects.{is_answered as escape_is_answered};
+ghost use Rattle.control_functions.specs.Escapes.{escape_of_name as escape_named};
+ghost use Rattle.control_functions.specs.Functions.{function_of_csi};
+ghost use Rattle.control_functions.specs.declared.control_function.ControlFunction.{ControlFunction};
+ghost use Rattle.control_functions.specs.declared.escape_function.EscapeFunction.{EscapeFunction};
 ghost use Rattle.esc_filter.specs.Groups.{admits_groups, groups_of, has};
-ghost use Rattle.esc_filter.specs.Passing.{IsFiltered, IsFilteredAs, closed_text, closed_text_as, passed, passed_text, passed_text_as, passes};
-ghost use Rattle.esc_filter.specs.Pieces.{AdmitsAtMost, IsColorText, IsPlainText};
+ghost use Rattle.esc_filter.specs.Passing.{IsFiltered, IsFilteredAs, closed_text, closed_text_as, passed_values, passed_text, passed_text_as, passes};
+ghost use Rattle.esc_filter.specs.Tokens.{AdmitsAtMost, IsColorText, IsPlainText};
 ghost use Rattle.esc_filter.specs.Rules.{admits, is_screen_escape, is_screen_sequence};
 ghost use Rattle.esc_filter.specs.declared.groups.Groups.{Groups};
 ghost use Rattle.esc_filter.specs.declared.group.Group.{Group};
@@ -65,7 +65,8 @@ pub fn nothing_strays<A: Allocator>()
 /// What passes of a stream passes of each longer one, and comes first in it.
 pub fn passed_more<A: Allocator>()
     ensures { (limit : Option ℕ) (admits : Value A → Bool) (s b : List ℕ)
-        → passed limit admits (s ++ b) ≡ passed limit admits s ++ filter (passes admits)
+        → passed_values limit admits (s ++ b) ≡ passed_values limit admits s
+        ++ filter (passes admits)
         (yield_within limit s b) }
 {
     laws::meaning_of_more::<A>();
@@ -76,20 +77,20 @@ pub fn passed_more<A: Allocator>()
 pub fn closing_comes_last<A: Allocator>()
     ensures { (limit : Option ℕ) (admits : Value A → Bool) (s : List ℕ)
         → closed_text limit admits s
-        ≡ passed_text limit admits s ++ list_text (closing admits (passed limit admits s)) }
+        ≡ passed_text limit admits s ++ list_text (closing admits (passed_values limit admits s)) }
 {}
 
 /// Once what gives back what values leave changed is written, the terminal is as at the start,
 /// whatever the values and the policy are.
 pub fn terminal_as_at_the_start<A: Allocator>()
     ensures { (admits : Value A → Bool) (vs : List (Value A))
-        → IsAtStart (after_values (closed admits vs) unchanged) }
+        → IsAtStart (after_values (closed_values admits vs) unchanged) }
 {}
 
 /// What gives it back leaves nothing to give back.
 pub fn nothing_given_back_twice<A: Allocator>()
     ensures { (admits : Value A → Bool) (vs : List (Value A))
-        → closing admits (closed admits vs) ≡ [] }
+        → closing admits (closed_values admits vs) ≡ [] }
 {}
 
 /// The text of what passes of a stream whose lines are streams of their own reads back as what
@@ -133,20 +134,20 @@ pub fn lines_written<A: Allocator>()
     esc_osc::laws::writes_clear::<A>();
     esc_kitty::laws::reads_back::<A>();
     esc_sixel::laws::writes_back::<A>();
-    esc_tcap::laws::writes_back();
+    xtgettcap::laws::writes_back();
 }
 
 /// No control or escape sequence that `Policy::Screen` admits as such has a function that a
 /// terminal answers.
 pub fn screen_is_not_answered()
-    ensures sequences { (c : CsiValue) (f : ControlFunction) → named c ≡ Some f
+    ensures sequences { (c : CsiValue) (f : ControlFunction) → function_of_csi c ≡ Some f
         → is_screen_sequence c ≡ true → is_answered f ≡ false }
     ensures escapes { (s : Esc) (f : EscapeFunction) → escape_named s ≡ Some f
         → is_screen_escape s ≡ true → escape_is_answered f ≡ false }
 {}
 
 /// The groups of a policy admit what the policy does.
-#[tactic(auto, using(crate::proofs::PolicyGroups::same))]
+#[tactic(auto, using(crate::proofs::Admission::GroupsAreThePolicy::same))]
 pub fn policies_are_groups<A: Allocator>()
     ensures { (p : Policy) (v : Value A) → admits_groups (groups_of p) v ≡ admits p v }
 {}
@@ -187,7 +188,7 @@ pub fn writes_color_text<A: Allocator>()
 
 /// Groups that are all of a policy's admit no more than the policy does, whatever schemes links
 /// have to have.
-#[tactic(auto, using(crate::proofs::PolicyGroups::at_most))]
+#[tactic(auto, using(crate::proofs::Admission::GroupsAreThePolicy::at_most))]
 pub fn some_groups_admit_less<A: Allocator>()
     ensures { (p : Policy) (g : Groups)
         → ((c : Group) → has g c ≡ true → has (groups_of p) c ≡ true)

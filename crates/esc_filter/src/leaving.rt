@@ -6,7 +6,7 @@ ghost use Rattle.esc_values.specs.declared.csi_param.CsiParam.{CsiParam};
 ghost use Rattle.esc_values.specs.declared.csi_param.CsiParam.TheVariants.{Integer};
 ghost use Rattle.esc_actions.specs.Values.{value_of};
 ghost use Rattle.esc_osc.specs.Reading.{meaning as command_meant};
-ghost use Rattle.esc_filter.specs.Closing.{BeginsWith, IsAfter, Turns, after_body, after_command, after_control, after_escape, after_sequence, after_value, ends_in_semicolon, is_reset, lights, noted, opens, turned};
+ghost use Rattle.esc_filter.specs.Closing.{BeginsWith, IsAfter, Turns, after_body, after_command, after_control, after_escape, after_sequence, after_value, ends_in_semicolon, is_reset, lights, noted_terminal, opens, turned_terminal};
 ghost use Rattle.esc_filter.specs.Pens.{pen_after_final, pen_after_sequence};
 ghost use Rattle.esc_pen.specs.declared.pen.Pen.{Pen};
 ghost use Rattle.esc_filter.specs.Terminal.{after_escape_function, after_named_escape};
@@ -15,8 +15,8 @@ ghost use Rattle.esc_write.specs.Plain.{AreParams, IsPlainLink};
 
 use crate::policy::{are_plain, has_other_code};
 use crate::terminal::Terminal;
+use control_functions::{ControlFunction, EscapeFunction};
 use esc_actions::{Action, ControlCode};
-use esc_functions::{ControlFunction, EscapeFunction};
 use esc_links::Hyperlink;
 use esc_osc::{OperatingSystemCommand, laws};
 use esc_sequences::csi::is_unspecified;
@@ -143,7 +143,7 @@ impl Terminal {
     /// Notes a control sequence, after which renditions are on, or not, where that is known.
     #[inline]
     pub fn note_sequence(&mut self, is_on: Option<bool>, params: &[CsiParam], control: u8)
-        ensures { self.new ≡ noted is_on params.now control self.old }
+        ensures { self.new ≡ noted_terminal is_on params.now control self.old }
     {
         if let Some(is_on) = is_on {
             self.rendition = is_on;
@@ -227,7 +227,7 @@ fn is_reset(sgr: Sgr) -> bool
 }
 
 /// Whether the command of this text leaves all as it was, where that is seen at once.
-#[tactic(auto, using(crate::proofs::Lights::leaves))]
+#[tactic(auto, using(crate::proofs::GivingBack::RenditionsAfterSequence::leaves))]
 #[inline]
 pub(crate) fn leaves_all<A: Allocator>(text: &[u8]) -> bool
     ensures { IsTrue result → (t : Terminal)
@@ -277,7 +277,7 @@ fn first_number(params: &[CsiParam]) -> Option<u64>
 #[inline]
 pub(crate) fn renditions_after(params: &[CsiParam], control: u8) -> Option<Option<bool>>
     ensures { IfSome result (λ is_on. (v : CsiValue) × (csi_of params.now false control ≡ v ∷ [])
-        × ((t : Terminal) → after_sequence v t ≡ noted is_on params.now control t)
+        × ((t : Terminal) → after_sequence v t ≡ noted_terminal is_on params.now control t)
         × ((p : Option Pen) → pen_after_sequence v p ≡ pen_after_final params.now control p)) }
 {
     if control != b'm' {
@@ -291,7 +291,7 @@ pub(crate) fn renditions_after(params: &[CsiParam], control: u8) -> Option<Optio
 
 // Whether renditions are on after a sequence of these parameters and `m`, where it is seen at once
 // that this is one action.
-#[tactic(auto, using(crate::proofs::Lights::turning))]
+#[tactic(auto, using(crate::proofs::GivingBack::RenditionsAfterSequence::turning))]
 #[inline]
 fn are_on(params: &[CsiParam]) -> Option<bool>
     ensures { IfSome result (λ b. Turns params.now b) }

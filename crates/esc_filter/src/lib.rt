@@ -47,8 +47,7 @@ mod written;
 
 pub use admit::{Admit, passes};
 pub use encoder::Encoder;
-pub use esc_normal::{Feeding, FilterError, MOST_READS, filter_from};
-pub use esc_visible::{is_deceiving, may_follow};
+pub use esc_normal::{FilterError, MOST_READS, StreamFilter, pump};
 pub use filter::Filter;
 pub use filtering::{filter_lines, filter_stream};
 pub use group::Group;
@@ -67,3 +66,4 @@ pub use resuming::ResumingFilter;
 pub use returns::Returns;
 pub use schemes::is_scheme;
 pub use unicode::Unicode;
+pub use unicode_visibility::{is_deceiving, may_follow};

@@ -3,7 +3,7 @@ ghost use Rattle.std.specs.Prelude.{◌≡◌, ◌++◌, ◌∷◌, ◌+◌, ◌
 ghost use Rattle.esc_filter.specs.Characters.{of_unicode};
 ghost use Rattle.esc_filter.specs.Openings.{LeavesNone};
 ghost use Rattle.esc_filter.specs.Lines.{content, end_text, ends_line, ends_return, has_line_feed, held, IsLine, body};
-ghost use Rattle.memory.specs.Refusals.{Refused};
+ghost use Rattle.fallible_alloc.specs.Refusals.{Refused};
 
 use crate::admit::Admit;
 use crate::filter::Filter;
@@ -40,12 +40,12 @@ pub struct LineFilter<P, A: Allocator = Global> {
 }
 
 impl<P: Admit<A>, A: Allocator + Copy> LineFilter<P, A> {
-    ghost use Rattle.esc_filter.specs.Lines.{AddsText, AfterLines, ClosesLine, EndsBy, EndsLine, EndsLines, FillsLine, GrowsBy, GrowsLine, GrowsRest, OnLine, OnRest, WasFedLines, added_by, policy_of_lines};
+    ghost use Rattle.esc_filter.specs.Lines.{AddsText, AfterLines, ClosesLine, EndsBy, EndsLine, EndsLines, FillsLine, GrowsBy, GrowsLine, GrowsRest, OnLine, OnRest, HasConsumedLines, added_by, policy_of_lines};
 
     /// A filter at the beginning of a stream, which keeps at most `limit` bytes of a segment, as
     /// [`Filter::new`] does. Takes no memory.
     pub fn new(alloc: A, limit: usize, policy: P) -> LineFilter<P, A>
-        ensures fed { WasFedLines (of_unicode Unicode.Keep) limit (P.admits policy) [] result }
+        ensures fed { HasConsumedLines (of_unicode Unicode.Keep) limit (P.admits policy) [] result }
         ensures policy { policy_of_lines result ≡ policy }
         ensures empty { added_by result ≡ [] }
     {
@@ -55,7 +55,7 @@ impl<P: Admit<A>, A: Allocator + Copy> LineFilter<P, A> {
     /// The same, where `unicode` says what is written of characters that deceive, as
     /// [`Filter::with_unicode`] does. Bare carriage returns are kept.
     pub fn with_unicode(alloc: A, limit: usize, policy: P, unicode: Unicode) -> LineFilter<P, A>
-        ensures fed { WasFedLines (of_unicode unicode) limit (P.admits policy) [] result }
+        ensures fed { HasConsumedLines (of_unicode unicode) limit (P.admits policy) [] result }
         ensures policy { policy_of_lines result ≡ policy }
         ensures empty { added_by result ≡ [] }
     {
@@ -64,7 +64,7 @@ impl<P: Admit<A>, A: Allocator + Copy> LineFilter<P, A> {
 
     /// The same, where `guard` says what is written of these, and of bare carriage returns.
     pub fn with_guard(alloc: A, limit: usize, policy: P, guard: Guard) -> LineFilter<P, A>
-        ensures fed { WasFedLines guard limit (P.admits policy) [] result }
+        ensures fed { HasConsumedLines guard limit (P.admits policy) [] result }
         ensures policy { policy_of_lines result ≡ policy }
         ensures empty { added_by result ≡ [] }
     {
@@ -183,7 +183,7 @@ impl<P: Admit<A>, A: Allocator + Copy> LineFilter<P, A> {
         if lines.is_empty() {
             return Ok(0);
         }
-        memory::push_str(&mut self.text, lines)?;
+        fallible_alloc::push_str(&mut self.text, lines)?;
         Ok(lines.len())
     }
 
@@ -332,7 +332,7 @@ impl<P: Admit<A>, A: Allocator + Copy> LineFilter<P, A> {
             OnErr result (Refused A)) }
     {
         match self.filter.feed(bytes) {
-            Ok(()) => memory::push_str(&mut self.text, self.filter.text()),
+            Ok(()) => fallible_alloc::push_str(&mut self.text, self.filter.text()),
             Err(_) => Err(AllocError),
         }
     }
@@ -362,9 +362,9 @@ impl<P: Admit<A>, A: Allocator + Copy> LineFilter<P, A> {
         ensures refused { OnErr result (Refused A) }
     {
         if holds && self.filter.passes_return() {
-            memory::push_str(&mut self.text, "\r\n")
+            fallible_alloc::push_str(&mut self.text, "\r\n")
         } else {
-            memory::push_char(&mut self.text, '\n')
+            fallible_alloc::push_char(&mut self.text, '\n')
         }
     }
 
@@ -395,7 +395,7 @@ impl<P: Admit<A>, A: Allocator + Copy> LineFilter<P, A> {
             return Ok(());
         }
         match self.filter.finish() {
-            Ok(()) => memory::push_str(&mut self.text, self.filter.text()),
+            Ok(()) => fallible_alloc::push_str(&mut self.text, self.filter.text()),
             Err(e) => Err(e),
         }
     }

@@ -5,7 +5,7 @@ ghost use Rattle.esc_actions.specs.Values.{control};
 ghost use Rattle.esc_actions.specs.declared.action.Action.TheVariants as action;
 ghost use Rattle.esc_filter.specs.Fed.{MayTakeCommand, MayTakeSequence, Refuses, Takes, TakesBy};
 ghost use Rattle.esc_filter.specs.Known.{ArePassedLinks, ArePassedRenditions};
-ghost use Rattle.memory.specs.Refusals.{Refused};
+ghost use Rattle.fallible_alloc.specs.Refusals.{Refused};
 
 use crate::admit::{Admit, passes};
 use crate::policy::{has_other_code, is_layout};
@@ -222,7 +222,7 @@ impl<'p, P: Admit<A>, A: Allocator> Sink<Action<A>> for Passing<'p, P, A> {
         control != b'm' && self.policy.known().no_functions
     }
 
-    #[tactic(auto, using(crate::proofs::Images::passed_over))]
+    #[tactic(auto, using(crate::proofs::Admission::ImagesDoNotPass::passed_over))]
     #[inline]
     fn drops_images(&self) -> bool {
         !self.policy.admits_images()

@@ -3,15 +3,15 @@ ghost use Rattle.std.specs.Prelude.{◌≡◌, ◌++◌, OnErr, OnOk, string_byt
 ghost use Rattle.esc_sequences.specs.Csis.{csi_value};
 ghost use Rattle.esc_actions.specs.Values.{value_of};
 ghost use Rattle.esc_filter.specs.Pens.{pen_after_body, pen_after_final, pen_after_sequence, pen_after_value, pen_selected, pen_with, rendition_of, start_pen, text_of_pen};
-ghost use Rattle.memory.specs.Refusals.{Refused};
+ghost use Rattle.fallible_alloc.specs.Refusals.{Refused};
 
 use crate::policy::are_plain;
 use esc_actions::Action;
 use esc_pen::Pen;
 use esc_sequences::{CSI, Sgr};
-use esc_typed::Rendition;
 use esc_values::CsiParam;
 use std::alloc::{AllocError, Allocator};
+use typed_functions::Rendition;
 
 /// None at the start. They are noted where lines are streams of their own.
 pub(crate) fn start_pen(by_lines: bool) -> Option<Pen>

@@ -5,9 +5,9 @@ ghost use Rattle.esc_filter.specs.Openings.{ArePlainLines};
 
 use esc_frame::runs::scans::data_run;
 use esc_frame::utf8::sequence::{ahead, lies_from};
-use esc_visible::is_deceiving;
 use std::alloc::Allocator;
 use std::str;
+use unicode_visibility::is_deceiving;
 
 /// The lines that come first and have nothing before their ends but bytes 20 to 7E, tabs,
 /// characters from U+00A0 on that do not deceive and, where `renditions` is true, renditions that

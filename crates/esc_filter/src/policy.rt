@@ -5,7 +5,7 @@ ghost use Rattle.esc_values.specs.Clear.{parts_of};
 ghost use Rattle.esc_sequences.specs.Csis.{csi_of, csi_value};
 ghost use Rattle.esc_actions.specs.Values.{value_of};
 ghost use Rattle.esc_osc.specs.Reading.{meaning as command_meant};
-ghost use Rattle.esc_filter.specs.Rules.{BeginsOther, admits, is_colour, is_layout, is_link, is_plain_param, is_rendition, is_screen_sequence, is_shown, is_text};
+ghost use Rattle.esc_filter.specs.Rules.{BeginsOther, admits, is_color, is_layout, is_link, is_plain_param, is_rendition, is_screen_sequence, is_shown, is_text};
 
 use crate::admit::Admit;
 use crate::known::Known;
@@ -27,8 +27,8 @@ pub enum Policy {
     /// And what changes the screen alone: the controls 07 to 0F; cursor movement, erasing,
     /// inserting, deleting, copying, filling, scrolling, margins and tab stops; modes of what is
     /// shown, character sets, the cursor's shape, and colours of the palette. Which control and
-    /// escape sequences do so is stated by the tables of `esc_functions`. It is a list of what is
-    /// known to be so: nothing that a terminal answers, nothing that changes what keys, mouse or
+    /// escape sequences do so is stated by the tables of `control_functions`. It is a list of what
+    /// is known to be so: nothing that a terminal answers, nothing that changes what keys, mouse or
     /// terminal send, no title, clipboard, notification, file, directory, print, device control
     /// string or application program command is on it, and nothing unknown.
     Screen,
@@ -95,7 +95,7 @@ impl<A: Allocator> Admit<A> for Policy {
     fn admits_sequence(&self, params: &[CsiParam], control: u8) -> Option<bool> {
         match self {
             Policy::Text => Some(false),
-            Policy::Color => colour_passes(params, control),
+            Policy::Color => color_passes(params, control),
             Policy::Screen => screen_passes(params, control),
             Policy::All => Some(true),
         }
@@ -111,7 +111,7 @@ impl<A: Allocator> Admit<A> for Policy {
         }
     }
 
-    #[tactic(auto, using(crate::proofs::Images::images))]
+    #[tactic(auto, using(crate::proofs::Admission::ImagesDoNotPass::images))]
     #[inline]
     fn admits_images(&self) -> bool {
         match self {
@@ -130,8 +130,8 @@ fn is_admitted<A: Allocator>(policy: &Policy, action: &Action<A>) -> bool
 {
     match policy {
         Policy::Text => is_text(action),
-        Policy::Color => is_text(action) || is_colour(action),
-        Policy::Screen => is_text(action) || is_colour(action) || is_screen(action),
+        Policy::Color => is_text(action) || is_color(action),
+        Policy::Screen => is_text(action) || is_color(action) || is_screen(action),
         Policy::All => true,
     }
 }
@@ -163,9 +163,9 @@ pub(crate) fn has_other_code(text: &[u8]) -> bool
 
 // Whether what a control sequence means is renditions; not known where the final byte is `m` and
 // the parameters are no plain ones.
-#[tactic(auto, using(crate::proofs::Sequences::colours))]
+#[tactic(auto, using(crate::proofs::Renditions::SequencesFromParameters::colours))]
 #[inline]
-fn colour_passes(params: &[CsiParam], control: u8) -> Option<bool>
+fn color_passes(params: &[CsiParam], control: u8) -> Option<bool>
     ensures passes { result ≡ Some true → list_all is_rendition
         (csi_of params.now false control) ≡ true }
     ensures stays { result ≡ Some false → list_any is_rendition
@@ -178,7 +178,7 @@ fn colour_passes(params: &[CsiParam], control: u8) -> Option<bool>
 }
 
 // The same, of what changes the screen alone too.
-#[tactic(auto, using(crate::proofs::Sequences::screens))]
+#[tactic(auto, using(crate::proofs::Renditions::SequencesFromParameters::screens))]
 #[inline]
 fn screen_passes(params: &[CsiParam], control: u8) -> Option<bool>
     ensures passes { result ≡ Some true → list_all (λ c. is_rendition c || is_screen_sequence c)
@@ -224,8 +224,8 @@ pub(crate) fn is_layout(code: char) -> bool
 }
 
 // Whether it is a rendition or a link.
-fn is_colour<A: Allocator>(action: &Action<A>) -> bool
-    ensures { result ≡ is_colour (value_of action.now) }
+fn is_color<A: Allocator>(action: &Action<A>) -> bool
+    ensures { result ≡ is_color (value_of action.now) }
 {
     match action {
         Action::CSI(csi) => is_rendition(csi),

@@ -2,7 +2,7 @@
 ghost use Rattle.std.specs.Prelude.{◌≡◌, ◌≤◌, ◌<◌, ◌++◌, [], Err, IfErr, IfOk, OnErr, OnOk, length, take, true, false, if◌then◌else◌, string_bytes};
 ghost use Rattle.esc_filter.specs.Lines.{GrowsBy, IsLine, ends_line, has_line_feed};
 ghost use Rattle.esc_filter.specs.Openings.{opening, opening_at};
-ghost use Rattle.memory.specs.Refusals.{Refused};
+ghost use Rattle.fallible_alloc.specs.Refusals.{Refused};
 
 use crate::admit::Admit;
 use crate::guard::Guard;
@@ -31,7 +31,7 @@ pub struct ResumingFilter<P, A: Allocator = Global> {
 
 impl<P: Admit<A>, A: Allocator + Copy> ResumingFilter<P, A> {
     ghost use Rattle.esc_filter.specs.Lines.{AfterLines, OnLine};
-    ghost use Rattle.esc_filter.specs.Resumed.{AddsResumed, AfterResumed, ClosesWith, EndsResumed, EndsWith, GrowsResumed, OnStream, WasFedResumed, added_by, policy_of_resuming};
+    ghost use Rattle.esc_filter.specs.Resumed.{AddsResumed, AfterResumed, ClosesWith, EndsResumed, EndsWith, GrowsResumed, OnStream, ResumedHasConsumed, added_by, policy_of_resuming};
 
     /// A filter at the beginning of a stream, as [`LineFilter::with_guard`] says. Renditions are
     /// written again where `resumes` is true; else it is a [`LineFilter`]. Takes no memory.
@@ -42,7 +42,7 @@ impl<P: Admit<A>, A: Allocator + Copy> ResumingFilter<P, A> {
         guard: Guard,
         resumes: bool,
     ) -> ResumingFilter<P, A>
-        ensures fed { WasFedResumed resumes guard limit (P.admits policy) [] result }
+        ensures fed { ResumedHasConsumed resumes guard limit (P.admits policy) [] result }
         ensures policy { policy_of_resuming result ≡ policy }
         ensures empty { added_by result ≡ [] }
     {

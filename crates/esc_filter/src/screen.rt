@@ -1,5 +1,5 @@
 //! What changes the screen alone: of control and escape sequences, by the tables of
-//! `esc_functions`.
+//! `control_functions`.
 ghost use Rattle.std.specs.Prelude.{◌≡◌};
 ghost use Rattle.std.specs.List.{list_all};
 ghost use Rattle.esc_sequences.specs.Csis.{csi_value};
@@ -8,8 +8,8 @@ ghost use Rattle.esc_actions.specs.Values.{value_of};
 ghost use Rattle.esc_filter.specs.Rules.{changes_with, escape_changes_with, is_common_set, is_lone, is_mode, is_palette, is_private_mode, is_screen, is_screen_body, is_screen_control, is_screen_escape, is_screen_sequence, is_set, is_set_pair, is_shape, is_space};
 
 use crate::policy::are_plain;
+use control_functions::{C0, ControlFunction, EscapeFunction, Mode, PrivateMode};
 use esc_actions::Action;
-use esc_functions::{C0, ControlFunction, EscapeFunction, Mode, PrivateMode};
 use esc_osc::{ChangeColorPair, ColorOrQuery, OperatingSystemCommand};
 use esc_sequences::{CSI, Esc};
 use esc_values::CsiParam;
@@ -82,7 +82,7 @@ fn is_screen_sequence<A: Allocator>(csi: &CSI<A>) -> bool
 
 // The same, of a sequence that has no name of its own. That the plain ones from ICH to DL change
 // the screen alone is known before the table is asked.
-#[tactic(auto, using(crate::proofs::Screens::plain_moves))]
+#[tactic(auto, using(crate::proofs::GivingBack::ScreenFunctions::plain_moves))]
 #[inline]
 pub(crate) fn is_screen_body(params: &[CsiParam], control: u8) -> bool
     ensures { result ≡ is_screen_body params.now control }

@@ -1,10 +1,10 @@
 //! A terminal, as far as what passes leaves it changed.
 ghost use Rattle.std.specs.Prelude.{◌≡◌};
-ghost use Rattle.esc_filter.specs.Terminal.{after_change, after_function, after_mode, after_named, after_param, after_params, after_private, again, are_changed_sets, cursor_kept, is_changed, is_changed_mode, is_changed_saved, is_main, kept_mode, lit, restore, restored, save, saved_of, shown, unchanged, was_set, with_cursor};
+ghost use Rattle.esc_filter.specs.Terminal.{after_change, after_function, after_mode, after_named, after_param, after_params, after_private, mode_restored, are_changed_sets, cursor_kept, is_changed, is_changed_mode, is_changed_saved, is_main, kept_mode, with_renditions, restore, restored_terminal, save, saved_of, screen_shown, unchanged, was_set, with_cursor};
 
 use crate::kept_modes::Modes;
 use crate::saved::{Saved, Sets};
-use esc_functions::ControlFunction;
+use control_functions::ControlFunction;
 use esc_values::CsiParam;
 
 /// Which screen is shown, and by which private mode the alternate one is.
@@ -243,7 +243,7 @@ impl Terminal {
 
     // The alternate screen is shown, by this mode, or the main one.
     fn show(&mut self, screen: Screen, is_set: bool)
-        ensures { self.new ≡ shown screen is_set self.old }
+        ensures { self.new ≡ screen_shown screen is_set self.old }
     {
         self.screen = if is_set { screen } else { Screen::Main };
     }
@@ -291,7 +291,7 @@ impl Terminal {
 
     // XTRESTORE sets it as it was kept.
     fn set_again(&mut self, number: u64)
-        ensures { self.new ≡ again number self.old }
+        ensures { self.new ≡ mode_restored number self.old }
     {
         if number != 1048 {
             self.set_private(number, self.kept.was_set(number));

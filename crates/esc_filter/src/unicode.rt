@@ -1,8 +1,8 @@
 //! What a filter writes of characters that deceive.
 ghost use Rattle.std.specs.Prelude.{◌≡◌, IsTrue, true};
-ghost use Rattle.esc_visible.specs.Characters.{is_deceiving};
+ghost use Rattle.unicode_visibility.specs.Characters.{is_deceiving};
 
-use esc_visible::is_deceiving;
+use unicode_visibility::is_deceiving;
 
 /// What a filter writes of a character that hides or reorders text ([`is_deceiving`]), where the
 /// character passes.
@@ -11,8 +11,8 @@ pub enum Unicode {
     /// The character itself.
     Keep,
     /// The character itself where it belongs to the character that was written before it
-    /// ([`may_follow`](esc_visible::may_follow)), as variation selectors and joiners in emoji and
-    /// within words do; and where it does not, its number, as by `Show`.
+    /// ([`may_follow`](unicode_visibility::may_follow)), as variation selectors and joiners in
+    /// emoji and within words do; and where it does not, its number, as by `Show`.
     Join,
     /// Its number, as `<U+202E>`: in hexadecimal, upper case, with at least four digits.
     Show,

@@ -3,14 +3,14 @@ ghost use Rattle.std.specs.Prelude.{◌≡◌, ◌∷◌, ◌<◌, [], false, tr
 ghost use Rattle.std.specs.List.{list_all};
 ghost use Rattle.std.specs.Str.{chars};
 ghost use Rattle.esc_values.specs.Clear.{is_clear, parts_of};
-ghost use Rattle.esc_visible.specs.Characters.{number_text};
-ghost use Rattle.esc_visible.specs.Following.{last_of};
+ghost use Rattle.unicode_visibility.specs.Characters.{number_text};
+ghost use Rattle.unicode_visibility.specs.Following.{last_of};
 ghost use Rattle.esc_actions.specs.declared.action.Action.TheVariants as action;
 ghost use Rattle.esc_parse.specs.Given.{Receives};
-ghost use Rattle.memory.specs.Refusals.{Refused};
+ghost use Rattle.fallible_alloc.specs.Refusals.{Refused};
 ghost use Rattle.esc_write.specs.Plain.{IsPlain};
 ghost use Rattle.esc_actions.specs.Values.{control, print, value_of};
-ghost use Rattle.esc_filter.specs.Characters.{character_of, in_guard, in_return, instead};
+ghost use Rattle.esc_filter.specs.Characters.{character_of, in_guard, in_return, replacement_values};
 ghost use Rattle.esc_filter.specs.Noted.{AreKept, HasNoted, Notes, WriteDenies, Writes, WritesLink, WritesRendition, without_text, written_of};
 ghost use Rattle.esc_filter.specs.Passing.{is_line_feed};
 
@@ -22,20 +22,22 @@ use crate::terminal::Terminal;
 use crate::text::emptied;
 use crate::unicode::Unicode;
 use esc_actions::{Action, ControlCode};
-use esc_normal::Spell;
+use esc_normal::TextSink;
 use esc_parse::Sink;
 use esc_pen::Pen;
 use esc_values::CsiParam;
-use esc_visible::{has_deceiving, has_stray, is_deceiving, last_char, may_follow, number_text};
 use esc_write::plain_link;
 use esc_write::short_numbers::ShortNumbers;
 use std::alloc::{AllocError, Allocator, Global};
+use unicode_visibility::{
+    has_deceiving, has_stray, is_deceiving, last_char, may_follow, number_text,
+};
 
 /// Appends the text of each action, but of line feeds where lines are streams of their own.
 #[derive(Drop)]
 pub(crate) struct Written<A: Allocator = Global> {
     /// The text of the actions.
-    pub spell: Spell<A>,
+    pub spell: TextSink<A>,
     /// What they left changed.
     pub left: Terminal,
     /// What is written of what deceives.
@@ -55,7 +57,7 @@ impl<A: Allocator> Written<A> {
         ensures noted { HasNoted by_lines guard [] result }
     {
         Written {
-            spell: Spell::new(alloc),
+            spell: TextSink::new(alloc),
             left: Terminal::unchanged(),
             guard,
             by_lines,
@@ -77,12 +79,12 @@ impl<A: Allocator> Written<A> {
             before,
             pen,
         } = self;
-        let Spell {
+        let TextSink {
             text,
             follows_string,
         } = spell;
         Written {
-            spell: Spell {
+            spell: TextSink {
                 text: emptied(text),
                 follows_string,
             },
@@ -180,7 +182,7 @@ impl<A: Allocator> Written<A> {
     // Appends what is written in place of a character that deceives.
     fn append_instead(&mut self, c: char) -> Result<(), AllocError>
         ensures ok { OnOk result (Writes self.old
-            (instead self.old.guard.characters self.old.before c) self.new) }
+            (replacement_values self.old.guard.characters self.old.before c) self.new) }
         ensures refused { OnErr result (Refused A) }
     {
         match self.guard.characters {
@@ -194,7 +196,7 @@ impl<A: Allocator> Written<A> {
     // Appends a character that deceives where it belongs to the one before it, or else its number.
     fn append_joined(&mut self, c: char) -> Result<(), AllocError>
         ensures ok { OnOk result
-            (Writes self.old (instead Unicode.Join self.old.before c) self.new) }
+            (Writes self.old (replacement_values Unicode.Join self.old.before c) self.new) }
         ensures refused { OnErr result (Refused A) }
     {
         if may_follow(self.before, c) {

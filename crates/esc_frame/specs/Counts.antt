@@ -1,6 +1,6 @@
 -- What counts of a segment, and what is kept of the last segment of a cut.
 use Rattle.std.specs.Prelude.{ℕ, ◌≡◌, true, List, [], ◌∷◌, length, Option}
-use Rattle.esc_frame.specs.Classes.{strip, those, is_text}
+use Rattle.esc_frame.specs.Classes.{without_noise, bytes_of_class, is_text}
 use Rattle.esc_frame.specs.Limits.{is_within, kept_within, header_count}
 use Rattle.esc_frame.specs.Segments.{Segment, text_of}
 use Rattle.esc_frame.specs.Segments.Segment.{Osc, Apc, Dcs, CutDcs}
@@ -12,8 +12,8 @@ use Rattle.esc_frame.specs.Segments.Ending.{Rung}
 abbrev pub kept_of : Option ℕ → Segment → ℕ
 kept_of limit (Osc o ps Rung) = 0
 kept_of limit (Osc o ps e) = kept_within limit (length (text_of ps))
-kept_of limit (Apc o d) = kept_within limit (length (those is_text d))
-kept_of limit (CutDcs o x) = kept_within limit (header_count (strip x))
+kept_of limit (Apc o d) = kept_within limit (length (bytes_of_class is_text d))
+kept_of limit (CutDcs o x) = kept_within limit (header_count (without_noise x))
 kept_of limit _ = 0
 
 -- of a cut: what is kept of its last segment
@@ -25,8 +25,8 @@ kept_of_cut limit (g ∷ h ∷ gs) = kept_of_cut limit (h ∷ gs)
 -- what counts of a segment whose events a limit may change
 abbrev pub count_of : Segment → ℕ
 count_of (Osc o ps e) = length (text_of ps)
-count_of (Apc o d) = length (those is_text d)
-count_of (Dcs o x f d) = header_count (strip x)
+count_of (Apc o d) = length (bytes_of_class is_text d)
+count_of (Dcs o x f d) = header_count (without_noise x)
 count_of _ = 0
 
 -- each is within the limit

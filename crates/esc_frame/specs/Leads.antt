@@ -1,19 +1,19 @@
 -- What is unfinished of a stream, and what the machine keeps of it. No contract of `VTParser` cites
--- it; the public relation is `LeadsTo` of Stream.
+-- it; the public relation is `HasConsumed` of Stream.
 use Rattle.std.specs.Prelude.{ℕ, ◌≡◌, true, false, if◌then◌else◌, List, [], ◌∷◌, ◌++◌, Option, None, length}
 use Rattle.std.specs.List.{flat_map}
 use Rattle.esc_frame.specs.declared.classes.Kind.{Kind}
 use Rattle.esc_frame.specs.declared.classes.Kind.TheVariants as kind
 use Rattle.esc_frame.specs.declared.machine.State.TheVariants as state
 use Rattle.esc_frame.specs.declared.machine.Machine.{Machine}
-use Rattle.esc_frame.specs.Classes.{strip, those, is_text}
+use Rattle.esc_frame.specs.Classes.{without_noise, bytes_of_class, is_text}
 use Rattle.esc_frame.specs.Sequences.{is_prefix}
 use Rattle.esc_frame.specs.Limits.{is_read, kept_within, header_count}
 use Rattle.esc_frame.specs.Machine.Prefixes.{prefix_of}
 use Rattle.esc_frame.specs.Machine.Keeps.{Keeps, KeepsBody, KeepsDcs, parameters_of}
 use Rattle.esc_frame.specs.Events.{Event}
-use Rattle.esc_frame.specs.Segments.{Segment, Opener, Piece, opener, opener_events, text_of, text_bytes, HasShape, IsOpener, ArePieces, is_finished, is_empty}
-use Rattle.esc_frame.specs.Segments.{joined, bytes_of, events_of_within, executes, hook_event, puts}
+use Rattle.esc_frame.specs.Segments.{Segment, Opener, OscUnit, opener, opener_events, text_of, text_bytes, HasShape, IsOpener, AreOscUnits, is_finished, is_empty}
+use Rattle.esc_frame.specs.Segments.{joined_bytes, bytes_of, events_of_within, executes, hook_event, puts}
 use Rattle.esc_frame.specs.Segments.Segment.{CutEscape, CutCsi, CutDcs, Dcs, Apc, Ignored}
 
 -- the last segment, where it is unfinished, taken apart
@@ -27,11 +27,11 @@ pub data Unfinished : Type 0 where
   InData : Opener → List ℕ → ℕ → List ℕ → Unfinished
   InApc : Opener → List ℕ → Unfinished
   InIgnored : Kind → Opener → List ℕ → Unfinished
-  InOsc : Opener → List Piece → Unfinished
+  InOsc : Opener → List OscUnit → Unfinished
   -- a prefix follows the units
-  InOscPending : Opener → List Piece → List ℕ → Unfinished
+  InOscPending : Opener → List OscUnit → List ℕ → Unfinished
 
-abbrev pub osc_bytes : Opener → List Piece → List ℕ
+abbrev pub osc_bytes : Opener → List OscUnit → List ℕ
 osc_bytes o ps = opener kind.Osc o ++ text_bytes ps
 
 -- its bytes
@@ -56,14 +56,14 @@ OpenShape (InDcs o x) = HasShape (CutDcs o x) []
 OpenShape (InData o x f d) = HasShape (Dcs o x f d) []
 OpenShape (InApc o d) = HasShape (Apc o d) []
 OpenShape (InIgnored k o d) = HasShape (Ignored k o d) []
-OpenShape (InOsc o ps) = IsOpener o × ArePieces ps []
-OpenShape (InOscPending o ps f) = IsOpener o × ArePieces ps f × (is_prefix f ≡ true)
+OpenShape (InOsc o ps) = IsOpener o × AreOscUnits ps []
+OpenShape (InOscPending o ps f) = IsOpener o × AreOscUnits ps f × (is_prefix f ≡ true)
 
 -- each has its shape and is finished where these bytes follow the last
 abbrev pub AreFinished : List Segment → List ℕ → Type 0
 AreFinished [] rest = Unit {0}
-AreFinished (g ∷ gs) rest = HasShape g (joined gs ++ rest)
-    × (is_finished g (joined gs ++ rest) ≡ true) × AreFinished gs rest
+AreFinished (g ∷ gs) rest = HasShape g (joined_bytes gs ++ rest)
+    × (is_finished g (joined_bytes gs ++ rest) ≡ true) × AreFinished gs rest
 
 -- what the machine keeps of the unfinished segment, of a string no more than the limit; `keeps`
 -- says what its store keeps of a text
@@ -72,13 +72,15 @@ abbrev pub Holds : {K A : Type 0} → (Option ℕ → K → List ℕ → Type 0)
 Holds keeps limit m Ground = (m.state ≡ state.Ground) × (prefix_of m.pending ≡ [])
 Holds keeps limit m (Pending f) = (m.state ≡ state.Ground) × (prefix_of m.pending ≡ f)
     × (is_empty f ≡ false)
-Holds keeps limit m (InEscape x) = (m.state ≡ state.Escape) × Keeps m.intermediates (strip x)
-Holds keeps limit m (InCsi o x) = (m.state ≡ state.Csi) × KeepsBody m.body (strip x)
+Holds keeps limit m (InEscape x) = (m.state ≡ state.Escape)
+    × Keeps m.intermediates (without_noise x)
+Holds keeps limit m (InCsi o x) = (m.state ≡ state.Csi) × KeepsBody m.body (without_noise x)
 Holds keeps limit m (InDcs o x) = (m.state ≡ state.Dcs)
-    × keeps limit m.text (parameters_of (strip x)) × KeepsDcs m.header (strip x)
+    × keeps limit m.text (parameters_of (without_noise x)) × KeepsDcs m.header (without_noise x)
 Holds keeps limit m (InData o x f d) =
-    m.state ≡ (if is_read limit (strip x) then state.Data else state.Ignored)
-Holds keeps limit m (InApc o d) = (m.state ≡ state.Apc) × keeps limit m.text (those is_text d)
+    m.state ≡ (if is_read limit (without_noise x) then state.Data else state.Ignored)
+Holds keeps limit m (InApc o d) = (m.state ≡ state.Apc)
+    × keeps limit m.text (bytes_of_class is_text d)
 Holds keeps limit m (InIgnored k o d) = m.state ≡ state.Ignored
 Holds keeps limit m (InOsc o ps) = (m.state ≡ state.Osc) × keeps limit m.text (text_of ps)
     × (prefix_of m.pending ≡ [])
@@ -89,8 +91,8 @@ Holds keeps limit m (InOscPending o ps f) = (m.state ≡ state.Osc) × keeps lim
 abbrev pub kept_open : Option ℕ → Unfinished → ℕ
 kept_open limit (InOsc o ps) = kept_within limit (length (text_of ps))
 kept_open limit (InOscPending o ps f) = kept_within limit (length (text_of ps))
-kept_open limit (InApc o d) = kept_within limit (length (those is_text d))
-kept_open limit (InDcs o x) = kept_within limit (header_count (strip x))
+kept_open limit (InApc o d) = kept_within limit (length (bytes_of_class is_text d))
+kept_open limit (InDcs o x) = kept_within limit (header_count (without_noise x))
 kept_open limit _ = 0
 
 -- what the finished segments have emitted
@@ -108,7 +110,8 @@ emitted_open limit (InEscape x) = executes x
 emitted_open limit (InCsi o x) = opener_events o ++ executes x
 emitted_open limit (InDcs o x) = opener_events o
 emitted_open limit (InData o x f d) =
-    opener_events o ++ (if is_read limit (strip x) then hook_event (strip x) f ∷ puts d else [])
+    opener_events o ++ (if is_read limit (without_noise x) then hook_event (without_noise x) f
+    ∷ puts d else [])
 emitted_open limit (InApc o d) = opener_events o
 emitted_open limit (InIgnored k o d) = opener_events o
 emitted_open limit (InOsc o ps) = opener_events o
@@ -118,7 +121,7 @@ emitted_open limit (InOscPending o ps f) = opener_events o
 -- events
 pub record HasCut (limit : Option ℕ) (stream : List ℕ) (events : List Event) (gs : List Segment)
     (u : Unfinished) : Type 0 where
-  pub whole : stream ≡ joined gs ++ open_bytes u
+  pub whole : stream ≡ joined_bytes gs ++ open_bytes u
   pub finished : AreFinished gs (open_bytes u)
   pub shape : OpenShape u
   pub emitted : events ≡ finished_events_within limit gs ++ emitted_open limit u

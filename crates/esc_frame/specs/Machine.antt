@@ -1,6 +1,6 @@
 -- What the code keeps of an unfinished segment, and what a byte makes of it. No public contract
--- cites these but through `LeadsTo` and the body of `events` in Stream; the laws say all that the
--- crates above use.
+-- cites these but through `HasConsumed` and the body of `events` in Stream; the laws say all that
+-- the crates above use.
 pub mod Cells
 pub mod Prefixes
 pub mod Keeps

@@ -2,7 +2,7 @@
 -- may have been fed before, and `self` and `actor` are each the value before the call and after it.
 use Rattle.std.specs.Prelude.{ℕ, ◌≡◌, ◌<◌, ◌≤◌, ◌⊎◌, List, [], ◌∷◌, ◌++◌, take, length, min, slice_index, Option, Result, Err, OnOk, OnErr, IfOk, IfErr}
 use Rattle.std.specs.List.{FoldsTo}
-use Rattle.memory.specs.Refusals.{Refused}
+use Rattle.fallible_alloc.specs.Refusals.{Refused}
 use Rattle.esc_frame.specs.declared.actor.VTActor.{Ghosts as Actor}
 use Rattle.esc_frame.specs.declared.error.ParseError.{ParseError}
 use Rattle.esc_frame.specs.declared.error.ParseError.TheVariants.{Memory, Failed}
@@ -13,11 +13,11 @@ use Rattle.esc_frame.specs.Events.{Event, Awaits, StopsAt}
 use Rattle.esc_frame.specs.Limits.{most}
 use Rattle.esc_frame.specs.Memory.{MayGrow}
 use Rattle.esc_frame.specs.Segments.{Segment, IsCut}
-use Rattle.esc_frame.specs.Stream.{LeadsToWithin, HasFailed, added_within, IsAtGround, IsQuietWithin}
+use Rattle.esc_frame.specs.Stream.{HasConsumedWithin, HasFailed, added_within, IsAtGround, IsQuietWithin}
 
 -- this holds of each stream that the parser may have been fed, under its limit
 abbrev pub After : {A : Type 0} → VTParser A → (Option ℕ → List ℕ → Type 0) → Type 0
-After p P = (limit : Option ℕ) (s : List ℕ) → LeadsToWithin limit s p → P limit s
+After p P = (limit : Option ℕ) (s : List ℕ) → HasConsumedWithin limit s p → P limit s
 
 -- the same where no segment is unfinished
 abbrev pub AfterGround : {A : Type 0} → VTParser A → (Option ℕ → List ℕ → Type 0) → Type 0
@@ -31,19 +31,19 @@ FirstByte b P = 0 < length b → P (slice_index b 0)
 -- gives none; or the actor awaits what b adds to a stream that the parser may have been fed.
 abbrev pub MayGive : {A S : Type 0} → Actor S → VTParser A → List ℕ → S → Type 0
 MayGive V p b old = V.is_ready old ⊎ (HasFailed p ⊎ ((limit : Option ℕ) × (s : List ℕ)
-    × LeadsToWithin limit s p × Awaits V.may V.takes old (added_within limit s b)))
+    × HasConsumedWithin limit s p × Awaits V.may V.takes old (added_within limit s b)))
 
 -- b then counts as fed, and adds this event alone
 abbrev pub AddsOne : {A : Type 0} → Option ℕ → List ℕ → List ℕ → Event → VTParser A → Type 0
 AddsOne limit s b event p =
-    LeadsToWithin limit (s ++ b) p × (added_within limit s b ≡ event ∷ [])
+    HasConsumedWithin limit (s ++ b) p × (added_within limit s b ≡ event ∷ [])
 
 -- b then counts as fed, and the actor was given the events that it adds
 abbrev pub Feeds : {A S : Type 0} → Actor S → Option ℕ → List ℕ → List ℕ
     → Changed (VTParser A) → Changed S
     → Type 0
 Feeds V limit s b self actor =
-    LeadsToWithin limit (s ++ b) self.exit.now
+    HasConsumedWithin limit (s ++ b) self.exit.now
     × FoldsTo V.takes actor.entry.now (added_within limit s b) actor.exit.now
 
 -- An error is `Memory`: of what b adds the actor was given a prefix, and refused the next event,

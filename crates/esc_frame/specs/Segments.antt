@@ -3,7 +3,7 @@ use Rattle.std.specs.Prelude.{ℕ, ◌≡◌, ◌&&◌, ◌||◌, Bool, true, fa
 use Rattle.std.specs.List.{flat_map}
 use Rattle.esc_frame.specs.declared.classes.Kind.{Kind}
 use Rattle.esc_frame.specs.declared.classes.Kind.TheVariants as kind
-use Rattle.esc_frame.specs.Classes.{class_of, AllOf, those, strip, is_c0, is_raw, is_breaker, is_noise, is_control, is_c1, is_terminator, is_text}
+use Rattle.esc_frame.specs.Classes.{class_of, AllOf, bytes_of_class, without_noise, is_c0, is_raw, is_breaker, is_noise, is_control, is_c1, is_terminator, is_text}
 use Rattle.esc_frame.specs.Classes.{is_high, in_escape, ends_escape, opens, in_csi, ends_csi, in_osc, in_data, is_put, is_ignored, letter_of, raw_of}
 use Rattle.esc_frame.specs.Sequences.{is_sequence, is_prefix, is_pair, is_broken_before, number_of}
 use Rattle.esc_values.specs.Clear.{parts_of}
@@ -30,28 +30,28 @@ IsOpener Raw = Unit {0}
 IsOpener Pair = Unit {0}
 
 -- a unit of the text of an OSC: a byte, a well-formed sequence, or a broken one
-pub data Piece : Type 0 where
-  One : ℕ → Piece
-  Sequence : List ℕ → Piece
-  BrokenOff : List ℕ → Piece
+pub data OscUnit : Type 0 where
+  One : ℕ → OscUnit
+  Sequence : List ℕ → OscUnit
+  BrokenOff : List ℕ → OscUnit
 
-abbrev pub piece_bytes : Piece → List ℕ
-piece_bytes (One b) = b ∷ []
-piece_bytes (Sequence x) = x
-piece_bytes (BrokenOff x) = x
+abbrev pub osc_unit_bytes : OscUnit → List ℕ
+osc_unit_bytes (One b) = b ∷ []
+osc_unit_bytes (Sequence x) = x
+osc_unit_bytes (BrokenOff x) = x
 
 -- it is a unit where these bytes follow
-abbrev pub IsPiece : Piece → List ℕ → Type 0
-IsPiece (One b) after = in_osc (class_of b) ≡ true
-IsPiece (Sequence x) after = (is_sequence x ≡ true) × (is_pair x ≡ false)
-IsPiece (BrokenOff x) after = (is_prefix x ≡ true) × (is_broken_before x after ≡ true)
+abbrev pub IsOscUnit : OscUnit → List ℕ → Type 0
+IsOscUnit (One b) after = in_osc (class_of b) ≡ true
+IsOscUnit (Sequence x) after = (is_sequence x ≡ true) × (is_pair x ≡ false)
+IsOscUnit (BrokenOff x) after = (is_prefix x ≡ true) × (is_broken_before x after ≡ true)
 
-abbrev pub text_bytes : List Piece → List ℕ
-text_bytes ps = flat_map piece_bytes ps
+abbrev pub text_bytes : List OscUnit → List ℕ
+text_bytes ps = flat_map osc_unit_bytes ps
 
-abbrev pub ArePieces : List Piece → List ℕ → Type 0
-ArePieces [] after = Unit {0}
-ArePieces (p ∷ ps) after = IsPiece p (text_bytes ps ++ after) × ArePieces ps after
+abbrev pub AreOscUnits : List OscUnit → List ℕ → Type 0
+AreOscUnits [] after = Unit {0}
+AreOscUnits (p ∷ ps) after = IsOscUnit p (text_bytes ps ++ after) × AreOscUnits ps after
 
 -- what ends the text of an OSC: nothing yet, 07, or a sequence that may go on
 pub data Ending : Type 0 where
@@ -85,7 +85,7 @@ pub data Segment : Type 0 where
   -- opener, body, final byte
   Csi : Opener → List ℕ → ℕ → Segment
   -- opener, the units of the text, and how they end
-  Osc : Opener → List Piece → Ending → Segment
+  Osc : Opener → List OscUnit → Ending → Segment
   -- opener, header, final byte, data
   Dcs : Opener → List ℕ → ℕ → List ℕ → Segment
   -- opener, data
@@ -139,9 +139,9 @@ HasShape (Control b) after = is_control (class_of b) ≡ true
 HasShape (HighControl p b) after = is_c1 (class_of b) ≡ true
 HasShape (Terminator p b) after = is_terminator (class_of b) ≡ true
 HasShape (Escape x f) after = AllOf in_escape x × (ends_escape (class_of f) ≡ true)
-    × ((is_empty (strip x) && opens (class_of f)) ≡ false)
+    × ((is_empty (without_noise x) && opens (class_of f)) ≡ false)
 HasShape (Csi o x f) after = IsOpener o × AllOf in_csi x × (ends_csi (class_of f) ≡ true)
-HasShape (Osc o ps e) after = IsOpener o × ArePieces ps (ending_bytes e ++ after) × IsEnding e
+HasShape (Osc o ps e) after = IsOpener o × AreOscUnits ps (ending_bytes e ++ after) × IsEnding e
 HasShape (CutEscape x) after = AllOf in_escape x
 HasShape (Dcs o x f d) after = IsOpener o × AllOf in_csi x × (ends_csi (class_of f) ≡ true)
     × AllOf in_data d
@@ -190,23 +190,24 @@ is_finished (CutDcs o x) after = breaks after
 is_finished (CutCsi o x) after = breaks after
 is_finished _ after = true
 
-abbrev pub joined : List Segment → List ℕ
-joined gs = flat_map bytes_of gs
+abbrev pub joined_bytes : List Segment → List ℕ
+joined_bytes gs = flat_map bytes_of gs
 
 -- each has its shape, and all but the last are finished
 abbrev pub AreSegments : List Segment → Type 0
 AreSegments [] = Unit {0}
 AreSegments (g ∷ []) = HasShape g []
-AreSegments (g ∷ h ∷ gs) = HasShape g (joined (h ∷ gs)) × (is_finished g (joined (h ∷ gs)) ≡ true)
+AreSegments (g ∷ h ∷ gs) = HasShape g (joined_bytes (h ∷ gs))
+    × (is_finished g (joined_bytes (h ∷ gs)) ≡ true)
     × AreSegments (h ∷ gs)
 
 -- a cut of the stream
 pub record IsCut (stream : List ℕ) (gs : List Segment) : Type 0 where
-  pub whole : stream ≡ joined gs
+  pub whole : stream ≡ joined_bytes gs
   pub each : AreSegments gs
 
 abbrev pub executes : List ℕ → List Event
-executes bytes = map Execute (those is_c0 bytes)
+executes bytes = map Execute (bytes_of_class is_c0 bytes)
 
 abbrev pub opener_events : Opener → List Event
 opener_events (Long n) = executes n
@@ -214,12 +215,12 @@ opener_events Raw = []
 opener_events Pair = []
 
 -- what an OSC keeps of its text
-abbrev pub kept_of : Piece → List ℕ
-kept_of (One b) = those is_text (b ∷ [])
+abbrev pub kept_of : OscUnit → List ℕ
+kept_of (One b) = bytes_of_class is_text (b ∷ [])
 kept_of (Sequence x) = x
 kept_of (BrokenOff x) = 0xef ∷ 0xbf ∷ 0xbd ∷ []
 
-abbrev pub text_of : List Piece → List ℕ
+abbrev pub text_of : List OscUnit → List ℕ
 text_of ps = flat_map kept_of ps
 
 -- what an escape sequence with these intermediates dispatches
@@ -239,7 +240,7 @@ hook_event x f = DcsHook f (dcs_params x) (kept_intermediates (dcs_intermediates
     (has_more_intermediates (dcs_intermediates x))
 
 abbrev pub puts : List ℕ → List Event
-puts d = map DcsPut (those is_put d)
+puts d = map DcsPut (bytes_of_class is_put d)
 
 -- what an OSC with this text, and an APC with these bytes, dispatches where it is finished: nothing
 -- past the limit
@@ -258,17 +259,18 @@ events_of_within limit (Stray b) finished = Print 0xfffd ∷ []
 events_of_within limit (Control b) finished = Execute b ∷ []
 events_of_within limit (HighControl p b) finished = Execute b ∷ []
 events_of_within limit (Terminator p b) finished = []
-events_of_within limit (Escape x f) finished = executes x ++ escape_event (strip x) f ∷ []
+events_of_within limit (Escape x f) finished = executes x ++ escape_event (without_noise x) f ∷ []
 events_of_within limit (Csi o x f) finished =
-    opener_events o ++ executes x ++ csi_events (strip x) f
+    opener_events o ++ executes x ++ csi_events (without_noise x) f
 events_of_within limit (Osc o ps e) finished =
     opener_events o ++ (if finished then osc_events limit (text_of ps) else [])
 events_of_within limit (CutEscape x) finished = executes x
 events_of_within limit (Dcs o x f d) finished =
-    opener_events o ++ (if is_read limit (strip x) then (hook_event (strip x) f ∷ puts d)
+    opener_events o ++ (if is_read limit (without_noise x)
+    then (hook_event (without_noise x) f ∷ puts d)
     ++ (if finished then DcsUnhook ∷ [] else []) else [])
 events_of_within limit (Apc o d) finished =
-    opener_events o ++ (if finished then apc_events limit (those is_text d) else [])
+    opener_events o ++ (if finished then apc_events limit (bytes_of_class is_text d) else [])
 events_of_within limit (Ignored k o d) finished = opener_events o
 events_of_within limit (CutDcs o x) finished = opener_events o
 events_of_within limit (CutCsi o x) finished = opener_events o ++ executes x

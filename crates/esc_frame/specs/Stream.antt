@@ -2,7 +2,7 @@
 use Rattle.std.specs.Prelude.{ℕ, ◌≡◌, ◌<◌, ◌⊎◌, true, false, List, [], ◌∷◌, ◌++◌, length, take, drop, Option, None}
 use Rattle.esc_frame.specs.declared.parser.VTParser.{VTParser}
 use Rattle.esc_frame.specs.Events.{Event}
-use Rattle.esc_frame.specs.Segments.{Segment, IsCut, ends_itself, joined}
+use Rattle.esc_frame.specs.Segments.{Segment, IsCut, ends_itself, joined_bytes}
 use Rattle.esc_frame.specs.Leads.{AreFinished, Holds}
 use Rattle.esc_frame.specs.Leads.Unfinished.{Ground}
 use Rattle.esc_frame.specs.Machine.Keeps.{KeepsText}
@@ -11,7 +11,7 @@ use Rattle.esc_frame.specs.Machine.Moves.{after_all, events_all}
 -- The events of a stream, where of each string no more is kept than the limit: of a longer one only
 -- the controls in its opener are emitted. The laws `events_of_the_cut_within` and
 -- `events_once_within` fix it: they are those that the stream's one cut emits, and no others. Above
--- this crate `esc_lent` alone opens its body, which takes byte after byte as the code does.
+-- this crate `heapless_parser` alone opens its body, which takes byte after byte as the code does.
 unfoldable pub events_within : Option ℕ → List ℕ → List Event
 events_within limit s = events_all limit Ground s
 
@@ -21,8 +21,8 @@ added_within limit s b = drop (length (events_within limit s)) (events_within li
 
 -- The stream may be what the parser was fed, which keeps no more of a string than the limit: it
 -- keeps what is unfinished of the stream, and has not failed.
-unfoldable pub LeadsToWithin : {A : Type 0} → Option ℕ → List ℕ → VTParser A → Type 0
-LeadsToWithin limit s p = (p.has_failed ≡ false) × (p.machine.limit ≡ limit)
+unfoldable pub HasConsumedWithin : {A : Type 0} → Option ℕ → List ℕ → VTParser A → Type 0
+HasConsumedWithin limit s p = (p.has_failed ≡ false) × (p.machine.limit ≡ limit)
     × Holds KeepsText p.machine.limit p.machine (after_all Ground s)
 
 -- an earlier call of the parser returned `Memory`
@@ -36,7 +36,7 @@ IsAtGround s = (gs : List Segment) × IsCut s gs × AreFinished gs []
 -- The stream is finished segments, and then u. So u is the stream, or what is left of it after some
 -- of its segments: at the least what is unfinished.
 abbrev pub IsAfterFinished : List ℕ → List ℕ → Type 0
-IsAfterFinished s u = (gs : List Segment) × (s ≡ joined gs ++ u) × AreFinished gs u
+IsAfterFinished s u = (gs : List Segment) × (s ≡ joined_bytes gs ++ u) × AreFinished gs u
 
 -- u is what is unfinished of the stream: nothing, or one segment, which does not end by itself
 abbrev pub IsUnfinished : List ℕ → List ℕ → Type 0
@@ -54,11 +54,11 @@ IsQuietWithin limit s b n = (k : ℕ) → 0 < k → k < n → (added_within limi
 abbrev pub events : List ℕ → List Event
 events s = events_within None s
 
-abbrev pub added : List ℕ → List ℕ → List Event
-added s b = added_within None s b
+abbrev pub added_events : List ℕ → List ℕ → List Event
+added_events s b = added_within None s b
 
-abbrev pub LeadsTo : {A : Type 0} → List ℕ → VTParser A → Type 0
-LeadsTo s p = LeadsToWithin None s p
+abbrev pub HasConsumed : {A : Type 0} → List ℕ → VTParser A → Type 0
+HasConsumed s p = HasConsumedWithin None s p
 
 abbrev pub IsQuiet : List ℕ → List ℕ → ℕ → Type 0
 IsQuiet s b n = IsQuietWithin None s b n

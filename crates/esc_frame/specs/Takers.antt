@@ -1,4 +1,4 @@
--- What a call of a `Taker` asks of it and promises.
+-- What a call of a `EventSink` asks of it and promises.
 use Rattle.std.specs.Prelude.{Result, OnOk, List, ◌⊎◌}
 use Rattle.esc_frame.specs.Events.{Event, Receives, Takes}
 

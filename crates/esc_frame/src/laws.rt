@@ -10,9 +10,9 @@ ghost use Rattle.esc_frame.specs.Classes.{class_of, AllOf, is_control, is_c1, is
 ghost use Rattle.esc_frame.specs.Bodies.{is_csi_body, is_dcs_header, kept_intermediates, has_more_intermediates};
 ghost use Rattle.esc_frame.specs.Events.{Event};
 ghost use Rattle.esc_frame.specs.Events.Event.{Print, Execute, EscDispatch, OscDispatch, DcsUnhook, ApcDispatch};
-ghost use Rattle.esc_frame.specs.Segments.{Segment, IsCut, HasEvents, HasEventsWithin, joined, is_empty, csi_event, hook_event, puts};
+ghost use Rattle.esc_frame.specs.Segments.{Segment, IsCut, HasEvents, HasEventsWithin, joined_bytes, is_empty, csi_event, hook_event, puts};
 ghost use Rattle.esc_frame.specs.Leads.{AreFinished, finished_events};
-ghost use Rattle.esc_frame.specs.Stream.{events, events_within, added, added_within, LeadsToWithin, Says, IsAfterFinished, IsAtGround, IsUnfinished};
+ghost use Rattle.esc_frame.specs.Stream.{events, events_within, added_events, added_within, HasConsumedWithin, Says, IsAfterFinished, IsAtGround, IsUnfinished};
 ghost use Rattle.esc_frame.specs.declared.parser.VTParser.{VTParser};
 ghost use Rattle.esc_frame.specs.Counts.{AreWithin};
 ghost use Rattle.esc_frame.specs.Fits.{AreFit, IsOneSegment};
@@ -21,14 +21,14 @@ ghost use Rattle.esc_frame.specs.Memory.{may_grow, MayGrow, may_take, MayTake};
 use std::alloc::Allocator;
 
 /// Two cuts of a stream are one.
-#[tactic(auto, using(crate::proofs::OneCut::one_cut))]
+#[tactic(auto, using(crate::proofs::Cut::CutIsUnique::one_cut))]
 pub fn one_cut()
     ensures { (stream : List ℕ) (gs hs : List Segment) → IsCut stream gs → IsCut stream hs
         → gs ≡ hs }
 {}
 
 /// Every stream has a cut.
-#[tactic(auto, using(crate::proofs::Cuts::has_cut))]
+#[tactic(auto, using(crate::proofs::Cut::CutExists::has_cut))]
 pub fn has_cut()
     ensures { (stream : List ℕ) → (gs : List Segment) × IsCut stream gs }
 {}
@@ -45,21 +45,22 @@ pub fn events_of_the_cut()
 {}
 
 /// The events of a prefix come first, and then those that the rest adds.
-#[tactic(auto, using(crate::proofs::Streams::events_more))]
+#[tactic(auto, using(crate::proofs::Emits::EventsAreTheCuts::events_more))]
 pub fn events_more()
-    ensures { (s b : List ℕ) → events s ++ added s b ≡ events (s ++ b) }
+    ensures { (s b : List ℕ) → events s ++ added_events s b ≡ events (s ++ b) }
 {}
 
-/// What two pieces add, one after another, is what they add together: no cut of the input into
+/// What two units add, one after another, is what they add together: no cut of the input into
 /// calls changes the events.
-#[tactic(auto, using(crate::proofs::Streams::added_append))]
+#[tactic(auto, using(crate::proofs::Emits::EventsAreTheCuts::added_append))]
 pub fn added_append()
-    ensures { (s b c : List ℕ) → added s (b ++ c) ≡ added s b ++ added (s ++ b) c }
+    ensures { (s b c : List ℕ) → added_events s (b ++ c) ≡ added_events s b
+        ++ added_events (s ++ b) c }
 {}
 
 /// After a stream with nothing unfinished, bytes add their own events.
 pub fn ground_added()
-    ensures { (s b : List ℕ) → IsAtGround s → added s b ≡ events b }
+    ensures { (s b : List ℕ) → IsAtGround s → added_events s b ≡ events b }
 {}
 
 /// The events of any stream have these forms.
@@ -85,14 +86,14 @@ pub fn same_within()
 {}
 
 /// Under a limit the events of a prefix come first, and then those that the rest adds.
-#[tactic(auto, using(crate::proofs::Streams::events_more))]
+#[tactic(auto, using(crate::proofs::Emits::EventsAreTheCuts::events_more))]
 pub fn events_more_within()
     ensures { (limit : Option ℕ) (s b : List ℕ)
         → events_within limit s ++ added_within limit s b ≡ events_within limit (s ++ b) }
 {}
 
-/// Under a limit, what two pieces add, one after another, is what they add together.
-#[tactic(auto, using(crate::proofs::Streams::added_append))]
+/// Under a limit, what two units add, one after another, is what they add together.
+#[tactic(auto, using(crate::proofs::Emits::EventsAreTheCuts::added_append))]
 pub fn added_append_within()
     ensures { (limit : Option ℕ) (s b c : List ℕ)
         → added_within limit s (b ++ c) ≡ added_within limit s b ++ added_within limit (s ++ b) c }
@@ -112,33 +113,33 @@ pub fn events_fit_within()
 /// Finished segments have no more to do with what follows them: a parser that was fed a stream is
 /// as one that was fed what is left of it after some of them. So each clause of a call holds of
 /// what is unfinished of the stream alone.
-#[tactic(auto, using(crate::proofs::Alone::unfinished_alone))]
+#[tactic(auto, using(crate::proofs::Emits::FinishedIsForgotten::unfinished_alone))]
 pub fn unfinished_alone<A: Allocator>()
     ensures { (limit : Option ℕ) (s u : List ℕ) (p : VTParser A) → IsAfterFinished s u
-        → LeadsToWithin limit s p → LeadsToWithin limit u p }
+        → HasConsumedWithin limit s p → HasConsumedWithin limit u p }
 {}
 
 /// And bytes add to a stream what they add to what is left of it.
-#[tactic(auto, using(crate::proofs::Alone::added_alone))]
+#[tactic(auto, using(crate::proofs::Emits::FinishedIsForgotten::added_alone))]
 pub fn added_alone()
     ensures { (limit : Option ℕ) (s u b : List ℕ) → IsAfterFinished s u
         → added_within limit s b ≡ added_within limit u b }
 {}
 
 /// Of every stream there is what is unfinished.
-#[tactic(auto, using(crate::proofs::Alone::has_unfinished))]
+#[tactic(auto, using(crate::proofs::Emits::FinishedIsForgotten::has_unfinished))]
 pub fn has_unfinished()
     ensures { (s : List ℕ) → (u : List ℕ) × IsUnfinished s u }
 {}
 
 /// No bytes say nothing.
-#[tactic(auto, using(crate::proofs::Streams::says_nil))]
+#[tactic(auto, using(crate::proofs::Emits::EventsAreTheCuts::says_nil))]
 pub fn says_nil()
     ensures { Says [] [] }
 {}
 
 /// Texts, one after another, say their events one after another.
-#[tactic(auto, using(crate::proofs::Streams::says_append))]
+#[tactic(auto, using(crate::proofs::Emits::EventsAreTheCuts::says_append))]
 pub fn says_append()
     ensures { (t u : List ℕ) (es fs : List Event) → Says t es → Says u fs
         → Says (t ++ u) (es ++ fs) }
@@ -150,39 +151,39 @@ pub fn says_events()
 {}
 
 /// Segments that are finished whatever follows say their events.
-#[tactic(auto, using(crate::proofs::Streams::says_segments))]
+#[tactic(auto, using(crate::proofs::Emits::EventsAreTheCuts::says_segments))]
 pub fn says_segments()
     ensures { (gs : List Segment) → ((rest : List ℕ) → AreFinished gs rest)
-        → Says (joined gs) (finished_events gs) }
+        → Says (joined_bytes gs) (finished_events gs) }
 {}
 
 /// One segment that is finished by itself says its events.
-#[tactic(auto, using(crate::proofs::Says::says_itself))]
+#[tactic(auto, using(crate::proofs::Emits::SegmentsSay::says_itself))]
 pub fn says_itself()
     ensures { (t : List ℕ) (es : List Event) → IsOneSegment t es → Says t es }
 {}
 
 /// The UTF-8 of a clear character prints it.
-#[tactic(auto, using(crate::proofs::Says::says_print))]
+#[tactic(auto, using(crate::proofs::Emits::SegmentsSay::says_print))]
 pub fn says_print()
     ensures { (c : ℕ) → is_clear c ≡ true → Says (encode_utf8 c) (Print c ∷ []) }
 {}
 
 /// A C0 control but ESC is executed.
-#[tactic(auto, using(crate::proofs::Says::says_control))]
+#[tactic(auto, using(crate::proofs::Emits::SegmentsSay::says_control))]
 pub fn says_control()
     ensures { (b : ℕ) → is_control (class_of b) ≡ true → Says (b ∷ []) (Execute b ∷ []) }
 {}
 
 /// A C1 control that opens and ends nothing is executed, in UTF-8.
-#[tactic(auto, using(crate::proofs::Says::says_high_control))]
+#[tactic(auto, using(crate::proofs::Emits::SegmentsSay::says_high_control))]
 pub fn says_high_control()
     ensures { (b : ℕ) → is_c1 (class_of b) ≡ true → Says (0xc2 ∷ b ∷ []) (Execute b ∷ []) }
 {}
 
 /// ESC, intermediates 20-2F and a final byte 30-7E are dispatched, where the final byte does not
 /// open a sequence.
-#[tactic(auto, using(crate::proofs::SaysSequences::says_escape))]
+#[tactic(auto, using(crate::proofs::Emits::SequencesSay::says_escape))]
 pub fn says_escape()
     ensures { (is : List ℕ) (f : ℕ) → AllOf is_intermediate is → ends_escape (class_of f) ≡ true
         → (is_empty is && opens (class_of f)) ≡ false
@@ -191,7 +192,7 @@ pub fn says_escape()
 {}
 
 /// A control sequence with a body of its form and a final byte 40-7E is dispatched.
-#[tactic(auto, using(crate::proofs::SaysSequences::says_csi))]
+#[tactic(auto, using(crate::proofs::Emits::SequencesSay::says_csi))]
 pub fn says_csi()
     ensures { (x : List ℕ) (f : ℕ) → AllOf in_body x → is_csi_body x ≡ true
         → ends_csi (class_of f) ≡ true → Says ((0x1b ∷ 0x5b ∷ x) ++ f ∷ []) (csi_event x f ∷ []) }
@@ -199,7 +200,7 @@ pub fn says_csi()
 
 /// A clear text as an operating system command with its string terminator is dispatched whole, in
 /// parts.
-#[tactic(auto, using(crate::proofs::SaysStrings::says_osc))]
+#[tactic(auto, using(crate::proofs::Emits::StringsSay::says_osc))]
 pub fn says_osc()
     ensures { (t : List ℕ) → IsClearText t
         → Says ((0x1b ∷ 0x5d ∷ t) ++ 0x1b ∷ 0x5c ∷ [])
@@ -208,7 +209,7 @@ pub fn says_osc()
 
 /// A text of 20-7F as an application program command with its string terminator is dispatched
 /// whole.
-#[tactic(auto, using(crate::proofs::SaysStrings::says_apc))]
+#[tactic(auto, using(crate::proofs::Emits::StringsSay::says_apc))]
 pub fn says_apc()
     ensures { (t : List ℕ) → AllOf is_text t
         → Says ((0x1b ∷ 0x5f ∷ t) ++ 0x1b ∷ 0x5c ∷ [])
@@ -217,7 +218,7 @@ pub fn says_apc()
 
 /// A device control string with a header of its form, a final byte 40-7E and data that no byte
 /// breaks off is hooked, put byte by byte and unhooked.
-#[tactic(auto, using(crate::proofs::SaysStrings::says_dcs))]
+#[tactic(auto, using(crate::proofs::Emits::StringsSay::says_dcs))]
 pub fn says_dcs()
     ensures { (x d : List ℕ) (f : ℕ) → AllOf in_body x → is_dcs_header x ≡ true
         → ends_csi (class_of f) ≡ true → AllOf is_put d
@@ -226,27 +227,27 @@ pub fn says_dcs()
 {}
 
 /// Whether a stream may make a parser's memory grow shows in its cut.
-#[tactic(auto, using(crate::proofs::Memory::cut_grows))]
+#[tactic(auto, using(crate::proofs::Limit::GrowingSegments::cut_grows))]
 pub fn cut_grows()
     ensures { (s : List ℕ) (gs : List Segment) → IsCut s gs → MayGrow s
         → list_any may_grow gs ≡ true }
 {}
 
 /// A stream that begins with one that may make a parser's memory grow may do so too.
-#[tactic(auto, using(crate::proofs::Memory::more_grows))]
+#[tactic(auto, using(crate::proofs::Limit::GrowingSegments::more_grows))]
 pub fn more_grows()
     ensures { (s t : List ℕ) → MayGrow s → MayGrow (s ++ t) }
 {}
 
 /// Whether a stream holds what an actor may want memory for shows in its cut.
-#[tactic(auto, using(crate::proofs::Memory::cut_takes))]
+#[tactic(auto, using(crate::proofs::Limit::GrowingSegments::cut_takes))]
 pub fn cut_takes()
     ensures { (s : List ℕ) (gs : List Segment) → IsCut s gs → MayTake s
         → list_any may_take gs ≡ true }
 {}
 
 /// A stream that begins with one that holds it does so too.
-#[tactic(auto, using(crate::proofs::Memory::more_takes))]
+#[tactic(auto, using(crate::proofs::Limit::GrowingSegments::more_takes))]
 pub fn more_takes()
     ensures { (s t : List ℕ) → MayTake s → MayTake (s ++ t) }
 {}

@@ -19,17 +19,17 @@ ghost use Rattle.esc_frame.specs.Machine.Prefixes.{prefix_of};
 ghost use Rattle.esc_frame.specs.Machine.Keeping.{Holding};
 ghost use Rattle.esc_frame.specs.Machine.Allowed.{KeptSegment};
 ghost use Rattle.esc_frame.specs.Machine.Makes.{Emits, Makes, StaysReady};
-ghost use Rattle.esc_frame.specs.Machine.Moves.{move, opened, may_grow_in, may_grow_within, after_all, events_all};
+ghost use Rattle.esc_frame.specs.Machine.Moves.{move, unfinished_at_opener, may_grow_in, may_grow_within, after_all, events_all};
 ghost use Rattle.esc_frame.specs.Segments.{Opener};
 ghost use Rattle.esc_frame.specs.Machine.Taking.{InAny, MayBeGiven, TakesIn, TakesPart};
 
 use crate::classes::{Class, Kind, classify};
-use crate::taker::Taker;
+use crate::taker::EventSink;
 use crate::unfinished::body::CsiBody;
 use crate::unfinished::header::DcsHeader;
 use crate::unfinished::intermediates::Intermediates;
 use crate::unfinished::short::Short;
-use crate::unfinished::store::Store;
+use crate::unfinished::store::TextRoom;
 use crate::utf8::sequence::Pending;
 use std::alloc::{AllocError, Allocator};
 
@@ -60,7 +60,7 @@ pub enum State {
 /// The machine, between any two bytes of a stream, with a store for the text of an unfinished
 /// string. The parameters of a control sequence lie in it.
 #[derive(Drop)]
-pub struct Machine<K: Store, A: Allocator> {
+pub struct Machine<K: TextRoom, A: Allocator> {
     pub state: State,
     // the bytes of a UTF-8 sequence that has begun
     pub pending: Pending,
@@ -80,7 +80,7 @@ pub struct Machine<K: Store, A: Allocator> {
     pub limit: Option<usize>,
 }
 
-impl<K: Store, A: Allocator + Copy> Machine<K, A> {
+impl<K: TextRoom, A: Allocator + Copy> Machine<K, A> {
     /// A machine at the beginning of a stream, which keeps no more of a string than the limit.
     pub fn new(text: K, alloc: A, limit: Option<usize>) -> Self
         ensures holds { Holds K.keeps limit result Ground }
@@ -100,7 +100,7 @@ impl<K: Store, A: Allocator + Copy> Machine<K, A> {
     }
 }
 
-impl<K: Store, A: Allocator> Machine<K, A> {
+impl<K: TextRoom, A: Allocator> Machine<K, A> {
     /// Whether no segment is unfinished.
     pub fn is_ground(&self) -> bool
         ensures { (limit : Option ℕ) (u : Unfinished) → Holds K.keeps limit self.now u
@@ -135,7 +135,7 @@ impl<K: Store, A: Allocator> Machine<K, A> {
     /// Begins a sequence or a string of this kind.
     pub fn open(&mut self, kind: Kind)
         ensures holds { (limit : Option ℕ) (o : Opener)
-            → Holds K.keeps limit self.new (opened kind o) }
+            → Holds K.keeps limit self.new (unfinished_at_opener kind o) }
         ensures limit { self.new.limit ≡ self.old.limit }
     {
         self.pending = Pending::Nothing;
@@ -162,13 +162,13 @@ impl<K: Store, A: Allocator> Machine<K, A> {
     }
 
     /// Takes a byte.
-    pub fn step<V: Taker>(&mut self, b: u8, class: Class, actor: &mut V) -> Result<()>
-        requires { V.is_ready actor.old ⊎ KeptSegment K.Store self.old (λ u.
+    pub fn step<V: EventSink>(&mut self, b: u8, class: Class, actor: &mut V) -> Result<()>
+        requires { V.is_ready actor.old ⊎ KeptSegment K.TextRoom self.old (λ u.
             Awaits V.may V.takes actor.old (move self.old.limit u b class).1) }
-        ensures moved { class ≡ class_of b → Holding K.Store self (λ u.
-            Makes K.Store V.Taker self.old.limit (may_grow_in u) result
+        ensures moved { class ≡ class_of b → Holding K.TextRoom self (λ u.
+            Makes K.TextRoom V.EventSink self.old.limit (may_grow_in u) result
             (move self.old.limit u b class) self actor) }
-        ensures ready { StaysReady V.Taker result self actor }
+        ensures ready { StaysReady V.EventSink result self actor }
     {
         match self.state {
             State::Ground => match self.pending {
@@ -192,15 +192,15 @@ impl<K: Store, A: Allocator> Machine<K, A> {
     }
 
     /// Takes the bytes, one after another. After an error nothing is said of the machine.
-    pub fn take_all<V: Taker>(&mut self, bytes: &[u8], actor: &mut V) -> Result<()>
-        requires { V.is_ready actor.old ⊎ KeptSegment K.Store self.old (λ u.
+    pub fn parse_all<V: EventSink>(&mut self, bytes: &[u8], actor: &mut V) -> Result<()>
+        requires { V.is_ready actor.old ⊎ KeptSegment K.TextRoom self.old (λ u.
             Awaits V.may V.takes actor.old (events_all self.old.limit u bytes.now)) }
-        ensures holds { Holding K.Store self (λ u.
+        ensures holds { Holding K.TextRoom self (λ u.
             OnOk result (Holds K.keeps self.old.limit self.new (after_all u bytes.now)
             × (self.new.limit ≡ self.old.limit))) }
-        ensures emitted { Holding K.Store self (λ u.
-            Emits V.Taker ((may_grow_within u bytes.now ≡ true)
-            × Fails K.denied V.stops A self.old.limit) result
+        ensures emitted { Holding K.TextRoom self (λ u.
+            Emits V.EventSink ((may_grow_within u bytes.now ≡ true)
+            × Fails K.may_fail V.stops A self.old.limit) result
             (events_all self.old.limit u bytes.now) actor) }
         ensures ready { V.is_ready actor.old → OnOk result (V.is_ready actor.new) }
     {
@@ -215,63 +215,64 @@ impl<K: Store, A: Allocator> Machine<K, A> {
     /// Takes a prefix of the bytes, at least one, and returns its length: all but the last emit
     /// nothing and leave a segment unfinished. After an error nothing is said of the machine.
     #[inline(always)]
-    pub fn take_some<V: Taker>(&mut self, rest: &[u8], actor: &mut V) -> Result<usize>
+    pub fn parse_until_event<V: EventSink>(&mut self, rest: &[u8], actor: &mut V) -> Result<usize>
         requires some { 0 < length rest.now }
-        requires ready { MayBeGiven V.Taker (KeptSegment K.Store self.old)
+        requires ready { MayBeGiven V.EventSink (KeptSegment K.TextRoom self.old)
             self.old.limit rest.now actor.old }
-        ensures { TakesIn (Holding K.Store self) (Holding K.Store self)
-            K.Store V.Taker result rest.now self actor }
+        ensures { TakesIn (Holding K.TextRoom self) (Holding K.TextRoom self)
+            K.TextRoom V.EventSink result rest.now self actor }
     {
         match self.state {
             State::Ground => match self.pending {
-                Pending::Nothing => self.take_first(rest, actor),
-                Pending::One(_) | Pending::Two(_, _) | Pending::Three(_, _, _) => self.take_one(
+                Pending::Nothing => self.first_in_ground(rest, actor),
+                Pending::One(_) | Pending::Two(_, _) | Pending::Three(_, _, _) => self.parse_one(
                     rest, actor,
                 ),
             },
-            State::Csi => self.take_in_csi(rest, actor),
+            State::Csi => self.parse_in_csi(rest, actor),
             State::Osc => match self.pending {
-                Pending::Nothing => self.take_in_osc(rest, actor),
-                Pending::One(_) | Pending::Two(_, _) | Pending::Three(_, _, _) => self.take_one(
+                Pending::Nothing => self.parse_in_osc(rest, actor),
+                Pending::One(_) | Pending::Two(_, _) | Pending::Three(_, _, _) => self.parse_one(
                     rest, actor,
                 ),
             },
-            State::Apc => self.take_in_apc(rest, actor),
-            State::Ignored => self.take_in_ignored(rest, actor),
-            State::Escape => self.take_in_escape(rest, actor),
-            State::Dcs | State::Data => self.take_one(rest, actor),
+            State::Apc => self.parse_in_apc(rest, actor),
+            State::Ignored => self.parse_in_ignored(rest, actor),
+            State::Escape => self.parse_in_escape(rest, actor),
+            State::Dcs | State::Data => self.parse_one(rest, actor),
         }
     }
 
     // Takes a prefix of the bytes, at least one, and returns its length.
     #[inline(always)]
-    fn take<V: Taker>(&mut self, rest: &[u8], actor: &mut V) -> Result<usize>
+    fn take<V: EventSink>(&mut self, rest: &[u8], actor: &mut V) -> Result<usize>
         requires some { 0 < length rest.now }
-        requires ready { MayBeGiven V.Taker (KeptSegment K.Store self.old)
+        requires ready { MayBeGiven V.EventSink (KeptSegment K.TextRoom self.old)
             self.old.limit rest.now actor.old }
-        ensures { TakesPart (Holding K.Store self) K.Store V.Taker result rest.now self actor }
+        ensures { TakesPart (Holding K.TextRoom self) K.TextRoom V.EventSink result rest.now self
+            actor }
     {
         match self.state {
             State::Ground => match self.pending {
-                Pending::Nothing => self.take_in_ground(rest, actor),
-                Pending::One(_) | Pending::Two(_, _) | Pending::Three(_, _, _) => self.take_one(
+                Pending::Nothing => self.parse_in_ground(rest, actor),
+                Pending::One(_) | Pending::Two(_, _) | Pending::Three(_, _, _) => self.parse_one(
                     rest, actor,
                 ),
             },
-            State::Data => self.take_in_data(rest, actor),
+            State::Data => self.parse_in_data(rest, actor),
             State::Escape | State::Csi | State::Osc | State::Dcs | State::Ignored | State::Apc =>
-                self.take_some(rest, actor),
+                self.parse_until_event(rest, actor),
         }
     }
 
     /// One byte: not in an APC, nor between two units of an OSC.
-    pub fn take_one<V: Taker>(&mut self, rest: &[u8], actor: &mut V) -> Result<usize>
+    pub fn parse_one<V: EventSink>(&mut self, rest: &[u8], actor: &mut V) -> Result<usize>
         requires some { 0 < length rest.now }
-        requires ready { MayBeGiven V.Taker (KeptSegment K.Store self.old)
+        requires ready { MayBeGiven V.EventSink (KeptSegment K.TextRoom self.old)
             self.old.limit rest.now actor.old }
         requires between { is_outside_text self.old.state (prefix_of self.old.pending) ≡ true }
-        ensures { TakesIn (Holding K.Store self) InAny
-            K.Store V.Taker result rest.now self actor }
+        ensures { TakesIn (Holding K.TextRoom self) InAny
+            K.TextRoom V.EventSink result rest.now self actor }
     {
         self.step(rest[0], classify(rest[0]), actor)?;
         Ok(1)

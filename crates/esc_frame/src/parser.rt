@@ -5,18 +5,18 @@ ghost use Rattle.std.specs.Prelude.{◌≡◌, ◌≢◌, ◌<◌, ◌≤◌, �
 ghost use Rattle.esc_frame.specs.Events.Event.{Execute, Print};
 ghost use Rattle.esc_frame.specs.Parses.{MayGive, After, AfterGround, FirstByte, AddsOne, Parses, ParsesSome, IsRefusedByActor, TakesSome, Leaves, IsKeptOf};
 ghost use Rattle.esc_frame.specs.Memory.{AreBorrowed};
-ghost use Rattle.esc_frame.specs.Stream.{LeadsTo, LeadsToWithin, HasFailed, IsAtGround, IsQuietWithin};
+ghost use Rattle.esc_frame.specs.Stream.{HasConsumed, HasConsumedWithin, HasFailed, IsAtGround, IsQuietWithin};
 
 use crate::actor::VTActor;
 use crate::classes::classify;
 use crate::error::ParseError;
 use crate::machine::{Machine, State};
 use crate::runs::printing::{first_char, first_control};
-use crate::unfinished::kept::Kept;
+use crate::unfinished::kept::HeapBuffer;
 use crate::utf8::sequence::Pending;
 use std::alloc::{Allocator, Global};
 
-/// Splits a stream of bytes, which comes in any pieces, into the events of its segments, and gives
+/// Splits a stream of bytes, which comes in any units, into the events of its segments, and gives
 /// them to an actor: the machine of <https://vt100.net/emu/dec_ansi_parser>, with UTF-8 in text and
 /// in operating system commands, and with application program commands handed out.
 ///
@@ -31,21 +31,21 @@ use std::alloc::{Allocator, Global};
 /// given bytes for an actor returns `ParseError::Failed`, and gives the actor nothing.
 #[derive(Drop)]
 pub struct VTParser<A: Allocator = Global> {
-    machine: Machine<Kept<A>, A>,
+    machine: Machine<HeapBuffer<A>, A>,
     has_failed: bool,
 }
 
 impl<A: Allocator> VTParser<A> {
     /// A parser at the beginning of a stream. It takes no memory before a string begins that it
     /// keeps.
-    #[tactic(auto, unfolding(crate::specs::Stream::LeadsToWithin))]
+    #[tactic(auto, unfolding(crate::specs::Stream::HasConsumedWithin))]
     pub fn new(alloc: A) -> Self
     where
         A: Copy,
-        ensures { LeadsTo [] result }
+        ensures { HasConsumed [] result }
     {
         VTParser {
-            machine: Machine::new(Kept::new(alloc), alloc, None),
+            machine: Machine::new(HeapBuffer::new(alloc), alloc, None),
             has_failed: false,
         }
     }
@@ -55,23 +55,23 @@ impl<A: Allocator> VTParser<A> {
     /// program command, or of the bytes 30 to 39 and 3B of a device control string's header. Once a
     /// string passes the limit, what was kept of it is let go, and it is not dispatched or hooked;
     /// what follows it is parsed as by a parser without a limit.
-    #[tactic(auto, unfolding(crate::specs::Stream::LeadsToWithin))]
+    #[tactic(auto, unfolding(crate::specs::Stream::HasConsumedWithin))]
     pub fn with_limit(alloc: A, limit: usize) -> Self
     where
         A: Copy,
-        ensures { LeadsToWithin (Some limit) [] result }
+        ensures { HasConsumedWithin (Some limit) [] result }
     {
         VTParser {
-            machine: Machine::new(Kept::new(alloc), alloc, Some(limit)),
+            machine: Machine::new(HeapBuffer::new(alloc), alloc, Some(limit)),
             has_failed: false,
         }
     }
 
     /// Begins a new stream: what is unfinished is dropped, without its events. The limit stays, and
     /// so does the memory that strings took. A parser that has failed stays so.
-    #[tactic(auto, unfolding(crate::specs::Stream::LeadsToWithin, crate::specs::Stream::HasFailed))]
+    #[tactic(auto, unfolding(crate::specs::Stream::HasConsumedWithin, crate::specs::Stream::HasFailed))]
     pub fn restart(&mut self)
-        ensures fed { After self.old (λ limit s. LeadsToWithin limit [] self.new) }
+        ensures fed { After self.old (λ limit s. HasConsumedWithin limit [] self.new) }
         ensures failed { HasFailed self.old → HasFailed self.new }
     {
         self.machine.state = State::Ground;
@@ -82,7 +82,7 @@ impl<A: Allocator> VTParser<A> {
     /// [`with_limit`](VTParser::with_limit). It is 0 where the string passed the limit, where no
     /// such text or header is unfinished, and after a failure. Without a limit a count past
     /// [`usize::MAX`] is returned as `usize::MAX`.
-    #[tactic(auto, unfolding(crate::specs::Stream::LeadsToWithin, crate::specs::Stream::HasFailed))]
+    #[tactic(auto, unfolding(crate::specs::Stream::HasConsumedWithin, crate::specs::Stream::HasFailed))]
     pub fn kept(&self) -> usize
         ensures given { After self.now (IsKeptOf result) }
         ensures within { After self.now (λ limit s. IfSome limit (λ n. result ≤ n)) }
@@ -96,7 +96,7 @@ impl<A: Allocator> VTParser<A> {
     }
 
     /// Whether the bytes so far leave no unfinished segment. After a failure it is false.
-    #[tactic(auto, unfolding(crate::specs::Stream::LeadsToWithin, crate::specs::Stream::HasFailed))]
+    #[tactic(auto, unfolding(crate::specs::Stream::HasConsumedWithin, crate::specs::Stream::HasFailed))]
     pub fn is_ground(&self) -> bool
         ensures ground { After self.now (λ limit s. IsTrue result ↔ IsAtGround s) }
         ensures failed { HasFailed self.now → result ≡ false }
@@ -106,7 +106,7 @@ impl<A: Allocator> VTParser<A> {
 
     /// Whether an earlier call returned an error. Then each call that is given bytes for an actor
     /// returns `ParseError::Failed`, `kept` returns 0, and no first character or control is found.
-    #[tactic(auto, unfolding(crate::specs::Stream::LeadsToWithin, crate::specs::Stream::HasFailed))]
+    #[tactic(auto, unfolding(crate::specs::Stream::HasConsumedWithin, crate::specs::Stream::HasFailed))]
     pub fn has_failed(&self) -> bool
         ensures failed { IsTrue result ↔ HasFailed self.now }
         ensures fed { After self.now (λ limit s. result ≡ false) }
@@ -167,7 +167,7 @@ impl<A: Allocator> VTParser<A> {
     /// string that is unfinished or begins here: nothing else asks for any. A prefix of these
     /// events was given then, and the parser has failed. The error is `Failed` where it had, and
     /// the actor is as it was.
-    #[tactic(auto, unfolding(crate::specs::Stream::LeadsToWithin, crate::specs::Stream::HasFailed))]
+    #[tactic(auto, unfolding(crate::specs::Stream::HasConsumedWithin, crate::specs::Stream::HasFailed))]
     pub fn parse_byte<V: VTActor>(&mut self, byte: u8, actor: &mut V) -> Result<(), ParseError>
         requires { MayGive V.VTActor self.old (byte ∷ []) actor.old }
         ensures parsed { After self.old (Parses A V.VTActor result (byte ∷ []) self actor) }
@@ -199,7 +199,7 @@ impl<A: Allocator> VTParser<A> {
     /// call that the actor refused: an operating system command of at most 16 parts with a text of
     /// bytes 20 to 7F and well-formed UTF-8 alone, and an application program command with a text
     /// of bytes 20 to 7F alone. Their texts are given as slices of `bytes`, and take no memory.
-    #[tactic(auto, unfolding(crate::specs::Stream::LeadsToWithin, crate::specs::Stream::HasFailed))]
+    #[tactic(auto, unfolding(crate::specs::Stream::HasConsumedWithin, crate::specs::Stream::HasFailed))]
     pub fn parse<V: VTActor>(&mut self, bytes: &[u8], actor: &mut V) -> Result<(), ParseError>
         requires { MayGive V.VTActor self.old bytes.now actor.old }
         ensures parsed { After self.old (Parses A V.VTActor result bytes.now self actor) }
@@ -210,7 +210,7 @@ impl<A: Allocator> VTParser<A> {
         if self.has_failed {
             return Err(ParseError::Failed);
         }
-        match self.machine.take_all(bytes, actor) {
+        match self.machine.parse_all(bytes, actor) {
             Ok(()) => Ok(()),
             Err(_) => {
                 self.has_failed = true;
@@ -230,7 +230,7 @@ impl<A: Allocator> VTParser<A> {
     /// string that is unfinished or in these bytes: a prefix of the events that they add was given
     /// then, and the parser has failed. The error is `Failed` where it had, and the actor is as it
     /// was.
-    #[tactic(auto, unfolding(crate::specs::Stream::LeadsToWithin, crate::specs::Stream::HasFailed))]
+    #[tactic(auto, unfolding(crate::specs::Stream::HasConsumedWithin, crate::specs::Stream::HasFailed))]
     pub fn parse_some<V: VTActor>(
         &mut self,
         bytes: &[u8],
@@ -247,7 +247,7 @@ impl<A: Allocator> VTParser<A> {
         if bytes.is_empty() {
             return Ok(0);
         }
-        match self.machine.take_some(bytes, actor) {
+        match self.machine.parse_until_event(bytes, actor) {
             Ok(n) => Ok(n),
             Err(_) => {
                 self.has_failed = true;

@@ -9,7 +9,7 @@ ghost use Rattle.esc_frame.specs.Events.{Event, MayGet};
 ghost use Rattle.esc_frame.specs.Limits.{has_few_parts};
 ghost use Rattle.esc_frame.specs.Scans.{IsRun, IsClearRun, is_text_byte, is_data_byte};
 ghost use Rattle.esc_frame.specs.Takers.{MayGetOne, TakesAll, TakesOne};
-ghost use Rattle.memory.specs.Refusals.{Refused};
+ghost use Rattle.fallible_alloc.specs.Refusals.{Refused};
 ghost use Rattle.esc_frame.specs.Events.Event.{Print, Execute, EscDispatch, CsiDispatch, OscDispatch, DcsPut, DcsUnhook, ApcDispatch};
 
 use crate::actor::VTActor;
@@ -21,7 +21,7 @@ use std::alloc::{AllocError, Allocator};
 /// that takes the texts of strings as they are, and asks for no memory, can say so here, by
 /// `stops`, which a `VTActor` cannot: its default methods make lists. But for that each method asks
 /// and promises what the one of `VTActor` does.
-pub trait Taker {
+pub trait EventSink {
     // what an event may make of a value
     ghost takes: { Self → Event → Self → Type 0 };
 
@@ -157,7 +157,7 @@ pub trait Taker {
         ensures { TakesOne takes refuses is_ready result self.old (ApcDispatch text.now) self.new };
 }
 
-impl<V: VTActor> Taker for V {
+impl<V: VTActor> EventSink for V {
     ghost takes = { V.takes };
 
     ghost refuses = { V.refuses };

@@ -7,12 +7,12 @@ use Rattle.std.specs.Str.Lossy.{utf8_lossy}
 use Rattle.std.proofs.lemmas.Bool.{and_parts, leb-true}
 use Rattle.esc_html.specs.Addresses.{has_scheme, is_address_char, is_safe_address, is_short}
 use Rattle.esc_html.specs.Marks.{address_if, address_of, is_page_address}
-use Rattle.esc_html.specs.Pieces.{is_unbroken}
+use Rattle.esc_html.specs.PageParts.{is_unbroken}
 use Rattle.esc_html.proofs.Costs.{address_size}
 use Rattle.esc_html.proofs.Sizes.{value_added, value_size, value_small}
 use Rattle.esc_links.specs.Hyperlinks.{link_in, link_of, link_to, params_of}
 use Rattle.esc_links.specs.declared.hyperlink.Hyperlink.{Hyperlink}
-use Rattle.esc_osc.specs.Reading.{content_of, dynamic, fitting, meaning, notified, reading, selected}
+use Rattle.esc_osc.specs.Reading.{content_of, dynamic_command, fitting, meaning, notification, reading, selection_command}
 use Rattle.esc_osc.specs.declared.command.OperatingSystemCommand.{OperatingSystemCommand}
 use Rattle.esc_osc.specs.declared.command.OperatingSystemCommand.TheVariants as command
 use Rattle.esc_osc_values.specs.Codes.{changed_by, code_name, code_of, reset_by}
@@ -30,7 +30,7 @@ use Rattle.esc_osc_values.specs.Selections.{selection, selection_of}
 use Rattle.esc_osc_values.specs.declared.dynamic_color_number.DynamicColorNumber.{DynamicColorNumber}
 use Rattle.esc_osc_values.specs.declared.progress.Progress.{Progress}
 use Rattle.esc_values.proofs.Split.{joined_parts}
-use Rattle.esc_values.specs.Clear.{joined, parts_of, separated}
+use Rattle.esc_values.specs.Clear.{joined, parts_of, separated_parts}
 use Rattle.esc_values.specs.Cuts.{Pairs}
 use Rattle.esc_values.specs.Scalars.{and_then, utf8_of}
 
@@ -54,19 +54,19 @@ abbrev pub parts_size : List (List ℕ) → ℕ
 parts_size [] = 0
 parts_size (p ∷ ps) = value_size p + parts_size ps
 
-separated_size : (ps : List (List ℕ)) → parts_size ps ≤ value_size (separated ps)
+separated_size : (ps : List (List ℕ)) → parts_size ps ≤ value_size (separated_parts ps)
 separated_size [] = leb-true 0 0 refl
 separated_size (p ∷ ps) =
     omega (
       arith,
-      value_added (0x3b ∷ p) (separated ps),
+      value_added (0x3b ∷ p) (separated_parts ps),
       value_added (0x3b ∷ []) p,
       separated_size ps,
     )
 
 joined_size : (ps : List (List ℕ)) → parts_size ps ≤ value_size (joined ps)
 joined_size [] = leb-true 0 0 refl
-joined_size (p ∷ ps) = omega (arith, value_added p (separated ps), separated_size ps)
+joined_size (p ∷ ps) = omega (arith, value_added p (separated_parts ps), separated_size ps)
 
 pub parts_within : (t : List ℕ) → parts_size (parts_of t) ≤ value_size t
 parts_within t =
@@ -128,7 +128,7 @@ module _ (A : Type 0) (n : ℕ) where
       (λ b. mapped (λ text. command.SetSelection (selection b) text) (λ x. refl)
       (base64_text_of t)) (selection_of s)
 
-  selected_within : (ps : List (List ℕ)) → IsWithin n (selected {A = A} ps)
+  selected_within : (ps : List (List ℕ)) → IsWithin n (selection_command {A = A} ps)
   selected_within [] = tt
   selected_within (s ∷ []) =
       mapped (λ b. command.ClearSelection (selection b)) (λ x. refl) (selection_of s)
@@ -140,12 +140,12 @@ module _ (A : Type 0) (n : ℕ) where
   selected_within (s ∷ t ∷ u ∷ ps) = tt
 
   notified_within : (p : Option Progress) (t : Option (List ℕ))
-      → IsWithin n (notified {A = A} p t)
+      → IsWithin n (notification {A = A} p t)
   notified_within (Some p) t = omega arith
   notified_within None t = mapped command.SystemNotification (λ x. refl) t
 
   dynamic_within : (c r : Option DynamicColorNumber) (args : List (List ℕ))
-      → IsWithin n (dynamic {A = A} c r args)
+      → IsWithin n (dynamic_command {A = A} c r args)
   dynamic_within (Some c) r args =
       mapped (command.ChangeDynamicColors c) (λ x. refl) (colors_of args)
   dynamic_within None (Some r) args = omega arith

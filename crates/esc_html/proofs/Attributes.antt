@@ -4,11 +4,11 @@ use Rattle.std.proofs.lemmas.Grind.{flat_map-append}
 use Rattle.std.proofs.lemmas.List.{append-nil}
 use Rattle.esc_html.specs.Attributes.{begun_classes, begun_styles, is_empty, next_class, next_style}
 use Rattle.esc_html.specs.Names.{more_span_names, span_name}
-use Rattle.esc_looks.specs.Looks.{present}
-use Rattle.esc_html.specs.Pieces.{attribute_text, attributes_text}
-use Rattle.esc_looks.specs.Styles.{style_text, styles_text}
-use Rattle.esc_looks.specs.declared.class.Class.{Class}
-use Rattle.esc_looks.specs.declared.style.Style.{Style}
+use Rattle.esc_style.specs.Looks.{present}
+use Rattle.esc_html.specs.PageParts.{attribute_text, attributes_text}
+use Rattle.esc_style.specs.Styles.{style_text, styles_text}
+use Rattle.esc_style.specs.declared.class.Class.{Class}
+use Rattle.esc_style.specs.declared.style.Style.{Style}
 
 -- ---- what is present of a longer list
 

@@ -1,4 +1,4 @@
--- A page is no longer than its stream allows, and neither is what one piece of the stream adds.
+-- A page is no longer than its stream allows, and neither is what one part of the stream adds.
 use Rattle.std.proofs.Common.{ℕ, ◌≡◌, ◌≤◌, ◌+◌, ◌-◌, ◌*◌, ◌==◌, Bool, true, false, if◌then◌else◌, List, [], ◌∷◌, ◌++◌, length, map, Option, Some, None, refl, ap, sym, ◌∙◌, subst, arith}
 use Rattle.std.proofs.lemmas.Bool.{leb-true}
 use Rattle.std.proofs.lemmas.Grind.{flat_map-append}
@@ -6,7 +6,7 @@ use Rattle.std.proofs.lemmas.List.{append-nil, length-append}
 use Rattle.esc_actions.specs.ControlCodes.{code_number, code_of}
 use Rattle.esc_actions.specs.declared.control_code.ControlCode.{ControlCode}
 use Rattle.esc_actions.specs.Meaning.{meaning_within, mode_from, values_from, yield_within}
-use Rattle.esc_actions.specs.Values.{Mode, Value, after, closed_gives, executed, given, imaged, lone, opened_gives, plain, in_sixel, in_termcap, in_short, entered, taken_gives, string, csi, control, datum, enter, esc, exit, kitty, osc, print, sixel, short, termcap}
+use Rattle.esc_actions.specs.Values.{Mode, Value, mode_after, unhook_values, control_values, event_values, image_values, only_item, hook_values, plain, in_sixel, in_termcap, in_short, entered, taken_gives, string, csi, control, datum, enter, esc, exit, kitty, osc, print, sixel, short, termcap}
 use Rattle.esc_actions.proofs.Meanings.{yield_is}
 use Rattle.esc_device.specs.Kinds.{kind_of}
 use Rattle.esc_device.specs.Values.{enter_of}
@@ -18,12 +18,12 @@ use Rattle.esc_frame.specs.Leads.Unfinished.{Ground}
 use Rattle.esc_frame.specs.Limits.{is_within}
 use Rattle.esc_frame.specs.Machine.Moves.{after_all, events_all}
 use Rattle.esc_frame.specs.Stream.{added_within, events_within}
-use Rattle.esc_frame.proofs.Streams.{added_is}
-use Rattle.esc_html.specs.Bounds.{IsBounded, IsBoundedPiece}
+use Rattle.esc_frame.proofs.Emits.EventsAreTheCuts.{added_is}
+use Rattle.esc_html.specs.Bounds.{IsBounded, IsBoundedPagePart}
 use Rattle.esc_html.specs.Characters.{shown_as}
 use Rattle.esc_html.specs.Marks.{Pen, Step, redirects, restyles, shows, nothing, address_of, begins_line, command_step, ends_line, escape_begins_line, step_of}
-use Rattle.esc_html.specs.Pages.{State, after_character, closing_text, first_state, page_text, pieces_by, pieces_from, state_by, state_from, state_of_stream}
-use Rattle.esc_html.specs.Pieces.{html_text, piece_text}
+use Rattle.esc_html.specs.Pages.{State, after_character, closing_text, first_state, page_text, page_parts_by, page_parts_from, state_by, state_from, state_of_stream}
+use Rattle.esc_html.specs.PageParts.{html_text, page_part_text}
 use Rattle.esc_html.specs.declared.layout.Layout.{Layout}
 use Rattle.esc_html.proofs.Addressed.{capped, command_size, meant_within, parts_size, short_size}
 use Rattle.esc_html.proofs.Costs.{Pays, address_size, control_pays, core, csis_keep, ending_most, escape_pays, held_most, kept, nothing_pays, print_pays, redirects_pays, reserve_most}
@@ -37,7 +37,7 @@ use Rattle.esc_osc.specs.declared.command.OperatingSystemCommand.{OperatingSyste
 use Rattle.esc_osc.specs.declared.command.OperatingSystemCommand.TheVariants as command
 use Rattle.esc_sequences.specs.Csis.{csi_of}
 use Rattle.esc_sequences.specs.Escs.{esc_of}
-use Rattle.esc_typed.specs.Functions.{of_csi}
+use Rattle.typed_functions.specs.Functions.{of_csi}
 
 module _ (A : Type 0) where
   -- ---- events
@@ -45,12 +45,12 @@ module _ (A : Type 0) where
   -- these values pay n
   abbrev AllPay : Bool → State → List (Value A) → ℕ → Type 0
   AllPay pl g vs n =
-      length (html_text (pieces_from pl g vs)) + kept (state_from pl g vs) ≤ kept g + n
+      length (html_text (page_parts_from pl g vs)) + kept (state_from pl g vs) ≤ kept g + n
 
   one_pays : (pl : Bool) (g : State) (v : Value A) (n : ℕ)
       → Pays pl g (step_of g.pen v) n → AllPay pl g (v ∷ []) n
   one_pays pl g v n h =
-      let ps = pieces_by pl g (step_of g.pen v) in
+      let ps = page_parts_by pl g (step_of g.pen v) in
       omega (arith, h, ap (λ x. length (html_text x)) (append-nil ps))
 
   none_pay : (pl : Bool) (g : State) (n : ℕ) → AllPay pl g [] n
@@ -87,17 +87,17 @@ module _ (A : Type 0) where
       (omega (arith, command_pays pl g c, meant_within A ps))
 
   csi_pays : (pl : Bool) (g : State) (vs : List (Value A))
-      → length (html_text (pieces_from pl g vs)) + core (state_from pl g vs) ≡ core g
+      → length (html_text (page_parts_from pl g vs)) + core (state_from pl g vs) ≡ core g
       → AllPay pl g vs 144
   csi_pays pl g vs h = omega (arith, h, reserve_most (state_from pl g vs).tags)
 
   executed_pays : (pl : Bool) (g : State) (o : Option ControlCode)
-      → AllPay pl g (executed o) 150
+      → AllPay pl g (control_values o) 150
   executed_pays pl g None = none_pay pl g 150
   executed_pays pl g (Some c) = one_pays pl g (control c) 150 (control_pays pl g (code_number c))
 
   opened_pays : (pl : Bool) (g : State) (k : StringKind) (f : ℕ) (ps : _) (is : List ℕ)
-      (more : Bool) → AllPay pl g (opened_gives k f ps is more) 0
+      (more : Bool) → AllPay pl g (hook_values k f ps is more) 0
   opened_pays pl g kind.Other f ps is more =
       one_pays pl g (enter (enter_of f ps is more)) 0 (nothing_pays pl g 0)
   opened_pays pl g kind.Sixel f ps is more = none_pay pl g 0
@@ -118,7 +118,7 @@ module _ (A : Type 0) where
   if_pays pl g v false h = none_pay pl g 0
 
   closed_pays : (pl : Bool) (g : State) (limit : Option ℕ) (m : Mode)
-      → AllPay pl g (closed_gives limit m) 0
+      → AllPay pl g (unhook_values limit m) 0
   closed_pays pl g limit plain = none_pay pl g 0
   closed_pays pl g limit (in_sixel ps d) =
       if_pays pl g (sixel _) (is_within limit (length d)) (nothing_pays pl g 0)
@@ -129,16 +129,16 @@ module _ (A : Type 0) where
   closed_pays pl g limit entered = one_pays pl g exit 0 (nothing_pays pl g 0)
 
   imaged_pays : (pl : Bool) (g : State) (o : Option (KittyImage A))
-      → AllPay pl g (imaged o) 0
+      → AllPay pl g (image_values o) 0
   imaged_pays pl g None = none_pay pl g 0
   imaged_pays pl g (Some i) = one_pays pl g (kitty i) 0 (nothing_pays pl g 0)
 
   event_pays : (pl : Bool) (g : State) (limit : Option ℕ) (m : Mode) (e : Event)
-      → AllPay pl g (given limit m e) (weight e)
+      → AllPay pl g (event_values limit m e) (weight e)
   event_pays pl g limit m (Print c) = one_pays pl g (print c) 150 (print_pays pl g c)
   event_pays pl g limit m (Execute b) = executed_pays pl g (code_of b)
   event_pays pl g limit m (EscDispatch is more f) =
-      let e = esc_of (lone is) f in one_pays pl g (esc e) 150 (escape_pays pl g e)
+      let e = esc_of (only_item is) f in one_pays pl g (esc e) 150 (escape_pays pl g e)
   event_pays pl g limit m (CsiDispatch es more f) =
       csi_pays pl g (map csi (csi_of es more f)) (csis_keep A pl g (csi_of es more f))
   event_pays pl g limit m (OscDispatch ps) = osc_pays pl g ps
@@ -157,8 +157,10 @@ module _ (A : Type 0) where
         h,
         k,
         ap (λ x. length (html_text x)) (pieces_more pl g vs ws)
-            ∙ ap length (flat_map-append piece_text (pieces_from pl g vs) (pieces_from pl j ws))
-            ∙ length-append (html_text (pieces_from pl g vs)) (html_text (pieces_from pl j ws)),
+            ∙ ap length (flat_map-append page_part_text (page_parts_from pl g vs)
+            (page_parts_from pl j ws))
+            ∙ length-append (html_text (page_parts_from pl g vs))
+            (html_text (page_parts_from pl j ws)),
         ap kept (state_more pl g vs ws),
       )
 
@@ -166,9 +168,9 @@ module _ (A : Type 0) where
       → AllPay pl g (values_from limit m es) (weights es)
   events_pay pl g limit m [] = none_pay pl g 0
   events_pay pl g limit m (e ∷ es) =
-      let vs = given {A = A} limit m e in
-      both_pay pl g vs (values_from limit (after m e) es) (weight e) (weights es)
-      (event_pays pl g limit m e) (events_pay pl (state_from pl g vs) limit (after m e) es)
+      let vs = event_values {A = A} limit m e in
+      both_pay pl g vs (values_from limit (mode_after m e) es) (weight e) (weights es)
+      (event_pays pl g limit m e) (events_pay pl (state_from pl g vs) limit (mode_after m e) es)
 
   -- ---- a stream
 
@@ -203,7 +205,7 @@ module _ (A : Type 0) where
         length-append (page_text A limit y s) (closing_text A limit y s),
       )
 
-  -- ---- one piece of it
+  -- ---- one part of it
 
   -- the link that holds is one that a page may have, and may be opened on no more than 16 lines
   abbrev IsSmall : State → Type 0
@@ -286,11 +288,11 @@ module _ (A : Type 0) where
         reserve_most g.tags,
       )
 
-  pub piece_bounded : (limit : Option ℕ) (y : Layout) (s b : List ℕ)
-      → IsBoundedPiece b
-      (html_text (pieces_from {A = A} y.per_line (state_of_stream A limit y s)
+  pub page_part_bounded : (limit : Option ℕ) (y : Layout) (s b : List ℕ)
+      → IsBoundedPagePart b
+      (html_text (page_parts_from {A = A} y.per_line (state_of_stream A limit y s)
       (yield_within limit s b)))
-  piece_bounded limit y s b =
+  page_part_bounded limit y s b =
       let pl = y.per_line in
       let g = state_of_stream A limit y s in
       let m = mode_from plain (events_within limit s) in

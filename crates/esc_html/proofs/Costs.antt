@@ -10,16 +10,16 @@ use Rattle.std.proofs.lemmas.List.{append-nil, length-append}
 use Rattle.esc_actions.specs.Values.{csi}
 use Rattle.esc_html.specs.Characters.{shown_as}
 use Rattle.esc_html.specs.Marks.{Pen, Step, redirects, shows, nothing, begins_line, control_step, ends_line, escape_begins_line, escape_step, function_step, next_line, print_step, with_look}
-use Rattle.esc_html.specs.Pages.{State, after_character, before_character, closing, link_end_if, link_opening, opening, pieces_by, pieces_from, span_closing, span_end_unless, span_unless, state_by, state_from, without_span}
-use Rattle.esc_html.specs.Pieces.{Piece, escape_text, escape_value, html_text, link, piece_text, span, text}
+use Rattle.esc_html.specs.Pages.{State, after_character, before_character, closing, link_end_if, link_opening, opening, page_parts_by, page_parts_from, span_closing, span_end_unless, span_unless, state_by, state_from, without_span}
+use Rattle.esc_html.specs.PageParts.{PagePart, escape_text, escape_value, html_text, link, page_part_text, span, text}
 use Rattle.esc_html.specs.declared.tags.Tags.{Tags}
 use Rattle.esc_html.specs.declared.tags.Tags.TheVariants.{Closed, Link, Open}
 use Rattle.esc_html.proofs.Sizes.{char_size, span_size, value_size}
-use Rattle.esc_looks.specs.Looks.{is_plain}
-use Rattle.esc_looks.specs.declared.look.Look.{Look}
+use Rattle.esc_style.specs.Looks.{is_plain}
+use Rattle.esc_style.specs.declared.look.Look.{Look}
 use Rattle.esc_sequences.specs.Csis.{CsiValue}
 use Rattle.esc_sequences.specs.declared.esc.Esc.{Esc}
-use Rattle.esc_typed.specs.Functions.{Value as Function, of_csi, cursor, edit, device, keyboard, mouse, window, mode_status, charset, escape, modes, tabs, renditions, other}
+use Rattle.typed_functions.specs.Functions.{Value as Function, of_csi, cursor, edit, device, keyboard, mouse, window, mode_status, charset, escape, modes, tabs, renditions, other}
 
 -- ---- a size so many times
 
@@ -101,7 +101,7 @@ link_end_long : (k : Bool) → length (html_text (link_end_if k)) ≡ link_end_s
 link_end_long true = refl
 link_end_long false = refl
 
-link_size : (a : List ℕ) → length (piece_text (link a)) ≡ 46 + value_size a
+link_size : (a : List ℕ) → length (page_part_text (link a)) ≡ 46 + value_size a
 link_size a =
     let v = flat_map escape_value a in
     let first : length (codes "<a href=\"") ≡ 9 = refl in
@@ -114,8 +114,8 @@ link_size a =
       last,
     )
 
-one_size : (p : Piece) → length (html_text (p ∷ [])) ≡ length (piece_text p)
-one_size p = ap length (append-nil (piece_text p))
+one_size : (p : PagePart) → length (html_text (p ∷ [])) ≡ length (page_part_text p)
+one_size p = ap length (append-nil (page_part_text p))
 
 span_opens : (i b : Bool) (l : Look)
     → length (html_text (span_unless i b l)) + span_end_size b ≤ 238
@@ -131,7 +131,7 @@ all_opens i true (Some a) l = omega (arith, one_size (link a), link_size a)
 all_opens i false (Some a) l =
     omega (
       arith,
-      length-append (piece_text (link a)) (html_text (span i l ∷ [])),
+      length-append (page_part_text (link a)) (html_text (span i l ∷ [])),
       link_size a,
       one_size (span i l),
       span_size i l,
@@ -225,9 +225,9 @@ before_pays false g n h = omega (arith, open_pays g.tags g.pen n h)
 
 -- ---- steps
 
--- a step of these pieces pays n
+-- a step of these parts pays n
 abbrev pub Pays : Bool → State → Step → ℕ → Type 0
-Pays pl g s n = length (html_text (pieces_by pl g s)) + kept (state_by pl g s) ≤ kept g + n
+Pays pl g s n = length (html_text (page_parts_by pl g s)) + kept (state_by pl g s) ≤ kept g + n
 
 pub shows_pays : (pl : Bool) (g : State) (c : ℕ) → Pays pl g (shows c) 150
 shows_pays pl g c =
@@ -235,7 +235,7 @@ shows_pays pl g c =
     let t = encode_utf8 c in
     omega (
       arith,
-      ap length (flat_map-append piece_text (before_character e g) (text t ∷ [])),
+      ap length (flat_map-append page_part_text (before_character e g) (text t ∷ [])),
       length-append (html_text (before_character e g)) (html_text (text t ∷ [])),
       one_size (text t),
       before_pays e g (length (flat_map escape_text t)) (char_size c),
@@ -264,7 +264,7 @@ restyled Open p l =
     )
 
 abbrev Keeps : Bool → State → Step → Type 0
-Keeps pl g s = length (html_text (pieces_by pl g s)) + core (state_by pl g s) ≡ core g
+Keeps pl g s = length (html_text (page_parts_by pl g s)) + core (state_by pl g s) ≡ core g
 
 unchanged : (pl : Bool) (g : State) → Keeps pl g nothing
 unchanged pl g = omega arith
@@ -286,17 +286,17 @@ function_keeps pl g (other u) = unchanged pl g
 
 -- the renditions of one sequence
 pub csis_keep : (A : Type 0) (pl : Bool) (g : State) (cs : List CsiValue)
-    → length (html_text (pieces_from {A = A} pl g (map csi cs)))
+    → length (html_text (page_parts_from {A = A} pl g (map csi cs)))
     + core (state_from {A = A} pl g (map csi cs)) ≡ core g
 csis_keep A pl g [] = omega arith
 csis_keep A pl g (c ∷ cs) =
     let s = function_step g.pen (of_csi c) in
     let j = state_by pl g s in
-    let first = pieces_by pl g s in
-    let rest = pieces_from {A = A} pl j (map csi cs) in
+    let first = page_parts_by pl g s in
+    let rest = page_parts_from {A = A} pl j (map csi cs) in
     omega (
       arith,
-      ap length (flat_map-append piece_text first rest),
+      ap length (flat_map-append page_part_text first rest),
       length-append (html_text first) (html_text rest),
       function_keeps pl g (of_csi c),
       csis_keep A pl j cs,

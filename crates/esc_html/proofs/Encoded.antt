@@ -10,15 +10,15 @@ use Rattle.std.proofs.lemmas.List.{append-nil}
 use Rattle.std.proofs.lemmas.Str.{encode_ascii, encodes-append, inside_one}
 use Rattle.memchr.specs.Find.{is_byte3}
 use Rattle.esc_html.specs.Names.{span_names}
-use Rattle.esc_looks.specs.Classes.{index_digits}
-use Rattle.esc_looks.specs.Colors.{color_code, is_small}
-use Rattle.esc_looks.specs.Looks.{look_classes, look_styles, present}
-use Rattle.esc_looks.specs.Styles.{styles_text}
-use Rattle.esc_looks.specs.declared.class.Class.{Class}
-use Rattle.esc_looks.specs.declared.look.Look.{Look}
-use Rattle.esc_looks.specs.declared.style.Style.{Style}
+use Rattle.esc_style.specs.Classes.{index_digits}
+use Rattle.esc_style.specs.Colors.{color_code, is_small}
+use Rattle.esc_style.specs.Looks.{look_classes, look_styles, present}
+use Rattle.esc_style.specs.Styles.{styles_text}
+use Rattle.esc_style.specs.declared.class.Class.{Class}
+use Rattle.esc_style.specs.declared.look.Look.{Look}
+use Rattle.esc_style.specs.declared.style.Style.{Style}
 use Rattle.esc_html.specs.Inline.{inline_text}
-use Rattle.esc_html.specs.Pieces.{Piece, text, span, span_end, link, link_end, encoded, escape, escape_text, escape_value, needs_reference, html_text, piece_text, reference_text, is_kept, attribute_text, attributes_text, class_attribute, style_attribute}
+use Rattle.esc_html.specs.PageParts.{PagePart, text, span, span_end, link, link_end, encoded, escape, escape_text, escape_value, needs_reference, html_text, page_part_text, reference_text, is_kept, attribute_text, attributes_text, class_attribute, style_attribute}
 use Rattle.esc_html.proofs.EscapedRuns.{escape_none, mark_small}
 use Rattle.esc_html.proofs.Reading.{code_plain, digits_plain, inline_plain, is_low, is_name_char, names_plain, styles_plain}
 
@@ -147,22 +147,23 @@ inline_small l =
       quoted_small (inline_text l) (inline_plain l),
     ) refl
 
-piece_encoded : (p : Piece) → encode_utf8_all (piece_text p) ≡ piece_text (encoded p)
-piece_encoded (text t) = escape_all 0x3e t (omega arith)
-piece_encoded (span true l) = literal (piece_text (span true l)) (inline_small l)
-piece_encoded (span false l) =
-    literal (piece_text (span false l))
+page_part_encoded : (p : PagePart) → encode_utf8_all (page_part_text p) ≡ page_part_text (encoded p)
+page_part_encoded (text t) = escape_all 0x3e t (omega arith)
+page_part_encoded (span true l) = literal (page_part_text (span true l)) (inline_small l)
+page_part_encoded (span false l) =
+    literal (page_part_text (span false l))
     (span_small (present (look_classes l)) (present (look_styles l)))
-piece_encoded span_end = literal (codes "</span>") refl
-piece_encoded (link a) =
+page_part_encoded span_end = literal (codes "</span>") refl
+page_part_encoded (link a) =
     around (codes "<a href=\"") (flat_map escape_value a)
     (flat_map escape_value (encode_utf8_all a)) (codes "\" rel=\"nofollow noopener noreferrer\">") refl refl
     (escape_all 0x22 a (omega arith))
-piece_encoded link_end = literal (codes "</a>") refl
+page_part_encoded link_end = literal (codes "</a>") refl
 
-pub pieces_encoded : (ps : List Piece) → encode_utf8_all (html_text ps) ≡ html_text (map encoded ps)
-pieces_encoded [] = refl
-pieces_encoded (p ∷ ps) =
-    encodes-append (piece_text p) (html_text ps)
-    ∙ ap (λ x. x ++ encode_utf8_all (html_text ps)) (piece_encoded p)
-    ∙ ap (λ y. piece_text (encoded p) ++ y) (pieces_encoded ps)
+pub page_parts_encoded : (ps : List PagePart) → encode_utf8_all (html_text ps)
+    ≡ html_text (map encoded ps)
+page_parts_encoded [] = refl
+page_parts_encoded (p ∷ ps) =
+    encodes-append (page_part_text p) (html_text ps)
+    ∙ ap (λ x. x ++ encode_utf8_all (html_text ps)) (page_part_encoded p)
+    ∙ ap (λ y. page_part_text (encoded p) ++ y) (page_parts_encoded ps)

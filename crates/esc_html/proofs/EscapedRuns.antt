@@ -9,9 +9,9 @@ use Rattle.std.proofs.lemmas.Bool.Decides.{nat_tests}
 use Rattle.std.proofs.lemmas.List.{append-nil, length-append}
 use Rattle.std.proofs.lemmas.Str.{IsUtf8-append, IsUtf8-nil, IsUtf8-from_ascii, IsCharBoundary-from_drop}
 use Rattle.memchr.specs.Find.{is_byte3, IsFirstByte}
-use Rattle.esc_looks.specs.Colors.{is_small}
+use Rattle.esc_style.specs.Colors.{is_small}
 use Rattle.esc_html.specs.Growing.{Grows}
-use Rattle.esc_html.specs.Pieces.{escape, reference_text}
+use Rattle.esc_html.specs.PageParts.{escape, reference_text}
 
 -- ---- runs
 

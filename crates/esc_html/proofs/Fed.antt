@@ -8,20 +8,20 @@ use Rattle.esc_actions.specs.Values.{Value, value_of, print, string, control, es
 use Rattle.esc_actions.specs.declared.action.Action.{Action}
 use Rattle.esc_parse.specs.Images.{is_image}
 use Rattle.esc_parse.specs.Given.{At, StopsAt}
-use Rattle.esc_html.specs.Bounds.{IsBoundedPiece}
-use Rattle.esc_html.specs.Fed.{Adds, Takes, WasFed, closing_of, state_of, text_of}
+use Rattle.esc_html.specs.Bounds.{IsBoundedPagePart}
+use Rattle.esc_html.specs.Fed.{Adds, Takes, HasConsumed, closing_of, state_of, text_of}
 use Rattle.esc_html.specs.Marks.{nothing, step_of}
-use Rattle.esc_html.specs.Pages.{closed, closing_text, first_state, page_text, pieces_by, pieces_from, state_by, state_from, state_of_stream}
-use Rattle.esc_html.specs.Pieces.{html_text, piece_text}
+use Rattle.esc_html.specs.Pages.{closed, closing_text, first_state, page_text, page_parts_by, page_parts_from, state_by, state_from, state_of_stream}
+use Rattle.esc_html.specs.PageParts.{html_text, page_part_text}
 use Rattle.esc_html.specs.declared.html_writer.HtmlWriter.{HtmlWriter}
 use Rattle.esc_html.specs.declared.layout.Layout.{Layout}
 use Rattle.esc_html.specs.declared.page.Page.{Page}
-use Rattle.esc_html.proofs.Bounded.{piece_bounded}
+use Rattle.esc_html.proofs.Bounded.{page_part_bounded}
 use Rattle.esc_html.proofs.Pages.{pieces_more, state_more}
 
 pub takes_all : {A : Type 0} (p : Page A) (vs : List (Value A)) (q : Page A)
     → FoldsTo (At value_of Takes) p vs q
-    → (text_of q ≡ text_of p ++ html_text (pieces_from p.layout.per_line (state_of p) vs))
+    → (text_of q ≡ text_of p ++ html_text (page_parts_from p.layout.per_line (state_of p) vs))
     × (state_of q ≡ state_from p.layout.per_line (state_of p) vs) × (q.layout ≡ p.layout)
 takes_all p [] q e = (
   ap text_of (sym e) ∙ sym (append-nil (text_of p)),
@@ -34,15 +34,15 @@ takes_all p (v ∷ vs) q (j, (a, is, w), rest) =
     let k = subst (λ x. Adds p (step_of (state_of p).pen x) j) is w in
     let line = ap (λ y. y.per_line) k.layout in
     let r = takes_all j vs q rest in (
-      r.0 ∙ ap (λ t. t ++ html_text (pieces_from j.layout.per_line (state_of j) vs)) k.text
-          ∙ append_assoc (text_of p) (html_text (pieces_by l (state_of p) s))
-          (html_text (pieces_from j.layout.per_line (state_of j) vs))
-          ∙ ap (λ m. text_of p ++ (html_text (pieces_by l (state_of p) s)
-          ++ html_text (pieces_from m (state_of j) vs))) line
-          ∙ ap (λ g. text_of p ++ (html_text (pieces_by l (state_of p) s)
-          ++ html_text (pieces_from l g vs))) k.state
-          ∙ ap (λ t. text_of p ++ t) (sym (flat_map-append piece_text
-          (pieces_by l (state_of p) s) (pieces_from l (state_by l (state_of p) s) vs))),
+      r.0 ∙ ap (λ t. t ++ html_text (page_parts_from j.layout.per_line (state_of j) vs)) k.text
+          ∙ append_assoc (text_of p) (html_text (page_parts_by l (state_of p) s))
+          (html_text (page_parts_from j.layout.per_line (state_of j) vs))
+          ∙ ap (λ m. text_of p ++ (html_text (page_parts_by l (state_of p) s)
+          ++ html_text (page_parts_from m (state_of j) vs))) line
+          ∙ ap (λ g. text_of p ++ (html_text (page_parts_by l (state_of p) s)
+          ++ html_text (page_parts_from l g vs))) k.state
+          ∙ ap (λ t. text_of p ++ t) (sym (flat_map-append page_part_text
+          (page_parts_by l (state_of p) s) (page_parts_from l (state_by l (state_of p) s) vs))),
       r.1 ∙ ap (λ m. state_from m (state_of j) vs) line
           ∙ ap (λ g. state_from l g vs) k.state,
       r.2 ∙ k.layout,
@@ -53,7 +53,7 @@ pub fed_more : {A : Type 0} (limit : Option ℕ) (y : Layout) (s b : List ℕ) (
     → FoldsTo (At value_of Takes) p (yield_within limit s b) q
     → (state_of q ≡ state_of_stream A limit y (s ++ b)) × (q.layout ≡ y)
     × (page_text A limit y (s ++ b) ≡ page_text A limit y s ++ text_of q)
-    × IsBoundedPiece b (text_of q)
+    × IsBoundedPagePart b (text_of q)
 fed_more {A} limit y s b p q none at same f =
     let us = meaning_within {A = A} limit s in
     let vs = yield_within {A = A} limit s b in
@@ -62,23 +62,24 @@ fed_more {A} limit y s b p q none at same f =
     let line = ap (λ z. z.per_line) same in
     let r = takes_all p vs q f in
     let more = sym (meaning_more {A = A} limit s b) in
-    let text = r.0 ∙ ap (λ t. t ++ html_text (pieces_from p.layout.per_line (state_of p) vs)) none
-    ∙ ap (λ l. html_text (pieces_from l (state_of p) vs)) line
-    ∙ ap (λ g. html_text (pieces_from pl g vs)) at in (
+    let text = r.0 ∙ ap (λ t. t ++ html_text (page_parts_from p.layout.per_line (state_of p) vs))
+    none
+    ∙ ap (λ l. html_text (page_parts_from l (state_of p) vs)) line
+    ∙ ap (λ g. html_text (page_parts_from pl g vs)) at in (
       r.1 ∙ ap (λ l. state_from l (state_of p) vs) line ∙ ap (λ g. state_from pl g vs) at
           ∙ sym (state_more pl first us vs) ∙ ap (state_from pl first) (sym more),
       r.2 ∙ same,
-      ap (λ ws. html_text (pieces_from pl first ws)) more
+      ap (λ ws. html_text (page_parts_from pl first ws)) more
           ∙ ap html_text (pieces_more pl first us vs)
-          ∙ flat_map-append piece_text (pieces_from pl first us)
-          (pieces_from pl (state_from pl first us) vs)
+          ∙ flat_map-append page_part_text (page_parts_from pl first us)
+          (page_parts_from pl (state_from pl first us) vs)
           ∙ ap (λ x. page_text A limit y s ++ x) (sym text),
-      subst (IsBoundedPiece b) (sym text) (piece_bounded A limit y s b),
+      subst (IsBoundedPagePart b) (sym text) (page_part_bounded A limit y s b),
     )
 
 -- what closes the tags of a writer
 pub closing_same : {A : Type 0} (limit : ℕ) (y : Layout) (s : List ℕ) (w : HtmlWriter A)
-    → WasFed limit y s w → closing_of w ≡ closing_text A (Some limit) y s
+    → HasConsumed limit y s w → closing_of w ≡ closing_text A (Some limit) y s
 closing_same limit y s w h = ap (λ g. html_text (closed g)) h.state
 
 -- a giver that stops at a value, or by itself, was refused memory

@@ -4,7 +4,7 @@ use Rattle.std.specs.List.{list_all}
 use Rattle.std.proofs.lemmas.Bool.{and_parts, leb-true, not-true}
 use Rattle.std.proofs.lemmas.List.{append-nil, length-append}
 use Rattle.std.proofs.lemmas.Fmt.{length-decimal-le}
-use Rattle.esc_html.specs.Lines.{begin_unless, end_if, feeds, highest, in_lines, line_begin, line_end, lined, next_number, number_after, numeral, open_after, open_by, with_part}
+use Rattle.esc_html.specs.Lines.{begin_unless, end_if, feeds, highest, in_lines, line_begin, line_end, lined_page, next_number, number_after, numeral, open_after, open_by, with_part}
 
 -- a byte that ends no line
 abbrev pub stays : ℕ → Bool
@@ -16,23 +16,23 @@ abbrev next_if : Bool → ℕ → ℕ
 next_if x n = if x then next_number n else n
 
 abbrev rest_if : Bool → ℕ → List ℕ → List ℕ
-rest_if x n t = if x then line_end ++ lined (next_number n) false t else lined n true t
+rest_if x n t = if x then line_end ++ lined_page (next_number n) false t else lined_page n true t
 
 pub lined_more : (n : ℕ) (o : Bool) (s t : List ℕ)
-    → lined n o (s ++ t) ≡ lined n o s ++ lined (number_after n s) (open_after o s) t
+    → lined_page n o (s ++ t) ≡ lined_page n o s ++ lined_page (number_after n s) (open_after o s) t
 lined_more n o [] t = refl
 lined_more n o (b ∷ s) t =
     ap (λ x. begin_unless o n ++ (b ∷ x)) (by (λ m p. lined_more m p s t) (b == 0x0a))
     ∙ sym (append_assoc (begin_unless o n) (b ∷ rest_if (b == 0x0a) n s)
-    (lined (number_after n (b ∷ s)) (open_after o (b ∷ s)) t))
+    (lined_page (number_after n (b ∷ s)) (open_after o (b ∷ s)) t))
   where
-    by : ((m : ℕ) (p : Bool) → lined m p (s ++ t)
-        ≡ lined m p s ++ lined (number_after m s) (open_after p s) t)
+    by : ((m : ℕ) (p : Bool) → lined_page m p (s ++ t)
+        ≡ lined_page m p s ++ lined_page (number_after m s) (open_after p s) t)
         → (x : Bool) → rest_if x n (s ++ t)
-        ≡ rest_if x n s ++ lined (number_after (next_if x n) s) (open_after (not x) s) t
+        ≡ rest_if x n s ++ lined_page (number_after (next_if x n) s) (open_after (not x) s) t
     by more true = ap (λ y. line_end ++ y) (more (next_number n) false)
-        ∙ sym (append_assoc line_end (lined (next_number n) false s)
-        (lined (number_after (next_number n) s) (open_after false s) t))
+        ∙ sym (append_assoc line_end (lined_page (next_number n) false s)
+        (lined_page (number_after (next_number n) s) (open_after false s) t))
     by more false = more n true
 
 pub number_more : (n : ℕ) (s t : List ℕ)
@@ -47,7 +47,7 @@ open_more o (b ∷ s) t = open_more (not (b == 0x0a)) s t
 -- ---- a part that ends no line
 
 pub part_in_line : (n : ℕ) (s t : List ℕ) → list_all stays s ≡ true
-    → lined n true (s ++ t) ≡ s ++ lined n true t
+    → lined_page n true (s ++ t) ≡ s ++ lined_page n true t
 part_in_line n [] t h = refl
 part_in_line n (b ∷ s) t h =
     let q = and_parts (stays b) (list_all stays s) h in
@@ -55,15 +55,15 @@ part_in_line n (b ∷ s) t h =
 
 -- where something comes, the line is begun
 pub begun_line : (n : ℕ) (o : Bool) (b : ℕ) (t : List ℕ)
-    → lined n o (b ∷ t) ≡ begin_unless o n ++ lined n true (b ∷ t)
+    → lined_page n o (b ∷ t) ≡ begin_unless o n ++ lined_page n true (b ∷ t)
 begun_line n o b t = refl
 
 pub part_lined : (n : ℕ) (o : Bool) (s : List ℕ) → list_all stays s ≡ true
-    → lined n o s ≡ with_part n o s
+    → lined_page n o s ≡ with_part n o s
 part_lined n o [] h = refl
 part_lined n o (b ∷ s) h =
     begun_line n o b s
-    ∙ ap (λ x. begin_unless o n ++ lined n true x) (sym (append-nil (b ∷ s)))
+    ∙ ap (λ x. begin_unless o n ++ lined_page n true x) (sym (append-nil (b ∷ s)))
     ∙ ap (λ x. begin_unless o n ++ x) (part_in_line n (b ∷ s) [] h)
     ∙ ap (λ x. begin_unless o n ++ x) (append-nil (b ∷ s))
 
@@ -87,15 +87,15 @@ part_open o (b ∷ s) h =
 
 -- a line with its line feed, and what follows
 pub line_lined : (n : ℕ) (o : Bool) (s t : List ℕ) → list_all stays s ≡ true
-    → lined n o (s ++ 0x0a ∷ t)
-    ≡ (begin_unless o n ++ (s ++ codes "\n</span>")) ++ lined (next_number n) false t
+    → lined_page n o (s ++ 0x0a ∷ t)
+    ≡ (begin_unless o n ++ (s ++ codes "\n</span>")) ++ lined_page (next_number n) false t
 line_lined n o [] t h =
-    sym (append_assoc (begin_unless o n) (codes "\n</span>") (lined (next_number n) false t))
+    sym (append_assoc (begin_unless o n) (codes "\n</span>") (lined_page (next_number n) false t))
 line_lined n o (b ∷ s) t h =
     ap (λ x. begin_unless o n ++ x) (part_in_line n (b ∷ s) (0x0a ∷ t) h
-    ∙ sym (append_assoc (b ∷ s) (codes "\n</span>") (lined (next_number n) false t)))
+    ∙ sym (append_assoc (b ∷ s) (codes "\n</span>") (lined_page (next_number n) false t)))
     ∙ sym (append_assoc (begin_unless o n) ((b ∷ s) ++ codes "\n</span>")
-    (lined (next_number n) false t))
+    (lined_page (next_number n) false t))
 
 pub line_number : (n : ℕ) (s t : List ℕ) → list_all stays s ≡ true
     → number_after n (s ++ 0x0a ∷ t) ≡ number_after (next_number n) t
@@ -134,7 +134,7 @@ begin_size n =
 
 -- with the end of the last line
 abbrev ended : ℕ → Bool → List ℕ → List ℕ
-ended n o t = lined n o t ++ end_if (open_after o t)
+ended n o t = lined_page n o t ++ end_if (open_after o t)
 
 -- where a line is open, and where none is
 shut_size : (n : ℕ) (t : List ℕ) → length (ended n true t) ≤ length t + 126 * feeds t + 7
@@ -144,7 +144,7 @@ shut_size n (b ∷ t) h =
     omega (
       arith,
       h,
-      ap length (append_assoc (line_begin n) (lined n true (b ∷ t))
+      ap length (append_assoc (line_begin n) (lined_page n true (b ∷ t))
           (end_if (open_after true (b ∷ t)))),
       length-append (line_begin n) (ended n true (b ∷ t)),
       begin_size n,
@@ -159,7 +159,7 @@ open_size n (b ∷ t) = by (λ m. open_size m t) (b == 0x0a)
         ≤ suc (length t) + 126 * ((if x then 1 else 0) + feeds t) + 7
     by size true =
         let m = next_number n in
-        let rest = lined m false t in
+        let rest = lined_page m false t in
         let e = end_if (open_after false t) in
         let seven : length line_end ≡ 7 = refl in
         omega (

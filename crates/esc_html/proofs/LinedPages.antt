@@ -11,20 +11,20 @@ use Rattle.std.proofs.lemmas.List.Elements.{All-cons, All-head, All-nil, All-tai
 use Rattle.std.proofs.lemmas.List.Folds.{list_all-append}
 use Rattle.esc_actions.specs.Meaning.{meaning_within}
 use Rattle.esc_actions.specs.Values.{Value}
-use Rattle.esc_actions.specs.Writable.{AreHandedOut}
+use Rattle.esc_actions.specs.Writable.{EmittedAreWritable}
 use Rattle.esc_html.specs.Addresses.{is_safe_address}
 use Rattle.esc_html.specs.LinedPages.{IsLineTag, IsLinedPage, IsListedInLines, line_attributes, line_element, number_attributes, with_lines}
 use Rattle.esc_html.specs.Lines.{in_lines, next_number}
 use Rattle.esc_html.specs.Listed.{IsListed, closes, has_open_link}
-use Rattle.esc_html.specs.Marks.{Pen, Step, restyles, redirects, shows, nothing, marked, marks, pen_at, pen_by, plain_pen, step_of}
-use Rattle.esc_html.specs.Pages.{closed, closing_text, first_state, page_text, pieces_of, state_of_stream}
-use Rattle.esc_html.specs.Pieces.{is_kept_piece, is_unbroken, piece_text}
-use Rattle.esc_html.specs.Shown.{Element, IsPage, elements, marked_bytes, shown}
+use Rattle.esc_html.specs.Marks.{Pen, Step, restyles, redirects, shows, nothing, marked_character, marks, pen_at, pen_by, plain_pen, step_of}
+use Rattle.esc_html.specs.Pages.{closed, closing_text, first_state, page_text, page_parts_of, state_of_stream}
+use Rattle.esc_html.specs.PageParts.{is_kept_page_part, is_unbroken, page_part_text}
+use Rattle.esc_html.specs.Shown.{Element, IsPage, elements, marked_bytes, shown_characters}
 use Rattle.esc_html.specs.Tokens.{Token, character, start_tag, end_tag, stray, tokens}
 use Rattle.esc_html.specs.declared.layout.Layout.{Layout}
 use Rattle.esc_html.proofs.Lined.{lined_size, stays}
-use Rattle.esc_html.proofs.LinedReading.{begin_tokens, is_feed, is_unbroken_piece, lined_tokens, lines_read_back}
-use Rattle.esc_html.proofs.Reading.{pieces_read_back}
+use Rattle.esc_html.proofs.LinedReading.{begin_tokens, is_feed, is_unbroken_page_part, lined_tokens, lines_read_back}
+use Rattle.esc_html.proofs.Reading.{page_parts_read_back}
 use Rattle.esc_html.proofs.Safe.{char_passes, page_passes, unbroken_kept}
 
 -- ---- what is listed
@@ -100,7 +100,8 @@ mark_out c p true e = all_outside (encode_utf8 c)
 mark_out c p false e =
     all_staying (elements p) (encode_utf8 c) (char_passes stays low_stays c (rw e refl))
 
-step_out : (p : Pen) (s : Step) → list_all is_out (flat_map marked_bytes (marked true p s)) ≡ true
+step_out : (p : Pen) (s : Step)
+    → list_all is_out (flat_map marked_bytes (marked_character true p s)) ≡ true
 step_out p (restyles l) = refl
 step_out p (redirects k) = refl
 step_out p (shows c) =
@@ -114,8 +115,8 @@ marks_out p [] = refl
 marks_out p (v ∷ vs) =
     let s = step_of p v in
     ap (list_all is_out)
-    (flat_map-append marked_bytes (marked true p s) (marks true (pen_by true p s) vs))
-    ∙ list_all-append is_out (flat_map marked_bytes (marked true p s))
+    (flat_map-append marked_bytes (marked_character true p s) (marks true (pen_by true p s) vs))
+    ∙ list_all-append is_out (flat_map marked_bytes (marked_character true p s))
     (flat_map marked_bytes (marks true (pen_by true p s) vs))
     ∙ ap (λ b. b && list_all is_out (flat_map marked_bytes (marks true (pen_by true p s) vs)))
     (step_out p s)
@@ -151,12 +152,12 @@ shut n [] h = refl
 shut n (t ∷ ts) h = h
 
 lined_closes : (n : ℕ) (es : List Element) (ts : List Token) → closes (names es) ts ≡ true
-    → list_all is_out (shown es ts) ≡ true
+    → list_all is_out (shown_characters es ts) ≡ true
     → closes (names es ++ in_line) (lined_tokens n true ts) ≡ true
 lined_closes n [] [] h k = refl
 lined_closes n (e ∷ es) [] h k = absurd cc
 lined_closes n es (character c ∷ ts) h k =
-    let q = and_parts (is_out (c, es)) (list_all is_out (shown es ts)) k in
+    let q = and_parts (is_out (c, es)) (list_all is_out (shown_characters es ts)) k in
     past_character (names es ++ in_line) c (if c == 0x0a
     then end_tag (codes "span") ∷ lined_tokens (next_number n) false ts
     else lined_tokens n true ts)
@@ -192,32 +193,33 @@ lined_closes n (e ∷ es) (stray ∷ ts) h k = absurd cc
 -- ---- what is shown
 
 shut_shown : (n : ℕ) (ts : List Token) (ms : List (ℕ × List Element))
-    → shown (line_element n ∷ []) (lined_tokens n true ts) ≡ ms
-    → shown [] (lined_tokens n false ts) ≡ ms
+    → shown_characters (line_element n ∷ []) (lined_tokens n true ts) ≡ ms
+    → shown_characters [] (lined_tokens n false ts) ≡ ms
 shut_shown n [] ms h = h
 shut_shown n (t ∷ ts) ms h = h
 
 lined_shows : (n : ℕ) (es : List Element) (ts : List Token) → closes (names es) ts ≡ true
-    → list_all is_out (shown es ts) ≡ true
-    → shown (es ++ line_element n ∷ []) (lined_tokens n true ts) ≡ with_lines n (shown es ts)
+    → list_all is_out (shown_characters es ts) ≡ true
+    → shown_characters (es ++ line_element n ∷ []) (lined_tokens n true ts)
+    ≡ with_lines n (shown_characters es ts)
 lined_shows n [] [] h k = refl
 lined_shows n (e ∷ es) [] h k = absurd cc
 lined_shows n es (character c ∷ ts) h k =
-    let q = and_parts (is_out (c, es)) (list_all is_out (shown es ts)) k in
+    let q = and_parts (is_out (c, es)) (list_all is_out (shown_characters es ts)) k in
     ap (λ ms. (c, es ++ line_element n ∷ []) ∷ ms)
     (by es (λ m. lined_shows m es ts (sym (past_character (names es) c ts) ∙ h) q.1) (c == 0x0a)
     q.0)
   where
     by : (es : List Element)
-        → ((m : ℕ) → shown (es ++ line_element m ∷ []) (lined_tokens m true ts)
-        ≡ with_lines m (shown es ts))
+        → ((m : ℕ) → shown_characters (es ++ line_element m ∷ []) (lined_tokens m true ts)
+        ≡ with_lines m (shown_characters es ts))
         → (x : Bool) → not x || is_none_open es ≡ true
-        → shown (es ++ line_element n ∷ []) (if x
+        → shown_characters (es ++ line_element n ∷ []) (if x
         then end_tag (codes "span") ∷ lined_tokens (next_number n) false ts
         else lined_tokens n true ts)
-        ≡ with_lines (if x then next_number n else n) (shown es ts)
+        ≡ with_lines (if x then next_number n else n) (shown_characters es ts)
     by [] h true o =
-        shut_shown (next_number n) ts (with_lines (next_number n) (shown [] ts))
+        shut_shown (next_number n) ts (with_lines (next_number n) (shown_characters [] ts))
         (h (next_number n))
     by (e ∷ es) h true o = absurd cc
     by es h false o = h n
@@ -240,7 +242,7 @@ outside true i vs e = marks_out (plain_pen i) vs
 outside false i vs e = absurd cc
 
 pub lined_page_is : {A : Type 0} (limit : Option ℕ) (n : ℕ) (y : Layout) (s : List ℕ)
-    → y.per_line ≡ true → AreHandedOut {A = A} (meaning_within limit s)
+    → y.per_line ≡ true → EmittedAreWritable {A = A} (meaning_within limit s)
     → IsPage A limit y s (page_text A limit y s ++ closing_text A limit y s)
     → IsLinedPage A limit n y s
     (in_lines n (page_text A limit y s ++ closing_text A limit y s))
@@ -248,16 +250,16 @@ lined_page_is {A} limit n y s pl h page =
     let vs = meaning_within {A = A} limit s in
     let first = first_state y.inline in
     let last = closed (state_of_stream A limit y s) in
-    let ps = pieces_of A limit y s ++ last in
+    let ps = page_parts_of A limit y s ++ last in
     let t = page_text A limit y s ++ closing_text A limit y s in
-    let same = flat_map-append piece_text (pieces_of A limit y s) last in
-    let kept = page_passes is_kept_piece (λ b l. refl) refl refl (λ t k. k)
+    let same = flat_map-append page_part_text (page_parts_of A limit y s) last in
+    let kept = page_passes is_kept_page_part (λ b l. refl) refl refl (λ t k. k)
     (λ a k. unbroken_kept a (and_parts (is_safe_address a) (list_all is_unbroken a) k).1)
     y.per_line first vs tt h in
-    let unbroken = page_passes is_unbroken_piece (λ b l. refl) refl refl (λ t k. refl)
+    let unbroken = page_passes is_unbroken_page_part (λ b l. refl) refl refl (λ t k. refl)
     (λ a k. (and_parts (is_safe_address a) (list_all is_unbroken a) k).1)
     y.per_line first vs tt h in
-    let plain = sym (ap tokens same) ∙ pieces_read_back ps kept in
+    let plain = sym (ap tokens same) ∙ page_parts_read_back ps kept in
     let read : tokens (in_lines n t) ≡ lined_tokens n false (tokens t) =
     sym (ap (λ x. tokens (in_lines n x)) same) ∙ lines_read_back ps kept unbroken n
     ∙ ap (lined_tokens n false) (sym plain) in
@@ -267,8 +269,8 @@ lined_page_is {A} limit n y s pl h page =
       listed = subst (All IsListedInLines) (sym read) (lined_listed n false (tokens t) page.listed);
       closes = ap (closes []) read
           ∙ shut n (tokens t) (lined_closes n [] (tokens t) page.closes out);
-      shows = ap (shown []) read
-          ∙ shut_shown n (tokens t) (with_lines n (shown [] (tokens t)))
+      shows = ap (shown_characters []) read
+          ∙ shut_shown n (tokens t) (with_lines n (shown_characters [] (tokens t)))
           (lined_shows n [] (tokens t) page.closes out)
           ∙ ap (with_lines n) page.shows;
       bounded = omega (arith, lined_size n t, page.bounded);

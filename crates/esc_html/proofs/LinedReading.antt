@@ -10,17 +10,17 @@ use Rattle.std.proofs.lemmas.List.Folds.{list_all-append}
 use Rattle.std.proofs.lemmas.Str.Parse.{digit_at}
 use Rattle.esc_html.specs.Inline.{inline_text}
 use Rattle.esc_html.specs.LinedPages.{line_attributes, number_attributes}
-use Rattle.esc_html.specs.Lines.{begin_unless, end_if, highest, in_lines, line_begin, line_end, lined, next_number, numeral, open_after}
+use Rattle.esc_html.specs.Lines.{begin_unless, end_if, highest, in_lines, line_begin, line_end, lined_page, next_number, numeral, open_after}
 use Rattle.esc_html.specs.Names.{span_names}
-use Rattle.esc_html.specs.Pieces.{Piece, text, span, span_end, link, link_end, attribute_text, attributes_text, class_attribute, escape, escape_text, escape_value, html_text, is_kept, is_kept_piece, is_unbroken, piece_text, piece_tokens, style_attribute, tokens_of}
+use Rattle.esc_html.specs.PageParts.{PagePart, text, span, span_end, link, link_end, attribute_text, attributes_text, class_attribute, escape, escape_text, escape_value, html_text, is_kept, is_kept_page_part, is_unbroken, page_part_text, page_part_tokens, style_attribute, tokens_of}
 use Rattle.esc_html.specs.Tokens.{Tag, Token, character, start_tag, end_tag, stray, data_state, tokens, tokens_from, value}
-use Rattle.esc_looks.specs.Looks.{look_classes, look_styles, present}
-use Rattle.esc_looks.specs.Styles.{styles_text}
-use Rattle.esc_looks.specs.declared.class.Class.{Class}
-use Rattle.esc_looks.specs.declared.look.Look.{Look}
-use Rattle.esc_looks.specs.declared.style.Style.{Style}
+use Rattle.esc_style.specs.Looks.{look_classes, look_styles, present}
+use Rattle.esc_style.specs.Styles.{styles_text}
+use Rattle.esc_style.specs.declared.class.Class.{Class}
+use Rattle.esc_style.specs.declared.look.Look.{Look}
+use Rattle.esc_style.specs.declared.style.Style.{Style}
 use Rattle.esc_html.proofs.Lined.{part_in_line, stays}
-use Rattle.esc_html.proofs.Reading.{all_joined, inline_plain, is_low, is_name_char, kept_same, name_chars, name_kept, names_plain, piece_kept, piece_reads, styles_plain}
+use Rattle.esc_html.proofs.Reading.{all_joined, inline_plain, is_low, is_name_char, kept_same, name_chars, name_kept, names_plain, page_part_kept, page_part_reads, styles_plain}
 
 -- ---- numbers
 
@@ -87,7 +87,7 @@ begin_reads n r =
     ∙ ap (λ ts. start_tag (codes "span") (line_attributes n) ∷ ts)
     (number_reads d r (numeral_plain n))
 
--- ---- pieces that end no line
+-- ---- parts that end no line
 
 name_stays : (x : List ℕ) → list_all is_name_char x ≡ true → list_all stays x ≡ true
 name_stays [] h = refl
@@ -152,19 +152,19 @@ escape_stays mark c h = by (c == 0x26 || c == 0x3c || c == mark) (c == 0x26) (c 
     by true false false false = refl
     by false x y z = rw h refl
 
--- the address of a piece ends no line
-abbrev pub is_unbroken_piece : Piece → Bool
-is_unbroken_piece (text t) = true
-is_unbroken_piece (span b l) = true
-is_unbroken_piece span_end = true
-is_unbroken_piece (link a) = list_all is_unbroken a
-is_unbroken_piece link_end = true
+-- the address of a part ends no line
+abbrev pub is_unbroken_page_part : PagePart → Bool
+is_unbroken_page_part (text t) = true
+is_unbroken_page_part (span b l) = true
+is_unbroken_page_part span_end = true
+is_unbroken_page_part (link a) = list_all is_unbroken a
+is_unbroken_page_part link_end = true
 
 unbroken_stays : (c : ℕ) → is_unbroken c ≡ true → stays c ≡ true
 unbroken_stays c h = (and_parts (is_kept c) (stays c) h).1
 
 link_stays : (a : List ℕ) → list_all is_unbroken a ≡ true
-    → list_all stays (piece_text (link a)) ≡ true
+    → list_all stays (page_part_text (link a)) ≡ true
 link_stays a h =
     let last = codes "\" rel=\"nofollow noopener noreferrer\">" in
     rw (
@@ -207,7 +207,7 @@ lined_tokens n o (t ∷ ts) = begin_tokens o n ++ (t ∷ (if is_feed t
 
 -- the text of lines that has ended
 abbrev ended : ℕ → Bool → List ℕ → List ℕ
-ended n o t = lined n o t ++ end_if (open_after o t)
+ended n o t = lined_page n o t ++ end_if (open_after o t)
 
 -- it is begun, where something comes
 opens : (n : ℕ) (o : Bool) (b : ℕ) (t : List ℕ) (ts : List Token)
@@ -215,7 +215,7 @@ opens : (n : ℕ) (o : Bool) (b : ℕ) (t : List ℕ) (ts : List Token)
     → tokens_from data_state (ended n o (b ∷ t)) ≡ begin_tokens o n ++ ts
 opens n true b t ts h = h
 opens n false b t ts h =
-    ap (tokens_from data_state) (append_assoc (line_begin n) (lined n true (b ∷ t))
+    ap (tokens_from data_state) (append_assoc (line_begin n) (lined_page n true (b ∷ t))
     (end_if (open_after true (b ∷ t))))
     ∙ begin_reads n (ended n true (b ∷ t)) ∙ ap (λ x. line_tokens n ++ x) h
 
@@ -230,21 +230,21 @@ part_ended : (n : ℕ) (s t : List ℕ) → list_all stays s ≡ true
     → ended n true (s ++ t) ≡ s ++ ended n true t
 part_ended n s t h =
     ap (λ x. x ++ end_if (open_after true (s ++ t))) (part_in_line n s t h)
-    ∙ ap (λ o. (s ++ lined n true t) ++ end_if o) (stays_open s t h)
-    ∙ append_assoc s (lined n true t) (end_if (open_after true t))
+    ∙ ap (λ o. (s ++ lined_page n true t) ++ end_if o) (stays_open s t h)
+    ∙ append_assoc s (lined_page n true t) (end_if (open_after true t))
 
--- a piece of one token, which is no line feed, and whose text ends no line
-one_lined : (p : Piece) (x : Token) (b : ℕ) (s r : List ℕ) (ts : List Token)
-    → piece_text p ≡ b ∷ s → piece_tokens p ≡ x ∷ [] → is_feed x ≡ false
-    → is_kept_piece p ≡ true → list_all stays (piece_text p) ≡ true
+-- a part of one token, which is no line feed, and whose text ends no line
+one_lined : (p : PagePart) (x : Token) (b : ℕ) (s r : List ℕ) (ts : List Token)
+    → page_part_text p ≡ b ∷ s → page_part_tokens p ≡ x ∷ [] → is_feed x ≡ false
+    → is_kept_page_part p ≡ true → list_all stays (page_part_text p) ≡ true
     → ((n : ℕ) → tokens_from data_state (ended n true r) ≡ lined_tokens n true ts)
     → (n : ℕ) (o : Bool)
-    → tokens_from data_state (ended n o (piece_text p ++ r)) ≡ lined_tokens n o (x ∷ ts)
+    → tokens_from data_state (ended n o (page_part_text p ++ r)) ≡ lined_tokens n o (x ∷ ts)
 one_lined p x b s r ts is one other kept part rest n o =
-    let read : tokens_from data_state (ended n true (piece_text p ++ r))
+    let read : tokens_from data_state (ended n true (page_part_text p ++ r))
     ≡ x ∷ lined_tokens n true ts =
-    ap (tokens_from data_state) (part_ended n (piece_text p) r part)
-    ∙ piece_reads p (ended n true r) kept
+    ap (tokens_from data_state) (part_ended n (page_part_text p) r part)
+    ∙ page_part_reads p (ended n true r) kept
     ∙ ap (λ y. y ++ tokens_from data_state (ended n true r)) one
     ∙ ap (λ y. x ∷ y) (rest n) in
     ap (λ y. tokens_from data_state (ended n o (y ++ r))) is
@@ -264,7 +264,7 @@ feed_lined n o r ts h =
     ∷ lined_tokens (next_number n) false ts)
     (ap (λ x. character 0x0a ∷ end_tag (codes "span") ∷ x) h)
 
-first_of : (c : ℕ) → (b : ℕ) × ((s : List ℕ) × (piece_text (text (c ∷ [])) ≡ b ∷ s))
+first_of : (c : ℕ) → (b : ℕ) × ((s : List ℕ) × (page_part_text (text (c ∷ [])) ≡ b ∷ s))
 first_of c = by (c == 0x26 || c == 0x3c || c == 0x3e) (c == 0x26) (c == 0x3c) (c == 0x3e)
   where
     by : (e x y z : Bool) → (b : ℕ) × ((s : List ℕ) × ((if e then (if x then codes "&amp;"
@@ -306,38 +306,38 @@ text_lined (c ∷ t) r ts h rest n o =
     ∙ char_lined c (flat_map escape_text t ++ r) (map character t ++ ts) q.0
     (text_lined t r ts q.1 rest) n o
 
--- ---- pieces
+-- ---- parts
 
-pieces_lined : (ps : List Piece) → list_all is_kept_piece ps ≡ true
-    → list_all is_unbroken_piece ps ≡ true → (n : ℕ) (o : Bool)
+page_parts_lined : (ps : List PagePart) → list_all is_kept_page_part ps ≡ true
+    → list_all is_unbroken_page_part ps ≡ true → (n : ℕ) (o : Bool)
     → tokens_from data_state (ended n o (html_text ps)) ≡ lined_tokens n o (tokens_of ps)
-pieces_lined [] h k n true = refl
-pieces_lined [] h k n false = refl
-pieces_lined (p ∷ ps) h k n o =
-    let q = and_parts (is_kept_piece p) (list_all is_kept_piece ps) h in
-    let u = and_parts (is_unbroken_piece p) (list_all is_unbroken_piece ps) k in
-    piece_lined p q.0 u.0 (pieces_lined ps q.1 u.1) n o
+page_parts_lined [] h k n true = refl
+page_parts_lined [] h k n false = refl
+page_parts_lined (p ∷ ps) h k n o =
+    let q = and_parts (is_kept_page_part p) (list_all is_kept_page_part ps) h in
+    let u = and_parts (is_unbroken_page_part p) (list_all is_unbroken_page_part ps) k in
+    page_part_lined p q.0 u.0 (page_parts_lined ps q.1 u.1) n o
   where
-    piece_lined : (p : Piece) → is_kept_piece p ≡ true → is_unbroken_piece p ≡ true
+    page_part_lined : (p : PagePart) → is_kept_page_part p ≡ true → is_unbroken_page_part p ≡ true
         → ((n : ℕ) (o : Bool)
         → tokens_from data_state (ended n o (html_text ps)) ≡ lined_tokens n o (tokens_of ps))
         → (n : ℕ) (o : Bool)
-        → tokens_from data_state (ended n o (piece_text p ++ html_text ps))
-        ≡ lined_tokens n o (piece_tokens p ++ tokens_of ps)
-    piece_lined (text t) h k rest n o = text_lined t (html_text ps) (tokens_of ps) h rest n o
-    piece_lined (span true l) h k rest n o =
+        → tokens_from data_state (ended n o (page_part_text p ++ html_text ps))
+        ≡ lined_tokens n o (page_part_tokens p ++ tokens_of ps)
+    page_part_lined (text t) h k rest n o = text_lined t (html_text ps) (tokens_of ps) h rest n o
+    page_part_lined (span true l) h k rest n o =
         one_lined (span true l) _ _ _ (html_text ps) (tokens_of ps) refl refl refl refl
         (inline_stays l) (λ m. rest m true) n o
-    piece_lined (span false l) h k rest n o =
+    page_part_lined (span false l) h k rest n o =
         one_lined (span false l) _ _ _ (html_text ps) (tokens_of ps) refl refl refl refl
         (span_stays (present (look_classes l)) (present (look_styles l))) (λ m. rest m true) n o
-    piece_lined span_end h k rest n o =
+    page_part_lined span_end h k rest n o =
         one_lined span_end _ _ _ (html_text ps) (tokens_of ps) refl refl refl refl refl
         (λ m. rest m true) n o
-    piece_lined (link a) h k rest n o =
+    page_part_lined (link a) h k rest n o =
         one_lined (link a) _ _ _ (html_text ps) (tokens_of ps) refl refl refl h (link_stays a k)
         (λ m. rest m true) n o
-    piece_lined link_end h k rest n o =
+    page_part_lined link_end h k rest n o =
         one_lined link_end _ _ _ (html_text ps) (tokens_of ps) refl refl refl refl refl
         (λ m. rest m true) n o
 
@@ -364,7 +364,7 @@ end_kept true = refl
 end_kept false = refl
 
 lined_kept : (n : ℕ) (o : Bool) (t : List ℕ) → list_all is_kept t ≡ true
-    → list_all is_kept (lined n o t) ≡ true
+    → list_all is_kept (lined_page n o t) ≡ true
 lined_kept n o [] h = refl
 lined_kept n o (b ∷ t) h =
     let q = and_parts (is_kept b) (list_all is_kept t) h in
@@ -372,21 +372,21 @@ lined_kept n o (b ∷ t) h =
     (by (λ m p. lined_kept m p t q.1) (b == 0x0a))
   where
     rest : Bool → List ℕ
-    rest x = if x then line_end ++ lined (next_number n) false t else lined n true t
+    rest x = if x then line_end ++ lined_page (next_number n) false t else lined_page n true t
 
-    by : ((m : ℕ) (p : Bool) → list_all is_kept (lined m p t) ≡ true)
+    by : ((m : ℕ) (p : Bool) → list_all is_kept (lined_page m p t) ≡ true)
         → (x : Bool) → list_all is_kept (rest x) ≡ true
     by h true = h (next_number n) false
     by h false = h n true
 
-pub lines_read_back : (ps : List Piece) → list_all is_kept_piece ps ≡ true
-    → list_all is_unbroken_piece ps ≡ true → (n : ℕ)
+pub lines_read_back : (ps : List PagePart) → list_all is_kept_page_part ps ≡ true
+    → list_all is_unbroken_page_part ps ≡ true → (n : ℕ)
     → tokens (in_lines n (html_text ps)) ≡ lined_tokens n false (tokens_of ps)
 lines_read_back ps h k n =
     let t = html_text ps in
     let kept : list_all is_kept (in_lines n t) ≡ true =
-    list_all-append is_kept (lined n false t) (end_if (open_after false t))
+    list_all-append is_kept (lined_page n false t) (end_if (open_after false t))
     ∙ ap (λ b. b && list_all is_kept (end_if (open_after false t)))
-    (lined_kept n false t (all_joined piece_text is_kept_piece piece_kept ps h))
+    (lined_kept n false t (all_joined page_part_text is_kept_page_part page_part_kept ps h))
     ∙ end_kept (open_after false t) in
-    ap (tokens_from data_state) (kept_same (in_lines n t) kept) ∙ pieces_lined ps h k n false
+    ap (tokens_from data_state) (kept_same (in_lines n t) kept) ∙ page_parts_lined ps h k n false

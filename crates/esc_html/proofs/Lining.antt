@@ -5,7 +5,7 @@ use Rattle.std.specs.List.{list_all}
 use Rattle.std.proofs.lemmas.Bool.{false_from_ne_true, eqb-true}
 use Rattle.std.proofs.lemmas.Bool.Decides.{nat_tests}
 use Rattle.memchr.specs.Find.{is_byte, IsFirstByte}
-use Rattle.esc_html.specs.Lines.{begin_unless, end_if, highest, lined, next_number, number_after, numeral, open_after, open_by, with_part}
+use Rattle.esc_html.specs.Lines.{begin_unless, end_if, highest, lined_page, next_number, number_after, numeral, open_after, open_by, with_part}
 use Rattle.esc_html.specs.Lining.{EndsLines, TakesLines, WasLined}
 use Rattle.esc_html.specs.declared.line_writer.LineWriter.{LineWriter}
 use Rattle.esc_html.proofs.Lined.{line_lined, line_number, line_open, lined_more, number_more, open_more, part_lined, part_number, part_open, stays}
@@ -46,11 +46,11 @@ module _ (rest : List ℕ) (at : ℕ) (f : IsFirstByte (is_byte 0x0a) rest (Some
   run_stays = first_stay rest at f.0.high f.0.before
 
   pub line_of : (n : ℕ) (o : Bool)
-      → lined n o rest
+      → lined_page n o rest
       ≡ (begin_unless o n ++ (take at rest ++ codes "\n</span>"))
-      ++ lined (next_number n) false (drop (at + 1) rest)
+      ++ lined_page (next_number n) false (drop (at + 1) rest)
   line_of n o =
-      ap (lined n o) (cut_at rest at f.0.high f.1)
+      ap (lined_page n o) (cut_at rest at f.0.high f.1)
       ∙ line_lined n o (take at rest) (drop (at + 1) rest) run_stays
 
   pub number_of : (n : ℕ) → number_after n rest ≡ number_after (next_number n) (drop (at + 1) rest)
@@ -72,19 +72,19 @@ pub line_taken : {A : Type 0} (v w : LineWriter A) (rest run later want : List �
     → string_bytes w.text ≡ string_bytes v.text
     ++ (begin_unless v.is_open v.number ++ (run ++ codes "\n</span>"))
     → (w.number ≡ next_number v.number) × (w.is_open ≡ false)
-    → string_bytes v.text ++ lined v.number v.is_open rest ≡ want
-    → string_bytes w.text ++ lined w.number w.is_open later ≡ want
+    → string_bytes v.text ++ lined_page v.number v.is_open rest ≡ want
+    → string_bytes w.text ++ lined_page w.number w.is_open later ≡ want
 line_taken v w rest run later want at f i j text (number, shut) h =
     let old = string_bytes v.text in
     let begun = begin_unless v.is_open v.number in
     let n = next_number v.number in
-    ap (λ t. t ++ lined w.number w.is_open later) text
-    ∙ ap (λ k. (old ++ (begun ++ (run ++ codes "\n</span>"))) ++ lined k w.is_open later) number
-    ∙ ap (λ o. (old ++ (begun ++ (run ++ codes "\n</span>"))) ++ lined n o later) shut
-    ∙ ap (λ x. (old ++ (begun ++ (x ++ codes "\n</span>"))) ++ lined n false later) i
-    ∙ ap (λ x. (old ++ (begun ++ (take at rest ++ codes "\n</span>"))) ++ lined n false x) j
+    ap (λ t. t ++ lined_page w.number w.is_open later) text
+    ∙ ap (λ k. (old ++ (begun ++ (run ++ codes "\n</span>"))) ++ lined_page k w.is_open later) number
+    ∙ ap (λ o. (old ++ (begun ++ (run ++ codes "\n</span>"))) ++ lined_page n o later) shut
+    ∙ ap (λ x. (old ++ (begun ++ (x ++ codes "\n</span>"))) ++ lined_page n false later) i
+    ∙ ap (λ x. (old ++ (begun ++ (take at rest ++ codes "\n</span>"))) ++ lined_page n false x) j
     ∙ append_assoc old (begun ++ (take at rest ++ codes "\n</span>"))
-    (lined n false (drop (at + 1) rest))
+    (lined_page n false (drop (at + 1) rest))
     ∙ ap (λ x. old ++ x) (sym (line_of rest at f v.number v.is_open)) ∙ h
 
 pub number_taken : (m n : ℕ) (rest later : List ℕ) (at want : ℕ)
@@ -108,7 +108,7 @@ on_ok_both P Q R (Ok x) f p q = f p q
 on_ok_both P Q R (Err e) f p q = tt
 
 pub taken : {A : Type 0} (first : ℕ) (s t : List ℕ) (v w : LineWriter A)
-    → WasLined first s v → string_bytes w.text ≡ lined v.number v.is_open t
+    → WasLined first s v → string_bytes w.text ≡ lined_page v.number v.is_open t
     → w.number ≡ number_after v.number t → w.is_open ≡ open_after v.is_open t
     → TakesLines first s t w
 taken first s t v w h text number o = (
@@ -117,15 +117,15 @@ taken first s t v w h text number o = (
     begun = o ∙ ap (λ p. open_after p t) h.begun ∙ sym (open_more false s t);
   },
   lined_more first false s t
-      ∙ ap (λ x. lined first false s ++ x)
-      (ap (λ n. lined n (open_after false s) t) (sym h.number)
-      ∙ ap (λ o. lined v.number o t) (sym h.begun) ∙ sym text),
+      ∙ ap (λ x. lined_page first false s ++ x)
+      (ap (λ n. lined_page n (open_after false s) t) (sym h.number)
+      ∙ ap (λ o. lined_page v.number o t) (sym h.begun) ∙ sym text),
 )
 
 -- the last part of it, which ends no line
 pub last_taken : {A : Type 0} (first : ℕ) (s t rest : List ℕ) (v l w : LineWriter A)
     → WasLined first s v → list_all stays rest ≡ true
-    → string_bytes l.text ++ lined l.number l.is_open rest ≡ lined v.number v.is_open t
+    → string_bytes l.text ++ lined_page l.number l.is_open rest ≡ lined_page v.number v.is_open t
     → number_after l.number rest ≡ number_after v.number t
     → open_after l.is_open rest ≡ open_after v.is_open t
     → string_bytes w.text ≡ string_bytes l.text ++ with_part l.number l.is_open rest
@@ -143,10 +143,10 @@ pub at_end : {A : Type 0} (first : ℕ) (s t x : List ℕ) (w z : LineWriter A)
     → end_if w.is_open ≡ x → EndsLines first s t z
 at_end first s t x w z (h, e) text is =
     ap (λ y. y ++ end_if (open_after false (s ++ t))) e
-    ∙ ap (λ o. (lined first false s ++ string_bytes w.text) ++ end_if o) (sym h.begun)
-    ∙ append_assoc (lined first false s) (string_bytes w.text) (end_if w.is_open)
-    ∙ ap (λ y. lined first false s ++ (string_bytes w.text ++ y)) is
-    ∙ ap (λ y. lined first false s ++ y) (sym text)
+    ∙ ap (λ o. (lined_page first false s ++ string_bytes w.text) ++ end_if o) (sym h.begun)
+    ∙ append_assoc (lined_page first false s) (string_bytes w.text) (end_if w.is_open)
+    ∙ ap (λ y. lined_page first false s ++ (string_bytes w.text ++ y)) is
+    ∙ ap (λ y. lined_page first false s ++ y) (sym text)
 
 -- ---- the beginning of a line
 

@@ -1,12 +1,12 @@
--- What is read of pieces is on the list, and nests where the pieces do.
+-- What is read of parts is on the list, and nests where the parts do.
 use Rattle.std.proofs.Common.{ℕ, ◌≡◌, ◌&&◌, not, true, inl, inr, List, [], ◌∷◌, ◌++◌, codes, map, refl, ap, sym, ◌∙◌, subst}
 use Rattle.std.specs.List.{All, list_all}
 use Rattle.std.proofs.lemmas.Bool.{and_parts}
 use Rattle.std.proofs.lemmas.List.Elements.{All-append, All-cons, All-nil}
-use Rattle.esc_html.specs.Listed.{IsListed, closes, has_open_link, is_safe_piece}
-use Rattle.esc_html.specs.Pieces.{Open, Piece, text, span, span_end, link, link_end, open_span, open_link, html_text, is_kept_piece, has_link, nests, piece_tokens, span_attributes, tokens_of}
+use Rattle.esc_html.specs.Listed.{IsListed, closes, has_open_link, is_safe_page_part}
+use Rattle.esc_html.specs.PageParts.{Open, PagePart, text, span, span_end, link, link_end, open_span, open_link, html_text, is_kept_page_part, has_link, nests, page_part_tokens, span_attributes, tokens_of}
 use Rattle.esc_html.specs.Tokens.{Token, character, start_tag, end_tag, tokens}
-use Rattle.esc_html.proofs.Reading.{pieces_read_back}
+use Rattle.esc_html.proofs.Reading.{page_parts_read_back}
 
 characters_listed : (t : List ℕ) → All IsListed (map character t)
 characters_listed [] = All-nil IsListed
@@ -16,27 +16,29 @@ characters_listed (c ∷ t) = All-cons IsListed (character c) (map character t) 
 one_listed : (t : Token) → IsListed t → All IsListed (t ∷ [])
 one_listed t h = All-cons IsListed t [] h (All-nil IsListed)
 
-piece_listed : (p : Piece) → is_safe_piece p ≡ true → All IsListed (piece_tokens p)
-piece_listed (text t) h = characters_listed t
-piece_listed (span b l) h =
+page_part_listed : (p : PagePart) → is_safe_page_part p ≡ true → All IsListed (page_part_tokens p)
+page_part_listed (text t) h = characters_listed t
+page_part_listed (span b l) h =
     one_listed (start_tag (codes "span") (span_attributes b l)) (inl (refl, (b, l, refl)))
-piece_listed span_end h = one_listed (end_tag (codes "span")) (inl refl)
-piece_listed (link a) h =
+page_part_listed span_end h = one_listed (end_tag (codes "span")) (inl refl)
+page_part_listed (link a) h =
     one_listed (start_tag (codes "a")
     ((codes "href", a) ∷ (codes "rel", codes "nofollow noopener noreferrer") ∷ []))
     (inr (refl, (a, h, refl)))
-piece_listed link_end h = one_listed (end_tag (codes "a")) (inr refl)
+page_part_listed link_end h = one_listed (end_tag (codes "a")) (inr refl)
 
-all_listed : (ps : List Piece) → list_all is_safe_piece ps ≡ true → All IsListed (tokens_of ps)
+all_listed : (ps : List PagePart) → list_all is_safe_page_part ps ≡ true
+    → All IsListed (tokens_of ps)
 all_listed [] h = All-nil IsListed
 all_listed (p ∷ ps) h =
-    let q = and_parts (is_safe_piece p) (list_all is_safe_piece ps) h in
-    All-append IsListed (piece_tokens p) (tokens_of ps) (piece_listed p q.0) (all_listed ps q.1)
+    let q = and_parts (is_safe_page_part p) (list_all is_safe_page_part ps) h in
+    All-append IsListed (page_part_tokens p) (tokens_of ps) (page_part_listed p q.0)
+    (all_listed ps q.1)
 
-pub pieces_are_listed : (ps : List Piece) → list_all is_kept_piece ps ≡ true
-    → list_all is_safe_piece ps ≡ true → All IsListed (tokens (html_text ps))
-pieces_are_listed ps h k =
-    subst (All IsListed) (sym (pieces_read_back ps h)) (all_listed ps k)
+pub page_parts_are_listed : (ps : List PagePart) → list_all is_kept_page_part ps ≡ true
+    → list_all is_safe_page_part ps ≡ true → All IsListed (tokens (html_text ps))
+page_parts_are_listed ps h k =
+    subst (All IsListed) (sym (page_parts_read_back ps h)) (all_listed ps k)
 
 -- ---- nesting
 
@@ -57,7 +59,7 @@ links_open (open_span ∷ os) = links_open os
 links_open (open_link ∷ os) = refl
 
 -- a link begins
-link_begins : (os : List Open) (ps : List Piece)
+link_begins : (os : List Open) (ps : List PagePart)
     → not (has_link os) && nests (open_link ∷ os) ps ≡ true
     → (nests (open_link ∷ os) ps ≡ true
     → closes (map name_of (open_link ∷ os)) (tokens_of ps) ≡ true)
@@ -67,7 +69,7 @@ link_begins os ps h k =
     let q = and_parts (not (has_link os)) (nests (open_link ∷ os) ps) h in
     rw (links_open os, q.0, k q.1) refl
 
-all_close : (os : List Open) (ps : List Piece) → nests os ps ≡ true
+all_close : (os : List Open) (ps : List PagePart) → nests os ps ≡ true
     → closes (map name_of os) (tokens_of ps) ≡ true
 all_close [] [] h = refl
 all_close (o ∷ os) [] h = absurd cc
@@ -86,6 +88,7 @@ all_close [] (link_end ∷ ps) h = absurd cc
 all_close (open_span ∷ os) (link_end ∷ ps) h = absurd cc
 all_close (open_link ∷ os) (link_end ∷ ps) h = all_close os ps h
 
-pub pieces_close : (ps : List Piece) → list_all is_kept_piece ps ≡ true → nests [] ps ≡ true
+pub page_parts_close : (ps : List PagePart) → list_all is_kept_page_part ps ≡ true → nests [] ps
+    ≡ true
     → closes [] (tokens (html_text ps)) ≡ true
-pieces_close ps h k = ap (closes []) (pieces_read_back ps h) ∙ all_close [] ps k
+page_parts_close ps h k = ap (closes []) (page_parts_read_back ps h) ∙ all_close [] ps k

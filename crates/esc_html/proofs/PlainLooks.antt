@@ -1,10 +1,10 @@
 -- A look without renditions, field by field, has neither a class nor a style.
 use Rattle.std.proofs.Common.{ℕ, ◌≡◌, Bool, true, false, ◌&&◌, refl}
 use Rattle.esc_html.specs.Plain.{is_colorless, is_markless}
-use Rattle.esc_looks.specs.Looks.{is_plain}
-use Rattle.esc_looks.specs.declared.color.Color.{Color}
-use Rattle.esc_looks.specs.declared.color.Color.TheVariants.{Default, Named, Palette, Direct}
-use Rattle.esc_looks.specs.declared.look.Look.{Look}
+use Rattle.esc_style.specs.Looks.{is_plain}
+use Rattle.esc_style.specs.declared.color.Color.{Color}
+use Rattle.esc_style.specs.declared.color.Color.TheVariants.{Default, Named, Palette, Direct}
+use Rattle.esc_style.specs.declared.look.Look.{Look}
 use Rattle.esc_sequences.specs.declared.underline.Underline.{Underline}
 use Rattle.esc_sequences.specs.declared.underline.Underline.TheVariants as underline
 

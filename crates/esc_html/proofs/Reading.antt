@@ -1,4 +1,4 @@
--- The tokenizer reads the text of pieces as their tokens.
+-- The tokenizer reads the text of parts as their tokens.
 use Rattle.std.proofs.Common.{ℕ, ◌≡◌, ◌<◌, ◌+◌, ◌/◌, ◌%◌, Bool, true, false, not, nat_le, nat_lt, ◌&&◌, ◌||◌, ◌==◌, if◌then◌else◌, inl, inr, List, [], ◌∷◌, ◌++◌, codes, map, Option, Some, None, refl, ap, sym, ◌∙◌, append_assoc, arith}
 use Rattle.std.specs.List.{flat_map, list_all}
 use Rattle.std.proofs.lemmas.Bool.Decides.{nat_tests}
@@ -6,25 +6,25 @@ use Rattle.std.proofs.lemmas.Grind.{flat_map-append}
 use Rattle.std.proofs.lemmas.Bool.{eqb-true, cases_Bool, and_parts, not-true}
 use Rattle.std.proofs.lemmas.List.Folds.{list_all-append}
 use Rattle.std.proofs.lemmas.List.{append-nil}
-use Rattle.esc_typed.specs.declared.ansi_color.AnsiColor.{AnsiColor}
-use Rattle.esc_typed.specs.declared.ansi_color.AnsiColor.TheVariants as ansi
+use Rattle.typed_functions.specs.declared.ansi_color.AnsiColor.{AnsiColor}
+use Rattle.typed_functions.specs.declared.ansi_color.AnsiColor.TheVariants as ansi
 use Rattle.esc_html.specs.Names.{more_span_names, span_name, span_names}
-use Rattle.esc_looks.specs.Classes.{class_name, color_name, index_digits, index_of, index_text, stem, two_digits}
-use Rattle.esc_looks.specs.Colors.{color_code, hex_byte, hex_digit}
-use Rattle.esc_looks.specs.Looks.{look_classes, look_styles, present, seen_foreground, shown_background}
-use Rattle.esc_looks.specs.Styles.{style_color, style_property, style_text, styles_text}
-use Rattle.esc_looks.specs.declared.color.Color.{Color}
-use Rattle.esc_looks.specs.declared.look.Look.{Look}
-use Rattle.esc_looks.specs.declared.style.Style.{Style}
-use Rattle.esc_looks.specs.declared.style.Style.TheVariants as style
+use Rattle.esc_style.specs.Classes.{class_name, color_name, index_digits, index_of, index_text, stem, two_digits}
+use Rattle.esc_style.specs.Colors.{color_code, hex_byte, hex_digit}
+use Rattle.esc_style.specs.Looks.{look_classes, look_styles, present, seen_foreground, shown_background}
+use Rattle.esc_style.specs.Styles.{style_color, style_property, style_text, styles_text}
+use Rattle.esc_style.specs.declared.color.Color.{Color}
+use Rattle.esc_style.specs.declared.look.Look.{Look}
+use Rattle.esc_style.specs.declared.style.Style.{Style}
+use Rattle.esc_style.specs.declared.style.Style.TheVariants as style
 use Rattle.esc_sequences.specs.declared.underline.Underline.{Underline as UnderlineKind}
 use Rattle.esc_sequences.specs.declared.underline.Underline.TheVariants as underline
 use Rattle.esc_html.specs.Inline.{background_style, background_text, color_style, colors_text, declared_as, decoration_style, decoration_text, foreground_text, inline_text, is_underlined, keywords_text, kind_text, lines_text, rgb_of, slant_text, weight_text}
 use Rattle.esc_html.specs.Shades.{around_rgb, text_rgb}
-use Rattle.esc_html.specs.Pieces.{Piece, text, span, span_end, link, link_end, escape, escape_text, escape_value, piece_text, html_text, piece_tokens, tokens_of, is_kept, is_kept_piece, attribute_text, attributes_text, class_attribute, style_attribute}
-use Rattle.esc_html.specs.Tokens.{Tag, character, start_tag, data_state, value, after_value, with_attribute, tokens_from, normalized, tokens}
-use Rattle.esc_looks.specs.declared.class.Class.{Class}
-use Rattle.esc_looks.specs.declared.class.Class.TheVariants.{Background, Blink, Bold, Concealed, CurlyUnderline, DashedUnderline, DottedUnderline, DoubleUnderline, Faint, Foreground, Inverse, Italic, Overline, PaletteBackground, PaletteForeground, PaletteUnderline, Strikethrough, Underline, UnderlineColor}
+use Rattle.esc_html.specs.PageParts.{PagePart, text, span, span_end, link, link_end, escape, escape_text, escape_value, page_part_text, html_text, page_part_tokens, tokens_of, is_kept, is_kept_page_part, attribute_text, attributes_text, class_attribute, style_attribute}
+use Rattle.esc_html.specs.Tokens.{Tag, character, start_tag, data_state, value, after_value, with_attribute, tokens_from, normal_line_ends, tokens}
+use Rattle.esc_style.specs.declared.class.Class.{Class}
+use Rattle.esc_style.specs.declared.class.Class.TheVariants.{Background, Blink, Bold, Concealed, CurlyUnderline, DashedUnderline, DottedUnderline, DoubleUnderline, Faint, Foreground, Inverse, Italic, Overline, PaletteBackground, PaletteForeground, PaletteUnderline, Strikethrough, Underline, UnderlineColor}
 
 -- ---- text
 
@@ -361,33 +361,34 @@ span_reads (c ∷ cs) (s ∷ ss) r =
     ∙ last_reads (with_attribute t (codes "class") v) (codes "style") (styles_text (s ∷ ss)) r
     (styles_plain (s ∷ ss))
 
--- ---- pieces
+-- ---- parts
 
-pub piece_reads : (p : Piece) (r : List ℕ) → is_kept_piece p ≡ true
-    → tokens_from data_state (piece_text p ++ r) ≡ piece_tokens p ++ tokens_from data_state r
-piece_reads (text t) r h = text_chars t r
-piece_reads (span true l) r h =
+pub page_part_reads : (p : PagePart) (r : List ℕ) → is_kept_page_part p ≡ true
+    → tokens_from data_state (page_part_text p ++ r) ≡ page_part_tokens p
+    ++ tokens_from data_state r
+page_part_reads (text t) r h = text_chars t r
+page_part_reads (span true l) r h =
     last_reads (begun (codes "span")) (codes "style") (inline_text l) r (inline_plain l)
-piece_reads (span false l) r h =
+page_part_reads (span false l) r h =
     span_reads (present (look_classes l)) (present (look_styles l)) r
-piece_reads span_end r h = refl
-piece_reads (link a) r h =
+page_part_reads span_end r h = refl
+page_part_reads (link a) r h =
     ap (tokens_from (value (begun (codes "a")) (codes "href") []))
     (append_assoc (flat_map escape_value a) (codes "\" rel=\"nofollow noopener noreferrer\">") r)
     ∙ value_chars (begun (codes "a")) (codes "href") [] a
     (codes "\" rel=\"nofollow noopener noreferrer\">" ++ r) h
-piece_reads link_end r h = refl
+page_part_reads link_end r h = refl
 
-all_read : (ps : List Piece) → list_all is_kept_piece ps ≡ true
+all_read : (ps : List PagePart) → list_all is_kept_page_part ps ≡ true
     → tokens_from data_state (html_text ps) ≡ tokens_of ps
 all_read [] h = refl
 all_read (p ∷ ps) h =
-    let q = and_parts (is_kept_piece p) (list_all is_kept_piece ps) h in
-    piece_reads p (html_text ps) q.0 ∙ ap (λ ts. piece_tokens p ++ ts) (all_read ps q.1)
+    let q = and_parts (is_kept_page_part p) (list_all is_kept_page_part ps) h in
+    page_part_reads p (html_text ps) q.0 ∙ ap (λ ts. page_part_tokens p ++ ts) (all_read ps q.1)
 
 -- ---- newlines
 
-pub kept_same : (s : List ℕ) → list_all is_kept s ≡ true → normalized false s ≡ s
+pub kept_same : (s : List ℕ) → list_all is_kept s ≡ true → normal_line_ends false s ≡ s
 kept_same [] h = refl
 kept_same (c ∷ s) h =
     let q = and_parts (is_kept c) (list_all is_kept s) h in
@@ -465,22 +466,23 @@ inline_kept l =
       quoted_kept (inline_text l) (inline_plain l),
     ) refl
 
-pub piece_kept : (p : Piece) → is_kept_piece p ≡ true → list_all is_kept (piece_text p) ≡ true
-piece_kept (text t) h = all_joined escape_text is_kept (kept_escaped 0x3e) t h
-piece_kept (span true l) h = inline_kept l
-piece_kept (span false l) h = span_kept (present (look_classes l)) (present (look_styles l))
-piece_kept span_end h = refl
-piece_kept (link a) h =
+pub page_part_kept : (p : PagePart) → is_kept_page_part p ≡ true
+    → list_all is_kept (page_part_text p) ≡ true
+page_part_kept (text t) h = all_joined escape_text is_kept (kept_escaped 0x3e) t h
+page_part_kept (span true l) h = inline_kept l
+page_part_kept (span false l) h = span_kept (present (look_classes l)) (present (look_styles l))
+page_part_kept span_end h = refl
+page_part_kept (link a) h =
     rw (
       list_all-append is_kept (flat_map escape_value a)
           (codes "\" rel=\"nofollow noopener noreferrer\">"),
       all_joined escape_value is_kept (kept_escaped 0x22) a h,
     ) refl
-piece_kept link_end h = refl
+page_part_kept link_end h = refl
 
-pub pieces_read_back : (ps : List Piece) → list_all is_kept_piece ps ≡ true
+pub page_parts_read_back : (ps : List PagePart) → list_all is_kept_page_part ps ≡ true
     → tokens (html_text ps) ≡ tokens_of ps
-pieces_read_back ps h =
+page_parts_read_back ps h =
     ap (tokens_from data_state)
-    (kept_same (html_text ps) (all_joined piece_text is_kept_piece piece_kept ps h))
+    (kept_same (html_text ps) (all_joined page_part_text is_kept_page_part page_part_kept ps h))
     ∙ all_read ps h

@@ -17,8 +17,8 @@ use Rattle.esc_values.specs.Clear.{is_clear}
 use Rattle.esc_html.specs.Characters.{is_character}
 use Rattle.esc_html.specs.Fed.{Adds, Takes, is_visible, state_of, text_of, with_text}
 use Rattle.esc_html.specs.Marks.{ends_line, print_step, shows}
-use Rattle.esc_html.specs.Pages.{after_character, before_character, opened, with_tags}
-use Rattle.esc_html.specs.Pieces.{escape_text, html_text, piece_text, text}
+use Rattle.esc_html.specs.Pages.{after_character, before_character, opening_tags, with_tags}
+use Rattle.esc_html.specs.PageParts.{escape_text, html_text, page_part_text, text}
 use Rattle.esc_html.specs.declared.page.Page.{Page}
 use Rattle.esc_html.specs.declared.tags.Tags.TheVariants.{Open}
 use Rattle.esc_html.proofs.Characters.{low_character, stays}
@@ -59,7 +59,7 @@ pub text_more : {A : Type 0} (p : Page A) (s t : List ℕ)
 text_more p [] t = refl
 text_more p (b ∷ s) [] = ap (with_text p) (sym (append-nil (b ∷ s)))
 text_more p (b ∷ s) (c ∷ t) =
-    let o = html_text (opened (state_of p)) in
+    let o = html_text (opening_tags (state_of p)) in
     let one = flat_map escape_text (b ∷ s) in
     let two = flat_map escape_text (c ∷ t) in
     ap (λ x. record p { html = x; tags = Open })
@@ -80,13 +80,13 @@ text_next p q want rest run later at (n, e) i j k h =
 -- ---- character by character
 
 shown_text : {A : Type 0} (p : Page A) (t : List ℕ) → 0 < length t
-    → text_of (with_text p t) ≡ p.html ++ html_text (opened (state_of p) ++ text t ∷ [])
+    → text_of (with_text p t) ≡ p.html ++ html_text (opening_tags (state_of p) ++ text t ∷ [])
 shown_text p [] l = absurd (omega (arith, l))
 shown_text p (b ∷ t) l =
-    let o = opened (state_of p) in
+    let o = opening_tags (state_of p) in
     ap (λ x. p.html ++ x) (ap (λ x. html_text o ++ x)
     (sym (append-nil (flat_map escape_text (b ∷ t))))
-    ∙ sym (flat_map-append piece_text o (text (b ∷ t) ∷ [])))
+    ∙ sym (flat_map-append page_part_text o (text (b ∷ t) ∷ [])))
 
 shown_state : {A : Type 0} (p : Page A) (t : List ℕ) → 0 < length t
     → state_of (with_text p t) ≡ with_tags (state_of p) Open

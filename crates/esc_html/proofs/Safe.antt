@@ -1,4 +1,4 @@
--- The pieces of a stream are kept and safe.
+-- The parts of a stream are kept and safe.
 use Rattle.std.proofs.Common.{ℕ, suc, ◌≡◌, ◌<◌, ◌-◌, ◌==◌, Bool, true, false, not, ◌&&◌, if◌then◌else◌, inl, inr, List, [], ◌∷◌, ◌++◌, length, get_or, Option, Some, None, is_some, chars, refl, ap, sym, subst, ◌∙◌, append_assoc, arith}
 use Rattle.std.specs.Char.{encode_utf8}
 use Rattle.std.specs.List.{list_all}
@@ -10,20 +10,20 @@ use Rattle.std.proofs.lemmas.List.Folds.{list_all-append}
 use Rattle.std.proofs.lemmas.Str.{encodes-chars, inside_one}
 use Rattle.esc_actions.specs.ControlCodes.{code_number}
 use Rattle.esc_actions.specs.Values.{Value, print, string, control, esc, csi, osc, kitty, sixel, termcap, short, enter, datum, exit}
-use Rattle.esc_actions.specs.Writable.{AreHandedOut, IsHandedOut}
+use Rattle.esc_actions.specs.Writable.{EmittedAreWritable, IsHandedOut}
 use Rattle.esc_links.specs.declared.hyperlink.Hyperlink.{Hyperlink}
 use Rattle.esc_osc.specs.declared.command.OperatingSystemCommand.{OperatingSystemCommand}
 use Rattle.esc_osc.specs.declared.command.OperatingSystemCommand.TheVariants as command
 use Rattle.esc_sequences.specs.declared.esc.Esc.{Esc}
-use Rattle.esc_typed.specs.Functions.{Value as Function, of_csi, cursor, edit, device, keyboard, mouse, window, mode_status, charset, escape, modes, tabs, renditions, other}
+use Rattle.typed_functions.specs.Functions.{Value as Function, of_csi, cursor, edit, device, keyboard, mouse, window, mode_status, charset, escape, modes, tabs, renditions, other}
 use Rattle.esc_values.specs.Clear.{is_clear}
 use Rattle.esc_html.specs.Addresses.{is_address_char, is_safe_address}
 use Rattle.esc_html.specs.Characters.{is_noncharacter, shown_as}
-use Rattle.esc_looks.specs.Looks.{is_plain}
+use Rattle.esc_style.specs.Looks.{is_plain}
 use Rattle.esc_html.specs.Marks.{Pen, Step, restyles, redirects, shows, nothing, address_if, address_of, begins_line, command_step, control_step, ends_line, escape_begins_line, escape_step, function_step, is_page_address, print_step, step_of}
-use Rattle.esc_html.specs.Pages.{State, after_character, before_character, closed, closing, link_end_if, link_opening, opening, pieces_by, pieces_from, span_closing, span_end_unless, span_unless, state_by, state_from}
-use Rattle.esc_html.specs.Pieces.{Piece, text, span, span_end, link, link_end, is_kept, is_unbroken}
-use Rattle.esc_looks.specs.declared.look.Look.{Look}
+use Rattle.esc_html.specs.Pages.{State, after_character, before_character, closed, closing, link_end_if, link_opening, opening, page_parts_by, page_parts_from, span_closing, span_end_unless, span_unless, state_by, state_from}
+use Rattle.esc_html.specs.PageParts.{PagePart, text, span, span_end, link, link_end, is_kept, is_unbroken}
+use Rattle.esc_style.specs.declared.look.Look.{Look}
 use Rattle.esc_html.specs.declared.tags.Tags.{Tags}
 use Rattle.esc_html.specs.declared.tags.Tags.TheVariants.{Closed, Link, Open}
 
@@ -211,9 +211,9 @@ good_state pl g (redirects q) h k = k
 good_state pl g (shows c) h k = good_next (ends_line pl c) g h
 good_state pl g nothing h k = h
 
--- ---- a test that such pieces pass
+-- ---- a test that such parts pass
 
-module _ (T : Piece → Bool) (on_span : (i : Bool) (l : Look) → T (span i l) ≡ true)
+module _ (T : PagePart → Bool) (on_span : (i : Bool) (l : Look) → T (span i l) ≡ true)
     (on_span_end : T span_end ≡ true) (on_link_end : T link_end ≡ true)
     (on_text : (t : List ℕ) → list_all is_kept t ≡ true → T (text t) ≡ true)
     (on_link : (a : List ℕ) → is_page_address a ≡ true → T (link a) ≡ true) where
@@ -263,7 +263,7 @@ module _ (T : Piece → Bool) (on_span : (i : Bool) (l : Look) → T (span i l) 
   before_passes false g h = opened_passes g.tags g.pen h
 
   step_passes : (pl : Bool) (g : State) (s : Step) → IsGoodLink g.pen.link → IsGoodStep s
-      → list_all T (pieces_by pl g s) ≡ true
+      → list_all T (page_parts_by pl g s) ≡ true
   step_passes pl g (restyles l) h k = restyled_passes g.tags g.pen
   step_passes pl g (redirects q) h k = closed_passes g.tags g.pen
   step_passes pl g (shows c) h k =
@@ -273,15 +273,15 @@ module _ (T : Piece → Bool) (on_span : (i : Bool) (l : Look) → T (span i l) 
   step_passes pl g nothing h k = refl
 
   pub page_passes : {A : Type 0} (pl : Bool) (g : State) (vs : List (Value A))
-      → IsGoodLink g.pen.link → AreHandedOut vs
-      → list_all T (pieces_from pl g vs ++ closed (state_from pl g vs)) ≡ true
+      → IsGoodLink g.pen.link → EmittedAreWritable vs
+      → list_all T (page_parts_from pl g vs ++ closed (state_from pl g vs)) ≡ true
   page_passes pl g [] h k = closed_passes g.tags g.pen
   page_passes pl g (v ∷ vs) h (k, ks) =
       let s = step_of g.pen v in
       let good = good_step g.pen v k in
-      let rest = pieces_from pl (state_by pl g s) vs in
+      let rest = page_parts_from pl (state_by pl g s) vs in
       let last = closed (state_from pl (state_by pl g s) vs) in
-      ap (list_all T) (append_assoc (pieces_by pl g s) rest last)
-      ∙ list_all-append T (pieces_by pl g s) (rest ++ last)
+      ap (list_all T) (append_assoc (page_parts_by pl g s) rest last)
+      ∙ list_all-append T (page_parts_by pl g s) (rest ++ last)
       ∙ ap (λ b. b && list_all T (rest ++ last)) (step_passes pl g s h good)
       ∙ page_passes pl (state_by pl g s) vs (good_state pl g s h good) ks

@@ -8,7 +8,7 @@ use Rattle.esc_html.specs.Fed.{Adds, Takes, state_of}
 use Rattle.esc_html.specs.Marks.{Pen, function_step, restyles}
 use Rattle.esc_html.specs.Renditions.{rendition_of}
 use Rattle.esc_html.specs.declared.page.Page.{Page}
-use Rattle.esc_looks.specs.Looks.{look_by}
+use Rattle.esc_style.specs.Looks.{look_by}
 use Rattle.esc_parse.specs.Given.{By, StopsAt}
 use Rattle.esc_sequences.specs.Csis.{CsiValue, sgr, unspecified}
 use Rattle.esc_sequences.specs.declared.csi.CSI.TheVariants as csi_variant
@@ -16,9 +16,9 @@ use Rattle.esc_sequences.specs.declared.intensity.Intensity.TheVariants as inten
 use Rattle.esc_sequences.specs.declared.sgr.Sgr.{Sgr}
 use Rattle.esc_sequences.specs.declared.sgr.Sgr.TheVariants as known
 use Rattle.esc_sequences.specs.declared.underline.Underline.TheVariants as underline
-use Rattle.esc_typed.specs.Functions.{of_csi}
+use Rattle.typed_functions.specs.Functions.{of_csi}
 use Rattle.esc_values.specs.declared.csi_param.CsiParam.{CsiParam}
-use Rattle.memory.specs.Refusals.{Refused}
+use Rattle.fallible_alloc.specs.Refusals.{Refused}
 
 -- the action is this control sequence
 abbrev IsSequence : {A : Type 0} → Action A → CsiValue → Type 0

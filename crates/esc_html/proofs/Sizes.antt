@@ -1,4 +1,4 @@
--- How long pieces are.
+-- How long parts are.
 use Rattle.std.proofs.Common.{ℕ, ◌≡◌, ◌≤◌, ◌+◌, ◌*◌, ◌/◌, ◌%◌, nat_lt, Bool, true, false, ◌||◌, ◌==◌, if◌then◌else◌, inl, inr, List, [], ◌∷◌, ◌++◌, codes, length, Option, Some, None, refl, ap, ◌∙◌, subst, arith}
 use Rattle.std.specs.Char.{encode_utf8}
 use Rattle.std.specs.List.{flat_map}
@@ -8,22 +8,22 @@ use Rattle.std.proofs.lemmas.List.{append-nil, length-append}
 use Rattle.std.proofs.lemmas.Str.{len_utf8_bounds, length-encode}
 use Rattle.esc_html.specs.Inline.{background_style as around_style, background_text, color_style, colors_text, declared_as, decoration_style, decoration_text, foreground_text, inline_text, is_underlined, keywords_text, kind_text, lines_text, rgb_of, slant_text, weight_text}
 use Rattle.esc_html.specs.Shades.{around_rgb, text_rgb}
-use Rattle.esc_html.specs.Pieces.{attribute_text, attributes_text, class_attribute, escape, escape_text, escape_value, needs_reference, piece_text, reference_text, span, style_attribute}
+use Rattle.esc_html.specs.PageParts.{attribute_text, attributes_text, class_attribute, escape, escape_text, escape_value, needs_reference, page_part_text, reference_text, span, style_attribute}
 use Rattle.esc_html.proofs.Encoded.{referenced, unreferenced}
 use Rattle.esc_html.specs.Names.{more_span_names, span_name, span_names}
-use Rattle.esc_looks.specs.Classes.{color_name, index_digits, two_digits}
-use Rattle.esc_looks.specs.Looks.{background_class, background_style, class_if, foreground_class, foreground_style, look_classes, look_styles, present, seen_foreground, shown_background, underline_class, underline_color_class, underline_color_style}
-use Rattle.esc_looks.specs.Styles.{style_text, styles_text}
-use Rattle.esc_looks.specs.declared.class.Class.{Class}
-use Rattle.esc_looks.specs.declared.class.Class.TheVariants as class
-use Rattle.esc_looks.specs.declared.color.Color.{Color}
-use Rattle.esc_looks.specs.declared.color.Color.TheVariants.{Default, Named, Palette, Direct}
-use Rattle.esc_looks.specs.declared.look.Look.{Look}
-use Rattle.esc_looks.specs.declared.style.Style.{Style}
+use Rattle.esc_style.specs.Classes.{color_name, index_digits, two_digits}
+use Rattle.esc_style.specs.Looks.{background_class, background_style, class_if, foreground_class, foreground_style, look_classes, look_styles, present, seen_foreground, shown_background, underline_class, underline_color_class, underline_color_style}
+use Rattle.esc_style.specs.Styles.{style_text, styles_text}
+use Rattle.esc_style.specs.declared.class.Class.{Class}
+use Rattle.esc_style.specs.declared.class.Class.TheVariants as class
+use Rattle.esc_style.specs.declared.color.Color.{Color}
+use Rattle.esc_style.specs.declared.color.Color.TheVariants.{Default, Named, Palette, Direct}
+use Rattle.esc_style.specs.declared.look.Look.{Look}
+use Rattle.esc_style.specs.declared.style.Style.{Style}
 use Rattle.esc_sequences.specs.declared.underline.Underline.{Underline}
 use Rattle.esc_sequences.specs.declared.underline.Underline.TheVariants as underline
-use Rattle.esc_typed.specs.declared.ansi_color.AnsiColor.{AnsiColor}
-use Rattle.esc_typed.specs.declared.ansi_color.AnsiColor.TheVariants as ansi
+use Rattle.typed_functions.specs.declared.ansi_color.AnsiColor.{AnsiColor}
+use Rattle.typed_functions.specs.declared.ansi_color.AnsiColor.TheVariants as ansi
 
 -- ---- characters
 
@@ -289,7 +289,7 @@ tag_size x y =
       one,
     )
 
-class_span_size : (l : Look) → length (piece_text (span false l)) ≤ 231
+class_span_size : (l : Look) → length (page_part_text (span false l)) ≤ 231
 class_span_size l =
     let cs = present (look_classes l) in
     let ss = present (look_styles l) in
@@ -405,7 +405,7 @@ colors_text_size l =
       line_text_size l.underline_color,
     )
 
-inline_span_size : (l : Look) → length (piece_text (span true l)) ≤ 231
+inline_span_size : (l : Look) → length (page_part_text (span true l)) ≤ 231
 inline_span_size l =
     omega (
       arith,
@@ -417,6 +417,6 @@ inline_span_size l =
     )
 
 -- a start tag of a span
-pub span_size : (i : Bool) (l : Look) → length (piece_text (span i l)) ≤ 231
+pub span_size : (i : Bool) (l : Look) → length (page_part_text (span i l)) ≤ 231
 span_size true l = inline_span_size l
 span_size false l = class_span_size l

@@ -12,18 +12,18 @@ use Rattle.esc_frame.specs.declared.classes.Kind.TheVariants as kind
 use Rattle.esc_frame.specs.declared.utf8.sequence.Outcome.{Outcome}
 use Rattle.esc_frame.specs.declared.utf8.sequence.Outcome.TheVariants as outcomes
 use Rattle.esc_frame.specs.Bodies.{is_csi_body}
-use Rattle.esc_frame.specs.Classes.{class_of, in_csi, in_escape, in_osc, is_breaker, is_c0, is_c1, is_control, is_put, is_text, strip, those}
+use Rattle.esc_frame.specs.Classes.{class_of, in_csi, in_escape, in_osc, is_breaker, is_c0, is_c1, is_control, is_put, is_text, without_noise, bytes_of_class}
 use Rattle.esc_frame.specs.Events.{Event}
 use Rattle.esc_frame.specs.Events.Event.{Print, Execute, EscDispatch, CsiDispatch, OscDispatch, DcsHook, DcsPut, DcsUnhook, ApcDispatch}
 use Rattle.esc_frame.specs.Leads.{Unfinished}
 use Rattle.esc_frame.specs.Leads.Unfinished.{Ground, Pending, InEscape, InCsi, InOsc, InOscPending, InDcs, InData, InApc, InIgnored}
 use Rattle.esc_frame.specs.Limits.{is_read, is_within}
-use Rattle.esc_frame.specs.Machine.Moves.{Move, after_all, after_by, begins, emitting, events_all, events_by, final_escape, final_osc, goes_on, ground_move, hooks, inside, leaving, move, noise, opened, osc_pending_move, pair_move, pending_move}
-use Rattle.esc_frame.specs.Segments.{Opener, Piece, apc_events, csi_event, csi_events, escape_event, hook_event, is_empty, kept_of, osc_events, text_of}
+use Rattle.esc_frame.specs.Machine.Moves.{Move, after_all, after_by, begins, emitting, events_all, events_by, final_escape, final_osc, goes_on, ground_move, hooks, move_inside, leaving, move, noise, unfinished_at_opener, osc_pending_move, pair_move, pending_move}
+use Rattle.esc_frame.specs.Segments.{Opener, OscUnit, apc_events, csi_event, csi_events, escape_event, hook_event, is_empty, kept_of, osc_events, text_of}
 use Rattle.esc_frame.specs.Segments.Opener.{Long, Raw, Pair}
-use Rattle.esc_frame.specs.Segments.Piece.{One, Sequence, BrokenOff}
+use Rattle.esc_frame.specs.Segments.OscUnit.{One, Sequence, BrokenOff}
 use Rattle.esc_frame.specs.Sequences.{is_pair, number_of, outcome}
-use Rattle.esc_frame.proofs.SameMoves.{after_same}
+use Rattle.esc_frame.proofs.Steps.MovesIgnoreLimit.{after_same}
 use Rattle.esc_values.specs.Clear.{parts_of}
 use Rattle.esc_html.proofs.Addressed.{capped, capped_less, parts_size, parts_within}
 use Rattle.esc_html.proofs.Sizes.{value_added, value_size, value_small}
@@ -83,7 +83,7 @@ emitting_used es m = omega (arith, weights_added es m.1)
 
 -- ---- where nothing is unfinished
 
-opened_used : (k : Kind) (o : Opener) → unused (opened k o) ≤ 144
+opened_used : (k : Kind) (o : Opener) → unused (unfinished_at_opener k o) ≤ 144
 opened_used kind.Csi o = leb-true 0 144 refl
 opened_used kind.Osc o = leb-true 144 144 refl
 opened_used kind.Dcs o = leb-true 0 144 refl
@@ -139,10 +139,10 @@ pair_used b Delete = leb-true 0 150 refl
 -- ---- sequences
 
 final_used : (x : List ℕ) (b : ℕ) (c : Class) → used (final_escape x b c) ≤ 150
-final_used x b (Introducer k) = by (is_empty (strip x))
+final_used x b (Introducer k) = by (is_empty (without_noise x))
   where
-    by : (y : Bool) → used (if y then (opened k (Long x), [])
-        else (Ground, escape_event (strip x) b ∷ [])) ≤ 150
+    by : (y : Bool) → used (if y then (unfinished_at_opener k (Long x), [])
+        else (Ground, escape_event (without_noise x) b ∷ [])) ≤ 150
     by true = omega (arith, opened_used k (Long x))
     by false = leb-true 150 150 refl
 final_used x b (Breaks k) = leb-true 150 150 refl
@@ -182,9 +182,9 @@ put_used true b = leb-true 0 0 refl
 put_used false b = leb-true 0 0 refl
 
 hooked_used : (limit : Option ℕ) (x : List ℕ) (b : ℕ) → weights (hooks limit x b) ≤ 0
-hooked_used limit x b = by (is_read limit (strip x))
+hooked_used limit x b = by (is_read limit (without_noise x))
   where
-    by : (y : Bool) → weights (if y then hook_event (strip x) b ∷ [] else []) ≤ 0
+    by : (y : Bool) → weights (if y then hook_event (without_noise x) b ∷ [] else []) ≤ 0
     by true = leb-true 0 0 refl
     by false = leb-true 0 0 refl
 
@@ -196,8 +196,8 @@ apc_used limit t = by (is_within limit (length t))
     by false = leb-true 0 0 refl
 
 leaving_used : (limit : Option ℕ) (u : Unfinished) → weights (leaving limit u) ≤ unused u
-leaving_used limit (InData o x f d) = unhooked_used (is_read limit (strip x))
-leaving_used limit (InApc o d) = apc_used limit (those is_text d)
+leaving_used limit (InData o x f d) = unhooked_used (is_read limit (without_noise x))
+leaving_used limit (InApc o d) = apc_used limit (bytes_of_class is_text d)
 leaving_used limit (InOsc o ps) = osc_used limit (text_of ps)
 leaving_used limit (InOscPending o ps f) =
     let t = value_size (text_of ps) in
@@ -211,7 +211,7 @@ leaving_used limit (InDcs o x) = leb-true 0 0 refl
 leaving_used limit (InIgnored k o d) = leb-true 0 0 refl
 
 -- one unit more of the text of an OSC
-text_added : (ps : List Piece) (p : Piece)
+text_added : (ps : List OscUnit) (p : OscUnit)
     → value_size (text_of (ps ++ p ∷ [])) ≡ value_size (text_of ps) + value_size (kept_of p)
 text_added ps p =
     ap value_size (flat_map-append kept_of ps (p ∷ []) ∙ ap (λ x. text_of ps ++ x)
@@ -227,7 +227,7 @@ one_small b = by (is_text (class_of b))
 -- ---- a byte in a sequence or a string
 
 module _ (limit : Option ℕ) where
-  final_osc_used : (o : Opener) (ps : List Piece) (b : ℕ) (c : Class)
+  final_osc_used : (o : Opener) (ps : List OscUnit) (b : ℕ) (c : Class)
       → used (final_osc limit o ps b c) ≤ unused (InOsc o ps) + 150
   final_osc_used o ps b Lead = omega arith
   final_osc_used o ps b _ = omega (arith, osc_used limit (text_of ps))
@@ -243,9 +243,9 @@ module _ (limit : Option ℕ) where
   goes_used (InCsi o x) b c = by (in_csi c)
     where
       by : (y : Bool) → used (if y then (InCsi o (x ++ b ∷ []), noise b c)
-          else (Ground, csi_events (strip x) b)) ≤ 0 + 150
+          else (Ground, csi_events (without_noise x) b)) ≤ 0 + 150
       by true = omega (arith, executed_used b (is_c0 c))
-      by false = omega (arith, csi_used (strip x) b)
+      by false = omega (arith, csi_used (without_noise x) b)
   goes_used (InDcs o x) b c = by (in_csi c)
     where
       by : (y : Bool) → used (if y then (InDcs o (x ++ b ∷ []), [])
@@ -253,7 +253,7 @@ module _ (limit : Option ℕ) where
       by true = leb-true 0 150 refl
       by false = omega (arith, hooked_used limit x b)
   goes_used (InData o x f d) b c =
-      omega (arith, put_used (is_read limit (strip x) && is_put c) b)
+      omega (arith, put_used (is_read limit (without_noise x) && is_put c) b)
   goes_used (InApc o d) b c = leb-true 0 150 refl
   goes_used (InIgnored k o d) b c = leb-true 0 150 refl
   goes_used (InOsc o ps) b c = by (in_osc c)
@@ -267,7 +267,7 @@ module _ (limit : Option ℕ) where
   goes_used (InOscPending o ps f) b c = omega arith
 
   inside_used : (u : Unfinished) (b : ℕ) (c : Class)
-      → used (inside limit u b c) ≤ unused u + 150
+      → used (move_inside limit u b c) ≤ unused u + 150
   inside_used u b c = by (is_breaker c)
     where
       by : (y : Bool) → used (if y then emitting (leaving limit u) (ground_move b c)
@@ -293,7 +293,7 @@ module _ (limit : Option ℕ) where
   pending_used f b c outcomes.Broken =
       omega (arith, emitting_used (Print 0xfffd ∷ []) (ground_move b c), ground_used b c)
 
-  osc_pending_used : (o : Opener) (ps : List Piece) (f : List ℕ) (b : ℕ) (c : Class) (w : Outcome)
+  osc_pending_used : (o : Opener) (ps : List OscUnit) (f : List ℕ) (b : ℕ) (c : Class) (w : Outcome)
       → used (osc_pending_move limit o ps f b c w) ≤ unused (InOscPending o ps f) + 150
   osc_pending_used o ps f b c outcomes.Whole = by (is_pair (f ++ b ∷ []))
     where

@@ -1,10 +1,10 @@
 -- Attributes that are written part by part.
 use Rattle.std.specs.Prelude.{ℕ, Bool, true, false, if◌then◌else◌, List, [], ◌∷◌, ◌++◌, codes, Option, Some, None}
 use Rattle.esc_html.specs.Names.{span_names}
-use Rattle.esc_looks.specs.Classes.{class_name}
-use Rattle.esc_looks.specs.Styles.{style_text, styles_text}
-use Rattle.esc_looks.specs.declared.class.Class.{Class}
-use Rattle.esc_looks.specs.declared.style.Style.{Style}
+use Rattle.esc_style.specs.Classes.{class_name}
+use Rattle.esc_style.specs.Styles.{style_text, styles_text}
+use Rattle.esc_style.specs.declared.class.Class.{Class}
+use Rattle.esc_style.specs.declared.style.Style.{Style}
 
 abbrev pub is_empty : {X : Type 0} → List X → Bool
 is_empty [] = true
@@ -36,5 +36,5 @@ next_style first None = []
 next_style first (Some s) = style_opener first ++ style_text s
 
 -- the quote that ends an attribute, where it was begun
-abbrev pub ended : Bool → List ℕ
-ended absent = if absent then [] else codes "\""
+abbrev pub ending_quote : Bool → List ℕ
+ending_quote absent = if absent then [] else codes "\""

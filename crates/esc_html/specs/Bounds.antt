@@ -7,5 +7,5 @@ IsBounded s t = length t ≤ 150 * length s + 150
 
 -- What bytes b add, whatever came before them: at most 150 times as many bytes, and what a link
 -- that is open or unfinished can still take, on 16 lines.
-abbrev pub IsBoundedPiece : List ℕ → List ℕ → Type 0
-IsBoundedPiece b t = length t ≤ 150 * length b + 401000
+abbrev pub IsBoundedPagePart : List ℕ → List ℕ → Type 0
+IsBoundedPagePart b t = length t ≤ 150 * length b + 401000

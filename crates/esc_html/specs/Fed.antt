@@ -3,11 +3,11 @@ use Rattle.std.specs.Prelude.{ℕ, ◌≡◌, ◌==◌, Bool, not, false, List, 
 use Rattle.std.specs.List.{flat_map}
 use Rattle.esc_actions.specs.Values.{value_of}
 use Rattle.esc_actions.specs.declared.action.Action.{Action}
-use Rattle.esc_parse.specs.Fed.{IsBroken as IsBrokenParser, WasFedWithin}
-use Rattle.esc_html.specs.Bounds.{IsBoundedPiece}
+use Rattle.esc_parse.specs.Fed.{IsBroken as IsBrokenParser, ParserHasConsumedWithin}
+use Rattle.esc_html.specs.Bounds.{IsBoundedPagePart}
 use Rattle.esc_html.specs.Marks.{Step, step_of}
-use Rattle.esc_html.specs.Pages.{State, closed, opened, page_text, pieces_by, state_by, state_of_stream}
-use Rattle.esc_html.specs.Pieces.{escape_text, html_text}
+use Rattle.esc_html.specs.Pages.{State, closed, opening_tags, page_text, page_parts_by, state_by, state_of_stream}
+use Rattle.esc_html.specs.PageParts.{escape_text, html_text}
 use Rattle.esc_html.specs.declared.html_writer.HtmlWriter.{HtmlWriter}
 use Rattle.esc_html.specs.declared.layout.Layout.{Layout}
 use Rattle.esc_html.specs.declared.page.Page.{Page}
@@ -33,7 +33,7 @@ text_of p = p.html
 abbrev pub with_text : {A : Type 0} → Page A → List ℕ → Page A
 with_text p [] = p
 with_text p (b ∷ t) = record p {
-  html = p.html ++ (html_text (opened (state_of p)) ++ flat_map escape_text (b ∷ t));
+  html = p.html ++ (html_text (opening_tags (state_of p)) ++ flat_map escape_text (b ∷ t));
   tags = Open;
 }
 
@@ -41,9 +41,9 @@ with_text p (b ∷ t) = record p {
 abbrev pub is_visible : ℕ → Bool
 is_visible c = not (c == 0x7f)
 
--- a step adds its pieces to the text
+-- a step adds its parts to the text
 pub record Adds {A : Type 0} (p : Page A) (s : Step) (q : Page A) : Type 0 where
-  pub text : text_of q ≡ text_of p ++ html_text (pieces_by p.layout.per_line (state_of p) s)
+  pub text : text_of q ≡ text_of p ++ html_text (page_parts_by p.layout.per_line (state_of p) s)
   pub state : state_of q ≡ state_by p.layout.per_line (state_of p) s
   pub layout : q.layout ≡ p.layout
 
@@ -59,9 +59,9 @@ with_classes per_line = record {
 }
 
 -- the writer was fed these bytes, and writes in this layout
-pub record WasFed {A : Type 0} (limit : ℕ) (y : Layout) (s : List ℕ)
+pub record HasConsumed {A : Type 0} (limit : ℕ) (y : Layout) (s : List ℕ)
     (w : HtmlWriter A) : Type 0 where
-  pub parser : WasFedWithin (Some limit) s w.parser
+  pub parser : ParserHasConsumedWithin (Some limit) s w.parser
   pub state : state_of w.page ≡ state_of_stream A (Some limit) y s
   pub layout : w.page.layout ≡ y
 
@@ -79,10 +79,10 @@ closing_of w = html_text (closed (state_of w.page))
 
 -- this holds of each stream that the writer may have been fed
 abbrev pub After : {A : Type 0} → HtmlWriter A → (ℕ → Layout → List ℕ → Type 0) → Type 0
-After w C = (limit : ℕ) (y : Layout) (s : List ℕ) → WasFed limit y s w → C limit y s
+After w C = (limit : ℕ) (y : Layout) (s : List ℕ) → HasConsumed limit y s w → C limit y s
 
 -- the writer, which was fed s, was fed b too, and has the text that b adds, which is bounded
 abbrev pub TakesIn : {A : Type 0} → ℕ → Layout → List ℕ → List ℕ → HtmlWriter A → Type 0
-TakesIn {A} limit y s b w = WasFed limit y (s ++ b) w
+TakesIn {A} limit y s b w = HasConsumed limit y (s ++ b) w
     × (page_text A (Some limit) y (s ++ b) ≡ page_text A (Some limit) y s ++ added_by w)
-    × IsBoundedPiece b (added_by w)
+    × IsBoundedPagePart b (added_by w)

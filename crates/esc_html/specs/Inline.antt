@@ -2,14 +2,14 @@
 -- fixed list with a keyword of a fixed list or with a colour by numbers, and a semicolon.
 use Rattle.std.specs.Prelude.{ℕ, Bool, true, false, ◌||◌, if◌then◌else◌, List, [], ◌++◌, codes, Option, Some, None}
 use Rattle.esc_html.specs.Shades.{ansi_rgb, around_rgb, text_rgb}
-use Rattle.esc_looks.specs.Colors.{palette}
-use Rattle.esc_looks.specs.Looks.{seen_foreground, shown_background}
-use Rattle.esc_looks.specs.Styles.{style_text}
-use Rattle.esc_looks.specs.declared.color.Color.{Color}
-use Rattle.esc_looks.specs.declared.color.Color.TheVariants.{Default, Named, Palette, Direct}
-use Rattle.esc_looks.specs.declared.look.Look.{Look}
-use Rattle.esc_looks.specs.declared.style.Style.{Style}
-use Rattle.esc_looks.specs.declared.style.Style.TheVariants as style
+use Rattle.esc_style.specs.Colors.{palette}
+use Rattle.esc_style.specs.Looks.{seen_foreground, shown_background}
+use Rattle.esc_style.specs.Styles.{style_text}
+use Rattle.esc_style.specs.declared.color.Color.{Color}
+use Rattle.esc_style.specs.declared.color.Color.TheVariants.{Default, Named, Palette, Direct}
+use Rattle.esc_style.specs.declared.look.Look.{Look}
+use Rattle.esc_style.specs.declared.style.Style.{Style}
+use Rattle.esc_style.specs.declared.style.Style.TheVariants as style
 use Rattle.esc_sequences.specs.declared.underline.Underline.{Underline}
 use Rattle.esc_sequences.specs.declared.underline.Underline.TheVariants as underline
 use Rattle.esc_html.specs.declared.inline.Declared.{Declared}

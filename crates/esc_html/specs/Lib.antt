@@ -4,7 +4,7 @@ pub mod Shades
 pub mod Inline
 pub mod Tokens
 pub mod Names
-pub mod Pieces
+pub mod PageParts
 pub mod Growing
 pub mod Characters
 pub mod Addresses

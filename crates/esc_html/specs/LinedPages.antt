@@ -6,7 +6,7 @@ use Rattle.esc_html.specs.Lines.{feeds, in_lines, next_number, numeral}
 use Rattle.esc_html.specs.Listed.{IsListed, closes}
 use Rattle.esc_html.specs.Marks.{marks, plain_pen}
 use Rattle.esc_html.specs.Pages.{closing_text, page_text}
-use Rattle.esc_html.specs.Shown.{Element, marked_bytes, shown}
+use Rattle.esc_html.specs.Shown.{Element, marked_bytes, shown_characters}
 use Rattle.esc_html.specs.Tokens.{Token, character, start_tag, end_tag, stray, tokens}
 use Rattle.esc_html.specs.declared.layout.Layout.{Layout}
 
@@ -56,7 +56,7 @@ pub record IsLinedPage (A : Type 0) (limit : Option ℕ) (n : ℕ) (y : Layout) 
   -- each start tag has its end tag, the last one first
   pub closes : closes [] (tokens t) ≡ true
   -- it shows exactly the characters of the stream, with their looks and links, in their lines
-  pub shows : shown [] (tokens t)
+  pub shows : shown_characters [] (tokens t)
       ≡ with_lines n (flat_map marked_bytes
       (marks {A = A} y.per_line (plain_pen y.inline) (meaning_within limit s)))
   -- and it is at most 150 times as long as the stream, and 126 bytes more for each line

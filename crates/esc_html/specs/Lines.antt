@@ -34,11 +34,11 @@ end_if false = []
 
 -- A text with each line in an element, where this number is that of its first line, of which the
 -- element may be open. A line feed is in the element of the line that it ends.
-abbrev pub lined : ℕ → Bool → List ℕ → List ℕ
-lined n begun [] = []
-lined n begun (b ∷ t) = begin_unless begun n ++ (b ∷ (if b == 0x0a
-    then line_end ++ lined (next_number n) false t
-    else lined n true t))
+abbrev pub lined_page : ℕ → Bool → List ℕ → List ℕ
+lined_page n begun [] = []
+lined_page n begun (b ∷ t) = begin_unless begun n ++ (b ∷ (if b == 0x0a
+    then line_end ++ lined_page (next_number n) false t
+    else lined_page n true t))
 
 -- the number of the line that holds after it, and whether its element is open
 abbrev pub number_after : ℕ → List ℕ → ℕ
@@ -51,7 +51,7 @@ open_after begun (b ∷ t) = open_after (not (b == 0x0a)) t
 
 -- the same of a text that has ended: the last line too is closed
 abbrev pub in_lines : ℕ → List ℕ → List ℕ
-in_lines n t = lined n false t ++ end_if (open_after false t)
+in_lines n t = lined_page n false t ++ end_if (open_after false t)
 
 -- how many line feeds it has
 abbrev pub feeds : List ℕ → ℕ

@@ -1,6 +1,6 @@
 -- What a writer of lines was given.
 use Rattle.std.specs.Prelude.{ℕ, ◌≡◌, List, ◌++◌, false, string_bytes}
-use Rattle.esc_html.specs.Lines.{in_lines, lined, number_after, open_after}
+use Rattle.esc_html.specs.Lines.{in_lines, lined_page, number_after, open_after}
 use Rattle.esc_html.specs.declared.line_writer.LineWriter.{LineWriter}
 
 -- it was given this text, of which the first line has this number
@@ -19,8 +19,8 @@ AfterLines w C = (first : ℕ) (s : List ℕ) → WasLined first s w → C first
 -- the writer, which was given s, was given t too, and has the text that t adds
 abbrev pub TakesLines : {A : Type 0} → ℕ → List ℕ → List ℕ → LineWriter A → Type 0
 TakesLines first s t w = WasLined first (s ++ t) w
-    × (lined first false (s ++ t) ≡ lined first false s ++ added_in w)
+    × (lined_page first false (s ++ t) ≡ lined_page first false s ++ added_in w)
 
 -- the same where t is the last
 abbrev pub EndsLines : {A : Type 0} → ℕ → List ℕ → List ℕ → LineWriter A → Type 0
-EndsLines first s t w = in_lines first (s ++ t) ≡ lined first false s ++ added_in w
+EndsLines first s t w = in_lines first (s ++ t) ≡ lined_page first false s ++ added_in w

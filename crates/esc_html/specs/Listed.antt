@@ -1,10 +1,10 @@
--- What a page may hold: characters, and the two elements of pieces with their attributes.
+-- What a page may hold: characters, and the two elements of parts with their attributes.
 use Rattle.std.specs.Prelude.{ℕ, ◌≡◌, ◌⊎◌, Bool, true, false, not, ◌&&◌, ◌||◌, List, [], ◌∷◌, codes}
 use Rattle.std.specs.Str.{bytes_eq}
 use Rattle.esc_html.specs.Addresses.{is_safe_address}
-use Rattle.esc_html.specs.Pieces.{Piece, text, span, span_attributes, span_end, link, link_end}
+use Rattle.esc_html.specs.PageParts.{PagePart, text, span, span_attributes, span_end, link, link_end}
 use Rattle.esc_html.specs.Tokens.{Token, character, start_tag, end_tag, stray}
-use Rattle.esc_looks.specs.declared.look.Look.{Look}
+use Rattle.esc_style.specs.declared.look.Look.{Look}
 
 -- a span of a look: declarations of fixed lists; or names of the list of classes, and colours by
 -- numbers; alone
@@ -24,13 +24,13 @@ IsListed (start_tag n attributes) = IsSpan n attributes ⊎ IsLink n attributes
 IsListed (end_tag n) = (n ≡ codes "span") ⊎ (n ≡ codes "a")
 IsListed stray = ⊥
 
--- a link of the piece leads to a safe address
-abbrev pub is_safe_piece : Piece → Bool
-is_safe_piece (text t) = true
-is_safe_piece (span b l) = true
-is_safe_piece span_end = true
-is_safe_piece (link a) = is_safe_address a
-is_safe_piece link_end = true
+-- a link of the part leads to a safe address
+abbrev pub is_safe_page_part : PagePart → Bool
+is_safe_page_part (text t) = true
+is_safe_page_part (span b l) = true
+is_safe_page_part span_end = true
+is_safe_page_part (link a) = is_safe_address a
+is_safe_page_part link_end = true
 
 -- whether a link is open, by the names of the elements that are
 abbrev pub has_open_link : List (List ℕ) → Bool

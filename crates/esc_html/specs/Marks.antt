@@ -8,12 +8,12 @@ use Rattle.esc_osc.specs.declared.command.OperatingSystemCommand.{OperatingSyste
 use Rattle.esc_osc.specs.declared.command.OperatingSystemCommand.TheVariants.{SetHyperlink}
 use Rattle.esc_sequences.specs.declared.esc.Esc.{Esc}
 use Rattle.esc_sequences.specs.declared.esc.Esc.TheVariants.{Unspecified}
-use Rattle.esc_typed.specs.Functions.{Value as Function, renditions, of_csi}
+use Rattle.typed_functions.specs.Functions.{Value as Function, renditions, of_csi}
 use Rattle.esc_html.specs.Addresses.{is_safe_address}
 use Rattle.esc_html.specs.Characters.{shown_as}
-use Rattle.esc_looks.specs.Looks.{look_by_all, plain_look}
-use Rattle.esc_html.specs.Pieces.{is_unbroken}
-use Rattle.esc_looks.specs.declared.look.Look.{Look}
+use Rattle.esc_style.specs.Looks.{look_by_all, plain_look}
+use Rattle.esc_html.specs.PageParts.{is_unbroken}
+use Rattle.esc_style.specs.declared.look.Look.{Look}
 
 -- what holds for the characters that come: their look, the address that they lead to, on how many
 -- more lines they may, where tags are closed at the end of each, and whether looks are declarations
@@ -159,14 +159,14 @@ pen_at true p = plain_pen p.inline
 pen_at false p = p
 
 -- the character of a step
-abbrev pub marked : Bool → Pen → Step → List (ℕ × Pen)
-marked per_line p (shows c) = (c, pen_at (ends_line per_line c) p) ∷ []
-marked per_line p (restyles l) = []
-marked per_line p (redirects k) = []
-marked per_line p nothing = []
+abbrev pub marked_character : Bool → Pen → Step → List (ℕ × Pen)
+marked_character per_line p (shows c) = (c, pen_at (ends_line per_line c) p) ∷ []
+marked_character per_line p (restyles l) = []
+marked_character per_line p (redirects k) = []
+marked_character per_line p nothing = []
 
 -- the characters of values with what holds for each, where this pen holds before them
 abbrev pub marks : {A : Type 0} → Bool → Pen → List (Value A) → List (ℕ × Pen)
 marks per_line p [] = []
 marks per_line p (v ∷ vs) =
-    marked per_line p (step_of p v) ++ marks per_line (pen_by per_line p (step_of p v)) vs
+    marked_character per_line p (step_of p v) ++ marks per_line (pen_by per_line p (step_of p v)) vs

@@ -1,8 +1,8 @@
 -- The names of classes in a page: those of looks with a prefix, so that no other style sheet has
 -- them.
 use Rattle.std.specs.Prelude.{ℕ, List, [], ◌∷◌, ◌++◌, codes}
-use Rattle.esc_looks.specs.Classes.{class_name}
-use Rattle.esc_looks.specs.declared.class.Class.{Class}
+use Rattle.esc_style.specs.Classes.{class_name}
+use Rattle.esc_style.specs.declared.class.Class.{Class}
 
 abbrev pub span_name : Class → List ℕ
 span_name c = codes "es-" ++ class_name c

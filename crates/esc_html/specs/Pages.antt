@@ -1,12 +1,12 @@
--- The pieces of a stream.
+-- The parts of a stream.
 use Rattle.std.specs.Prelude.{ℕ, Bool, true, false, List, [], ◌∷◌, ◌++◌, Option, Some, None, is_some}
 use Rattle.std.specs.Char.{encode_utf8}
 use Rattle.esc_actions.specs.Meaning.{meaning_within}
 use Rattle.esc_actions.specs.Values.{Value}
-use Rattle.esc_looks.specs.Looks.{is_plain}
+use Rattle.esc_style.specs.Looks.{is_plain}
 use Rattle.esc_html.specs.Marks.{Pen, Step, restyles, redirects, shows, nothing, ends_line, next_line, plain_pen, step_of, with_link, with_look}
-use Rattle.esc_html.specs.Pieces.{Piece, html_text, link, link_end, span, span_end, text}
-use Rattle.esc_looks.specs.declared.look.Look.{Look}
+use Rattle.esc_html.specs.PageParts.{PagePart, html_text, link, link_end, span, span_end, text}
+use Rattle.esc_style.specs.declared.look.Look.{Look}
 use Rattle.esc_html.specs.declared.layout.Layout.{Layout}
 use Rattle.esc_html.specs.declared.tags.Tags.{Tags}
 use Rattle.esc_html.specs.declared.tags.Tags.TheVariants.{Closed, Link, Open}
@@ -22,37 +22,37 @@ first_state b = record {
   tags = Closed;
 }
 
-abbrev pub link_opening : Option (List ℕ) → List Piece
+abbrev pub link_opening : Option (List ℕ) → List PagePart
 link_opening None = []
 link_opening (Some a) = link a ∷ []
 
-abbrev pub link_end_if : Bool → List Piece
+abbrev pub link_end_if : Bool → List PagePart
 link_end_if true = link_end ∷ []
 link_end_if false = []
 
 -- a span, where the look is not plain
-abbrev pub span_unless : Bool → Bool → Look → List Piece
+abbrev pub span_unless : Bool → Bool → Look → List PagePart
 span_unless b true l = []
 span_unless b false l = span b l ∷ []
 
-abbrev pub span_end_unless : Bool → List Piece
+abbrev pub span_end_unless : Bool → List PagePart
 span_end_unless true = []
 span_end_unless false = span_end ∷ []
 
 -- The tags of a pen: a link, and in it a span. What opens those that are not open:
-abbrev pub opening : Tags → Pen → List Piece
+abbrev pub opening : Tags → Pen → List PagePart
 opening Closed p = link_opening p.link ++ span_unless p.inline (is_plain p.look) p.look
 opening Link p = span_unless p.inline (is_plain p.look) p.look
 opening Open p = []
 
 -- what closes those that are open
-abbrev pub closing : Tags → Pen → List Piece
+abbrev pub closing : Tags → Pen → List PagePart
 closing Closed p = []
 closing Link p = link_end_if (is_some p.link)
 closing Open p = span_end_unless (is_plain p.look) ++ link_end_if (is_some p.link)
 
 -- and what closes the span alone, so that the link stays open
-abbrev pub span_closing : Tags → Pen → List Piece
+abbrev pub span_closing : Tags → Pen → List PagePart
 span_closing Closed p = []
 span_closing Link p = []
 span_closing Open p = span_end_unless (is_plain p.look)
@@ -62,13 +62,13 @@ without_span Closed = Closed
 without_span Link = Link
 without_span Open = Link
 
-abbrev pub opened : State → List Piece
-opened g = opening g.tags g.pen
+abbrev pub opening_tags : State → List PagePart
+opening_tags g = opening g.tags g.pen
 
-abbrev pub closed : State → List Piece
+abbrev pub closed : State → List PagePart
 closed g = closing g.tags g.pen
 
-abbrev pub span_closed : State → List Piece
+abbrev pub span_closed : State → List PagePart
 span_closed g = span_closing g.tags g.pen
 
 -- the same, but for the tags that are open
@@ -84,17 +84,17 @@ after_character true g = record {
 after_character false g = with_tags g Open
 
 -- what comes before it
-abbrev pub before_character : Bool → State → List Piece
+abbrev pub before_character : Bool → State → List PagePart
 before_character true g = closed g
-before_character false g = opened g
+before_character false g = opening_tags g
 
--- the pieces of a step
-abbrev pub pieces_by : Bool → State → Step → List Piece
-pieces_by per_line g (restyles l) = span_closed g
-pieces_by per_line g (redirects k) = closed g
-pieces_by per_line g (shows c) =
+-- the parts of a step
+abbrev pub page_parts_by : Bool → State → Step → List PagePart
+page_parts_by per_line g (restyles l) = span_closed g
+page_parts_by per_line g (redirects k) = closed g
+page_parts_by per_line g (shows c) =
     before_character (ends_line per_line c) g ++ text (encode_utf8 c) ∷ []
-pieces_by per_line g nothing = []
+page_parts_by per_line g nothing = []
 
 -- the state after it
 abbrev pub state_by : Bool → State → Step → State
@@ -109,21 +109,21 @@ state_by per_line g (redirects k) = record {
 state_by per_line g (shows c) = after_character (ends_line per_line c) g
 state_by per_line g nothing = g
 
--- the pieces of values, and the state after them
-abbrev pub pieces_from : {A : Type 0} → Bool → State → List (Value A) → List Piece
-pieces_from per_line g [] = []
-pieces_from per_line g (v ∷ vs) =
-    pieces_by per_line g (step_of g.pen v)
-    ++ pieces_from per_line (state_by per_line g (step_of g.pen v)) vs
+-- the parts of values, and the state after them
+abbrev pub page_parts_from : {A : Type 0} → Bool → State → List (Value A) → List PagePart
+page_parts_from per_line g [] = []
+page_parts_from per_line g (v ∷ vs) =
+    page_parts_by per_line g (step_of g.pen v)
+    ++ page_parts_from per_line (state_by per_line g (step_of g.pen v)) vs
 
 abbrev pub state_from : {A : Type 0} → Bool → State → List (Value A) → State
 state_from per_line g [] = g
 state_from per_line g (v ∷ vs) = state_from per_line (state_by per_line g (step_of g.pen v)) vs
 
 -- those of a stream, of which no more than the limit is kept of a segment
-abbrev pub pieces_of : Type 0 → Option ℕ → Layout → List ℕ → List Piece
-pieces_of A limit y s =
-    pieces_from {A = A} y.per_line (first_state y.inline) (meaning_within limit s)
+abbrev pub page_parts_of : Type 0 → Option ℕ → Layout → List ℕ → List PagePart
+page_parts_of A limit y s =
+    page_parts_from {A = A} y.per_line (first_state y.inline) (meaning_within limit s)
 
 abbrev pub state_of_stream : Type 0 → Option ℕ → Layout → List ℕ → State
 state_of_stream A limit y s =
@@ -131,7 +131,7 @@ state_of_stream A limit y s =
 
 -- its text, while it may go on
 abbrev pub page_text : Type 0 → Option ℕ → Layout → List ℕ → List ℕ
-page_text A limit y s = html_text (pieces_of A limit y s)
+page_text A limit y s = html_text (page_parts_of A limit y s)
 
 -- what closes the tags that are open after it
 abbrev pub closing_text : Type 0 → Option ℕ → Layout → List ℕ → List ℕ

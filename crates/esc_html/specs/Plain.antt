@@ -1,9 +1,9 @@
 -- Looks without renditions, field by field.
 use Rattle.std.specs.Prelude.{Bool, true, false, not, ◌&&◌, is_none}
-use Rattle.esc_looks.specs.Looks.{underline_class}
-use Rattle.esc_looks.specs.declared.color.Color.{Color}
-use Rattle.esc_looks.specs.declared.color.Color.TheVariants.{Default, Named, Palette, Direct}
-use Rattle.esc_looks.specs.declared.look.Look.{Look}
+use Rattle.esc_style.specs.Looks.{underline_class}
+use Rattle.esc_style.specs.declared.color.Color.{Color}
+use Rattle.esc_style.specs.declared.color.Color.TheVariants.{Default, Named, Palette, Direct}
+use Rattle.esc_style.specs.declared.look.Look.{Look}
 
 -- none of the renditions but colours holds
 abbrev pub is_markless : Look → Bool

@@ -1,8 +1,8 @@
 -- The renditions that are control sequences by themselves.
 use Rattle.esc_sequences.specs.declared.sgr.Sgr.{Sgr}
 use Rattle.esc_sequences.specs.declared.sgr.Sgr.TheVariants as sgr
-use Rattle.esc_typed.specs.declared.rendition.Rendition.{Rendition}
-use Rattle.esc_typed.specs.declared.rendition.Rendition.TheVariants.{Reset, Intensity, Italic, Underline}
+use Rattle.typed_functions.specs.declared.rendition.Rendition.{Rendition}
+use Rattle.typed_functions.specs.declared.rendition.Rendition.TheVariants.{Reset, Intensity, Italic, Underline}
 
 -- the same as one of all
 abbrev pub rendition_of : Sgr → Rendition

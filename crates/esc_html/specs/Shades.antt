@@ -3,11 +3,11 @@
 -- name, or one of the palette (WCAG 2.2, 1.4.3).
 use Rattle.std.specs.Prelude.{ℕ, ◌+◌, ◌*◌, nat_lt, Bool, true, false, not, ◌&&◌, if◌then◌else◌, Option, Some, None}
 use Rattle.esc_html.specs.Plain.{is_own}
-use Rattle.esc_looks.specs.Colors.{palette}
-use Rattle.esc_looks.specs.declared.color.Color.{Color}
-use Rattle.esc_looks.specs.declared.color.Color.TheVariants.{Default, Named, Palette, Direct}
-use Rattle.esc_typed.specs.declared.ansi_color.AnsiColor.{AnsiColor}
-use Rattle.esc_typed.specs.declared.ansi_color.AnsiColor.TheVariants as ansi
+use Rattle.esc_style.specs.Colors.{palette}
+use Rattle.esc_style.specs.declared.color.Color.{Color}
+use Rattle.esc_style.specs.declared.color.Color.TheVariants.{Default, Named, Palette, Direct}
+use Rattle.typed_functions.specs.declared.ansi_color.AnsiColor.{AnsiColor}
+use Rattle.typed_functions.specs.declared.ansi_color.AnsiColor.TheVariants as ansi
 
 -- the colours that have names, of characters on the page
 abbrev pub ansi_rgb : AnsiColor → ℕ × ℕ × ℕ

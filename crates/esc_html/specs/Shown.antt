@@ -5,12 +5,12 @@ use Rattle.std.specs.List.{All, flat_map}
 use Rattle.esc_actions.specs.Meaning.{meaning_within}
 use Rattle.esc_html.specs.Bounds.{IsBounded}
 use Rattle.esc_html.specs.Listed.{IsListed, closes}
-use Rattle.esc_looks.specs.Looks.{is_plain}
+use Rattle.esc_style.specs.Looks.{is_plain}
 use Rattle.esc_html.specs.Marks.{Pen, marks, plain_pen}
 use Rattle.esc_html.specs.Pages.{closing_text, page_text}
-use Rattle.esc_html.specs.Pieces.{span_attributes}
+use Rattle.esc_html.specs.PageParts.{span_attributes}
 use Rattle.esc_html.specs.Tokens.{Token, character, start_tag, end_tag, stray, tokens}
-use Rattle.esc_looks.specs.declared.look.Look.{Look}
+use Rattle.esc_style.specs.declared.look.Look.{Look}
 use Rattle.esc_html.specs.declared.layout.Layout.{Layout}
 
 -- the name of an element, and its attributes with their values
@@ -19,13 +19,13 @@ Element = List ℕ × List (List ℕ × List ℕ)
 
 -- each character of these tokens, with the elements that are open around it, the inner one first,
 -- where these are open before
-abbrev pub shown : List Element → List Token → List (ℕ × List Element)
-shown es [] = []
-shown es (character c ∷ ts) = (c, es) ∷ shown es ts
-shown es (start_tag n attributes ∷ ts) = shown ((n, attributes) ∷ es) ts
-shown [] (end_tag n ∷ ts) = shown [] ts
-shown (e ∷ es) (end_tag n ∷ ts) = shown es ts
-shown es (stray ∷ ts) = shown es ts
+abbrev pub shown_characters : List Element → List Token → List (ℕ × List Element)
+shown_characters es [] = []
+shown_characters es (character c ∷ ts) = (c, es) ∷ shown_characters es ts
+shown_characters es (start_tag n attributes ∷ ts) = shown_characters ((n, attributes) ∷ es) ts
+shown_characters [] (end_tag n ∷ ts) = shown_characters [] ts
+shown_characters (e ∷ es) (end_tag n ∷ ts) = shown_characters es ts
+shown_characters es (stray ∷ ts) = shown_characters es ts
 
 -- the elements of a pen: a span where the look is not plain, in a link where there is one
 abbrev pub link_elements : Option (List ℕ) → List Element
@@ -53,7 +53,7 @@ pub record IsPage (A : Type 0) (limit : Option ℕ) (y : Layout) (s t : List ℕ
   -- each start tag has its end tag, the last one first
   pub closes : closes [] (tokens t) ≡ true
   -- it shows exactly the characters of the stream, with their looks and links
-  pub shows : shown [] (tokens t)
+  pub shows : shown_characters [] (tokens t)
       ≡ flat_map marked_bytes
       (marks {A = A} y.per_line (plain_pen y.inline) (meaning_within limit s))
   -- and it is at most 150 times as long as the stream, and 150 bytes more

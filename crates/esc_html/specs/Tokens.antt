@@ -1,5 +1,5 @@
 -- How a browser cuts a text into tokens: the tokenizer of WHATWG HTML, 13.2.5, for the states that
--- the text of pieces reaches. It goes from character to character and looks for characters of ASCII
+-- the text of parts reaches. It goes from character to character and looks for characters of ASCII
 -- alone, so it reads the bytes of UTF-8 in the same way. Where the standard goes to a state that is
 -- not here, or replaces NUL, this one is lost: it says no more of what follows, and gives the token
 -- `stray` at the end.
@@ -69,19 +69,19 @@ abbrev pub is_alphanumeric : ℕ → Bool
 is_alphanumeric c = is_alpha c || (nat_le 0x30 c && nat_le c 0x39)
 
 -- ASCII letters in lower case, and any other character as it is
-abbrev pub lowered : ℕ → ℕ
-lowered c = if is_upper c then c + 0x20 else c
+abbrev pub lower_case : ℕ → ℕ
+lower_case c = if is_upper c then c + 0x20 else c
 
 -- the character of a name, for the names that are used here (13.5)
-abbrev pub named : List ℕ → Option ℕ
-named n = if bytes_eq n (codes "amp") then Some 0x26
+abbrev pub named_character : List ℕ → Option ℕ
+named_character n = if bytes_eq n (codes "amp") then Some 0x26
     else if bytes_eq n (codes "lt") then Some 0x3c
     else if bytes_eq n (codes "gt") then Some 0x3e
     else if bytes_eq n (codes "quot") then Some 0x22
     else None
 
 abbrev pub with_name : Tag → ℕ → Tag
-with_name t c = record t { name = t.name ++ lowered c ∷ [] }
+with_name t c = record t { name = t.name ++ lower_case c ∷ [] }
 
 abbrev pub with_attribute : Tag → List ℕ → List ℕ → Tag
 with_attribute t n v = record t { attributes = t.attributes ++ (n, v) ∷ [] }
@@ -104,10 +104,10 @@ next data_state c = if c == 0x26 then reference in_text []
     else data_state
 next tag_open c = if c == 0x2f then end_tag_open
     else if is_alpha c then tag_name
-    (record { is_end = false; name = lowered c ∷ []; attributes = [] })
+    (record { is_end = false; name = lower_case c ∷ []; attributes = [] })
     else lost
 next end_tag_open c = if is_alpha c then tag_name
-    (record { is_end = true; name = lowered c ∷ []; attributes = [] })
+    (record { is_end = true; name = lower_case c ∷ []; attributes = [] })
     else lost
 next (tag_name t) c = if is_blank c then before_name t
     else if c == 0x3e then data_state
@@ -116,10 +116,10 @@ next (tag_name t) c = if is_blank c then before_name t
 next (before_name t) c = if is_blank c then before_name t
     else if c == 0x3e then data_state
     else if c == 0x2f || c == 0x3d || c == 0 then lost
-    else attribute_name t (lowered c ∷ [])
+    else attribute_name t (lower_case c ∷ [])
 next (attribute_name t n) c = if is_blank c || c == 0x3e || c == 0x2f || c == 0 then lost
     else if c == 0x3d then (if has_attribute t.attributes n then lost else before_value t n)
-    else attribute_name t (n ++ lowered c ∷ [])
+    else attribute_name t (n ++ lower_case c ∷ [])
 next (before_value t n) c = if is_blank c then before_value t n
     else if c == 0x22 then value t n []
     else lost
@@ -130,7 +130,7 @@ next (value t n v) c = if c == 0x22 then after_value (with_attribute t n v)
 next (after_value t) c = if is_blank c then before_name t
     else if c == 0x3e then data_state
     else lost
-next (reference p n) c = if c == 0x3b then after_reference p (named n)
+next (reference p n) c = if c == 0x3b then after_reference p (named_character n)
     else if is_alphanumeric c then reference p (n ++ c ∷ [])
     else lost
 next lost c = lost
@@ -146,18 +146,19 @@ reference_tokens in_text None = []
 reference_tokens (in_value t n v) o = []
 
 -- the tokens that a character gives
-abbrev pub given : State → ℕ → List Token
-given data_state c = if c == 0x26 || c == 0x3c then [] else character c ∷ []
-given (tag_name t) c = if c == 0x3e then tag_token t ∷ [] else []
-given (before_name t) c = if c == 0x3e then tag_token t ∷ [] else []
-given (after_value t) c = if c == 0x3e then tag_token t ∷ [] else []
-given (reference p n) c = if c == 0x3b then reference_tokens p (named n) else []
-given tag_open c = []
-given end_tag_open c = []
-given (attribute_name t n) c = []
-given (before_value t n) c = []
-given (value t n v) c = []
-given lost c = []
+abbrev pub character_tokens : State → ℕ → List Token
+character_tokens data_state c = if c == 0x26 || c == 0x3c then [] else character c ∷ []
+character_tokens (tag_name t) c = if c == 0x3e then tag_token t ∷ [] else []
+character_tokens (before_name t) c = if c == 0x3e then tag_token t ∷ [] else []
+character_tokens (after_value t) c = if c == 0x3e then tag_token t ∷ [] else []
+character_tokens (reference p n) c = if c == 0x3b then reference_tokens p (named_character n)
+    else []
+character_tokens tag_open c = []
+character_tokens end_tag_open c = []
+character_tokens (attribute_name t n) c = []
+character_tokens (before_value t n) c = []
+character_tokens (value t n v) c = []
+character_tokens lost c = []
 
 -- the tokens of a text that ends in a state
 abbrev pub at_end : State → List Token
@@ -176,17 +177,17 @@ at_end lost = stray ∷ []
 -- the tokens of a text from a state on
 abbrev pub tokens_from : State → List ℕ → List Token
 tokens_from s [] = at_end s
-tokens_from s (c ∷ cs) = given s c ++ tokens_from (next s c) cs
+tokens_from s (c ∷ cs) = character_tokens s c ++ tokens_from (next s c) cs
 
 -- Newlines as the standard normalizes them before it reads tokens (13.2.3.5): a carriage return and
 -- a line feed, or a carriage return alone, as a line feed. The truth value says whether a carriage
 -- return came before.
-abbrev pub normalized : Bool → List ℕ → List ℕ
-normalized after [] = []
-normalized after (c ∷ cs) = if c == 0x0d then 0x0a ∷ normalized true cs
-    else if after && c == 0x0a then normalized false cs
-    else c ∷ normalized false cs
+abbrev pub normal_line_ends : Bool → List ℕ → List ℕ
+normal_line_ends after [] = []
+normal_line_ends after (c ∷ cs) = if c == 0x0d then 0x0a ∷ normal_line_ends true cs
+    else if after && c == 0x0a then normal_line_ends false cs
+    else c ∷ normal_line_ends false cs
 
 -- the tokens of a text
 abbrev pub tokens : List ℕ → List Token
-tokens s = tokens_from data_state (normalized false s)
+tokens s = tokens_from data_state (normal_line_ends false s)

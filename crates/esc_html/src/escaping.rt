@@ -3,8 +3,8 @@ ghost use Rattle.std.specs.Prelude.{◌≡◌, ◌<◌, ◌++◌, OnOk, OnErr, s
 ghost use Rattle.std.specs.Char.{encode_utf8};
 ghost use Rattle.std.specs.List.{flat_map};
 ghost use Rattle.esc_html.specs.Growing.{Grows};
-ghost use Rattle.esc_html.specs.Pieces.{escape, escape_text, needs_reference, reference_text};
-ghost use Rattle.memory.specs.Refusals.{Refused};
+ghost use Rattle.esc_html.specs.PageParts.{escape, escape_text, needs_reference, reference_text};
+ghost use Rattle.fallible_alloc.specs.Refusals.{Refused};
 
 use memchr::memchr3;
 use std::alloc::{AllocError, Allocator};
@@ -23,11 +23,11 @@ pub(crate) fn push_escaped<A: Allocator>(
 {
     let mut rest = more;
     while let Some(at) = memchr3(b'&', b'<', mark, rest.as_bytes()) {
-        memory::push_str(html, &rest[..at])?;
-        memory::push_str(html, reference(rest.as_bytes()[at]))?;
+        fallible_alloc::push_str(html, &rest[..at])?;
+        fallible_alloc::push_str(html, reference(rest.as_bytes()[at]))?;
         rest = &rest[at + 1..];
     }
-    memory::push_str(html, rest)
+    fallible_alloc::push_str(html, rest)
 }
 
 // Appends a character, as text.
@@ -37,9 +37,9 @@ pub(crate) fn push_char<A: Allocator>(html: &mut String<A>, c: char) -> Result<(
     ensures refused { OnErr result (Refused A) }
 {
     if needs_reference(c) {
-        memory::push_str(html, char_reference(c))
+        fallible_alloc::push_str(html, char_reference(c))
     } else {
-        memory::push_char(html, c)
+        fallible_alloc::push_char(html, c)
     }
 }
 

@@ -1,7 +1,7 @@
 //! A stream as a page.
 ghost use Rattle.std.specs.Prelude.{◌≡◌, [], IfErr, OnOk, Some};
 ghost use Rattle.esc_html.specs.Pages.{closing_text};
-ghost use Rattle.memory.specs.Refusals.{Refused};
+ghost use Rattle.fallible_alloc.specs.Refusals.{Refused};
 
 use crate::layout::Layout;
 use crate::page::Page;
@@ -10,16 +10,16 @@ use esc_parse::Parser;
 use std::alloc::{Allocator, Global};
 use std::mem;
 
-/// Takes a stream in whatever pieces it comes, and gives for each the HTML that it adds: the
+/// Takes a stream in whatever parts it comes, and gives for each the HTML that it adds: the
 /// characters of the stream but DEL, with U+FFFD in the place of noncharacters, tabs, and a line
 /// feed for each control that begins a line (LF, VT, FF, IND and NEL), in spans of their looks and
 /// in links to safe addresses, as the [`Layout`] says. All other actions show nothing. A link stays
 /// open where the look changes in it.
 ///
 /// All texts together are at most 150 times as long as the stream, and 150 bytes more; and one is
-/// at most 150 times as long as its piece, and 401,000 bytes more, whatever came before it.
+/// at most 150 times as long as its part, and 401,000 bytes more, whatever came before it.
 ///
-/// It keeps what a parser keeps of an unfinished segment, at most the limit, the text of the piece
+/// It keeps what a parser keeps of an unfinished segment, at most the limit, the text of the part
 /// before, and the look and the address that hold.
 #[derive(Drop)]
 pub struct HtmlWriter<A: Allocator = Global> {
@@ -29,14 +29,14 @@ pub struct HtmlWriter<A: Allocator = Global> {
 }
 
 impl<A: Allocator + Copy> HtmlWriter<A> {
-    ghost use Rattle.esc_html.specs.Fed.{After, IsBroken, TakesIn, WasFed, added_by, closing_of, with_classes};
+    ghost use Rattle.esc_html.specs.Fed.{After, IsBroken, TakesIn, HasConsumed, added_by, closing_of, with_classes};
 
     /// A writer at the beginning of a stream, which keeps at most `limit` bytes of a segment, as
     /// [`Parser::with_limit`](esc_parse::Parser::with_limit) does, and writes looks as classes.
     /// With `per_line` the tags that are open are closed before each line feed, and opened again
     /// after it: so each line is HTML by itself. Takes no memory.
     pub fn new(alloc: A, limit: usize, per_line: bool) -> HtmlWriter<A>
-        ensures fed { WasFed limit (with_classes per_line) [] result }
+        ensures fed { HasConsumed limit (with_classes per_line) [] result }
         ensures empty { added_by result ≡ [] }
     {
         let layout = Layout {
@@ -48,7 +48,7 @@ impl<A: Allocator + Copy> HtmlWriter<A> {
 
     /// The same, in this layout.
     pub fn with_layout(alloc: A, limit: usize, layout: Layout) -> HtmlWriter<A>
-        ensures fed { WasFed limit layout [] result }
+        ensures fed { HasConsumed limit layout [] result }
         ensures empty { added_by result ≡ [] }
     {
         HtmlWriter {
@@ -89,7 +89,7 @@ impl<A: Allocator + Copy> HtmlWriter<A> {
         self.page.html.as_str()
     }
 
-    /// What closes the tags that are open. With it the text of all pieces is a page, in which each
+    /// What closes the tags that are open. With it the text of all parts is a page, in which each
     /// tag is closed.
     pub fn closing(&self) -> &'static str
         ensures text { result.now ≡ closing_of self.now }

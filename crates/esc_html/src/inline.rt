@@ -1,14 +1,14 @@
 //! The start tag of a span whose look is declarations alone.
 ghost use Rattle.std.specs.Prelude.{◌≡◌, ◌++◌, OnErr, OnOk, string_bytes, true};
 ghost use Rattle.esc_html.specs.Inline.{background_text, colors_text, declared_text, decoration_text, foreground_text, is_underlined, keywords_text, kind_text, lines_text, rgb_of, slant_text, weight_text};
-ghost use Rattle.esc_html.specs.Pieces.{piece_text, span};
-ghost use Rattle.esc_looks.specs.Looks.{seen_foreground, shown_background};
-ghost use Rattle.memory.specs.Refusals.{Refused};
+ghost use Rattle.esc_html.specs.PageParts.{page_part_text, span};
+ghost use Rattle.esc_style.specs.Looks.{seen_foreground, shown_background};
+ghost use Rattle.fallible_alloc.specs.Refusals.{Refused};
 
 use crate::shades::{ansi_rgb, around_rgb, text_rgb};
 use crate::tag::push_style;
-use esc_looks::{Color, Look, Style, palette};
 use esc_sequences::Underline;
+use esc_style::{Color, Look, Style, palette};
 use esc_values::RgbColor;
 use std::alloc::{AllocError, Allocator};
 
@@ -27,13 +27,13 @@ pub(crate) fn push_inline_span<A: Allocator>(
     look: &Look,
 ) -> Result<(), AllocError>
     ensures ok { OnOk result (string_bytes html.new
-        ≡ string_bytes html.old ++ piece_text (span true look.now)) }
+        ≡ string_bytes html.old ++ page_part_text (span true look.now)) }
     ensures refused { OnErr result (Refused A) }
 {
-    memory::push_str(html, "<span style=\"")?;
+    fallible_alloc::push_str(html, "<span style=\"")?;
     push_keywords(html, look)?;
     push_colors(html, look)?;
-    memory::push_str(html, "\">")?;
+    fallible_alloc::push_str(html, "\">")?;
     Ok(())
 }
 
@@ -44,13 +44,13 @@ fn push_keywords<A: Allocator>(html: &mut String<A>, look: &Look) -> Result<(), 
     ensures refused { OnErr result (Refused A) }
 {
     let underlined = is_underlined(look.underline);
-    memory::push_str(html, weight(look.bold, look.faint))?;
-    memory::push_str(html, slant(look.italic))?;
-    memory::push_str(
+    fallible_alloc::push_str(html, weight(look.bold, look.faint))?;
+    fallible_alloc::push_str(html, slant(look.italic))?;
+    fallible_alloc::push_str(
         html,
         lines(underlined, look.strikethrough, look.overline, look.blink),
     )?;
-    memory::push_str(html, kind(look.underline))?;
+    fallible_alloc::push_str(html, kind(look.underline))?;
     Ok(())
 }
 
@@ -74,7 +74,7 @@ fn push_declared<A: Allocator>(html: &mut String<A>, declared: Declared) -> Resu
 {
     match declared {
         Declared::Keyword(text) => {
-            memory::push_str(html, text)?;
+            fallible_alloc::push_str(html, text)?;
             Ok(())
         }
         Declared::Numbers(style) => push_style(html, false, &style),

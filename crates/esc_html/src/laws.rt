@@ -2,8 +2,8 @@
 ghost use Rattle.std.specs.Prelude.{◌≡◌, ◌++◌, ℕ, List, [], Option, map, true};
 ghost use Rattle.std.specs.List.{All, list_all};
 ghost use Rattle.std.specs.Str.{encode_utf8_all};
-ghost use Rattle.esc_html.specs.Listed.{IsListed, closes, is_safe_piece};
-ghost use Rattle.esc_html.specs.Pieces.{Piece, encoded, html_text, is_kept_piece, nests, tokens_of};
+ghost use Rattle.esc_html.specs.Listed.{IsListed, closes, is_safe_page_part};
+ghost use Rattle.esc_html.specs.PageParts.{PagePart, encoded, html_text, is_kept_page_part, nests, tokens_of};
 ghost use Rattle.esc_html.specs.Pages.{closing_text, page_text};
 ghost use Rattle.esc_html.specs.LinedPages.{IsLinedPage};
 ghost use Rattle.esc_html.specs.Lines.{in_lines};
@@ -14,35 +14,35 @@ ghost use Rattle.esc_html.specs.declared.layout.Layout.{Layout};
 use esc_actions::laws::handed_out;
 use std::alloc::Allocator;
 
-/// A browser's tokenizer reads the text of pieces as exactly their tokens: characters never become
+/// A browser's tokenizer reads the text of parts as exactly their tokens: characters never become
 /// a tag, and an address never leaves its attribute. The characters and addresses may be any, but
 /// for NUL and carriage return, which HTML replaces.
-pub fn pieces_read_back()
-    ensures { (ps : List Piece) → list_all is_kept_piece ps ≡ true
+pub fn page_parts_read_back()
+    ensures { (ps : List PagePart) → list_all is_kept_page_part ps ≡ true
         → tokens (html_text ps) ≡ tokens_of ps }
 {}
 
 /// It reads nothing but characters, spans with names of the list of classes or with declarations of
-/// fixed lists, and links to safe addresses, where those of the pieces are safe: no other element,
+/// fixed lists, and links to safe addresses, where those of the parts are safe: no other element,
 /// attribute or scheme.
-pub fn pieces_are_listed()
-    ensures { (ps : List Piece) → list_all is_kept_piece ps ≡ true
-        → list_all is_safe_piece ps ≡ true → All IsListed (tokens (html_text ps)) }
+pub fn page_parts_are_listed()
+    ensures { (ps : List PagePart) → list_all is_kept_page_part ps ≡ true
+        → list_all is_safe_page_part ps ≡ true → All IsListed (tokens (html_text ps)) }
 {}
 
-/// Where the pieces nest and all are closed, so do the tags that it reads.
-pub fn pieces_close()
-    ensures { (ps : List Piece) → list_all is_kept_piece ps ≡ true → nests [] ps ≡ true
+/// Where the parts nest and all are closed, so do the tags that it reads.
+pub fn page_parts_close()
+    ensures { (ps : List PagePart) → list_all is_kept_page_part ps ≡ true → nests [] ps ≡ true
         → closes [] (tokens (html_text ps)) ≡ true }
 {}
 
-/// The UTF-8 of the text of pieces is the text of the pieces' UTF-8: so the laws hold of the
+/// The UTF-8 of the text of parts is the text of the parts' UTF-8: so the laws hold of the
 /// characters that a browser decodes, as of the bytes that are written.
-pub fn pieces_encoded()
-    ensures { (ps : List Piece) → encode_utf8_all (html_text ps) ≡ html_text (map encoded ps) }
+pub fn page_parts_encoded()
+    ensures { (ps : List PagePart) → encode_utf8_all (html_text ps) ≡ html_text (map encoded ps) }
 {}
 
-/// Of any stream, what an [`HtmlWriter`](crate::HtmlWriter) hands out for its pieces and what
+/// Of any stream, what an [`HtmlWriter`](crate::HtmlWriter) hands out for its parts and what
 /// closes it are a page: a browser's tokenizer reads nothing but characters, spans and links to
 /// safe addresses; all tags are closed; it shows exactly the characters of the stream, with U+FFFD
 /// in the place of noncharacters, each in the elements of its look and its link; and it is at most

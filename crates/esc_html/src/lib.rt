@@ -1,7 +1,7 @@
 //! Streams as HTML that cannot come alive in a page (WHATWG HTML,
 //! <https://html.spec.whatwg.org/multipage/parsing.html#tokenization>).
 //!
-//! [`HtmlWriter`] takes a stream in pieces and gives the HTML of each: its characters, tabs and
+//! [`HtmlWriter`] takes a stream in parts and gives the HTML of each: its characters, tabs and
 //! lines, in spans of their looks and in links to safe addresses.
 //!
 //! ```text
@@ -11,9 +11,9 @@
 //! writer.closing()    // "</span>"
 //! ```
 //!
-//! What is written is the text of pieces: runs of characters, spans whose classes are of a fixed
+//! What is written is the text of parts: runs of characters, spans whose classes are of a fixed
 //! list and whose styles are colours by numbers, and links. The laws in [`laws`] say that a
-//! browser's tokenizer reads from it these pieces and nothing else, whatever the stream is, and
+//! browser's tokenizer reads from it these parts and nothing else, whatever the stream is, and
 //! that the page shows exactly the characters of the stream with their looks and links.
 #![tactic(auto)]
 
@@ -36,7 +36,7 @@ mod tags;
 mod writing;
 
 pub use address::is_safe_address;
-pub use esc_looks::{Class, Color, Look, Style, palette};
+pub use esc_style::{Class, Color, Look, Style, palette};
 pub use html_writer::HtmlWriter;
 pub use layout::Layout;
 pub use line_writer::LineWriter;

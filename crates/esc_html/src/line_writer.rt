@@ -1,12 +1,12 @@
 //! The lines of a page as elements.
 ghost use Rattle.std.specs.Prelude.{◌≡◌, ◌++◌, [], codes, false, OnErr, OnOk, string_bytes, true};
 ghost use Rattle.esc_html.specs.Lines.{begin_unless, line_begin, next_number, open_by, with_part};
-ghost use Rattle.memory.specs.Refusals.{Refused};
+ghost use Rattle.fallible_alloc.specs.Refusals.{Refused};
 
 use memchr::memchr;
 use std::alloc::{AllocError, Allocator, Global};
 
-/// Takes the text of a page, in whatever pieces it comes, and gives for each the same with each
+/// Takes the text of a page, in whatever parts it comes, and gives for each the same with each
 /// line in an element of its own:
 ///
 /// ```text
@@ -19,7 +19,7 @@ use std::alloc::{AllocError, Allocator, Global};
 /// the end of a line; the law [`lines_are_elements`](crate::laws::lines_are_elements) says what
 /// holds then. A line is at most 126 bytes longer.
 ///
-/// It keeps the text of the piece before.
+/// It keeps the text of the part before.
 #[derive(Drop)]
 pub struct LineWriter<A: Allocator = Global> {
     text: String<A>,
@@ -68,7 +68,7 @@ impl<A: Allocator> LineWriter<A> {
     {
         self.feed(page)?;
         if self.is_open {
-            memory::push_str(&mut self.text, "</span>")?;
+            fallible_alloc::push_str(&mut self.text, "</span>")?;
         }
         Ok(())
     }
@@ -89,8 +89,8 @@ impl<A: Allocator> LineWriter<A> {
         ensures refused { OnErr result (Refused A) }
     {
         self.begin()?;
-        memory::push_str(&mut self.text, part)?;
-        memory::push_str(&mut self.text, "\n</span>")?;
+        fallible_alloc::push_str(&mut self.text, part)?;
+        fallible_alloc::push_str(&mut self.text, "\n</span>")?;
         self.number = self.number.saturating_add(1);
         self.is_open = false;
         Ok(())
@@ -108,7 +108,7 @@ impl<A: Allocator> LineWriter<A> {
             return Ok(());
         }
         self.begin()?;
-        memory::push_str(&mut self.text, part)
+        fallible_alloc::push_str(&mut self.text, part)
     }
 
     // Begins a line, where none is open.
@@ -134,9 +134,9 @@ fn push_begin<A: Allocator>(text: &mut String<A>, number: u64) -> Result<(), All
         ≡ string_bytes text.old ++ line_begin number) }
     ensures refused { OnErr result (Refused A) }
 {
-    memory::push_str(text, "<span class=\"es-line\" id=\"L")?;
-    memory::push_display(text, &number)?;
-    memory::push_str(text, "\"><a href=\"#L")?;
-    memory::push_display(text, &number)?;
-    memory::push_str(text, "\" tabindex=\"-1\" aria-hidden=\"true\"></a>")
+    fallible_alloc::push_str(text, "<span class=\"es-line\" id=\"L")?;
+    fallible_alloc::push_display(text, &number)?;
+    fallible_alloc::push_str(text, "\"><a href=\"#L")?;
+    fallible_alloc::push_display(text, &number)?;
+    fallible_alloc::push_str(text, "\" tabindex=\"-1\" aria-hidden=\"true\"></a>")
 }

@@ -2,14 +2,14 @@
 ghost use Rattle.std.specs.Prelude.{◌≡◌, ◌++◌, ℕ, List, [], OnErr, OnOk, string_bytes};
 ghost use Rattle.std.specs.Char.{encode_utf8};
 ghost use Rattle.std.specs.List.{flat_map};
-ghost use Rattle.esc_html.specs.Pieces.{escape_text, link, piece_text, span};
-ghost use Rattle.memory.specs.Refusals.{Refused};
+ghost use Rattle.esc_html.specs.PageParts.{escape_text, link, page_part_text, span};
+ghost use Rattle.fallible_alloc.specs.Refusals.{Refused};
 
 use crate::escaping::{push_char, push_escaped};
 use crate::inline::push_inline_span;
 use crate::tag::push_span;
 use crate::writing::push_link;
-use esc_looks::Look;
+use esc_style::Look;
 use std::alloc::{AllocError, Allocator, Global};
 use std::marker::Model;
 
@@ -55,7 +55,7 @@ impl<A: Allocator> Markup<A> {
         ensures ok { OnOk result (self.new ≡ self.old ++ html.now) }
         ensures refused { OnErr result (Refused A) }
     {
-        memory::push_str(&mut self.string, html)
+        fallible_alloc::push_str(&mut self.string, html)
     }
 
     /// Appends a character, as text.
@@ -76,7 +76,7 @@ impl<A: Allocator> Markup<A> {
 
     /// Begins a span, in declarations alone or with classes.
     pub fn push_span(&mut self, inline: bool, look: &Look) -> Result<(), AllocError>
-        ensures ok { OnOk result (self.new ≡ self.old ++ piece_text (span inline look.now)) }
+        ensures ok { OnOk result (self.new ≡ self.old ++ page_part_text (span inline look.now)) }
         ensures refused { OnErr result (Refused A) }
     {
         if inline {
@@ -88,7 +88,7 @@ impl<A: Allocator> Markup<A> {
 
     /// Begins a link.
     pub fn push_link(&mut self, address: &str) -> Result<(), AllocError>
-        ensures ok { OnOk result (self.new ≡ self.old ++ piece_text (link address.now)) }
+        ensures ok { OnOk result (self.new ≡ self.old ++ page_part_text (link address.now)) }
         ensures refused { OnErr result (Refused A) }
     {
         push_link(&mut self.string, address)

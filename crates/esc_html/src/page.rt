@@ -5,17 +5,17 @@ ghost use Rattle.std.specs.Str.{chars};
 ghost use Rattle.esc_actions.specs.declared.action.Action.TheVariants.{Print};
 ghost use Rattle.esc_frame.specs.Scans.{is_text_byte};
 ghost use Rattle.esc_html.specs.Fed.{Adds, Takes, is_visible, state_of, text_of, with_text};
-ghost use Rattle.esc_looks.specs.Looks.{is_plain, look_by, look_by_all};
+ghost use Rattle.esc_style.specs.Looks.{is_plain, look_by, look_by_all};
 ghost use Rattle.esc_html.specs.Marks.{address_of, command_step, control_step, escape_step, function_step, next_line, print_step, redirects, restyles, shows, with_link};
-ghost use Rattle.esc_html.specs.Pages.{State, after_character, before_character, closed, first_state, link_opening, opened, span_closed, span_unless, with_tags, without_span};
-ghost use Rattle.esc_html.specs.Pieces.{html_text};
+ghost use Rattle.esc_html.specs.Pages.{State, after_character, before_character, closed, first_state, link_opening, opening_tags, span_closed, span_unless, with_tags, without_span};
+ghost use Rattle.esc_html.specs.PageParts.{html_text};
 ghost use Rattle.esc_html.specs.Renditions.{rendition_of};
 ghost use Rattle.esc_parse.specs.Given.{Receives};
 ghost use Rattle.esc_sequences.specs.Csis.{sgr, unspecified};
 ghost use Rattle.esc_html.specs.declared.tags.Tags.TheVariants.{Closed, Open};
-ghost use Rattle.esc_typed.specs.Functions.{of_csi, value_of};
-ghost use Rattle.esc_typed.specs.Selections.{left};
-ghost use Rattle.memory.specs.Refusals.{Refused};
+ghost use Rattle.typed_functions.specs.Functions.{of_csi, value_of};
+ghost use Rattle.typed_functions.specs.Selections.{left};
+ghost use Rattle.fallible_alloc.specs.Refusals.{Refused};
 
 use crate::address::address_of;
 use crate::breaks::{begins_line, escape_begins_line};
@@ -26,16 +26,16 @@ use crate::plain::is_plain;
 use crate::tags::{Tags, closing_tags, link_end, span_end};
 use esc_actions::Action;
 use esc_links::Hyperlink;
-use esc_looks::Look;
 use esc_osc::OperatingSystemCommand;
 use esc_parse::Sink;
 use esc_sequences::csi::{is_unspecified, short_rendition};
 use esc_sequences::{Esc, Sgr};
-use esc_typed::{Function, Rendition, Renditions};
+use esc_style::Look;
 use esc_values::{CsiParam, Text};
 use memchr::memchr;
 use std::alloc::{AllocError, Allocator, Global};
 use std::str;
+use typed_functions::{Function, Rendition, Renditions};
 
 // On how many more lines than its first one a link is opened, where tags are closed at the end of
 // each line.
@@ -117,7 +117,7 @@ impl<A: Allocator> Page<A> {
     // Opens the tags that are not open.
     fn open(&mut self) -> Result<(), AllocError>
         ensures ok { OnOk result (text_of self.new
-            ≡ text_of self.old ++ html_text (opened (state_of self.old))) }
+            ≡ text_of self.old ++ html_text (opening_tags (state_of self.old))) }
         ensures state { OnOk result (state_of self.new ≡ with_tags (state_of self.old) Open) }
         ensures layout { OnOk result (self.new.layout ≡ self.old.layout) }
         ensures refused { OnErr result (Refused A) }

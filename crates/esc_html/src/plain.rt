@@ -1,10 +1,10 @@
 //! Looks that need no span.
 ghost use Rattle.std.specs.Prelude.{◌≡◌, is_none};
 ghost use Rattle.esc_html.specs.Plain.{is_colorless, is_markless, is_own};
-ghost use Rattle.esc_looks.specs.Looks.{is_plain, underline_class};
+ghost use Rattle.esc_style.specs.Looks.{is_plain, underline_class};
 
-use esc_looks::{Color, Look};
 use esc_sequences::Underline;
+use esc_style::{Color, Look};
 
 // Whether a look needs no span: it is as at first. It makes no list of classes to see that.
 #[inline]

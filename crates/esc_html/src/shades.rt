@@ -3,9 +3,9 @@ ghost use Rattle.std.specs.Prelude.{◌≡◌, ◌≤◌, ◌*◌};
 ghost use Rattle.esc_html.specs.Plain.{is_own};
 ghost use Rattle.esc_html.specs.Shades.{ansi_rgb, around_rgb, around_text, dark_rgb, deep_rgb, gray_rgb, ground_rgb, is_black, is_dark, is_deep, is_white, light_rgb, named_around, named_text, plain_text, text_rgb};
 
-use esc_looks::{Color, palette};
-use esc_typed::AnsiColor;
+use esc_style::{Color, palette};
 use esc_values::RgbColor;
+use typed_functions::AnsiColor;
 
 /// The colour of text, by numbers, where this is around it; the page's own has none.
 pub(crate) fn text_rgb(inverse: bool, text: Color, around: Color) -> Option<RgbColor>

@@ -2,15 +2,15 @@
 ghost use Rattle.std.specs.Prelude.{◌≡◌};
 ghost use Rattle.esc_actions.specs.Values.{value_of};
 ghost use Rattle.esc_html.specs.Marks.{is_shown, is_shown_command, is_shown_control, is_shown_function, leads};
-ghost use Rattle.esc_typed.specs.Functions.{value_of as function_value};
+ghost use Rattle.typed_functions.specs.Functions.{value_of as function_value};
 
 use crate::address::is_page_address;
 use crate::breaks::{begins_line, escape_begins_line};
 use esc_actions::Action;
 use esc_links::Hyperlink;
 use esc_osc::OperatingSystemCommand;
-use esc_typed::Function;
 use std::alloc::Allocator;
+use typed_functions::Function;
 
 /// Whether a page shows an action, or what it changes of looks and links: a character but DEL, a
 /// tab, a control that begins a line, renditions, and a link to a safe address or the end of one.

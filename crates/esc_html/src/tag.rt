@@ -1,29 +1,29 @@
 //! The start tag of a span.
 ghost use Rattle.std.specs.Prelude.{◌≡◌, ◌&&◌, ◌++◌, IfOk, OnOk, OnErr, false, is_none, string_bytes, true, Some};
 ghost use Rattle.std.specs.List.{list_all};
-ghost use Rattle.esc_html.specs.Attributes.{class_opener, ended, next_class, next_style, style_opener};
-ghost use Rattle.esc_looks.specs.Classes.{index_digits, index_text};
-ghost use Rattle.esc_looks.specs.Colors.{is_small};
+ghost use Rattle.esc_html.specs.Attributes.{class_opener, ending_quote, next_class, next_style, style_opener};
+ghost use Rattle.esc_style.specs.Classes.{index_digits, index_text};
+ghost use Rattle.esc_style.specs.Colors.{is_small};
 ghost use Rattle.esc_html.specs.Growing.{Grows};
-ghost use Rattle.esc_looks.specs.Looks.{present};
-ghost use Rattle.esc_html.specs.Pieces.{attributes_text, class_attribute, piece_text, span, style_attribute};
-ghost use Rattle.memory.specs.Refusals.{Refused};
+ghost use Rattle.esc_style.specs.Looks.{present};
+ghost use Rattle.esc_html.specs.PageParts.{attributes_text, class_attribute, page_part_text, span, style_attribute};
+ghost use Rattle.fallible_alloc.specs.Refusals.{Refused};
 
-use esc_looks::{Class, Look, Style};
+use esc_style::{Class, Look, Style};
 use std::alloc::{AllocError, Allocator};
 use std::str;
 
 // Begins a span; where memory is refused, a part of the tag may be written.
 pub(crate) fn push_span<A: Allocator>(html: &mut String<A>, look: &Look) -> Result<(), AllocError>
     ensures ok { OnOk result (string_bytes html.new
-        ≡ string_bytes html.old ++ piece_text (span false look.now)) }
+        ≡ string_bytes html.old ++ page_part_text (span false look.now)) }
     ensures grown { Grows (string_bytes html.old) (string_bytes html.new) }
     ensures refused { OnErr result (Refused A) }
 {
-    memory::push_str(html, "<span")?;
+    fallible_alloc::push_str(html, "<span")?;
     push_class_attribute(html, &look.classes())?;
     push_style_attribute(html, &look.styles())?;
-    memory::push_str(html, ">")
+    fallible_alloc::push_str(html, ">")
 }
 
 // The attribute `class`, where there are classes.
@@ -59,8 +59,8 @@ fn push_next_class<A: Allocator>(
     let Some(class) = class else {
         return Ok(is_first);
     };
-    memory::push_str(html, class_opener(is_first))?;
-    memory::push_str(html, class.name())?;
+    fallible_alloc::push_str(html, class_opener(is_first))?;
+    fallible_alloc::push_str(html, class.name())?;
     push_index(html, class.index())?;
     Ok(false)
 }
@@ -87,9 +87,9 @@ fn push_digits<A: Allocator>(html: &mut String<A>, index: u8) -> Result<(), Allo
     let tens = b'0' + index / 10 % 10;
     let ones = b'0' + index % 10;
     if index < 100 {
-        memory::push_str(html, as_str(&[tens, ones]))
+        fallible_alloc::push_str(html, as_str(&[tens, ones]))
     } else {
-        memory::push_str(html, as_str(&[b'0' + index / 100 % 10, tens, ones]))
+        fallible_alloc::push_str(html, as_str(&[b'0' + index / 100 % 10, tens, ones]))
     }
 }
 
@@ -147,10 +147,10 @@ pub(crate) fn push_style<A: Allocator>(
     ensures grown { Grows (string_bytes html.old) (string_bytes html.new) }
     ensures refused { OnErr result (Refused A) }
 {
-    memory::push_str(html, style_opener(is_first))?;
-    memory::push_str(html, style.property())?;
+    fallible_alloc::push_str(html, style_opener(is_first))?;
+    fallible_alloc::push_str(html, style.property())?;
     let code = style.code();
-    memory::push_str(html, as_str(&code))
+    fallible_alloc::push_str(html, as_str(&code))
 }
 
 // What comes before a style.
@@ -170,16 +170,17 @@ fn as_str(code: &[u8]) -> &str
 
 // Ends an attribute, where it was begun.
 fn end_attribute<A: Allocator>(html: &mut String<A>, is_absent: bool) -> Result<(), AllocError>
-    ensures ok { OnOk result (string_bytes html.new ≡ string_bytes html.old ++ ended is_absent) }
+    ensures ok { OnOk result (string_bytes html.new ≡ string_bytes html.old
+        ++ ending_quote is_absent) }
     ensures grown { Grows (string_bytes html.old) (string_bytes html.new) }
     ensures refused { OnErr result (Refused A) }
 {
-    memory::push_str(html, attribute_end(is_absent))
+    fallible_alloc::push_str(html, attribute_end(is_absent))
 }
 
 // The quote that ends an attribute, where it was begun.
 fn attribute_end(is_absent: bool) -> &'static str
-    ensures { result.now ≡ ended is_absent }
+    ensures { result.now ≡ ending_quote is_absent }
 {
     if is_absent { "" } else { "\"" }
 }

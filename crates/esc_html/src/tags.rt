@@ -1,7 +1,7 @@
 //! Which tags of a page are open.
 ghost use Rattle.std.specs.Prelude.{◌≡◌, ◌++◌};
 ghost use Rattle.esc_html.specs.Pages.{link_end_if, span_end_unless, without_span};
-ghost use Rattle.esc_html.specs.Pieces.{html_text};
+ghost use Rattle.esc_html.specs.PageParts.{html_text};
 
 /// Which tags of a page are open: those of a link, and in it those of a span, where there are such.
 #[derive(Clone, Copy)]

@@ -1,20 +1,20 @@
-//! The text of pieces, one after another.
+//! The text of parts, one after another.
 ghost use Rattle.std.specs.Prelude.{◌≡◌, ◌++◌, OnOk, OnErr, false, string_bytes, true};
 ghost use Rattle.esc_html.specs.Addresses.{is_safe_address};
 ghost use Rattle.esc_html.specs.Growing.{Grows};
-ghost use Rattle.esc_html.specs.Pieces.{link, link_end, piece_text, span, span_end, text};
-ghost use Rattle.memory.specs.Refusals.{Refused};
+ghost use Rattle.esc_html.specs.PageParts.{link, link_end, page_part_text, span, span_end, text};
+ghost use Rattle.fallible_alloc.specs.Refusals.{Refused};
 
 use crate::escaping::push_escaped;
 use crate::tag::push_span;
-use esc_looks::Look;
+use esc_style::Look;
 use std::alloc::{AllocError, Allocator};
 
 /// Appends characters: `&`, `<` and `>` as character references, and any other as it is (WHATWG
 /// HTML, 13.3). The error is that memory was refused, and the text stays as it was.
 pub fn push_text<A: Allocator>(html: &mut String<A>, more: &str) -> Result<(), AllocError>
     ensures ok { OnOk result (string_bytes html.new
-        ≡ string_bytes html.old ++ piece_text (text more.now)) }
+        ≡ string_bytes html.old ++ page_part_text (text more.now)) }
     ensures err { OnErr result (string_bytes html.new ≡ string_bytes html.old) }
     ensures refused { OnErr result (Refused A) }
 {
@@ -32,7 +32,7 @@ pub fn push_text<A: Allocator>(html: &mut String<A>, more: &str) -> Result<(), A
 /// is that memory was refused, and the text stays as it was.
 pub fn open_span<A: Allocator>(html: &mut String<A>, look: &Look) -> Result<(), AllocError>
     ensures ok { OnOk result (string_bytes html.new
-        ≡ string_bytes html.old ++ piece_text (span false look.now)) }
+        ≡ string_bytes html.old ++ page_part_text (span false look.now)) }
     ensures err { OnErr result (string_bytes html.new ≡ string_bytes html.old) }
     ensures refused { OnErr result (Refused A) }
 {
@@ -49,11 +49,11 @@ pub fn open_span<A: Allocator>(html: &mut String<A>, look: &Look) -> Result<(), 
 /// Ends a span. The error is that memory was refused, and the text stays as it was.
 pub fn close_span<A: Allocator>(html: &mut String<A>) -> Result<(), AllocError>
     ensures ok { OnOk result (string_bytes html.new
-        ≡ string_bytes html.old ++ piece_text span_end) }
+        ≡ string_bytes html.old ++ page_part_text span_end) }
     ensures err { OnErr result (string_bytes html.new ≡ string_bytes html.old) }
     ensures refused { OnErr result (Refused A) }
 {
-    memory::push_str(html, "</span>")
+    fallible_alloc::push_str(html, "</span>")
 }
 
 /// Begins a link to this address, in which `&`, `<` and `"` are written as character references.
@@ -62,7 +62,7 @@ pub fn close_span<A: Allocator>(html: &mut String<A>) -> Result<(), AllocError>
 pub fn open_link<A: Allocator>(html: &mut String<A>, address: &str) -> Result<(), AllocError>
     requires { is_safe_address address.now ≡ true }
     ensures ok { OnOk result (string_bytes html.new
-        ≡ string_bytes html.old ++ piece_text (link address.now)) }
+        ≡ string_bytes html.old ++ page_part_text (link address.now)) }
     ensures err { OnErr result (string_bytes html.new ≡ string_bytes html.old) }
     ensures refused { OnErr result (Refused A) }
 {
@@ -79,21 +79,21 @@ pub fn open_link<A: Allocator>(html: &mut String<A>, address: &str) -> Result<()
 /// Ends a link. The error is that memory was refused, and the text stays as it was.
 pub fn close_link<A: Allocator>(html: &mut String<A>) -> Result<(), AllocError>
     ensures ok { OnOk result (string_bytes html.new
-        ≡ string_bytes html.old ++ piece_text link_end) }
+        ≡ string_bytes html.old ++ page_part_text link_end) }
     ensures err { OnErr result (string_bytes html.new ≡ string_bytes html.old) }
     ensures refused { OnErr result (Refused A) }
 {
-    memory::push_str(html, "</a>")
+    fallible_alloc::push_str(html, "</a>")
 }
 
 // Begins a link; where memory is refused, a part of the tag may be written.
 pub(crate) fn push_link<A: Allocator>(html: &mut String<A>, address: &str) -> Result<(), AllocError>
     ensures ok { OnOk result (string_bytes html.new
-        ≡ string_bytes html.old ++ piece_text (link address.now)) }
+        ≡ string_bytes html.old ++ page_part_text (link address.now)) }
     ensures grown { Grows (string_bytes html.old) (string_bytes html.new) }
     ensures refused { OnErr result (Refused A) }
 {
-    memory::push_str(html, "<a href=\"")?;
+    fallible_alloc::push_str(html, "<a href=\"")?;
     push_escaped(html, address, b'"')?;
-    memory::push_str(html, "\" rel=\"nofollow noopener noreferrer\">")
+    fallible_alloc::push_str(html, "\" rel=\"nofollow noopener noreferrer\">")
 }

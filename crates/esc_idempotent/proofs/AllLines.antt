@@ -6,13 +6,13 @@ use Rattle.esc_actions.proofs.Meanings.{meaning_nil}
 use Rattle.esc_actions.specs.Texts.{list_text, normal}
 use Rattle.esc_actions.specs.Values.{Value}
 use Rattle.esc_filter.specs.Characters.{in_values}
-use Rattle.esc_filter.specs.Closing.{closed, joined}
+use Rattle.esc_filter.specs.Closing.{closed_values, joined_lists}
 use Rattle.esc_filter.specs.Lines.{IsLine, begin_with, closed_by_lines_as, content, ended_lines, ends_line, has_line_feed, is_line_feed, last_line, line_text, lines, passed_of_line, text_by_lines_as}
 use Rattle.esc_filter.specs.Openings.{AreQuiet, is_blank, opening_at, opening_of, resumed, resumed_from}
 use Rattle.esc_filter.specs.Passing.{IsFilteredAs, closed_text_as, in_lines, passed_text_as}
 use Rattle.esc_filter.specs.declared.guard.Guard.{Guard}
-use Rattle.esc_filter.proofs.LineBytes.{ended_is, ended_open, ends_append, last_is, last_open, line_ends, line_feed_is, lines_append, no_end, one_line, open_line, split_open}
-use Rattle.esc_filter.proofs.Openings.{at_none, from_first, from_more, quiet_lines}
+use Rattle.esc_filter.proofs.ByLine.BytesOfLines.{ended_is, ended_open, ends_append, last_is, last_open, line_ends, line_feed_is, lines_append, no_end, one_line, open_line, split_open}
+use Rattle.esc_filter.proofs.Renditions.RenditionsGoOn.{at_none, from_first, from_more, quiet_lines}
 use Rattle.esc_idempotent.proofs.OneLine.{P, line_lasts, line_passes}
 use Rattle.esc_idempotent.proofs.Steady.{steady_is}
 use Rattle.esc_idempotent.proofs.Twice.{closes_again, pass_again}
@@ -65,15 +65,16 @@ lines_one l (x, none, e) =
     ap lines e ∙ one_line x 0x0a none refl ∙ ap (λ z. z ∷ []) (sym e)
 
 joined_lines : (ls : List (List ℕ)) (r : List ℕ) → AreEnded ls
-    → (lines (joined ls ++ r) ≡ ls ++ lines r) × (ends_line true (joined ls) ≡ true)
+    → (lines (joined_lists ls ++ r) ≡ ls ++ lines r) × (ends_line true (joined_lists ls) ≡ true)
 joined_lines [] r a = (refl, refl)
 joined_lines (l ∷ ls) r (line, rest) =
     let q = joined_lines ls r rest in (
-      ap lines (append_assoc l (joined ls) r)
-          ∙ lines_append l (joined ls ++ r) (line_ends true l line)
-          ∙ ap (λ ks. ks ++ lines (joined ls ++ r)) (lines_one l line) ∙ ap (λ ks. l ∷ ks) q.0,
-      ends_append true l (joined ls)
-          ∙ ap (λ t. ends_line t (joined ls)) (line_ends true l line) ∙ q.1,
+      ap lines (append_assoc l (joined_lists ls) r)
+          ∙ lines_append l (joined_lists ls ++ r) (line_ends true l line)
+          ∙ ap (λ ks. ks ++ lines (joined_lists ls ++ r)) (lines_one l line)
+          ∙ ap (λ ks. l ∷ ks) q.0,
+      ends_append true l (joined_lists ls)
+          ∙ ap (λ t. ends_line t (joined_lists ls)) (line_ends true l line) ∙ q.1,
     )
 
 -- what is kept of more lines
@@ -108,13 +109,13 @@ module _ {A : Type 0} (u : Guard) (f : Value A → Bool) (text : AdmitsInstead u
   Line l = line_text u limit f l
 
   abbrev Last : List ℕ → List ℕ
-  Last r = list_text (closed f (passed_of_line u limit f r))
+  Last r = list_text (closed_values f (passed_of_line u limit f r))
 
   abbrev written : List (List ℕ) → List (List ℕ)
   written [] = []
   written (l ∷ ls) = Line l ∷ written ls
 
-  written_is : (ls : List (List ℕ)) → flat_map Line ls ≡ joined (written ls)
+  written_is : (ls : List (List ℕ)) → flat_map Line ls ≡ joined_lists (written ls)
   written_is [] = refl
   written_is (l ∷ ls) = ap (λ x. Line l ++ x) (written_is ls)
 
@@ -124,7 +125,7 @@ module _ {A : Type 0} (u : Guard) (f : Value A → Bool) (text : AdmitsInstead u
 
   -- each line lasts
   lines_last : (ls : List (List ℕ)) → AreEnded ls → AreKept A again (written ls)
-      → (flat_map (line_text u again f) (written ls) ≡ joined (written ls))
+      → (flat_map (line_text u again f) (written ls) ≡ joined_lists (written ls))
       × AreQuiet u again f (written ls)
   lines_last [] a kept = (refl, tt)
   lines_last (l ∷ ls) (line, a) (k, kept) =
@@ -143,16 +144,16 @@ module _ {A : Type 0} (u : Guard) (f : Value A → Bool) (text : AdmitsInstead u
 
   -- and so does what comes after them
   last_lasts : (r : List ℕ) → IsKept A (Some again) (Last r)
-      → list_text (closed f (passed_of_line u again f (Last r))) ≡ Last r
+      → list_text (closed_values f (passed_of_line u again f (Last r))) ≡ Last r
   last_lasts r kept =
       let vs = passed_of_line u limit f r in
-      let ws = closed f vs in
+      let ws = closed_values f vs in
       let ns = filter (P f) (normal ws) in
       let n = pass_again u (P f) ws
       (line_passes u f text closes goes_on has_ended limit r) in
-      ap (λ ms. list_text (closed f (in_values u (filter (P f) ms))))
+      ap (λ ms. list_text (closed_values f (in_values u (filter (P f) ms))))
       (kept ∙ (has_ended u (Some limit) (in_lines true f) r).reads_back)
-      ∙ ap (λ xs. list_text (closed f xs)) (steady_is u ns n.steady)
+      ∙ ap (λ xs. list_text (closed_values f xs)) (steady_is u ns n.steady)
       ∙ ap list_text (closes_again f vs ns n.leaves) ∙ n.text
 
   -- ---- the stream
@@ -163,7 +164,7 @@ module _ {A : Type 0} (u : Guard) (f : Value A → Bool) (text : AdmitsInstead u
     pub rest : List ℕ
     pub ends : AreEnded ended
     pub unended : has_line_feed (Last rest) ≡ false
-    pub whole : closed_by_lines_as u limit f s ≡ joined (written ended) ++ Last rest
+    pub whole : closed_by_lines_as u limit f s ≡ joined_lists (written ended) ++ Last rest
 
   split : (s : List ℕ) → IsSplit s
   split s = by (split_open s)
@@ -174,7 +175,7 @@ module _ {A : Type 0} (u : Guard) (f : Value A → Bool) (text : AdmitsInstead u
           let is : (z : List ℕ) (y : List ℕ) → ended_lines z ≡ y → last_line z ≡ r
           → closed_by_lines_as u limit f z ≡ text_by_lines_as u limit f y ++ Last r =
           λ z y h k. ap (λ x. text_by_lines_as u limit f x
-          ++ list_text (closed f (passed_of_line u limit f (last_line z)))) h
+          ++ list_text (closed_values f (passed_of_line u limit f (last_line z)))) h
           ∙ ap (λ x. text_by_lines_as u limit f y ++ Last x) k in record {
             ended = lines d;
             rest = r;
@@ -198,8 +199,8 @@ module _ {A : Type 0} (u : Guard) (f : Value A → Bool) (text : AdmitsInstead u
     ended_too : AreEnded ks
     ended_too = written_ended p.ended p.ends
 
-    j : (lines (joined ks ++ Last p.rest) ≡ ks ++ lines (Last p.rest))
-        × (ends_line true (joined ks) ≡ true)
+    j : (lines (joined_lists ks ++ Last p.rest) ≡ ks ++ lines (Last p.rest))
+        × (ends_line true (joined_lists ks) ≡ true)
     j = joined_lines ks (Last p.rest) ended_too
 
     all_kept : AreKept A again ks × AreKept A again (lines (Last p.rest))
@@ -207,7 +208,7 @@ module _ {A : Type 0} (u : Guard) (f : Value A → Bool) (text : AdmitsInstead u
         kept_more A again ks (lines (Last p.rest))
         (subst (AreKept A again) (ap lines p.whole ∙ j.0) kept)
 
-    each : (flat_map (line_text u again f) ks ≡ joined ks) × AreQuiet u again f ks
+    each : (flat_map (line_text u again f) ks ≡ joined_lists ks) × AreQuiet u again f ks
     each = lines_last p.ended p.ends all_kept.0
 
     rest_kept : IsKept A (Some again) (Last p.rest)
@@ -218,18 +219,18 @@ module _ {A : Type 0} (u : Guard) (f : Value A → Bool) (text : AdmitsInstead u
     pub lines_twice : closed_by_lines_as u again f (closed_by_lines_as u limit f s)
         ≡ closed_by_lines_as u limit f s
     lines_twice =
-        let t = joined ks ++ Last p.rest in
-        let own : lines (joined ks) ≡ ks =
-        ap lines (sym (append-nil (joined ks))) ∙ (joined_lines ks [] ended_too).0
+        let t = joined_lists ks ++ Last p.rest in
+        let own : lines (joined_lists ks) ≡ ks =
+        ap lines (sym (append-nil (joined_lists ks))) ∙ (joined_lines ks [] ended_too).0
         ∙ append-nil ks in
         ap (closed_by_lines_as u again f) p.whole
         ∙ ap (λ x. text_by_lines_as u again f x
-        ++ list_text (closed f (passed_of_line u again f (last_line t))))
-        (ended_is (joined ks) (Last p.rest) j.1 p.unended)
-        ∙ ap (λ x. text_by_lines_as u again f (joined ks)
-        ++ list_text (closed f (passed_of_line u again f x)))
-        (last_is (joined ks) (Last p.rest) j.1 p.unended)
-        ∙ ap (λ x. text_by_lines_as u again f (joined ks) ++ x) (last_lasts p.rest rest_kept)
+        ++ list_text (closed_values f (passed_of_line u again f (last_line t))))
+        (ended_is (joined_lists ks) (Last p.rest) j.1 p.unended)
+        ∙ ap (λ x. text_by_lines_as u again f (joined_lists ks)
+        ++ list_text (closed_values f (passed_of_line u again f x)))
+        (last_is (joined_lists ks) (Last p.rest) j.1 p.unended)
+        ∙ ap (λ x. text_by_lines_as u again f (joined_lists ks) ++ x) (last_lasts p.rest rest_kept)
         ∙ ap (λ x. flat_map (line_text u again f) x ++ Last p.rest) own
         ∙ ap (λ x. x ++ Last p.rest) each.0
         ∙ sym p.whole
@@ -247,7 +248,7 @@ module _ {A : Type 0} (u : Guard) (f : Value A → Bool) (text : AdmitsInstead u
     resumes_nothing k =
         let (a, b, c) = quiet_lines u again f k [] ks refl (at_none u again f k) each.1 in
         ap (resumed k u again f) p.whole
-        ∙ from_more u again f k [] (joined ks) (Last p.rest)
+        ∙ from_more u again f k [] (joined_lists ks) (Last p.rest)
         ∙ ap (λ d. resumed_from k u again f d (Last p.rest)) a
-        ∙ after_last (joined ks) (Last p.rest) c p.unended k b
+        ∙ after_last (joined_lists ks) (Last p.rest) c p.unended k b
         ∙ sym p.whole

@@ -3,7 +3,7 @@ use Rattle.std.proofs.Common.{ℕ, ◌≡◌, Bool, true, false, if◌then◌els
 use Rattle.std.specs.Borrow.{Bor}
 use Rattle.std.specs.List.{list_all}
 use Rattle.std.proofs.lemmas.Bool.{and_parts, true≢false}
-use Rattle.esc_functions.specs.Functions.{function_of, sequence_key}
+use Rattle.control_functions.specs.Functions.{function_of, sequence_key}
 use Rattle.esc_sequences.specs.Csis.{CsiValue, sgr, unspecified}
 use Rattle.esc_osc.specs.declared.command.OperatingSystemCommand.{OperatingSystemCommand}
 use Rattle.esc_osc.specs.declared.command.OperatingSystemCommand.TheVariants as command
@@ -12,14 +12,14 @@ use Rattle.esc_actions.specs.Values.{print, string, control, csi, osc}
 use Rattle.esc_filter.specs.Concealed.{conceals}
 use Rattle.esc_filter.specs.Groups.{admits_groups, groups_of, has, of_command, of_named, of_rendition, of_sequence}
 use Rattle.esc_filter.specs.Known.{IsPassedText}
-use Rattle.esc_filter.specs.Pieces.{AdmitsAtMost}
+use Rattle.esc_filter.specs.Tokens.{AdmitsAtMost}
 use Rattle.esc_filter.specs.Rules.{is_layout, is_link, is_rendition, is_shown}
 use Rattle.esc_filter.specs.Schemes.{leads, link_leads}
 use Rattle.esc_filter.specs.declared.group.Group.{Group}
 use Rattle.esc_filter.specs.declared.group.Group.TheVariants as group
 use Rattle.esc_filter.specs.declared.groups.Groups.{Groups}
 use Rattle.esc_filter.specs.declared.policy.Policy.TheVariants as policy
-use Rattle.esc_filter.proofs.PolicyGroups.{at_most}
+use Rattle.esc_filter.proofs.Admission.GroupsAreThePolicy.{at_most}
 use Rattle.esc_idempotent.proofs.Tints.{tints_close}
 use Rattle.esc_idempotent.specs.Again.{AdmitsItsClosing, AdmitsResets}
 

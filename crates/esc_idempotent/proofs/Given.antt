@@ -12,7 +12,7 @@ use Rattle.esc_filter.specs.Terminal.{is_changed_saved}
 use Rattle.esc_filter.specs.declared.terminal.Screen.{Screen}
 use Rattle.esc_filter.specs.declared.terminal.Screen.TheVariants as screen
 use Rattle.esc_filter.specs.declared.terminal.Terminal.{Terminal}
-use Rattle.esc_filter.proofs.LineData.{both}
+use Rattle.esc_filter.proofs.ByLine.DataHasNoFeed.{both}
 
 module _ {A : Type 0} (p : Value A → Bool) where
   -- it holds of each of these

@@ -3,13 +3,13 @@
 use Rattle.std.proofs.Common.{◌≡◌, Bool, true, false, not, ◌&&◌, ◌||◌, if◌then◌else◌, List, [], ◌∷◌, ◌++◌, refl, sym, ap, ◌∙◌}
 use Rattle.std.specs.List.{filter, list_all}
 use Rattle.std.proofs.lemmas.Bool.{and_parts, true≢false}
-use Rattle.esc_actions.specs.Texts.{begins_terminator, is_string, is_terminator, normal, spelled, terminator}
+use Rattle.esc_actions.specs.Texts.{begins_terminator, is_string, is_terminator, normal, spelled_values, terminator}
 use Rattle.esc_actions.specs.Values.{Value, print, string, control, esc, csi, osc, kitty, sixel, termcap, short, enter, datum, exit}
 use Rattle.esc_filter.specs.Closing.{after_value, after_values}
 use Rattle.esc_filter.specs.declared.terminal.Terminal.{Terminal}
 use Rattle.esc_idempotent.proofs.Singles.{is_single}
 
-pub single_spelled : {A : Type 0} (v : Value A) → is_single v ≡ true → spelled v ≡ v ∷ []
+pub single_spelled : {A : Type 0} (v : Value A) → is_single v ≡ true → spelled_values v ≡ v ∷ []
 single_spelled (string t) h = absurd (true≢false (sym h))
 single_spelled (print c) h = refl
 single_spelled (control c) h = refl

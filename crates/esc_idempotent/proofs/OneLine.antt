@@ -15,16 +15,16 @@ use Rattle.esc_actions.specs.declared.control_code.ControlCode.TheVariants.{Carr
 use Rattle.esc_normal.proofs.Texts.{texts_more}
 use Rattle.esc_normal.specs.Texts.{ends_in_string}
 use Rattle.esc_filter.specs.Characters.{in_values}
-use Rattle.esc_filter.specs.Closing.{after_values, closed, closing}
+use Rattle.esc_filter.specs.Closing.{after_values, closed_values, closing}
 use Rattle.esc_filter.specs.Lines.{IsLine, body, content, end_text, ends_return, has_line_feed, held, line_text, passed_of_content, passed_of_line}
 use Rattle.esc_filter.specs.Openings.{opening_left, opening_of}
 use Rattle.esc_filter.specs.Passing.{IsFilteredAs, closed_text_as, in_lines, is_line_feed, is_whole, passed_text_as, passes}
 use Rattle.esc_filter.specs.Pens.{pen_after, start_pen, text_of_pen}
 use Rattle.esc_filter.specs.Terminal.{unchanged}
 use Rattle.esc_filter.specs.declared.guard.Guard.{Guard}
-use Rattle.esc_filter.proofs.Backs.{at_start}
-use Rattle.esc_filter.proofs.LineBytes.{body_append, body_held, body_whole, content_is, line_ends, return_append}
-use Rattle.esc_filter.proofs.Texts.{after_more}
+use Rattle.esc_filter.proofs.GivingBack.GivingBackRestores.{at_start}
+use Rattle.esc_filter.proofs.ByLine.BytesOfLines.{body_append, body_held, body_whole, content_is, line_ends, return_append}
+use Rattle.esc_filter.proofs.Output.TextsGrow.{after_more}
 use Rattle.esc_idempotent.proofs.Normals.{each_passes}
 use Rattle.esc_idempotent.proofs.Returns.{last_return, reads_whole}
 use Rattle.esc_idempotent.proofs.Singles.{is_single}
@@ -223,7 +223,8 @@ module _ {A : Type 0} where
 
 module _ {A : Type 0} (u : Guard) (f : Value A → Bool) where
   abbrev Text : ℕ → List ℕ → List ℕ
-  Text n x = list_text (closed f (passed_of_content u n f x)) ++ end_text f (ends_return false x)
+  Text n x = list_text (closed_values f (passed_of_content u n f x))
+      ++ end_text f (ends_return false x)
 
   line_is : (n : ℕ) (x : List ℕ) → has_line_feed x ≡ false
       → line_text u n f (x ++ 0x0a ∷ []) ≡ Text n x
@@ -260,7 +261,7 @@ module _ {A : Type 0} (u : Guard) (f : Value A → Bool) where
     abbrev V : List ℕ → List (Value A)
     V s = passed_of_line u limit f s
 
-    pub line_passes : (s : List ℕ) → ArePassed u (P f) (closed f (V s))
+    pub line_passes : (s : List ℕ) → ArePassed u (P f) (closed_values f (V s))
     line_passes s =
         let vs = V s in
         let a = passed_pass u f (in_lines true f) (λ c h k. k) text (Some limit) s
@@ -271,7 +272,7 @@ module _ {A : Type 0} (u : Guard) (f : Value A → Bool) where
         (has_ended u (Some limit) (in_lines true f) s).writable
 
     line_reads : (s : List ℕ)
-        → Reads (list_text (closed f (V s))) (normal (closed f (V s)))
+        → Reads (list_text (closed_values f (V s))) (normal (closed_values f (V s)))
     line_reads s = (has_ended u (Some limit) (in_lines true f) s).whatever_follows
 
     -- it is written again as it is, and no rendition goes on after it
@@ -280,14 +281,14 @@ module _ {A : Type 0} (u : Guard) (f : Value A → Bool) where
       pub opens : opening_of u again f (content l) ≡ []
 
     module _ (again : ℕ) (x y : List ℕ)
-        (r : ReadsAgain u f again (closed f (V (body x ++ 0x0a ∷ [])))
+        (r : ReadsAgain u f again (closed_values f (V (body x ++ 0x0a ∷ [])))
         (line_passes (body x ++ 0x0a ∷ [])) (line_reads (body x ++ 0x0a ∷ [])) y) where
       abbrev vs : List (Value A)
       vs = V (body x ++ 0x0a ∷ [])
 
       text_again : Text again y ≡ y ++ 0x0a ∷ []
       text_again =
-          ap (λ ns. list_text (closed f ns) ++ end_text f (ends_return false y)) r.passed
+          ap (λ ns. list_text (closed_values f ns) ++ end_text f (ends_return false y)) r.passed
           ∙ ap (λ ns. list_text ns ++ end_text f (ends_return false y))
           (closes_again f vs r.values r.leaves)
           ∙ r.text
@@ -302,7 +303,7 @@ module _ {A : Type 0} (u : Guard) (f : Value A → Bool) where
         → IsKept A (Some again) (read_of_line (line_text u limit f l))
         → IsLasting again (line_text u limit f l)
     line_lasts again l (x, none, e) (y, clean, d) kept =
-        let t = list_text (closed f (V (body x ++ 0x0a ∷ []))) in
+        let t = list_text (closed_values f (V (body x ++ 0x0a ∷ []))) in
         let c = ends_return false x && f (control CarriageReturn) in
         let is : line_text u limit f l ≡ (t ++ held c) ++ 0x0a ∷ [] =
         ap (line_text u limit f) e ∙ line_is limit x none ∙ end_is t (ends_return false x) in
@@ -313,7 +314,7 @@ module _ {A : Type 0} (u : Guard) (f : Value A → Bool) where
         ∙ ap (λ b. if b then body (content (y ++ 0x0a ∷ [])) ++ 0x0a ∷ [] else y ++ 0x0a ∷ [])
         (line_ends false (y ++ 0x0a ∷ []) (y, clean, refl))
         ∙ ap (λ z. body z ++ 0x0a ∷ []) (content_is y [] clean) in
-        let r = read_again u f again (closed f (V (body x ++ 0x0a ∷ [])))
+        let r = read_again u f again (closed_values f (V (body x ++ 0x0a ∷ [])))
         (line_passes (body x ++ 0x0a ∷ [])) (line_reads (body x ++ 0x0a ∷ [])) y c
         (λ h. (and_parts (ends_return false x) (f (control CarriageReturn)) h).1) same
         (subst (IsKept A (Some again)) read kept) in record {

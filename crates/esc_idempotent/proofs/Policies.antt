@@ -5,13 +5,13 @@ use Rattle.esc_sequences.specs.Csis.{sgr, unspecified}
 use Rattle.esc_sequences.specs.declared.sgr.Sgr.TheVariants.{Reset}
 use Rattle.esc_osc.specs.declared.command.OperatingSystemCommand.TheVariants as command
 use Rattle.esc_values.specs.declared.csi_param.CsiParam.TheVariants.{Integer}
-use Rattle.esc_functions.specs.Controls as controls
-use Rattle.esc_functions.specs.Effects.{changes_screen}
-use Rattle.esc_functions.specs.EscapeEffects.{changes_screen as escape_changes_screen}
-use Rattle.esc_functions.specs.Escapes as escapes
-use Rattle.esc_functions.specs.Functions.{function_of, rows_of}
-use Rattle.esc_functions.specs.Modes as modes
-use Rattle.esc_functions.specs.PrivateModes as private_modes
+use Rattle.control_functions.specs.Controls as controls
+use Rattle.control_functions.specs.Effects.{changes_screen}
+use Rattle.control_functions.specs.EscapeEffects.{changes_screen as escape_changes_screen}
+use Rattle.control_functions.specs.Escapes as escapes
+use Rattle.control_functions.specs.Functions.{function_of, rows_of}
+use Rattle.control_functions.specs.Modes as modes
+use Rattle.control_functions.specs.PrivateModes as private_modes
 use Rattle.esc_actions.specs.Values.{Value, control, csi, osc}
 use Rattle.esc_actions.specs.declared.control_code.ControlCode.TheVariants.{ShiftIn}
 use Rattle.esc_filter.specs.Closing.{after_values, ascii_in, closing, escape, keeps_cursor, private_mode}
@@ -20,7 +20,7 @@ use Rattle.esc_filter.specs.Rules.{admits, changes_with, escape_changes_with}
 use Rattle.esc_filter.specs.Terminal.{unchanged}
 use Rattle.esc_filter.specs.declared.policy.Policy.{Policy}
 use Rattle.esc_filter.specs.declared.policy.Policy.TheVariants as policy
-use Rattle.esc_filter.proofs.Runs.{text_passes}
+use Rattle.esc_filter.proofs.Output.RunsOfText.{text_passes}
 use Rattle.esc_idempotent.proofs.Given.{OfEach, back_all}
 use Rattle.esc_idempotent.proofs.Tints.{text_closes, tints_close}
 use Rattle.esc_idempotent.specs.Again.{AdmitsAs, AdmitsItsClosing}

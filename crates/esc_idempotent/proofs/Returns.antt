@@ -7,23 +7,23 @@ use Rattle.esc_device.specs.Kinds.{kind_of}
 use Rattle.esc_device.specs.declared.kind.StringKind.{StringKind}
 use Rattle.esc_device.specs.declared.kind.StringKind.TheVariants as kind
 use Rattle.esc_frame.specs.Bodies.{dcs_intermediates, dcs_params, has_more_csi_params, has_more_intermediates, is_csi_body, kept_csi_params, kept_intermediates}
-use Rattle.esc_frame.specs.Classes.{class_of, is_put, strip}
+use Rattle.esc_frame.specs.Classes.{class_of, is_put, without_noise}
 use Rattle.esc_frame.specs.Events.Event.{DcsPut}
 use Rattle.esc_frame.specs.Leads.{Unfinished}
 use Rattle.esc_frame.specs.Leads.Unfinished.{Ground, Pending, InEscape, InCsi, InOsc, InOscPending, InDcs, InData, InApc, InIgnored}
 use Rattle.esc_frame.specs.Limits.{is_read}
 use Rattle.esc_frame.specs.Machine.Moves.{after_all, after_by, events_all, is_ground, osc_pending_move, pending_move}
-use Rattle.esc_frame.specs.Segments.{Opener, Piece, csi_event, hook_event}
+use Rattle.esc_frame.specs.Segments.{Opener, OscUnit, csi_event, hook_event}
 use Rattle.esc_frame.specs.Sequences.{is_from, is_prefix, is_second, is_sequence, is_tail, outcome}
 use Rattle.esc_frame.specs.Stream.{events_within}
 use Rattle.esc_frame.specs.declared.utf8.sequence.Outcome.{Outcome}
 use Rattle.esc_frame.specs.declared.utf8.sequence.Outcome.TheVariants as outcomes
-use Rattle.esc_frame.proofs.Streams.{after_append, events_append}
+use Rattle.esc_frame.proofs.Emits.EventsAreTheCuts.{after_append, events_append}
 use Rattle.esc_sequences.specs.Csis.{CsiValue, csi_of}
 use Rattle.esc_actions.proofs.Meanings.{meaning_nil, values_append}
 use Rattle.esc_actions.specs.ControlCodes.{code_of}
 use Rattle.esc_actions.specs.Meaning.{Reads, meaning, meaning_within, mode_from, values_from}
-use Rattle.esc_actions.specs.Values.{Mode, Value, plain, in_sixel, in_termcap, in_short, entered, control, csi, opened_gives, print, taken_gives}
+use Rattle.esc_actions.specs.Values.{Mode, Value, plain, in_sixel, in_termcap, in_short, entered, control, csi, hook_values, print, taken_gives}
 use Rattle.esc_actions.specs.declared.control_code.ControlCode.TheVariants.{CarriageReturn, LineFeed}
 
 -- ---- a byte that is in no sequence of UTF-8
@@ -126,7 +126,7 @@ unbroken o e h = true≢false (sym (ap is_broken h) ∙ e)
 no_ground : (s : Unfinished) → is_ground s ≡ false → s ≡ Ground → ⊥
 no_ground s e h = true≢false (sym (ap is_ground h) ∙ e)
 
-osc_stays : (o : Opener) (ps : List Piece) (f : List ℕ) (w : Outcome) → w ≡ outcomes.Broken
+osc_stays : (o : Opener) (ps : List OscUnit) (f : List ℕ) (w : Outcome) → w ≡ outcomes.Broken
     → (osc_pending_move None o ps f 0x0d (class_of 0x0d) w).0 ≡ Ground → ⊥
 unfolding class_of
 osc_stays o ps f outcomes.Broken e h = no_ground _ refl h
@@ -152,7 +152,7 @@ module _ {A : Type 0} where
   csi_other (c ∷ cs) h = no_letter _ refl h
 
   opened_other : (k : StringKind) (f : ℕ) (ps : List ℤ) (is : List ℕ) (more : Bool)
-      → IsLetter (opened_gives k f ps is more ++ []) → ⊥
+      → IsLetter (hook_values k f ps is more ++ []) → ⊥
   opened_other kind.Sixel f ps is more h = no_letter _ refl h
   opened_other kind.Termcap f ps is more h = no_letter _ refl h
   opened_other kind.Short f ps is more h = no_letter _ refl h
@@ -166,19 +166,22 @@ module _ {A : Type 0} where
   taken_other entered b h = no_letter _ refl h
 
   csi_goes_on : (m : Mode) (x : List ℕ) (t : Bool)
-      → IsLetter (values_from None m ((if t then csi_event (strip x) 0x41 ∷ [] else []) ++ []))
+      → IsLetter (values_from None m ((if t then csi_event (without_noise x) 0x41 ∷ [] else [])
+      ++ []))
       → ⊥
   csi_goes_on m x true h =
-      csi_other (csi_of (kept_csi_params (strip x)) (has_more_csi_params (strip x)) 0x41) h
+      csi_other (csi_of (kept_csi_params (without_noise x)) (has_more_csi_params (without_noise x))
+      0x41) h
   csi_goes_on m x false h = no_letter _ refl h
 
   hook_goes_on : (m : Mode) (x : List ℕ) (t : Bool)
-      → IsLetter (values_from None m ((if t then hook_event (strip x) 0x41 ∷ [] else []) ++ []))
+      → IsLetter (values_from None m ((if t then hook_event (without_noise x) 0x41 ∷ [] else [])
+      ++ []))
       → ⊥
   hook_goes_on m x true h =
-      let is = kept_intermediates (dcs_intermediates (strip x)) in
-      let more = has_more_intermediates (dcs_intermediates (strip x)) in
-      opened_other (kind_of 0x41 is more) 0x41 (dcs_params (strip x)) is more h
+      let is = kept_intermediates (dcs_intermediates (without_noise x)) in
+      let more = has_more_intermediates (dcs_intermediates (without_noise x)) in
+      opened_other (kind_of 0x41 is more) 0x41 (dcs_params (without_noise x)) is more h
   hook_goes_on m x false h = no_letter _ refl h
 
   put_goes_on : (m : Mode) (t : Bool)
@@ -193,7 +196,7 @@ module _ {A : Type 0} where
   pending_goes_on m f outcomes.Whole e h = unbroken outcomes.Whole refl e
   pending_goes_on m f outcomes.More e h = unbroken outcomes.More refl e
 
-  osc_goes_on : (m : Mode) (o : Opener) (ps : List Piece) (f : List ℕ) (w : Outcome)
+  osc_goes_on : (m : Mode) (o : Opener) (ps : List OscUnit) (f : List ℕ) (w : Outcome)
       → w ≡ outcomes.Broken → IsLetter (values_from None m
       ((osc_pending_move None o ps f 0x41 (class_of 0x41) w).1 ++ [])) → ⊥
   unfolding class_of
@@ -208,10 +211,10 @@ module _ {A : Type 0} where
   at_ground m (Pending f) h =
       absurd (pending_goes_on m f (outcome f 0x41) (breaks 0x41 alone f) h)
   at_ground m (InEscape x) h = absurd (no_letter _ refl h)
-  at_ground m (InCsi o x) h = absurd (csi_goes_on m x (is_csi_body (strip x)) h)
-  at_ground m (InDcs o x) h = absurd (hook_goes_on m x (is_read None (strip x)) h)
+  at_ground m (InCsi o x) h = absurd (csi_goes_on m x (is_csi_body (without_noise x)) h)
+  at_ground m (InDcs o x) h = absurd (hook_goes_on m x (is_read None (without_noise x)) h)
   at_ground m (InData o x f d) h =
-      absurd (put_goes_on m (is_read None (strip x) && is_put (class_of 0x41)) h)
+      absurd (put_goes_on m (is_read None (without_noise x) && is_put (class_of 0x41)) h)
   at_ground m (InApc o d) h = absurd (no_letter _ refl h)
   at_ground m (InIgnored k o d) h = absurd (no_letter _ refl h)
   at_ground m (InOsc o ps) h = absurd (no_letter _ refl h)

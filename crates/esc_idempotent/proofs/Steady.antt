@@ -2,20 +2,20 @@
 use Rattle.std.proofs.Common.{ℕ, ◌≡◌, ◌⊎◌, inl, inr, Bool, true, false, not, if◌then◌else◌, ◌<◌, arith, List, [], ◌∷◌, ◌++◌, map, Option, None, Some, refl, sym, ap, ◌∙◌, subst}
 use Rattle.std.specs.List.{list_all}
 use Rattle.std.proofs.lemmas.Bool.{and_parts, true≢false}
-use Rattle.esc_visible.proofs.Ranges.{low_plain}
-use Rattle.esc_visible.specs.Characters.{is_deceiving, number_text}
-use Rattle.esc_visible.specs.Following.{may_follow}
+use Rattle.unicode_visibility.proofs.Ranges.{low_plain}
+use Rattle.unicode_visibility.specs.Characters.{is_deceiving, number_text}
+use Rattle.unicode_visibility.specs.Following.{may_follow}
 use Rattle.esc_actions.specs.Texts.{is_string, normal}
 use Rattle.esc_actions.specs.Values.{Value, print, string, control, esc, csi, osc, kitty, sixel, termcap, short, enter, datum, exit}
 use Rattle.esc_actions.specs.declared.control_code.ControlCode.{ControlCode}
 use Rattle.esc_actions.specs.declared.control_code.ControlCode.TheVariants.{CarriageReturn}
-use Rattle.esc_filter.specs.Characters.{character_of, each_in_guard, in_guard, in_return, in_values, instead, is_return, keeps_all, last_after}
+use Rattle.esc_filter.specs.Characters.{character_of, each_in_guard, in_guard, in_return, in_values, replacement_values, is_return, keeps_all, last_after}
 use Rattle.esc_filter.specs.declared.guard.Guard.{Guard}
 use Rattle.esc_filter.specs.declared.returns.Returns.{Returns}
 use Rattle.esc_filter.specs.declared.returns.Returns.TheVariants as way
 use Rattle.esc_filter.specs.declared.unicode.Unicode.{Unicode}
 use Rattle.esc_filter.specs.declared.unicode.Unicode.TheVariants.{Drop, Join, Keep, Show}
-use Rattle.esc_filter.proofs.Characters.{ascii_low, is_ascii, kinds, number_ascii, plain_one}
+use Rattle.esc_filter.proofs.Output.DeceivingCharacters.{ascii_low, is_ascii, kinds, number_ascii, plain_one}
 use Rattle.esc_idempotent.proofs.Normals.{ended, normal_more, wants}
 use Rattle.esc_idempotent.proofs.Singles.{is_single}
 
@@ -67,7 +67,7 @@ module _ (A : Type 0) (u : Guard) where
 
   -- a character that deceives
   instead_steady : (k : Unicode) (b : Option ℕ) (c : ℕ) → u.characters ≡ k
-      → is_deceiving c ≡ true → AreSteady {A = A} u b (instead k b c)
+      → is_deceiving c ≡ true → AreSteady {A = A} u b (replacement_values k b c)
   instead_steady Keep b c e d = (rw (d, e) refl, tt)
   instead_steady Show b c e d = ascii_steady b (number_text c) (number_ascii c)
   instead_steady Drop b c e d = tt
@@ -79,7 +79,7 @@ module _ (A : Type 0) (u : Guard) where
       by false f = ascii_steady b (number_text c) (number_ascii c)
 
   character_steady : (b : Option ℕ) (c : ℕ) (t : Bool) → is_deceiving c ≡ t
-      → AreSteady {A = A} u b (if t then instead u.characters b c else print c ∷ [])
+      → AreSteady {A = A} u b (if t then replacement_values u.characters b c else print c ∷ [])
   character_steady b c true d = instead_steady u.characters b c refl d
   character_steady b c false d = (rw d refl, tt)
 

@@ -10,13 +10,13 @@ use Rattle.esc_actions.specs.ControlCodes.{code_number}
 use Rattle.esc_actions.specs.Values.{Value, print, string, control, esc, csi, osc, kitty, sixel, termcap, short, enter, datum, exit}
 use Rattle.esc_actions.specs.declared.control_code.ControlCode.{ControlCode}
 use Rattle.esc_actions.specs.declared.control_code.ControlCode.TheVariants as code
-use Rattle.esc_filter.specs.Closing.{after_body, after_command, after_control, after_sequence, after_value, after_values, closing, given_back, is_reset, keeps_cursor, opens, turned}
-use Rattle.esc_filter.specs.Pieces.{AdmitsAtMost}
-use Rattle.esc_filter.specs.Rules.{is_colour, is_layout, is_link, is_plain_param, is_rendition, is_text}
+use Rattle.esc_filter.specs.Closing.{after_body, after_command, after_control, after_sequence, after_value, after_values, closing, given_back, is_reset, keeps_cursor, opens, turned_terminal}
+use Rattle.esc_filter.specs.Tokens.{AdmitsAtMost}
+use Rattle.esc_filter.specs.Rules.{is_color, is_layout, is_link, is_plain_param, is_rendition, is_text}
 use Rattle.esc_filter.specs.Terminal.{unchanged}
 use Rattle.esc_filter.specs.declared.policy.Policy.TheVariants as policy
 use Rattle.esc_filter.specs.declared.terminal.Terminal.{Terminal}
-use Rattle.esc_filter.proofs.Lights.{plain_lit}
+use Rattle.esc_filter.proofs.GivingBack.RenditionsAfterSequence.{plain_lit}
 use Rattle.esc_idempotent.specs.Again.{AdmitsItsClosing, AdmitsResets}
 
 -- ---- text
@@ -74,11 +74,11 @@ module _ {A : Type 0} (f : Value A → Bool) (most : AdmitsAtMost policy.Color f
     ended : link ≡ true → f (osc (command.SetHyperlink None)) ≡ true
 
   turned_tints : (b : Bool) (t : Terminal) → f (csi (sgr Reset)) ≡ true → IsTinted t
-      → IsTinted (turned b t)
+      → IsTinted (turned_terminal b t)
   turned_tints b t h k = record {
     rendition = b;
     link = k.link;
-    tints = ap (turned b) k.tints;
+    tints = ap (turned_terminal b) k.tints;
     reset = λ _. h;
     ended = k.ended;
   }
@@ -103,29 +103,29 @@ module _ {A : Type 0} (f : Value A → Bool) (most : AdmitsAtMost policy.Color f
   }
   link_tints _ t h g k = absurd (true≢false (sym h))
 
-  colour_tints : (v : Value A) (t : Terminal) → is_colour v ≡ true → f v ≡ true → IsTinted t
+  color_tints : (v : Value A) (t : Terminal) → is_color v ≡ true → f v ≡ true → IsTinted t
       → IsTinted (after_value v t)
-  colour_tints (csi c) t h g k = rendition_tints c t h (resets.0 c g) k
-  colour_tints (osc c) t h g k = link_tints c t h (resets.1 c g) k
-  colour_tints (esc e) t h g k = absurd (true≢false (sym h))
-  colour_tints (control c) t h g k = absurd (true≢false (sym h))
-  colour_tints (print c) t h g k = k
-  colour_tints (string x) t h g k = k
-  colour_tints (kitty i) t h g k = k
-  colour_tints (sixel s) t h g k = k
-  colour_tints (termcap ns) t h g k = k
-  colour_tints (short s) t h g k = k
-  colour_tints (enter e) t h g k = k
-  colour_tints (datum b) t h g k = k
-  colour_tints exit t h g k = k
+  color_tints (csi c) t h g k = rendition_tints c t h (resets.0 c g) k
+  color_tints (osc c) t h g k = link_tints c t h (resets.1 c g) k
+  color_tints (esc e) t h g k = absurd (true≢false (sym h))
+  color_tints (control c) t h g k = absurd (true≢false (sym h))
+  color_tints (print c) t h g k = k
+  color_tints (string x) t h g k = k
+  color_tints (kitty i) t h g k = k
+  color_tints (sixel s) t h g k = k
+  color_tints (termcap ns) t h g k = k
+  color_tints (short s) t h g k = k
+  color_tints (enter e) t h g k = k
+  color_tints (datum b) t h g k = k
+  color_tints exit t h g k = k
 
   value_tints : (v : Value A) (t : Terminal) → f v ≡ true → IsTinted t
       → IsTinted (after_value v t)
   value_tints v t h k = by (is_text v) refl (most v h)
     where
-      by : (s : Bool) → is_text v ≡ s → (s || is_colour v) ≡ true → IsTinted (after_value v t)
+      by : (s : Bool) → is_text v ≡ s → (s || is_color v) ≡ true → IsTinted (after_value v t)
       by true g i = subst IsTinted (sym (text_stays v t g)) k
-      by false g i = colour_tints v t i h k
+      by false g i = color_tints v t i h k
 
   values_tint : (vs : List (Value A)) (t : Terminal) → list_all f vs ≡ true → IsTinted t
       → IsTinted (after_values vs t)

@@ -2,8 +2,8 @@
 use Rattle.std.proofs.Common.{ℕ, ◌≡◌, ◌⊎◌, inl, inr, Bool, true, false, not, ◌&&◌, if◌then◌else◌, List, [], ◌∷◌, ◌++◌, map, Option, None, refl, sym, ap, ◌∙◌, subst, append-nil}
 use Rattle.std.specs.List.{filter, list_all}
 use Rattle.std.proofs.lemmas.Bool.{and_parts, true≢false}
-use Rattle.esc_visible.specs.Characters.{is_deceiving, number_text}
-use Rattle.esc_visible.specs.Following.{may_follow}
+use Rattle.unicode_visibility.specs.Characters.{is_deceiving, number_text}
+use Rattle.unicode_visibility.specs.Following.{may_follow}
 use Rattle.esc_frame.specs.Classes.{class_of}
 use Rattle.esc_actions.proofs.Normal.{same_text}
 use Rattle.esc_actions.specs.Meaning.{meaning, meaning_within}
@@ -12,8 +12,8 @@ use Rattle.esc_actions.specs.Values.{Value, print, string, control, esc, csi, os
 use Rattle.esc_actions.specs.Writable.{AreWritable}
 use Rattle.esc_actions.specs.declared.control_code.ControlCode.{ControlCode}
 use Rattle.esc_actions.specs.declared.control_code.ControlCode.TheVariants.{CarriageReturn}
-use Rattle.esc_filter.specs.Characters.{in_guard, in_return, in_values, in_values_after, instead, is_return, last_after}
-use Rattle.esc_filter.specs.Closing.{after_values, closed, closing, given_back, keeps_cursor}
+use Rattle.esc_filter.specs.Characters.{in_guard, in_return, in_values, in_values_after, replacement_values, is_return, last_after}
+use Rattle.esc_filter.specs.Closing.{after_values, closed_values, closing, given_back, keeps_cursor}
 use Rattle.esc_filter.specs.Passing.{closed_text_as, is_line_feed, is_whole, passed_as, passed_text_as, passes}
 use Rattle.esc_filter.specs.Rules.{is_shown}
 use Rattle.esc_filter.specs.Terminal.{unchanged}
@@ -22,9 +22,9 @@ use Rattle.esc_filter.specs.declared.returns.Returns.{Returns}
 use Rattle.esc_filter.specs.declared.returns.Returns.TheVariants as way
 use Rattle.esc_filter.specs.declared.unicode.Unicode.{Unicode}
 use Rattle.esc_filter.specs.declared.unicode.Unicode.TheVariants.{Drop, Join, Keep, Show}
-use Rattle.esc_filter.proofs.Backs.{nothing_twice}
-use Rattle.esc_filter.proofs.Characters.{in_more, in_none, kinds, number_shown}
-use Rattle.esc_filter.proofs.LineData.{both}
+use Rattle.esc_filter.proofs.GivingBack.GivingBackRestores.{nothing_twice}
+use Rattle.esc_filter.proofs.Output.DeceivingCharacters.{in_more, in_none, kinds, number_shown}
+use Rattle.esc_filter.proofs.ByLine.DataHasNoFeed.{both}
 use Rattle.esc_idempotent.proofs.Given.{OfEach, back_all}
 use Rattle.esc_idempotent.proofs.Normals.{all_kept, normal_leaves, own_kept}
 use Rattle.esc_idempotent.proofs.Singles.{is_single, meaning_single}
@@ -54,7 +54,7 @@ module _ {A : Type 0} (p : Value A → Bool)
   all_joined c false h = all_prints (number_text c) (number_shown c)
 
   all_instead : (u : Unicode) (b : Option ℕ) (c : ℕ) (t : Bool) → p (print c) ≡ true
-      → All (if t then instead u b c else print c ∷ [])
+      → All (if t then replacement_values u b c else print c ∷ [])
   all_instead u b c false h = rw h refl
   all_instead Keep b c true h = rw h refl
   all_instead Join b c true h = all_joined c (may_follow b c) h
@@ -243,7 +243,7 @@ module _ {A : Type 0} where
   -- and what gives back what it leaves changed
   pub closed_pass : (u : Guard) (f p : Value A → Bool) (vs : List (Value A))
       → ArePassed u (passes p) vs → list_all (passes p) (closing f vs) ≡ true
-      → AreWritable (closed f vs) → ArePassed u (passes p) (closed f vs)
+      → AreWritable (closed_values f vs) → ArePassed u (passes p) (closed_values f vs)
   closed_pass u f p vs a h w =
       let cs = closing f vs in record {
         pass = both (passes p) vs cs a.pass h;
@@ -255,8 +255,8 @@ module _ {A : Type 0} where
 
   -- nothing more is given back
   pub closes_again : (f : Value A → Bool) (vs ns : List (Value A))
-      → after_values ns unchanged ≡ after_values (closed f vs) unchanged
-      → closed f ns ≡ ns
+      → after_values ns unchanged ≡ after_values (closed_values f vs) unchanged
+      → closed_values f ns ≡ ns
   closes_again f vs ns e =
       ap (λ t. ns ++ given_back (keeps_cursor f) t) e
       ∙ ap (λ cs. ns ++ cs) (nothing_twice A f vs) ∙ append-nil ns
@@ -288,20 +288,21 @@ module _ {A : Type 0} where
         ∙ ap list_text (steady_is u (filter (passes f) (normal ws)) n.steady) ∙ n.text
 
     pub closed_twice : AdmitsItsClosing f → (limit again : Option ℕ) (s : List ℕ)
-        → AreWritable (passed_as u limit f s) → AreWritable (closed f (passed_as u limit f s))
-        → meaning (closed_text_as u limit f s) ≡ normal (closed f (passed_as u limit f s))
+        → AreWritable (passed_as u limit f s)
+        → AreWritable (closed_values f (passed_as u limit f s))
+        → meaning (closed_text_as u limit f s) ≡ normal (closed_values f (passed_as u limit f s))
         → IsKept A again (closed_text_as u limit f s)
         → closed_text_as u again f (closed_text_as u limit f s) ≡ closed_text_as u limit f s
     closed_twice closes limit again s w v back kept =
         let vs = passed_as u limit f s in
-        let ws = closed f vs in
+        let ws = closed_values f vs in
         let ns = filter (passes f) (normal ws) in
         let a = passed_pass u f f one_text text limit s w in
         let own = all_if (passes f) f (λ v h. (and_parts (is_whole v) (f v) h).1) vs a.pass in
         let cs = all_two f is_calm (passes f) whole (closing f vs) (closes vs own)
         (calm_back f vs) in
         let n = pass_again u (passes f) ws (closed_pass u f f vs a cs v) in
-        ap (λ ms. list_text (closed f (in_values u (filter (passes f) ms))))
+        ap (λ ms. list_text (closed_values f (in_values u (filter (passes f) ms))))
         (read_again again ws back kept)
-        ∙ ap (λ xs. list_text (closed f xs)) (steady_is u ns n.steady)
+        ∙ ap (λ xs. list_text (closed_values f xs)) (steady_is u ns n.steady)
         ∙ ap list_text (closes_again f vs ns n.leaves) ∙ n.text

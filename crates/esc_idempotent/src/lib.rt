@@ -10,7 +10,7 @@ ghost use Rattle.esc_filter.specs.Known.{IsPassedText};
 ghost use Rattle.esc_filter.specs.Lines.{closed_by_lines_as, lines};
 ghost use Rattle.esc_filter.specs.Openings.{resumed_closed};
 ghost use Rattle.esc_filter.specs.Passing.{closed_text_as, passed_text_as};
-ghost use Rattle.esc_filter.specs.Pieces.{AdmitsAtMost};
+ghost use Rattle.esc_filter.specs.Tokens.{AdmitsAtMost};
 ghost use Rattle.esc_filter.specs.declared.group.Group.{Group};
 ghost use Rattle.esc_filter.specs.declared.group.Group.TheVariants as group;
 ghost use Rattle.esc_filter.specs.declared.groups.Groups.{Groups};
@@ -64,7 +64,7 @@ pub fn policies_close<A: Allocator>()
 
 /// So does one that admits no more than `Policy::Color`, where it admits the reset of renditions
 /// and the end of a link wherever it admits some.
-pub fn colours_close<A: Allocator>()
+pub fn colors_close<A: Allocator>()
     ensures { (f : Value A → Bool) → AdmitsAtMost policy.Color f → AdmitsResets f
         → AdmitsItsClosing f }
 {}

@@ -25,5 +25,5 @@ pub mod sixel {
 
 /// Termcap queries: device control strings with the intermediate `+` and the final byte `q`.
 pub mod tcap {
-    pub use esc_tcap::{GetTcapBuilder, TcapQuery};
+    pub use xtgettcap::{GetTcapBuilder, TcapQuery};
 }

@@ -13,7 +13,7 @@ use Rattle.esc_values.specs.Scalars.{signed_of, IsSigned}
 use Rattle.esc_values.proofs.PlainParts.{all_append}
 use Rattle.esc_values.proofs.Signed.{signed_back_64, signed_where}
 use Rattle.esc_values.proofs.Where.{Where, where_if, where_map}
-use Rattle.esc_iterm.specs.Dimensions.{before_end, measured, dimension_of, dimension_text, IsDimension}
+use Rattle.esc_iterm.specs.Dimensions.{before_end, measured_dimension, dimension_of, dimension_text, IsDimension}
 use Rattle.esc_iterm.specs.declared.dimension.ITermDimension.{ITermDimension}
 use Rattle.esc_iterm.specs.declared.dimension.ITermDimension.TheVariants.{Automatic, Cells, Pixels, Percent}
 use Rattle.esc_iterm.proofs.KeyTexts.{signed_some, differs, drop_passes}
@@ -91,7 +91,8 @@ dimension_back (Percent z) h =
     (ap (option_map Percent) (signed_back_64 z h))
 
 -- what is read
-measured_where : (p q : Option (List ℕ)) (t : List ℕ) → Where (λ d. IsDimension d) (measured p q t)
+measured_where : (p q : Option (List ℕ)) (t : List ℕ)
+    → Where (λ d. IsDimension d) (measured_dimension p q t)
 measured_where (Some n) q t = where_map (λ z. IsSigned 64 z) (λ d. IsDimension d) Pixels (λ z h.
     h) (signed_of 64 n) (signed_where 64 n)
 measured_where None (Some n) t = where_map (λ z. IsSigned 64 z) (λ d. IsDimension d) Percent (λ z h.

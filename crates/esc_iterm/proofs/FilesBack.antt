@@ -6,7 +6,7 @@ use Rattle.std.specs.Option.{unwrap_or}
 use Rattle.std.specs.Str.{IsUtf8}
 use Rattle.std.proofs.lemmas.List.{append_assoc}
 use Rattle.esc_values.specs.Base64.{base64_text_of, base64_text}
-use Rattle.esc_values.specs.Clear.{joined, separated}
+use Rattle.esc_values.specs.Clear.{joined, separated_parts}
 use Rattle.esc_values.specs.Cuts.{Pairs, pair_text}
 use Rattle.esc_values.specs.Fields.{values_of, written, entries, FitAll}
 use Rattle.esc_values.specs.Scalars.{and_then, number_of}
@@ -17,15 +17,15 @@ use Rattle.esc_values.proofs.PlainParts.{is_part_plain, all_append}
 use Rattle.esc_values.proofs.Utf8Bytes.{utf8_are_bytes, from_index}
 use Rattle.esc_values.proofs.Where.{Where, where_then, number_where, Anything, anything, content_where}
 use Rattle.esc_iterm.specs.Dimensions.{dimension_of, IsDimension}
-use Rattle.esc_iterm.specs.Files.{Kind, Size, Name, Dimension, Flag, Of, read_as, text_as, Fits, file_kinds, file_fields, filled, file_in, file_with, file_text}
+use Rattle.esc_iterm.specs.Files.{Kind, Size, Name, Dimension, Flag, Of, read_as, text_as, Fits, file_kinds, file_fields, filled_file, file_in, file_with, file_text}
 use Rattle.esc_iterm.specs.Files.{IsWritableFile, FileBack}
 use Rattle.esc_iterm.specs.declared.dimension.ITermDimension.{ITermDimension}
 use Rattle.esc_iterm.specs.declared.dimension.ITermDimension.TheVariants.{Automatic, Cells, Pixels, Percent}
 use Rattle.esc_iterm.specs.declared.file_data.ITermFileData.{ITermFileData}
 use Rattle.esc_iterm.proofs.DimensionsBack.{dimension_back, dimension_where}
 use Rattle.esc_iterm.proofs.KeyTexts.{is_key_plain, is_name, is_value, key_plain_part}
-use Rattle.esc_iterm.proofs.Pieces.{ArePieces, piece_plain, ended, pairs_back, file_of_ended, joined_ended, ended_some, ended_clear, pieces_plain}
-use Rattle.esc_iterm.proofs.Pieces.{written_pieces}
+use Rattle.esc_iterm.proofs.Slices.{AreSlices, slice_plain, ended, pairs_back, file_of_ended, joined_ended, ended_some, ended_clear, slices_plain}
+use Rattle.esc_iterm.proofs.Slices.{written_slices}
 
 -- what fits reads back
 kind_back : (k : Kind) (x : Of k) → Fits k x → read_as k (text_as k x) ≡ Some x
@@ -80,15 +80,15 @@ file_laws = record { back = kind_back; fits = kind_fits; passes = kind_passes }
 fields_back : {A : Type 0} (f : ITermFileData A) → FitAll file_fields f
     → file_in {A = A} (values_of (written (entries file_fields f))) f.content ≡ Some f
 fields_back {A = A} f h =
-    reads_back file_laws (file_fields {A = A}) (filled f.content) f
+    reads_back file_laws (file_fields {A = A}) (filled_file f.content) f
     (values_of (written (entries file_fields f))) h
     (ap (texts_at (file_fields {A = A})) (written_values (entries file_fields f)))
 
--- the file of what is in the pieces
+-- the file of what is in the slices
 abbrev made : {A : Type 0} → Option (Pairs × List ℕ) → Option (ITermFileData A)
 made o = and_then o (λ (m : Pairs × List ℕ). file_with (values_of m.0) m.1)
 
-back_of : {A : Type 0} (f : ITermFileData A) (es : Pairs) (b : List ℕ) → ArePieces es
+back_of : {A : Type 0} (f : ITermFileData A) (es : Pairs) (b : List ℕ) → AreSlices es
     → list_all is_part_plain (0x3a ∷ b) ≡ true
     → file_with {A = A} (values_of es) b ≡ Some f
     → file_text f ≡ codes "File=" ++ (joined (map pair_text es) ++ 0x3a ∷ b) → FileBack f
@@ -101,12 +101,12 @@ back_of {A = A} f [] b h plain is text = (
 )
 back_of {A = A} f (e ∷ es) b h plain is text = (
   ended (codes "File=" ++ pair_text e) (map pair_text es) (0x3a ∷ b),
-  text ∙ ap (λ u. codes "File=" ++ u) (append_assoc (pair_text e) (separated (map pair_text es))
+  text ∙ ap (λ u. codes "File=" ++ u) (append_assoc (pair_text e) (separated_parts (map pair_text es))
       (0x3a ∷ b))
       ∙ sym (joined_ended (codes "File=" ++ pair_text e) (map pair_text es) (0x3a ∷ b)),
   ended_some (codes "File=" ++ pair_text e) (map pair_text es) (0x3a ∷ b),
   ended_clear (codes "File=" ++ pair_text e) (map pair_text es) (0x3a ∷ b)
-      (key_plain_part (pair_text e) (piece_plain e h.0)) (pieces_plain es h.1) plain,
+      (key_plain_part (pair_text e) (slice_plain e h.0)) (slices_plain es h.1) plain,
   file_of_ended {A = A} (pair_text e) (map pair_text es) (0x3a ∷ b)
       ∙ ap (made {A = A}) (pairs_back e es b h.0 h.1) ∙ is,
 )
@@ -115,7 +115,7 @@ pub file_back : {A : Type 0} (f : ITermFileData A) → IsWritableFile f → File
 file_back {A = A} f h =
     let es = entries file_fields f in
     back_of f (written es) (base64_text f.content)
-    (written_pieces es (entries_pass file_laws (λ k. list_all is_name k) file_fields f refl h.0))
+    (written_slices es (entries_pass file_laws (λ k. list_all is_name k) file_fields f refl h.0))
     (base64_passes is_part_plain refl refl f.content (from_index f.content h.1))
     (ap (λ o. and_then o (file_in {A = A} (values_of (written es))))
     (base64_bytes_back f.content h.1)

@@ -7,7 +7,7 @@ use Rattle.esc_values.specs.Cuts.{Pairs}
 use Rattle.esc_values.specs.Fields.{Values, values_of}
 use Rattle.esc_values.proofs.Fields.{read_fits}
 use Rattle.esc_values.proofs.Where.{Where, where_from, where_if, where_then, Anything, anything}
-use Rattle.esc_iterm.specs.Files.{pairs_of, file_fields, filled, file_in, file_with, file_from, file_of, IsWritableFile}
+use Rattle.esc_iterm.specs.Files.{pairs_of, file_fields, filled_file, file_in, file_with, file_from, file_of, IsWritableFile}
 use Rattle.esc_iterm.specs.declared.file_data.ITermFileData.{ITermFileData}
 use Rattle.esc_iterm.proofs.DecodedBytes.{decoded_are_bytes}
 use Rattle.esc_iterm.proofs.FilesBack.{file_laws}
@@ -16,7 +16,7 @@ file_with_where : (A : Type 0) (v : Values) (t : List ℕ)
     → Where (λ f. IsWritableFile f) (file_with {A = A} v t)
 file_with_where A v t =
     where_then (λ m. IsBytes m) (λ f. IsWritableFile f) (file_in {A = A} v)
-    (λ m h. read_fits file_laws (file_fields {A = A}) (filled {A = A} m) v (λ f.
+    (λ m h. read_fits file_laws (file_fields {A = A}) (filled_file {A = A} m) v (λ f.
     IsWritableFile f) (λ xs k. (k, h))) (base64_of t)
     (where_from (λ m. IsBytes m) (base64_of t) (λ m e. decoded_are_bytes t m e))
 

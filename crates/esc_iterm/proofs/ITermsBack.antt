@@ -16,7 +16,7 @@ use Rattle.esc_values.proofs.ClearTexts.{part_append, part_lossy}
 use Rattle.esc_values.proofs.Cutting.{Free}
 use Rattle.esc_values.proofs.PlainParts.{plain_part}
 use Rattle.esc_iterm.specs.Files.{file_of, FileBack}
-use Rattle.esc_iterm.specs.ITerms.{alone, bare, keyed, form_from, form_of, iterm_of, form_text}
+use Rattle.esc_iterm.specs.ITerms.{lone_keyword, bare_keyword, keyed_word, form_from, form_of, iterm_of, form_text}
 use Rattle.esc_iterm.specs.Tenths.{tenths_text}
 use Rattle.esc_iterm.specs.Versions.{version_text}
 use Rattle.esc_iterm.specs.WritableITerms.{IsWritableITerm, WritesBack}
@@ -56,13 +56,13 @@ form_means A p more h other =
     ∙ ap (λ t. form_of {A = A} t more) (part_lossy p h)
 
 keyed_means : (A : Type 0) (k v : List ℕ) (more : List (List ℕ)) → Keyword k → IsClearPart v
-    → iterm_of {A = A} ((k ++ 0x3d ∷ v) ∷ more) ≡ keyed k v more
+    → iterm_of {A = A} ((k ++ 0x3d ∷ v) ∷ more) ≡ keyed_word k v more
 keyed_means A k v more w h =
     form_means A (k ++ 0x3d ∷ v) more (first_part k v w h) (w.other (0x3d ∷ v))
     ∙ ap (λ o. form_from {A = A} (k ++ 0x3d ∷ v) o more) (key_back k v w.clear w.lacks h)
 
 bare_means : (A : Type 0) (k : List ℕ) (more : List (List ℕ)) → Keyword k
-    → iterm_of {A = A} (k ∷ more) ≡ bare k more
+    → iterm_of {A = A} (k ∷ more) ≡ bare_keyword k more
 bare_means A k more w =
     let P : List ℕ → Type 0 = λ t. starts_with nat_eq t (codes "File=") ≡ false in
     form_means A k more w.clear (subst P (append-nil k) (w.other []))
@@ -73,7 +73,7 @@ one_text : (t : List ℕ) → codes "1337;" ++ t ≡ joined (codes "1337" ∷ t 
 one_text t = ap (λ x. codes "1337;" ++ x) (sym (append-nil t))
 
 alone_back : (A : Type 0) (c : ITermProprietary A) (k : List ℕ) → Keyword k → form_text c ≡ k
-    → alone k ≡ Some c → WritesBack c
+    → lone_keyword k ≡ Some c → WritesBack c
 alone_back A c k w e reads = (
   k ∷ [],
   ap (λ t. codes "1337;" ++ t) e ∙ one_text k,
@@ -82,7 +82,7 @@ alone_back A c k w e reads = (
 )
 
 one_back : (A : Type 0) (c : ITermProprietary A) (k v : List ℕ) → Keyword k → IsClearPart v
-    → form_text c ≡ k ++ 0x3d ∷ v → keyed k v [] ≡ Some c → WritesBack c
+    → form_text c ≡ k ++ 0x3d ∷ v → keyed_word k v [] ≡ Some c → WritesBack c
 one_back A c k v w h e reads = (
   (k ++ 0x3d ∷ v) ∷ [],
   ap (λ t. codes "1337;" ++ t) e ∙ one_text (k ++ 0x3d ∷ v),

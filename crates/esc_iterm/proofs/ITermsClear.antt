@@ -12,7 +12,7 @@ use Rattle.esc_values.proofs.ClearPairs.{IsClearPair, key_clear}
 use Rattle.esc_values.proofs.ClearTexts.{part_lossy}
 use Rattle.esc_values.proofs.Where.{Where, where_from, where_if, where_map, where_then, content_where}
 use Rattle.esc_iterm.specs.Files.{file_of, IsWritableFile}
-use Rattle.esc_iterm.specs.ITerms.{alone, highlight_of, variable_of, assigned, content_of, cell_size, scaled_size, with_one, with_two, bare, keyed}
+use Rattle.esc_iterm.specs.ITerms.{lone_keyword, highlight_of, variable_of, assigned_keyword, content_of, cell_size, scaled_size, with_one, with_two, bare_keyword, keyed_word}
 use Rattle.esc_iterm.specs.ITerms.{form_from, form_of, iterm_of}
 use Rattle.esc_iterm.specs.Tenths.{tenths_of}
 use Rattle.esc_iterm.specs.Versions.{version_of}
@@ -28,7 +28,7 @@ use Rattle.esc_iterm.proofs.VersionsBack.{version_where}
 abbrev Good : (A : Type 0) → ITermProprietary A → Type 0
 Good A c = IsWritableITerm {A = A} c
 
-alone_good : (A : Type 0) (k : List ℕ) → Where (Good A) (alone k)
+alone_good : (A : Type 0) (k : List ℕ) → Where (Good A) (lone_keyword k)
 alone_good A k =
     where_if (Good A) (pointwise nat_eq k (codes "SetMark")) (Some iterm.SetMark) _ tt
     (where_if (Good A) (pointwise nat_eq k (codes "StealFocus")) (Some iterm.StealFocus) _ tt
@@ -63,7 +63,7 @@ version_good : (A : Type 0) (v : List ℕ) → IsClearPart v
 version_good A v h = where_map (λ u. IsVersion {A = A} u) (Good A) iterm.UnicodeVersion (λ t u.
     u) (version_of v) (version_where A v h)
 
-assigned_good : (A : Type 0) (k v : List ℕ) → IsClearPart v → Where (Good A) (assigned k v)
+assigned_good : (A : Type 0) (k v : List ℕ) → IsClearPart v → Where (Good A) (assigned_keyword k v)
 assigned_good A k v clear =
     where_if (Good A) (pointwise nat_eq k (codes "CurrentDir")) (Some (iterm.CurrentDir v)) _ clear
     (where_if (Good A) (pointwise nat_eq k (codes "SetProfile")) (Some (iterm.SetProfile v)) _ clear
@@ -105,13 +105,13 @@ two_good : (A : Type 0) (k v b c : List ℕ) → Where (Good A) (with_two k v b 
 two_good A k v b c =
     where_if (Good A) (pointwise nat_eq k (codes "ReportCellSize")) _ None (scaled_good A v b c) tt
 
-bare_good : (A : Type 0) (k : List ℕ) (more : List (List ℕ)) → Where (Good A) (bare k more)
+bare_good : (A : Type 0) (k : List ℕ) (more : List (List ℕ)) → Where (Good A) (bare_keyword k more)
 bare_good A k [] = alone_good A k
 bare_good A k (b ∷ []) = content_good A k b
 bare_good A k (b ∷ c ∷ more) = tt
 
 keyed_good : (A : Type 0) (k v : List ℕ) (more : List (List ℕ)) → IsClearPart v
-    → Where (Good A) (keyed k v more)
+    → Where (Good A) (keyed_word k v more)
 keyed_good A k v [] h = assigned_good A k v h
 keyed_good A k v (b ∷ []) h = one_good A k v b
 keyed_good A k v (b ∷ c ∷ []) h = two_good A k v b c

@@ -8,7 +8,7 @@ pub mod KeyTexts
 pub mod KeysWritten
 pub mod LossyTexts
 pub mod ManyParts
-pub mod Pieces
-pub mod ReadPieces
+pub mod Slices
+pub mod ReadSlices
 pub mod TenthsBack
 pub mod VersionsBack

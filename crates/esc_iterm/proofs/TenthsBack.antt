@@ -6,7 +6,7 @@ use Rattle.std.proofs.lemmas.Fmt.{decimal_is_IsNumeral, decimal_digit}
 use Rattle.std.proofs.lemmas.Str.Parse.{digit_at}
 use Rattle.esc_values.specs.Clear.{IsClearPart}
 use Rattle.esc_values.specs.Cuts.{cut_at}
-use Rattle.esc_values.specs.Scalars.{and_then, when, number_in}
+use Rattle.esc_values.specs.Scalars.{and_then, some_if, number_in}
 use Rattle.esc_values.proofs.ClearTexts.{part_append}
 use Rattle.esc_values.proofs.Cutting.{Free, free_from, cut_there}
 use Rattle.esc_values.proofs.Numbers.{test_from_numeral}
@@ -61,7 +61,7 @@ tenths_part n small =
 abbrev pub IsSmall : ℕ → Type 0
 IsSmall n = n < 2 ^ 32
 
-when_small : (n : ℕ) → Where (λ m. IsSmall m) (when (nat_lt n (2 ^ 32)) n)
+when_small : (n : ℕ) → Where (λ m. IsSmall m) (some_if (nat_lt n (2 ^ 32)) n)
 when_small n =
     elim (cases_Bool (nat_lt n (2 ^ 32))) [
       | inl held ↦ let small = ltb-true n (2 ^ 32) held in rw held small
@@ -71,9 +71,9 @@ when_small n =
 in_where : (whole tenth : List ℕ) → Where (λ m. IsSmall m) (tenths_in whole tenth)
 in_where whole tenth =
     where_then (λ (n : ℕ). Anything n) (λ m. IsSmall m) (λ n.
-    and_then (tenth_of tenth) (λ d. when (nat_lt (10 * n + d) (2 ^ 32)) (10 * n + d)))
+    and_then (tenth_of tenth) (λ d. some_if (nat_lt (10 * n + d) (2 ^ 32)) (10 * n + d)))
     (λ n h. where_then (λ (d : ℕ). Anything d) (λ m. IsSmall m) (λ d.
-    when (nat_lt (10 * n + d) (2 ^ 32)) (10 * n + d))
+    some_if (nat_lt (10 * n + d) (2 ^ 32)) (10 * n + d))
     (λ d k. when_small (10 * n + d)) (tenth_of tenth) (anything (tenth_of tenth)))
     (number_in 32 whole) (anything (number_in 32 whole))
 

@@ -14,7 +14,7 @@ use Rattle.esc_values.proofs.Cutting.{BothClear, cut_clear}
 use Rattle.esc_values.proofs.Numerals.{decimal_part, number_back}
 use Rattle.esc_values.proofs.PlainParts.{plain_part}
 use Rattle.esc_values.proofs.Where.{Where, where_if, where_map, utf8_keeps, number_where}
-use Rattle.esc_iterm.specs.Versions.{labelled, unlabelled, version_from, version_of, label_text, version_text}
+use Rattle.esc_iterm.specs.Versions.{labelled_version, unlabelled_version, version_from, version_of, label_text, version_text}
 use Rattle.esc_iterm.specs.WritableITerms.{IsLabel, IsVersion}
 use Rattle.esc_iterm.specs.declared.unicode_version.ITermUnicodeVersionOp.{ITermUnicodeVersionOp}
 use Rattle.esc_iterm.specs.declared.unicode_version.ITermUnicodeVersionOp.TheVariants as version
@@ -70,7 +70,7 @@ version_part A (version.Pop l) h =
 abbrev Good : (A : Type 0) → ITermUnicodeVersionOp A → Type 0
 Good A v = IsVersion {A = A} v
 
-labelled_where : (A : Type 0) (w l : List ℕ) → IsClearPart l → Where (Good A) (labelled w l)
+labelled_where : (A : Type 0) (w l : List ℕ) → IsClearPart l → Where (Good A) (labelled_version w l)
 labelled_where A w l h =
     where_if (Good A) (pointwise nat_eq w (codes "push")) _ _
     (where_map (λ t. IsClearPart t) (Good A) (λ t. version.Push (Some t)) (λ t q.
@@ -79,7 +79,7 @@ labelled_where A w l h =
     (where_map (λ t. IsClearPart t) (Good A) (λ t. version.Pop (Some t)) (λ t q.
     q) (utf8_of l) (utf8_keeps (λ t. IsClearPart t) l h)) tt)
 
-unlabelled_where : (A : Type 0) (w : List ℕ) → Where (Good A) (unlabelled w)
+unlabelled_where : (A : Type 0) (w : List ℕ) → Where (Good A) (unlabelled_version w)
 unlabelled_where A w =
     where_if (Good A) (pointwise nat_eq w (codes "push")) (Some (version.Push None)) _ tt
     (where_if (Good A) (pointwise nat_eq w (codes "pop")) (Some (version.Pop None)) _ tt

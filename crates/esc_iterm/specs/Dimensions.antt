@@ -3,25 +3,25 @@ use Rattle.std.specs.Prelude.{ℕ, ℤ, pos, negsuc, nat_eq, ◌<◌, ◌^◌, �
 use Rattle.std.specs.Cmp.Lexicographic.{pointwise}
 use Rattle.std.specs.Fmt.{signed_decimal}
 use Rattle.std.specs.Option.{option_map}
-use Rattle.esc_values.specs.Scalars.{when, signed_of, IsSigned}
+use Rattle.esc_values.specs.Scalars.{some_if, signed_of, IsSigned}
 use Rattle.esc_iterm.specs.declared.dimension.ITermDimension.{ITermDimension}
 use Rattle.esc_iterm.specs.declared.dimension.ITermDimension.TheVariants.{Automatic, Cells, Pixels, Percent}
 
 -- what comes before this end of a text; none where the text does not end so
 abbrev pub before_end : List ℕ → List ℕ → Option (List ℕ)
 before_end e t =
-    when (pointwise nat_eq (drop (length t - length e) t) e) (take (length t - length e) t)
+    some_if (pointwise nat_eq (drop (length t - length e) t) e) (take (length t - length e) t)
 
 -- by what comes before `px`, else by what comes before `%`, else by the text: a number of 64 bits
-abbrev pub measured : Option (List ℕ) → Option (List ℕ) → List ℕ → Option ITermDimension
-measured (Some n) p t = option_map Pixels (signed_of 64 n)
-measured None (Some n) t = option_map Percent (signed_of 64 n)
-measured None None t = option_map Cells (signed_of 64 t)
+abbrev pub measured_dimension : Option (List ℕ) → Option (List ℕ) → List ℕ → Option ITermDimension
+measured_dimension (Some n) p t = option_map Pixels (signed_of 64 n)
+measured_dimension None (Some n) t = option_map Percent (signed_of 64 n)
+measured_dimension None None t = option_map Cells (signed_of 64 t)
 
 -- `auto`, or a number with its unit
 abbrev pub dimension_of : List ℕ → Option ITermDimension
 dimension_of t = if pointwise nat_eq t (codes "auto") then Some Automatic
-    else measured (before_end (codes "px") t) (before_end (codes "%") t) t
+    else measured_dimension (before_end (codes "px") t) (before_end (codes "%") t) t
 
 -- the text of a dimension
 abbrev pub dimension_text : ITermDimension → List ℕ

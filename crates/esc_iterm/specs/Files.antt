@@ -8,32 +8,32 @@ use Rattle.std.specs.Option.{option_map, unwrap_or}
 use Rattle.std.specs.Str.{IsUtf8}
 use Rattle.base64.specs.GeneralPurpose.{IsBytes}
 use Rattle.esc_values.specs.Base64.{base64_of, base64_text_of, base64_text}
-use Rattle.esc_values.specs.Clear.{joined, separated, AreClearParts}
+use Rattle.esc_values.specs.Clear.{joined, separated_parts, AreClearParts}
 use Rattle.esc_values.specs.Cuts.{Pairs, cut_at, pair_text, pairs_in, without_empty}
 use Rattle.esc_values.specs.Fields.{Values, values_of, Entry, written, Kinds, Field, entries, FitAll, read_with}
-use Rattle.esc_values.specs.Scalars.{and_then, when, number_of}
+use Rattle.esc_values.specs.Scalars.{and_then, some_if, number_of}
 use Rattle.esc_iterm.specs.Dimensions.{dimension_of, dimension_text, IsDimension}
 use Rattle.esc_iterm.specs.declared.dimension.ITermDimension.{ITermDimension}
 use Rattle.esc_iterm.specs.declared.dimension.ITermDimension.TheVariants.{Automatic, Cells, Pixels, Percent}
 use Rattle.esc_iterm.specs.declared.file_data.ITermFileData.{ITermFileData}
 
--- the pair of a piece before the last: none in an empty piece; any other piece without `=` does not
+-- the pair of a slice before the last: none in an empty slice; any other slice without `=` does not
 -- fit
-abbrev pub piece_pairs : List ℕ → Option Pairs
-piece_pairs p = pairs_in (without_empty (p ∷ []))
+abbrev pub slice_pairs : List ℕ → Option Pairs
+slice_pairs p = pairs_in (without_empty (p ∷ []))
 
--- the pair of the last piece: none where it has no `=`
+-- the pair of the last slice: none where it has no `=`
 abbrev pub last_pairs : List ℕ → Option Pairs
 last_pairs p = if is_some (cut_at 0x3d p) then pairs_in (p ∷ []) else Some []
 
--- The pairs of the pieces, and what follows the first `:` of the last piece. None where there is no
--- piece, the last one has no `:`, or one does not fit.
+-- The pairs of the slices, and what follows the first `:` of the last slice. None where there is no
+-- slice, the last one has no `:`, or one does not fit.
 abbrev pub pairs_of : List (List ℕ) → Option (Pairs × List ℕ)
 pairs_of [] = None
 pairs_of (p ∷ []) =
     and_then (cut_at 0x3a p) (λ (c : List ℕ
     × List ℕ). option_map (λ es. (es, c.1)) (last_pairs c.0))
-pairs_of (p ∷ q ∷ ps) = and_then (piece_pairs p) (λ es.
+pairs_of (p ∷ q ∷ ps) = and_then (slice_pairs p) (λ es.
     option_map (λ (m : Pairs × List ℕ). (es ++ m.0, m.1)) (pairs_of (q ∷ ps)))
 
 -- the dimension of a value; automatic where there is none that can be read
@@ -53,8 +53,8 @@ written_dimension (Percent n) = Some (dimension_text (Percent n))
 
 -- the text of a flag that differs from what it is without the key
 abbrev pub flag_value : Bool → Bool → Option (List ℕ)
-flag_value true x = when (not x) (codes "0")
-flag_value false x = when x (codes "1")
+flag_value true x = some_if (not x) (codes "0")
+flag_value false x = some_if x (codes "1")
 
 -- the kinds of values; `Flag` has what it is without the key
 pub data Kind : Type 0 where
@@ -110,9 +110,9 @@ file_fields =
     ∷ []
 
 -- the file of this content and the values of its keys
-abbrev pub filled : {A : Type 0} → List ℕ → Option ℕ → Option (List ℕ) → ITermDimension
+abbrev pub filled_file : {A : Type 0} → List ℕ → Option ℕ → Option (List ℕ) → ITermDimension
     → ITermDimension → Bool → Bool → Bool → ITermFileData A
-filled bytes size name width height ratio inline cursor = record {
+filled_file bytes size name width height ratio inline cursor = record {
   name = name;
   size = size;
   width = width;
@@ -138,35 +138,35 @@ plain_file bytes = record {
 
 -- the file of these values and this content
 abbrev pub file_in : {A : Type 0} → Values → List ℕ → Option (ITermFileData A)
-file_in {A = A} v bytes = read_with (file_fields {A = A}) (filled bytes) v
+file_in {A = A} v bytes = read_with (file_fields {A = A}) (filled_file bytes) v
 
 -- the file of these values and a content in base64; none where that is no base64
 abbrev pub file_with : {A : Type 0} → Values → List ℕ → Option (ITermFileData A)
 file_with v t = and_then (base64_of t) (file_in v)
 
--- the file of the pieces
+-- the file of the slices
 abbrev pub file_from : {A : Type 0} → List (List ℕ) → Option (ITermFileData A)
 file_from ps = and_then (pairs_of ps) (λ (m : Pairs × List ℕ). file_with (values_of m.0) m.1)
 
 -- The file of the parts after the code `1337`. The first begins with `File=`; what follows that,
--- and each further part, is a piece.
+-- and each further part, is a slice.
 abbrev pub file_of : {A : Type 0} → List (List ℕ) → Option (ITermFileData A)
 file_of [] = None
 file_of (p ∷ ps) = if starts_with nat_eq p (codes "File=") then file_from (drop 5 p ∷ ps) else None
 
--- the pieces of the keys that are written
-abbrev pub key_pieces : List Entry → List (List ℕ)
-key_pieces es = map pair_text (written es)
+-- the slices of the keys that are written
+abbrev pub key_slices : List Entry → List (List ℕ)
+key_slices es = map pair_text (written es)
 
--- pieces with `;` between them, and before the first of them where it is not the first at all
+-- slices with `;` between them, and before the first of them where it is not the first at all
 abbrev pub pieces_after : Bool → List (List ℕ) → List ℕ
 pieces_after true ps = joined ps
-pieces_after false ps = separated ps
+pieces_after false ps = separated_parts ps
 
 -- the text of a file, which is what follows `1337;`
 abbrev pub file_text : {A : Type 0} → ITermFileData A → List ℕ
 file_text f =
-    codes "File=" ++ (joined (key_pieces (entries file_fields f)) ++ 0x3a ∷ base64_text f.content)
+    codes "File=" ++ (joined (key_slices (entries file_fields f)) ++ 0x3a ∷ base64_text f.content)
 
 -- A file as a program can hold it: its name is a text, its size and the numbers of its dimensions
 -- have 64 bits, its content is bytes.

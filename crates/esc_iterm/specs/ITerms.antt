@@ -15,8 +15,8 @@ use Rattle.esc_iterm.specs.declared.proprietary.ITermProprietary.{ITermProprieta
 use Rattle.esc_iterm.specs.declared.proprietary.ITermProprietary.TheVariants as iterm
 
 -- a keyword alone
-abbrev pub alone : {A : Type 0} → List ℕ → Option (ITermProprietary A)
-alone k = if pointwise nat_eq k (codes "SetMark") then Some iterm.SetMark
+abbrev pub lone_keyword : {A : Type 0} → List ℕ → Option (ITermProprietary A)
+lone_keyword k = if pointwise nat_eq k (codes "SetMark") then Some iterm.SetMark
     else if pointwise nat_eq k (codes "StealFocus") then Some iterm.StealFocus
     else if pointwise nat_eq k (codes "ClearScrollback") then Some iterm.ClearScrollback
     else if pointwise nat_eq k (codes "EndCopy") then Some iterm.EndCopy
@@ -36,8 +36,8 @@ variable_of v =
     × List ℕ). option_map (λ t. iterm.SetUserVar e.0 t) (base64_text_of e.1))
 
 -- a keyword and its argument in one part
-abbrev pub assigned : {A : Type 0} → List ℕ → List ℕ → Option (ITermProprietary A)
-assigned k v = if pointwise nat_eq k (codes "CurrentDir") then Some (iterm.CurrentDir v)
+abbrev pub assigned_keyword : {A : Type 0} → List ℕ → List ℕ → Option (ITermProprietary A)
+assigned_keyword k v = if pointwise nat_eq k (codes "CurrentDir") then Some (iterm.CurrentDir v)
     else if pointwise nat_eq k (codes "SetProfile") then Some (iterm.SetProfile v)
     else if pointwise nat_eq k (codes "CopyToClipboard") then Some (iterm.CopyToClipboard v)
     else if pointwise nat_eq k (codes "HighlightCursorLine") then highlight_of v
@@ -75,22 +75,22 @@ abbrev pub with_two : {A : Type 0} → List ℕ → List ℕ → List ℕ → Li
 with_two k v b c = if pointwise nat_eq k (codes "ReportCellSize") then scaled_size v b c else None
 
 -- a first part without `=`, and the parts after it
-abbrev pub bare : {A : Type 0} → List ℕ → List (List ℕ) → Option (ITermProprietary A)
-bare k [] = alone k
-bare k (b ∷ []) = content_of k b
-bare k (b ∷ c ∷ more) = None
+abbrev pub bare_keyword : {A : Type 0} → List ℕ → List (List ℕ) → Option (ITermProprietary A)
+bare_keyword k [] = lone_keyword k
+bare_keyword k (b ∷ []) = content_of k b
+bare_keyword k (b ∷ c ∷ more) = None
 
 -- a first part with `=`, cut there, and the parts after it
-abbrev pub keyed : {A : Type 0} → List ℕ → List ℕ → List (List ℕ) → Option (ITermProprietary A)
-keyed k v [] = assigned k v
-keyed k v (b ∷ []) = with_one k v b
-keyed k v (b ∷ c ∷ []) = with_two k v b c
-keyed k v (b ∷ c ∷ d ∷ more) = None
+abbrev pub keyed_word : {A : Type 0} → List ℕ → List ℕ → List (List ℕ) → Option (ITermProprietary A)
+keyed_word k v [] = assigned_keyword k v
+keyed_word k v (b ∷ []) = with_one k v b
+keyed_word k v (b ∷ c ∷ []) = with_two k v b c
+keyed_word k v (b ∷ c ∷ d ∷ more) = None
 
 abbrev pub form_from : {A : Type 0} → List ℕ → Option (List ℕ × List ℕ) → List (List ℕ)
     → Option (ITermProprietary A)
-form_from t None more = bare t more
-form_from t (Some e) more = keyed e.0 e.1 more
+form_from t None more = bare_keyword t more
+form_from t (Some e) more = keyed_word e.0 e.1 more
 
 -- every form but a file: the first part as a text, cut at its first `=`, and the parts after it
 abbrev pub form_of : {A : Type 0} → List ℕ → List (List ℕ) → Option (ITermProprietary A)

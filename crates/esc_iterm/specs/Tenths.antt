@@ -3,18 +3,18 @@ use Rattle.std.specs.Prelude.{ℕ, ◌+◌, ◌-◌, ◌*◌, ◌^◌, ◌/◌, 
 use Rattle.std.specs.Fmt.{decimal}
 use Rattle.esc_values.specs.Cuts.{cut_at}
 use Rattle.esc_values.specs.Params.{is_digit}
-use Rattle.esc_values.specs.Scalars.{and_then, when, number_in}
+use Rattle.esc_values.specs.Scalars.{and_then, some_if, number_in}
 
 -- at most one digit after the point; none is 0
 abbrev pub tenth_of : List ℕ → Option ℕ
 tenth_of [] = Some 0
-tenth_of (d ∷ []) = when (is_digit d) (d - 0x30)
+tenth_of (d ∷ []) = some_if (is_digit d) (d - 0x30)
 tenth_of (d ∷ e ∷ ds) = None
 
 -- the tenths of the digits before the point and what follows it, where they have 32 bits
 abbrev pub tenths_in : List ℕ → List ℕ → Option ℕ
 tenths_in whole tenth = and_then (number_in 32 whole) (λ n.
-    and_then (tenth_of tenth) (λ d. when (nat_lt (10 * n + d) (2 ^ 32)) (10 * n + d)))
+    and_then (tenth_of tenth) (λ d. some_if (nat_lt (10 * n + d) (2 ^ 32)) (10 * n + d)))
 
 abbrev pub tenths_from : List ℕ → Option (List ℕ × List ℕ) → Option ℕ
 tenths_from t None = tenths_in t []

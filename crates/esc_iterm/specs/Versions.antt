@@ -9,22 +9,22 @@ use Rattle.esc_iterm.specs.declared.unicode_version.ITermUnicodeVersionOp.{ITerm
 use Rattle.esc_iterm.specs.declared.unicode_version.ITermUnicodeVersionOp.TheVariants as version
 
 -- a word and a label
-abbrev pub labelled : {A : Type 0} → List ℕ → List ℕ → Option (ITermUnicodeVersionOp A)
-labelled w l =
+abbrev pub labelled_version : {A : Type 0} → List ℕ → List ℕ → Option (ITermUnicodeVersionOp A)
+labelled_version w l =
     if pointwise nat_eq w (codes "push") then option_map (λ t. version.Push (Some t)) (utf8_of l)
     else if pointwise nat_eq w (codes "pop") then option_map (λ t. version.Pop (Some t)) (utf8_of l)
     else None
 
 -- a word alone, or a number
-abbrev pub unlabelled : {A : Type 0} → List ℕ → Option (ITermUnicodeVersionOp A)
-unlabelled w = if pointwise nat_eq w (codes "push") then Some (version.Push None)
+abbrev pub unlabelled_version : {A : Type 0} → List ℕ → Option (ITermUnicodeVersionOp A)
+unlabelled_version w = if pointwise nat_eq w (codes "push") then Some (version.Push None)
     else if pointwise nat_eq w (codes "pop") then Some (version.Pop None)
     else option_map version.Set (number_of 8 w)
 
 abbrev pub version_from : {A : Type 0} → List ℕ → Option (List ℕ × List ℕ)
     → Option (ITermUnicodeVersionOp A)
-version_from t None = unlabelled t
-version_from t (Some c) = labelled c.0 c.1
+version_from t None = unlabelled_version t
+version_from t (Some c) = labelled_version c.0 c.1
 
 -- `push` or `pop`, with or without a label after the first space, or a number of 8 bits
 abbrev pub version_of : {A : Type 0} → List ℕ → Option (ITermUnicodeVersionOp A)

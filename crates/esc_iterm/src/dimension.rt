@@ -3,7 +3,7 @@
 ghost use Rattle.std.specs.Prelude.{◌≡◌, ◌*◌, ◌^◌, ◌++◌, nat_lt, IsTrue, ◌↔◌, Some};
 ghost use Rattle.std.specs.Fmt.{DisplaysOnOk, signed_decimal};
 ghost use Rattle.std.specs.Option.{ok_or, option_map};
-ghost use Rattle.esc_values.specs.Scalars.{signed_of, when};
+ghost use Rattle.esc_values.specs.Scalars.{signed_of, some_if};
 ghost use Rattle.esc_values.specs.declared.error.Error.TheVariants.{Invalid};
 ghost use Rattle.esc_iterm.specs.Dimensions.{dimension_of, dimension_text, percentage, not_negative, pixels_product, FitsPixels, pixels_of};
 ghost use Rattle.esc_iterm.specs.declared.dimension.ITermDimension.TheVariants.{Automatic, Cells};
@@ -152,7 +152,7 @@ impl ITermDimension {
 
     // The product that has to fit, where it does.
     fn product(&self, cell_size: usize, num_cells: usize) -> Option<usize>
-        ensures { result ≡ when (nat_lt (pixels_product self.now cell_size num_cells) (2 ^ 64))
+        ensures { result ≡ some_if (nat_lt (pixels_product self.now cell_size num_cells) (2 ^ 64))
             (pixels_product self.now cell_size num_cells) }
     {
         match self {
@@ -182,7 +182,7 @@ fn percentage(number: i64) -> usize
 
 // The product, where it fits. The product of the first two may not fit where the whole is 0.
 fn product_of_three(a: usize, b: usize, c: usize) -> Option<usize>
-    ensures { result ≡ when (nat_lt (a * b * c) (2 ^ 64)) (a * b * c) }
+    ensures { result ≡ some_if (nat_lt (a * b * c) (2 ^ 64)) (a * b * c) }
 {
     if c == 0 {
         return Some(0);

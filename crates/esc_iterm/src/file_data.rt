@@ -1,7 +1,7 @@
 //! Files that are sent to the terminal (<https://iterm2.com/documentation-images.html>).
 ghost use Rattle.std.specs.Prelude.{◌≡◌, IfOk, OnErr, map, Some};
 ghost use Rattle.esc_iterm.specs.Files.{file_of, file_text, plain_file};
-ghost use Rattle.memory.specs.Refusals.{Refused};
+ghost use Rattle.fallible_alloc.specs.Refusals.{Refused};
 
 use crate::dimension::ITermDimension;
 use crate::read_file::read_file;
@@ -66,10 +66,10 @@ impl<A: Allocator + Copy> ITermFileData<A> {
     /// Reads a file from the parts of an operating system command after its code `1337`; none where
     /// they are no file. The error is that memory was refused.
     ///
-    /// The first part begins with `File=`. The pieces are what follows that, and each further part.
-    /// The last piece has a `:`, and after its first `:` the content in base64; before it, and in
-    /// each other piece, is a key with its value after the first `=`, as texts. An empty piece is
-    /// skipped, and so is a last piece without `=`. Of a key that comes more than once the last
+    /// The first part begins with `File=`. The slices are what follows that, and each further part.
+    /// The last slice has a `:`, and after its first `:` the content in base64; before it, and in
+    /// each other slice, is a key with its value after the first `=`, as texts. An empty slice is
+    /// skipped, and so is a last slice without `=`. Of a key that comes more than once the last
     /// value counts; unknown keys are skipped.
     ///
     /// `name` is a base64 text, `size` a number, `width` and `height` are dimensions; one that

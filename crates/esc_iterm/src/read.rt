@@ -1,14 +1,14 @@
 //! How the parts after the code are read.
 ghost use Rattle.std.specs.Prelude.{◌≡◌, IfOk, OnErr, map, Some, None};
 ghost use Rattle.std.specs.Str.Lossy.{utf8_lossy};
-ghost use Rattle.esc_iterm.specs.ITerms.{alone, assigned, bare, cell_size, content_of, form_of, highlight_of, iterm_of, keyed, variable_of, with_one, with_two};
+ghost use Rattle.esc_iterm.specs.ITerms.{lone_keyword, assigned_keyword, bare_keyword, cell_size, content_of, form_of, highlight_of, iterm_of, keyed_word, variable_of, with_one, with_two};
 ghost use Rattle.std.specs.Option.{option_map};
 ghost use Rattle.esc_values.specs.Base64.{base64_text_of};
 ghost use Rattle.esc_iterm.specs.Files.{file_of};
 ghost use Rattle.esc_iterm.specs.TextForms.{with_text};
 ghost use Rattle.esc_iterm.specs.Versions.{version_of};
 ghost use Rattle.esc_iterm.specs.declared.proprietary.ITermProprietary.TheVariants as iterm;
-ghost use Rattle.memory.specs.Refusals.{Refused};
+ghost use Rattle.fallible_alloc.specs.Refusals.{Refused};
 
 use crate::file_data::ITermFileData;
 use crate::proprietary::ITermProprietary;
@@ -65,7 +65,7 @@ fn read_lossy<A: Allocator + Copy>(
     match text_in(first) {
         Some(text) => read_form(alloc, text, more),
         None => {
-            let text = memory::lossy(alloc, first)?;
+            let text = fallible_alloc::lossy(alloc, first)?;
             read_form(alloc, text.as_str(), more)
         }
     }
@@ -92,7 +92,7 @@ fn read_bare<A: Allocator + Copy>(
     key: &str,
     more: &[&[u8]],
 ) -> Result<Option<ITermProprietary<A>>, AllocError>
-    ensures ok { IfOk result (λ c. c ≡ bare key.now (map (λ p. p.now) more.now)) }
+    ensures ok { IfOk result (λ c. c ≡ bare_keyword key.now (map (λ p. p.now) more.now)) }
     ensures refused { OnErr result (Refused A) }
 {
     match more {
@@ -104,7 +104,7 @@ fn read_bare<A: Allocator + Copy>(
 
 // A keyword alone.
 fn read_alone<A: Allocator>(key: &str) -> Option<ITermProprietary<A>>
-    ensures { result ≡ alone key.now }
+    ensures { result ≡ lone_keyword key.now }
 {
     match key {
         "SetMark" => Some(ITermProprietary::SetMark),
@@ -123,7 +123,7 @@ fn read_keyed<A: Allocator + Copy>(
     value: &str,
     more: &[&[u8]],
 ) -> Result<Option<ITermProprietary<A>>, AllocError>
-    ensures ok { IfOk result (λ c. c ≡ keyed key.now value.now (map (λ p. p.now) more.now)) }
+    ensures ok { IfOk result (λ c. c ≡ keyed_word key.now value.now (map (λ p. p.now) more.now)) }
     ensures refused { OnErr result (Refused A) }
 {
     match more {
@@ -140,7 +140,7 @@ fn read_assigned<A: Allocator + Copy>(
     key: &str,
     value: &str,
 ) -> Result<Option<ITermProprietary<A>>, AllocError>
-    ensures ok { IfOk result (λ c. c ≡ assigned key.now value.now) }
+    ensures ok { IfOk result (λ c. c ≡ assigned_keyword key.now value.now) }
     ensures refused { OnErr result (Refused A) }
 {
     match key {

@@ -3,9 +3,9 @@ ghost use Rattle.std.specs.Prelude.{◌≡◌, ℕ, List, [], ◌∷◌, IfOk, O
 ghost use Rattle.std.specs.Option.{option_map};
 ghost use Rattle.esc_values.specs.Base64.{base64_text_of};
 ghost use Rattle.esc_values.specs.Scalars.{and_then, number_of};
-ghost use Rattle.esc_iterm.specs.Files.{file_from, file_in, file_of, file_with, is_set, last_pairs, pairs_of, piece_pairs, size_in};
+ghost use Rattle.esc_iterm.specs.Files.{file_from, file_in, file_of, file_with, is_set, last_pairs, pairs_of, slice_pairs, size_in};
 ghost use Rattle.esc_iterm.specs.Keys.{held, held_after, no_values, values, values_after};
-ghost use Rattle.memory.specs.Refusals.{Refused};
+ghost use Rattle.fallible_alloc.specs.Refusals.{Refused};
 
 use crate::dimension::{ITermDimension, read_dimension};
 use crate::file_data::ITermFileData;
@@ -33,7 +33,7 @@ pub(crate) fn read_file<A: Allocator + Copy>(
     read_from(alloc, first, rest)
 }
 
-// The file of the pieces.
+// The file of the slices.
 fn read_from<A: Allocator + Copy>(
     alloc: A,
     first: &[u8],
@@ -42,14 +42,14 @@ fn read_from<A: Allocator + Copy>(
     ensures ok { IfOk result (λ f. f ≡ file_from (first.now ∷ map (λ p. p.now) rest.now)) }
     ensures refused { OnErr result (Refused A) }
 {
-    match read_pieces(first, rest) {
+    match read_slices(first, rest) {
         Some((keys, content)) => make_file(alloc, keys, content),
         None => Ok(None),
     }
 }
 
-// The values of the keys, and what follows the first `:` of the last piece.
-fn read_pieces<'a>(first: &'a [u8], rest: &[&'a [u8]]) -> Option<(FileKeys<'a>, &'a [u8])>
+// The values of the keys, and what follows the first `:` of the last slice.
+fn read_slices<'a>(first: &'a [u8], rest: &[&'a [u8]]) -> Option<(FileKeys<'a>, &'a [u8])>
     ensures { option_map {U = List (Option (List ℕ)) × List ℕ}
         (λ r. (held (values r.0), r.1.now)) result
         ≡ held_after no_values (pairs_of (first.now ∷ map (λ p. p.now) rest.now)) }
@@ -63,55 +63,55 @@ fn read_pieces<'a>(first: &'a [u8], rest: &[&'a [u8]]) -> Option<(FileKeys<'a>, 
         inline: None,
         do_not_move_cursor: None,
     };
-    let mut piece = first;
+    let mut slice = first;
     for next in rest {
-        let Some(read) = read_piece(keys, piece) else {
+        let Some(read) = read_slice(keys, slice) else {
             return None;
         };
         keys = read;
-        piece = next;
+        slice = next;
     }
-    read_end(keys, piece)
+    read_end(keys, slice)
 }
 
-// The values, and those of the last piece, and what follows its first `:`.
-fn read_end<'a>(keys: FileKeys<'a>, piece: &'a [u8]) -> Option<(FileKeys<'a>, &'a [u8])>
+// The values, and those of the last slice, and what follows its first `:`.
+fn read_end<'a>(keys: FileKeys<'a>, slice: &'a [u8]) -> Option<(FileKeys<'a>, &'a [u8])>
     ensures { option_map {U = List (Option (List ℕ)) × List ℕ}
         (λ r. (held (values r.0), r.1.now)) result
-        ≡ held_after (values keys.entry) (pairs_of (piece.now ∷ [])) }
+        ≡ held_after (values keys.entry) (pairs_of (slice.now ∷ [])) }
 {
-    let Some((piece, content)) = cut(piece, b':') else {
+    let Some((slice, content)) = cut(slice, b':') else {
         return None;
     };
-    match read_last(keys, piece) {
+    match read_last(keys, slice) {
         Some(keys) => Some((keys, content)),
         None => None,
     }
 }
 
-// The values, and those of a piece before the last.
-fn read_piece<'a>(keys: FileKeys<'a>, piece: &'a [u8]) -> Option<FileKeys<'a>>
+// The values, and those of a slice before the last.
+fn read_slice<'a>(keys: FileKeys<'a>, slice: &'a [u8]) -> Option<FileKeys<'a>>
     ensures { option_map (λ k. held (values k)) result
-        ≡ option_map (λ es. held (values_after (values keys.entry) es)) (piece_pairs piece.now) }
+        ≡ option_map (λ es. held (values_after (values keys.entry) es)) (slice_pairs slice.now) }
 {
-    if piece.is_empty() {
+    if slice.is_empty() {
         return Some(keys);
     }
-    match key_and_value(piece) {
+    match key_and_value(slice) {
         Some((key, value)) => Some(keys.with(key, value)),
         None => None,
     }
 }
 
-// The values, and those of the last piece.
-fn read_last<'a>(keys: FileKeys<'a>, piece: &'a [u8]) -> Option<FileKeys<'a>>
+// The values, and those of the last slice.
+fn read_last<'a>(keys: FileKeys<'a>, slice: &'a [u8]) -> Option<FileKeys<'a>>
     ensures { option_map (λ k. held (values k)) result
-        ≡ option_map (λ es. held (values_after (values keys.entry) es)) (last_pairs piece.now) }
+        ≡ option_map (λ es. held (values_after (values keys.entry) es)) (last_pairs slice.now) }
 {
-    if cut(piece, b'=').is_none() {
+    if cut(slice, b'=').is_none() {
         return Some(keys);
     }
-    match key_and_value(piece) {
+    match key_and_value(slice) {
         Some((key, value)) => Some(keys.with(key, value)),
         None => None,
     }

@@ -1,8 +1,8 @@
 //! How the version of Unicode is read.
 ghost use Rattle.std.specs.Prelude.{◌≡◌, IfOk, OnErr, Some, if◌then◌else◌};
-ghost use Rattle.esc_iterm.specs.Versions.{labelled, unlabelled, version_of};
+ghost use Rattle.esc_iterm.specs.Versions.{labelled_version, unlabelled_version, version_of};
 ghost use Rattle.esc_iterm.specs.declared.unicode_version.ITermUnicodeVersionOp.TheVariants as op;
-ghost use Rattle.memory.specs.Refusals.{Refused};
+ghost use Rattle.fallible_alloc.specs.Refusals.{Refused};
 
 use crate::unicode_version::ITermUnicodeVersionOp;
 use esc_values::Text;
@@ -30,7 +30,7 @@ fn read_labelled<A: Allocator + Copy>(
     word: &[u8],
     label: &[u8],
 ) -> Result<Option<ITermUnicodeVersionOp<A>>, AllocError>
-    ensures ok { IfOk result (λ v. v ≡ labelled word.now label.now) }
+    ensures ok { IfOk result (λ v. v ≡ labelled_version word.now label.now) }
     ensures refused { OnErr result (Refused A) }
 {
     let Some(label) = text_in(label) else {
@@ -56,7 +56,7 @@ fn with_label<A: Allocator>(is_push: bool, label: Text<A>) -> ITermUnicodeVersio
 
 // A word alone, or a number.
 fn read_unlabelled<A: Allocator>(word: &[u8]) -> Option<ITermUnicodeVersionOp<A>>
-    ensures { result ≡ unlabelled word.now }
+    ensures { result ≡ unlabelled_version word.now }
 {
     if word == b"push".as_slice() {
         Some(ITermUnicodeVersionOp::Push(None))

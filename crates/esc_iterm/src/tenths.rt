@@ -13,13 +13,13 @@ pub fn read_tenths(text: &[u8]) -> Option<u32>
     ensures { result ≡ tenths_of text.now }
 {
     match cut(text, b'.') {
-        Some((whole, tenth)) => read_pieces(whole, tenth),
-        None => read_pieces(text, b""),
+        Some((whole, tenth)) => read_slices(whole, tenth),
+        None => read_slices(text, b""),
     }
 }
 
 // The tenths of the digits before the point and of what follows it.
-fn read_pieces(whole: &[u8], tenth: &[u8]) -> Option<u32>
+fn read_slices(whole: &[u8], tenth: &[u8]) -> Option<u32>
     ensures { result ≡ tenths_in whole.now tenth.now }
 {
     let Some(whole) = read_digits(whole) else {

@@ -4,10 +4,10 @@ ghost use Rattle.std.specs.Fmt.{DisplaysOnOk};
 ghost use Rattle.std.specs.Option.{option_map, unwrap_or};
 ghost use Rattle.esc_values.specs.Base64.{base64_text};
 ghost use Rattle.esc_values.specs.Clear.{joined};
-ghost use Rattle.esc_values.specs.Scalars.{when};
+ghost use Rattle.esc_values.specs.Scalars.{some_if};
 ghost use Rattle.esc_iterm.specs.FileKeys.{entry, value_text};
 ghost use Rattle.esc_values.specs.Fields.{entries};
-ghost use Rattle.esc_iterm.specs.Files.{file_fields, key_pieces, pieces_after};
+ghost use Rattle.esc_iterm.specs.Files.{file_fields, key_slices, pieces_after};
 
 use crate::dimension::ITermDimension;
 use crate::file_data::ITermFileData;
@@ -67,7 +67,7 @@ pub(crate) fn write_keys<W: fmt::Write, A: Allocator>(
     f: &mut fmt::Formatter<W>,
 ) -> fmt::Result
     ensures { DisplaysOnOk W.write_str_gives f.old result
-        (Some (joined (key_pieces (entries file_fields file.now)))) f.new }
+        (Some (joined (key_slices (entries file_fields file.now)))) f.new }
 {
     let keys = [
         Key("size", Value::Size(file.size)),
@@ -90,7 +90,7 @@ pub(crate) fn write_keys<W: fmt::Write, A: Allocator>(
 // The keys that are written, with `;` between them.
 fn write_each<W: fmt::Write>(keys: &[Key<'_>], f: &mut fmt::Formatter<W>) -> fmt::Result
     ensures { DisplaysOnOk W.write_str_gives f.old result
-        (Some (joined (key_pieces (map entry keys.now)))) f.new }
+        (Some (joined (key_slices (map entry keys.now)))) f.new }
 {
     let mut is_first = true;
     for key in keys {
@@ -103,7 +103,7 @@ fn write_each<W: fmt::Write>(keys: &[Key<'_>], f: &mut fmt::Formatter<W>) -> fmt
 // A key with its value, where it is written, and a `;` before it, unless it is the first.
 fn write_key<W: fmt::Write>(is_first: bool, key: &Key<'_>, f: &mut fmt::Formatter<W>) -> fmt::Result
     ensures { DisplaysOnOk W.write_str_gives f.old result
-        (Some (pieces_after is_first (key_pieces (entry key.now ∷ [])))) f.new }
+        (Some (pieces_after is_first (key_slices (entry key.now ∷ [])))) f.new }
 {
     if !key.1.is_written() {
         return Ok(());
@@ -129,7 +129,7 @@ fn separator(is_first: bool) -> &'static str
 
 // The word, where it is wanted.
 fn word_if(is_wanted: bool, word: &'static str) -> Option<&'static str>
-    ensures { option_map (λ w. w.now) result ≡ when is_wanted word.now }
+    ensures { option_map (λ w. w.now) result ≡ some_if is_wanted word.now }
 {
     if is_wanted { Some(word) } else { None }
 }

@@ -4,7 +4,7 @@ ghost use Rattle.std.specs.Cmp.Lexicographic.{pointwise};
 ghost use Rattle.std.specs.List.{slice_split};
 ghost use Rattle.std.specs.Option.{option_map};
 ghost use Rattle.esc_values.specs.Cuts.{pairs_in};
-ghost use Rattle.memory.specs.Refusals.{Refused};
+ghost use Rattle.fallible_alloc.specs.Refusals.{Refused};
 ghost use Rattle.esc_kitty.specs.Keys.{keys_of, not_zero, number, pairs, signed, values};
 ghost use Rattle.esc_kitty.specs.Words.{flag_of};
 
@@ -36,34 +36,34 @@ pub(crate) fn read_keys<A: Allocator + Copy>(
     ensures ok { IfOk result (λ o. option_map (λ v. pairs v.items) o ≡ keys_of text.now) }
     ensures refused { OnErr result (Refused A) }
 {
-    let pieces = split_at_commas(alloc, text)?;
-    read_pieces(alloc, pieces.as_slice())
+    let slices = split_at_commas(alloc, text)?;
+    read_slices(alloc, slices.as_slice())
 }
 
-// The pieces of a text between `,`.
+// The slices of a text between `,`.
 fn split_at_commas<A: Allocator>(alloc: A, text: &[u8]) -> Result<Vec<&[u8], A>, AllocError>
     ensures ok { IfOk result (λ v.
         map (λ p. p.now) v.items ≡ slice_split (λ c. c == 0x2c) text.now) }
     ensures refused { OnErr result (Refused A) }
 {
-    memory::collect(alloc, text.split(|c| *c == b','))
+    fallible_alloc::collect(alloc, text.split(|c| *c == b','))
 }
 
-// The pieces as keys and values; none where one is none.
-fn read_pieces<'a, A: Allocator>(
+// The slices as keys and values; none where one is none.
+fn read_slices<'a, A: Allocator>(
     alloc: A,
-    pieces: &[&'a [u8]],
+    slices: &[&'a [u8]],
 ) -> Result<Option<Vec<Pair<'a>, A>>, AllocError>
     ensures ok { IfOk result (λ o. option_map (λ v. pairs v.items) o
-        ≡ pairs_in (map (λ p. p.now) pieces.now)) }
+        ≡ pairs_in (map (λ p. p.now) slices.now)) }
     ensures refused { OnErr result (Refused A) }
 {
     let mut pairs = Vec::new(alloc);
-    for piece in pieces {
-        let Some((key, value)) = key_and_value(piece) else {
+    for slice in slices {
+        let Some((key, value)) = key_and_value(slice) else {
             return Ok(None);
         };
-        memory::push(&mut pairs, Pair { key, value })?;
+        fallible_alloc::push(&mut pairs, Pair { key, value })?;
     }
     Ok(Some(pairs))
 }

@@ -1,7 +1,7 @@
 //! How images are read.
 ghost use Rattle.std.specs.Prelude.{◌≡◌, IfOk, OnErr};
 ghost use Rattle.std.specs.Option.{option_map};
-ghost use Rattle.memory.specs.Refusals.{Refused};
+ghost use Rattle.fallible_alloc.specs.Refusals.{Refused};
 ghost use Rattle.esc_kitty.specs.Keys.{values};
 ghost use Rattle.esc_kitty.specs.Actions.{action_of, image_as};
 ghost use Rattle.esc_kitty.specs.Formats.{compose_of};

@@ -1,6 +1,6 @@
 //! How an image on its way to the terminal is read.
 ghost use Rattle.std.specs.Prelude.{◌≡◌, IfOk, OnErr};
-ghost use Rattle.memory.specs.Refusals.{Refused};
+ghost use Rattle.fallible_alloc.specs.Refusals.{Refused};
 ghost use Rattle.esc_kitty.specs.Keys.{values};
 ghost use Rattle.std.specs.Option.{option_map};
 ghost use Rattle.esc_values.specs.Base64.{base64_text_of};

@@ -7,7 +7,7 @@ use Rattle.std.specs.declared.cmp.Ordering.TheVariants.{Less, Equal, Greater}
 use Rattle.std.specs.Ordering.{nat_cmp, ordering_reverse}
 use Rattle.std.proofs.lemmas.List.{append-nil}
 use Rattle.esc_values.specs.Cuts.{Pairs}
-use Rattle.esc_links.specs.Hyperlinks.{put, put_all}
+use Rattle.esc_links.specs.Hyperlinks.{pairs_with, put_all}
 
 -- one key is below another
 abbrev pub Below : List ℕ → List ℕ → Type 0
@@ -39,52 +39,54 @@ turned j k e = nat_list_cmp_total.antisymm k j ∙ ap ordering_reverse e
 greater : (j k : List ℕ) → Below j k → slice_cmp nat_cmp k j ≡ Greater
 greater j k e = nat_list_cmp_total.antisymm k j ∙ ap ordering_reverse e
 
-put_below : (j k v : List ℕ) (es : Pairs) → Below j k → BelowAll j es → BelowAll j (put k v es)
+put_below : (j k v : List ℕ) (es : Pairs) → Below j k → BelowAll j es
+    → BelowAll j (pairs_with k v es)
 put_below j k v [] h all = (h, tt)
 put_below j k v (e ∷ es) h all = by (slice_cmp nat_cmp k e.0) refl (put_below j k v es h all.1)
   where
-    by : (o : Ordering) → slice_cmp nat_cmp k e.0 ≡ o → BelowAll j (put k v es)
-        → BelowAll j (put k v (e ∷ es))
+    by : (o : Ordering) → slice_cmp nat_cmp k e.0 ≡ o → BelowAll j (pairs_with k v es)
+        → BelowAll j (pairs_with k v (e ∷ es))
     by Less is rest = rw is (h, all)
     by Equal is rest = rw is all
     by Greater is rest = rw is (all.0, rest)
 
-pub put_ordered : (k v : List ℕ) (es : Pairs) → AreOrdered es → AreOrdered (put k v es)
+pub put_ordered : (k v : List ℕ) (es : Pairs) → AreOrdered es → AreOrdered (pairs_with k v es)
 put_ordered k v [] h = (tt, tt)
 put_ordered k v (e ∷ es) h = by (slice_cmp nat_cmp k e.0) refl (put_ordered k v es h.1)
   where
-    by : (o : Ordering) → slice_cmp nat_cmp k e.0 ≡ o → AreOrdered (put k v es)
-        → AreOrdered (put k v (e ∷ es))
+    by : (o : Ordering) → slice_cmp nat_cmp k e.0 ≡ o → AreOrdered (pairs_with k v es)
+        → AreOrdered (pairs_with k v (e ∷ es))
     by Less is rest = rw is ((is, below_trans k e.0 es is h.0), h)
     by Equal is rest = rw is h
     by Greater is rest = rw is (put_below e.0 k v es (turned k e.0 is) h.0, rest)
 
 pub all_ordered : (es qs : Pairs) → AreOrdered es → AreOrdered (put_all es qs)
 all_ordered es [] h = h
-all_ordered es (q ∷ qs) h = all_ordered (put q.0 q.1 es) qs (put_ordered q.0 q.1 es h)
+all_ordered es (q ∷ qs) h = all_ordered (pairs_with q.0 q.1 es) qs (put_ordered q.0 q.1 es h)
 
 -- what is put is there
 some_cons : (e : List ℕ × List ℕ) (es : Pairs) → e ∷ es ≢ []
 some_cons e es h = cc
 
-put_some : (k v : List ℕ) (es : Pairs) → put k v es ≢ []
+put_some : (k v : List ℕ) (es : Pairs) → pairs_with k v es ≢ []
 put_some k v [] = some_cons (k, v) []
 put_some k v (e ∷ es) = by (slice_cmp nat_cmp k e.0) refl
   where
-    by : (o : Ordering) → slice_cmp nat_cmp k e.0 ≡ o → put k v (e ∷ es) ≢ []
+    by : (o : Ordering) → slice_cmp nat_cmp k e.0 ≡ o → pairs_with k v (e ∷ es) ≢ []
     by Less is = rw is (some_cons (k, v) (e ∷ es))
     by Equal is = rw is (some_cons (e.0, v) es)
-    by Greater is = rw is (some_cons e (put k v es))
+    by Greater is = rw is (some_cons e (pairs_with k v es))
 
 all_some : (es qs : Pairs) → es ≢ [] → put_all es qs ≢ []
 all_some es [] h = h
-all_some es (q ∷ qs) h = all_some (put q.0 q.1 es) qs (put_some q.0 q.1 es)
+all_some es (q ∷ qs) h = all_some (pairs_with q.0 q.1 es) qs (put_some q.0 q.1 es)
 
 pub all_put_some : (q : List ℕ × List ℕ) (qs : Pairs) → put_all [] (q ∷ qs) ≢ []
-all_put_some q qs = all_some (put q.0 q.1 []) qs (put_some q.0 q.1 [])
+all_put_some q qs = all_some (pairs_with q.0 q.1 []) qs (put_some q.0 q.1 [])
 
 -- a greater key goes to the end
-put_last : (ds : Pairs) (e : List ℕ × List ℕ) → AreBelow ds (e ∷ []) → put e.0 e.1 ds ≡ ds ++ e ∷ []
+put_last : (ds : Pairs) (e : List ℕ × List ℕ) → AreBelow ds (e ∷ []) → pairs_with e.0 e.1 ds ≡ ds
+    ++ e ∷ []
 put_last [] e h = refl
 put_last (d ∷ ds) e h = rw (greater d.0 e.0 h.0.0) (ap (λ es. d ∷ es) (put_last ds e h.1))
 

@@ -1,4 +1,4 @@
--- How the parameters of a hyperlink are read, piece by piece.
+-- How the parameters of a hyperlink are read, stretch by stretch.
 use Rattle.std.proofs.Common.{ℕ, ◌≡◌, ◌≢◌, ◌<◌, Bool, true, false, List, [], ◌∷◌, length, Option, Some, None, Result, Ok, Err, refl, ap, sym, ◌∙◌, subst, arith}
 use Rattle.std.specs.List.{slice_split}
 use Rattle.std.specs.Option.{option_map}
@@ -6,9 +6,9 @@ use Rattle.std.specs.Result.{IsErrAnd, IfErr}
 use Rattle.esc_values.specs.Cuts.{Pairs, cut_at, key_and_value, pairs_in}
 use Rattle.esc_values.specs.declared.error.Error.{Error}
 use Rattle.esc_values.specs.declared.error.Error.TheVariants.{Invalid}
-use Rattle.esc_links.specs.Hyperlinks.{put, put_all, is_colon, params_of}
+use Rattle.esc_links.specs.Hyperlinks.{pairs_with, put_all, is_colon, params_of}
 
--- pieces, put in after the pairs es
+-- stretchs, put in after the pairs es
 abbrev pub reading : Pairs → List (List ℕ) → Option Pairs
 reading es ps = option_map (λ qs. put_all es qs) (pairs_in ps)
 
@@ -43,28 +43,28 @@ cut_some t p e = let P : Option (List ℕ × List ℕ) → Type 0 = λ o. CutsIn
 pub cut_none : (t : List ℕ) → cut_at 0x3a t ≡ None → slice_split is_colon t ≡ t ∷ []
 cut_none t e = let P : Option (List ℕ × List ℕ) → Type 0 = λ o. CutsInto t o in subst P e (cuts t)
 
--- one piece more
+-- one stretch more
 more_by : (es : Pairs) (e : List ℕ × List ℕ) (o : Option Pairs)
     → option_map (λ qs. put_all es qs) (option_map (λ qs. e ∷ qs) o) ≡ option_map (λ qs.
-    put_all (put e.0 e.1 es) qs) o
+    put_all (pairs_with e.0 e.1 es) qs) o
 more_by es e None = refl
 more_by es e (Some qs) = refl
 
--- what a piece puts
+-- what a stretch puts
 abbrev pub put_of : Pairs → List ℕ → Option Pairs
-put_of es p = option_map (λ e. put e.0 e.1 es) (key_and_value p)
+put_of es p = option_map (λ e. pairs_with e.0 e.1 es) (key_and_value p)
 
 reading_by : (es fs : Pairs) (p : List ℕ) (ps : List (List ℕ)) (o : Option (List ℕ × List ℕ))
     → key_and_value p ≡ o → put_of es p ≡ Some fs
     → reading es (p ∷ ps) ≡ reading fs ps
 reading_by es fs p ps None is h = let k : None ≡ Some fs = rw is at h in cc
-reading_by es fs p ps (Some e) is h = let k : Some (put e.0 e.1 es) ≡ Some fs = rw is at h in
-    let same : put e.0 e.1 es ≡ fs = cc in
+reading_by es fs p ps (Some e) is h = let k : Some (pairs_with e.0 e.1 es) ≡ Some fs = rw is at h in
+    let same : pairs_with e.0 e.1 es ≡ fs = cc in
     rw is (more_by es e (pairs_in ps) ∙ ap (λ gs. reading gs ps) same)
 
-pub reading_piece : (es fs : Pairs) (p : List ℕ) (ps : List (List ℕ)) → put_of es p ≡ Some fs
+pub reading_stretch : (es fs : Pairs) (p : List ℕ) (ps : List (List ℕ)) → put_of es p ≡ Some fs
     → reading es (p ∷ ps) ≡ reading fs ps
-reading_piece es fs p ps h = reading_by es fs p ps (key_and_value p) refl h
+reading_stretch es fs p ps h = reading_by es fs p ps (key_and_value p) refl h
 
 pub reading_none : (es : Pairs) (p : List ℕ) (ps : List (List ℕ)) → key_and_value p ≡ None
     → reading es (p ∷ ps) ≡ None

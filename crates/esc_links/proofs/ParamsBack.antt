@@ -9,11 +9,11 @@ use Rattle.std.specs.Ordering.{nat_cmp}
 use Rattle.std.proofs.lemmas.List.{append-nil}
 use Rattle.esc_values.specs.Clear.{is_part_char, IsClearPart}
 use Rattle.esc_values.specs.Cuts.{Pairs, key_and_value, pairs_in, pair_text}
-use Rattle.esc_links.specs.Hyperlinks.{put, put_all, is_colon, params_of, params_text}
+use Rattle.esc_links.specs.Hyperlinks.{pairs_with, put_all, is_colon, params_of, params_text}
 use Rattle.esc_values.specs.Scalars.{and_then}
 use Rattle.esc_values.proofs.ClearPairs.{IsClearPair, key_keeps, key_clear, key_back}
 use Rattle.esc_values.proofs.ClearTexts.{part_append}
-use Rattle.esc_values.proofs.Cutting.{Free, BothFree, free_more, free_append, cut_keeps, split_free, IsPiece, ArePieces, SplitsAt, splits}
+use Rattle.esc_values.proofs.Cutting.{Free, BothFree, free_more, free_append, cut_keeps, split_free, IsStretch, AreStretchs, SplitsAt, splits}
 use Rattle.esc_links.proofs.PairsOrder.{AreOrdered, all_ordered, all_put_some, all_back}
 use Rattle.esc_links.proofs.PairsRead.{params_some}
 use Rattle.esc_values.proofs.PlainParts.{plain_part}
@@ -27,18 +27,18 @@ abbrev pub AreGood : Pairs → Type 0
 AreGood [] = Unit {0}
 AreGood (e ∷ es) = IsGood e × AreGood es
 
--- a piece that is read is good
-good_piece : (t : List ℕ) → IsPiece 0x3a t → Where IsGood (key_and_value t)
-good_piece t h = where_both IsClearPair (BothFree 0x3a) (key_and_value t) (key_clear t h.0)
+-- a stretch that is read is good
+good_stretch : (t : List ℕ) → IsStretch 0x3a t → Where IsGood (key_and_value t)
+good_stretch t h = where_both IsClearPair (BothFree 0x3a) (key_and_value t) (key_clear t h.0)
     (key_keeps (BothFree 0x3a) t (cut_keeps 0x3a 0x3d t h.1))
 
-good_pairs : (ts : List (List ℕ)) → ArePieces 0x3a ts → Where AreGood (pairs_in ts)
+good_pairs : (ts : List (List ℕ)) → AreStretchs 0x3a ts → Where AreGood (pairs_in ts)
 good_pairs [] h = tt
 good_pairs (t ∷ ts) h =
     where_then IsGood AreGood (λ e. option_map (λ es. e ∷ es) (pairs_in ts))
     (λ e good. where_map AreGood AreGood (λ es. e ∷ es) (λ es more. (good, more)) (pairs_in ts)
     (good_pairs ts h.1))
-    (key_and_value t) (good_piece t h.0)
+    (key_and_value t) (good_stretch t h.0)
 
 some_pairs : (t : List ℕ) (ts : List (List ℕ)) → Where (λ qs. (q : List ℕ × List ℕ) × (more : Pairs)
     × (qs ≡ q ∷ more)) (pairs_in (t ∷ ts))
@@ -52,25 +52,25 @@ some_pairs t ts = by (key_and_value t) (pairs_in ts)
     by (Some q) (Some more) = (q, more, refl)
 
 -- putting keeps what is good
-put_good : (k v : List ℕ) (es : Pairs) → IsGood (k, v) → AreGood es → AreGood (put k v es)
+put_good : (k v : List ℕ) (es : Pairs) → IsGood (k, v) → AreGood es → AreGood (pairs_with k v es)
 put_good k v [] h all = (h, tt)
 put_good k v (e ∷ es) h all = by (slice_cmp nat_cmp k e.0) refl (put_good k v es h all.1)
   where
-    by : (o : Ordering) → slice_cmp nat_cmp k e.0 ≡ o → AreGood (put k v es)
-        → AreGood (put k v (e ∷ es))
+    by : (o : Ordering) → slice_cmp nat_cmp k e.0 ≡ o → AreGood (pairs_with k v es)
+        → AreGood (pairs_with k v (e ∷ es))
     by Less is rest = rw is (h, all)
     by Equal is rest = rw is ((((all.0.0.0.0, h.0.0.1), all.0.0.1), (all.0.1.0, h.1.1)), all.1)
     by Greater is rest = rw is (all.0, rest)
 
 all_good : (es qs : Pairs) → AreGood es → AreGood qs → AreGood (put_all es qs)
 all_good es [] h k = h
-all_good es (q ∷ qs) h k = all_good (put q.0 q.1 es) qs (put_good q.0 q.1 es k.0 h) k.1
+all_good es (q ∷ qs) h k = all_good (pairs_with q.0 q.1 es) qs (put_good q.0 q.1 es k.0 h) k.1
 
 -- parameters that can be written: good, in order, and some
 abbrev pub AreReadable : Pairs → Type 0
 AreReadable es = AreGood es × AreOrdered es × (es ≢ [])
 
-readable_pairs : (t : List ℕ) (ts : List (List ℕ)) → ArePieces 0x3a (t ∷ ts)
+readable_pairs : (t : List ℕ) (ts : List (List ℕ)) → AreStretchs 0x3a (t ∷ ts)
     → Where AreReadable (option_map (λ qs. put_all [] qs) (pairs_in (t ∷ ts)))
 readable_pairs t ts h =
     where_map (λ qs. AreGood qs × ((q : List ℕ × List ℕ) × (more : Pairs) × (qs ≡ q ∷ more)))

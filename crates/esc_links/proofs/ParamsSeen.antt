@@ -9,7 +9,7 @@ use Rattle.std.specs.Option.{option_map}
 use Rattle.std.specs.Ordering.{is_eq, nat_cmp, match_ordering}
 use Rattle.std.specs.String.{string_cmp}
 use Rattle.std.proofs.lemmas.Map.Text.{is_eq-slice_cmp}
-use Rattle.esc_links.specs.Hyperlinks.{put, value_at}
+use Rattle.esc_links.specs.Hyperlinks.{pairs_with, value_at}
 
 module _ {A : Type 0} where
   -- a pair's bytes
@@ -25,7 +25,7 @@ module _ {A : Type 0} where
 
   -- what is inserted is put
   pub put_shown : (es : List (String A × String A)) (k v : String A)
-      → map shown (insert_entry string_cmp es k v) ≡ put (string_bytes k) (string_bytes v)
+      → map shown (insert_entry string_cmp es k v) ≡ pairs_with (string_bytes k) (string_bytes v)
       (map shown es)
   put_shown [] k v = refl
   put_shown (e ∷ es) k v =

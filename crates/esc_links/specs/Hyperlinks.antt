@@ -14,13 +14,13 @@ use Rattle.esc_links.specs.declared.hyperlink.Hyperlink.{Hyperlink}
 
 -- the pairs with v at k: in the order of the keys' bytes, where the value of a key that is there is
 -- replaced
-abbrev pub put : List ℕ → List ℕ → Pairs → Pairs
-put k v es = insert_entry (slice_cmp nat_cmp) es k v
+abbrev pub pairs_with : List ℕ → List ℕ → Pairs → Pairs
+pairs_with k v es = insert_entry (slice_cmp nat_cmp) es k v
 
 -- the pairs es with these put in, one after another
 abbrev pub put_all : Pairs → Pairs → Pairs
 put_all es [] = es
-put_all es (p ∷ ps) = put_all (put p.0 p.1 es) ps
+put_all es (p ∷ ps) = put_all (pairs_with p.0 p.1 es) ps
 
 -- the value of a key
 abbrev pub value_at : List ℕ → Pairs → Option (List ℕ)

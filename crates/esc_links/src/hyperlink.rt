@@ -6,8 +6,8 @@ ghost use Rattle.std.specs.List.{flat_map};
 ghost use Rattle.std.specs.Option.{option_map};
 ghost use Rattle.esc_values.specs.Cuts.{key_and_value, pair_text};
 ghost use Rattle.esc_values.specs.declared.error.Error.TheVariants.{Invalid};
-ghost use Rattle.esc_links.specs.Hyperlinks.{put, params_of, link_of, link_in, link_to, hyperlink_text, params_text};
-ghost use Rattle.memory.specs.Refusals.{Refused};
+ghost use Rattle.esc_links.specs.Hyperlinks.{pairs_with, params_of, link_of, link_in, link_to, hyperlink_text, params_text};
+ghost use Rattle.fallible_alloc.specs.Refusals.{Refused};
 
 use crate::params::{Iter, Params};
 use esc_values::cut::{cut, key_and_value};
@@ -123,26 +123,27 @@ fn read_params<A: Allocator + Copy>(alloc: A, text: &[u8]) -> Result<Params<A>, 
         return Ok(params);
     }
     let mut rest = text;
-    while let Some((piece, more)) = cut(rest, b':') {
-        put_piece(alloc, &mut params, piece)?;
+    while let Some((stretch, more)) = cut(rest, b':') {
+        put_stretch(alloc, &mut params, stretch)?;
         rest = more;
     }
-    put_piece(alloc, &mut params, rest)?;
+    put_stretch(alloc, &mut params, rest)?;
     Ok(params)
 }
 
-// Puts the key and the value of a piece.
-fn put_piece<A: Allocator + Copy>(
+// Puts the key and the value of a stretch.
+fn put_stretch<A: Allocator + Copy>(
     alloc: A,
     params: &mut Params<A>,
-    piece: &[u8],
+    stretch: &[u8],
 ) -> Result<(), Error>
-    ensures read { OnOk result (option_map (λ e. put e.0 e.1 params.old) (key_and_value piece.now)
+    ensures read { OnOk result (option_map (λ e. pairs_with e.0 e.1 params.old)
+        (key_and_value stretch.now)
         ≡ Some params.new) }
-    ensures invalid { IfErr result (λ e. e ≡ Invalid → key_and_value piece.now ≡ None) }
+    ensures invalid { IfErr result (λ e. e ≡ Invalid → key_and_value stretch.now ≡ None) }
     ensures refused { IfErr result (λ e. (e ≡ Invalid) ⊎ Refused A) }
 {
-    let Some((key, value)) = key_and_value(piece) else {
+    let Some((key, value)) = key_and_value(stretch) else {
         return Err(Error::Invalid);
     };
     match put_texts(alloc, params, key, value) {
@@ -158,7 +159,7 @@ fn put_texts<A: Allocator + Copy>(
     key: &str,
     value: &str,
 ) -> Result<(), AllocError>
-    ensures ok { OnOk result (params.new ≡ put key.now value.now params.old) }
+    ensures ok { OnOk result (params.new ≡ pairs_with key.now value.now params.old) }
     ensures refused { OnErr result (Refused A) }
 {
     let key = Text::from_str(alloc, key)?;

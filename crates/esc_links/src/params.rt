@@ -1,12 +1,12 @@
 //! The parameters of a hyperlink.
-ghost use Rattle.memory.specs.Refusals.{Refused};
+ghost use Rattle.fallible_alloc.specs.Refusals.{Refused};
 ghost use Rattle.std.specs.Prelude.{◌≡◌, ℕ, ◌<◌, ◌&&◌, List, [], length, map, nat_eq, IsTrue, ◌↔◌, string_bytes, OnOk, OnErr};
 ghost use Rattle.std.specs.Cmp.Lexicographic.{pointwise, lists_per, nat_list_eq_equiv};
 ghost use Rattle.std.specs.Cmp.{partial_equiv_from_equiv, on_per, and_per};
 ghost use Rattle.std.specs.Iterator.{at_most};
 ghost use Rattle.std.specs.Map.Iter.{TakesFirst};
 ghost use Rattle.std.specs.Option.{option_map};
-ghost use Rattle.esc_links.specs.Hyperlinks.{put, value_at};
+ghost use Rattle.esc_links.specs.Hyperlinks.{pairs_with, value_at};
 
 use esc_values::Text;
 use std::alloc::{AllocError, Allocator, Global};
@@ -80,11 +80,11 @@ impl<A: Allocator + Copy> Params<A> {
     /// Puts a value at a key, in place of one that is there. The error is that memory was refused,
     /// and the parameters stay as they were.
     pub fn insert(&mut self, key: Text<A>, value: Text<A>) -> Result<(), AllocError>
-        ensures ok { OnOk result (self.new ≡ put key value self.old) }
+        ensures ok { OnOk result (self.new ≡ pairs_with key value self.old) }
         ensures err { OnErr result (self.new ≡ self.old) }
         ensures refused { OnErr result (Refused A) }
     {
-        match memory::insert(&mut self.tree, key.into_string(), value.into_string()) {
+        match fallible_alloc::insert(&mut self.tree, key.into_string(), value.into_string()) {
             Ok(_) => Ok(()),
             Err(_) => Err(AllocError),
         }

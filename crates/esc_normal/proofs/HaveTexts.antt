@@ -10,7 +10,7 @@ use Rattle.esc_sixel.specs.declared.sixel_data.SixelData.{SixelData}
 use Rattle.esc_sixel.specs.declared.sixel_data.SixelData.TheVariants as data_variant
 use Rattle.esc_actions.specs.Texts.{has_text}
 use Rattle.esc_actions.specs.Values.{Value, print, string, control, esc, csi, osc, kitty, sixel, termcap, short, enter, datum, exit}
-use Rattle.esc_actions.specs.Writable.{AreHandedOut, IsHandedOut, IsWritable}
+use Rattle.esc_actions.specs.Writable.{EmittedAreWritable, IsHandedOut, IsWritable}
 
 -- values over 63 are not writable
 below_64 : (v : ℕ) → v < 64 → nat_lt v 64 ≡ true
@@ -58,7 +58,7 @@ handed_out_has_text (enter e) h = refl
 handed_out_has_text (datum b) h = refl
 handed_out_has_text exit h = refl
 
-pub handed_out_have_texts : {A : Type 0} (vs : List (Value A)) → AreHandedOut vs
+pub handed_out_have_texts : {A : Type 0} (vs : List (Value A)) → EmittedAreWritable vs
     → list_all has_text vs ≡ true
 handed_out_have_texts [] h = refl
 handed_out_have_texts (v ∷ vs) h =

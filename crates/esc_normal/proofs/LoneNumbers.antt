@@ -14,7 +14,7 @@ use Rattle.esc_sequences.specs.declared.intensity.Intensity.TheVariants as inten
 use Rattle.esc_sequences.specs.declared.sgr.Sgr.{Sgr}
 use Rattle.esc_sequences.specs.declared.sgr.Sgr.TheVariants.{Reset, Intensity, Italic, Underline}
 use Rattle.esc_sequences.specs.declared.underline.Underline.TheVariants as underline
-use Rattle.esc_sequences.specs.Csis.{csi_of, csi_text, csi_value, named, numbered, sgr_body, unspecified}
+use Rattle.esc_sequences.specs.Csis.{csi_of, csi_text, csi_value, sgr_of_number, sgr_at, sgr_body, unspecified}
 use Rattle.esc_values.proofs.Digits.{decimal_one, decimal_two}
 
 -- a test of a chain of tests
@@ -39,7 +39,7 @@ none_some : (s : Sgr) → None ≡ Some s → ⊥
 none_some s h = absurd cc
 
 -- a rendition of a number is written as the number
-named_body : (n : ℕ) (s : Sgr) → named n ≡ Some s → sgr_body s ≡ decimal n
+named_body : (n : ℕ) (s : Sgr) → sgr_of_number n ≡ Some s → sgr_body s ≡ decimal n
 named_body n s h =
     one n 0 Reset s _ h (sym (decimal_one 0 (lit≤ tt))) (λ h1.
     one n 1 (Intensity intensity.Bold) s _ h1 (sym (decimal_one 1 (lit≤ tt))) (λ h2.
@@ -52,7 +52,7 @@ named_body n s h =
     one n 24 (Underline underline.None) s _ h8 (sym (decimal_two 24 (lit≤ tt) (lit≤ tt)))
     (λ h9. absurd (none_some s h9))))))))))
 
-signed_body : (n : ℤ) (s : Sgr) → numbered n ≡ Some s → sgr_body s ≡ signed_decimal n
+signed_body : (n : ℤ) (s : Sgr) → sgr_at n ≡ Some s → sgr_body s ≡ signed_decimal n
 signed_body (pos n) s h = named_body n s h
 signed_body (negsuc n) s h = absurd (none_some s h)
 
@@ -67,7 +67,7 @@ module _ {A : Type 0} (n : ℤ) (more : Bool) (f : ℕ) where
       csi_variant.Unspecified
       (record { params = Integer n ∷ []; parameters_truncated = more; control = f })
 
-  by_number : (o : Option Sgr) → numbered n ≡ o → ((f == 0x6d) && not more) ≡ true → f ≡ 0x6d
+  by_number : (o : Option Sgr) → sgr_at n ≡ o → ((f == 0x6d) && not more) ≡ true → f ≡ 0x6d
       → IsLone A n more f
   by_number None is e m = (nameless, rw (e, is) refl, refl)
   by_number (Some s) is e m = (
@@ -80,7 +80,7 @@ module _ {A : Type 0} (n : ℤ) (more : Bool) (f : ℕ) where
   )
 
   by_final : (t : Bool) → ((f == 0x6d) && not more) ≡ t → IsLone A n more f
-  by_final true e = by_number (numbered n) refl e
+  by_final true e = by_number (sgr_at n) refl e
       (eqb-true f 0x6d (and_parts (f == 0x6d) (not more) e).0)
   by_final false e = (nameless, rw e refl, refl)
 

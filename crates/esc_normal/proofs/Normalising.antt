@@ -16,7 +16,7 @@ use Rattle.esc_normal.specs.Io.{AppendsPrefix}
 use Rattle.esc_normal.specs.Normalising.{normal_form}
 use Rattle.esc_normal.specs.Spelled.{Adds}
 use Rattle.esc_normal.specs.Texts.{ends_in_string}
-use Rattle.esc_normal.specs.declared.spell.Spell.{Spell}
+use Rattle.esc_normal.specs.declared.spell.TextSink.{TextSink}
 
 -- what b adds to the normal form of s
 abbrev pub added_form : (A : Type 0) → Option ℕ → List ℕ → List ℕ → List ℕ
@@ -32,14 +32,14 @@ form_longer A limit s b =
     ∙ texts_more false (meaning_within {A = A} limit s) (yield_within {A = A} limit s b)
 
 -- whether the text of what was given ends in a string
-ends : {A : Type 0} (p : Spell A) (vs : List (Value A)) (q : Spell A)
+ends : {A : Type 0} (p : TextSink A) (vs : List (Value A)) (q : TextSink A)
     → FoldsTo (At value_of Adds) p vs q → q.follows_string ≡ ends_in_string p.follows_string vs
 ends p [] q e = ap (λ x. x.follows_string) (sym e)
 ends p (v ∷ vs) q (j, (a, is, w), rest) = ends j vs q rest
     ∙ ap (λ b. ends_in_string b vs) (w.1 ∙ ap is_string is)
 
 -- what is given of b after s is what b adds
-pub fed_more : {A : Type 0} (limit : Option ℕ) (s b : List ℕ) (p q : Spell A) → p.text ≡ []
+pub fed_more : {A : Type 0} (limit : Option ℕ) (s b : List ℕ) (p q : TextSink A) → p.text ≡ []
     → p.follows_string ≡ ends_in_string false (meaning_within {A = A} limit s)
     → FoldsTo (At value_of Adds) p (yield_within limit s b) q
     → (q.follows_string ≡ ends_in_string false (meaning_within {A = A} limit (s ++ b)))

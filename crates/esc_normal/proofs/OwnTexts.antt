@@ -13,16 +13,16 @@ use Rattle.esc_actions.specs.Texts.{is_string, text_after}
 use Rattle.esc_actions.specs.Values.{value_of}
 use Rattle.esc_actions.specs.declared.action.Action.{Action}
 use Rattle.esc_actions.specs.declared.action.Action.TheVariants as action
-use Rattle.esc_normal.specs.declared.spell.Spell.{Spell}
+use Rattle.esc_normal.specs.declared.spell.TextSink.{TextSink}
 
 text_small : (b : ℕ) → is_text_byte b ≡ true → b < 128
 text_small b h = grind (arith, nat_tests)
 
-abbrev SpellTakes : {A : Type 0} → Spell A → Action A → Spell A → Type 0
+abbrev SpellTakes : {A : Type 0} → TextSink A → Action A → TextSink A → Type 0
 SpellTakes p a q = (q.text ≡ p.text ++ text_after p.follows_string (value_of a))
     × (q.follows_string ≡ is_string (value_of a))
 
-spells_text : {A : Type 0} (x : ℕ) (xs : List ℕ) (p : Spell A)
+spells_text : {A : Type 0} (x : ℕ) (xs : List ℕ) (p : TextSink A)
     → list_all is_text_byte (x ∷ xs) ≡ true
     → FoldsTo SpellTakes p (map action.Print (x ∷ xs))
     (record { text = p.text ++ x ∷ xs; follows_string = false })
@@ -35,7 +35,7 @@ spells_text x [] p h =
 spells_text {A = A} x (y ∷ ys) p h =
     let k = and_parts (is_text_byte x) (list_all is_text_byte (y ∷ ys)) h in
     let e = encode_ascii x (text_small x k.0) in
-    let j : Spell A = record { text = p.text ++ x ∷ []; follows_string = false } in
+    let j : TextSink A = record { text = p.text ++ x ∷ []; follows_string = false } in
     let Goal : List ℕ → Type 0 = λ t. FoldsTo SpellTakes j (map action.Print (y ∷ ys))
     (record { text = t; follows_string = false }) in (
       j,
@@ -44,7 +44,7 @@ spells_text {A = A} x (y ∷ ys) p h =
           (spells_text y ys j k.1),
     )
 
-pub spells_run : {A : Type 0} (xs : List ℕ) (p q : Spell A) → 0 < length xs
+pub spells_run : {A : Type 0} (xs : List ℕ) (p q : TextSink A) → 0 < length xs
     → list_all is_text_byte xs ≡ true
     → q ≡ record { text = p.text ++ xs; follows_string = false }
     → FoldsTo SpellTakes p (map action.Print xs) q
@@ -62,7 +62,7 @@ pub text_utf8 : (xs : List ℕ) → list_all is_text_byte xs ≡ true → IsUtf8
 text_utf8 xs h = IsUtf8-from_ascii xs (text_ascii xs h)
 
 -- a run of characters is its own text
-spells_chars : {A : Type 0} (c : ℕ) (cs : List ℕ) (p : Spell A)
+spells_chars : {A : Type 0} (c : ℕ) (cs : List ℕ) (p : TextSink A)
     → FoldsTo SpellTakes p (map action.Print (c ∷ cs))
     (record { text = p.text ++ encode_utf8_all (c ∷ cs); follows_string = false })
 spells_chars c [] p = (
@@ -72,7 +72,7 @@ spells_chars c [] p = (
       (sym (append-nil (encode_utf8 c))),
 )
 spells_chars {A = A} c (d ∷ ds) p =
-    let j : Spell A = record { text = p.text ++ encode_utf8 c; follows_string = false } in
+    let j : TextSink A = record { text = p.text ++ encode_utf8 c; follows_string = false } in
     let Goal : List ℕ → Type 0 = λ t. FoldsTo SpellTakes j (map action.Print (d ∷ ds))
     (record { text = t; follows_string = false }) in (
       j,
@@ -81,7 +81,7 @@ spells_chars {A = A} c (d ∷ ds) p =
           (spells_chars d ds j),
     )
 
-spells_all : {A : Type 0} (cs text : List ℕ) (p : Spell A) → encode_utf8_all cs ≡ text
+spells_all : {A : Type 0} (cs text : List ℕ) (p : TextSink A) → encode_utf8_all cs ≡ text
     → 0 < length text
     → FoldsTo SpellTakes p (map action.Print cs)
     (record { text = p.text ++ text; follows_string = false })
@@ -90,7 +90,7 @@ spells_all (c ∷ cs) text p e l =
     subst (λ t. FoldsTo SpellTakes p (map action.Print (c ∷ cs))
     (record { text = p.text ++ t; follows_string = false })) e (spells_chars c cs p)
 
-pub spells_str : {A : Type 0} (text : List ℕ) (p q : Spell A) → 0 < length text → IsUtf8 text
+pub spells_str : {A : Type 0} (text : List ℕ) (p q : TextSink A) → 0 < length text → IsUtf8 text
     → q ≡ record { text = p.text ++ text; follows_string = false }
     → FoldsTo SpellTakes p (map action.Print (chars text)) q
 spells_str text p q l u e =

@@ -50,7 +50,7 @@ pub read_none : (a b c : Option (List ℕ)) (s : List ℕ) (n : ℕ) (buf : List
 read_none a b c s n buf e h k = subst (λ x. Consumes a c x) (append-nil s)
     (Consumes-trans a b c s [] h (subst (λ m. Consumes b c (take m buf)) e k))
 
--- one more piece was read, and its text written
+-- one more chunk was read, and its text written
 pub written_more : (a b c : Option (List ℕ)) (before more whole : List ℕ) → Appends a b before
     → Appends b c more → whole ≡ before ++ more → Appends a c whole
 written_more a b c before more whole h k e = subst (λ x. Appends a c x) (sym e)

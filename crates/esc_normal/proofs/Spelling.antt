@@ -20,8 +20,8 @@ use Rattle.esc_write.specs.Plain.{IsPlain}
 use Rattle.esc_parse.specs.Given.{At, By, StopsAt as StopsGiven}
 use Rattle.esc_normal.proofs.LoneNumbers.{lone_number}
 use Rattle.esc_normal.specs.Spelled.{Adds, Denies}
-use Rattle.esc_normal.specs.declared.spell.Spell.{Spell}
-use Rattle.memory.specs.Refusals.{Refused}
+use Rattle.esc_normal.specs.declared.spell.TextSink.{TextSink}
+use Rattle.fallible_alloc.specs.Refusals.{Refused}
 
 -- what a result says
 pub match_both : {E : Type 0} (X Y P Q : Type 0) (r : Result (Unit {0}) E) → (X → Y) → (P → Q)
@@ -51,7 +51,7 @@ plain_value es more f (inr one) = (
 abbrev pub IsSequence : {A : Type 0} → Action A → CsiValue → Type 0
 IsSequence a c = value_of a ≡ csi c
 
-pub plain_given : {A : Type 0} (p q : Spell A) (es : List CsiParam) (more : Bool) (f : ℕ)
+pub plain_given : {A : Type 0} (p q : TextSink A) (es : List CsiParam) (more : Bool) (f : ℕ)
     → IsPlain es more f
     → (q.text ≡ p.text ++ csi_text (unspecified es more f)) × (q.follows_string ≡ false)
     → FoldsTo (By IsSequence Adds) p (csi_of es more f) q
@@ -60,7 +60,8 @@ plain_given {A} p q es more f plain w =
     subst (λ vs. FoldsTo (By IsSequence Adds) p vs q) (sym v.1)
     (q, (action.CSI v.0, refl, (w.0 ∙ ap (λ t. p.text ++ t) (sym v.2), w.1)), refl)
 
-pub plain_refused : {A : Type 0} (own : Type 0) (p q : Spell A) (es : List CsiParam) (more : Bool)
+pub plain_refused : {A : Type 0} (own : Type 0) (p q : TextSink A) (es : List CsiParam)
+    (more : Bool)
     (f : ℕ) → IsPlain es more f
     → Refused A → StopsGiven own (By IsSequence Adds) (By IsSequence Denies) p (csi_of es more f) q
 plain_refused {A} own p q es more f plain r =
@@ -72,18 +73,19 @@ plain_refused {A} own p q es more f plain r =
 abbrev pub IsCommand : {A : Type 0} → Action A → List (List ℕ) → Type 0
 IsCommand a ps = value_of a ≡ osc (command_meant ps)
 
-pub command_given : {A : Type 0} (p q : Spell A) (ps : List (List ℕ))
+pub command_given : {A : Type 0} (p q : TextSink A) (ps : List (List ℕ))
     → (q.text ≡ p.text ++ command_text (command_meant {A = A} ps)) × (q.follows_string ≡ true)
     → FoldsTo (By IsCommand Adds) p (ps ∷ []) q
 command_given p q ps w = (q, (action.OperatingSystemCommand (command_meant ps), refl, w), refl)
 
-pub command_refused : {A : Type 0} (own : Type 0) (p q : Spell A) (ps : List (List ℕ)) → Refused A
+pub command_refused : {A : Type 0} (own : Type 0) (p q : TextSink A) (ps : List (List ℕ))
+    → Refused A
     → StopsGiven own (By IsCommand Adds) (By IsCommand Denies) p (ps ∷ []) q
 command_refused {A} own p q ps r =
     inr (inl (action.OperatingSystemCommand (command_meant ps), refl, λ _. r))
 
 -- what a text was given
-pub spells : {A : Type 0} (p : Spell A) (vs : List (Value A)) (q : Spell A)
+pub spells : {A : Type 0} (p : TextSink A) (vs : List (Value A)) (q : TextSink A)
     → FoldsTo (At value_of (λ p a q. (q.text ≡ p.text ++ text_after p.follows_string (value_of a))
     × (q.follows_string ≡ is_string (value_of a)))) p vs q
     → q.text ≡ p.text ++ texts_after p.follows_string vs

@@ -1,8 +1,8 @@
--- The normal form of a stream that comes in pieces.
+-- The normal form of a stream that comes in chunks.
 use Rattle.std.specs.Prelude.{ℕ, ◌≡◌, false, List, ◌++◌, Option}
 use Rattle.esc_actions.specs.Meaning.{meaning_within}
 use Rattle.esc_actions.specs.Texts.{list_text}
-use Rattle.esc_parse.specs.Fed.{IsBroken as IsBrokenParser, WasFedWithin}
+use Rattle.esc_parse.specs.Fed.{IsBroken as IsBrokenParser, ParserHasConsumedWithin}
 use Rattle.esc_normal.specs.Texts.{ends_in_string}
 use Rattle.esc_normal.specs.declared.normaliser.Normaliser.{Normaliser}
 
@@ -13,8 +13,8 @@ normal_form A limit s = list_text (meaning_within {A = A} limit s)
 
 -- the normaliser, under this limit, was fed these bytes, and knows whether their text ends in a
 -- string
-abbrev pub WasFed : {A : Type 0} → Option ℕ → List ℕ → Normaliser A → Type 0
-WasFed {A} limit s n = WasFedWithin limit s n.parser
+abbrev pub HasConsumed : {A : Type 0} → Option ℕ → List ℕ → Normaliser A → Type 0
+HasConsumed {A} limit s n = ParserHasConsumedWithin limit s n.parser
     × (n.spell.follows_string ≡ ends_in_string false (meaning_within {A = A} limit s))
 
 -- an earlier call was refused memory
@@ -28,9 +28,9 @@ added_by n = n.spell.text
 -- this holds of each limit that the normaliser may have, and of each stream that it may have been
 -- fed
 abbrev pub After : {A : Type 0} → Normaliser A → (Option ℕ → List ℕ → Type 0) → Type 0
-After n C = (limit : Option ℕ) (s : List ℕ) → WasFed limit s n → C limit s
+After n C = (limit : Option ℕ) (s : List ℕ) → HasConsumed limit s n → C limit s
 
 -- the normaliser, which was fed s, was fed b too, and has the text that b adds
 abbrev pub Takes : {A : Type 0} → Option ℕ → List ℕ → List ℕ → Normaliser A → Type 0
-Takes {A} limit s b n = WasFed limit (s ++ b) n
+Takes {A} limit s b n = HasConsumed limit (s ++ b) n
     × (normal_form A limit (s ++ b) ≡ normal_form A limit s ++ added_by n)

@@ -3,12 +3,12 @@ use Rattle.std.specs.Prelude.{ℕ, ◌≡◌, ◌≤◌, Bool, true, false, List
 use Rattle.std.specs.declared.io.traits.Read.{Ghosts as Reader}
 use Rattle.std.specs.declared.io.traits.Write.{Ghosts as Writer}
 use Rattle.esc_normal.specs.Io.{Borrowed, FailsWith, IsReadWhole, Reads, Writes, WritesPrefix}
-use Rattle.esc_normal.specs.declared.feeding.Feeding.{Ghosts as Feeder}
+use Rattle.esc_normal.specs.declared.feeding.StreamFilter.{Ghosts as Feeder}
 use Rattle.esc_normal.specs.declared.filter_error.FilterError.{FilterError}
 use Rattle.esc_normal.specs.declared.filter_error.FilterError.TheVariants as fault
 use Rattle.esc_normal.specs.declared.filtering.TheConstants.{MOST_READS}
-use Rattle.memory.specs.Refusals.{Refused}
-use Rattle.memory.specs.declared.lists.TheConstants.{READ_BUFFER}
+use Rattle.fallible_alloc.specs.Refusals.{Refused}
+use Rattle.fallible_alloc.specs.declared.lists.TheConstants.{READ_BUFFER}
 
 -- how many bytes one read gives at most
 abbrev pub most_a_read : ℕ

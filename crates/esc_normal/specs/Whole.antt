@@ -5,7 +5,7 @@ use Rattle.std.specs.declared.io.traits.Write.{Ghosts as Writer}
 use Rattle.esc_normal.specs.Io.{Borrowed, FailsWith, IsReadWhole, Writes, WritesNothing, WritesPrefix, had}
 use Rattle.esc_normal.specs.declared.normalise_error.NormaliseError.{NormaliseError}
 use Rattle.esc_normal.specs.declared.normalise_error.NormaliseError.TheVariants as fault
-use Rattle.memory.specs.Refusals.{Refused}
+use Rattle.fallible_alloc.specs.Refusals.{Refused}
 
 -- where the bytes that the reader had are known, this holds of them
 abbrev pub OfAll : {R : Type 0} → Reader R → Borrowed R → (List ℕ → Type 0) → Type 0

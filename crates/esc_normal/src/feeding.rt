@@ -1,12 +1,12 @@
-//! What takes a stream in pieces, and has the text of each.
+//! What takes a stream in chunks, and has the text of each.
 ghost use Rattle.std.specs.Prelude.{◌≡◌, ◌++◌, ℕ, List, OnErr, OnOk};
-ghost use Rattle.memory.specs.Refusals.{Refused};
+ghost use Rattle.fallible_alloc.specs.Refusals.{Refused};
 
 use std::alloc::{AllocError, Allocator};
 
-/// Takes a stream in whatever pieces it comes, and has for each the text that it adds, and what its
+/// Takes a stream in whatever chunks it comes, and has for each the text that it adds, and what its
 /// end adds.
-pub trait Feeding<A: Allocator> {
+pub trait StreamFilter<A: Allocator> {
     // it gives the first texts for streams that go on, and the second for those that have ended,
     // and was fed this stream
     ghost gives: { Self → (List ℕ → List ℕ) → (List ℕ → List ℕ) → List ℕ → Type 0 };
@@ -18,7 +18,7 @@ pub trait Feeding<A: Allocator> {
     ghost has_ended: { Self → (List ℕ → List ℕ) → List ℕ → Type 0 };
 
     /// Takes bytes more.
-    fn feed_piece(&mut self, bytes: &[u8]) -> Result<(), AllocError>
+    fn feed_chunk(&mut self, bytes: &[u8]) -> Result<(), AllocError>
         ensures given { (m c : List ℕ → List ℕ) (s : List ℕ) → gives self.old m c s
             → OnOk result (gives self.new m c (s ++ bytes.now)
             × (m (s ++ bytes.now) ≡ m s ++ added self.new)) }
@@ -39,6 +39,6 @@ pub trait Feeding<A: Allocator> {
             → OnErr result (Refused A) };
 
     /// The text that the last call added.
-    fn added_text(&self) -> &str
+    fn output_text(&self) -> &str
         ensures { result.now ≡ added self.now };
 }

@@ -1,16 +1,16 @@
-//! From a stream to the text of what takes it in pieces.
+//! From a stream to the text of what takes it in chunks.
 ghost use Rattle.std.specs.Prelude.{ℕ, ◌≡◌, ◌<◌, ◌++◌, List, length, IfErr, IsErrOf, OnErr, OnOk};
 ghost use Rattle.esc_normal.specs.Io.{FailsWith, Writes, WritesPrefix};
 ghost use Rattle.esc_normal.specs.Streams.{FeedsAll, Filters, HasEnded, IsEither, New, PassesOn, PassesPrefixOn, WritesAdded};
-ghost use Rattle.memory.specs.Refusals.{Refused};
+ghost use Rattle.fallible_alloc.specs.Refusals.{Refused};
 
-use crate::feeding::Feeding;
+use crate::feeding::StreamFilter;
 use crate::filter_error::FilterError;
 use crate::watched::Watched;
 use std::alloc::Allocator;
 use std::io::{Read, Write};
 
-/// How often [`filter_from`] reads a stream at most.
+/// How often [`pump`] reads a stream at most.
 pub const MOST_READS: u64 = u64::MAX;
 
 /// Reads to the end, and writes what the filter, which gives these texts and was fed nothing, has
@@ -23,20 +23,20 @@ pub const MOST_READS: u64 = u64::MAX;
 /// it. Where neither had failed before, `Read` comes exactly where the reader has failed, and
 /// `Write` exactly where the writer has. A `write` that takes nothing is a failure. `Endless` comes
 /// after 2^64 - 1 reads, each of at least one byte.
-pub fn filter_from<R: Read, W: Write, F: Feeding<A>, A: Allocator + Copy>(
+pub fn pump<R: Read, W: Write, F: StreamFilter<A>, A: Allocator + Copy>(
     alloc: A,
     filter: &mut F,
     reader: &mut Watched<R>,
     writer: &mut Watched<W>,
 ) -> Result<(), FilterError>
-    ensures holds { New F.Feeding filter.old (λ m c.
+    ensures holds { New F.StreamFilter filter.old (λ m c.
         Filters R.Read W.Write c (IsEither c m) result reader writer) }
-    ensures ended { New F.Feeding filter.old (λ m c.
-        OnOk result (HasEnded F.Feeding R.Read c filter.new reader)) }
-    ensures refused { New F.Feeding filter.old (λ m c.
+    ensures ended { New F.StreamFilter filter.old (λ m c.
+        OnOk result (HasEnded F.StreamFilter R.Read c filter.new reader)) }
+    ensures refused { New F.StreamFilter filter.old (λ m c.
         IsErrOf result FilterError.Memory → Refused A) }
 {
-    let Ok(mut chunk) = memory::read_buffer(alloc) else {
+    let Ok(mut chunk) = fallible_alloc::read_buffer(alloc) else {
         return Err(FilterError::Memory);
     };
     match filter_all(filter, reader, writer, chunk.as_mut_slice()) {
@@ -46,14 +46,14 @@ pub fn filter_from<R: Read, W: Write, F: Feeding<A>, A: Allocator + Copy>(
 }
 
 // The same by way of this chunk, part by part of what `Filters` says.
-fn filter_all<R: Read, W: Write, F: Feeding<A>, A: Allocator + Copy>(
+fn filter_all<R: Read, W: Write, F: StreamFilter<A>, A: Allocator + Copy>(
     filter: &mut F,
     reader: &mut Watched<R>,
     writer: &mut Watched<W>,
     chunk: &mut [u8],
 ) -> Result<(), FilterError>
     requires { 0 < length chunk.old }
-    ensures { FeedsAll F.Feeding R.Read W.Write (length chunk.old) filter.old result filter.new
+    ensures { FeedsAll F.StreamFilter R.Read W.Write (length chunk.old) filter.old result filter.new
         reader writer }
 {
     for _ in 0..MOST_READS {
@@ -70,34 +70,34 @@ fn filter_all<R: Read, W: Write, F: Feeding<A>, A: Allocator + Copy>(
 }
 
 // Feeds the filter these bytes, writes the text that they add, and flushes the writer.
-fn pass_on<W: Write, F: Feeding<A>, A: Allocator + Copy>(
+fn pass_on<W: Write, F: StreamFilter<A>, A: Allocator + Copy>(
     filter: &mut F,
     bytes: &[u8],
     writer: &mut Watched<W>,
 ) -> Result<(), FilterError>
-    ensures { WritesAdded F.Feeding filter.old
-        (λ m c s. PassesOn F.Feeding W.Write m c s bytes.now filter.new writer)
+    ensures { WritesAdded F.StreamFilter filter.old
+        (λ m c s. PassesOn F.StreamFilter W.Write m c s bytes.now filter.new writer)
         (λ m c s. PassesPrefixOn W.Write m s bytes.now writer) result writer }
 {
-    match filter.feed_piece(bytes) {
-        Ok(()) => write_out(writer, filter.added_text()),
+    match filter.feed_chunk(bytes) {
+        Ok(()) => write_out(writer, filter.output_text()),
         Err(_) => Err(FilterError::Memory),
     }
 }
 
 // Ends the filter's stream, and writes the text that this adds.
-fn end<W: Write, F: Feeding<A>, A: Allocator + Copy>(
+fn end<W: Write, F: StreamFilter<A>, A: Allocator + Copy>(
     filter: &mut F,
     output: &mut Watched<W>,
 ) -> Result<(), FilterError>
-    ensures { WritesAdded F.Feeding filter.old
+    ensures { WritesAdded F.StreamFilter filter.old
         (λ m c s. F.has_ended filter.new c s
         × ((t : List ℕ) × (c s ≡ m s ++ t) × Writes W.Write t output))
         (λ m c s. (t : List ℕ) × (c s ≡ m s ++ t) × WritesPrefix W.Write t output)
         result output }
 {
     match filter.finish_all() {
-        Ok(()) => write_out(output, filter.added_text()),
+        Ok(()) => write_out(output, filter.output_text()),
         Err(_) => Err(FilterError::Memory),
     }
 }

@@ -1,10 +1,10 @@
 //! From a stream to the text of what it means: [`normal_text`], [`normalise`] and [`is_normal`];
-//! the same as it comes, [`normalise_stream`], and piece by piece, [`Normaliser`]; and [`Spell`],
-//! the sink that writes what it takes.
+//! the same as it comes, [`normalise_stream`], and chunk by chunk, [`Normaliser`]; and
+//! [`TextSink`], the sink that writes what it takes.
 //!
 //! What `esc_parse` reads is written as `esc_write` writes it, with no list of actions in between.
-//! [`Feeding`] is what takes a stream in pieces and has the text of each, as a normaliser or a
-//! filter, and [`filter_from`] runs it from a reader to a writer. A part of `escape_stream`.
+//! [`StreamFilter`] is what takes a stream in chunks and has the text of each, as a normaliser or a
+//! filter, and [`pump`] runs it from a reader to a writer. A part of `escape_stream`.
 //!
 //! ```text
 //! let mut normaliser = Normaliser::new(alloc, None);
@@ -23,12 +23,12 @@ mod spell;
 mod streaming;
 mod watched;
 
-pub use feeding::Feeding;
+pub use feeding::StreamFilter;
 pub use filter_error::FilterError;
-pub use filtering::{MOST_READS, filter_from};
+pub use filtering::{MOST_READS, pump};
 pub use normalisation::{is_normal, is_normal_limited, normal_text, normalise, normalise_limited};
 pub use normalise_error::{NormaliseError, same_normalise_error};
 pub use normaliser::Normaliser;
-pub use spell::Spell;
+pub use spell::TextSink;
 pub use streaming::normalise_stream;
 pub use watched::Watched;

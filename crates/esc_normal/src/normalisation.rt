@@ -6,11 +6,11 @@ ghost use Rattle.esc_normal.specs.Whole.{IsOwnText, ReadsAll, WritesText};
 ghost use Rattle.esc_actions.specs.Meaning.{meaning};
 ghost use Rattle.esc_actions.specs.Texts.{list_text};
 ghost use Rattle.esc_actions.specs.Writable.{AreWritable};
-ghost use Rattle.esc_parse.specs.Fed.{WasFedWithin};
-ghost use Rattle.memory.specs.Refusals.{Refused};
+ghost use Rattle.esc_parse.specs.Fed.{ParserHasConsumedWithin};
+ghost use Rattle.fallible_alloc.specs.Refusals.{Refused};
 
 use crate::normalise_error::NormaliseError;
-use crate::spell::Spell;
+use crate::spell::TextSink;
 use crate::watched::Watched;
 use esc_actions::laws;
 use esc_parse::Parser;
@@ -118,7 +118,7 @@ fn read_whole<R: Read, A: Allocator + Copy>(
 ) -> Result<Vec<u8, A>, NormaliseError>
     ensures { ReadsAll A R.Read (λ v xs. v.items ≡ xs) result reader }
 {
-    let Ok(mut chunk) = memory::read_buffer(alloc) else {
+    let Ok(mut chunk) = fallible_alloc::read_buffer(alloc) else {
         return Err(NormaliseError::Memory);
     };
     read_by(alloc, reader, chunk.as_mut_slice())
@@ -138,7 +138,7 @@ fn read_by<R: Read, A: Allocator>(
         match reader.read(chunk) {
             Ok(0) => return Ok(bytes),
             Ok(n) => {
-                if memory::extend(&mut bytes, &chunk[..n]).is_err() {
+                if fallible_alloc::extend(&mut bytes, &chunk[..n]).is_err() {
                     return Err(NormaliseError::Memory);
                 }
             }
@@ -158,7 +158,7 @@ pub fn normal_text<A: Allocator + Copy>(
     ensures refused { OnErr result (Refused A) }
 {
     laws::yield_handed_out::<A>();
-    let (result, spell) = parser_within(alloc, limit).parse_into(bytes, Spell::new(alloc));
+    let (result, spell) = parser_within(alloc, limit).parse_into(bytes, TextSink::new(alloc));
     match result {
         Ok(()) => Ok(spell.text),
         Err(_) => Err(AllocError),
@@ -167,7 +167,7 @@ pub fn normal_text<A: Allocator + Copy>(
 
 /// A parser at the beginning of a stream, with or without a limit.
 pub(crate) fn parser_within<A: Allocator + Copy>(alloc: A, limit: Option<usize>) -> Parser<A>
-    ensures { WasFedWithin limit [] result }
+    ensures { ParserHasConsumedWithin limit [] result }
 {
     match limit {
         None => Parser::new(alloc),

@@ -1,28 +1,28 @@
-//! A normaliser that is fed a stream piece by piece.
+//! A normaliser that is fed a stream chunk by chunk.
 ghost use Rattle.std.specs.Prelude.{◌≡◌, ℕ, [], IfErr, OnOk, Option};
-ghost use Rattle.memory.specs.Refusals.{Refused};
-ghost use Rattle.esc_normal.specs.Normalising.{WasFed, added_by, normal_form};
+ghost use Rattle.fallible_alloc.specs.Refusals.{Refused};
+ghost use Rattle.esc_normal.specs.Normalising.{HasConsumed, added_by, normal_form};
 
-use crate::feeding::Feeding;
+use crate::feeding::StreamFilter;
 use crate::normalisation::parser_within;
-use crate::spell::Spell;
+use crate::spell::TextSink;
 use esc_actions::laws;
 use esc_frame::ParseError;
 use esc_parse::Parser;
 use std::alloc::{AllocError, Allocator, Global};
 use std::mem;
 
-/// Takes a stream in whatever pieces it comes, and has for each the text that it adds to the normal
+/// Takes a stream in whatever chunks it comes, and has for each the text that it adds to the normal
 /// form of the stream so far. The end of the stream adds none: what is unfinished then gives
 /// nothing.
 ///
 /// It keeps what a parser keeps of an unfinished segment, at most the limit where there is one, the
-/// text of the piece before, and whether a string terminator that comes next ends a string that was
+/// text of the chunk before, and whether a string terminator that comes next ends a string that was
 /// written already.
 #[derive(Drop)]
 pub struct Normaliser<A: Allocator = Global> {
     parser: Parser<A>,
-    spell: Spell<A>,
+    spell: TextSink<A>,
     alloc: A,
 }
 
@@ -33,12 +33,12 @@ impl<A: Allocator + Copy> Normaliser<A> {
     /// as [`Parser::with_limit`](esc_parse::Parser::with_limit) does, or as many as it has. Takes
     /// no memory.
     pub fn new(alloc: A, limit: Option<usize>) -> Normaliser<A>
-        ensures fed { WasFed limit [] result }
+        ensures fed { HasConsumed limit [] result }
         ensures empty { added_by result ≡ [] }
     {
         Normaliser {
             parser: parser_within(alloc, limit),
-            spell: Spell::new(alloc),
+            spell: TextSink::new(alloc),
             alloc,
         }
     }
@@ -57,7 +57,7 @@ impl<A: Allocator + Copy> Normaliser<A> {
             × (added_by self.new ≡ []) }
     {
         laws::yield_handed_out::<A>();
-        let spell = mem::replace(&mut self.spell, Spell::new(self.alloc));
+        let spell = mem::replace(&mut self.spell, TextSink::new(self.alloc));
         let (result, spell) = self.parser.parse_into(bytes, spell.emptied());
         result?;
         self.spell = spell;
@@ -67,12 +67,12 @@ impl<A: Allocator + Copy> Normaliser<A> {
     /// Begins a new stream, with no text. What is unfinished is dropped, and the limit stays. A
     /// normaliser that has failed stays so.
     pub fn restart(&mut self)
-        ensures fed { After self.old (λ limit s. WasFed limit [] self.new) }
+        ensures fed { After self.old (λ limit s. HasConsumed limit [] self.new) }
         ensures empty { added_by self.new ≡ [] }
         ensures failed { IsBroken self.old → IsBroken self.new }
     {
         self.parser.restart();
-        self.spell = Spell::new(self.alloc);
+        self.spell = TextSink::new(self.alloc);
     }
 
     /// The text that the bytes fed last added.
@@ -83,15 +83,15 @@ impl<A: Allocator + Copy> Normaliser<A> {
     }
 }
 
-impl<A: Allocator + Copy> Feeding<A> for Normaliser<A> {
-    ghost gives = { λ n m c s. (limit : Option ℕ) × WasFed limit s n
+impl<A: Allocator + Copy> StreamFilter<A> for Normaliser<A> {
+    ghost gives = { λ n m c s. (limit : Option ℕ) × HasConsumed limit s n
         × (m ≡ normal_form A limit) × (c ≡ normal_form A limit) };
 
     ghost added = { λ n. added_by n };
 
     ghost has_ended = { λ _ _ _. Unit {0} };
 
-    fn feed_piece(&mut self, bytes: &[u8]) -> Result<(), AllocError> {
+    fn feed_chunk(&mut self, bytes: &[u8]) -> Result<(), AllocError> {
         match self.feed(bytes) {
             Ok(()) => Ok(()),
             Err(_) => Err(AllocError),
@@ -103,7 +103,7 @@ impl<A: Allocator + Copy> Feeding<A> for Normaliser<A> {
         Ok(())
     }
 
-    fn added_text(&self) -> &str {
+    fn output_text(&self) -> &str {
         self.text()
     }
 }

@@ -1,14 +1,14 @@
 //! The sink that writes what it takes.
 ghost use Rattle.std.specs.Prelude.{◌≡◌, ◌<◌, ◌++◌, [], Ok, OnErr, OnOk, false, true};
 ghost use Rattle.std.specs.List.{list_all};
-ghost use Rattle.esc_values.specs.Clear.{framed};
+ghost use Rattle.esc_values.specs.Clear.{framed_text};
 ghost use Rattle.esc_sequences.specs.Csis.{csi_text, unspecified};
 ghost use Rattle.esc_frame.specs.Scans.{is_text_byte};
 ghost use Rattle.esc_actions.specs.Texts.{has_text, is_string, text_after};
 ghost use Rattle.esc_actions.specs.Values.{value_of};
 ghost use Rattle.esc_write.specs.Plain.{short_text};
 ghost use Rattle.esc_normal.specs.Spelled.{Denies};
-ghost use Rattle.memory.specs.Refusals.{Refused};
+ghost use Rattle.fallible_alloc.specs.Refusals.{Refused};
 
 use esc_actions::Action;
 use esc_parse::Sink;
@@ -24,20 +24,20 @@ use std::str;
 /// them, without a list of them. Each action that a string terminator ends gets one string
 /// terminator, and one directly after it in the stream is that one.
 #[derive(Drop)]
-pub struct Spell<A: Allocator = Global> {
+pub struct TextSink<A: Allocator = Global> {
     /// The text so far.
     pub text: Text<A>,
     /// Whether the last action was one that a string terminator ends.
     pub follows_string: bool,
 }
 
-impl<A: Allocator> Spell<A> {
+impl<A: Allocator> TextSink<A> {
     /// No text yet. Takes no memory.
-    pub fn new(alloc: A) -> Spell<A>
+    pub fn new(alloc: A) -> TextSink<A>
         ensures text { result.text ≡ [] }
         ensures plain { result.follows_string ≡ false }
     {
-        Spell {
+        TextSink {
             text: Text::new(alloc),
             follows_string: false,
         }
@@ -45,17 +45,17 @@ impl<A: Allocator> Spell<A> {
 
     /// The same with an empty text, in the memory of this one.
     #[inline]
-    pub(crate) fn emptied(self) -> Spell<A>
+    pub(crate) fn emptied(self) -> TextSink<A>
         ensures text { result.text ≡ [] }
         ensures same { result.follows_string ≡ self.follows_string }
     {
-        let Spell {
+        let TextSink {
             text,
             follows_string,
         } = self;
         let mut string = text.into_string();
         string.clear();
-        Spell {
+        TextSink {
             text: Text::from_string(string),
             follows_string,
         }
@@ -75,7 +75,7 @@ impl<A: Allocator> Spell<A> {
     }
 }
 
-impl<A: Allocator> Spell<A> {
+impl<A: Allocator> TextSink<A> {
     // Appends the text of a control sequence that has no name.
     fn write_sequence(
         &mut self,
@@ -110,7 +110,7 @@ impl<A: Allocator> Spell<A> {
     /// Appends the text of a command that is written as it came: `ESC ]`, these bytes, and the
     /// string terminator.
     pub fn write_verbatim(&mut self, text: &str) -> Result<(), AllocError>
-        ensures ok { OnOk result ((self.new.text ≡ self.old.text ++ framed text.now)
+        ensures ok { OnOk result ((self.new.text ≡ self.old.text ++ framed_text text.now)
             × (self.new.follows_string ≡ true)) }
         ensures refused { OnErr result (Refused A) }
     {
@@ -124,7 +124,7 @@ impl<A: Allocator> Spell<A> {
 
 /// After a refused call the text ends somewhere within that action's text. A sixel image with a
 /// value over 63, which has no text, is refused too; no parser hands one out.
-impl<A: Allocator> Sink<Action<A>> for Spell<A> {
+impl<A: Allocator> Sink<Action<A>> for TextSink<A> {
     ghost is_ready = { λ _. Unit {0} };
 
     ghost may = { λ _ _. Unit {0} };

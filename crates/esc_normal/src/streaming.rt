@@ -3,10 +3,10 @@ ghost use Rattle.std.specs.Prelude.{IfSome, IsErrOf, OnErr, OnOk};
 ghost use Rattle.esc_normal.specs.Io.{Writes, WritesPrefix, had};
 ghost use Rattle.esc_normal.specs.Normalising.{normal_form};
 ghost use Rattle.esc_normal.specs.Streams.{Filters, IsText};
-ghost use Rattle.memory.specs.Refusals.{Refused};
+ghost use Rattle.fallible_alloc.specs.Refusals.{Refused};
 
 use crate::filter_error::FilterError;
-use crate::filtering::filter_from;
+use crate::filtering::pump;
 use crate::normaliser::Normaliser;
 use crate::watched::Watched;
 use std::alloc::Allocator;
@@ -39,5 +39,5 @@ pub fn normalise_stream<R: Read, W: Write, A: Allocator + Copy>(
     ensures refused { IsErrOf result FilterError.Memory → Refused A }
 {
     let mut normaliser = Normaliser::new(alloc, limit);
-    filter_from(alloc, &mut normaliser, reader, writer)
+    pump(alloc, &mut normaliser, reader, writer)
 }

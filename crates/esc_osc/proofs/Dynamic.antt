@@ -5,7 +5,7 @@ use Rattle.std.proofs.lemmas.Bool.{and_parts}
 use Rattle.std.specs.Option.{option_map}
 use Rattle.esc_osc_values.specs.Codes.{all_codes, changed_by, reset_by, change_code, reset_code}
 use Rattle.esc_osc_values.specs.Colors.{colors_of}
-use Rattle.esc_osc.specs.Reading.{reading, dynamic}
+use Rattle.esc_osc.specs.Reading.{reading, dynamic_command}
 use Rattle.esc_osc_values.specs.declared.code.OperatingSystemCommandCode.{OperatingSystemCommandCode}
 use Rattle.esc_osc_values.specs.declared.code.OperatingSystemCommandCode.TheVariants as code
 use Rattle.esc_osc.specs.declared.command.OperatingSystemCommand.TheVariants as command
@@ -50,7 +50,7 @@ has_none c (k ∷ l ∷ ls) h (inr i) = has_none c (l ∷ ls) ((and_parts _ _ h)
 -- another code
 other_reads : (A : Type 0) (c : OperatingSystemCommandCode) (t : List ℕ) (args : List (List ℕ))
     → not (has_line c) ≡ true
-    → reading {A = A} c t args ≡ dynamic (changed_by c) (reset_by c) args
+    → reading {A = A} c t args ≡ dynamic_command (changed_by c) (reset_by c) args
 other_reads A code.SetIconNameAndWindowTitle t args h = absurd (true≢false (sym h))
 other_reads A code.SetIconName t args h = absurd (true≢false (sym h))
 other_reads A code.SetWindowTitle t args h = absurd (true≢false (sym h))
@@ -69,7 +69,7 @@ other_reads A c t args h = refl
 
 pub others_read : (A : Type 0) (c : OperatingSystemCommandCode) (t : List ℕ) (args : List (List ℕ))
     → IsOneOf c without_line
-    → reading {A = A} c t args ≡ dynamic (changed_by c) (reset_by c) args
+    → reading {A = A} c t args ≡ dynamic_command (changed_by c) (reset_by c) args
 others_read A c t args i = other_reads A c t args (has_none c without_line refl i)
 
 -- the codes of a dynamic colour

@@ -7,7 +7,7 @@ use Rattle.std.proofs.lemmas.List.{append-nil}
 use Rattle.std.proofs.lemmas.Str.{is_utf8-from_IsUtf8}
 use Rattle.esc_values.proofs.ClearTexts.{part_utf8}
 use Rattle.esc_values.proofs.PlainParts.{plain_part}
-use Rattle.esc_values.specs.Clear.{framed}
+use Rattle.esc_values.specs.Clear.{framed_text}
 use Rattle.esc_osc.specs.Commands.{command_text}
 use Rattle.esc_osc.specs.Reading.{reading}
 use Rattle.esc_osc_values.specs.declared.code.OperatingSystemCommandCode.TheVariants as code
@@ -22,19 +22,19 @@ some_length name = ne_eqb (length (codes "aid=" ++ name)) 0 (λ e. omega (arith,
 pub named_start : (A : Type 0) (name : List ℕ) → IsUtf8 name
     → option_map command_text (reading {A = A} code.FinalTermSemanticPrompt (codes "133") (codes "A"
     ∷ (codes "aid=" ++ name) ∷ []))
-    ≡ Some (framed (codes "133;A;aid=" ++ name))
+    ≡ Some (framed_text (codes "133;A;aid=" ++ name))
 named_start A name u =
     rw (some_length name, is_utf8-from_IsUtf8 name u, key_utf8, append-nil name) refl
 
 pub named_output : (A : Type 0) (name : List ℕ) → IsUtf8 name
     → option_map command_text (reading {A = A} code.FinalTermSemanticPrompt (codes "133") (codes "C"
     ∷ (codes "aid=" ++ name) ∷ []))
-    ≡ Some (framed (codes "133;C;aid=" ++ name))
+    ≡ Some (framed_text (codes "133;C;aid=" ++ name))
 named_output A name u = rw (some_length name, is_utf8-from_IsUtf8 name u, key_utf8) refl
 
 pub named_end : (A : Type 0) (name : List ℕ) → IsUtf8 name
     → option_map command_text (reading {A = A} code.FinalTermSemanticPrompt (codes "133") (codes "N"
     ∷ (codes "aid=" ++ name) ∷ []))
-    ≡ Some (framed (codes "133;N;aid=" ++ name))
+    ≡ Some (framed_text (codes "133;N;aid=" ++ name))
 named_end A name u =
     rw (some_length name, is_utf8-from_IsUtf8 name u, key_utf8, append-nil name) refl

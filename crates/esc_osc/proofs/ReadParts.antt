@@ -21,7 +21,7 @@ use Rattle.esc_values.proofs.Where.{Where, where_map, where_then, utf8_keeps, co
 use Rattle.esc_osc_values.specs.Codes.{code_of, code_name, code_text, changed_by, reset_by}
 use Rattle.esc_osc_values.specs.Colors.{colors_of, pairs_of}
 use Rattle.esc_osc_values.specs.Progresses.{progress_of}
-use Rattle.esc_osc.specs.Reading.{meaning, fitting, reading, selected, notified, dynamic}
+use Rattle.esc_osc.specs.Reading.{meaning, fitting, reading, selection_command, notification, dynamic_command}
 use Rattle.esc_osc_values.specs.Lists.{title_of, lone_text, numbers_of}
 use Rattle.esc_osc_values.specs.Selections.{selection}
 use Rattle.esc_osc_values.specs.Selections.{selection_of}
@@ -70,19 +70,19 @@ sun_tail b t args small e h =
     (tail_part b (drop 1 t) small some_byte (subst P (sun_head b t args e) h))
 
 notified_good : (A : Type 0) (o : Option Progress) (t : Option (List ℕ)) → Where IsProgress o
-    → Where (λ u. IsClearPart u) t → Where (Good A) (notified o t)
+    → Where (λ u. IsClearPart u) t → Where (Good A) (notification o t)
 notified_good A (Some p) t h k = h
 notified_good A None t h k =
     where_map (λ u. IsClearPart u) (Good A) command.SystemNotification (λ u q. q) t k
 
 dynamic_good : (A : Type 0) (n m : Option DynamicColorNumber) (args : List (List ℕ))
-    → Where (Good A) (dynamic n m args)
+    → Where (Good A) (dynamic_command n m args)
 dynamic_good A (Some n) m args = where_map AreColors (Good A) (command.ChangeDynamicColors n)
     (λ cs k. k) (colors_of args) (colors_where args)
 dynamic_good A None (Some m) args = tt
 dynamic_good A None None args = tt
 
-selected_good : (A : Type 0) (args : List (List ℕ)) → Where (Good A) (selected args)
+selected_good : (A : Type 0) (args : List (List ℕ)) → Where (Good A) (selection_command args)
 selected_good A [] = tt
 selected_good A (s ∷ []) = where_map IsNamed (Good A) (λ b. command.ClearSelection (selection b))
     (λ b h. h) (selection_of s) (selection_named s)

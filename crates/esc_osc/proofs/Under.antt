@@ -6,7 +6,7 @@ use Rattle.esc_prompts.specs.Prompts.{prompt_text}
 use Rattle.esc_prompts.specs.declared.prompt.FinalTermSemanticPrompt.{FinalTermSemanticPrompt}
 use Rattle.esc_prompts.specs.declared.prompt.FinalTermSemanticPrompt.TheVariants as prompt
 use Rattle.esc_osc_values.specs.Codes.{code_text}
-use Rattle.esc_osc.specs.Commands.{IsUnder, code_under, inner_text, listed}
+use Rattle.esc_osc.specs.Commands.{IsUnder, code_under, inner_text, listed_text}
 use Rattle.esc_osc_values.specs.declared.code.OperatingSystemCommandCode.{OperatingSystemCommandCode}
 use Rattle.esc_osc_values.specs.declared.code.OperatingSystemCommandCode.TheVariants as code
 use Rattle.esc_osc.specs.declared.command.OperatingSystemCommand.{OperatingSystemCommand}
@@ -14,7 +14,7 @@ use Rattle.esc_osc.specs.declared.command.OperatingSystemCommand.TheVariants as 
 
 -- a list of items, each after a `;`
 listed_under : {X : Type 0} (k : OperatingSystemCommandCode) (f : X → List ℕ) (xs : List X)
-    → IsUnder k (listed k f xs)
+    → IsUnder k (listed_text k f xs)
 listed_under k f [] = inl (append-nil (code_text k))
 listed_under k f (x ∷ xs) = inr (inl (f x ++ flat_map (λ y. 0x3b ∷ f y) xs, refl))
 

@@ -4,7 +4,7 @@ use Rattle.std.specs.Fmt.{decimal}
 use Rattle.std.specs.List.{flat_map}
 use Rattle.std.specs.Str.Lossy.{utf8_lossy}
 use Rattle.esc_values.specs.Base64.{base64_text}
-use Rattle.esc_values.specs.Clear.{framed}
+use Rattle.esc_values.specs.Clear.{framed_text}
 use Rattle.esc_links.specs.Hyperlinks.{link_text}
 use Rattle.esc_iterm.specs.ITerms.{iterm_text}
 use Rattle.esc_prompts.specs.Prompts.{prompt_text}
@@ -23,8 +23,8 @@ abbrev pub titled : OperatingSystemCommandCode → List ℕ → List ℕ
 titled c t = code_text c ++ 0x3b ∷ t
 
 -- a code and items, each after a `;`
-abbrev pub listed : {X : Type 0} → OperatingSystemCommandCode → (X → List ℕ) → List X → List ℕ
-listed c f xs = code_text c ++ flat_map (λ x. 0x3b ∷ f x) xs
+abbrev pub listed_text : {X : Type 0} → OperatingSystemCommandCode → (X → List ℕ) → List X → List ℕ
+listed_text c f xs = code_text c ++ flat_map (λ x. 0x3b ∷ f x) xs
 
 -- what comes between `ESC ]` and the terminator
 abbrev pub inner_text : {A : Type 0} → OperatingSystemCommand A → List ℕ
@@ -43,11 +43,11 @@ inner_text (command.SystemNotification t) = titled code.SystemNotification t
 inner_text (command.ITermProprietary c) = iterm_text c
 inner_text (command.FinalTermSemanticPrompt p) = prompt_text p
 inner_text (command.ChangeColorNumber ps) = titled code.ChangeColorNumber (joined_by pair_text ps)
-inner_text (command.ChangeDynamicColors n cs) = listed (change_code n) spec_text cs
+inner_text (command.ChangeDynamicColors n cs) = listed_text (change_code n) spec_text cs
 inner_text (command.ResetDynamicColor n) = code_text (reset_code n)
 inner_text (command.CurrentWorkingDirectory t) = titled code.SetCurrentWorkingDirectory t
-inner_text (command.ResetColors ns) = listed code.ResetColors decimal ns
-inner_text (command.RxvtExtension ts) = listed code.RxvtProprietary (λ t. t) ts
+inner_text (command.ResetColors ns) = listed_text code.ResetColors decimal ns
+inner_text (command.RxvtExtension ts) = listed_text code.RxvtProprietary (λ t. t) ts
 inner_text (command.ConEmuProgress p) = titled code.SystemNotification (progress_text p)
 inner_text (command.Unspecified ps) = joined_by utf8_lossy ps
 
@@ -92,4 +92,4 @@ code_under (command.Unspecified ps) = None
 
 -- the whole text of a command
 abbrev pub command_text : {A : Type 0} → OperatingSystemCommand A → List ℕ
-command_text c = framed (inner_text c)
+command_text c = framed_text (inner_text c)

@@ -26,24 +26,24 @@ content_of s t = and_then (selection_of s) (λ b.
     option_map (λ text. command.SetSelection (selection b) text) (base64_text_of t))
 
 -- a selection alone, with `?`, or with a text
-abbrev pub selected : {A : Type 0} → List (List ℕ) → Option (OperatingSystemCommand A)
-selected (s ∷ []) = option_map (λ b. command.ClearSelection (selection b)) (selection_of s)
-selected (s ∷ t ∷ []) = if pointwise nat_eq t (codes "?")
+abbrev pub selection_command : {A : Type 0} → List (List ℕ) → Option (OperatingSystemCommand A)
+selection_command (s ∷ []) = option_map (λ b. command.ClearSelection (selection b)) (selection_of s)
+selection_command (s ∷ t ∷ []) = if pointwise nat_eq t (codes "?")
     then option_map (λ b. command.QuerySelection (selection b)) (selection_of s) else content_of s t
-selected ps = None
+selection_command ps = None
 
 -- the progress of a task, else a notification
-abbrev pub notified : {A : Type 0} → Option Progress → Option (List ℕ)
+abbrev pub notification : {A : Type 0} → Option Progress → Option (List ℕ)
     → Option (OperatingSystemCommand A)
-notified (Some p) t = Some (command.ConEmuProgress p)
-notified None t = option_map command.SystemNotification t
+notification (Some p) t = Some (command.ConEmuProgress p)
+notification None t = option_map command.SystemNotification t
 
 -- a dynamic colour that is changed, else one that is reset
-abbrev pub dynamic : {A : Type 0} → Option DynamicColorNumber → Option DynamicColorNumber
+abbrev pub dynamic_command : {A : Type 0} → Option DynamicColorNumber → Option DynamicColorNumber
     → List (List ℕ) → Option (OperatingSystemCommand A)
-dynamic (Some n) r args = option_map (command.ChangeDynamicColors n) (colors_of args)
-dynamic None (Some n) args = Some (command.ResetDynamicColor n)
-dynamic None None args = None
+dynamic_command (Some n) r args = option_map (command.ChangeDynamicColors n) (colors_of args)
+dynamic_command None (Some n) args = Some (command.ResetDynamicColor n)
+dynamic_command None None args = None
 
 -- what a code makes of the lossy text of the first part and the parts after it, one line a code;
 -- none where they do not fit it
@@ -57,8 +57,8 @@ reading code.ChangeColorNumber t args = option_map command.ChangeColorNumber (pa
 reading code.SetCurrentWorkingDirectory t args =
     option_map command.CurrentWorkingDirectory (lone_text args)
 reading code.SetHyperlink t args = option_map command.SetHyperlink (link_of (t ∷ args))
-reading code.SystemNotification t args = notified (progress_of args) (lone_text args)
-reading code.ManipulateSelectionData t args = selected args
+reading code.SystemNotification t args = notification (progress_of args) (lone_text args)
+reading code.ManipulateSelectionData t args = selection_command args
 reading code.ResetColors t args = option_map command.ResetColors (numbers_of args)
 reading code.FinalTermSemanticPrompt t args =
     option_map command.FinalTermSemanticPrompt (prompt_of args)
@@ -66,16 +66,16 @@ reading code.RxvtProprietary t args = Some (command.RxvtExtension (map utf8_loss
 reading code.ITermProprietary t args = option_map command.ITermProprietary (iterm_of args)
 reading code.SetWindowTitleSun t args = option_map command.SetWindowTitleSun (utf8_of (drop 1 t))
 reading code.SetIconNameSun t args = option_map command.SetIconNameSun (utf8_of (drop 1 t))
-reading c t args = dynamic (changed_by c) (reset_by c) args
+reading c t args = dynamic_command (changed_by c) (reset_by c) args
 
 -- what the code that the first part's lossy text names makes of the parts after it
-abbrev pub named : {A : Type 0} → List ℕ → List (List ℕ) → Option (OperatingSystemCommand A)
-named t args = and_then (code_of (code_name t args)) (λ c. reading c t args)
+abbrev pub named_command : {A : Type 0} → List ℕ → List (List ℕ) → Option (OperatingSystemCommand A)
+named_command t args = and_then (code_of (code_name t args)) (λ c. reading c t args)
 
 -- the case that fits: the lossy text of the first part names the code
 abbrev pub fitting : {A : Type 0} → List (List ℕ) → Option (OperatingSystemCommand A)
 fitting [] = None
-fitting (p ∷ args) = named (utf8_lossy p) args
+fitting (p ∷ args) = named_command (utf8_lossy p) args
 
 -- what parts mean: the case that fits, else the parts as they are
 abbrev pub meaning : {A : Type 0} → List (List ℕ) → OperatingSystemCommand A

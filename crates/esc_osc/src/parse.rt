@@ -7,10 +7,10 @@ ghost use Rattle.esc_osc_values.specs.Colors.{colors_of};
 ghost use Rattle.esc_osc_values.specs.Progresses.{progress_of};
 ghost use Rattle.esc_iterm.specs.ITerms.{iterm_of};
 ghost use Rattle.esc_prompts.specs.Prompts.{prompt_of};
-ghost use Rattle.esc_osc.specs.Reading.{dynamic, fitting, meaning, named, notified, reading, selected};
+ghost use Rattle.esc_osc.specs.Reading.{dynamic_command, fitting, meaning, named_command, notification, reading, selection_command};
 ghost use Rattle.esc_osc_values.specs.Lists.{lone_text};
 ghost use Rattle.esc_osc.specs.declared.command.OperatingSystemCommand.TheVariants as command;
-ghost use Rattle.memory.specs.Refusals.{Refused};
+ghost use Rattle.fallible_alloc.specs.Refusals.{Refused};
 
 use crate::command::OperatingSystemCommand as Command;
 use crate::text_form::TextForm;
@@ -68,13 +68,14 @@ fn read_lossy<A: Allocator + Copy>(
     first: &[u8],
     args: &[&[u8]],
 ) -> Result<Option<Command<A>>, AllocError>
-    ensures ok { IfOk result (λ c. c ≡ named (utf8_lossy first.now) (map (λ p. p.now) args.now)) }
+    ensures ok { IfOk result (λ c. c
+        ≡ named_command (utf8_lossy first.now) (map (λ p. p.now) args.now)) }
     ensures refused { OnErr result (Refused A) }
 {
     match str::from_utf8(first) {
         Ok(text) => read_named(alloc, text, args),
         Err(_) => {
-            let text = memory::lossy(alloc, first)?;
+            let text = fallible_alloc::lossy(alloc, first)?;
             read_named(alloc, text.as_str(), args)
         }
     }
@@ -86,7 +87,7 @@ fn read_named<A: Allocator + Copy>(
     first: &str,
     args: &[&[u8]],
 ) -> Result<Option<Command<A>>, AllocError>
-    ensures ok { IfOk result (λ c. c ≡ named first.now (map (λ p. p.now) args.now)) }
+    ensures ok { IfOk result (λ c. c ≡ named_command first.now (map (λ p. p.now) args.now)) }
     ensures refused { OnErr result (Refused A) }
 {
     match code_in(first, args) {
@@ -236,7 +237,7 @@ fn read_notified<A: Allocator + Copy>(
     args: &[&[u8]],
 ) -> Result<Option<Command<A>>, AllocError>
     ensures ok { IfOk result
-        (λ c. c ≡ notified (progress_of (map (λ p. p.now) args.now))
+        (λ c. c ≡ notification (progress_of (map (λ p. p.now) args.now))
         (lone_text (map (λ p. p.now) args.now))) }
     ensures refused { OnErr result (Refused A) }
 {
@@ -270,7 +271,7 @@ fn read_dynamic<A: Allocator + Copy>(
     reset: Option<DynamicColorNumber>,
     args: &[&[u8]],
 ) -> Result<Option<Command<A>>, AllocError>
-    ensures ok { IfOk result (λ c. c ≡ dynamic changed reset (map (λ p. p.now) args.now)) }
+    ensures ok { IfOk result (λ c. c ≡ dynamic_command changed reset (map (λ p. p.now) args.now)) }
     ensures refused { OnErr result (Refused A) }
 {
     match changed {
@@ -287,7 +288,7 @@ fn read_selected<A: Allocator + Copy>(
     alloc: A,
     args: &[&[u8]],
 ) -> Result<Option<Command<A>>, AllocError>
-    ensures ok { IfOk result (λ c. c ≡ selected (map (λ p. p.now) args.now)) }
+    ensures ok { IfOk result (λ c. c ≡ selection_command (map (λ p. p.now) args.now)) }
     ensures refused { OnErr result (Refused A) }
 {
     match args {
@@ -300,7 +301,7 @@ fn read_selected<A: Allocator + Copy>(
 
 // A selection that is cleared.
 fn read_cleared<A: Allocator>(letters: &[u8]) -> Option<Command<A>>
-    ensures { result ≡ selected (letters.now ∷ []) }
+    ensures { result ≡ selection_command (letters.now ∷ []) }
 {
     let Some(selection) = read_selection(letters) else {
         return None;
@@ -314,7 +315,7 @@ fn read_content<A: Allocator + Copy>(
     letters: &[u8],
     text: &[u8],
 ) -> Result<Option<Command<A>>, AllocError>
-    ensures ok { IfOk result (λ c. c ≡ selected (letters.now ∷ text.now ∷ [])) }
+    ensures ok { IfOk result (λ c. c ≡ selection_command (letters.now ∷ text.now ∷ [])) }
     ensures refused { OnErr result (Refused A) }
 {
     let Some(selection) = read_selection(letters) else {

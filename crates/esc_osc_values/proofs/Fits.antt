@@ -10,7 +10,7 @@ use Rattle.esc_values.specs.Scalars.{and_then, number_of}
 use Rattle.esc_values.proofs.Where.{Where, where_if, where_map, where_then, number_where, Anything, anything}
 use Rattle.esc_values.specs.Cuts.{cut_at}
 use Rattle.esc_osc_values.specs.Colors.{hex_of, hex_after, channel_of, color_from, rgb_of, sharp_of, spec_of, colors_of, pairs_of}
-use Rattle.esc_osc_values.specs.Progresses.{held, percent_of, state_of, progress_of}
+use Rattle.esc_osc_values.specs.Progresses.{capped_at_100, percent_of, state_of, progress_of}
 use Rattle.esc_osc_values.specs.Lists.{numbers_of}
 use Rattle.esc_osc_values.specs.WritableValues.{AreNumbers, IsColor, AreColors, ArePairs, IsProgress}
 use Rattle.esc_osc_values.specs.declared.color_or_query.ColorOrQuery.TheVariants.{Color, Query}
@@ -21,7 +21,7 @@ pub numbers_where : (ps : List (List ℕ)) → Where AreNumbers (numbers_of ps)
 numbers_where [] = tt
 numbers_where (p ∷ ps) =
     elim (cases_Bool (length p == 0)) [
-      | inl held ↦ rw held (numbers_where ps)
+      | inl capped_at_100 ↦ rw capped_at_100 (numbers_where ps)
       | inr failed ↦ rw failed (where_then (λ n. n < 256) AreNumbers (λ n.
           option_map (λ more. n ∷ more) (numbers_of ps))
           (λ n small. where_map AreNumbers AreNumbers (λ more. n ∷ more) (λ more h.
@@ -36,7 +36,8 @@ Below k v = v < k
 hex_where : (d : ℕ) → Where (Below 16) (hex_of d)
 hex_where d =
     elim (cases_Bool (nat_lt (digit_value d) 16)) [
-      | inl held ↦ let small = ltb-true (digit_value d) 16 held in rw held small
+      | inl capped_at_100 ↦ let small = ltb-true (digit_value d) 16 capped_at_100
+          in rw capped_at_100 small
       | inr failed ↦ rw failed tt
     ]
 
@@ -71,7 +72,8 @@ four_digits n m a b c d h = one_more n m a (b ∷ c ∷ d ∷ []) (m * 65536) (�
 long_where : (ds : List ℕ) → 4 < length ds → Where (Below 65536) (channel_of ds)
 long_where ds long =
     elim (cases_Bool (nat_lt 0 (length ds) && nat_le (length ds) 4)) [
-      | inl held ↦ let q = and_parts (nat_lt 0 (length ds)) (nat_le (length ds) 4) held in
+      | inl capped_at_100 ↦ let q = and_parts (nat_lt 0 (length ds)) (nat_le (length ds) 4)
+          capped_at_100 in
           let short = leb-true (length ds) 4 q.1 in absurd (omega arith)
       | inr failed ↦ rw failed tt
     ]
@@ -153,7 +155,7 @@ pairs_where (i ∷ s ∷ ps) =
     (number_of 8 i) (number_where 8 i)
 
 -- progress
-held_small : (n : ℕ) → held n ≤ 100
+held_small : (n : ℕ) → capped_at_100 n ≤ 100
 held_small n =
     elim (cases_Bool (nat_le n 100)) [
       | inl low ↦ let small = leb-true n 100 low in rw low small

@@ -8,7 +8,7 @@ use Rattle.esc_values.specs.Clear.{IsClearPart, AreClearParts}
 use Rattle.esc_values.specs.Scalars.{number_of}
 use Rattle.esc_values.proofs.Numerals.{number_back, decimal_part}
 use Rattle.esc_osc_values.specs.Lists.{numbers_of}
-use Rattle.esc_osc_values.specs.Progresses.{held}
+use Rattle.esc_osc_values.specs.Progresses.{capped_at_100}
 use Rattle.esc_osc_values.specs.WritableValues.{AreNumbers}
 
 pub byte_back : (n : ℕ) → n < 256 → number_of 8 (decimal n) ≡ Some n
@@ -29,5 +29,5 @@ numbers_back (n ∷ ns) h =
     rw (some, byte_back n h.0, numbers_back ns h.1) refl
 
 -- a percentage reads back
-pub percent_back : (n : ℕ) → n ≤ 100 → held (unwrap_or (number_of 8 (decimal n)) 0) ≡ n
+pub percent_back : (n : ℕ) → n ≤ 100 → capped_at_100 (unwrap_or (number_of 8 (decimal n)) 0) ≡ n
 percent_back n h = rw (byte_back n (omega arith), le-leb n 100 h) refl

@@ -3,7 +3,7 @@ use Rattle.std.proofs.Common.{ℕ, ◌≡◌, Bool, true, false, cond, ◌==◌,
 use Rattle.std.specs.List.{slice_split, onto_first}
 use Rattle.std.specs.Str.{IsUtf8}
 use Rattle.std.proofs.lemmas.Str.{is_utf8-from_IsUtf8}
-use Rattle.esc_values.specs.Clear.{IsClearText, AreClearParts, joined, separated}
+use Rattle.esc_values.specs.Clear.{IsClearText, AreClearParts, joined, separated_parts}
 use Rattle.esc_values.proofs.PlainParts.{plain_part}
 use Rattle.esc_values.proofs.Split.{text_parts, joined_split}
 use Rattle.esc_osc_values.specs.Lists.{title_of}
@@ -33,7 +33,7 @@ pub title_parts : (t : List ℕ) → IsClearText t → AreClearParts (slice_spli
 title_parts [] h = (plain_part [] refl, tt)
 title_parts (b ∷ t) h = (text_parts (b ∷ t) h).0
 
-pub title_text : (t : List ℕ) → 0x3b ∷ t ≡ separated (slice_split (λ c. c == 0x3b) t)
+pub title_text : (t : List ℕ) → 0x3b ∷ t ≡ separated_parts (slice_split (λ c. c == 0x3b) t)
 title_text t =
     let s = split_head t in
     let j : joined (s.0 ∷ s.1) ≡ t = ap joined (sym s.2) ∙ joined_split t in

@@ -7,7 +7,7 @@ use Rattle.std.specs.Fmt.{digit_glyph, decimal}
 use Rattle.std.specs.List.{starts_with}
 use Rattle.std.specs.Option.{option_map}
 use Rattle.esc_values.specs.Cuts.{cut_at}
-use Rattle.esc_values.specs.Scalars.{and_then, when, number_of}
+use Rattle.esc_values.specs.Scalars.{and_then, some_if, number_of}
 use Rattle.esc_osc_values.specs.declared.color_or_query.ColorOrQuery.{ColorOrQuery}
 use Rattle.esc_osc_values.specs.declared.color_or_query.ColorOrQuery.TheVariants.{Color, Query}
 use Rattle.esc_osc_values.specs.declared.change_color_pair.ChangeColorPair.{ChangeColorPair}
@@ -29,7 +29,7 @@ pair_text p = decimal p.palette_index ++ 0x3b ∷ spec_text p.color
 
 -- one hexadecimal digit, in either case
 abbrev pub hex_of : ℕ → Option ℕ
-hex_of c = when (nat_lt (digit_value c) 16) (digit_value c)
+hex_of c = some_if (nat_lt (digit_value c) 16) (digit_value c)
 
 -- the number of hexadecimal digits that follow those of n
 abbrev pub hex_after : ℕ → List ℕ → Option ℕ

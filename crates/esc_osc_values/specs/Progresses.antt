@@ -8,13 +8,13 @@ use Rattle.esc_osc_values.specs.declared.progress.Progress.{Progress}
 use Rattle.esc_osc_values.specs.declared.progress.Progress.TheVariants as progress
 
 -- a number, held to 100
-abbrev pub held : ℕ → ℕ
-held n = if nat_le n 100 then n else 100
+abbrev pub capped_at_100 : ℕ → ℕ
+capped_at_100 n = if nat_le n 100 then n else 100
 
 -- the first part as a percentage: absent or unreadable is 0, more than 100 is 100
 abbrev pub percent_of : List (List ℕ) → ℕ
 percent_of [] = 0
-percent_of (p ∷ ps) = held (unwrap_or (number_of 8 p) 0)
+percent_of (p ∷ ps) = capped_at_100 (unwrap_or (number_of 8 p) 0)
 
 -- the progress that a state names, with the parts after it
 abbrev pub state_of : List ℕ → List (List ℕ) → Option Progress

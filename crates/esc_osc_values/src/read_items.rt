@@ -5,7 +5,7 @@ ghost use Rattle.esc_values.specs.Clear.{joined};
 ghost use Rattle.esc_values.specs.Scalars.{utf8_of};
 ghost use Rattle.esc_osc_values.specs.Colors.{colors_of, pairs_of};
 ghost use Rattle.esc_osc_values.specs.Lists.{lone_text, numbers_of, title_of};
-ghost use Rattle.memory.specs.Refusals.{Refused};
+ghost use Rattle.fallible_alloc.specs.Refusals.{Refused};
 
 use crate::change_color_pair::ChangeColorPair;
 use crate::color_or_query::ColorOrQuery;
@@ -24,7 +24,7 @@ pub fn copied<A: Allocator + Copy>(
 {
     let mut made = Vec::new(alloc);
     for part in parts {
-        memory::push(&mut made, Items::from_slice(alloc, part)?)?;
+        fallible_alloc::push(&mut made, Items::from_slice(alloc, part)?)?;
     }
     Ok(Items::from_vec(made))
 }
@@ -48,10 +48,10 @@ fn joined<A: Allocator>(alloc: A, first: &[u8], rest: &[&[u8]]) -> Result<Vec<u8
     ensures ok { IfOk result (λ b. b.items ≡ joined (first.now ∷ map (λ p. p.now) rest.now)) }
     ensures refused { OnErr result (Refused A) }
 {
-    let mut bytes = memory::copied(alloc, first)?;
+    let mut bytes = fallible_alloc::copied(alloc, first)?;
     for part in rest {
-        memory::push(&mut bytes, b';')?;
-        memory::extend(&mut bytes, part)?;
+        fallible_alloc::push(&mut bytes, b';')?;
+        fallible_alloc::extend(&mut bytes, part)?;
     }
     Ok(bytes)
 }
@@ -75,7 +75,7 @@ pub fn read_text<A: Allocator>(alloc: A, bytes: &[u8]) -> Result<Option<Text<A>>
     ensures ok { IfOk result (λ t. t ≡ utf8_of bytes.now) }
     ensures refused { OnErr result (Refused A) }
 {
-    Ok(text_of(memory::copied(alloc, bytes)?))
+    Ok(text_of(fallible_alloc::copied(alloc, bytes)?))
 }
 
 /// Pairs of a number and a colour; a last lone part is dropped.
@@ -95,7 +95,7 @@ pub fn read_pairs<A: Allocator>(
         let Some(color) = read_spec(spec) else {
             return Ok(None);
         };
-        memory::push(
+        fallible_alloc::push(
             &mut made,
             ChangeColorPair {
                 palette_index,
@@ -120,7 +120,7 @@ pub fn read_colors<A: Allocator>(
         let Some(color) = read_spec(part) else {
             return Ok(None);
         };
-        memory::push(&mut made, color)?;
+        fallible_alloc::push(&mut made, color)?;
     }
     Ok(Some(Items::from_vec(made)))
 }
@@ -141,7 +141,7 @@ pub fn read_numbers<A: Allocator>(
         let Some(number) = read_u8(part) else {
             return Ok(None);
         };
-        memory::push(&mut made, number)?;
+        fallible_alloc::push(&mut made, number)?;
     }
     Ok(Some(Items::from_vec(made)))
 }
@@ -156,7 +156,10 @@ pub fn read_texts<A: Allocator + Copy>(
 {
     let mut made = Vec::new(alloc);
     for part in args {
-        memory::push(&mut made, Text::from_string(memory::lossy(alloc, part)?))?;
+        fallible_alloc::push(
+            &mut made,
+            Text::from_string(fallible_alloc::lossy(alloc, part)?),
+        )?;
     }
     Ok(Items::from_vec(made))
 }

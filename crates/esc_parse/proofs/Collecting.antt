@@ -6,7 +6,7 @@ use Rattle.std.proofs.lemmas.Result.{IfErr-at_err, IfOk-at_ok}
 use Rattle.std.specs.List.{FoldsTo}
 use Rattle.std.specs.Option.{option_map}
 use Rattle.esc_frame.specs.declared.error.ParseError.{ParseError}
-use Rattle.esc_actions.specs.Writable.{AreHandedOut}
+use Rattle.esc_actions.specs.Writable.{EmittedAreWritable}
 use Rattle.esc_parse.proofs.Errors.{ok_is_no_error, same_error}
 use Rattle.esc_parse.specs.Calls.{FindsFirstList, FindsFirsts}
 use Rattle.esc_parse.specs.Firsts.{IsFirstStop}
@@ -18,7 +18,7 @@ use Rattle.esc_parse.specs.Collected.{Adds, AddsSome, Gathers}
 use Rattle.esc_parse.specs.Given.{At, StopsAt, first_of}
 use Rattle.esc_parse.specs.declared.sink.Collect.{Collect}
 use Rattle.esc_parse.specs.declared.sink.First.{First}
-use Rattle.memory.specs.Refusals.{Refused}
+use Rattle.fallible_alloc.specs.Refusals.{Refused}
 
 module _ {A : Type 0} (f : ℕ → Action A) where
   -- a list takes a run as one with the same actions does
@@ -127,7 +127,7 @@ pub lists_found : {A L : Type 0} (items : L → List (Action A)) (old : Parser A
     (l : L) → r ≡ Ok o → had ≡ [] → FindsFirsts old b had r new (items l)
     → FindsFirstList items old b (Ok (option_map (λ n. (l, n)) o)) new
 lists_found {A} items old b had r (Some n) new l is none found =
-    let P : List (Value A) → Type 0 = λ vs. AreHandedOut vs in record {
+    let P : List (Value A) → Type 0 = λ vs. EmittedAreWritable vs in record {
       count = IfOk-at_ok _ is found.count;
       some = λ limit s h.
           let w = IfOk-at_ok _ is (found.some limit s h) in

@@ -9,7 +9,7 @@ use Rattle.std.proofs.lemmas.List.{length-append}
 use Rattle.esc_frame.specs.Limits.{Counts, is_within, kept_within, most}
 use Rattle.esc_frame.specs.declared.unfinished.count.Count.{Count}
 use Rattle.esc_actions.specs.Groups.{is_entered}
-use Rattle.esc_actions.specs.Values.{Mode, datum, plain, in_sixel, in_termcap, in_short, entered, data_count, closed_gives, taken, taken_gives}
+use Rattle.esc_actions.specs.Values.{Mode, datum, plain, in_sixel, in_termcap, in_short, entered, data_count, unhook_values, mode_with_byte, taken_gives}
 use Rattle.esc_parse.specs.Fed.{CountsData}
 
 pub zero_within : (limit : Option ℕ) → is_within limit 0 ≡ true
@@ -55,7 +55,7 @@ more_past limit d b h = ap (is_within limit) (one_more d b) ∙ past limit (leng
 
 -- what is past the limit stays so
 pub over_stays : (limit : Option ℕ) (m : Mode) (b : ℕ) → is_within limit (data_count m) ≡ false
-    → is_within limit (data_count (taken m b)) ≡ false
+    → is_within limit (data_count (mode_with_byte m b)) ≡ false
 over_stays limit plain b h = h
 over_stays limit (in_sixel ps d) b h = more_past limit d b h
 over_stays limit (in_termcap d) b h = more_past limit d b h
@@ -68,7 +68,7 @@ true_false false h k = absurd cc
 
 -- and gives nothing at its end
 pub over_gives : {A : Type 0} (limit : Option ℕ) (m : Mode) → is_within limit (data_count m) ≡ false
-    → closed_gives {A = A} limit m ≡ []
+    → unhook_values {A = A} limit m ≡ []
 over_gives limit plain h = refl
 over_gives limit (in_sixel ps d) h = rw h refl
 over_gives limit (in_termcap d) h = rw h refl
@@ -86,7 +86,7 @@ quiet_put entered b h = absurd cc
 
 -- and within one the byte
 pub entered_put : {A : Type 0} (m : Mode) (b : ℕ) → is_entered m ≡ true
-    → (taken_gives {A = A} m b ≡ datum b ∷ []) × (taken m b ≡ m)
+    → (taken_gives {A = A} m b ≡ datum b ∷ []) × (mode_with_byte m b ≡ m)
 entered_put plain b h = absurd cc
 entered_put (in_sixel ps d) b h = absurd cc
 entered_put (in_termcap d) b h = absurd cc

@@ -6,15 +6,15 @@ use Rattle.std.proofs.lemmas.List.{length-append}
 use Rattle.std.specs.List.{FoldsTo}
 use Rattle.esc_device.specs.Leads.{Pushes as PushesShort}
 use Rattle.esc_device.specs.declared.builder.ShortBuilder.{ShortBuilder}
-use Rattle.esc_frame.proofs.Given.{stops_then}
+use Rattle.esc_frame.proofs.Emits.EventsFold.{stops_then}
 use Rattle.esc_frame.specs.Events.{Awaits, StopsAt as StopsAtEvent}
 use Rattle.esc_frame.specs.Events.Event.{DcsPut}
 use Rattle.esc_frame.specs.Limits.{is_within, most}
 use Rattle.esc_frame.specs.declared.unfinished.count.Count.{Count}
-use Rattle.esc_tcap.specs.Names.{Pushes as PushesTermcap}
-use Rattle.esc_tcap.specs.declared.builder.GetTcapBuilder.{GetTcapBuilder}
+use Rattle.xtgettcap.specs.Names.{Pushes as PushesTermcap}
+use Rattle.xtgettcap.specs.declared.builder.GetTcapBuilder.{GetTcapBuilder}
 use Rattle.esc_actions.specs.Groups.{is_entered}
-use Rattle.esc_actions.specs.Values.{Mode, datum, plain, in_sixel, in_termcap, in_short, entered, taken, taken_gives, value_of}
+use Rattle.esc_actions.specs.Values.{Mode, datum, plain, in_sixel, in_termcap, in_short, entered, mode_with_byte, taken_gives, value_of}
 use Rattle.esc_actions.specs.declared.action.Action.{Action}
 use Rattle.std.specs.declared.boxed.Box.{Box}
 use Rattle.std.specs.Box.{with_value}
@@ -23,10 +23,10 @@ use Rattle.esc_parse.proofs.TextRuns.{May, Refuses, Takes}
 use Rattle.esc_parse.specs.Fed.{CountsData, HasRoom, Hooks, Keeps, TakesData, is_mode}
 use Rattle.esc_parse.specs.Given.{AnyAt, At, StopsAt}
 use Rattle.esc_parse.specs.Sixels.{Pushes as PushesSixel}
-use Rattle.esc_parse.specs.declared.hooked.Hooked.{Hooked}
-use Rattle.esc_parse.specs.declared.hooked.Hooked.TheVariants as hooked
+use Rattle.esc_parse.specs.declared.dcs_payload.DcsPayload.{DcsPayload}
+use Rattle.esc_parse.specs.declared.dcs_payload.DcsPayload.TheVariants as dcs_payload
 use Rattle.esc_parse.specs.declared.performer.Performer.{Performer}
-use Rattle.memory.specs.Refusals.{Refused}
+use Rattle.fallible_alloc.specs.Refusals.{Refused}
 use Rattle.esc_parse.specs.declared.sixel_text.SixelText.{SixelText}
 use Rattle.esc_parse.specs.declared.unfinished.Unfinished.{Unfinished}
 
@@ -84,17 +84,17 @@ rest_room limit c b bs room =
           subst (λ n. is_within limit n ≡ true) same room.within;
     }
 
--- what is unfinished, with this hooked and so many bytes more
-abbrev pub holding : {A : Type 0} → Unfinished A → Hooked A → ℕ → Unfinished A
-holding u h n = record u { hooked = h; «data» = counted u.data n }
+-- what is unfinished, with this dcs_payload and so many bytes more
+abbrev pub holding : {A : Type 0} → Unfinished A → DcsPayload A → ℕ → Unfinished A
+holding u h n = record u { dcs_payload = h; «data» = counted u.data n }
 
--- a run that a builder takes, where what is hooked holds the builder
-module _ {A B : Type 0} (R : B → ℕ → B → Type 0) (f : B → Hooked A)
+-- a run that a builder takes, where what is dcs_payload holds the builder
+module _ {A B : Type 0} (R : B → ℕ → B → Type 0) (f : B → DcsPayload A)
     (same_kind : (p q : B) → is_mode (f q) ≡ is_mode (f p))
     (step : (limit : Option ℕ) (c : Count) (m : Mode) (p q : B) (b : ℕ) → HasRoom limit c 1
     → R p b q → Keeps limit (f p) c m
-    → Keeps limit (f q) (counted c 1) (taken m b)) where
-  one_taken : (u : Unfinished A) (p q : B) (b : ℕ) → u.hooked ≡ f p → HasRoom u.limit u.data 1
+    → Keeps limit (f q) (counted c 1) (mode_with_byte m b)) where
+  one_taken : (u : Unfinished A) (p q : B) (b : ℕ) → u.dcs_payload ≡ f p → HasRoom u.limit u.data 1
       → R p b q → TakesData u b (holding u (f q) 1)
   unfolding Hooks
   one_taken u p q b is room r = (
@@ -106,7 +106,7 @@ module _ {A B : Type 0} (R : B → ℕ → B → Type 0) (f : B → Hooked A)
     ),
   )
 
-  pub builder_run : (bs : List ℕ) (p q : B) (u v : Unfinished A) → u.hooked ≡ f p
+  pub builder_run : (bs : List ℕ) (p q : B) (u v : Unfinished A) → u.dcs_payload ≡ f p
       → HasRoom u.limit u.data (length bs) → FoldsTo R p bs q
       → v ≡ holding u (f q) (length bs) → FoldsTo TakesData u bs v
   builder_run [] p q u v is room e same =
@@ -118,13 +118,14 @@ module _ {A B : Type 0} (R : B → ℕ → B → Type 0) (f : B → Hooked A)
         holding u (f j) 1,
         one_taken u p j b is (first_room u.limit u.data b bs room) r,
         builder_run bs j q (holding u (f j) 1) v refl (rest_room u.limit u.data b bs room) rest
-            (same ∙ ap (λ n. record u { hooked = f q; «data» = record u.data { bytes = n } }) sum),
+            (same ∙ ap (λ n. record u { dcs_payload = f q; «data» = record u.data { bytes = n } })
+            sum),
       )
 
 pub sixel_step : {A : Type 0} (x : Box (SixelText A) A) (limit : Option ℕ) (c : Count) (m : Mode)
     (p q : SixelText A) (b : ℕ) → HasRoom limit c 1
-    → PushesSixel p b q → Keeps limit (hooked.Sixel (with_value x p)) c m
-    → Keeps limit (hooked.Sixel (with_value x q)) (counted c 1) (taken m b)
+    → PushesSixel p b q → Keeps limit (dcs_payload.Sixel (with_value x p)) c m
+    → Keeps limit (dcs_payload.Sixel (with_value x q)) (counted c 1) (mode_with_byte m b)
 sixel_step x limit c plain p q b room r h = absurd h
 sixel_step x limit c (in_sixel ps d) p q b room r h = (r ps d h.0, one_counted limit c d b room h.1)
 sixel_step x limit c (in_termcap d) p q b room r h = absurd h
@@ -133,7 +134,8 @@ sixel_step x limit c entered p q b room r h = absurd h
 
 pub termcap_step : {A : Type 0} (limit : Option ℕ) (c : Count) (m : Mode) (p q : GetTcapBuilder A)
     (b : ℕ) → HasRoom limit c 1 → PushesTermcap p b q
-    → Keeps limit (hooked.Termcap p) c m → Keeps limit (hooked.Termcap q) (counted c 1) (taken m b)
+    → Keeps limit (dcs_payload.Termcap p) c m
+    → Keeps limit (dcs_payload.Termcap q) (counted c 1) (mode_with_byte m b)
 termcap_step limit c plain p q b room r h = absurd h
 termcap_step limit c (in_sixel ps d) p q b room r h = absurd h
 termcap_step limit c (in_termcap d) p q b room r h = (r d h.0, one_counted limit c d b room h.1)
@@ -142,8 +144,8 @@ termcap_step limit c entered p q b room r h = absurd h
 
 pub short_step : {A : Type 0} (x : Box (ShortBuilder A) A) (limit : Option ℕ) (c : Count) (m : Mode)
     (p q : ShortBuilder A) (b : ℕ) → HasRoom limit c 1
-    → PushesShort p b q → Keeps limit (hooked.Short (with_value x p)) c m
-    → Keeps limit (hooked.Short (with_value x q)) (counted c 1) (taken m b)
+    → PushesShort p b q → Keeps limit (dcs_payload.Short (with_value x p)) c m
+    → Keeps limit (dcs_payload.Short (with_value x q)) (counted c 1) (mode_with_byte m b)
 short_step x limit c plain p q b room r h = absurd h
 short_step x limit c (in_sixel ps d) p q b room r h = absurd h
 short_step x limit c (in_termcap d) p q b room r h = absurd h
@@ -151,34 +153,38 @@ short_step x limit c (in_short ps is f d) p q b room r h =
     (r ps is f d h.0, one_counted limit c d b room h.1)
 short_step x limit c entered p q b room r h = absurd h
 
--- a run that a builder takes, which what is hooked holds
+-- a run that a builder takes, which what is dcs_payload holds
 module _ {A : Type 0} (bs : List ℕ) (u v : Unfinished A) where
-  pub sixel_run : (x : Box (SixelText A) A) (y : SixelText A) → u.hooked ≡ hooked.Sixel x
+  pub sixel_run : (x : Box (SixelText A) A) (y : SixelText A) → u.dcs_payload ≡ dcs_payload.Sixel x
       → HasRoom u.limit u.data (length bs)
-      → FoldsTo PushesSixel x.value bs y → v ≡ holding u (hooked.Sixel (with_value x y)) (length bs)
+      → FoldsTo PushesSixel x.value bs y → v
+      ≡ holding u (dcs_payload.Sixel (with_value x y)) (length bs)
       → FoldsTo TakesData u bs v
   sixel_run x y is room h same =
-      builder_run PushesSixel (λ z. hooked.Sixel (with_value x z)) (λ p q. refl)
+      builder_run PushesSixel (λ z. dcs_payload.Sixel (with_value x z)) (λ p q. refl)
       (sixel_step x) bs x.value y u v is room h same
 
-  pub termcap_run : (x y : GetTcapBuilder A) → u.hooked ≡ hooked.Termcap x
+  pub termcap_run : (x y : GetTcapBuilder A) → u.dcs_payload ≡ dcs_payload.Termcap x
       → HasRoom u.limit u.data (length bs) → FoldsTo PushesTermcap x bs y
-      → v ≡ holding u (hooked.Termcap y) (length bs) → FoldsTo TakesData u bs v
+      → v ≡ holding u (dcs_payload.Termcap y) (length bs) → FoldsTo TakesData u bs v
   termcap_run x y is room h same =
-      builder_run PushesTermcap hooked.Termcap (λ p q. refl) termcap_step bs x y u v is room h same
+      builder_run PushesTermcap dcs_payload.Termcap (λ p q. refl) termcap_step bs x y u v is room h
+      same
 
-  pub short_run : (x : Box (ShortBuilder A) A) (y : ShortBuilder A) → u.hooked ≡ hooked.Short x
+  pub short_run : (x : Box (ShortBuilder A) A) (y : ShortBuilder A) → u.dcs_payload
+      ≡ dcs_payload.Short x
       → HasRoom u.limit u.data (length bs)
-      → FoldsTo PushesShort x.value bs y → v ≡ holding u (hooked.Short (with_value x y)) (length bs)
+      → FoldsTo PushesShort x.value bs y → v
+      ≡ holding u (dcs_payload.Short (with_value x y)) (length bs)
       → FoldsTo TakesData u bs v
   short_run x y is room h same =
-      builder_run PushesShort (λ z. hooked.Short (with_value x z)) (λ p q. refl)
+      builder_run PushesShort (λ z. dcs_payload.Short (with_value x z)) (λ p q. refl)
       (short_step x) bs x.value y u v is room h same
 
 -- a run of which nothing is kept
 nothing_step : (A : Type 0) (limit : Option ℕ) (c e : Count) (m : Mode) (b : ℕ)
-    → Keeps {A = A} limit hooked.Nothing c m
-    → Keeps {A = A} limit hooked.Nothing e (taken m b)
+    → Keeps {A = A} limit dcs_payload.Nothing c m
+    → Keeps {A = A} limit dcs_payload.Nothing e (mode_with_byte m b)
 nothing_step A limit c e plain b h = tt
 nothing_step A limit c e (in_sixel ps d) b h = absurd h
 nothing_step A limit c e (in_termcap d) b h = absurd h
@@ -186,8 +192,8 @@ nothing_step A limit c e (in_short ps is f d) b h = absurd h
 nothing_step A limit c e entered b h = absurd h
 
 entered_step : (A : Type 0) (limit : Option ℕ) (c e : Count) (m : Mode) (b : ℕ)
-    → Keeps {A = A} limit hooked.Entered c m
-    → Keeps {A = A} limit hooked.Entered e (taken m b)
+    → Keeps {A = A} limit dcs_payload.Entered c m
+    → Keeps {A = A} limit dcs_payload.Entered e (mode_with_byte m b)
 entered_step A limit c e plain b h = absurd h
 entered_step A limit c e (in_sixel ps d) b h = absurd h
 entered_step A limit c e (in_termcap d) b h = absurd h
@@ -196,10 +202,10 @@ entered_step A limit c e entered b h = tt
 
 module _ {A : Type 0} (bs : List ℕ) (u v : Unfinished A)
     (room : HasRoom u.limit u.data (length bs)) where
-  dropped_run : (h : Hooked A)
+  dropped_run : (h : DcsPayload A)
       → ((limit : Option ℕ) (c e : Count) (m : Mode) (b : ℕ) → Keeps limit h c m
-      → Keeps limit h e (taken m b))
-      → u.hooked ≡ h → v ≡ holding u u.hooked (length bs) → FoldsTo TakesData u bs v
+      → Keeps limit h e (mode_with_byte m b))
+      → u.dcs_payload ≡ h → v ≡ holding u u.dcs_payload (length bs) → FoldsTo TakesData u bs v
   dropped_run h step is same =
       builder_run (λ (p : Unit {0}) (b : ℕ) (q : Unit {0}). Unit {0}) (λ (p : Unit {0}). h)
       (λ p q. refl)
@@ -210,42 +216,42 @@ module _ {A : Type 0} (bs : List ℕ) (u v : Unfinished A)
       all [] = refl
       all (b ∷ bs) = (tt, tt, all bs)
 
-  pub idle_run : (u.hooked ≡ hooked.Nothing)
-      ⊎ ((u.hooked ≡ hooked.Entered) ⊎ (u.hooked ≡ hooked.Over))
-      → v ≡ holding u u.hooked (length bs)
+  pub idle_run : (u.dcs_payload ≡ dcs_payload.Nothing)
+      ⊎ ((u.dcs_payload ≡ dcs_payload.Entered) ⊎ (u.dcs_payload ≡ dcs_payload.Over))
+      → v ≡ holding u u.dcs_payload (length bs)
       → FoldsTo TakesData u bs v
-  idle_run (inl is) same = dropped_run hooked.Nothing (nothing_step A) is same
-  idle_run (inr (inl is)) same = dropped_run hooked.Entered (entered_step A) is same
+  idle_run (inl is) same = dropped_run dcs_payload.Nothing (nothing_step A) is same
+  idle_run (inr (inl is)) same = dropped_run dcs_payload.Entered (entered_step A) is same
   idle_run (inr (inr is)) same =
-      dropped_run hooked.Over (λ limit c e m b k. over_stays limit m b k) is same
+      dropped_run dcs_payload.Over (λ limit c e m b k. over_stays limit m b k) is same
 
 -- what is unfinished is no mode, or is one
-pub no_mode : {A : Type 0} (limit : Option ℕ) (h : Hooked A) (c : Count) (m : Mode)
+pub no_mode : {A : Type 0} (limit : Option ℕ) (h : DcsPayload A) (c : Count) (m : Mode)
     → Keeps limit h c m → is_mode h ≡ false → is_entered m ≡ false
 no_mode limit h c plain k e = refl
 no_mode limit h c (in_sixel ps d) k e = refl
 no_mode limit h c (in_termcap d) k e = refl
 no_mode limit h c (in_short ps is f d) k e = refl
-no_mode limit hooked.Nothing c entered k e = absurd k
-no_mode limit (hooked.Sixel b) c entered k e = absurd k
-no_mode limit (hooked.Termcap b) c entered k e = absurd k
-no_mode limit (hooked.Short b) c entered k e = absurd k
-no_mode limit hooked.Entered c entered k e = absurd cc
-no_mode limit hooked.Over c entered k e =
+no_mode limit dcs_payload.Nothing c entered k e = absurd k
+no_mode limit (dcs_payload.Sixel b) c entered k e = absurd k
+no_mode limit (dcs_payload.Termcap b) c entered k e = absurd k
+no_mode limit (dcs_payload.Short b) c entered k e = absurd k
+no_mode limit dcs_payload.Entered c entered k e = absurd cc
+no_mode limit dcs_payload.Over c entered k e =
     absurd (let z : true ≡ false = sym (zero_within limit) ∙ k in cc)
 
-mode_only : {A : Type 0} (limit : Option ℕ) (h : Hooked A) (c : Count) (m : Mode)
+mode_only : {A : Type 0} (limit : Option ℕ) (h : DcsPayload A) (c : Count) (m : Mode)
     → Keeps limit h c m → is_mode h ≡ true → is_entered m ≡ true
-mode_only limit hooked.Nothing c m k e = absurd cc
-mode_only limit (hooked.Sixel b) c m k e = absurd cc
-mode_only limit (hooked.Termcap b) c m k e = absurd cc
-mode_only limit (hooked.Short b) c m k e = absurd cc
-mode_only limit hooked.Entered c plain k e = absurd k
-mode_only limit hooked.Entered c (in_sixel ps d) k e = absurd k
-mode_only limit hooked.Entered c (in_termcap d) k e = absurd k
-mode_only limit hooked.Entered c (in_short ps is f d) k e = absurd k
-mode_only limit hooked.Entered c entered k e = refl
-mode_only limit hooked.Over c m k e = absurd cc
+mode_only limit dcs_payload.Nothing c m k e = absurd cc
+mode_only limit (dcs_payload.Sixel b) c m k e = absurd cc
+mode_only limit (dcs_payload.Termcap b) c m k e = absurd cc
+mode_only limit (dcs_payload.Short b) c m k e = absurd cc
+mode_only limit dcs_payload.Entered c plain k e = absurd k
+mode_only limit dcs_payload.Entered c (in_sixel ps d) k e = absurd k
+mode_only limit dcs_payload.Entered c (in_termcap d) k e = absurd k
+mode_only limit dcs_payload.Entered c (in_short ps is f d) k e = absurd k
+mode_only limit dcs_payload.Entered c entered k e = refl
+mode_only limit dcs_payload.Over c m k e = absurd cc
 
 -- a run of data as events
 module _ {S A : Type 0} (R Q : S → Action A → S → Type 0) where
@@ -257,14 +263,14 @@ module _ {S A : Type 0} (R Q : S → Action A → S → Type 0) where
 
   -- outside a mode each byte gives nothing
   gives_none : (limit : Option ℕ) (p : Performer S A) (m : Mode) (b : ℕ)
-      → is_mode p.unfinished.hooked ≡ false → Hooks limit p.unfinished m
+      → is_mode p.unfinished.dcs_payload ≡ false → Hooks limit p.unfinished m
       → taken_gives {A = A} m b ≡ []
   unfolding Hooks
   gives_none limit p m b k h =
-      quiet_put m b (no_mode limit p.unfinished.hooked p.unfinished.data m h.1 k)
+      quiet_put m b (no_mode limit p.unfinished.dcs_payload p.unfinished.data m h.1 k)
 
   pub quiet_run : (bs : List ℕ) (p : Performer S A) (v : Unfinished A)
-      → is_mode p.unfinished.hooked ≡ false → FoldsTo TakesData p.unfinished bs v
+      → is_mode p.unfinished.dcs_payload ≡ false → FoldsTo TakesData p.unfinished bs v
       → FoldsTo (Takes R Q) p (map DcsPut bs) (kept p v)
   quiet_run [] p v k e = ap (kept p) e
   quiet_run (b ∷ bs) p v k (j, t, rest) = (
@@ -278,7 +284,7 @@ module _ {S A : Type 0} (R Q : S → Action A → S → Type 0) where
   )
 
   pub quiet_refused : (own : Type 0) (bs : List ℕ) (p : Performer S A) (v : Unfinished A)
-      → 0 < length bs → is_mode p.unfinished.hooked ≡ false
+      → 0 < length bs → is_mode p.unfinished.dcs_payload ≡ false
       → Refused A → StopsAtEvent own (Takes R Q) (Refuses R Q) p (map DcsPut bs) (kept p v)
   quiet_refused own [] p v some k w = absurd (omega arith)
   quiet_refused own (b ∷ bs) p v some k w = (
@@ -300,13 +306,13 @@ module _ {S A : Type 0} (R Q : S → Action A → S → Type 0) where
 
   -- within one the byte
   gives_byte : (limit : Option ℕ) (p : Performer S A) (m : Mode) (b : ℕ)
-      → is_mode p.unfinished.hooked ≡ true → Hooks limit p.unfinished m
-      → (taken_gives {A = A} m b ≡ datum b ∷ []) × (taken m b ≡ m)
+      → is_mode p.unfinished.dcs_payload ≡ true → Hooks limit p.unfinished m
+      → (taken_gives {A = A} m b ≡ datum b ∷ []) × (mode_with_byte m b ≡ m)
   unfolding Hooks
   gives_byte limit p m b k h =
-      entered_put m b (mode_only limit p.unfinished.hooked p.unfinished.data m h.1 k)
+      entered_put m b (mode_only limit p.unfinished.dcs_payload p.unfinished.data m h.1 k)
 
-  one_given : (p : Performer S A) (s : S) (b : ℕ) → is_mode p.unfinished.hooked ≡ true
+  one_given : (p : Performer S A) (s : S) (b : ℕ) → is_mode p.unfinished.dcs_payload ≡ true
       → At value_of R p.sink (datum b) s → Takes R Q p (DcsPut b) (sunk p s)
   one_given p s b k r = λ limit m h.
       let (gives, same) = gives_byte limit p m b k h in (
@@ -314,7 +320,8 @@ module _ {S A : Type 0} (R Q : S → Action A → S → Type 0) where
         subst (λ vs. FoldsTo (At value_of R) p.sink vs s) (sym gives) (s, r, refl),
       )
 
-  pub given_run : (bs : List ℕ) (p : Performer S A) (s : S) → is_mode p.unfinished.hooked ≡ true
+  pub given_run : (bs : List ℕ) (p : Performer S A) (s : S) → is_mode p.unfinished.dcs_payload
+      ≡ true
       → FoldsTo (At value_of R) p.sink (map datum bs) s
       → FoldsTo (Takes R Q) p (map DcsPut bs) (sunk p s)
   given_run [] p s k e = ap (sunk p) e
@@ -322,7 +329,7 @@ module _ {S A : Type 0} (R Q : S → Action A → S → Type 0) where
       (sunk p j, one_given p j b k r, given_run bs (sunk p j) s k rest)
 
   pub data_awaits : (may : S → Action A → Type 0) (bs : List ℕ) (p : Performer S A)
-      → is_mode p.unfinished.hooked ≡ true → Awaits (May R Q may) (Takes R Q) p (map DcsPut bs)
+      → is_mode p.unfinished.dcs_payload ≡ true → Awaits (May R Q may) (Takes R Q) p (map DcsPut bs)
       → Awaits (AnyAt value_of may) (At value_of R) p.sink (map datum bs)
   data_awaits may [] p k m = tt
   data_awaits may (b ∷ bs) p k ((limit, m, h, a), rest) =
@@ -331,7 +338,7 @@ module _ {S A : Type 0} (R Q : S → Action A → S → Type 0) where
       (here.0, λ s r. data_awaits may bs (sunk p s) k (rest (sunk p s) (one_given p s b k r)))
 
   pub given_stopped : (own : Type 0) (bs : List ℕ) (p : Performer S A) (s : S)
-      → is_mode p.unfinished.hooked ≡ true
+      → is_mode p.unfinished.dcs_payload ≡ true
       → StopsAt ⊥ (At value_of R) (At value_of Q) p.sink (map datum bs) s
       → StopsAtEvent own (Takes R Q) (Refuses R Q) p (map DcsPut bs) (sunk p s)
   given_stopped own [] p s k e = absurd e.0

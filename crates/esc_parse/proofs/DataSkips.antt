@@ -4,7 +4,7 @@ use Rattle.std.proofs.lemmas.Bool.{and_parts}
 use Rattle.std.proofs.lemmas.List.{append-nil, take-take}
 use Rattle.std.proofs.lemmas.List.Folds.{list_all-append}
 use Rattle.std.specs.List.{list_all, prefix_len}
-use Rattle.esc_frame.specs.Classes.{is_c0, strip, those}
+use Rattle.esc_frame.specs.Classes.{is_c0, without_noise, bytes_of_class}
 use Rattle.esc_frame.specs.Events.{Event}
 use Rattle.esc_frame.specs.Events.Event.{DcsPut}
 use Rattle.esc_frame.specs.Leads.{Unfinished, emitted_open, finished_events_within}
@@ -15,11 +15,11 @@ use Rattle.esc_frame.specs.Memory.{MayTake}
 use Rattle.esc_frame.specs.Scans.{is_data_byte}
 use Rattle.esc_frame.specs.Segments.{Opener, Segment, events_of_within, executes, hook_event, opener_events, puts}
 use Rattle.esc_frame.specs.Stream.{IsAtGround, events_within}
-use Rattle.esc_frame.proofs.AtGround.{to_ground}
-use Rattle.esc_frame.proofs.Cuts.{stands}
-use Rattle.esc_frame.proofs.Memory.{more_takes}
-use Rattle.esc_frame.proofs.Streams.{added_is, after_append}
-use Rattle.esc_frame.proofs.StringRuns.{all_pass, data_text}
+use Rattle.esc_frame.proofs.Cut.CutAtGround.{to_ground}
+use Rattle.esc_frame.proofs.Cut.CutExists.{stands}
+use Rattle.esc_frame.proofs.Limit.GrowingSegments.{more_takes}
+use Rattle.esc_frame.proofs.Emits.EventsAreTheCuts.{added_is, after_append}
+use Rattle.esc_frame.proofs.ByteRuns.StringRuns.{all_pass, data_text}
 use Rattle.esc_actions.proofs.Meanings.{mode_append, yield_is}
 use Rattle.esc_actions.proofs.Readings.{closes, executes_keep, opener_keeps}
 use Rattle.esc_actions.specs.Meaning.{mode_from, values_from, yield_within}
@@ -38,7 +38,7 @@ finished_close limit (g ∷ gs) =
 -- the machine is in such data, under this limit
 abbrev IsInData : Option ℕ → Unfinished → Type 0
 IsInData limit u = (o : Opener) × (x : List ℕ) × (f : ℕ) × (d : List ℕ)
-    × (u ≡ InData o x f d) × (is_read limit (strip x) ≡ true)
+    × (u ≡ InData o x f d) × (is_read limit (without_noise x) ≡ true)
 
 not_plain : (T : Type 0) (m : Mode) → m ≡ plain → keeps_data m ≡ true → T
 not_plain T m e h = let z : false ≡ true = sym (ap keeps_data e) ∙ h in absurd cc
@@ -54,14 +54,21 @@ open_in_data : (limit : Option ℕ) (u : Unfinished)
     → keeps_data (mode_from plain (emitted_open limit u)) ≡ true → IsInData limit u
 open_in_data limit Ground h = absurd cc
 open_in_data limit (Pending f) h = absurd cc
-open_in_data limit (InEscape x) h = not_plain _ _ (executes_keep plain (those is_c0 x)) h
+open_in_data limit (InEscape x) h = not_plain _ _ (executes_keep plain (bytes_of_class is_c0 x)) h
 open_in_data limit (InCsi o x) h =
     not_plain _ _ (mode_append plain (opener_events o) (executes x)
     ∙ ap (λ m. mode_from m (executes x)) (opener_keeps plain o)
-    ∙ executes_keep plain (those is_c0 x)) h
+    ∙ executes_keep plain (bytes_of_class is_c0 x)) h
 open_in_data limit (InDcs o x) h = not_plain _ _ (opener_keeps plain o) h
-open_in_data limit (InData o x f d) h =
-    (o, x, f, d, refl, is_read_data o (is_read limit (strip x)) (hook_event (strip x) f ∷ puts d) h)
+open_in_data limit (InData o x f d) h = (
+  o,
+  x,
+  f,
+  d,
+  refl,
+  is_read_data o (is_read limit (without_noise x))
+      (hook_event (without_noise x) f ∷ puts d) h,
+)
 open_in_data limit (InApc o d) h = not_plain _ _ (opener_keeps plain o) h
 open_in_data limit (InIgnored k o d) h = not_plain _ _ (opener_keeps plain o) h
 open_in_data limit (InOsc o ps) h = not_plain _ _ (opener_keeps plain o) h

@@ -16,7 +16,7 @@ use Rattle.esc_parse.proofs.Prefixes.{rest_is}
 use Rattle.esc_frame.specs.Parses.{AddsOne}
 use Rattle.esc_parse.proofs.Yields.{hooks_by}
 use Rattle.esc_parse.specs.Calls.{Yields}
-use Rattle.esc_parse.specs.Fed.{WasFedWithin}
+use Rattle.esc_parse.specs.Fed.{ParserHasConsumedWithin}
 use Rattle.esc_parse.specs.declared.parser.Parser.{Parser}
 use Rattle.esc_parse.specs.Collected.{Adds, AddsSome}
 use Rattle.esc_actions.proofs.Meanings.{meaning_more, yield_is}
@@ -25,7 +25,7 @@ use Rattle.esc_parse.specs.Given.{At, StopsAt, first_of}
 use Rattle.esc_actions.specs.Meaning.{MayWant, meaning_within, mode_from, values_from, yield_within}
 use Rattle.esc_actions.specs.Values.{plain, value_of, Value}
 use Rattle.esc_actions.specs.Values.Value.{control, print}
-use Rattle.esc_actions.specs.Writable.{AreHandedOut, IsHandedOut}
+use Rattle.esc_actions.specs.Writable.{EmittedAreWritable, IsHandedOut}
 use Rattle.esc_actions.specs.ControlCodes.{code_of}
 use Rattle.esc_actions.specs.declared.action.Action.{Action}
 use Rattle.esc_actions.specs.declared.control_code.ControlCode.{ControlCode}
@@ -279,9 +279,9 @@ yields_by limit s b x e =
     yield_is limit s b ∙ ap (values_from limit (mode_from plain (events_within limit s))) e
 
 pub char_yields : {A : Type 0} (limit : Option ℕ) (s b : List ℕ) (c : ℕ) (p : Parser A)
-    → WasFedWithin limit s p → AddsOne limit s b (Print c) p.framer
+    → ParserHasConsumedWithin limit s p → AddsOne limit s b (Print c) p.framer
     → Yields limit s b p (print c ∷ [])
-unfolding WasFedWithin
+unfolding ParserHasConsumedWithin
 char_yields limit s b c p h given = (
   (given.0, hooks_by limit p.unfinished s b (Print c) given.1 refl h.1),
   sym (yields_by limit s b (Print c) given.1),
@@ -364,11 +364,11 @@ some_of_rest {A = A} limit s bs at had mid all one two =
 -- such values are handed out
 module _ (A : Type 0)
     (handed : (limit : Option ℕ) (s b : List ℕ)
-    → AreHandedOut {A = A} (yield_within limit s b)) where
+    → EmittedAreWritable {A = A} (yield_within limit s b)) where
   pub first_handed : (limit : Option ℕ) (s bs : List ℕ) (v : Value A) (n : ℕ)
       → IsFirst limit s bs v n → IsHandedOut v
   first_handed limit s bs v n is = let P : List (Value A) → Type 0 =
-      λ vs. AreHandedOut vs in (subst P is.first (handed limit s (take n bs))).0
+      λ vs. EmittedAreWritable vs in (subst P is.first (handed limit s (take n bs))).0
 
 -- a prefix that holds something was taken of something
 pub prefix_some : (len at n had have : ℕ) → (0 < len - at → 0 < n) → had < have

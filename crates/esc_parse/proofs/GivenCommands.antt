@@ -8,25 +8,25 @@ use Rattle.esc_frame.specs.Events.Event.{CsiDispatch, OscDispatch}
 use Rattle.esc_osc.specs.Reading.{meaning as command_meant}
 use Rattle.esc_parse.specs.Fed.{Hooks}
 use Rattle.esc_parse.specs.Given.{At, StopsAt as StopsGiven}
-use Rattle.esc_actions.specs.Values.{Mode, Value, after, csi, given, osc, value_of, wants_memory}
+use Rattle.esc_actions.specs.Values.{Mode, Value, mode_after, csi, event_values, osc, value_of, wants_memory}
 use Rattle.esc_actions.specs.declared.action.Action.{Action}
 use Rattle.esc_parse.specs.declared.performer.Performer.{Performer}
 use Rattle.esc_parse.proofs.Lists.{StopsAt-weaker}
-use Rattle.memory.specs.Refusals.{Refused}
+use Rattle.fallible_alloc.specs.Refusals.{Refused}
 
 -- what an event makes of a performer, and how it stops there
 abbrev Performs : {S A : Type 0} → (S → Action A → S → Type 0) → Performer S A → Event
     → Performer S A → Type 0
 Performs takes p e q = (limit : Option ℕ) (m : Mode) → Hooks limit p.unfinished m
-    → Hooks limit q.unfinished (after m e)
-    × FoldsTo (At value_of takes) p.sink (given limit m e) q.sink
+    → Hooks limit q.unfinished (mode_after m e)
+    × FoldsTo (At value_of takes) p.sink (event_values limit m e) q.sink
 
 abbrev Stops : {S A : Type 0} → (S → Action A → S → Type 0) → (S → Action A → S → Type 0)
     → Performer S A → Event → Performer S A → Type 0
 Stops {S} {A} takes refuses p e q =
     (limit : Option ℕ) (m : Mode) → Hooks limit p.unfinished m
     → StopsGiven ((wants_memory e ≡ true) × Refused A) (At value_of takes)
-    (At value_of refuses) p.sink (given limit m e) q.sink
+    (At value_of refuses) p.sink (event_values limit m e) q.sink
 
 -- of an event that wants memory
 memory_stopped : {S A : Type 0} (takes refuses : S → Action A → S → Type 0) (p q : S)

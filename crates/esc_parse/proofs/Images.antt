@@ -4,7 +4,7 @@ use Rattle.std.proofs.lemmas.Bool.{and_parts}
 use Rattle.std.specs.List.{FoldsTo, list_all}
 use Rattle.esc_kitty.specs.declared.image.KittyImage.{KittyImage}
 use Rattle.esc_sixel.specs.declared.sixel.Sixel.{Sixel}
-use Rattle.esc_actions.specs.Values.{Value, imaged, value_of}
+use Rattle.esc_actions.specs.Values.{Value, image_values, value_of}
 use Rattle.esc_actions.specs.Values.Value.{print, string, control, esc, csi, osc, kitty, sixel, termcap, short, enter, datum, exit}
 use Rattle.esc_actions.specs.declared.action.Action.{Action}
 use Rattle.esc_actions.specs.declared.action.Action.TheVariants as action
@@ -38,7 +38,8 @@ module _ {S A : Type 0} (R : S → Action A → S → Type 0) (s : S)
       (s, one_dropped v first, all_dropped vs rest)
 
 -- what an application program command means is an image or nothing
-pub command_images : {A : Type 0} (o : Option (KittyImage A)) → list_all is_image (imaged o) ≡ true
+pub command_images : {A : Type 0} (o : Option (KittyImage A)) → list_all is_image (image_values o)
+    ≡ true
 command_images None = refl
 command_images (Some i) = refl
 

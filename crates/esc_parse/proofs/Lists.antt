@@ -7,10 +7,10 @@ use Rattle.std.proofs.lemmas.List.{append-nil, take_more}
 use Rattle.esc_frame.specs.Events.{Awaits}
 use Rattle.esc_parse.specs.Given.{AnyAt, AnyBy, At, By, StopsAt, GetsPrefix}
 
--- one piece more
-pub pieces_more : {P : Type 0} (f : P → List ℕ) (ps : List P) (i : ℕ) (d : P) → i < length ps
+-- one chunk more
+pub input_chunks_more : {P : Type 0} (f : P → List ℕ) (ps : List P) (i : ℕ) (d : P) → i < length ps
     → flat_map f (take i ps) ++ f (get_or ps i d) ≡ flat_map f (take (i + 1) ps)
-pieces_more f ps i d h =
+input_chunks_more f ps i d h =
     sym (ap (flat_map f) (take_more ps i d h) ∙ flat_map-append f (take i ps) (get_or ps i d ∷ [])
     ∙ ap (λ l. flat_map f (take i ps) ++ l) (append-nil (f (get_or ps i d))))
 

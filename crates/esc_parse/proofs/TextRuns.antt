@@ -8,16 +8,16 @@ use Rattle.std.specs.Char.{encode_utf8}
 use Rattle.std.specs.Str.{IsUtf8, chars, encode_utf8_all}
 use Rattle.esc_frame.specs.Events.{Awaits, Event, MayGet, StopsAt as StopsAtEvent}
 use Rattle.esc_frame.specs.Events.Event.{Print}
-use Rattle.esc_frame.proofs.Given.{stops_then}
-use Rattle.esc_frame.proofs.May.{get_first, get_rest}
+use Rattle.esc_frame.proofs.Emits.EventsFold.{stops_then}
+use Rattle.esc_frame.proofs.Emits.MayAfterSome.{get_first, get_rest}
 use Rattle.esc_parse.proofs.Lists.{FoldsTo-append, StopsAt-append, StopsAt-longer}
 use Rattle.esc_parse.specs.Fed.{Hooks}
 use Rattle.esc_parse.specs.Given.{AnyAt, At, StopsAt}
-use Rattle.esc_actions.specs.Values.{Mode, after, given, value_of, wants_memory}
+use Rattle.esc_actions.specs.Values.{Mode, mode_after, event_values, value_of, wants_memory}
 use Rattle.esc_actions.specs.declared.action.Action.{Action}
 use Rattle.esc_actions.specs.declared.action.Action.TheVariants as action
 use Rattle.esc_parse.specs.declared.performer.Performer.{Performer}
-use Rattle.memory.specs.Refusals.{Refused}
+use Rattle.fallible_alloc.specs.Refusals.{Refused}
 
 -- one character after another
 module _ {S V : Type 0} (print : ℕ → V) (R Q : S → V → S → Type 0) (xs : List ℕ) (i : ℕ)
@@ -96,17 +96,17 @@ chars_taken print R text (b ∷ rest) p q e so = absurd (omega arith)
 module _ {S A : Type 0} (R Q : S → Action A → S → Type 0) where
   abbrev pub Takes : Performer S A → Event → Performer S A → Type 0
   Takes p e q = (limit : Option ℕ) (m : Mode) → Hooks limit p.unfinished m
-      → Hooks limit q.unfinished (after m e)
-      × FoldsTo (At value_of R) p.sink (given limit m e) q.sink
+      → Hooks limit q.unfinished (mode_after m e)
+      × FoldsTo (At value_of R) p.sink (event_values limit m e) q.sink
 
   abbrev pub Refuses : Performer S A → Event → Performer S A → Type 0
   Refuses p e q = (limit : Option ℕ) (m : Mode) → Hooks limit p.unfinished m
       → StopsAt ((wants_memory e ≡ true) × Refused A) (At value_of R) (At value_of Q) p.sink
-      (given limit m e) q.sink
+      (event_values limit m e) q.sink
 
   abbrev pub May : (S → Action A → Type 0) → Performer S A → Event → Type 0
   May may p e = (limit : Option ℕ) × (m : Mode) × Hooks limit p.unfinished m
-      × Awaits (AnyAt value_of may) (At value_of R) p.sink (given limit m e)
+      × Awaits (AnyAt value_of may) (At value_of R) p.sink (event_values limit m e)
 
   abbrev with_sink : Performer S A → S → Performer S A
   with_sink p s = record p { sink = s }

@@ -6,10 +6,10 @@ use Rattle.esc_frame.specs.Events.{Awaits, Event, StopsAt as StopsAtEvent}
 use Rattle.esc_frame.specs.Memory.{MayGrow, MayTake, may_grow, may_take}
 use Rattle.esc_frame.specs.Segments.{Segment, events_of_within}
 use Rattle.esc_frame.specs.Stream.{events_within, added_within}
-use Rattle.esc_frame.proofs.Given.{stops_for}
-use Rattle.esc_frame.proofs.May.{take_prefix, take_rest}
-use Rattle.esc_frame.proofs.Memory.{grows_takes}
-use Rattle.esc_frame.proofs.Streams.{events_more}
+use Rattle.esc_frame.proofs.Emits.EventsFold.{stops_for}
+use Rattle.esc_frame.proofs.Emits.MayAfterSome.{take_prefix, take_rest}
+use Rattle.esc_frame.proofs.Limit.GrowingSegments.{grows_takes}
+use Rattle.esc_frame.proofs.Emits.EventsAreTheCuts.{events_more}
 use Rattle.esc_actions.proofs.Meanings.{mode_more, values_append, yield_is}
 use Rattle.esc_parse.proofs.Collecting.{gathers}
 use Rattle.esc_parse.proofs.Grows.{event_takes, growing_takes, segment_takes}
@@ -19,9 +19,9 @@ use Rattle.esc_parse.specs.Fed.{Hooks}
 use Rattle.esc_parse.specs.Given.{At, StopsAt}
 use Rattle.esc_actions.specs.Meaning.{mode_from, values_from, yield_within}
 use Rattle.esc_actions.specs.Readings.{reading_within}
-use Rattle.esc_actions.specs.Values.{Mode, Value, after, given, plain, value_of, wants_memory}
+use Rattle.esc_actions.specs.Values.{Mode, Value, mode_after, event_values, plain, value_of, wants_memory}
 use Rattle.esc_parse.specs.declared.performer.Performer.{Performer}
-use Rattle.memory.specs.Refusals.{Refused}
+use Rattle.fallible_alloc.specs.Refusals.{Refused}
 use Rattle.esc_parse.specs.declared.sink.Collect.{Collect}
 use Rattle.esc_parse.specs.declared.unfinished.Unfinished.{Unfinished}
 
@@ -30,7 +30,7 @@ module _ {S A : Type 0} (R Q : S → Value A → S → Type 0) where
   abbrev Takes : Performer S A → Event → Performer S A → Type 0
   Takes p e q =
       (limit : Option ℕ) (m : Mode) → Hooks limit p.unfinished m
-      → Hooks limit q.unfinished (after m e) × FoldsTo R p.sink (given limit m e) q.sink
+      → Hooks limit q.unfinished (mode_after m e) × FoldsTo R p.sink (event_values limit m e) q.sink
 
   -- an event that wants memory, which was refused
   abbrev Denied : Event → Type 0
@@ -39,7 +39,7 @@ module _ {S A : Type 0} (R Q : S → Value A → S → Type 0) where
   abbrev Refuses : Performer S A → Event → Performer S A → Type 0
   Refuses p e q =
       (limit : Option ℕ) (m : Mode) → Hooks limit p.unfinished m
-      → StopsAt (Denied e) R Q p.sink (given limit m e) q.sink
+      → StopsAt (Denied e) R Q p.sink (event_values limit m e) q.sink
 
   pub performs : (limit : Option ℕ) (es : List Event) (p : Performer S A) (m : Mode)
       (q : Performer S A) → FoldsTo Takes p es q → Hooks limit p.unfinished m
@@ -47,15 +47,15 @@ module _ {S A : Type 0} (R Q : S → Value A → S → Type 0) where
   performs limit [] p m q e k = (subst (λ x. Hooks limit x.unfinished m) e k, ap (λ x. x.sink) e)
   performs limit (e ∷ es) p m q (j, t, h) k =
       let one = t limit m k in
-      let rest = performs limit es j (after m e) q h one.0 in (
+      let rest = performs limit es j (mode_after m e) q h one.0 in (
         rest.0,
-        FoldsTo-append R p.sink (given limit m e) j.sink
-            (values_from limit (after m e) es) q.sink one.1 rest.1,
+        FoldsTo-append R p.sink (event_values limit m e) j.sink
+            (values_from limit (mode_after m e) es) q.sink one.1 rest.1,
       )
 
   abbrev May : (S → Value A → Type 0) → Performer S A → Event → Type 0
   May may p e = (limit : Option ℕ) × (m : Mode) × Hooks limit p.unfinished m
-      × Awaits may R p.sink (given limit m e)
+      × Awaits may R p.sink (event_values limit m e)
 
   -- whose sink awaits the values may be given the events
   pub may_perform : (may : S → Value A → Type 0) (limit : Option ℕ) (es : List Event)
@@ -63,11 +63,17 @@ module _ {S A : Type 0} (R Q : S → Value A → S → Type 0) where
       → Awaits may R p.sink (values_from limit m es) → Awaits (May may) Takes p es
   may_perform may limit [] p m k a = tt
   may_perform may limit (e ∷ es) p m k a = (
-    (limit, m, k, take_prefix may R p.sink (given limit m e) (values_from limit (after m e) es) a),
+    (
+      limit,
+      m,
+      k,
+      take_prefix may R p.sink (event_values limit m e)
+          (values_from limit (mode_after m e) es) a,
+    ),
     λ q t. let one = t limit m k in
-        may_perform may limit es q (after m e) one.0
-        (take_rest may R p.sink (given limit m e) (values_from limit
-        (after m e) es) q.sink one.1 a),
+        may_perform may limit es q (mode_after m e) one.0
+        (take_rest may R p.sink (event_values limit m e) (values_from limit
+        (mode_after m e) es) q.sink one.1 a),
   )
 
   pub performs_prefix : (limit : Option ℕ) (own : Type 0) (es : List Event) (p : Performer S A)
@@ -99,10 +105,10 @@ module _ {S A : Type 0} (R Q : S → Value A → S → Type 0) where
             StopsAt-append R Q own p.sink (values_from limit m prefix) mid.sink
             (values_from limit (mode_from m prefix) rest) q.sink run.1
             (subst Rest (sym is)
-            (StopsAt-longer R Q own mid.sink (given limit (mode_from m prefix) e)
-            (values_from limit (after (mode_from m prefix) e) more) q.sink
+            (StopsAt-longer R Q own mid.sink (event_values limit (mode_from m prefix) e)
+            (values_from limit (mode_after (mode_from m prefix) e) more) q.sink
             (StopsAt-weaker R Q own (Denied e) mid.sink
-            (given limit (mode_from m prefix) e) q.sink own_from here)))
+            (event_values limit (mode_from m prefix) e) q.sink own_from here)))
       ])
 
   -- the events of a segment by itself
@@ -132,7 +138,8 @@ added_takes limit s b before e later is h =
 -- an event that leaves unfinished what was unfinished
 pub hooks_by : {A : Type 0} (limit : Option ℕ) (u : Unfinished A) (s b : List ℕ) (x : Event)
     → added_within limit s b ≡ x ∷ []
-    → after (mode_from plain (events_within limit s)) x ≡ mode_from plain (events_within limit s)
+    → mode_after (mode_from plain (events_within limit s)) x
+    ≡ mode_from plain (events_within limit s)
     → Hooks limit u (mode_from plain (events_within limit s))
     → Hooks limit u (mode_from plain (events_within limit (s ++ b)))
 hooks_by limit u s b x e same h =

@@ -8,19 +8,19 @@ use Rattle.esc_frame.specs.declared.error.ParseError.{ParseError}
 use Rattle.esc_frame.specs.declared.error.ParseError.TheVariants.{Failed, Memory}
 use Rattle.esc_actions.specs.Meaning.{MayWant, yield_within}
 use Rattle.esc_actions.specs.Values.{Value, value_of}
-use Rattle.esc_actions.specs.Writable.{AreHandedOut, IsHandedOut}
+use Rattle.esc_actions.specs.Writable.{EmittedAreWritable, IsHandedOut}
 use Rattle.esc_actions.specs.declared.action.Action.{Action}
 use Rattle.esc_parse.specs.Collected.{Adds, AddsSome}
-use Rattle.esc_parse.specs.Fed.{IsBroken, WasFedWithin}
+use Rattle.esc_parse.specs.Fed.{IsBroken, ParserHasConsumedWithin}
 use Rattle.esc_parse.specs.Firsts.{IsFirst, IsFirstStop, IsSilentWithin, IsStop}
 use Rattle.esc_parse.specs.Given.{AnyAt, At, GetsAll, GetsPrefix, StopsAt}
 use Rattle.esc_parse.specs.declared.parser.Parser.{Parser}
 use Rattle.esc_parse.specs.declared.sink.Sink.{Ghosts as Sinks}
-use Rattle.memory.specs.Refusals.{Refused}
+use Rattle.fallible_alloc.specs.Refusals.{Refused}
 
 -- this holds of each stream that the parser may have been fed, under its limit
 abbrev pub After : {A : Type 0} → Parser A → (Option ℕ → List ℕ → Type 0) → Type 0
-After p P = (limit : Option ℕ) (s : List ℕ) → WasFedWithin limit s p → P limit s
+After p P = (limit : Option ℕ) (s : List ℕ) → ParserHasConsumedWithin limit s p → P limit s
 
 -- A receiver need not be ready for every action: the parser has failed, and gives none; or the
 -- receiver awaits what b adds to a stream that the parser may have been fed.
@@ -28,7 +28,7 @@ abbrev pub MayParse : {A P : Type 0} → (P → Action A → Type 0) → (P → 
     → Parser A → P → List ℕ
     → Type 0
 MayParse may takes p old b =
-    IsBroken p ⊎ ((limit : Option ℕ) × (s : List ℕ) × WasFedWithin limit s p
+    IsBroken p ⊎ ((limit : Option ℕ) × (s : List ℕ) × ParserHasConsumedWithin limit s p
     × Awaits (AnyAt value_of may) (At value_of takes) old (yield_within limit s b))
 
 -- the sink is ready for any action, or for these
@@ -71,7 +71,7 @@ CallsOnPrefix calls f vs = GetsPrefix (At value_of (CallsOn calls)) f vs
 abbrev pub AfterMore : {A : Type 0} → Parser A → ℕ → ℕ → (Option ℕ → List ℕ → List ℕ → Type 0)
     → Type 0
 AfterMore {A} p had have P =
-    (limit : Option ℕ) (s b : List ℕ) → WasFedWithin limit (s ++ b) p
+    (limit : Option ℕ) (s b : List ℕ) → ParserHasConsumedWithin limit (s ++ b) p
     → have ≡ had + length (yield_within {A = A} limit s b) → P limit s b
 
 -- an error is `Memory`, the parser has failed then, and the call stopped so
@@ -99,17 +99,18 @@ StopsIn {A} takes refuses limit s b old new =
 
 -- after s, the parser was fed b too, which yields these values
 abbrev pub Yields : {A : Type 0} → Option ℕ → List ℕ → List ℕ → Parser A → List (Value A) → Type 0
-Yields limit s b p vs = WasFedWithin limit (s ++ b) p × (vs ≡ yield_within limit s b)
+Yields limit s b p vs = ParserHasConsumedWithin limit (s ++ b) p × (vs ≡ yield_within limit s b)
 
 -- after s, the parser was fed b too, which yields nothing
 abbrev pub YieldsNone : {A : Type 0} → Option ℕ → List ℕ → List ℕ → Parser A → Type 0
 YieldsNone {A} limit s b p =
-    WasFedWithin limit (s ++ b) p × (yield_within {A = A} limit s b ≡ [])
+    ParserHasConsumedWithin limit (s ++ b) p × (yield_within {A = A} limit s b ≡ [])
 
 -- after s, the parser was fed the shortest prefix of b that yields a value, and this is the first
 abbrev pub YieldsFirst : {A : Type 0} → Option ℕ → List ℕ → List ℕ → Parser A → Value A → ℕ
     → Type 0
-YieldsFirst limit s b p v n = WasFedWithin limit (s ++ take n b) p × IsFirst limit s b v n
+YieldsFirst limit s b p v n = ParserHasConsumedWithin limit (s ++ take n b) p
+    × IsFirst limit s b v n
 
 -- this holds of what was found, where something was
 abbrev pub IfFound : {T E : Type 0} → Result (Option T) E → (T → Type 0) → Type 0
@@ -131,7 +132,7 @@ IsTaken n b = (n ≤ length b) × (0 < length b → 0 < n)
 pub record GivesAll {A S : Type 0} (T : Sinks S (Action A)) (old : Parser A) (b : List ℕ)
     (sink : S) (result : Result (Unit {0}) ParseError) (new : Parser A) (back : S) : Type 0 where
   -- they were fed, and the sink was given the actions that they add, in order
-  pub given : After old (λ limit s. OnOk result (WasFedWithin limit (s ++ b) new
+  pub given : After old (λ limit s. OnOk result (ParserHasConsumedWithin limit (s ++ b) new
       × FoldsTo (At value_of T.takes) sink (yield_within limit s b) back))
   -- an error says that memory was refused, and the sink was given a prefix of these actions
   pub refused : After old (λ limit s. IsStopped result new
@@ -146,9 +147,9 @@ pub record CallsBack {A F : Type 0} (calls : Callback A F) (old : Parser A) (b :
     (result : Result (Unit {0}) ParseError) (new : Parser A) : Type 0 where
   -- they were fed, and the closure was called on the actions that they add, in order
   pub given : After old (λ limit s. OnOk result
-      (WasFedWithin limit (s ++ b) new × CallsOnAll calls f (yield_within limit s b)))
+      (ParserHasConsumedWithin limit (s ++ b) new × CallsOnAll calls f (yield_within limit s b)))
   -- these can be written, but for the exceptions
-  pub handed_out : After old (λ limit s. AreHandedOut {A = A} (yield_within limit s b))
+  pub handed_out : After old (λ limit s. EmittedAreWritable {A = A} (yield_within limit s b))
   -- an error says that memory was refused, and the closure was called on a prefix of these actions
   pub refused : After old (λ limit s. IsRefused result new
       (MayTake (s ++ b) × CallsOnPrefix calls f (yield_within limit s b)))
@@ -165,7 +166,8 @@ pub record TakesPrefix {A : Type 0} (old : Parser A) (b : List ℕ) (result : Re
   -- where there are no bytes, `nothing` holds, also after an error
   pub empty : length b ≡ 0 → nothing
   -- it was fed, and what it yields was got
-  pub given : After old (λ limit s. IfOk result (λ n. WasFedWithin limit (s ++ take n b) new
+  pub given : After old (λ limit s. IfOk result
+      (λ n. ParserHasConsumedWithin limit (s ++ take n b) new
       × got (yield_within limit s (take n b))))
   -- all but its last byte yield nothing, and leave a segment unfinished
   pub quiet : After old (λ limit s. IfOk result (λ n. IsSilentWithin A limit s b n))
@@ -205,13 +207,14 @@ pub record FindsFirstList {A L : Type 0} (items : L → List (Action A)) (old : 
   pub count : IfFound result (λ x. IsSomeOf x.1 b)
   -- this prefix, which was fed, is the shortest that adds an action and leaves no segment
   -- unfinished, and they are the actions that it adds
-  pub some : After old (λ limit s. IfFound result (λ x. WasFedWithin limit (s ++ take x.1 b) new
+  pub some : After old (λ limit s. IfFound result
+      (λ x. ParserHasConsumedWithin limit (s ++ take x.1 b) new
       × IsFirstStop limit s b (map value_of (items x.0)) x.1))
   -- they can be written, but for the exceptions
   pub handed_out : After old
-      (λ limit s. IfFound result (λ x. AreHandedOut (map value_of (items x.0))))
+      (λ limit s. IfFound result (λ x. EmittedAreWritable (map value_of (items x.0))))
   -- where none were found all bytes were fed, and no prefix is such
-  pub none : After old (λ limit s. IfNoneFound result (WasFedWithin limit (s ++ b) new
+  pub none : After old (λ limit s. IfNoneFound result (ParserHasConsumedWithin limit (s ++ b) new
       × ((k : ℕ) → k ≤ length b → IsStop A limit s (take k b) → ⊥)))
   -- an error says that memory was refused
   pub refused : After old (λ limit s. IsRefused result new (MayWant A limit s b))
@@ -226,14 +229,15 @@ pub record FindsFirsts {A : Type 0} (old : Parser A) (b : List ℕ) (had : List 
   pub count : IfFound result (λ n. IsSomeOf n b)
   -- this prefix, which was fed, is the shortest that adds an action and leaves no segment
   -- unfinished, and the actions that it adds, no others, were appended
-  pub some : After old (λ limit s. IfFound result (λ n. WasFedWithin limit (s ++ take n b) new
+  pub some : After old (λ limit s. IfFound result
+      (λ n. ParserHasConsumedWithin limit (s ++ take n b) new
       × IsFirstStop limit s b (yield_within {A = A} limit s (take n b)) n
       × Adds had (yield_within limit s (take n b)) all))
   -- what any prefix adds, and so what was appended, can be written, but for the exceptions
   pub handed_out : After old
-      (λ limit s. (n : ℕ) → AreHandedOut {A = A} (yield_within limit s (take n b)))
+      (λ limit s. (n : ℕ) → EmittedAreWritable {A = A} (yield_within limit s (take n b)))
   -- where none were found all bytes were fed, no prefix is such, and what they add was appended
-  pub none : After old (λ limit s. IfNoneFound result (WasFedWithin limit (s ++ b) new
+  pub none : After old (λ limit s. IfNoneFound result (ParserHasConsumedWithin limit (s ++ b) new
       × Adds had (yield_within limit s b) all
       × ((k : ℕ) → k ≤ length b → IsStop A limit s (take k b) → ⊥)))
   -- an error says that memory was refused, and a prefix of what the bytes add was appended

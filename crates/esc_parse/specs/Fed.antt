@@ -1,15 +1,15 @@
 -- What a parser was fed.
 use Rattle.std.specs.Prelude.{ℕ, ◌≡◌, ◌+◌, ◌≤◌, Bool, true, false, List, length, Option, None}
 use Rattle.esc_frame.specs.Limits.{Counts, is_within, most}
-use Rattle.esc_frame.specs.Stream.{LeadsToWithin, HasFailed, events_within}
+use Rattle.esc_frame.specs.Stream.{HasConsumedWithin, HasFailed, events_within}
 use Rattle.esc_frame.specs.declared.unfinished.count.Count.{Count}
 use Rattle.esc_actions.specs.Meaning.{mode_from}
-use Rattle.esc_actions.specs.Values.{Mode, plain, in_sixel, in_termcap, in_short, entered, data_count, taken}
+use Rattle.esc_actions.specs.Values.{Mode, plain, in_sixel, in_termcap, in_short, entered, data_count, mode_with_byte}
 use Rattle.esc_device.specs.Leads.{LeadsShort}
-use Rattle.esc_tcap.specs.Names.{LeadsTo as LeadsTermcap}
+use Rattle.xtgettcap.specs.Names.{HasConsumed as LeadsTermcap}
 use Rattle.esc_parse.specs.Sixels.{Holds as HoldsSixel}
-use Rattle.esc_parse.specs.declared.hooked.Hooked.{Hooked}
-use Rattle.esc_parse.specs.declared.hooked.Hooked.TheVariants as hooked
+use Rattle.esc_parse.specs.declared.dcs_payload.DcsPayload.{DcsPayload}
+use Rattle.esc_parse.specs.declared.dcs_payload.DcsPayload.TheVariants as dcs_payload
 use Rattle.esc_parse.specs.declared.parser.Parser.{Parser}
 use Rattle.esc_parse.specs.declared.unfinished.Unfinished.{Unfinished}
 
@@ -17,37 +17,37 @@ use Rattle.esc_parse.specs.declared.unfinished.Unfinished.{Unfinished}
 abbrev pub CountsData : Option ℕ → Count → List ℕ → Type 0
 CountsData limit c d = Counts limit c (length d) × (is_within limit (length d) ≡ true)
 
--- what is hooked is what is unfinished, or nothing of it where its data is past the limit
-abbrev pub Keeps : {A : Type 0} → Option ℕ → Hooked A → Count → Mode → Type 0
-Keeps limit hooked.Nothing c plain = Unit {0}
-Keeps limit (hooked.Sixel b) c (in_sixel ps d) = HoldsSixel ps d b.value × CountsData limit c d
-Keeps limit (hooked.Termcap b) c (in_termcap d) = LeadsTermcap d b × CountsData limit c d
-Keeps limit (hooked.Short b) c (in_short ps is f d) =
+-- what is dcs_payload is what is unfinished, or nothing of it where its data is past the limit
+abbrev pub Keeps : {A : Type 0} → Option ℕ → DcsPayload A → Count → Mode → Type 0
+Keeps limit dcs_payload.Nothing c plain = Unit {0}
+Keeps limit (dcs_payload.Sixel b) c (in_sixel ps d) = HoldsSixel ps d b.value × CountsData limit c d
+Keeps limit (dcs_payload.Termcap b) c (in_termcap d) = LeadsTermcap d b × CountsData limit c d
+Keeps limit (dcs_payload.Short b) c (in_short ps is f d) =
     LeadsShort ps is f d b.value × CountsData limit c d
-Keeps limit hooked.Entered c entered = Unit {0}
-Keeps limit hooked.Over c m = is_within limit (data_count m) ≡ false
+Keeps limit dcs_payload.Entered c entered = Unit {0}
+Keeps limit dcs_payload.Over c m = is_within limit (data_count m) ≡ false
 Keeps limit _ c _ = ⊥
 
 -- a string that begins, of which no data is counted yet
-abbrev pub Begins : {A : Type 0} → Option ℕ → Hooked A → Mode → Type 0
+abbrev pub Begins : {A : Type 0} → Option ℕ → DcsPayload A → Mode → Type 0
 Begins limit h m = (c : Count) → Counts limit c 0 → Keeps limit h c m
 
 -- what is kept, under this limit, is what is unfinished
 unfoldable pub Hooks : {A : Type 0} → Option ℕ → Unfinished A → Mode → Type 0
-Hooks limit u m = (u.limit ≡ limit) × Keeps limit u.hooked u.data m
+Hooks limit u m = (u.limit ≡ limit) × Keeps limit u.dcs_payload u.data m
 
 -- this holds of what is unfinished, under the limit, where that is kept
 abbrev pub Hooking : {A : Type 0} → Unfinished A → (Option ℕ → Mode → Type 0) → Type 0
 Hooking u P = (limit : Option ℕ) (m : Mode) → Hooks limit u m → P limit m
 
--- what is hooked is a mode
-abbrev pub is_mode : {A : Type 0} → Hooked A → Bool
-is_mode hooked.Nothing = false
-is_mode (hooked.Sixel b) = false
-is_mode (hooked.Termcap b) = false
-is_mode (hooked.Short b) = false
-is_mode hooked.Entered = true
-is_mode hooked.Over = false
+-- what is dcs_payload is a mode
+abbrev pub is_mode : {A : Type 0} → DcsPayload A → Bool
+is_mode dcs_payload.Nothing = false
+is_mode (dcs_payload.Sixel b) = false
+is_mode (dcs_payload.Termcap b) = false
+is_mode (dcs_payload.Short b) = false
+is_mode dcs_payload.Entered = true
+is_mode dcs_payload.Over = false
 
 -- a string is unfinished of which only the end gives a value, and no byte of its data does
 abbrev pub keeps_data : Mode → Bool
@@ -60,7 +60,8 @@ keeps_data entered = false
 -- a byte of data makes q of p
 abbrev pub TakesData : {A : Type 0} → Unfinished A → ℕ → Unfinished A → Type 0
 TakesData p b q =
-    (is_mode q.hooked ≡ is_mode p.hooked) × Hooking p (λ limit m. Hooks limit q (taken m b))
+    (is_mode q.dcs_payload ≡ is_mode p.dcs_payload)
+    × Hooking p (λ limit m. Hooks limit q (mode_with_byte m b))
 
 -- so many bytes more are counted without passing the limit
 pub record HasRoom (limit : Option ℕ) (c : Count) (more : ℕ) : Type 0 where
@@ -70,15 +71,15 @@ pub record HasRoom (limit : Option ℕ) (c : Count) (more : ℕ) : Type 0 where
 
 -- The bytes may be what the parser was fed, which keeps no more than the limit of a segment: it has
 -- not failed, and keeps what is unfinished of them.
-unfoldable pub WasFedWithin : {A : Type 0} → Option ℕ → List ℕ → Parser A → Type 0
-WasFedWithin limit s p =
-    LeadsToWithin limit s p.framer
+unfoldable pub ParserHasConsumedWithin : {A : Type 0} → Option ℕ → List ℕ → Parser A → Type 0
+ParserHasConsumedWithin limit s p =
+    HasConsumedWithin limit s p.framer
     × Hooks limit p.unfinished (mode_from plain (events_within limit s))
 
 -- the same without a limit
-abbrev pub WasFed : {A : Type 0} → List ℕ → Parser A → Type 0
-WasFed s p = WasFedWithin None s p
+abbrev pub ParserHasConsumed : {A : Type 0} → List ℕ → Parser A → Type 0
+ParserHasConsumed s p = ParserHasConsumedWithin None s p
 
 -- an earlier call of the parser returned `Memory`, and no data is kept
 abbrev pub IsBroken : {A : Type 0} → Parser A → Type 0
-IsBroken p = HasFailed p.framer × (p.unfinished.hooked ≡ hooked.Nothing)
+IsBroken p = HasFailed p.framer × (p.unfinished.dcs_payload ≡ dcs_payload.Nothing)

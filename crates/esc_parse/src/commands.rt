@@ -2,7 +2,7 @@
 ghost use Rattle.std.specs.Prelude.{◌≡◌, IfOk, OnErr};
 ghost use Rattle.esc_values.specs.Clear.{parts_of};
 ghost use Rattle.esc_osc.specs.Reading.{meaning};
-ghost use Rattle.memory.specs.Refusals.{Refused};
+ghost use Rattle.fallible_alloc.specs.Refusals.{Refused};
 
 use esc_frame::parts::Parts;
 use esc_frame::split::split_parts;

@@ -1,7 +1,7 @@
 //! A law of the parser: what is finished of its stream has no more to do with what follows.
 ghost use Rattle.std.specs.Prelude.{List, Option, ℕ};
 ghost use Rattle.esc_frame.specs.Stream.{IsAfterFinished};
-ghost use Rattle.esc_parse.specs.Fed.{WasFedWithin};
+ghost use Rattle.esc_parse.specs.Fed.{ParserHasConsumedWithin};
 ghost use Rattle.esc_parse.specs.declared.parser.Parser.{Parser};
 
 use std::alloc::Allocator;
@@ -13,5 +13,5 @@ use std::alloc::Allocator;
 #[tactic(auto, using(crate::proofs::Alone::unfinished_alone))]
 pub fn unfinished_alone<A: Allocator>()
     ensures { (limit : Option ℕ) (s u : List ℕ) (p : Parser A) → IsAfterFinished s u
-        → WasFedWithin limit s p → WasFedWithin limit u p }
+        → ParserHasConsumedWithin limit s p → ParserHasConsumedWithin limit u p }
 {}

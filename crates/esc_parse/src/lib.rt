@@ -12,7 +12,7 @@
 #![tactic(auto)]
 
 pub mod commands;
-pub mod hooked;
+pub mod dcs_payload;
 pub mod laws;
 pub mod parser;
 pub mod performer;
@@ -21,4 +21,4 @@ pub mod sixel_text;
 pub mod unfinished;
 
 pub use parser::Parser;
-pub use sink::{Calls, Collect, First, FromChar, Sink};
+pub use sink::{ActionShape, Calls, Collect, First, Sink};

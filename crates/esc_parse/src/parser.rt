@@ -7,7 +7,7 @@ ghost use Rattle.esc_actions.specs.Limited.{data_kept};
 ghost use Rattle.esc_parse.specs.Calls.{After, CallsBack, GivesAll, IsRefused, MayCall, MayFeed, StaysBroken, Yields};
 ghost use Rattle.esc_actions.specs.Meaning.{MayWant};
 ghost use Rattle.esc_actions.specs.Values.{value_of};
-ghost use Rattle.esc_actions.specs.Writable.{AreHandedOut};
+ghost use Rattle.esc_actions.specs.Writable.{EmittedAreWritable};
 
 mod firsts;
 
@@ -18,8 +18,8 @@ use esc_actions::{Action, laws};
 use esc_frame::error::ParseError;
 use esc_frame::parser::VTParser;
 pub use esc_sixel::SixelBuilder;
-pub use esc_tcap::GetTcapBuilder;
 use std::alloc::{Allocator, Global};
+pub use xtgettcap::GetTcapBuilder;
 
 /// Reads a stream of bytes, in whatever chunks it comes, as actions.
 ///
@@ -40,12 +40,12 @@ pub struct Parser<A: Allocator = Global> {
 }
 
 impl<A: Allocator + Copy> Parser<A> {
-    ghost use Rattle.esc_parse.specs.Fed.{IsBroken, WasFed, WasFedWithin};
+    ghost use Rattle.esc_parse.specs.Fed.{IsBroken, ParserHasConsumed, ParserHasConsumedWithin};
 
     /// A parser at the beginning of a stream. Takes no memory.
-    #[tactic(auto, unfolding(crate::specs::Fed::WasFedWithin))]
+    #[tactic(auto, unfolding(crate::specs::Fed::ParserHasConsumedWithin))]
     pub fn new(alloc: A) -> Parser<A>
-        ensures { WasFed [] result }
+        ensures { ParserHasConsumed [] result }
     {
         Parser {
             framer: VTParser::new(alloc),
@@ -62,9 +62,9 @@ impl<A: Allocator + Copy> Parser<A> {
     /// a device control string of which the header has more parameter bytes is passed over. A short
     /// control is a device control string with the intermediate `$` and the final byte `q`, as a
     /// query of a setting. The segments of the stream are the same as without a limit.
-    #[tactic(auto, unfolding(crate::specs::Fed::WasFedWithin))]
+    #[tactic(auto, unfolding(crate::specs::Fed::ParserHasConsumedWithin))]
     pub fn with_limit(alloc: A, limit: usize) -> Parser<A>
-        ensures { WasFedWithin (Some limit) [] result }
+        ensures { ParserHasConsumedWithin (Some limit) [] result }
     {
         Parser {
             framer: VTParser::with_limit(alloc, limit),
@@ -76,7 +76,7 @@ impl<A: Allocator + Copy> Parser<A> {
     /// Begins a new stream: what is unfinished is dropped, and gives no action. The limit stays,
     /// and so does the memory that strings took. A parser that has failed stays so.
     pub fn restart(&mut self)
-        ensures fed { After self.old (λ limit s. WasFedWithin limit [] self.new) }
+        ensures fed { After self.old (λ limit s. ParserHasConsumedWithin limit [] self.new) }
         ensures failed { IsBroken self.old → IsBroken self.new }
     {
         self.framer.restart();
@@ -119,7 +119,7 @@ impl<A: Allocator + Copy> Parser<A> {
     /// Of the bytes fed before only those of the segment that is unfinished matter here, by the law
     /// [`unfinished_alone`](crate::laws::unfinished_alone). `ParseError::Failed` says that an
     /// earlier call returned `Memory`: the sink comes back as it was.
-    #[tactic(auto, unfolding(crate::specs::Fed::WasFedWithin))]
+    #[tactic(auto, unfolding(crate::specs::Fed::ParserHasConsumedWithin))]
     pub fn parse_into<S: Sink<Action<A>>>(
         &mut self,
         bytes: &[u8],
@@ -160,7 +160,7 @@ impl<A: Allocator + Copy> Parser<A> {
         ensures given { After self.old (λ limit s. IfOk result
             (λ v. Yields limit s bytes.now self.new (map value_of v.items))) }
         ensures handed_out { After self.old (λ limit s. IfOk result
-            (λ v. AreHandedOut (map value_of v.items))) }
+            (λ v. EmittedAreWritable (map value_of v.items))) }
         ensures refused { After self.old (λ limit s. IsRefused result self.new
             (MayWant A limit s bytes.now)) }
         ensures failed { StaysBroken self.old result self.new }
@@ -203,7 +203,7 @@ impl Parser {
     /// or cut short: for these no memory is taken. `ParseError::Failed` says that an earlier call
     /// returned `Memory`: the closure, which need not be callable then, is not called, and the
     /// parser has still failed.
-    #[tactic(auto, unfolding(crate::specs::Fed::WasFedWithin))]
+    #[tactic(auto, unfolding(crate::specs::Fed::ParserHasConsumedWithin))]
     pub fn parse<F: FnMut(Action)>(&mut self, bytes: &[u8], callback: F) -> Result<(), ParseError>
         requires { MayCall F.FnMut self.old callback bytes.now }
         ensures { CallsBack F.FnMut self.old bytes.now callback result self.new }

@@ -6,13 +6,13 @@ ghost use Rattle.esc_sequences.specs.Csis.{csi_of, csi_value};
 ghost use Rattle.esc_frame.specs.Events.{Awaits};
 ghost use Rattle.esc_parse.specs.Given.{AnyAt, At, StopsAt};
 ghost use Rattle.esc_parse.specs.Sinks.{Gave, MayGive, StaysReady};
-ghost use Rattle.esc_actions.specs.Values.{Mode, after, csi, datum, given, lone, osc, value_of, wants_memory};
+ghost use Rattle.esc_actions.specs.Values.{Mode, mode_after, csi, datum, event_values, only_item, osc, value_of, wants_memory};
 ghost use Rattle.esc_osc.specs.Reading.{meaning as command_meant};
 ghost use Rattle.esc_osc.specs.declared.command.OperatingSystemCommand.{OperatingSystemCommand};
-ghost use Rattle.memory.specs.Refusals.{Refused};
+ghost use Rattle.fallible_alloc.specs.Refusals.{Refused};
 
 use crate::commands::command_in;
-use crate::hooked::header_action;
+use crate::dcs_payload::header_action;
 use crate::sink::Sink;
 use crate::unfinished::Unfinished;
 use esc_actions::{Action, ControlCode};
@@ -38,7 +38,7 @@ pub struct Performer<S, A: Allocator = Global> {
 
 // The intermediate, where there is exactly one.
 fn lone_of(intermediates: &[u8]) -> Option<u8>
-    ensures { result ≡ lone intermediates.now }
+    ensures { result ≡ only_item intermediates.now }
 {
     let (first, rest) = intermediates.split_first()?;
     if rest.is_empty() { Some(*first) } else { None }
@@ -187,17 +187,17 @@ impl<A: Allocator + Copy, S: Sink<Action<A>>> VTActor for Performer<S, A> {
     ghost use Rattle.esc_parse.specs.Fed.{Hooks};
 
     ghost takes = { λ p e q. (limit : Option ℕ) (m : Mode) → Hooks limit p.unfinished m
-        → Hooks limit q.unfinished (after m e)
-        × FoldsTo (At value_of S.takes) p.sink (given limit m e) q.sink };
+        → Hooks limit q.unfinished (mode_after m e)
+        × FoldsTo (At value_of S.takes) p.sink (event_values limit m e) q.sink };
 
     ghost refuses = { λ p e q. (limit : Option ℕ) (m : Mode) → Hooks limit p.unfinished m
         → StopsAt ((wants_memory e ≡ true) × Refused A) (At value_of S.takes)
-        (At value_of S.refuses) p.sink (given limit m e) q.sink };
+        (At value_of S.refuses) p.sink (event_values limit m e) q.sink };
 
     ghost is_ready = { λ p. S.is_ready p.sink };
 
     ghost may = { λ p e. (limit : Option ℕ) × (m : Mode) × Hooks limit p.unfinished m
-        × Awaits (AnyAt value_of S.may) (At value_of S.takes) p.sink (given limit m e) };
+        × Awaits (AnyAt value_of S.may) (At value_of S.takes) p.sink (event_values limit m e) };
 
     fn print(&mut self, c: char) -> Result<(), AllocError> {
         self.sink.receive(Action::Print(c))

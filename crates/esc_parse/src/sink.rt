@@ -13,14 +13,14 @@ ghost use Rattle.esc_parse.specs.Images.{is_image};
 ghost use Rattle.esc_actions.specs.Values.{csi, osc, value_of};
 ghost use Rattle.esc_osc.specs.Reading.{meaning as command_meant};
 ghost use Rattle.esc_actions.specs.declared.action.Action.TheVariants as action;
-ghost use Rattle.memory.specs.Refusals.{Refused};
+ghost use Rattle.fallible_alloc.specs.Refusals.{Refused};
 
 use esc_actions::Action;
 use esc_values::CsiParam;
 use std::alloc::{AllocError, Allocator, Global};
 
 /// What a character can be made into.
-pub trait FromChar {
+pub trait ActionShape {
     // what the character is made into
     ghost print: { ℕ → Self };
 
@@ -38,7 +38,7 @@ pub trait FromChar {
         ensures { result ≡ print c };
 }
 
-impl<A: Allocator> FromChar for Action<A> {
+impl<A: Allocator> ActionShape for Action<A> {
     ghost use Rattle.esc_actions.specs.declared.action.Action.TheVariants.{Print};
 
     ghost print = { λ c. Print c };
@@ -60,7 +60,7 @@ impl<A: Allocator> FromChar for Action<A> {
 /// An implementation says what it becomes with an action (`takes`), what a refused call leaves of
 /// it (`refuses`), when it may be given any action (`is_ready`), and else which (`may`). After a
 /// call that returns `AllocError` no more calls are made.
-pub trait Sink<T: FromChar> {
+pub trait Sink<T: ActionShape> {
     // any action may be given, and after each one any other
     ghost is_ready: { Self → Type 0 };
 
@@ -182,7 +182,7 @@ pub struct Calls<F> {
     pub callback: F,
 }
 
-impl<T: FromChar, F: FnMut(T)> Sink<T> for Calls<F> {
+impl<T: ActionShape, F: FnMut(T)> Sink<T> for Calls<F> {
     ghost is_ready = { λ p. F.IsAlwaysCallable p.callback };
 
     ghost may = { λ p a. F.pre p.callback a };
@@ -239,13 +239,13 @@ impl<A: Allocator> Sink<Action<A>> for Collect<A> {
     ghost refuses = { λ p a q. (q.actions.items ≡ p.actions.items) × Refused A };
 
     fn receive(&mut self, action: Action<A>) -> Result<(), AllocError> {
-        memory::push(&mut self.actions, action)?;
+        fallible_alloc::push(&mut self.actions, action)?;
         Ok(())
     }
 
     #[inline]
     fn receive_text(&mut self, text: &[u8]) -> Result<(), AllocError> {
-        memory::reserve_for(&mut self.actions, text, 0)?;
+        fallible_alloc::reserve_for(&mut self.actions, text, 0)?;
         self.push_text(text);
         Ok(())
     }

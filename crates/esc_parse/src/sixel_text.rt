@@ -4,7 +4,7 @@ ghost use Rattle.std.specs.List.{FoldsTo};
 ghost use Rattle.esc_sixel.specs.Items.{items};
 ghost use Rattle.esc_sixel.specs.Meaning.{sixel_of};
 ghost use Rattle.esc_parse.specs.Sixels.{Holds, Pushes};
-ghost use Rattle.memory.specs.Refusals.{Refused};
+ghost use Rattle.fallible_alloc.specs.Refusals.{Refused};
 
 use esc_sixel::{Sixel, SixelBuilder};
 use esc_values::Items;
@@ -52,7 +52,7 @@ impl<A: Allocator + Copy> SixelText<A> {
     {
         let empty = Items::new(self.alloc);
         let mut all = mem::replace(&mut self.data, empty).into_vec();
-        let result = memory::extend(&mut all, bytes);
+        let result = fallible_alloc::extend(&mut all, bytes);
         self.data = Items::from_vec(all);
         result
     }

@@ -4,14 +4,14 @@ ghost use Rattle.std.specs.List.{FoldsTo, list_all};
 ghost use Rattle.std.specs.Option.{option_map};
 ghost use Rattle.esc_frame.specs.Limits.{kept_within, most};
 ghost use Rattle.esc_frame.specs.Scans.{is_data_byte};
-ghost use Rattle.esc_actions.specs.Values.{closed_gives, data_count, opened, plain, taken, value_of};
+ghost use Rattle.esc_actions.specs.Values.{unhook_values, data_count, mode_at_hook, plain, mode_with_byte, value_of};
 ghost use Rattle.esc_actions.specs.Groups.{is_entered};
 ghost use Rattle.esc_parse.specs.Fed.{HasRoom, Hooking, Hooks, TakesData, is_mode, keeps_data};
 ghost use Rattle.esc_parse.specs.Images.{is_image};
-ghost use Rattle.esc_parse.specs.declared.hooked.Hooked.TheVariants as hooked;
-ghost use Rattle.memory.specs.Refusals.{Refused};
+ghost use Rattle.esc_parse.specs.declared.dcs_payload.DcsPayload.TheVariants as dcs_payload;
+ghost use Rattle.fallible_alloc.specs.Refusals.{Refused};
 
-use crate::hooked::{Hooked, begin, end};
+use crate::dcs_payload::{DcsPayload, begin, end};
 use esc_actions::Action;
 use esc_device::StringKind;
 use esc_frame::Count;
@@ -23,7 +23,7 @@ use std::mem;
 #[derive(Drop)]
 pub struct Unfinished<A: Allocator = Global> {
     /// The string itself.
-    pub hooked: Hooked<A>,
+    pub dcs_payload: DcsPayload<A>,
     /// How many bytes of data came.
     pub data: Count,
     /// How many are kept at most.
@@ -35,10 +35,10 @@ impl<A: Allocator + Copy> Unfinished<A> {
     #[tactic(auto, unfolding(crate::specs::Fed::Hooks))]
     pub fn new(limit: Option<usize>) -> Unfinished<A>
         ensures hooks { Hooks limit result plain }
-        ensures nothing { result.hooked ≡ hooked.Nothing }
+        ensures nothing { result.dcs_payload ≡ dcs_payload.Nothing }
     {
         Unfinished {
-            hooked: Hooked::Nothing,
+            dcs_payload: DcsPayload::Nothing,
             data: Count::new(),
             limit,
         }
@@ -48,18 +48,18 @@ impl<A: Allocator + Copy> Unfinished<A> {
     #[tactic(auto, unfolding(crate::specs::Fed::Hooks))]
     pub fn restart(&mut self)
         ensures hooks { Hooking self.old (λ limit m. Hooks limit self.new plain) }
-        ensures nothing { self.new.hooked ≡ hooked.Nothing }
+        ensures nothing { self.new.dcs_payload ≡ dcs_payload.Nothing }
     {
-        if let Hooked::Nothing = self.hooked {
+        if let DcsPayload::Nothing = self.dcs_payload {
             return;
         }
-        self.hooked = Hooked::Nothing;
+        self.dcs_payload = DcsPayload::Nothing;
     }
 
     /// What is unfinished, in place of which nothing is.
     pub fn take(&mut self) -> Unfinished<A>
         ensures taken { result ≡ self.old }
-        ensures nothing { self.new.hooked ≡ hooked.Nothing }
+        ensures nothing { self.new.dcs_payload ≡ dcs_payload.Nothing }
     {
         let empty = Unfinished::new(self.limit);
         mem::replace(self, empty)
@@ -76,10 +76,10 @@ impl<A: Allocator + Copy> Unfinished<A> {
         intermediates: &[u8],
     ) -> Result<(), AllocError>
         ensures ok { Hooking self.old (λ limit m. OnOk result
-            (Hooks limit self.new (opened kind byte params.now intermediates.now))) }
+            (Hooks limit self.new (mode_at_hook kind byte params.now intermediates.now))) }
         ensures refused { OnErr result (Refused A) }
     {
-        self.hooked = begin(alloc, kind, byte, params, intermediates)?;
+        self.dcs_payload = begin(alloc, kind, byte, params, intermediates)?;
         self.data.clear();
         Ok(())
     }
@@ -89,9 +89,9 @@ impl<A: Allocator + Copy> Unfinished<A> {
     #[inline]
     pub fn is_entered(&self) -> bool
         ensures entered { Hooking self.now (λ limit m. result ≡ is_entered m) }
-        ensures mode { result ≡ is_mode self.now.hooked }
+        ensures mode { result ≡ is_mode self.now.dcs_payload }
     {
-        matches!(self.hooked, Hooked::Entered)
+        matches!(self.dcs_payload, DcsPayload::Entered)
     }
 
     /// How many bytes of its data come first in `bytes`, where only its end makes an action: those
@@ -102,13 +102,14 @@ impl<A: Allocator + Copy> Unfinished<A> {
         ensures few { result ≤ length bytes.now }
         ensures run { list_all is_data_byte (take result bytes.now) ≡ true }
         ensures kept { 0 < result → Hooking self.now (λ limit m. keeps_data m ≡ true) }
-        ensures nothing { self.now.hooked ≡ hooked.Nothing → result ≡ 0 }
+        ensures nothing { self.now.dcs_payload ≡ dcs_payload.Nothing → result ≡ 0 }
     {
-        match self.hooked {
-            Hooked::Nothing | Hooked::Entered => 0,
-            Hooked::Sixel(_) | Hooked::Termcap(_) | Hooked::Short(_) | Hooked::Over => {
-                data_run(bytes)
-            }
+        match self.dcs_payload {
+            DcsPayload::Nothing | DcsPayload::Entered => 0,
+            DcsPayload::Sixel(_)
+            | DcsPayload::Termcap(_)
+            | DcsPayload::Short(_)
+            | DcsPayload::Over => { data_run(bytes) }
         }
     }
 
@@ -117,29 +118,29 @@ impl<A: Allocator + Copy> Unfinished<A> {
     #[inline]
     pub fn push(&mut self, byte: u8) -> Result<(), AllocError>
         ensures hooks { Hooking self.old (λ limit m. OnOk result
-            (Hooks limit self.new (taken m byte))) }
-        ensures mode { OnOk result (is_mode self.new.hooked ≡ is_mode self.old.hooked) }
+            (Hooks limit self.new (mode_with_byte m byte))) }
+        ensures mode { OnOk result (is_mode self.new.dcs_payload ≡ is_mode self.old.dcs_payload) }
         ensures refused { OnErr result (Refused A) }
     {
-        match &mut self.hooked {
-            Hooked::Nothing | Hooked::Entered | Hooked::Over => return Ok(()),
-            Hooked::Sixel(text) => {
+        match &mut self.dcs_payload {
+            DcsPayload::Nothing | DcsPayload::Entered | DcsPayload::Over => return Ok(()),
+            DcsPayload::Sixel(text) => {
                 if self.data.add(self.limit, 1) {
                     return text.push(byte);
                 }
             }
-            Hooked::Termcap(builder) => {
+            DcsPayload::Termcap(builder) => {
                 if self.data.add(self.limit, 1) {
                     return builder.push(byte);
                 }
             }
-            Hooked::Short(builder) => {
+            DcsPayload::Short(builder) => {
                 if self.data.add(self.limit, 1) {
                     return builder.push(byte);
                 }
             }
         }
-        self.hooked = Hooked::Over;
+        self.dcs_payload = DcsPayload::Over;
         Ok(())
     }
 
@@ -173,11 +174,11 @@ impl<A: Allocator + Copy> Unfinished<A> {
         ensures refused { OnErr result (Refused A) }
     {
         self.data.bytes += bytes.len();
-        match &mut self.hooked {
-            Hooked::Nothing | Hooked::Entered | Hooked::Over => Ok(()),
-            Hooked::Sixel(text) => text.push_run(bytes),
-            Hooked::Termcap(builder) => builder.push_run(bytes),
-            Hooked::Short(builder) => builder.push_run(bytes),
+        match &mut self.dcs_payload {
+            DcsPayload::Nothing | DcsPayload::Entered | DcsPayload::Over => Ok(()),
+            DcsPayload::Sixel(text) => text.push_run(bytes),
+            DcsPayload::Termcap(builder) => builder.push_run(bytes),
+            DcsPayload::Short(builder) => builder.push_run(bytes),
         }
     }
 
@@ -186,9 +187,9 @@ impl<A: Allocator + Copy> Unfinished<A> {
     #[inline]
     pub fn is_sixel(&self) -> bool
         ensures { IsTrue result → Hooking self.now (λ limit m.
-            list_all (is_image {A = A}) (closed_gives limit m) ≡ true) }
+            list_all (is_image {A = A}) (unhook_values limit m) ≡ true) }
     {
-        matches!(self.hooked, Hooked::Sixel(_))
+        matches!(self.dcs_payload, DcsPayload::Sixel(_))
     }
 
     /// Drops all that is kept. Nothing is unfinished then.
@@ -196,7 +197,7 @@ impl<A: Allocator + Copy> Unfinished<A> {
     pub fn clear(&mut self)
         ensures { Hooking self.old (λ limit m. Hooks limit self.new plain) }
     {
-        self.hooked = Hooked::Nothing;
+        self.dcs_payload = DcsPayload::Nothing;
     }
 
     /// The action of its end, where it has one. Nothing is unfinished then.
@@ -204,10 +205,13 @@ impl<A: Allocator + Copy> Unfinished<A> {
     pub fn end(&mut self, alloc: A) -> Result<Option<Action<A>>, AllocError>
         ensures hooks { Hooking self.old (λ limit m. Hooks limit self.new plain) }
         ensures gives { Hooking self.old (λ limit m. IfOk result
-            (λ o. option_to_list (option_map value_of o) ≡ closed_gives limit m)) }
+            (λ o. option_to_list (option_map value_of o) ≡ unhook_values limit m)) }
         ensures refused { OnErr result (Refused A) }
     {
-        end(alloc, mem::replace(&mut self.hooked, Hooked::Nothing))
+        end(
+            alloc,
+            mem::replace(&mut self.dcs_payload, DcsPayload::Nothing),
+        )
     }
 
     /// How many bytes of its data are kept; 0 once they passed the limit, and where none have to
@@ -216,11 +220,13 @@ impl<A: Allocator + Copy> Unfinished<A> {
     pub fn kept(&self) -> usize
         ensures counts { Hooking self.now (λ limit m.
             result ≡ min (kept_within limit (data_count m)) most) }
-        ensures nothing { self.now.hooked ≡ hooked.Nothing → result ≡ 0 }
+        ensures nothing { self.now.dcs_payload ≡ dcs_payload.Nothing → result ≡ 0 }
     {
-        match self.hooked {
-            Hooked::Nothing | Hooked::Entered | Hooked::Over => 0,
-            Hooked::Sixel(_) | Hooked::Termcap(_) | Hooked::Short(_) => self.data.value(),
+        match self.dcs_payload {
+            DcsPayload::Nothing | DcsPayload::Entered | DcsPayload::Over => 0,
+            DcsPayload::Sixel(_) | DcsPayload::Termcap(_) | DcsPayload::Short(_) => self
+                .data
+                .value(),
         }
     }
 }

@@ -3,10 +3,10 @@ use Rattle.std.specs.Prelude.{true, false, List, [], ◌∷◌, Option, Some, No
 use Rattle.esc_values.specs.declared.csi_param.CsiParam.{CsiParam}
 use Rattle.esc_sequences.specs.declared.intensity.Intensity.TheVariants as intensity
 use Rattle.esc_sequences.specs.declared.underline.Underline.TheVariants as underline
-use Rattle.esc_typed.specs.declared.blink.Blink.TheVariants as blink
-use Rattle.esc_typed.specs.declared.color_spec.ColorSpec.TheVariants as color
-use Rattle.esc_typed.specs.declared.rendition.Rendition.{Rendition}
-use Rattle.esc_typed.specs.declared.rendition.Rendition.TheVariants.{Reset, Intensity, Italic, Underline, Blink, Inverse, Invisible, StrikeThrough, AnsiForeground, AnsiBackground, Foreground, Background, UnderlineColor, Overline}
+use Rattle.typed_functions.specs.declared.blink.Blink.TheVariants as blink
+use Rattle.typed_functions.specs.declared.color_spec.ColorSpec.TheVariants as color
+use Rattle.typed_functions.specs.declared.rendition.Rendition.{Rendition}
+use Rattle.typed_functions.specs.declared.rendition.Rendition.TheVariants.{Reset, Intensity, Italic, Underline, Blink, Inverse, Invisible, StrikeThrough, AnsiForeground, AnsiBackground, Foreground, Background, UnderlineColor, Overline}
 use Rattle.esc_pen.specs.declared.ink.Ink.{Ink}
 use Rattle.esc_pen.specs.declared.ink.Ink.TheVariants as ink
 use Rattle.esc_pen.specs.declared.pen.Pen.{Pen}

@@ -4,11 +4,11 @@ use Rattle.esc_sequences.specs.declared.intensity.Intensity.{Intensity}
 use Rattle.esc_sequences.specs.declared.intensity.Intensity.TheVariants as intensity
 use Rattle.esc_sequences.specs.declared.underline.Underline.{Underline}
 use Rattle.esc_sequences.specs.declared.underline.Underline.TheVariants as underline
-use Rattle.esc_typed.specs.Numbers.{ansi_color_number}
-use Rattle.esc_typed.specs.declared.blink.Blink.{Blink}
-use Rattle.esc_typed.specs.declared.blink.Blink.TheVariants as blink
-use Rattle.esc_typed.specs.declared.color_spec.ColorSpec.{ColorSpec}
-use Rattle.esc_typed.specs.declared.color_spec.ColorSpec.TheVariants as color
+use Rattle.typed_functions.specs.Numbers.{ansi_color_number}
+use Rattle.typed_functions.specs.declared.blink.Blink.{Blink}
+use Rattle.typed_functions.specs.declared.blink.Blink.TheVariants as blink
+use Rattle.typed_functions.specs.declared.color_spec.ColorSpec.{ColorSpec}
+use Rattle.typed_functions.specs.declared.color_spec.ColorSpec.TheVariants as color
 use Rattle.esc_pen.specs.declared.ink.Ink.{Ink}
 use Rattle.esc_pen.specs.declared.ink.Ink.TheVariants as ink
 use Rattle.esc_pen.specs.declared.pen.Pen.{Pen}

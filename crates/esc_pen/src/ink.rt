@@ -1,6 +1,6 @@
 //! Colours, as a stream names them.
 
-use esc_typed::{AnsiColor, ColorSpec};
+use typed_functions::{AnsiColor, ColorSpec};
 
 /// A colour of characters or of their background, as a rendition names it.
 #[derive(Clone, Copy, Debug, PartialEq, Eq)]

@@ -1,12 +1,12 @@
 //! How characters are written from here on.
 ghost use Rattle.std.specs.Prelude.{◌≡◌, ◌∷◌, [], IsTrue};
 ghost use Rattle.esc_pen.specs.Pens.{pen_by, pen_by_all, pen_by_optional, plain_pen};
-ghost use Rattle.esc_typed.specs.Selections.{left, selection_of, selections};
+ghost use Rattle.typed_functions.specs.Selections.{left, selection_of, selections};
 
 use crate::ink::Ink;
 use esc_sequences::{Intensity, Underline};
-use esc_typed::{Blink, ColorSpec, Rendition, Renditions};
 use esc_values::CsiParam;
+use typed_functions::{Blink, ColorSpec, Rendition, Renditions};
 
 /// How characters are written from here on: the renditions that hold for them (ECMA-48, 8.3.117,
 /// SGR; xterm's list, "Character Attributes (SGR)"). Fonts, frames, marks of ideograms, and how

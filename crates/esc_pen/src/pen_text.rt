@@ -2,15 +2,15 @@
 ghost use Rattle.std.specs.Prelude.{◌≡◌, ◌≤◌, ◌<◌, ◌++◌, OnErr, OnOk, string_bytes};
 ghost use Rattle.std.specs.Str.{IsAscii};
 ghost use Rattle.esc_pen.specs.Texts.{blink_text, color_text, colors_text, flag_text, flags_text, ink_text, intensity_text, named_number, number_text, pen_text, rgb_text, sequence, underline_text};
-ghost use Rattle.memory.specs.Refusals.{Refused};
+ghost use Rattle.fallible_alloc.specs.Refusals.{Refused};
 
 use crate::ink::Ink;
 use crate::pen::Pen;
 use esc_sequences::{Intensity, Underline};
-use esc_typed::{Blink, ColorSpec};
 use esc_values::RgbColor;
 use esc_values::ascii::as_str;
 use std::alloc::{AllocError, Allocator};
+use typed_functions::{Blink, ColorSpec};
 
 impl Pen {
     /// Appends a control sequence for each of its renditions: these make it of a plain one, for
@@ -20,9 +20,9 @@ impl Pen {
             ≡ string_bytes text.old ++ pen_text self.now) }
         ensures refused { OnErr result (Refused A) }
     {
-        memory::push_str(text, intensity_text(self.intensity))?;
-        memory::push_str(text, underline_text(self.underline))?;
-        memory::push_str(text, blink_text(self.blink))?;
+        fallible_alloc::push_str(text, intensity_text(self.intensity))?;
+        fallible_alloc::push_str(text, underline_text(self.underline))?;
+        fallible_alloc::push_str(text, blink_text(self.blink))?;
         self.push_flags(text)?;
         self.push_colors(text)
     }
@@ -67,9 +67,9 @@ fn push_sequence<A: Allocator>(text: &mut String<A>, body: &str) -> Result<(), A
         ≡ string_bytes text.old ++ sequence body.now) }
     ensures refused { OnErr result (Refused A) }
 {
-    memory::push_str(text, "\x1b[")?;
-    memory::push_str(text, body)?;
-    memory::push_str(text, "m")
+    fallible_alloc::push_str(text, "\x1b[")?;
+    fallible_alloc::push_str(text, body)?;
+    fallible_alloc::push_str(text, "m")
 }
 
 // Appends that of a colour: by its name its number, from this one on, or after this one.
@@ -95,9 +95,9 @@ fn push_named<A: Allocator>(text: &mut String<A>, number: u8) -> Result<(), Allo
         ≡ string_bytes text.old ++ sequence (number_text number)) }
     ensures refused { OnErr result (Refused A) }
 {
-    memory::push_str(text, "\x1b[")?;
+    fallible_alloc::push_str(text, "\x1b[")?;
     push_number(text, number)?;
-    memory::push_str(text, "m")
+    fallible_alloc::push_str(text, "m")
 }
 
 fn push_color<A: Allocator>(
@@ -114,18 +114,18 @@ fn push_color<A: Allocator>(
     match color {
         ColorSpec::Default => Ok(()),
         ColorSpec::PaletteIndex(number) => {
-            memory::push_str(text, "\x1b[")?;
-            memory::push_str(text, target)?;
+            fallible_alloc::push_str(text, "\x1b[")?;
+            fallible_alloc::push_str(text, target)?;
             push_ascii(text, &[separator, b'5', separator])?;
             push_number(text, number)?;
-            memory::push_str(text, "m")
+            fallible_alloc::push_str(text, "m")
         }
         ColorSpec::TrueColor(color) => {
-            memory::push_str(text, "\x1b[")?;
-            memory::push_str(text, target)?;
+            fallible_alloc::push_str(text, "\x1b[")?;
+            fallible_alloc::push_str(text, target)?;
             push_ascii(text, &[separator, b'2'])?;
             push_rgb(text, separator, color)?;
-            memory::push_str(text, "m")
+            fallible_alloc::push_str(text, "m")
         }
     }
 }
@@ -171,7 +171,7 @@ fn push_ascii<A: Allocator>(text: &mut String<A>, bytes: &[u8]) -> Result<(), Al
     ensures ok { OnOk result (string_bytes text.new ≡ string_bytes text.old ++ bytes.now) }
     ensures refused { OnErr result (Refused A) }
 {
-    memory::push_str(text, as_str(bytes))
+    fallible_alloc::push_str(text, as_str(bytes))
 }
 
 // The number of a colour that has a name.

@@ -10,7 +10,7 @@ use Rattle.esc_values.proofs.ClearPairs.{IsClearPair, key_clear}
 use Rattle.esc_values.proofs.Signed.{signed_where}
 use Rattle.esc_values.proofs.Where.{Where, where_if, where_map, where_then, anything}
 use Rattle.esc_prompts.specs.Pairs.{KeyValues, keys_of, last_values}
-use Rattle.esc_prompts.specs.Prompts.{IsAid, IsWritablePrompt, aid_and_click, aid_of, alone, click_in, kind_among, lettered, prompt_of, status_of}
+use Rattle.esc_prompts.specs.Prompts.{IsAid, IsWritablePrompt, aid_and_click, aid_of, lone_prompt, click_in, kind_among, prompt_of_letter, prompt_of, status_of}
 use Rattle.esc_prompts.specs.declared.click.FinalTermClick.{FinalTermClick}
 use Rattle.esc_prompts.specs.declared.prompt.FinalTermSemanticPrompt.{FinalTermSemanticPrompt}
 use Rattle.esc_prompts.specs.declared.prompt.FinalTermSemanticPrompt.TheVariants as prompt
@@ -81,12 +81,12 @@ status_good A (s ∷ args) h =
     (aid_of args) (aid_where args h.1)
 
 alone_good : (A : Type 0) (p : FinalTermSemanticPrompt A) (args : List (List ℕ)) → Good A p
-    → Where (Good A) (alone p args)
+    → Where (Good A) (lone_prompt p args)
 alone_good A p [] h = h
 alone_good A p (a ∷ args) h = tt
 
 lettered_good : (A : Type 0) (c : ℕ) (args : List (List ℕ)) → AreClearParts args
-    → Where (Good A) (lettered {A = A} c args)
+    → Where (Good A) (prompt_of_letter {A = A} c args)
 lettered_good A c args h =
     where_if (Good A) (c == 0x4c) _ _ (alone_good A prompt.FreshLine args tt)
     (where_if (Good A) (c == 0x41) _ _ (where_map First (Good A)

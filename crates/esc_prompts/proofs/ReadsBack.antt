@@ -6,7 +6,7 @@ use Rattle.std.specs.Option.{option_map, unwrap_or}
 use Rattle.std.proofs.lemmas.Bool.{ne_eqb}
 use Rattle.std.proofs.lemmas.List.{append-nil, length-append}
 use Rattle.esc_values.proofs.Numerals.{signed_part}
-use Rattle.esc_values.specs.Clear.{separated, IsClearPart, AreClearParts}
+use Rattle.esc_values.specs.Clear.{separated_parts, IsClearPart, AreClearParts}
 use Rattle.esc_values.specs.Cuts.{Pairs, pair_text, pairs_in, without_empty}
 use Rattle.esc_values.specs.Fields.{written}
 use Rattle.esc_values.specs.Scalars.{and_then, IsSigned}
@@ -76,14 +76,15 @@ parts_clear (e ∷ es) h = (
 
 -- their text
 keys_joined : (aid : Option (List ℕ)) (cl : Option FinalTermClick)
-    → aid_text aid ++ click_text cl ≡ separated (map pair_text (keys aid cl))
+    → aid_text aid ++ click_text cl ≡ separated_parts (map pair_text (keys aid cl))
 keys_joined None None = refl
 keys_joined None (Some c) = ap (λ t. codes ";cl=" ++ t) (sym (append-nil (click_word c)))
 keys_joined (Some a) None = refl
 keys_joined (Some a) (Some c) =
     ap (λ t. codes ";aid=" ++ (a ++ (codes ";cl=" ++ t))) (sym (append-nil (click_word c)))
 
-aid_joined : (aid : Option (List ℕ)) → aid_text aid ≡ separated (map pair_text (keys aid None))
+aid_joined : (aid : Option (List ℕ)) → aid_text aid
+    ≡ separated_parts (map pair_text (keys aid None))
 aid_joined None = refl
 aid_joined (Some a) = ap (λ t. codes ";aid=" ++ t) (sym (append-nil a))
 
@@ -190,7 +191,7 @@ status_back A s args aid h e =
     ∙ ap (option_map (λ aid. prompt.CommandStatus s aid)) e
 
 status_text : (s a : List ℕ) → codes "133;D;" ++ s ++ codes ";err=" ++ s ++ codes ";aid=" ++ a
-    ≡ codes "133;D" ++ separated (s ∷ map pair_text (err_keys s a))
+    ≡ codes "133;D" ++ separated_parts (s ∷ map pair_text (err_keys s a))
 status_text s a = simp (append_assoc, append-nil)
 
 ended : (A : Type 0) (s : ℤ) (aid : Option (List ℕ)) → IsSigned 32 s → IsAid aid

@@ -13,10 +13,10 @@ use Rattle.esc_prompts.specs.declared.prompt_kind.FinalTermPromptKind.{FinalTerm
 use Rattle.esc_prompts.specs.declared.prompt_kind.FinalTermPromptKind.TheVariants as kind
 
 -- a prompt of a letter that comes alone
-abbrev pub alone : {A : Type 0} → FinalTermSemanticPrompt A → List (List ℕ)
+abbrev pub lone_prompt : {A : Type 0} → FinalTermSemanticPrompt A → List (List ℕ)
     → Option (FinalTermSemanticPrompt A)
-alone p [] = Some p
-alone p (a ∷ args) = None
+lone_prompt p [] = Some p
+lone_prompt p (a ∷ args) = None
 
 -- the value of `cl`: absent, or one of its words
 abbrev pub click_in : Option (List ℕ) → Option (Option FinalTermClick)
@@ -47,15 +47,15 @@ status_of (s ∷ args) =
     option_map (λ aid. prompt.CommandStatus (unwrap_or (signed_of 32 s) (pos 0)) aid) (aid_of args)
 
 -- what a letter makes of the parts after it, one line a letter
-abbrev pub lettered : {A : Type 0} → ℕ → List (List ℕ) → Option (FinalTermSemanticPrompt A)
-lettered c args = if c == 0x4c then alone prompt.FreshLine args
+abbrev pub prompt_of_letter : {A : Type 0} → ℕ → List (List ℕ) → Option (FinalTermSemanticPrompt A)
+prompt_of_letter c args = if c == 0x4c then lone_prompt prompt.FreshLine args
     else if c == 0x41 then option_map (λ (f : Option (List ℕ)
     × Option FinalTermClick). prompt.FreshLineAndStartPrompt f.0 f.1) (aid_and_click args)
     else if c == 0x4e then option_map (λ (f : Option (List ℕ)
     × Option FinalTermClick). prompt.MarkEndOfCommandWithFreshLine f.0 f.1) (aid_and_click args)
     else if c == 0x50 then option_map prompt.StartPrompt (kind_among args)
-    else if c == 0x42 then alone prompt.MarkEndOfPromptAndStartOfInputUntilNextMarker args
-    else if c == 0x49 then alone prompt.MarkEndOfPromptAndStartOfInputUntilEndOfLine args
+    else if c == 0x42 then lone_prompt prompt.MarkEndOfPromptAndStartOfInputUntilNextMarker args
+    else if c == 0x49 then lone_prompt prompt.MarkEndOfPromptAndStartOfInputUntilEndOfLine args
     else if c == 0x43 then option_map prompt.MarkEndOfInputAndStartOfOutput (aid_of args)
     else if c == 0x44 then status_of args
     else None
@@ -63,7 +63,7 @@ lettered c args = if c == 0x4c then alone prompt.FreshLine args
 -- the prompt of the parts after the code: a letter alone in the first of them, and what it makes of
 -- the others
 abbrev pub prompt_of : {A : Type 0} → List (List ℕ) → Option (FinalTermSemanticPrompt A)
-prompt_of ((c ∷ []) ∷ args) = lettered c args
+prompt_of ((c ∷ []) ∷ args) = prompt_of_letter c args
 prompt_of args = None
 
 -- `aid` and its value, where it has one

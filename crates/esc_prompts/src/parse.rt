@@ -1,8 +1,8 @@
 //! How semantic prompts are read.
 ghost use Rattle.std.specs.Prelude.{◌≡◌, IfOk, OnErr, map};
 ghost use Rattle.std.specs.Option.{option_map};
-ghost use Rattle.esc_prompts.specs.Prompts.{aid_and_click, aid_of, alone, click_in, kind_among, kind_in, lettered, prompt_of, status_of};
-ghost use Rattle.memory.specs.Refusals.{Refused};
+ghost use Rattle.esc_prompts.specs.Prompts.{aid_and_click, aid_of, lone_prompt, click_in, kind_among, kind_in, prompt_of_letter, prompt_of, status_of};
+ghost use Rattle.fallible_alloc.specs.Refusals.{Refused};
 
 use crate::click::FinalTermClick;
 use crate::keys::read_keys;
@@ -45,7 +45,7 @@ fn read_by_letter<A: Allocator>(
     letter: u8,
     args: &[&[u8]],
 ) -> Result<Option<FinalTermSemanticPrompt<A>>, AllocError>
-    ensures ok { IfOk result (λ p. p ≡ lettered letter (map (λ p. p.now) args.now)) }
+    ensures ok { IfOk result (λ p. p ≡ prompt_of_letter letter (map (λ p. p.now) args.now)) }
     ensures refused { OnErr result (Refused A) }
 {
     match letter {
@@ -72,7 +72,7 @@ fn read_alone<A: Allocator>(
     prompt: FinalTermSemanticPrompt<A>,
     args: &[&[u8]],
 ) -> Option<FinalTermSemanticPrompt<A>>
-    ensures { result ≡ alone prompt (map (λ p. p.now) args.now) }
+    ensures { result ≡ lone_prompt prompt (map (λ p. p.now) args.now) }
 {
     if args.is_empty() { Some(prompt) } else { None }
 }
@@ -82,7 +82,7 @@ fn read_start<A: Allocator>(
     alloc: A,
     args: &[&[u8]],
 ) -> Result<Option<FinalTermSemanticPrompt<A>>, AllocError>
-    ensures ok { IfOk result (λ p. p ≡ lettered 0x41 (map (λ p. p.now) args.now)) }
+    ensures ok { IfOk result (λ p. p ≡ prompt_of_letter 0x41 (map (λ p. p.now) args.now)) }
     ensures refused { OnErr result (Refused A) }
 {
     match read_aid_and_click(alloc, args)? {
@@ -96,7 +96,7 @@ fn read_end<A: Allocator>(
     alloc: A,
     args: &[&[u8]],
 ) -> Result<Option<FinalTermSemanticPrompt<A>>, AllocError>
-    ensures ok { IfOk result (λ p. p ≡ lettered 0x4e (map (λ p. p.now) args.now)) }
+    ensures ok { IfOk result (λ p. p ≡ prompt_of_letter 0x4e (map (λ p. p.now) args.now)) }
     ensures refused { OnErr result (Refused A) }
 {
     let Some((aid, cl)) = read_aid_and_click(alloc, args)? else {
@@ -107,7 +107,7 @@ fn read_end<A: Allocator>(
 
 // A prompt of some kind.
 fn read_start_of_kind<A: Allocator>(args: &[&[u8]]) -> Option<FinalTermSemanticPrompt<A>>
-    ensures { result ≡ lettered 0x50 (map (λ p. p.now) args.now) }
+    ensures { result ≡ prompt_of_letter 0x50 (map (λ p. p.now) args.now) }
 {
     match read_kind_among(args) {
         Some(kind) => Some(FinalTermSemanticPrompt::StartPrompt(kind)),
@@ -120,7 +120,7 @@ fn read_output<A: Allocator>(
     alloc: A,
     args: &[&[u8]],
 ) -> Result<Option<FinalTermSemanticPrompt<A>>, AllocError>
-    ensures ok { IfOk result (λ p. p ≡ lettered 0x43 (map (λ p. p.now) args.now)) }
+    ensures ok { IfOk result (λ p. p ≡ prompt_of_letter 0x43 (map (λ p. p.now) args.now)) }
     ensures refused { OnErr result (Refused A) }
 {
     match read_aid(alloc, args)? {

@@ -5,16 +5,16 @@ use Rattle.esc_account.specs.Judges.{GoesBy}
 use Rattle.esc_account.specs.Ledgers.{IsCounted}
 use Rattle.esc_account.specs.Passing.{AllPass, IsPassing, passed_as, says}
 use Rattle.esc_account.specs.Rules.{rule_of}
-use Rattle.esc_account.specs.Ways.{IsToldBy, Way, by_lines, silent, whole}
+use Rattle.esc_account.specs.Ways.{IsToldBy, Way, by_lines, silent_way, whole_way}
 use Rattle.esc_account.specs.declared.book.Book.{Ghosts as Writer}
 use Rattle.esc_account.specs.declared.policy_judge.PolicyJudge.{PolicyJudge}
-use Rattle.esc_decode.specs.Decodings.{decoded}
+use Rattle.esc_decode.specs.Decodings.{decoded_stream}
 use Rattle.esc_filter.specs.declared.admit.Admit.{Ghosts as Admitter}
 use Rattle.esc_frame.specs.Segments.{Segment as Shape, bytes_of}
-use Rattle.esc_reveal.specs.declared.marking.Marking.{Marking}
+use Rattle.caret_notation.specs.declared.marking.Marking.{Marking}
 use Rattle.esc_sanitize.specs.Audits.{HeardAll, IsAudited, Told, account_of, way_by, way_of}
 use Rattle.esc_sanitize.specs.Fates.{shown_as}
-use Rattle.esc_sanitize.specs.Judged.{judged, rule_by}
+use Rattle.esc_sanitize.specs.Judged.{judged_rule, rule_by}
 use Rattle.esc_sanitize.specs.Written.{passed_of}
 use Rattle.esc_sanitize.specs.declared.auditor.Auditor.{Auditor}
 use Rattle.esc_sanitize.specs.declared.auditor.Auditor.TheVariants as auditors
@@ -34,10 +34,11 @@ told V W (auditors.Whole k) w s t heard e few =
     (h.0, (h.1.0, h.1.1, h.1.2))
 
 pub audited : {P B A : Type 0} (V : Admitter P A) (W : Writer B A) (o : FilterOptions P)
-    (a : Auditor P B A) (s : List ℕ) → HeardAll V W a (decoded o.encoding s) (passed_of V o s)
+    (a : Auditor P B A) (s : List ℕ)
+    → HeardAll V W a (decoded_stream o.encoding s) (passed_of V o s)
     → way_of V a ≡ way_by V o → IsAudited V W o a s
 audited V W o a s heard way = record {
-  told = told V W a (way_by V o) (decoded o.encoding s) (passed_of V o s) heard way;
+  told = told V W a (way_by V o) (decoded_stream o.encoding s) (passed_of V o s) heard way;
   heard = heard;
   way = way;
 }
@@ -67,9 +68,9 @@ shown_pass m r o n x h = (h.0, h.1, all_shown m r o n h.0 h.2)
 
 pub judged_is : {P A : Type 0} (V : Admitter P A) (p : PolicyJudge P A) (m : Option Marking)
     (o : FilterOptions P) → GoesBy p o.by_lines o.guard o.limit o.policy → m ≡ o.show
-    → judged V (record { policy = p; show = m }) ≡ rule_by V o
+    → judged_rule V (record { policy = p; show = m }) ≡ rule_by V o
 judged_is V p m o (l, u, n, q) e =
-    ap (λ k. judged V (record { policy = p; show = k })) e
+    ap (λ k. judged_rule V (record { policy = p; show = k })) e
     ∙ ap (λ b. λ x g f. shown_as o.show (bytes_of g) (rule_of b p.guard p.limit
     (V.admits p.policy) x g f)) l
     ∙ ap (λ v. λ x g f. shown_as o.show (bytes_of g) (rule_of o.by_lines v p.limit
@@ -80,25 +81,25 @@ judged_is V p m o (l, u, n, q) e =
     (V.admits c) x g f)) q
 
 module _ {P A : Type 0} (V : Admitter P A) (o : FilterOptions P) where
-  pub way_none : o.audits ≡ false → silent ≡ way_by V o
+  pub way_none : o.audits ≡ false → silent_way ≡ way_by V o
   way_none e =
-      ap (λ t. if t then (if o.by_lines then by_lines (rule_by V o) else whole (rule_by V o))
-      else silent) (sym e)
+      ap (λ t. if t then (if o.by_lines then by_lines (rule_by V o) else whole_way (rule_by V o))
+      else silent_way) (sym e)
 
   some_way : o.audits ≡ true
-      → (if o.by_lines then by_lines (rule_by V o) else whole (rule_by V o)) ≡ way_by V o
+      → (if o.by_lines then by_lines (rule_by V o) else whole_way (rule_by V o)) ≡ way_by V o
   some_way e =
-      ap (λ t. if t then (if o.by_lines then by_lines (rule_by V o) else whole (rule_by V o))
-      else silent) (sym e)
+      ap (λ t. if t then (if o.by_lines then by_lines (rule_by V o) else whole_way (rule_by V o))
+      else silent_way) (sym e)
 
   pub way_lines : (r : Rule) → o.audits ≡ true → o.by_lines ≡ true → r ≡ rule_by V o
       → by_lines r ≡ way_by V o
   way_lines r e l same =
       ap by_lines same
-      ∙ ap (λ t. if t then by_lines (rule_by V o) else whole (rule_by V o)) (sym l) ∙ some_way e
+      ∙ ap (λ t. if t then by_lines (rule_by V o) else whole_way (rule_by V o)) (sym l) ∙ some_way e
 
   pub way_whole : (r : Rule) → o.audits ≡ true → o.by_lines ≡ false → r ≡ rule_by V o
-      → whole r ≡ way_by V o
+      → whole_way r ≡ way_by V o
   way_whole r e l same =
-      ap whole same
-      ∙ ap (λ t. if t then by_lines (rule_by V o) else whole (rule_by V o)) (sym l) ∙ some_way e
+      ap whole_way same
+      ∙ ap (λ t. if t then by_lines (rule_by V o) else whole_way (rule_by V o)) (sym l) ∙ some_way e

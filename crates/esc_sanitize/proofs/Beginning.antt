@@ -4,11 +4,11 @@ use Rattle.esc_actions.specs.Values.{Value}
 use Rattle.esc_decode.specs.Decodings.{OnlyAdds}
 use Rattle.esc_filter.specs.declared.admit.Admit.{Ghosts as Admitter}
 use Rattle.esc_filter.specs.declared.guard.Guard.{Guard}
-use Rattle.esc_normal.specs.declared.feeding.Feeding.{Ghosts as Feeder}
-use Rattle.esc_reveal.proofs.Begins.{through_nothing}
-use Rattle.esc_reveal.specs.Through.{through, through_whole}
-use Rattle.esc_reveal.specs.declared.marking.Marking.{Marking}
-use Rattle.esc_reveal.specs.declared.reveal.Rule.{Rule}
+use Rattle.esc_normal.specs.declared.feeding.StreamFilter.{Ghosts as Feeder}
+use Rattle.caret_notation.proofs.Begins.{through_nothing}
+use Rattle.caret_notation.specs.Through.{through, through_whole}
+use Rattle.caret_notation.specs.declared.marking.Marking.{Marking}
+use Rattle.caret_notation.specs.declared.reveal.Rule.{Rule}
 use Rattle.esc_sanitize.proofs.Texts.{going_shown, through_adds, whole_shown}
 use Rattle.esc_sanitize.specs.Chains.{Begins}
 use Rattle.esc_sanitize.specs.Written.{closed_by, closed_of, going_by, opened_of, revealed_by, revealed_whole_by}

@@ -3,7 +3,7 @@ use Rattle.std.proofs.Common.{ℕ, ◌≡◌, Bool, true, false, List, Result, S
 use Rattle.std.specs.declared.io.traits.Read.{Ghosts as Reader}
 use Rattle.std.specs.declared.io.traits.Write.{Ghosts as Writer}
 use Rattle.esc_actions.specs.Values.{Value}
-use Rattle.esc_filter.proofs.Begun.{filters}
+use Rattle.esc_filter.proofs.Output.NothingWasFed.{filters}
 use Rattle.esc_filter.specs.Lines.{IsFilteredByLinesAs, closed_by_lines_as, text_by_lines_as}
 use Rattle.esc_filter.specs.Passing.{IsFilteredAs, closed_text_as, passed_text_as}
 use Rattle.esc_filter.specs.declared.admit.Admit.{Ghosts as Admitter}
@@ -11,21 +11,21 @@ use Rattle.esc_filter.specs.declared.guard.Guard.{Guard}
 use Rattle.esc_normal.specs.Io.{Borrowed}
 use Rattle.esc_normal.specs.Streams.{Filters, IsEither}
 use Rattle.esc_normal.specs.declared.filter_error.FilterError.{FilterError}
-use Rattle.esc_sanitize.specs.Written.{IsWritten, closed_by, going_by, going_of, is_passed_by, lined, passed_of, passing_of, seen_by, text_of}
+use Rattle.esc_sanitize.specs.Written.{IsWritten, closed_by, going_by, going_of, is_passed_by, lined_text, passed_of, passing_of, seen_by, text_of}
 use Rattle.esc_sanitize.specs.declared.options.FilterOptions.{FilterOptions}
 
 passed_by : {A : Type 0} (r : Bool) (u : Guard) (b : Bool) (limit : ℕ) (p : Value A → Bool)
     → ((s : List ℕ) → IsFilteredByLinesAs true u limit p s (closed_by_lines_as u limit p s))
     → ((s : List ℕ) → IsFilteredAs u true (Some limit) p s (closed_text_as u (Some limit) p s))
     → (s : List ℕ) → is_passed_by r u b true limit p s (closed_by r u b limit p s)
-passed_by r u true limit p lines all s = lines (lined r u limit p s)
+passed_by r u true limit p lines all s = lines (lined_text r u limit p s)
 passed_by r u false limit p lines all s = all s
 
 passing_by : {A : Type 0} (r : Bool) (u : Guard) (b : Bool) (limit : ℕ) (p : Value A → Bool)
     → ((s : List ℕ) → IsFilteredByLinesAs false u limit p s (text_by_lines_as u limit p s))
     → ((s : List ℕ) → IsFilteredAs u false (Some limit) p s (passed_text_as u (Some limit) p s))
     → (s : List ℕ) → is_passed_by r u b false limit p s (going_by r u b limit p s)
-passing_by r u true limit p lines all s = lines (lined r u limit p s)
+passing_by r u true limit p lines all s = lines (lined_text r u limit p s)
 passing_by r u false limit p lines all s = all s
 
 module _ {P A : Type 0} (V : Admitter P A) (o : FilterOptions P) where

@@ -1,51 +1,51 @@
 -- What is written is of pieces.
 use Rattle.std.proofs.Common.{ℕ, ◌≡◌, Bool, true, false, List, Option, Some, None, refl, sym, subst}
 use Rattle.esc_actions.specs.Values.{Value}
-use Rattle.esc_filter.proofs.Pieces.{least}
+use Rattle.esc_filter.proofs.Output.AdmittedTextsAreUnits.{least}
 use Rattle.esc_filter.specs.Lines.{closed_by_lines_as, text_by_lines_as}
 use Rattle.esc_filter.specs.Passing.{closed_text_as, passed_text_as}
-use Rattle.esc_filter.specs.Pieces.{AdmitsAtMost, IsColorText, IsOfPieces}
+use Rattle.esc_filter.specs.Tokens.{AdmitsAtMost, IsColorText, IsOfTokens}
 use Rattle.esc_filter.specs.declared.admit.Admit.{Ghosts as Admitter}
 use Rattle.esc_filter.specs.declared.guard.Guard.{Guard}
-use Rattle.esc_lines.specs.Streams.{final_of, left_of, values_of}
-use Rattle.esc_lines.specs.Windows.{Size}
-use Rattle.esc_sanitize.specs.Written.{OfAllWritten, closed_by, final_text, going_by, is_left_by, is_passed_by, left_text, lined, passed_of, passing_of, seen_by, size_of}
+use Rattle.line_collapse.specs.Streams.{final_of, left_of, values_of}
+use Rattle.line_collapse.specs.Windows.{Size}
+use Rattle.esc_sanitize.specs.Written.{OfAllWritten, closed_by, final_text, going_by, is_left_by, is_passed_by, left_text, lined_text, passed_of, passing_of, seen_by, size_of}
 use Rattle.esc_sanitize.specs.declared.options.FilterOptions.{FilterOptions}
 
 -- ---- what passes
 
 module _ (A : Type 0) (k : Bool)
     (goes_on : (u : Guard) (limit : Option ℕ) (f : Value A → Bool) → AdmitsAtMost (least k) f
-    → (s : List ℕ) → IsOfPieces k (passed_text_as u limit f s))
+    → (s : List ℕ) → IsOfTokens k (passed_text_as u limit f s))
     (ended : (u : Guard) (limit : Option ℕ) (f : Value A → Bool) → AdmitsAtMost (least k) f
-    → (s : List ℕ) → IsOfPieces k (closed_text_as u limit f s))
+    → (s : List ℕ) → IsOfTokens k (closed_text_as u limit f s))
     (by_lines : (u : Guard) (limit : ℕ) (f : Value A → Bool) → AdmitsAtMost (least k) f
-    → (s : List ℕ) → IsOfPieces k (text_by_lines_as u limit f s))
+    → (s : List ℕ) → IsOfTokens k (text_by_lines_as u limit f s))
     (ended_by_lines : (u : Guard) (limit : ℕ) (f : Value A → Bool) → AdmitsAtMost (least k) f
-    → (s : List ℕ) → IsOfPieces k (closed_by_lines_as u limit f s))
+    → (s : List ℕ) → IsOfTokens k (closed_by_lines_as u limit f s))
   where
     closed_pieces : (r : Bool) (u : Guard) (b : Bool) (limit : ℕ) (f : Value A → Bool)
-        → AdmitsAtMost (least k) f → (s : List ℕ) → IsOfPieces k (closed_by r u b limit f s)
+        → AdmitsAtMost (least k) f → (s : List ℕ) → IsOfTokens k (closed_by r u b limit f s)
     closed_pieces r u true limit f most s =
-        ended_by_lines u limit f most (lined r u limit f s)
+        ended_by_lines u limit f most (lined_text r u limit f s)
     closed_pieces r u false limit f most s = ended u (Some limit) f most s
 
     going_pieces : (r : Bool) (u : Guard) (b : Bool) (limit : ℕ) (f : Value A → Bool)
-        → AdmitsAtMost (least k) f → (s : List ℕ) → IsOfPieces k (going_by r u b limit f s)
-    going_pieces r u true limit f most s = by_lines u limit f most (lined r u limit f s)
+        → AdmitsAtMost (least k) f → (s : List ℕ) → IsOfTokens k (going_by r u b limit f s)
+    going_pieces r u true limit f most s = by_lines u limit f most (lined_text r u limit f s)
     going_pieces r u false limit f most s = goes_on u (Some limit) f most s
 
     passed_pieces : (r : Bool) (u : Guard) (b e : Bool) (limit : ℕ) (f : Value A → Bool)
         → AdmitsAtMost (least k) f → (s t : List ℕ) → is_passed_by r u b e limit f s t
-        → IsOfPieces k t
+        → IsOfTokens k t
     passed_pieces r u true true limit f most s t h =
-        subst (IsOfPieces k) (sym h.text) (ended_by_lines u limit f most (lined r u limit f s))
+        subst (IsOfTokens k) (sym h.text) (ended_by_lines u limit f most (lined_text r u limit f s))
     passed_pieces r u true false limit f most s t h =
-        subst (IsOfPieces k) (sym h.text) (by_lines u limit f most (lined r u limit f s))
+        subst (IsOfTokens k) (sym h.text) (by_lines u limit f most (lined_text r u limit f s))
     passed_pieces r u false true limit f most s t h =
-        subst (IsOfPieces k) (sym h.text) (ended u (Some limit) f most s)
+        subst (IsOfTokens k) (sym h.text) (ended u (Some limit) f most s)
     passed_pieces r u false false limit f most s t h =
-        subst (IsOfPieces k) (sym h.text) (goes_on u (Some limit) f most s)
+        subst (IsOfTokens k) (sym h.text) (goes_on u (Some limit) f most s)
 
     -- where no rows are written again
     left_alone : (b : Bool) (u t : List ℕ) → is_left_by A None b u t → t ≡ u
@@ -53,18 +53,18 @@ module _ (A : Type 0) (k : Bool)
     left_alone false u t e = e
 
     pub written_pieces : {P : Type 0} (V : Admitter P A) (o : FilterOptions P) → o.rows ≡ None
-        → AdmitsAtMost {A = A} (least k) (V.admits o.policy) → OfAllWritten V o (IsOfPieces k)
+        → AdmitsAtMost {A = A} (least k) (V.admits o.policy) → OfAllWritten V o (IsOfTokens k)
     written_pieces V o none most = (
-      λ s. subst (λ r. IsOfPieces k (left_text A r (passed_of V o s))) (sym none)
+      λ s. subst (λ r. IsOfTokens k (left_text A r (passed_of V o s))) (sym none)
           (closed_pieces o.resumes o.guard o.by_lines o.limit (V.admits o.policy) most
           (seen_by V o true s)),
-      λ s. subst (λ r. IsOfPieces k (final_text A r (passing_of V o s))) (sym none)
+      λ s. subst (λ r. IsOfTokens k (final_text A r (passing_of V o s))) (sym none)
           (going_pieces o.resumes o.guard o.by_lines o.limit (V.admits o.policy) most
           (seen_by V o false s)),
       λ b s t h.
           let same : t ≡ h.0 =
           left_alone b h.0 t (subst (λ r. is_left_by A r b h.0 t) none h.2) in
-          subst (IsOfPieces k) (sym same)
+          subst (IsOfTokens k) (sym same)
           (passed_pieces o.resumes o.guard o.by_lines b o.limit (V.admits o.policy) most
           (seen_by V o b s) h.0 h.1),
     )

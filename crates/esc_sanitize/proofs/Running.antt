@@ -2,10 +2,10 @@
 use Rattle.std.proofs.Common.{ℕ, ◌≡◌, List, [], ◌++◌, refl, sym, ap, ◌∙◌, subst}
 use Rattle.esc_account.specs.Ways.{Way}
 use Rattle.esc_account.specs.declared.book.Book.{Ghosts as Writer}
-use Rattle.esc_decode.specs.Decodings.{decoded}
+use Rattle.esc_decode.specs.Decodings.{decoded_stream}
 use Rattle.esc_decode.specs.declared.encoding.Encoding.{Encoding}
 use Rattle.esc_filter.specs.declared.admit.Admit.{Ghosts as Admitter}
-use Rattle.esc_normal.specs.declared.feeding.Feeding.{Ghosts as Feeder}
+use Rattle.esc_normal.specs.declared.feeding.StreamFilter.{Ghosts as Feeder}
 use Rattle.esc_sanitize.proofs.Following.{passed_longer, passing_longer}
 use Rattle.esc_sanitize.proofs.Texts.{rows_end, rows_longer, rows_none}
 use Rattle.esc_sanitize.specs.Audits.{HeardAll, way_by}
@@ -91,9 +91,9 @@ module _ {F P B A : Type 0} (G : Feeder F A) (V : Admitter P A) (W : Writer B A)
   pub run_heard : (n : Staged F P B A) → options_of n ≡ options_of k
       → HasHeard V W n.hearing s → HasListened V W e w text (auditor_of n) s
   run_heard n same heard = (
-    subst (λ j. HeardAll V W (auditor_of n) (decoded j s) (text s))
+    subst (λ j. HeardAll V W (auditor_of n) (decoded_stream j s) (text s))
         (ap (λ o. o.encoding) same ∙ h.coding)
-        (subst (HeardAll V W (auditor_of n) (decoded (options_of n).encoding s))
+        (subst (HeardAll V W (auditor_of n) (decoded_stream (options_of n).encoding s))
         (ap (λ o. passed_of V o s) same ∙ h.passed s) heard.0),
     heard.1 ∙ ap (way_by V) same ∙ h.way,
   )

@@ -2,34 +2,34 @@
 use Rattle.std.proofs.Common.{ℕ, ◌≡◌, Bool, true, false, List, [], ◌++◌, Option, None, Some, refl, ap, sym, subst, ◌∙◌, append_assoc}
 use Rattle.esc_actions.specs.Texts.{list_text, texts_after}
 use Rattle.esc_actions.specs.Values.{Value}
-use Rattle.esc_decode.specs.Decodings.{OnlyAdds, decoded}
+use Rattle.esc_decode.specs.Decodings.{OnlyAdds, decoded_stream}
 use Rattle.esc_decode.specs.declared.encoding.Encoding.{Encoding}
 use Rattle.esc_decode.specs.declared.encoding.Encoding.TheVariants.{CodePage, EightBit, Utf8}
-use Rattle.esc_filter.proofs.ByLines.{by_more, closed_longer}
-use Rattle.esc_filter.proofs.Closers.{closed_more}
-use Rattle.esc_filter.proofs.Resumes.{resumed_longer, resumed_more}
-use Rattle.esc_filter.proofs.Texts.{added_as, text_longer_as}
+use Rattle.esc_filter.proofs.ByLine.LinesAreStreams.{by_more, closed_longer}
+use Rattle.esc_filter.proofs.GivingBack.GivingBackIsWritable.{closed_more}
+use Rattle.esc_filter.proofs.Renditions.RenditionsAreResumed.{resumed_longer, resumed_more}
+use Rattle.esc_filter.proofs.Output.TextsGrow.{added_as, text_longer_as}
 use Rattle.esc_filter.specs.Closing.{closing}
 use Rattle.esc_filter.specs.Lines.{closed_by_lines_as, text_by_lines_as}
 use Rattle.esc_filter.specs.Openings.{resumed_closed, resumed_text}
 use Rattle.esc_filter.specs.Passing.{closed_text_as, passed_as, passed_text_as}
 use Rattle.esc_filter.specs.declared.admit.Admit.{Ghosts as Admitter}
 use Rattle.esc_filter.specs.declared.guard.Guard.{Guard}
-use Rattle.esc_lines.proofs.Streams.{final_after_nil, final_longer}
-use Rattle.esc_lines.specs.Streams.{open_of, values_of}
+use Rattle.line_collapse.proofs.Streams.{final_after_nil, final_longer}
+use Rattle.line_collapse.specs.Streams.{open_of, values_of}
 use Rattle.esc_normal.specs.Texts.{ends_in_string}
-use Rattle.esc_reveal.proofs.Begins.{through_longer}
-use Rattle.esc_reveal.proofs.Longer.{revealed_longer}
-use Rattle.esc_reveal.specs.Fed.{text_by, whole_by}
-use Rattle.esc_reveal.specs.Revealed.{revealed_as, revealed_whole_as}
-use Rattle.esc_reveal.specs.Through.{through, through_whole}
-use Rattle.esc_reveal.specs.declared.marking.Marking.{Marking}
-use Rattle.esc_reveal.specs.declared.reveal.Rule.{Rule}
+use Rattle.caret_notation.proofs.Begins.{through_longer}
+use Rattle.caret_notation.proofs.Longer.{revealed_longer}
+use Rattle.caret_notation.specs.Fed.{text_by, whole_by}
+use Rattle.caret_notation.specs.Revealed.{revealed_as, revealed_whole_as}
+use Rattle.caret_notation.specs.Through.{through, through_whole}
+use Rattle.caret_notation.specs.declared.marking.Marking.{Marking}
+use Rattle.caret_notation.specs.declared.reveal.Rule.{Rule}
 use Rattle.esc_sanitize.specs.Written.{final_text, left_text, revealed_by, revealed_whole_by, size_of}
 use Rattle.esc_sanitize.specs.declared.options.FilterOptions.{FilterOptions}
 
 -- nothing becomes nothing
-pub nothing_decoded : (e : Encoding) → decoded e [] ≡ []
+pub nothing_decoded : (e : Encoding) → decoded_stream e [] ≡ []
 nothing_decoded Utf8 = refl
 nothing_decoded EightBit = refl
 nothing_decoded (CodePage p) = refl

@@ -3,15 +3,15 @@ use Rattle.std.specs.Prelude.{ℕ, ◌≡◌, if◌then◌else◌, List, Option,
 use Rattle.std.specs.declared.io.traits.Read.{Ghosts as Reader}
 use Rattle.esc_account.specs.Accounts.{begun, total}
 use Rattle.esc_account.specs.Ledgers.{IsCounted, Keeps, Tells}
-use Rattle.esc_account.specs.Ways.{IsToldBy, Way, by_lines, silent, whole}
+use Rattle.esc_account.specs.Ways.{IsToldBy, Way, by_lines, silent_way, whole_way}
 use Rattle.esc_account.specs.Wholes.{Closes, Hears}
 use Rattle.esc_account.specs.declared.account.Account.{Account}
 use Rattle.esc_account.specs.declared.book.Book.{Ghosts as Writer}
 use Rattle.esc_account.specs.declared.judge.Judge.{Ghosts as Ruler}
-use Rattle.esc_decode.specs.Decodings.{decoded}
+use Rattle.esc_decode.specs.Decodings.{decoded_stream}
 use Rattle.esc_filter.specs.declared.admit.Admit.{Ghosts as Admitter}
 use Rattle.esc_normal.specs.Io.{Borrowed, Reads}
-use Rattle.esc_sanitize.specs.Judged.{judged, rule_by}
+use Rattle.esc_sanitize.specs.Judged.{judged_rule, rule_by}
 use Rattle.esc_sanitize.specs.Written.{passed_of}
 use Rattle.esc_sanitize.specs.declared.auditor.Auditor.{Auditor}
 use Rattle.esc_sanitize.specs.declared.auditor.Auditor.TheVariants as auditors
@@ -19,7 +19,7 @@ use Rattle.esc_sanitize.specs.declared.judging.Judging.{Judging}
 use Rattle.esc_sanitize.specs.declared.options.FilterOptions.{FilterOptions}
 
 abbrev pub ruler : {P A : Type 0} → Admitter P A → Ruler (Judging P A) A
-ruler V = record { rule = judged V }
+ruler V = record { rule = judged_rule V }
 
 -- it heard this stream, of which this text was written
 abbrev pub Heard : {P B A : Type 0} → Admitter P A → Writer B A → Auditor P B A → List ℕ → List ℕ
@@ -37,15 +37,15 @@ HeardAll V W (auditors.Whole k) s t = IsCounted s → Closes (ruler V) W k s
 
 -- what it goes by
 abbrev pub way_of : {P B A : Type 0} → Admitter P A → Auditor P B A → Way
-way_of V auditors.Nobody = silent
-way_of V (auditors.Lines k) = by_lines (judged V k.judge)
-way_of V (auditors.Whole k) = whole (judged V k.judge)
+way_of V auditors.Nobody = silent_way
+way_of V (auditors.Lines k) = by_lines (judged_rule V k.judge)
+way_of V (auditors.Whole k) = whole_way (judged_rule V k.judge)
 
 -- by the options
 abbrev pub way_by : {P A : Type 0} → Admitter P A → FilterOptions P → Way
 way_by V o = if o.audits
-    then (if o.by_lines then by_lines (rule_by V o) else whole (rule_by V o))
-    else silent
+    then (if o.by_lines then by_lines (rule_by V o) else whole_way (rule_by V o))
+    else silent_way
 
 -- its account
 abbrev pub account_of : {P B A : Type 0} → Auditor P B A → Option Account
@@ -61,7 +61,7 @@ account_or_none (Some x) = x
 -- the account of the stream s, of which t was written, by this; there is one, but where none is
 -- kept
 abbrev pub Told : Way → List ℕ → List ℕ → Option Account → Type 0
-Told w s t None = w ≡ silent
+Told w s t None = w ≡ silent_way
 Told w s t (Some x) = (total x.sums ≡ length s) × IsToldBy w s t x
 
 -- These bytes have ended, and the auditor goes by the options and heard all of what they become,
@@ -69,9 +69,9 @@ Told w s t (Some x) = (total x.sums ≡ length s) × IsToldBy w s t x
 -- bytes to be counted.
 pub record IsAudited {P B A : Type 0} (V : Admitter P A) (W : Writer B A) (o : FilterOptions P)
     (auditor : Auditor P B A) (s : List ℕ) : Type 0 where
-  pub told : IsCounted (decoded o.encoding s)
-      → Told (way_by V o) (decoded o.encoding s) (passed_of V o s) (account_of auditor)
-  pub heard : HeardAll V W auditor (decoded o.encoding s) (passed_of V o s)
+  pub told : IsCounted (decoded_stream o.encoding s)
+      → Told (way_by V o) (decoded_stream o.encoding s) (passed_of V o s) (account_of auditor)
+  pub heard : HeardAll V W auditor (decoded_stream o.encoding s) (passed_of V o s)
   pub way : way_of V auditor ≡ way_by V o
 
 -- the same of the bytes that a reader gave

@@ -1,7 +1,7 @@
 -- Filters, one before another.
 use Rattle.std.specs.Prelude.{ℕ, ◌≡◌, List, []}
 use Rattle.esc_decode.specs.Decodings.{OnlyAdds}
-use Rattle.esc_normal.specs.declared.feeding.Feeding.{Ghosts as Feeder}
+use Rattle.esc_normal.specs.declared.feeding.StreamFilter.{Ghosts as Feeder}
 use Rattle.esc_sanitize.specs.declared.either.Either.{Either}
 use Rattle.esc_sanitize.specs.declared.either.Either.TheVariants.{First, Second}
 

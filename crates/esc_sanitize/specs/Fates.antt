@@ -3,8 +3,8 @@ use Rattle.std.specs.Prelude.{ℕ, ◌-◌, nat_le, nat_lt, ◌&&◌, Bool, true
 use Rattle.esc_account.specs.declared.fate.Fate.{Fate}
 use Rattle.esc_account.specs.declared.fate.Fate.TheVariants as fates
 use Rattle.esc_account.specs.declared.verdict.Verdict.{Verdict}
-use Rattle.esc_reveal.specs.declared.marking.Marking.{Marking}
-use Rattle.esc_reveal.specs.declared.marking.Marking.TheVariants as markings
+use Rattle.caret_notation.specs.declared.marking.Marking.{Marking}
+use Rattle.caret_notation.specs.declared.marking.Marking.TheVariants as markings
 
 abbrev pub shown_by : Bool → Fate → Fate
 shown_by false f = f

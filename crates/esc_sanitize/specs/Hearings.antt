@@ -1,9 +1,9 @@
 -- A filter of what a stream becomes by its encoding, and the auditor of that.
 use Rattle.std.specs.Prelude.{ℕ, ◌≡◌, List, []}
 use Rattle.esc_account.specs.declared.book.Book.{Ghosts as Writer}
-use Rattle.esc_decode.specs.Decodings.{Decodes, decoded}
+use Rattle.esc_decode.specs.Decodings.{Decodes, decoded_stream}
 use Rattle.esc_filter.specs.declared.admit.Admit.{Ghosts as Admitter}
-use Rattle.esc_normal.specs.declared.feeding.Feeding.{Ghosts as Feeder}
+use Rattle.esc_normal.specs.declared.feeding.StreamFilter.{Ghosts as Feeder}
 use Rattle.esc_sanitize.specs.Audits.{Heard, HeardAll, way_by, way_of}
 use Rattle.esc_sanitize.specs.Written.{passed_of, passing_of}
 use Rattle.esc_sanitize.specs.declared.hearing.Hearing.{Hearing}
@@ -23,12 +23,12 @@ pub record Follows {F P B A : Type 0} (G : Feeder F A) (V : Admitter P A) (W : W
   pub goes_on : (x : List ℕ) → going x ≡ passing_of V h.options x
   pub ends : (x : List ℕ) → closed x ≡ passed_of V h.options x
   pub empty : passing_of V h.options [] ≡ []
-  pub heard : Heard V W h.auditor (decoded h.options.encoding s) (passing_of V h.options s)
+  pub heard : Heard V W h.auditor (decoded_stream h.options.encoding s) (passing_of V h.options s)
   pub way : way_of V h.auditor ≡ way_by V h.options
 
 -- the stream has ended, and the auditor heard all of it
 abbrev pub HasHeard : {F P B A : Type 0} → Admitter P A → Writer B A → Hearing F P B A → List ℕ
     → Type 0
 HasHeard V W h s =
-    HeardAll V W h.auditor (decoded h.options.encoding s) (passed_of V h.options s)
+    HeardAll V W h.auditor (decoded_stream h.options.encoding s) (passed_of V h.options s)
     × (way_of V h.auditor ≡ way_by V h.options)

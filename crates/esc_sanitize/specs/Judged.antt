@@ -7,8 +7,9 @@ use Rattle.esc_sanitize.specs.Fates.{shown_as}
 use Rattle.esc_sanitize.specs.declared.judging.Judging.{Judging}
 use Rattle.esc_sanitize.specs.declared.options.FilterOptions.{FilterOptions}
 
-abbrev pub judged : {P A : Type 0} → Admitter P A → Judging P A → Rule
-judged V j b g finished = shown_as j.show (bytes_of g) (rule_of j.policy.by_lines j.policy.guard
+abbrev pub judged_rule : {P A : Type 0} → Admitter P A → Judging P A → Rule
+judged_rule V j b g finished = shown_as j.show (bytes_of g)
+    (rule_of j.policy.by_lines j.policy.guard
     j.policy.limit (V.admits j.policy.policy) b g finished)
 
 abbrev pub rule_by : {P A : Type 0} → Admitter P A → FilterOptions P → Rule

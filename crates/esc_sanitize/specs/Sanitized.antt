@@ -7,8 +7,8 @@ use Rattle.esc_filter.specs.declared.admit.Admit.{Ghosts as Admitter}
 use Rattle.esc_filter.specs.declared.filter.Filter.{Filter}
 use Rattle.esc_filter.specs.declared.line_filter.LineFilter.{LineFilter}
 use Rattle.esc_filter.specs.declared.resuming.ResumingFilter.{ResumingFilter}
-use Rattle.esc_normal.specs.declared.feeding.Feeding.{Ghosts as Feeder}
-use Rattle.esc_reveal.specs.declared.revealing.Revealing.{Revealing}
+use Rattle.esc_normal.specs.declared.feeding.StreamFilter.{Ghosts as Feeder}
+use Rattle.caret_notation.specs.declared.revealing.Revealing.{Revealing}
 use Rattle.esc_sanitize.specs.Audits.{IsAudited, account_of, account_or_none}
 use Rattle.esc_sanitize.specs.Stages.{Runs, auditor_of, staged_added}
 use Rattle.esc_sanitize.specs.Stages.{options_of as options_of_staged}
@@ -42,9 +42,10 @@ abbrev pub added_by : {P A : Type 0} → Feeder (Chain P A) A → Sanitizer P A 
 added_by G z = if z.has_failed then [] else staged_added G z.staged
 
 -- it was fed this stream, which goes on
-abbrev pub WasFed : {P A : Type 0} → Feeder (Chain P A) A → Admitter P A → List ℕ → Sanitizer P A
+abbrev pub HasConsumed : {P A : Type 0} → Feeder (Chain P A) A → Admitter P A → List ℕ
+    → Sanitizer P A
     → Type 0
-WasFed G V s z = (z.is_open ≡ true) × (z.has_failed ≡ false) × Runs G V no_book z.staged s
+HasConsumed G V s z = (z.is_open ≡ true) × (z.has_failed ≡ false) × Runs G V no_book z.staged s
 
 -- the stream has ended: it has the account of that, by its options
 abbrev pub HasEnded : {P A : Type 0} → Admitter P A → List ℕ → Sanitizer P A → Type 0

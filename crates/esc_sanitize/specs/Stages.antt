@@ -2,10 +2,10 @@
 use Rattle.std.specs.Prelude.{ℕ, ◌≡◌, List}
 use Rattle.esc_account.specs.Ways.{Way}
 use Rattle.esc_account.specs.declared.book.Book.{Ghosts as Writer}
-use Rattle.esc_decode.specs.Decodings.{decoded}
+use Rattle.esc_decode.specs.Decodings.{decoded_stream}
 use Rattle.esc_decode.specs.declared.encoding.Encoding.{Encoding}
 use Rattle.esc_filter.specs.declared.admit.Admit.{Ghosts as Admitter}
-use Rattle.esc_normal.specs.declared.feeding.Feeding.{Ghosts as Feeder}
+use Rattle.esc_normal.specs.declared.feeding.StreamFilter.{Ghosts as Feeder}
 use Rattle.esc_sanitize.specs.Audits.{HeardAll, way_by, way_of}
 use Rattle.esc_sanitize.specs.Hearings.{Follows, heard_added}
 use Rattle.esc_sanitize.specs.Rows.{HasLeft, left_added}
@@ -54,4 +54,4 @@ pub record IsRun {F P B A : Type 0} (G : Feeder F A) (V : Admitter P A) (W : Wri
 -- the auditor, which goes by this, heard all of what these bytes become, and their text
 abbrev pub HasListened : {P B A : Type 0} → Admitter P A → Writer B A → Encoding → Way
     → (List ℕ → List ℕ) → Auditor P B A → List ℕ → Type 0
-HasListened V W e w text k s = HeardAll V W k (decoded e s) (text s) × (way_of V k ≡ w)
+HasListened V W e w text k s = HeardAll V W k (decoded_stream e s) (text s) × (way_of V k ≡ w)

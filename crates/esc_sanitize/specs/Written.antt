@@ -1,18 +1,18 @@
 -- What is written of a stream under options.
 use Rattle.std.specs.Prelude.{ℕ, ◌≡◌, Bool, true, false, List, Option, Some, None, max}
 use Rattle.esc_actions.specs.Values.{Value}
-use Rattle.esc_decode.specs.Decodings.{decoded}
+use Rattle.esc_decode.specs.Decodings.{decoded_stream}
 use Rattle.esc_filter.specs.Lines.{IsFilteredByLinesAs, closed_by_lines_as, text_by_lines_as}
 use Rattle.esc_filter.specs.Openings.{resumed}
 use Rattle.esc_filter.specs.Passing.{IsFilteredAs, closed_text_as, passed_text_as}
-use Rattle.esc_filter.specs.Pieces.{AdmitsAtMost, IsColorText, IsPlainText}
+use Rattle.esc_filter.specs.Tokens.{AdmitsAtMost, IsColorText, IsPlainText}
 use Rattle.esc_filter.specs.declared.admit.Admit.{Ghosts as Admitter}
 use Rattle.esc_filter.specs.declared.guard.Guard.{Guard}
 use Rattle.esc_filter.specs.declared.policy.Policy.TheVariants as policy
-use Rattle.esc_lines.specs.Streams.{final_of, left_of, values_of}
-use Rattle.esc_lines.specs.Windows.{Size, sized}
-use Rattle.esc_reveal.specs.Revealed.{revealed_as, revealed_whole_as}
-use Rattle.esc_reveal.specs.declared.marking.Marking.{Marking}
+use Rattle.line_collapse.specs.Streams.{final_of, left_of, values_of}
+use Rattle.line_collapse.specs.Windows.{Size, window_size}
+use Rattle.caret_notation.specs.Revealed.{revealed_as, revealed_whole_as}
+use Rattle.caret_notation.specs.declared.marking.Marking.{Marking}
 use Rattle.esc_sanitize.specs.declared.options.FilterOptions.{FilterOptions}
 use Rattle.esc_sanitize.specs.declared.left.TheConstants.{COLUMNS}
 
@@ -33,32 +33,32 @@ revealed_whole_by V o (Some m) s = revealed_whole_as m o.by_lines o.limit (V.adm
 
 -- of the stream, which has ended or goes on
 abbrev pub seen_by : {P A : Type 0} → Admitter P A → FilterOptions P → Bool → List ℕ → List ℕ
-seen_by V o true s = revealed_whole_by V o o.show (decoded o.encoding s)
-seen_by V o false s = revealed_by V o o.show (decoded o.encoding s)
+seen_by V o true s = revealed_whole_by V o o.show (decoded_stream o.encoding s)
+seen_by V o false s = revealed_by V o o.show (decoded_stream o.encoding s)
 
 -- ---- what passes
 
 -- The lines that are filtered: those of the stream, of which, where r, each but a blank one begins
 -- with the renditions that the lines before it leave on, as they are written.
-abbrev pub lined : {A : Type 0} → Bool → Guard → ℕ → (Value A → Bool) → List ℕ → List ℕ
-lined {A} true u limit p s = resumed {A = A} true u limit p s
-lined {A} false u limit p s = s
+abbrev pub lined_text : {A : Type 0} → Bool → Guard → ℕ → (Value A → Bool) → List ℕ → List ℕ
+lined_text {A} true u limit p s = resumed {A = A} true u limit p s
+lined_text {A} false u limit p s = s
 
 -- the text t is what passes of the stream s, which has ended or goes on: of each of its lines, in
 -- which renditions go on where r, or of the whole
 abbrev pub is_passed_by : {A : Type 0} → Bool → Guard → Bool → Bool → ℕ → (Value A → Bool)
     → List ℕ → List ℕ → Type 0
-is_passed_by r u true b limit p s t = IsFilteredByLinesAs b u limit p (lined r u limit p s) t
+is_passed_by r u true b limit p s t = IsFilteredByLinesAs b u limit p (lined_text r u limit p s) t
 is_passed_by r u false b limit p s t = IsFilteredAs u b (Some limit) p s t
 
 -- the text of a stream that goes on, and of one that has ended
 abbrev pub going_by : {A : Type 0} → Bool → Guard → Bool → ℕ → (Value A → Bool) → List ℕ → List ℕ
-going_by {A} r u true limit p s = text_by_lines_as {A = A} u limit p (lined r u limit p s)
+going_by {A} r u true limit p s = text_by_lines_as {A = A} u limit p (lined_text r u limit p s)
 going_by {A} r u false limit p s = passed_text_as {A = A} u (Some limit) p s
 
 abbrev pub closed_by : {A : Type 0} → Bool → Guard → Bool → ℕ → (Value A → Bool) → List ℕ
     → List ℕ
-closed_by {A} r u true limit p s = closed_by_lines_as {A = A} u limit p (lined r u limit p s)
+closed_by {A} r u true limit p s = closed_by_lines_as {A = A} u limit p (lined_text r u limit p s)
 closed_by {A} r u false limit p s = closed_text_as {A = A} u (Some limit) p s
 
 -- by the options, of what a stream becomes by its encoding
@@ -73,16 +73,16 @@ closed_of V o s =
 
 -- and of the stream
 abbrev pub passing_of : {P A : Type 0} → Admitter P A → FilterOptions P → List ℕ → List ℕ
-passing_of V o s = opened_of V o (decoded o.encoding s)
+passing_of V o s = opened_of V o (decoded_stream o.encoding s)
 
 abbrev pub passed_of : {P A : Type 0} → Admitter P A → FilterOptions P → List ℕ → List ℕ
-passed_of V o s = closed_of V o (decoded o.encoding s)
+passed_of V o s = closed_of V o (decoded_stream o.encoding s)
 
 -- ---- what is left of the lines of a text
 
 -- so many rows may be written again
 abbrev pub size_of : ℕ → Size
-size_of n = sized (max n 1) COLUMNS
+size_of n = window_size (max n 1) COLUMNS
 
 -- of a text that goes on, where rows may be written again, those that may not any more
 abbrev pub final_text : Type 0 → Option ℕ → List ℕ → List ℕ
@@ -129,7 +129,7 @@ OfAllWritten V o C = ((s : List ℕ) → C (text_of V o s)) × ((s : List ℕ) �
 -- What is written is plain text where the policy admits no more than `Text`, and rows may not be
 -- written again; and text of characters, renditions and links where it admits no more than `Color`,
 -- and wherever rows may be written again.
-pub record IsOfPieces {P A : Type 0} (V : Admitter P A) (o : FilterOptions P) : Type 0 where
+pub record IsOfTokens {P A : Type 0} (V : Admitter P A) (o : FilterOptions P) : Type 0 where
   pub plain : o.rows ≡ None → AdmitsAtMost policy.Text (V.admits o.policy)
       → OfAllWritten V o IsPlainText
   pub color : AdmitsAtMost policy.Color (V.admits o.policy) → OfAllWritten V o IsColorText

@@ -3,7 +3,7 @@ ghost use Rattle.std.specs.Prelude.{◌≡◌, MatchOption, None, Some, []};
 
 use crate::judging::Judging;
 use crate::options::FilterOptions;
-use esc_account::{Account, Audience, Book, Ledger, LineLedger};
+use esc_account::{Account, Book, Ledger, LineLedger, Tap};
 use esc_filter::Admit;
 use std::alloc::{AllocError, Allocator, Global};
 
@@ -61,7 +61,7 @@ impl<P: Admit<A> + Drop, B: Book<A> + Drop, A: Allocator + Copy> Auditor<P, B, A
     }
 }
 
-impl<P: Admit<A>, B: Book<A>, A: Allocator + Copy> Audience<A> for Auditor<P, B, A> {
+impl<P: Admit<A>, B: Book<A>, A: Allocator + Copy> Tap<A> for Auditor<P, B, A> {
     ghost use Rattle.esc_sanitize.specs.Audits.{Heard, HeardAll, way_of};
 
     ghost heard = { λ k s t. Heard P.Admit B.Book k s t };

@@ -9,9 +9,9 @@ use crate::either::Either;
 use crate::hearing::Hearing;
 use crate::options::FilterOptions;
 use crate::staged::Staged;
+use caret_notation::{Reveal, Revealing};
 use esc_account::Book;
-use esc_filter::{Admit, Feeding, Filter, LineFilter, ResumingFilter};
-use esc_reveal::{Reveal, Revealing};
+use esc_filter::{Admit, Filter, LineFilter, ResumingFilter, StreamFilter};
 use std::alloc::{Allocator, Global};
 
 /// A filter of lines, in which renditions go on, or do not.
@@ -23,7 +23,7 @@ pub type Framed<P, A> = Either<Lined<P, A>, Filter<P, A>>;
 /// The same, where what does not pass may be shown.
 pub type Chain<P, A> = Either<Framed<P, A>, Revealing<Framed<P, A>, P, A>>;
 
-/// A filter by options, with an auditor, as what takes a stream in pieces: that of a program that
+/// A filter by options, with an auditor, as what takes a stream in chunks: that of a program that
 /// gets its stream in a format of its own, such as a recording.
 pub type Sanitizing<P, B, A = Global> = Staged<Chain<P, A>, P, B, A>;
 
@@ -36,7 +36,7 @@ pub fn sanitizing<P: Admit<A> + Copy + Drop, B: Book<A> + Drop, A: Allocator + C
     book: B,
 ) -> Sanitizing<P, B, A>
     ensures begins { B.was_given book []
-        → Runs ⟦<Chain<P, A> as Feeding<A>>⟧ P.Admit B.Book result [] }
+        → Runs ⟦<Chain<P, A> as StreamFilter<A>>⟧ P.Admit B.Book result [] }
     ensures options { options_of result ≡ options }
 {
     let auditor = Auditor::new(alloc, options, book);
@@ -49,7 +49,7 @@ fn chain<P: Admit<A> + Copy, A: Allocator + Copy>(
     alloc: A,
     options: FilterOptions<P>,
 ) -> Chain<P, A>
-    ensures { Begins ⟦<Chain<P, A> as Feeding<A>>⟧ result (opened_of P.Admit options)
+    ensures { Begins ⟦<Chain<P, A> as StreamFilter<A>>⟧ result (opened_of P.Admit options)
         (closed_of P.Admit options) }
 {
     let filter = framed(alloc, options);
@@ -73,7 +73,7 @@ fn framed<P: Admit<A> + Copy, A: Allocator + Copy>(
     alloc: A,
     options: FilterOptions<P>,
 ) -> Framed<P, A>
-    ensures { Begins ⟦<Framed<P, A> as Feeding<A>>⟧ result
+    ensures { Begins ⟦<Framed<P, A> as StreamFilter<A>>⟧ result
         (going_by options.resumes options.guard options.by_lines options.limit
         (P.admits options.policy))
         (closed_by options.resumes options.guard options.by_lines options.limit
@@ -98,7 +98,7 @@ fn lined<P: Admit<A> + Copy, A: Allocator + Copy>(
     alloc: A,
     options: FilterOptions<P>,
 ) -> Lined<P, A>
-    ensures { Begins ⟦<Lined<P, A> as Feeding<A>>⟧ result
+    ensures { Begins ⟦<Lined<P, A> as StreamFilter<A>>⟧ result
         (going_by options.resumes options.guard true options.limit (P.admits options.policy))
         (closed_by options.resumes options.guard true options.limit (P.admits options.policy)) }
 {

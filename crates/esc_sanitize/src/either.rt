@@ -1,9 +1,9 @@
 //! One filter or another.
 
-use esc_filter::Feeding;
+use esc_filter::StreamFilter;
 use std::alloc::{AllocError, Allocator};
 
-/// One filter or another, as what takes a stream in pieces.
+/// One filter or another, as what takes a stream in chunks.
 #[derive(Drop)]
 pub enum Either<F, G> {
     /// The one.
@@ -12,19 +12,19 @@ pub enum Either<F, G> {
     Second(G),
 }
 
-impl<F: Feeding<A>, G: Feeding<A>, A: Allocator> Feeding<A> for Either<F, G> {
+impl<F: StreamFilter<A>, G: StreamFilter<A>, A: Allocator> StreamFilter<A> for Either<F, G> {
     ghost use Rattle.esc_sanitize.specs.Chains.{added_either, ended_either, gives_either};
 
-    ghost gives = { λ f m c s. gives_either F.Feeding G.Feeding f m c s };
+    ghost gives = { λ f m c s. gives_either F.StreamFilter G.StreamFilter f m c s };
 
-    ghost added = { λ f. added_either F.Feeding G.Feeding f };
+    ghost added = { λ f. added_either F.StreamFilter G.StreamFilter f };
 
-    ghost has_ended = { λ f c s. ended_either F.Feeding G.Feeding f c s };
+    ghost has_ended = { λ f c s. ended_either F.StreamFilter G.StreamFilter f c s };
 
-    fn feed_piece(&mut self, bytes: &[u8]) -> Result<(), AllocError> {
+    fn feed_chunk(&mut self, bytes: &[u8]) -> Result<(), AllocError> {
         match self {
-            Either::First(filter) => filter.feed_piece(bytes),
-            Either::Second(filter) => filter.feed_piece(bytes),
+            Either::First(filter) => filter.feed_chunk(bytes),
+            Either::Second(filter) => filter.feed_chunk(bytes),
         }
     }
 
@@ -35,10 +35,10 @@ impl<F: Feeding<A>, G: Feeding<A>, A: Allocator> Feeding<A> for Either<F, G> {
         }
     }
 
-    fn added_text(&self) -> &str {
+    fn output_text(&self) -> &str {
         match self {
-            Either::First(filter) => filter.added_text(),
-            Either::Second(filter) => filter.added_text(),
+            Either::First(filter) => filter.output_text(),
+            Either::Second(filter) => filter.output_text(),
         }
     }
 }

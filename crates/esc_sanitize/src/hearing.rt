@@ -1,12 +1,12 @@
 //! A filter of what a stream becomes by its encoding, and the auditor of that.
 ghost use Rattle.std.specs.Prelude.{◌≡◌, ◌++◌, ℕ, List, [], OnErr, OnOk};
-ghost use Rattle.memory.specs.Refusals.{Refused};
+ghost use Rattle.fallible_alloc.specs.Refusals.{Refused};
 
 use crate::auditor::Auditor;
 use crate::options::FilterOptions;
-use esc_account::{Audience, Book};
+use esc_account::{Book, Tap};
 use esc_decode::Decoding;
-use esc_filter::{Admit, Feeding};
+use esc_filter::{Admit, StreamFilter};
 use std::alloc::{AllocError, Allocator, Global};
 
 /// Feeds a filter what a stream becomes by options, and tells an auditor of that, and of the text
@@ -18,7 +18,7 @@ pub struct Hearing<F, P, B, A: Allocator = Global> {
     auditor: Auditor<P, B, A>,
 }
 
-impl<F: Feeding<A>, P: Admit<A>, B: Book<A>, A: Allocator + Copy> Hearing<F, P, B, A> {
+impl<F: StreamFilter<A>, P: Admit<A>, B: Book<A>, A: Allocator + Copy> Hearing<F, P, B, A> {
     ghost use Rattle.esc_sanitize.specs.Chains.{Begins};
     ghost use Rattle.esc_sanitize.specs.Audits.{Heard, way_by, way_of};
     ghost use Rattle.esc_sanitize.specs.Hearings.{Follows, HasHeard, heard_added};
@@ -34,10 +34,10 @@ impl<F: Feeding<A>, P: Admit<A>, B: Book<A>, A: Allocator + Copy> Hearing<F, P, 
     ) -> Hearing<F, P, B, A>
     where
         P: Copy,
-        ensures begins { Begins F.Feeding filter (opened_of P.Admit options)
+        ensures begins { Begins F.StreamFilter filter (opened_of P.Admit options)
             (closed_of P.Admit options) → Heard P.Admit B.Book auditor [] []
             → way_of P.Admit auditor ≡ way_by P.Admit options
-            → Follows F.Feeding P.Admit B.Book result [] }
+            → Follows F.StreamFilter P.Admit B.Book result [] }
         ensures options { result.options ≡ options }
     {
         Hearing {
@@ -49,38 +49,38 @@ impl<F: Feeding<A>, P: Admit<A>, B: Book<A>, A: Allocator + Copy> Hearing<F, P, 
 
     /// Takes bytes more.
     pub fn feed(&mut self, bytes: &[u8]) -> Result<(), AllocError>
-        ensures given { (s : List ℕ) → Follows F.Feeding P.Admit B.Book self.old s
-            → OnOk result (Follows F.Feeding P.Admit B.Book self.new (s ++ bytes.now)
+        ensures given { (s : List ℕ) → Follows F.StreamFilter P.Admit B.Book self.old s
+            → OnOk result (Follows F.StreamFilter P.Admit B.Book self.new (s ++ bytes.now)
             × (passing_of P.Admit self.old.options (s ++ bytes.now)
-            ≡ passing_of P.Admit self.old.options s ++ heard_added F.Feeding self.new)) }
-        ensures refused { (s : List ℕ) → Follows F.Feeding P.Admit B.Book self.old s
+            ≡ passing_of P.Admit self.old.options s ++ heard_added F.StreamFilter self.new)) }
+        ensures refused { (s : List ℕ) → Follows F.StreamFilter P.Admit B.Book self.old s
             → OnErr result (Refused A) }
         ensures options { self.new.options ≡ self.old.options }
     {
         self.decoding.feed(bytes)?;
         self.auditor
-            .hear(self.decoding.piece(bytes), self.decoding.added_text())
+            .hear(self.decoding.chunk(bytes), self.decoding.output_text())
     }
 
     /// Ends the stream.
     pub fn finish(&mut self) -> Result<(), AllocError>
-        ensures ended { (s : List ℕ) → Follows F.Feeding P.Admit B.Book self.old s
+        ensures ended { (s : List ℕ) → Follows F.StreamFilter P.Admit B.Book self.old s
             → OnOk result (HasHeard P.Admit B.Book self.new s
             × (passed_of P.Admit self.old.options s
-            ≡ passing_of P.Admit self.old.options s ++ heard_added F.Feeding self.new)) }
-        ensures refused { (s : List ℕ) → Follows F.Feeding P.Admit B.Book self.old s
+            ≡ passing_of P.Admit self.old.options s ++ heard_added F.StreamFilter self.new)) }
+        ensures refused { (s : List ℕ) → Follows F.StreamFilter P.Admit B.Book self.old s
             → OnErr result (Refused A) }
         ensures options { self.new.options ≡ self.old.options }
     {
         self.decoding.finish_all()?;
-        self.auditor.hear_end(self.decoding.added_text())
+        self.auditor.hear_end(self.decoding.output_text())
     }
 
     /// The text that the last call added.
-    pub fn added_text(&self) -> &str
-        ensures { result.now ≡ heard_added F.Feeding self.now }
+    pub fn output_text(&self) -> &str
+        ensures { result.now ≡ heard_added F.StreamFilter self.now }
     {
-        self.decoding.added_text()
+        self.decoding.output_text()
     }
 }
 

@@ -3,10 +3,10 @@ ghost use Rattle.std.specs.Prelude.{◌≡◌, is_some};
 ghost use Rattle.esc_sanitize.specs.Fates.{as_itself, before_shown, is_seen, last_shown, shown_as, shown_by};
 
 use crate::options::FilterOptions;
+use caret_notation::Marking;
 use esc_account::{Fate, Judge, PolicyJudge, Verdict};
 use esc_actions::Action;
 use esc_filter::Admit;
-use esc_reveal::Marking;
 use esc_segments::Segment;
 use std::alloc::{AllocError, Allocator, Global};
 
@@ -19,11 +19,11 @@ pub struct Judging<P, A: Allocator = Global> {
 }
 
 impl<P: Admit<A>, A: Allocator + Copy> Judging<P, A> {
-    ghost use Rattle.esc_sanitize.specs.Judged.{judged, rule_by};
+    ghost use Rattle.esc_sanitize.specs.Judged.{judged_rule, rule_by};
 
     /// By these options.
     pub fn new(alloc: A, options: FilterOptions<P>) -> Judging<P, A>
-        ensures { judged P.Admit result ≡ rule_by P.Admit options }
+        ensures { judged_rule P.Admit result ≡ rule_by P.Admit options }
     {
         let FilterOptions {
             policy,
@@ -49,9 +49,9 @@ impl<P: Admit<A>, A: Allocator + Copy> Judging<P, A> {
 }
 
 impl<P: Admit<A>, A: Allocator + Copy> Judge<A> for Judging<P, A> {
-    ghost use Rattle.esc_sanitize.specs.Judged.{judged};
+    ghost use Rattle.esc_sanitize.specs.Judged.{judged_rule};
 
-    ghost rule = { λ j. judged P.Admit j };
+    ghost rule = { λ j. judged_rule P.Admit j };
 
     fn verdict(&self, before: Option<char>, segment: Segment<'_>) -> Result<Verdict, AllocError> {
         match self.policy.verdict(before, segment) {

@@ -1,16 +1,16 @@
 //! A law of what is written.
-ghost use Rattle.esc_sanitize.specs.Written.{IsOfPieces};
+ghost use Rattle.esc_sanitize.specs.Written.{IsOfTokens};
 ghost use Rattle.esc_sanitize.specs.declared.options.FilterOptions.{FilterOptions};
 
 use esc_filter::{Admit, writes_color_text, writes_plain_text};
-use esc_lines::leaves_color_text;
+use line_collapse::leaves_color_text;
 use std::alloc::Allocator;
 
 /// Where the policy admits no more than `Policy::Text`, or than `Policy::Color`, what is written is
 /// text without a control but tabs and line ends, or such text, renditions and links: whatever the
 /// stream is, and also where what does not pass is shown, or rows are written again.
-pub fn writes_pieces<P: Admit<A>, A: Allocator>()
-    ensures { (o : FilterOptions P) → IsOfPieces P.Admit o }
+pub fn writes_chunks<P: Admit<A>, A: Allocator>()
+    ensures { (o : FilterOptions P) → IsOfTokens P.Admit o }
 {
     writes_plain_text::<A>();
     writes_color_text::<A>();

@@ -1,11 +1,11 @@
 //! What is left of the lines of a text.
 ghost use Rattle.std.specs.Prelude.{◌≡◌, ◌++◌, ℕ, List, [], IfOk, OnErr, OnOk, Option, string_bytes};
-ghost use Rattle.esc_lines.specs.Fed.{WasFed};
-ghost use Rattle.esc_lines.specs.Streams.{final_of, left_of, values_of};
-ghost use Rattle.esc_lines.specs.Windows.{Size};
-ghost use Rattle.memory.specs.Refusals.{Refused};
+ghost use Rattle.line_collapse.specs.Fed.{HasConsumed};
+ghost use Rattle.line_collapse.specs.Streams.{final_of, left_of, values_of};
+ghost use Rattle.line_collapse.specs.Windows.{Size};
+ghost use Rattle.fallible_alloc.specs.Refusals.{Refused};
 
-use esc_lines::Collapse;
+use line_collapse::LineCollapser;
 use std::alloc::{AllocError, Allocator, Global};
 
 /// How many columns a row has at most of which what is left is written.
@@ -17,7 +17,7 @@ pub enum Left<A: Allocator = Global> {
     /// All of it.
     All,
     /// What is left of its lines.
-    Rows(A, Collapse<A>),
+    Rows(A, LineCollapser<A>),
     /// The same of a text that has ended: what its end added.
     Last(String<A>),
     /// Nothing, since memory for its rows was refused.
@@ -35,7 +35,7 @@ impl<A: Allocator + Copy> Left<A> {
     {
         match rows {
             None => Left::All,
-            Some(rows) => match Collapse::new(alloc, rows, COLUMNS) {
+            Some(rows) => match LineCollapser::new(alloc, rows, COLUMNS) {
                 Ok(collapse) => Left::Rows(alloc, collapse),
                 Err(_) => Left::Refused,
             },
@@ -93,18 +93,18 @@ impl<A: Allocator + Copy> Left<A> {
 // Takes the last text, and ends it. It returns what that adds to the rows that are final.
 fn last_text<A: Allocator + Copy>(
     alloc: A,
-    collapse: &mut Collapse<A>,
+    collapse: &mut LineCollapser<A>,
     text: &str,
 ) -> Result<String<A>, AllocError>
-    ensures ended { (z : Size) (u : List ℕ) → WasFed z u collapse.old → IfOk result (λ t.
+    ensures ended { (z : Size) (u : List ℕ) → HasConsumed z u collapse.old → IfOk result (λ t.
         left_of z (values_of A (u ++ text.now)) ≡ final_of z (values_of A u) ++ string_bytes t) }
-    ensures refused { (z : Size) (u : List ℕ) → WasFed z u collapse.old
+    ensures refused { (z : Size) (u : List ℕ) → HasConsumed z u collapse.old
         → OnErr result (Refused A) }
 {
     collapse.feed(text.as_bytes())?;
     let mut last = String::new(alloc);
-    memory::push_str(&mut last, collapse.added())?;
+    fallible_alloc::push_str(&mut last, collapse.added())?;
     collapse.finish()?;
-    memory::push_str(&mut last, collapse.added())?;
+    fallible_alloc::push_str(&mut last, collapse.added())?;
     Ok(last)
 }

@@ -1,8 +1,8 @@
-//! The filter of the program `escfilter`, for programs of one's own: a stream in pieces, line by
+//! The filter of the program `escfilter`, for programs of one's own: a stream in chunks, line by
 //! line or as one, in its encoding; what does not pass left out or shown in place; lines that are
 //! written again as a terminal leaves them; and the account of every byte of it.
 //!
-//! [`FilterOptions`] say how a stream is filtered, and a [`Sanitizer`] filters one, piece by piece.
+//! [`FilterOptions`] say how a stream is filtered, and a [`Sanitizer`] filters one, chunk by chunk.
 //! [`sanitize_stream`] does so from a reader to a writer.
 //!
 //! ```text
@@ -32,7 +32,7 @@ mod told;
 pub use auditor::Auditor;
 pub use chain::{Sanitizing, sanitizing};
 pub use judging::Judging;
-pub use laws::writes_pieces;
+pub use laws::writes_chunks;
 pub use left::COLUMNS;
 pub use options::FilterOptions;
 pub use sanitizer::Sanitizer;

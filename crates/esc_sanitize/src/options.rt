@@ -2,9 +2,9 @@
 ghost use Rattle.std.specs.Prelude.{◌≡◌};
 ghost use Rattle.esc_sanitize.specs.Defaults.{defaults, guard_of, is_for_reading, with_policy};
 
+use caret_notation::Marking;
 use esc_decode::Encoding;
 use esc_filter::{Guard, Policy, Returns, Unicode};
-use esc_reveal::Marking;
 
 const DEFAULT_LIMIT: usize = 1_048_576;
 

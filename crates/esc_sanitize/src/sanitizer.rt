@@ -1,19 +1,19 @@
-//! A filter of a stream that comes in pieces, with its account.
+//! A filter of a stream that comes in chunks, with its account.
 ghost use Rattle.std.specs.Prelude.{◌≡◌, ◌++◌, Err, ℕ, List, [], OnErr, OnOk};
-ghost use Rattle.memory.specs.Refusals.{Refused};
+ghost use Rattle.fallible_alloc.specs.Refusals.{Refused};
 
 use crate::chain::{Chain, Sanitizing, sanitizing};
 use crate::options::FilterOptions;
 use esc_account::{Account, NoBook};
-use esc_filter::{Admit, Feeding};
+use esc_filter::{Admit, StreamFilter};
 use esc_frame::ParseError;
 use std::alloc::{Allocator, Global};
 
-/// Takes a stream in whatever pieces it comes, and has for each the text that it adds, as the
+/// Takes a stream in whatever chunks it comes, and has for each the text that it adds, as the
 /// program `escfilter` writes it under these options; and keeps the account of the stream.
 ///
 /// It keeps what its filter keeps of an unfinished sequence or line, at most a few times the limit
-/// of the options, the text of the last piece, and for the account the line that is unfinished with
+/// of the options, the text of the last chunk, and for the account the line that is unfinished with
 /// its text, or the unfinished segment; and where rows may be written again these.
 #[derive(Drop)]
 pub struct Sanitizer<P, A: Allocator = Global> {
@@ -24,7 +24,7 @@ pub struct Sanitizer<P, A: Allocator = Global> {
 }
 
 impl<P: Admit<A> + Drop, A: Allocator + Copy> Sanitizer<P, A> {
-    ghost use Rattle.esc_sanitize.specs.Sanitized.{HasEnded, IsClosed, WasFed, account_in, added_by, options_of};
+    ghost use Rattle.esc_sanitize.specs.Sanitized.{HasEnded, IsClosed, HasConsumed, account_in, added_by, options_of};
     ghost use Rattle.esc_sanitize.specs.Written.{going_of, text_of};
 
     /// A sanitizer at the beginning of a stream. It takes no memory, but for rows that may be
@@ -32,7 +32,7 @@ impl<P: Admit<A> + Drop, A: Allocator + Copy> Sanitizer<P, A> {
     pub fn new(alloc: A, options: FilterOptions<P>) -> Sanitizer<P, A>
     where
         P: Copy,
-        ensures fed { WasFed ⟦<Chain<P, A> as Feeding<A>>⟧ P.Admit [] result }
+        ensures fed { HasConsumed ⟦<Chain<P, A> as StreamFilter<A>>⟧ P.Admit [] result }
         ensures options { options_of result ≡ options }
     {
         Sanitizer {
@@ -49,16 +49,19 @@ impl<P: Admit<A> + Drop, A: Allocator + Copy> Sanitizer<P, A> {
     /// that an earlier call failed, or that the stream has ended. After an error the text is empty,
     /// and every call returns `Failed`.
     pub fn feed(&mut self, bytes: &[u8]) -> Result<(), ParseError>
-        ensures given { (s : List ℕ) → WasFed ⟦<Chain<P, A> as Feeding<A>>⟧ P.Admit s self.old
-            → OnOk result (WasFed ⟦<Chain<P, A> as Feeding<A>>⟧ P.Admit (s ++ bytes.now) self.new
+        ensures given { (s : List ℕ) → HasConsumed ⟦<Chain<P, A> as StreamFilter<A>>⟧ P.Admit s
+            self.old
+            → OnOk result (HasConsumed ⟦<Chain<P, A> as StreamFilter<A>>⟧ P.Admit (s ++ bytes.now)
+            self.new
             × (going_of P.Admit (options_of self.old) (s ++ bytes.now)
             ≡ going_of P.Admit (options_of self.old) s
-            ++ added_by ⟦<Chain<P, A> as Feeding<A>>⟧ self.new)) }
-        ensures refused { (s : List ℕ) → WasFed ⟦<Chain<P, A> as Feeding<A>>⟧ P.Admit s self.old
+            ++ added_by ⟦<Chain<P, A> as StreamFilter<A>>⟧ self.new)) }
+        ensures refused { (s : List ℕ) → HasConsumed ⟦<Chain<P, A> as StreamFilter<A>>⟧ P.Admit s
+            self.old
             → OnErr result ((result ≡ Err ParseError.Memory) × Refused A) }
         ensures failed { IsClosed self.old → result ≡ Err ParseError.Failed }
         ensures after { OnErr result (IsClosed self.new
-            × (added_by ⟦<Chain<P, A> as Feeding<A>>⟧ self.new ≡ []))
+            × (added_by ⟦<Chain<P, A> as StreamFilter<A>>⟧ self.new ≡ []))
             × (options_of self.new ≡ options_of self.old) }
     {
         if !self.is_open {
@@ -76,15 +79,17 @@ impl<P: Admit<A> + Drop, A: Allocator + Copy> Sanitizer<P, A> {
     ///
     /// The errors are those of [`feed`](Self::feed). After `Ok` too every call returns `Failed`.
     pub fn finish(&mut self) -> Result<(), ParseError>
-        ensures ended { (s : List ℕ) → WasFed ⟦<Chain<P, A> as Feeding<A>>⟧ P.Admit s self.old
+        ensures ended { (s : List ℕ) → HasConsumed ⟦<Chain<P, A> as StreamFilter<A>>⟧ P.Admit s
+            self.old
             → OnOk result (HasEnded P.Admit s self.new
             × (text_of P.Admit (options_of self.old) s
             ≡ going_of P.Admit (options_of self.old) s
-            ++ added_by ⟦<Chain<P, A> as Feeding<A>>⟧ self.new)) }
-        ensures refused { (s : List ℕ) → WasFed ⟦<Chain<P, A> as Feeding<A>>⟧ P.Admit s self.old
+            ++ added_by ⟦<Chain<P, A> as StreamFilter<A>>⟧ self.new)) }
+        ensures refused { (s : List ℕ) → HasConsumed ⟦<Chain<P, A> as StreamFilter<A>>⟧ P.Admit s
+            self.old
             → OnErr result ((result ≡ Err ParseError.Memory) × Refused A) }
         ensures failed { IsClosed self.old → result ≡ Err ParseError.Failed }
-        ensures after { OnErr result (added_by ⟦<Chain<P, A> as Feeding<A>>⟧ self.new ≡ [])
+        ensures after { OnErr result (added_by ⟦<Chain<P, A> as StreamFilter<A>>⟧ self.new ≡ [])
             × IsClosed self.new × (options_of self.new ≡ options_of self.old) }
     {
         if !self.is_open {
@@ -99,12 +104,12 @@ impl<P: Admit<A> + Drop, A: Allocator + Copy> Sanitizer<P, A> {
 
     /// The text that the last call added; empty after an error.
     pub fn text(&self) -> &str
-        ensures { result.now ≡ added_by ⟦<Chain<P, A> as Feeding<A>>⟧ self.now }
+        ensures { result.now ≡ added_by ⟦<Chain<P, A> as StreamFilter<A>>⟧ self.now }
     {
         if self.has_failed {
             ""
         } else {
-            self.staged.added_text()
+            self.staged.output_text()
         }
     }
 
@@ -132,7 +137,7 @@ impl<P: Admit<A> + Drop, A: Allocator + Copy> Sanitizer<P, A> {
     fn fail(&mut self, error: ParseError) -> Result<(), ParseError>
         ensures result { result ≡ Err error }
         ensures closed { IsClosed self.new
-            × (added_by ⟦<Chain<P, A> as Feeding<A>>⟧ self.new ≡ []) }
+            × (added_by ⟦<Chain<P, A> as StreamFilter<A>>⟧ self.new ≡ []) }
         ensures options { options_of self.new ≡ options_of self.old }
     {
         self.is_open = false;

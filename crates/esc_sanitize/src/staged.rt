@@ -1,13 +1,13 @@
 //! A filter with its auditor, and what is left of the lines of its text.
 ghost use Rattle.std.specs.Prelude.{◌≡◌, ◌++◌, ℕ, List, [], OnErr, OnOk};
-ghost use Rattle.memory.specs.Refusals.{Refused};
+ghost use Rattle.fallible_alloc.specs.Refusals.{Refused};
 
 use crate::auditor::Auditor;
 use crate::hearing::Hearing;
 use crate::left::Left;
 use crate::options::FilterOptions;
 use esc_account::Book;
-use esc_filter::{Admit, Feeding};
+use esc_filter::{Admit, StreamFilter};
 use std::alloc::{AllocError, Allocator, Global};
 
 /// A filter of a stream with its auditor, and what is left of the lines of its text.
@@ -17,15 +17,15 @@ pub struct Staged<F, P, B, A: Allocator = Global> {
     left: Left<A>,
 }
 
-impl<F: Feeding<A>, P: Admit<A>, B: Book<A>, A: Allocator + Copy> Staged<F, P, B, A> {
+impl<F: StreamFilter<A>, P: Admit<A>, B: Book<A>, A: Allocator + Copy> Staged<F, P, B, A> {
     ghost use Rattle.esc_sanitize.specs.Hearings.{Follows, HasHeard};
     ghost use Rattle.esc_sanitize.specs.Stages.{Runs, options_of, staged_added};
     ghost use Rattle.esc_sanitize.specs.Written.{going_of, passing_of, text_of};
 
     /// This filter, which is at the beginning of a stream.
     pub fn new(alloc: A, hearing: Hearing<F, P, B, A>) -> Staged<F, P, B, A>
-        ensures begins { Follows F.Feeding P.Admit B.Book hearing []
-            → Runs F.Feeding P.Admit B.Book result [] }
+        ensures begins { Follows F.StreamFilter P.Admit B.Book hearing []
+            → Runs F.StreamFilter P.Admit B.Book result [] }
         ensures options { options_of result ≡ hearing.options }
     {
         let left = Left::new(alloc, hearing.options().rows);
@@ -34,52 +34,52 @@ impl<F: Feeding<A>, P: Admit<A>, B: Book<A>, A: Allocator + Copy> Staged<F, P, B
 
     /// Takes bytes more.
     pub fn feed(&mut self, bytes: &[u8]) -> Result<(), AllocError>
-        ensures given { (s : List ℕ) → Runs F.Feeding P.Admit B.Book self.old s
-            → OnOk result (Runs F.Feeding P.Admit B.Book self.new (s ++ bytes.now)
+        ensures given { (s : List ℕ) → Runs F.StreamFilter P.Admit B.Book self.old s
+            → OnOk result (Runs F.StreamFilter P.Admit B.Book self.new (s ++ bytes.now)
             × (going_of P.Admit (options_of self.old) (s ++ bytes.now)
-            ≡ going_of P.Admit (options_of self.old) s ++ staged_added F.Feeding self.new)) }
-        ensures refused { (s : List ℕ) → Runs F.Feeding P.Admit B.Book self.old s
+            ≡ going_of P.Admit (options_of self.old) s ++ staged_added F.StreamFilter self.new)) }
+        ensures refused { (s : List ℕ) → Runs F.StreamFilter P.Admit B.Book self.old s
             → OnErr result (Refused A) }
         ensures options { options_of self.new ≡ options_of self.old }
     {
         self.hearing.feed(bytes)?;
-        self.left.take(self.hearing.added_text())
+        self.left.take(self.hearing.output_text())
     }
 
     /// Ends the stream.
     pub fn finish(&mut self) -> Result<(), AllocError>
-        ensures ended { (s : List ℕ) → Runs F.Feeding P.Admit B.Book self.old s
+        ensures ended { (s : List ℕ) → Runs F.StreamFilter P.Admit B.Book self.old s
             → OnOk result (HasHeard P.Admit B.Book self.new.hearing s
             × (text_of P.Admit (options_of self.old) s
-            ≡ going_of P.Admit (options_of self.old) s ++ staged_added F.Feeding self.new)) }
-        ensures refused { (s : List ℕ) → Runs F.Feeding P.Admit B.Book self.old s
+            ≡ going_of P.Admit (options_of self.old) s ++ staged_added F.StreamFilter self.new)) }
+        ensures refused { (s : List ℕ) → Runs F.StreamFilter P.Admit B.Book self.old s
             → OnErr result (Refused A) }
         ensures options { options_of self.new ≡ options_of self.old }
     {
         self.hearing.finish()?;
-        self.left.close(self.hearing.added_text())
+        self.left.close(self.hearing.output_text())
     }
 
     /// The text that the last call added.
-    pub fn added_text(&self) -> &str
-        ensures { result.now ≡ staged_added F.Feeding self.now }
+    pub fn output_text(&self) -> &str
+        ensures { result.now ≡ staged_added F.StreamFilter self.now }
     {
-        self.left.added(self.hearing.added_text())
+        self.left.added(self.hearing.output_text())
     }
 }
 
-impl<F: Feeding<A>, P: Admit<A>, B: Book<A>, A: Allocator + Copy> Feeding<A>
+impl<F: StreamFilter<A>, P: Admit<A>, B: Book<A>, A: Allocator + Copy> StreamFilter<A>
     for Staged<F, P, B, A> {
     ghost use Rattle.esc_sanitize.specs.Hearings.{HasHeard};
     ghost use Rattle.esc_sanitize.specs.Stages.{Gives, staged_added};
 
-    ghost gives = { λ f m c s. Gives F.Feeding P.Admit B.Book f m c s };
+    ghost gives = { λ f m c s. Gives F.StreamFilter P.Admit B.Book f m c s };
 
-    ghost added = { λ f. staged_added F.Feeding f };
+    ghost added = { λ f. staged_added F.StreamFilter f };
 
     ghost has_ended = { λ f _ s. HasHeard P.Admit B.Book f.hearing s };
 
-    fn feed_piece(&mut self, bytes: &[u8]) -> Result<(), AllocError> {
+    fn feed_chunk(&mut self, bytes: &[u8]) -> Result<(), AllocError> {
         self.feed(bytes)
     }
 
@@ -87,8 +87,8 @@ impl<F: Feeding<A>, P: Admit<A>, B: Book<A>, A: Allocator + Copy> Feeding<A>
         self.finish()
     }
 
-    fn added_text(&self) -> &str {
-        Staged::added_text(self)
+    fn output_text(&self) -> &str {
+        Staged::output_text(self)
     }
 }
 

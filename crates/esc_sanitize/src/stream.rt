@@ -1,21 +1,21 @@
 //! One stream, from its reader to its writer.
 ghost use Rattle.std.specs.Prelude.{◌≡◌, ℕ, IsErrOf, List, OnOk, []};
-ghost use Rattle.memory.specs.Refusals.{Refused};
+ghost use Rattle.fallible_alloc.specs.Refusals.{Refused};
 ghost use Rattle.esc_normal.specs.Streams.{Filters, IsEither};
 ghost use Rattle.esc_sanitize.specs.Audits.{HasAccount, way_by};
 ghost use Rattle.esc_sanitize.specs.Ended.{HasHeardAll};
 ghost use Rattle.esc_sanitize.specs.Stages.{Runs, options_of};
-ghost use Rattle.esc_sanitize.specs.Written.{IsOfPieces, IsWritten, going_of, passed_of, text_of};
+ghost use Rattle.esc_sanitize.specs.Written.{IsOfTokens, IsWritten, going_of, passed_of, text_of};
 
 use crate::auditor::Auditor;
 use crate::chain::sanitizing;
-use crate::laws::writes_pieces;
+use crate::laws::writes_chunks;
 use crate::options::FilterOptions;
 use crate::staged::Staged;
 use crate::told::{Known, Told};
 use esc_account::Book;
 use esc_filter::{
-    Admit, Feeding, FilterError, filter_from, written_lines_read_back, written_reads_back,
+    Admit, FilterError, StreamFilter, pump, written_lines_read_back, written_reads_back,
 };
 use esc_normal::Watched;
 use std::alloc::{Allocator, Global};
@@ -57,12 +57,12 @@ pub fn sanitize_stream<
 ) -> Sanitized<P, B, A>
     requires { B.was_given book [] }
     ensures holds { Filters R.Read W.Write (text_of P.Admit options) (IsWritten P.Admit options)
-        result.outcome reader writer × IsOfPieces P.Admit options }
+        result.outcome reader writer × IsOfTokens P.Admit options }
     ensures refused { IsErrOf result.outcome FilterError.Memory → Refused A }
     ensures account { OnOk result.outcome
         (HasAccount P.Admit B.Book R.Read options result.auditor reader) }
 {
-    writes_pieces::<P, A>();
+    writes_chunks::<P, A>();
     written_lines_read_back::<A>();
     written_reads_back::<A>();
     let staged = sanitizing(alloc, options, book);
@@ -71,7 +71,7 @@ pub fn sanitize_stream<
 
 // The same by this filter, which was fed nothing, part by part.
 fn told<
-    F: Feeding<A> + Drop,
+    F: StreamFilter<A> + Drop,
     P: Admit<A> + Drop,
     B: Book<A> + Drop,
     N: Known,
@@ -84,7 +84,7 @@ fn told<
     reader: &mut Watched<R>,
     writer: &mut Watched<W>,
 ) -> Sanitized<P, B, A>
-    requires { Runs F.Feeding P.Admit B.Book staged []
+    requires { Runs F.StreamFilter P.Admit B.Book staged []
         × ((options_of staged).encoding ≡ N.encoding)
         × (way_by P.Admit (options_of staged) ≡ N.way)
         × ((s : List ℕ) → passed_of P.Admit (options_of staged) s ≡ N.text s) }
@@ -96,7 +96,7 @@ fn told<
         result.auditor reader) }
 {
     let mut filter = Told::<_, _, _, N, _>::new(staged);
-    let outcome = filter_from(alloc, &mut filter, reader, writer);
+    let outcome = pump(alloc, &mut filter, reader, writer);
     Sanitized {
         outcome,
         auditor: filter.into_auditor(),

@@ -1,13 +1,13 @@
-//! A filter with its auditor, as what takes a stream in pieces.
+//! A filter with its auditor, as what takes a stream in chunks.
 ghost use Rattle.std.specs.Prelude.{◌≡◌, ℕ, List};
-ghost use Rattle.esc_account.specs.Ways.{Way, silent};
+ghost use Rattle.esc_account.specs.Ways.{Way, silent_way};
 ghost use Rattle.esc_decode.specs.declared.encoding.Encoding.{Encoding as Coding};
 ghost use Rattle.esc_decode.specs.declared.encoding.Encoding.TheVariants.{Utf8};
 
 use crate::auditor::Auditor;
 use crate::staged::Staged;
 use esc_account::Book;
-use esc_filter::{Admit, Feeding};
+use esc_filter::{Admit, StreamFilter};
 use std::alloc::{AllocError, Allocator, Global};
 use std::marker::{Brand, PhantomData};
 
@@ -26,7 +26,7 @@ pub trait Known {
 impl Known for Brand {
     ghost encoding = { Utf8 };
 
-    ghost way = { silent };
+    ghost way = { silent_way };
 
     ghost text = { λ s. s };
 }
@@ -58,19 +58,19 @@ impl<F: Drop, P: Drop, B: Drop, N: Known, A: Allocator> Told<F, P, B, N, A> {
     }
 }
 
-impl<F: Feeding<A>, P: Admit<A>, B: Book<A>, N: Known, A: Allocator + Copy> Feeding<A>
+impl<F: StreamFilter<A>, P: Admit<A>, B: Book<A>, N: Known, A: Allocator + Copy> StreamFilter<A>
     for Told<F, P, B, N, A> {
     ghost use Rattle.esc_sanitize.specs.Stages.{HasListened, IsRun, auditor_of, staged_added};
 
     ghost gives = { λ f m c s.
-        IsRun F.Feeding P.Admit B.Book N.encoding N.way N.text f.staged m c s };
+        IsRun F.StreamFilter P.Admit B.Book N.encoding N.way N.text f.staged m c s };
 
-    ghost added = { λ f. staged_added F.Feeding f.staged };
+    ghost added = { λ f. staged_added F.StreamFilter f.staged };
 
     ghost has_ended = { λ f _ s.
         HasListened P.Admit B.Book N.encoding N.way N.text (auditor_of f.staged) s };
 
-    fn feed_piece(&mut self, bytes: &[u8]) -> Result<(), AllocError> {
+    fn feed_chunk(&mut self, bytes: &[u8]) -> Result<(), AllocError> {
         self.staged.feed(bytes)
     }
 
@@ -78,7 +78,7 @@ impl<F: Feeding<A>, P: Admit<A>, B: Book<A>, N: Known, A: Allocator + Copy> Feed
         self.staged.finish()
     }
 
-    fn added_text(&self) -> &str {
-        self.staged.added_text()
+    fn output_text(&self) -> &str {
+        self.staged.output_text()
     }
 }

@@ -2,8 +2,8 @@
 use Rattle.std.proofs.Common.{ℕ, suc, zero, ◌≡◌, ◌+◌, nat_lt, Bool, true, false, ◌&&◌, List, [], ◌∷◌, set, get_or, if◌then◌else◌, refl, ap, sym, ◌∙◌}
 use Rattle.std.proofs.lemmas.Bool.{and_parts}
 use Rattle.esc_screen.specs.Cells.{joined_at}
-use Rattle.esc_screen.specs.Grids.{Grid, Size, next_line, settled, with_rows}
-use Rattle.esc_screen.specs.Printing.{has_room, joined, narrow_put, opened, printed_wide, wide_printed, wrapped}
+use Rattle.esc_screen.specs.Grids.{Grid, Size, next_line, settled_grid, with_rows}
+use Rattle.esc_screen.specs.Printing.{has_room, joined, narrow_put, grid_with_room, printed_wide, wide_printed, wrapped_grid}
 use Rattle.esc_screen.specs.Scrolled.{JoinsOnce, gone_by, gone_wide, gone_wrapped, joined_by, joined_narrow}
 use Rattle.esc_screen.specs.Steps.{grid_by}
 use Rattle.esc_screen.specs.declared.cell.Cell.{Cell}
@@ -26,10 +26,10 @@ joined_twice g =
 
 -- the wrap of a character of one column, by whether one is pending and lines wrap
 abbrev wrap_by : Size → Bool → Bool → Grid → Grid
-wrap_by s p w z = if p then if w then next_line s (joined z) else settled z else z
+wrap_by s p w z = if p then if w then next_line s (joined z) else settled_grid z else z
 
 wrapped_joined : (s : Size) (g : Grid) → g.cursor.pending && g.modes.wraps ≡ true
-    → wrapped s (joined g) ≡ wrapped s g
+    → wrapped_grid s (joined g) ≡ wrapped_grid s g
 wrapped_joined s g h =
     let k = and_parts g.cursor.pending g.modes.wraps h in
     ap (λ p. wrap_by s p g.modes.wraps (joined g)) k.0
@@ -37,18 +37,19 @@ wrapped_joined s g h =
     ∙ ap (next_line s) (joined_twice g)
     ∙ sym (ap (λ p. wrap_by s p g.modes.wraps g) k.0 ∙ ap (λ w. wrap_by s true w g) k.1)
 
-narrow_once : (s : Size) (g : Grid) → wrapped s (joined_narrow g) ≡ wrapped s g
+narrow_once : (s : Size) (g : Grid) → wrapped_grid s (joined_narrow g) ≡ wrapped_grid s g
 narrow_once s g = by_test (g.cursor.pending && g.modes.wraps) (λ e. e)
   where
     by_test : (b : Bool) → (b ≡ true → g.cursor.pending && g.modes.wraps ≡ true)
-        → wrapped s (if b then joined g else g) ≡ wrapped s g
+        → wrapped_grid s (if b then joined g else g) ≡ wrapped_grid s g
     by_test false e = refl
     by_test true e = wrapped_joined s g (e refl)
 
 -- and that of one of two columns, by whether it has room, and whether on the line
 abbrev wide_by : Size → ℕ → Bool → Bool → Grid → Grid
 wide_by s c r t z =
-    if r then printed_wide s c (opened s 2 (if t then wrapped s z else next_line s (joined z)))
+    if r then printed_wide s c (grid_with_room s 2
+    (if t then wrapped_grid s z else next_line s (joined z)))
     else z
 
 wide_once : (s : Size) (c : ℕ) (g : Grid)
@@ -70,7 +71,7 @@ wide_once s c g =
     on_line false h e k = refl
     on_line true h e k =
         as_is true true (joined g) e k
-        ∙ ap (λ z. printed_wide s c (opened s 2 z)) (wrapped_joined s g (h refl))
+        ∙ ap (λ z. printed_wide s c (grid_with_room s 2 z)) (wrapped_joined s g (h refl))
         ∙ sym (as_is true true g e k)
 
     by_test : (r t : Bool) → has_room s g ≡ r → nat_lt (g.cursor.column + 1) s.columns ≡ t
@@ -80,7 +81,7 @@ wide_once s c g =
     by_test true true e k = on_line (g.cursor.pending && g.modes.wraps) (λ h. h) e k
     by_test true false e k =
         as_is true false (joined g) e k
-        ∙ ap (λ z. printed_wide s c (opened s 2 (next_line s z))) (joined_twice g)
+        ∙ ap (λ z. printed_wide s c (grid_with_room s 2 (next_line s z))) (joined_twice g)
         ∙ sym (as_is true false g e k)
 
 pub joins_once : JoinsOnce

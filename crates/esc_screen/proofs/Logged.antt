@@ -3,14 +3,14 @@ use Rattle.std.proofs.Common.{ℕ, suc, ◌≡◌, ◌+◌, ◌-◌, ◌==◌, �
 use Rattle.std.proofs.lemmas.Bool.{cases_Bool}
 use Rattle.std.proofs.lemmas.Bool.Decides.{nat_tests}
 use Rattle.std.proofs.lemmas.List.{drop_all, get_or_at, length-map, length-replicate, length_push, map-append, set_at, take_all}
-use Rattle.esc_screen.specs.Cells.{blank, blank_row, cleared, inserted, put_all}
+use Rattle.esc_screen.specs.Cells.{blank, blank_row, cleared_cells, inserted_cells, put_all}
 use Rattle.esc_screen.specs.Changes.{fed}
-use Rattle.esc_screen.specs.Cursors.{at, home, landed}
-use Rattle.esc_screen.specs.Grids.{Grid, Size, first_grid, in_row, line_fed, moved, rows_up, settled, with_cursor}
+use Rattle.esc_screen.specs.Cursors.{at, home, landed_cursor}
+use Rattle.esc_screen.specs.Grids.{Grid, Size, first_grid, in_row, line_fed, grid_at, rows_up, settled_grid, with_cursor}
 use Rattle.esc_screen.specs.Lists.{in_part, moved_up}
 use Rattle.esc_screen.specs.Logs.{KeepsLog, log_of}
-use Rattle.esc_screen.specs.Paints.{AllFit, plain, row_of}
-use Rattle.esc_screen.specs.Printing.{joined, narrow_printed, narrow_put, opened, passed}
+use Rattle.esc_screen.specs.Paints.{AllFit, plain_cell, row_of}
+use Rattle.esc_screen.specs.Printing.{joined, narrow_printed, narrow_put, grid_with_room, grid_past}
 use Rattle.esc_screen.specs.Scrolled.{gone_fed, gone_up, off_from}
 use Rattle.esc_screen.specs.Steps.{grid_by, grid_from}
 use Rattle.esc_screen.specs.declared.cell.Cell.{Cell}
@@ -20,16 +20,16 @@ use Rattle.esc_screen.specs.declared.motion.Motion.TheVariants as motion
 use Rattle.esc_screen.specs.declared.step.Step.{Step}
 use Rattle.esc_screen.specs.declared.step.Step.TheVariants as step
 use Rattle.esc_screen.proofs.Painted.{put_blank}
-use Rattle.esc_screen.proofs.Runs.{in_pieces, landed_in, not_wrapped, run_is}
-use Rattle.esc_screen.proofs.Scrolling.{off_in_pieces}
+use Rattle.esc_screen.proofs.Runs.{in_chunks, landed_in, not_wrapped, run_is}
+use Rattle.esc_screen.proofs.Scrolling.{off_in_chunks}
 
 -- ---- characters that the row has columns for scroll nothing off
 
-opened_cursor : (s : Size) (n : ℕ) (g : Grid) → (opened s n g).cursor ≡ g.cursor
+opened_cursor : (s : Size) (n : ℕ) (g : Grid) → (grid_with_room s n g).cursor ≡ g.cursor
 opened_cursor s n g = by_test g.modes.inserts
   where
     by_test : (b : Bool)
-        → (if b then in_row (inserted g.cursor.erased n g.cursor.column s.columns) g
+        → (if b then in_row (inserted_cells g.cursor.erased n g.cursor.column s.columns) g
         else g).cursor ≡ g.cursor
     by_test true = refl
     by_test false = refl
@@ -38,9 +38,9 @@ next_cursor : (s : Size) (c : ℕ) (g : Grid) → g.cursor.pending ≡ false
     → g.cursor.column + 1 < s.columns
     → (narrow_printed s c g).cursor ≡ record (g.cursor) { column = g.cursor.column + 1 }
 next_cursor s c g ready next =
-    let o = opened s 1 g in
+    let o = grid_with_room s 1 g in
     ap (λ z. (narrow_put s c z).cursor) (not_wrapped s g ready)
-    ∙ ap (λ k. landed s.columns o.modes.wraps (k.column + 1) k) (opened_cursor s 1 g)
+    ∙ ap (λ k. landed_cursor s.columns o.modes.wraps (k.column + 1) k) (opened_cursor s 1 g)
     ∙ landed_in s o.modes.wraps (g.cursor.column + 1) g next
 
 none_from : (s : Size) (c : ℕ) (cs : List ℕ) (g : Grid) → g.cursor.pending ≡ false
@@ -81,7 +81,7 @@ page s bs = at_row s (full s bs (s.rows - length bs)) (length bs)
 
 -- to the first column, wherever the last character is
 started : (s : Size) (n : ℕ) (h : Grid)
-    → moved (passed s n h).cursor.row 0 (passed s n h) ≡ moved h.cursor.row 0 h
+    → grid_at (grid_past s n h).cursor.row 0 (grid_past s n h) ≡ grid_at h.cursor.row 0 h
 started s n h = by_test (nat_lt (h.cursor.column + n) s.columns)
   where
     as_passed : Bool → Cursor
@@ -89,7 +89,7 @@ started s n h = by_test (nat_lt (h.cursor.column + n) s.columns)
         else record (h.cursor) { column = s.columns - 1; pending = h.modes.wraps }
 
     by_test : (b : Bool) → with_cursor (at (as_passed b).row 0 (as_passed b)) h
-        ≡ moved h.cursor.row 0 h
+        ≡ grid_at h.cursor.row 0 h
     by_test true = refl
     by_test false = refl
 
@@ -139,10 +139,10 @@ fed_first s i rs = by_test s.returns
     g = at_row s rs i
 
     as_fed : Bool → Grid
-    as_fed t = if t then rows_up 1 0 s.rows (settled g)
-        else moved (min (i + 1) (s.rows - 1)) 0 g
+    as_fed t = if t then rows_up 1 0 s.rows (settled_grid g)
+        else grid_at (min (i + 1) (s.rows - 1)) 0 g
 
-    either : (t : Bool) → moved (as_fed t).cursor.row 0 (as_fed t) ≡ as_fed t
+    either : (t : Bool) → grid_at (as_fed t).cursor.row 0 (as_fed t) ≡ as_fed t
     either true = refl
     either false = refl
 
@@ -159,8 +159,8 @@ fed_within s i rs less =
     let test : (i + 1 == s.rows) ≡ false = grind (arith, nat_tests, less) in
     let to : min (i + 1) (s.rows - 1) ≡ i + 1 = omega (arith, less) in (
       ap (λ b. if b then gone_up 1 g else 0) test,
-      fed_first s i rs ∙ ap (λ b. if b then rows_up 1 0 s.rows (settled g)
-          else moved (min (i + 1) (s.rows - 1)) 0 g) test
+      fed_first s i rs ∙ ap (λ b. if b then rows_up 1 0 s.rows (settled_grid g)
+          else grid_at (min (i + 1) (s.rows - 1)) 0 g) test
           ∙ ap (λ r. at_row s rs r) to,
     )
 
@@ -177,13 +177,13 @@ up_one n x xs f e =
     ∙ append-nil (moved_up 1 f ys)
 
 wide_row : (s : Size) (cs : List ℕ) → length cs ≤ s.columns
-    → cleared 0 (row_of s cs) ≡ blank_row 0 s.columns
+    → cleared_cells 0 (row_of s cs) ≡ blank_row 0 s.columns
 wide_row s cs fits =
     let k = s.columns - length cs in
     let all : length cs + k ≡ s.columns = omega (arith, fits) in
     ap (λ n. replicate n (blank 0))
-    (length-append (map plain cs) (blank_row 0 k)
-    ∙ ap (λ n. n + length (blank_row 0 k)) (length-map cs plain)
+    (length-append (map plain_cell cs) (blank_row 0 k)
+    ∙ ap (λ n. n + length (blank_row 0 k)) (length-map cs plain_cell)
     ∙ ap (λ n. length cs + n) (length-replicate k (blank 0)) ∙ all)
 
 -- in the last row: the first one goes off
@@ -193,7 +193,7 @@ fed_last : (s : Size) (i : ℕ) (d : List ℕ) (ds : List (List ℕ)) → length
     × (grid_by s (at_row s (full s (d ∷ ds) 0) i) (step.Edit change.LineFeed)
     ≡ at_row s (full s ds 1) i)
 fed_last s i d ds len last fits =
-    let f = map (cleared 0) in
+    let f = map (cleared_cells 0) in
     let x = row_of s d in
     let xs = map (row_of s) ds ++ [] in
     let g = at_row s (x ∷ xs) i in
@@ -204,10 +204,10 @@ fed_last s i d ds len last fits =
     let many : length (x ∷ xs) ≡ s.rows =
     ap (λ n. suc (length n)) none ∙ ap (λ n. suc n) same ∙ omega (arith, len, last) in (
       ap (λ b. if b then min 1 s.rows else 0) test ∙ one,
-      fed_first s i (x ∷ xs) ∙ ap (λ b. if b then rows_up 1 0 s.rows (settled g)
-          else moved (min (i + 1) (s.rows - 1)) 0 g) test
+      fed_first s i (x ∷ xs) ∙ ap (λ b. if b then rows_up 1 0 s.rows (settled_grid g)
+          else grid_at (min (i + 1) (s.rows - 1)) 0 g) test
           ∙ ap (λ rs. at_row s rs i) (up_one s.rows x xs f many
-          ∙ ap (λ z. z ++ cleared 0 x ∷ []) none
+          ∙ ap (λ z. z ++ cleared_cells 0 x ∷ []) none
           ∙ ap (λ z. map (row_of s) ds ++ z ∷ []) (wide_row s d fits)),
     )
 
@@ -250,8 +250,8 @@ line_logged s bs cs ys k fits =
     let j = grid_from s g ps in
     let off = take (gone_fed h) h.rows in
     let n = grid_by s h (step.Edit change.LineFeed) in
-    ap (λ z. z ++ (grid_from s g (ps ++ zs)).rows) (off_in_pieces s g ps zs)
-    ∙ ap (λ z. (off_from s g ps ++ off_from s j zs) ++ z.rows) (in_pieces s g ps zs)
+    ap (λ z. z ++ (grid_from s g (ps ++ zs)).rows) (off_in_chunks s g ps zs)
+    ∙ ap (λ z. (off_from s g ps ++ off_from s j zs) ++ z.rows) (in_chunks s g ps zs)
     ∙ ap (λ z. (z ++ off_from s j zs) ++ (grid_from s j zs).rows)
     (none_off s g cs refl (omega (arith, fits)))
     ∙ ap (λ z. off_from s z (step.Edit change.LineFeed ∷ ys)

@@ -1,23 +1,23 @@
--- Runs of characters, and pieces of a stream.
+-- Runs of characters, and chunks of a stream.
 use Rattle.std.proofs.Common.{ℕ, ◌≡◌, ◌+◌, ◌-◌, ◌<◌, ◌≤◌, true, false, inl, inr, Bool, not, ◌&&◌, List, [], ◌∷◌, ◌++◌, length, map, set, take, drop, get_or, nat_lt, if◌then◌else◌, refl, ap, sym, ◌∙◌, arith}
 use Rattle.std.proofs.Math.Seq.{set_out}
 use Rattle.std.proofs.lemmas.Bool.{cases_Bool, true≢false}
 use Rattle.std.proofs.lemmas.Bool.Decides.{nat_tests}
 use Rattle.std.proofs.lemmas.List.{get_or-set_same, map-append, set-set, take-append-drop}
-use Rattle.esc_screen.specs.Cells.{inserted, put, put_all}
-use Rattle.esc_screen.specs.Cursors.{draws, landed, line_drawing}
-use Rattle.esc_screen.specs.Grids.{Grid, Size, in_row, next_line, settled, with_cursor}
-use Rattle.esc_screen.specs.Printing.{is_direct, joined, narrow_printed, narrow_put, opened, passed, printed, wrapped, wrapped_past}
+use Rattle.esc_screen.specs.Cells.{inserted_cells, put, put_all}
+use Rattle.esc_screen.specs.Cursors.{draws, landed_cursor, line_drawing}
+use Rattle.esc_screen.specs.Grids.{Grid, Size, in_row, next_line, settled_grid, with_cursor}
+use Rattle.esc_screen.specs.Printing.{is_direct, joined, narrow_printed, narrow_put, grid_with_room, grid_past, grid_with_character, wrapped_grid, wrapped_past}
 use Rattle.esc_screen.specs.Steps.{grid_by, grid_from}
 use Rattle.esc_screen.specs.declared.cell.Cell.{Cell}
 use Rattle.esc_screen.specs.declared.step.Step.{Step}
 use Rattle.esc_screen.specs.declared.step.Step.TheVariants as step
 
--- steps in two pieces
-pub in_pieces : (s : Size) (g : Grid) (xs ys : List Step)
+-- steps in two chunks
+pub in_chunks : (s : Size) (g : Grid) (xs ys : List Step)
     → grid_from s g (xs ++ ys) ≡ grid_from s (grid_from s g xs) ys
-in_pieces s g [] ys = refl
-in_pieces s g (x ∷ xs) ys = in_pieces s (grid_by s g x) xs ys
+in_chunks s g [] ys = refl
+in_chunks s g (x ∷ xs) ys = in_chunks s (grid_by s g x) xs ys
 
 -- a row that is changed twice
 pub row_twice : (ls : List (List Cell)) (r : ℕ) (f h : List Cell → List Cell)
@@ -37,7 +37,7 @@ row_twice ls r f h =
     ]
 
 -- once a wrap is done, none is pending
-pub none_pending : (s : Size) (g : Grid) → (wrapped s g).cursor.pending ≡ false
+pub none_pending : (s : Size) (g : Grid) → (wrapped_grid s g).cursor.pending ≡ false
 none_pending s g =
     elim (cases_Bool g.cursor.pending) [
       | inl held ↦ ap (λ b. (if b then wrapped_past s g else g).cursor.pending) held
@@ -46,20 +46,20 @@ none_pending s g =
     ]
   where
     either : (b : Bool) → (if b then next_line s (joined g)
-        else settled g).cursor.pending ≡ false
+        else settled_grid g).cursor.pending ≡ false
     either true = refl
     either false = refl
 
-pub not_wrapped : (s : Size) (g : Grid) → g.cursor.pending ≡ false → wrapped s g ≡ g
+pub not_wrapped : (s : Size) (g : Grid) → g.cursor.pending ≡ false → wrapped_grid s g ≡ g
 not_wrapped s g e = ap (λ b. if b then wrapped_past s g else g) e
 
 -- a wrap before characters changes nothing, as the first of them does it
 pub wrapped_first : (s : Size) (g : Grid) (cs : List ℕ) → 0 < length cs
-    → grid_from s (wrapped s g) (map step.Print cs) ≡ grid_from s g (map step.Print cs)
+    → grid_from s (wrapped_grid s g) (map step.Print cs) ≡ grid_from s g (map step.Print cs)
 wrapped_first s g [] some = absurd (omega (arith, some))
 wrapped_first s g (c ∷ cs) some =
     ap (λ z. grid_from s (narrow_put s c z) (map step.Print cs))
-    (not_wrapped s (wrapped s g) (none_pending s g))
+    (not_wrapped s (wrapped_grid s g) (none_pending s g))
 
 direct_parts : (a b : Bool) → not a && not b ≡ true → (a ≡ false) × (b ≡ false)
 direct_parts false false h = (refl, refl)
@@ -68,16 +68,16 @@ direct_parts true b h = absurd (true≢false (sym h))
 
 -- a character that is shown as it is, where nothing makes room for it
 narrow_direct : (s : Size) (c : ℕ) (g : Grid) → is_direct g ≡ true
-    → narrow_put s c g ≡ printed s c g
+    → narrow_put s c g ≡ grid_with_character s c g
 narrow_direct s c g h =
     let k = direct_parts g.modes.inserts (draws g.cursor) h in
-    ap (λ b. printed s (if b then line_drawing c else c) (opened s 1 g)) k.1
-    ∙ ap (λ b. printed s c (if b
-    then in_row (inserted g.cursor.erased 1 g.cursor.column s.columns) g
+    ap (λ b. grid_with_character s (if b then line_drawing c else c) (grid_with_room s 1 g)) k.1
+    ∙ ap (λ b. grid_with_character s c (if b
+    then in_row (inserted_cells g.cursor.erased 1 g.cursor.column s.columns) g
     else g)) k.0
 
 pub landed_in : (s : Size) (b : Bool) (n : ℕ) (g : Grid) → n < s.columns
-    → landed s.columns b n g.cursor ≡ record (g.cursor) { column = n }
+    → landed_cursor s.columns b n g.cursor ≡ record (g.cursor) { column = n }
 landed_in s b n g within = rw (tests n s.columns within) refl
   where
     tests : (a b : ℕ) → a < b → nat_lt a b ≡ true
@@ -87,7 +87,7 @@ landed_in s b n g within = rw (tests n s.columns within) refl
 run_from : (s : Size) (c : ℕ) (cs : List ℕ) (g : Grid) → g.cursor.pending ≡ false
     → is_direct g ≡ true → g.cursor.column + length (c ∷ cs) ≤ s.columns
     → grid_from s g (map step.Print (c ∷ cs))
-    ≡ passed s (length (c ∷ cs)) (in_row (put_all g.cursor.column g.cursor.look (c ∷ cs)) g)
+    ≡ grid_past s (length (c ∷ cs)) (in_row (put_all g.cursor.column g.cursor.look (c ∷ cs)) g)
 run_from s c [] g ready direct fits =
     ap (narrow_put s c) (not_wrapped s g ready) ∙ narrow_direct s c g direct
 run_from s c (d ∷ ds) g ready direct fits =
@@ -105,29 +105,30 @@ run_from s c (d ∷ ds) g ready direct fits =
     let less : n + 1 + length cs ≤ s.columns = omega (arith, fits, one) in
     ap (λ z. grid_from s z (map step.Print cs)) first
     ∙ run_from s d ds h ready direct less
-    ∙ ap (λ rs. passed s (length cs) (record h { rows = rs }))
+    ∙ ap (λ rs. grid_past s (length cs) (record h { rows = rs }))
     (row_twice g.rows g.cursor.row (put n g.cursor.look c) (put_all (n + 1) g.cursor.look cs))
-    ∙ ap (λ m. with_cursor (landed s.columns g.modes.wraps m g.cursor)
+    ∙ ap (λ m. with_cursor (landed_cursor s.columns g.modes.wraps m g.cursor)
     (in_row (put_all n g.cursor.look (c ∷ cs)) g)) one
 
 pub run_is : (s : Size) (cs : List ℕ) (g : Grid) → g.cursor.pending ≡ false
     → is_direct g ≡ true → 0 < length cs → g.cursor.column + length cs ≤ s.columns
     → grid_from s g (map step.Print cs)
-    ≡ passed s (length cs) (in_row (put_all g.cursor.column g.cursor.look cs) g)
+    ≡ grid_past s (length cs) (in_row (put_all g.cursor.column g.cursor.look cs) g)
 run_is s [] g ready direct some fits = absurd (omega (arith, some))
 run_is s (c ∷ cs) g ready direct some fits = run_from s c cs g ready direct fits
 
 -- the first character
 pub first_is : (s : Size) (g : Grid) (text : List ℕ) (d : ℕ) → 0 < length text
-    → narrow_put s (get_or text 0 d) (wrapped s g) ≡ grid_from s g (map step.Print (take 1 text))
+    → narrow_put s (get_or text 0 d) (wrapped_grid s g)
+    ≡ grid_from s g (map step.Print (take 1 text))
 first_is s g [] d some = absurd (omega (arith, some))
 first_is s g (c ∷ cs) d some = refl
 
--- characters in two pieces
+-- characters in two chunks
 pub run_split : (s : Size) (g : Grid) (n : ℕ) (text : List ℕ)
     → grid_from s (grid_from s g (map step.Print (take n text))) (map step.Print (drop n text))
     ≡ grid_from s g (map step.Print text)
 run_split s g n text =
-    sym (in_pieces s g (map step.Print (take n text)) (map step.Print (drop n text)))
+    sym (in_chunks s g (map step.Print (take n text)) (map step.Print (drop n text)))
     ∙ ap (grid_from s g) (sym (map-append step.Print (take n text) (drop n text))
     ∙ ap (map step.Print) (take-append-drop n text))

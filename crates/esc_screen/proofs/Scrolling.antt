@@ -3,11 +3,11 @@ use Rattle.std.proofs.Common.{ℕ, suc, zero, ◌≡◌, ◌+◌, ◌-◌, ◌==
 use Rattle.std.proofs.lemmas.Bool.{and_parts, cases_Bool}
 use Rattle.std.proofs.lemmas.Bool.Decides.{nat_tests}
 use Rattle.std.proofs.lemmas.List.{length-take, take-append-drop, take-take, take_all}
-use Rattle.esc_screen.specs.Cells.{cleared}
+use Rattle.esc_screen.specs.Cells.{cleared_cells}
 use Rattle.esc_screen.specs.Grids.{Grid, Size}
 use Rattle.esc_screen.specs.Lists.{in_part, moved_up, times}
 use Rattle.esc_screen.specs.Printing.{before, repeated_content}
-use Rattle.esc_screen.specs.Scrolled.{GoesOffInPieces, IsInParts, LosesNothing, off_by, off_from, printing}
+use Rattle.esc_screen.specs.Scrolled.{GoesOffInChunks, IsInParts, LosesNothing, off_by, off_from, printing}
 use Rattle.esc_screen.specs.Steps.{grid_by, grid_from}
 use Rattle.esc_screen.specs.declared.content.Content.{Content}
 use Rattle.esc_screen.specs.declared.content.Content.TheVariants as content
@@ -52,7 +52,7 @@ kept_up n b f xs =
 
 pub loses_nothing : LosesNothing
 loses_nothing n g h =
-    let f = map (cleared g.cursor.erased) in
+    let f = map (cleared_cells g.cursor.erased) in
     let b = g.bottom in
     let first = (and_parts (not g.alternate) (g.top == 0) h).1 in
     let top : g.top ≡ 0 = grind (arith, nat_tests, first) in
@@ -63,11 +63,11 @@ loses_nothing n g h =
     ∙ kept_up n b f g.rows
     ∙ ap (λ k. take b g.rows ++ (f (take k g.rows) ++ drop b g.rows)) (sym gone)
 
-pub off_in_pieces : GoesOffInPieces
-off_in_pieces s g [] ys = refl
-off_in_pieces s g (x ∷ xs) ys =
+pub off_in_chunks : GoesOffInChunks
+off_in_chunks s g [] ys = refl
+off_in_chunks s g (x ∷ xs) ys =
     let h = grid_by s g x in
-    ap (λ z. off_by s g x ++ z) (off_in_pieces s h xs ys)
+    ap (λ z. off_by s g x ++ z) (off_in_chunks s h xs ys)
     ∙ sym (append_assoc (off_by s g x) (off_from s h xs) (off_from s (grid_from s h xs) ys))
 
 -- ---- REP

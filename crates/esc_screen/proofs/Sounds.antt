@@ -2,10 +2,10 @@
 use Rattle.std.proofs.Common.{ℕ, suc, zero, ◌≡◌, ◌+◌, ◌-◌, ◌<◌, ◌≤◌, max, Bool, true, false, List, [], ◌∷◌, ◌++◌, length, map, set, take, drop, get_or, if◌then◌else◌, refl, ap, sym, ◌∙◌, length-append, arith}
 use Rattle.std.proofs.lemmas.List.{length-map, length-replicate, length-set, take-append-drop}
 use Rattle.esc_screen.specs.Lists.{in_part, moved_down, moved_up}
-use Rattle.esc_screen.specs.Cells.{blank, cleared, cut, deleted, emptied, erased, filled, inserted, is_rest, marked, put, put_wide, shifted, start_of}
+use Rattle.esc_screen.specs.Cells.{blank, cleared_cells, cut_row, deleted_cells, emptied_cells, erased_cells, filled_cells, inserted_cells, is_rest, marked_cells, put, put_wide, shifted_cells, start_of}
 use Rattle.esc_screen.specs.Changes.{columns_moved}
 use Rattle.esc_screen.specs.Cursors.{at}
-use Rattle.esc_screen.specs.Grids.{Grid, Size, in_row, moved, rows_down, rows_erased, rows_up, with_cursor, with_margins, with_rows}
+use Rattle.esc_screen.specs.Grids.{Grid, Size, in_row, grid_at, rows_down, rows_erased, rows_up, with_cursor, with_margins, with_rows}
 use Rattle.esc_screen.specs.Sound.{AreWide, IsFull, IsOn, IsSound}
 use Rattle.esc_screen.specs.declared.cell.Cell.{Cell}
 use Rattle.esc_screen.specs.declared.cursor.Cursor.{Cursor}
@@ -17,20 +17,22 @@ if_same : {X : Type 0} (f : X → ℕ) (n : ℕ) (b : Bool) (x y : X) → f x �
 if_same f n true x y e h = e
 if_same f n false x y e h = h
 
-pub length_cut : (n : ℕ) (xs : List Cell) → length (cut n xs) ≡ length xs
+pub length_cut : (n : ℕ) (xs : List Cell) → length (cut_row n xs) ≡ length xs
 length_cut n xs = if_same length (length xs) (is_rest (get_or xs n (blank 0)))
-    (emptied n (emptied (n - 1) xs)) xs
-    (length-set (emptied (n - 1) xs) n _ ∙ length-set xs (n - 1) _) refl
+    (emptied_cells n (emptied_cells (n - 1) xs)) xs
+    (length-set (emptied_cells (n - 1) xs) n _ ∙ length-set xs (n - 1) _) refl
 
 pub length_put : (n l c : ℕ) (xs : List Cell) → length (put n l c xs) ≡ length xs
-length_put n l c xs = length-set (cut (n + 1) (cut n xs)) n _ ∙ length_cut (n + 1) (cut n xs)
+length_put n l c xs = length-set (cut_row (n + 1) (cut_row n xs)) n _
+    ∙ length_cut (n + 1) (cut_row n xs)
     ∙ length_cut n xs
 
 pub length_put_wide : (n l c : ℕ) (xs : List Cell) → length (put_wide n l c xs) ≡ length xs
-length_put_wide n l c xs = length-set (set (cut (n + 2) (cut n xs)) n _) (n + 1) _
-    ∙ length-set (cut (n + 2) (cut n xs)) n _ ∙ length_cut (n + 2) (cut n xs) ∙ length_cut n xs
+length_put_wide n l c xs = length-set (set (cut_row (n + 2) (cut_row n xs)) n _) (n + 1) _
+    ∙ length-set (cut_row (n + 2) (cut_row n xs)) n _ ∙ length_cut (n + 2) (cut_row n xs)
+    ∙ length_cut n xs
 
-pub length_marked : (n c : ℕ) (xs : List Cell) → length (marked n c xs) ≡ length xs
+pub length_marked : (n c : ℕ) (xs : List Cell) → length (marked_cells n c xs) ≡ length xs
 length_marked n c xs = length-set xs (start_of n xs) _
 
 length_part : {X : Type 0} (m n : ℕ) (f : List X → List X) (xs : List X)
@@ -63,30 +65,32 @@ length_down n f xs h =
     ∙ swapped_sum (length (drop k xs)) (length (take k xs))
     ∙ sym (length-append (take k xs) (drop k xs)) ∙ ap length (take-append-drop k xs)
 
-pub length_filled : (x : Cell) (xs : List Cell) → length (filled x xs) ≡ length xs
+pub length_filled : (x : Cell) (xs : List Cell) → length (filled_cells x xs) ≡ length xs
 length_filled x xs = length-replicate (length xs) x
 
-length_cleared : (l : ℕ) (xs : List Cell) → length (cleared l xs) ≡ length xs
+length_cleared : (l : ℕ) (xs : List Cell) → length (cleared_cells l xs) ≡ length xs
 length_cleared l xs = length_filled (blank l) xs
 
-pub length_erased : (l m n : ℕ) (xs : List Cell) → length (erased l m n xs) ≡ length xs
-length_erased l m n xs = length_part m n (cleared l) (cut n (cut m xs)) (length_cleared l)
-    ∙ length_cut n (cut m xs) ∙ length_cut m xs
+pub length_erased : (l m n : ℕ) (xs : List Cell) → length (erased_cells l m n xs) ≡ length xs
+length_erased l m n xs = length_part m n (cleared_cells l) (cut_row n (cut_row m xs))
+    (length_cleared l)
+    ∙ length_cut n (cut_row m xs) ∙ length_cut m xs
 
-pub length_deleted : (l k m n : ℕ) (xs : List Cell) → length (deleted l k m n xs) ≡ length xs
+pub length_deleted : (l k m n : ℕ) (xs : List Cell) → length (deleted_cells l k m n xs) ≡ length xs
 length_deleted l k m n xs =
-    length_part m n (moved_up k (cleared l)) (cut (m + k) (cut m xs))
-    (λ ys. length_up k (cleared l) ys (length_cleared l))
-    ∙ length_cut (m + k) (cut m xs) ∙ length_cut m xs
+    length_part m n (moved_up k (cleared_cells l)) (cut_row (m + k) (cut_row m xs))
+    (λ ys. length_up k (cleared_cells l) ys (length_cleared l))
+    ∙ length_cut (m + k) (cut_row m xs) ∙ length_cut m xs
 
-pub length_inserted : (l k m n : ℕ) (xs : List Cell) → length (inserted l k m n xs) ≡ length xs
+pub length_inserted : (l k m n : ℕ) (xs : List Cell) → length (inserted_cells l k m n xs)
+    ≡ length xs
 length_inserted l k m n xs =
-    length_part m n (moved_down k (cleared l)) (cut (max m (n - k)) (cut m xs))
-    (λ ys. length_down k (cleared l) ys (length_cleared l))
-    ∙ length_cut (max m (n - k)) (cut m xs) ∙ length_cut m xs
+    length_part m n (moved_down k (cleared_cells l)) (cut_row (max m (n - k)) (cut_row m xs))
+    (λ ys. length_down k (cleared_cells l) ys (length_cleared l))
+    ∙ length_cut (max m (n - k)) (cut_row m xs) ∙ length_cut m xs
 
 length_shifted : (more : Bool) (l k m n : ℕ) (xs : List Cell)
-    → length (shifted more l k m n xs) ≡ length xs
+    → length (shifted_cells more l k m n xs) ≡ length xs
 length_shifted more l k m n xs =
     if_same length (length xs) more _ _ (length_inserted l k m n xs) (length_deleted l k m n xs)
 
@@ -132,8 +136,8 @@ keeps_each n f e = record {
   width = λ ys w. wide_each n f ys e w;
 }
 
-pub keeps_filled : (n : ℕ) (x : Cell) → Keeps n (map (filled x))
-keeps_filled n x = keeps_each n (filled x) (length_filled x)
+pub keeps_filled : (n : ℕ) (x : Cell) → Keeps n (map (filled_cells x))
+keeps_filled n x = keeps_each n (filled_cells x) (length_filled x)
 
 keeps_up : (n k : ℕ) (f : List (List Cell) → List (List Cell)) → Keeps n f
     → Keeps n (moved_up k f)
@@ -208,7 +212,7 @@ sound_rows s g f k h = with_full s g (f g.rows) h (record {
 })
 
 pub sound_moved : (s : Size) (g : Grid) (r n : ℕ) → IsSound s g → r < s.rows → n < s.columns
-    → IsSound s (moved r n g)
+    → IsSound s (grid_at r n g)
 sound_moved s g r n h row column = with_on s g (at r n g.cursor) h (record {
   row = row;
   column = column;
@@ -222,18 +226,18 @@ sound_in_row s g f e h = with_full s g _ h (record {
 })
 
 pub sound_erased : (s : Size) (g : Grid) (m n : ℕ) → IsSound s g → IsSound s (rows_erased m n g)
-sound_erased s g m n h = sound_rows s g (in_part m n (map (cleared g.cursor.erased)))
+sound_erased s g m n h = sound_rows s g (in_part m n (map (cleared_cells g.cursor.erased)))
     (keeps_part s.columns m n _ (keeps_filled s.columns (blank g.cursor.erased))) h
 
 pub sound_up : (s : Size) (g : Grid) (k m n : ℕ) → IsSound s g → IsSound s (rows_up k m n g)
 sound_up s g k m n h =
-    sound_rows s g (in_part m n (moved_up k (map (cleared g.cursor.erased))))
+    sound_rows s g (in_part m n (moved_up k (map (cleared_cells g.cursor.erased))))
     (keeps_part s.columns m n _ (keeps_up s.columns k _
     (keeps_filled s.columns (blank g.cursor.erased)))) h
 
 pub sound_down : (s : Size) (g : Grid) (k m n : ℕ) → IsSound s g → IsSound s (rows_down k m n g)
 sound_down s g k m n h =
-    sound_rows s g (in_part m n (moved_down k (map (cleared g.cursor.erased))))
+    sound_rows s g (in_part m n (moved_down k (map (cleared_cells g.cursor.erased))))
     (keeps_part s.columns m n _ (keeps_down s.columns k _
     (keeps_filled s.columns (blank g.cursor.erased)))) h
 
@@ -241,9 +245,9 @@ pub sound_columns : (s : Size) (g : Grid) (more : Bool) (n c : ℕ) → IsSound 
     → IsSound s (columns_moved s more n c g)
 sound_columns s g more n c h =
     let e = g.cursor.erased in
-    sound_rows s g (in_part g.top g.bottom (map (shifted more e n c s.columns)))
+    sound_rows s g (in_part g.top g.bottom (map (shifted_cells more e n c s.columns)))
     (keeps_part s.columns g.top g.bottom _
-    (keeps_each s.columns (shifted more e n c s.columns)
+    (keeps_each s.columns (shifted_cells more e n c s.columns)
     (length_shifted more e n c s.columns))) h
 
 pub sound_if : (s : Size) (b : Bool) (g h : Grid) → IsSound s g → IsSound s h

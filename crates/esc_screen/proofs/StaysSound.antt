@@ -3,13 +3,13 @@ use Rattle.std.proofs.Common.{ℕ, suc, zero, ◌≡◌, ◌+◌, ◌-◌, ◌==
 use Rattle.std.proofs.lemmas.Bool.Decides.{nat_tests}
 use Rattle.std.proofs.lemmas.List.{length-replicate, length-set}
 use Rattle.esc_screen.specs.Lists.{times}
-use Rattle.esc_screen.specs.Cells.{blank, blank_row, deleted, drawn, erased, filled, inserted, joined_at, marked, put, put_wide}
-use Rattle.esc_screen.specs.Cursors.{before_stop, landed, shown, stop_after, stop_before}
-use Rattle.esc_screen.specs.Grids.{Grid, Size, blank_rows, first_grid, in_row, line_fed, line_fed_back, moved, next_line, settled, with_cursor, with_margins, with_rows}
-use Rattle.esc_screen.specs.Printing.{before, column_before, has_before, has_room, joined, mark_printed, narrow_printed, opened, passed, printed, printed_wide, repeated_content, wide_printed, wrapped, wrapped_wide}
-use Rattle.esc_screen.specs.Motions.{grid_by_motion, positioned, row_by, row_down, row_up, tab_before}
-use Rattle.esc_screen.specs.Changes.{aligned, cells_erased, grid_by_change, is_within}
-use Rattle.esc_screen.specs.Settings.{alternate_cleared, exchanged, grid_by_setting, saving, scrolling, to_alternate, to_main}
+use Rattle.esc_screen.specs.Cells.{blank, blank_row, deleted_cells, drawn_cell, erased_cells, filled_cells, inserted_cells, joined_at, marked_cells, put, put_wide}
+use Rattle.esc_screen.specs.Cursors.{before_stop, landed_cursor, shown, stop_after, stop_before}
+use Rattle.esc_screen.specs.Grids.{Grid, Size, blank_rows, first_grid, in_row, line_fed, line_fed_back, grid_at, next_line, settled_grid, with_cursor, with_margins, with_rows}
+use Rattle.esc_screen.specs.Printing.{before, column_before, has_before, has_room, joined, mark_printed, narrow_printed, grid_with_room, grid_past, grid_with_character, printed_wide, repeated_content, wide_printed, wrapped_grid, wrapped_wide}
+use Rattle.esc_screen.specs.Motions.{grid_by_motion, positioned_grid, row_by, row_down, row_up, tab_before}
+use Rattle.esc_screen.specs.Changes.{alignment_grid, cells_erased, grid_by_change, is_within}
+use Rattle.esc_screen.specs.Settings.{alternate_cleared, exchanged_screens, grid_by_setting, saving, scrolling, to_alternate, to_main}
 use Rattle.esc_screen.specs.Steps.{grid_by}
 use Rattle.esc_screen.specs.Sound.{AreWide, BeginsSound, IsFull, IsOn, IsSound, StaysSound}
 use Rattle.esc_screen.specs.declared.change.Change.{Change}
@@ -29,20 +29,20 @@ use Rattle.esc_screen.proofs.Stops.{length_eighths}
 -- ---- lines
 
 pub sound_here : (s : Size) (g : Grid) → IsSound s g
-    → IsSound s (settled g)
+    → IsSound s (settled_grid g)
 sound_here s g h = sound_moved s g g.cursor.row g.cursor.column h h.cursor.row h.cursor.column
 
 sound_fed : (s : Size) (g : Grid) → IsSound s g → IsSound s (line_fed s g)
 sound_fed s g h =
     sound_if s (g.cursor.row + 1 == g.bottom) _ _
-    (sound_up s (settled g) 1 g.top g.bottom (sound_here s g h))
+    (sound_up s (settled_grid g) 1 g.top g.bottom (sound_here s g h))
     (sound_moved s g (min (g.cursor.row + 1) (s.rows - 1)) g.cursor.column h
     (omega (arith, h.cursor.row)) h.cursor.column)
 
 sound_back : (s : Size) (g : Grid) → IsSound s g → IsSound s (line_fed_back g)
 sound_back s g h =
     sound_if s (g.cursor.row == g.top) _ _
-    (sound_down s (settled g) 1 g.top g.bottom (sound_here s g h))
+    (sound_down s (settled_grid g) 1 g.top g.bottom (sound_here s g h))
     (sound_moved s g (g.cursor.row - 1) g.cursor.column h
     (omega (arith, h.cursor.row)) h.cursor.column)
 
@@ -55,7 +55,7 @@ sound_next s g h =
 -- ---- characters
 
 on_landed : (s : Size) (b : Bool) (n : ℕ) (c : Cursor) → IsOn s c
-    → IsOn s (landed s.columns b n c)
+    → IsOn s (landed_cursor s.columns b n c)
 on_landed s b n c h = by_test (nat_lt n s.columns) (λ e. grind (arith, nat_tests, e))
   where
     by_test : (t : Bool) → (t ≡ true → n < s.columns)
@@ -72,33 +72,35 @@ on_landed s b n c h = by_test (nat_lt n s.columns) (λ e. grind (arith, nat_test
       column = omega (arith, h.column);
     }
 
-sound_passed : (s : Size) (n : ℕ) (g : Grid) → IsSound s g → IsSound s (passed s n g)
-sound_passed s n g h = with_on s g (landed s.columns g.modes.wraps (g.cursor.column + n) g.cursor)
+sound_passed : (s : Size) (n : ℕ) (g : Grid) → IsSound s g → IsSound s (grid_past s n g)
+sound_passed s n g h = with_on s g
+    (landed_cursor s.columns g.modes.wraps (g.cursor.column + n) g.cursor)
     h (on_landed s g.modes.wraps (g.cursor.column + n) g.cursor h.cursor)
 
-pub sound_opened : (s : Size) (n : ℕ) (g : Grid) → IsSound s g → IsSound s (opened s n g)
+pub sound_opened : (s : Size) (n : ℕ) (g : Grid) → IsSound s g → IsSound s (grid_with_room s n g)
 sound_opened s n g h = sound_if s g.modes.inserts _ _
-    (sound_in_row s g (inserted g.cursor.erased n g.cursor.column s.columns)
+    (sound_in_row s g (inserted_cells g.cursor.erased n g.cursor.column s.columns)
     (length_inserted g.cursor.erased n g.cursor.column s.columns) h) h
 
 pub sound_joined : (s : Size) (g : Grid) → IsSound s g → IsSound s (joined g)
 sound_joined s g h = sound_in_row s g (joined_at g.cursor.column)
     (λ ys. length-set ys g.cursor.column _) h
 
-pub sound_wrapped : (s : Size) (g : Grid) → IsSound s g → IsSound s (wrapped s g)
+pub sound_wrapped : (s : Size) (g : Grid) → IsSound s g → IsSound s (wrapped_grid s g)
 sound_wrapped s g h = sound_if s g.cursor.pending _ _
     (sound_if s g.modes.wraps _ _ (sound_next s (joined g) (sound_joined s g h))
     (sound_here s g h)) h
 
-sound_printed : (s : Size) (c : ℕ) (g : Grid) → IsSound s g → IsSound s (printed s c g)
+sound_printed : (s : Size) (c : ℕ) (g : Grid) → IsSound s g → IsSound s (grid_with_character s c g)
 sound_printed s c g h = sound_passed s 1 (in_row (put g.cursor.column g.cursor.look c) g)
     (sound_in_row s g (put g.cursor.column g.cursor.look c)
     (length_put g.cursor.column g.cursor.look c) h)
 
 pub sound_narrow : (s : Size) (c : ℕ) (g : Grid) → IsSound s g → IsSound s (narrow_printed s c g)
 sound_narrow s c g h =
-    let w = wrapped s g in
-    sound_printed s (shown w.cursor c) (opened s 1 w) (sound_opened s 1 w (sound_wrapped s g h))
+    let w = wrapped_grid s g in
+    sound_printed s (shown w.cursor c) (grid_with_room s 1 w)
+    (sound_opened s 1 w (sound_wrapped s g h))
 
 sound_printed_wide : (s : Size) (c : ℕ) (g : Grid) → IsSound s g → IsSound s (printed_wide s c g)
 sound_printed_wide s c g h =
@@ -112,12 +114,12 @@ sound_wrapped_wide s g h = sound_if s (nat_lt (g.cursor.column + 1) s.columns) _
 
 pub sound_wide : (s : Size) (c : ℕ) (g : Grid) → IsSound s g → IsSound s (wide_printed s c g)
 sound_wide s c g h = sound_if s (has_room s g) _ _
-    (sound_printed_wide s c (opened s 2 (wrapped_wide s g))
+    (sound_printed_wide s c (grid_with_room s 2 (wrapped_wide s g))
     (sound_opened s 2 (wrapped_wide s g) (sound_wrapped_wide s g h))) h
 
 sound_mark : (s : Size) (c : ℕ) (g : Grid) → IsSound s g → IsSound s (mark_printed c g)
 sound_mark s c g h = sound_if s (has_before g) _ _
-    (sound_in_row s g (marked (column_before g) c) (length_marked (column_before g) c) h) h
+    (sound_in_row s g (marked_cells (column_before g) c) (length_marked (column_before g) c) h) h
 
 sound_times : (s : Size) (n : ℕ) (f : Grid → Grid) (g : Grid)
     → ((k : Grid) → IsSound s k → IsSound s (f k)) → IsSound s g → IsSound s (times n f g)
@@ -160,7 +162,7 @@ stop_within bs (suc n) = at_most (get_or bs n false) n (stop_before bs n) (stop_
     at_most true n k h = omega arith
     at_most false n k h = omega (arith, h)
 
-sound_at : (s : Size) (r n : ℕ) (g : Grid) → IsSound s g → IsSound s (positioned s r n g)
+sound_at : (s : Size) (r n : ℕ) (g : Grid) → IsSound s g → IsSound s (positioned_grid s r n g)
 sound_at s r n g h = sound_moved s g (row_by s r g) (min n (s.columns - 1)) h (by_within s r g h)
     (omega (arith, h.cursor.column))
 
@@ -207,18 +209,18 @@ sound_motion s g (motion.BackTab n) h =
 -- ---- changes
 
 sound_cells : (s : Size) (g : Grid) (m n : ℕ) → IsSound s g → IsSound s (cells_erased m n g)
-sound_cells s g m n h = sound_in_row s (settled g) (erased g.cursor.erased m n)
+sound_cells s g m n h = sound_in_row s (settled_grid g) (erased_cells g.cursor.erased m n)
     (length_erased g.cursor.erased m n) (sound_here s g h)
 
-sound_start : (s : Size) (g : Grid) → IsSound s g → IsSound s (moved g.cursor.row 0 g)
+sound_start : (s : Size) (g : Grid) → IsSound s g → IsSound s (grid_at g.cursor.row 0 g)
 sound_start s g h =
     sound_moved s g g.cursor.row 0 h h.cursor.row (omega (arith, h.cursor.column))
 
-sound_aligned : (s : Size) (g : Grid) → IsSound s g → IsSound s (aligned s g)
+sound_aligned : (s : Size) (g : Grid) → IsSound s g → IsSound s (alignment_grid s g)
 sound_aligned s g h =
-    let k = sound_rows s g (map (filled (drawn 0 0x45)))
-    (keeps_filled s.columns (drawn 0 0x45)) h in
-    let rs = with_rows (map (filled (drawn 0 0x45)) g.rows) g in
+    let k = sound_rows s g (map (filled_cells (drawn_cell 0 0x45)))
+    (keeps_filled s.columns (drawn_cell 0 0x45)) h in
+    let rs = with_rows (map (filled_cells (drawn_cell 0 0x45)) g.rows) g in
     let some : 0 < s.rows = omega (arith, h.cursor.row) in
     let one : 0 < s.columns = omega (arith, h.cursor.column) in
     let all : s.rows ≤ s.rows = omega arith in
@@ -237,26 +239,26 @@ sound_change s g change.NextLine h = sound_next s g h
 sound_change s g change.EraseRight h = sound_cells s g g.cursor.column s.columns h
 sound_change s g change.EraseLeft h = sound_cells s g 0 (g.cursor.column + 1) h
 sound_change s g change.EraseRow h =
-    sound_erased s (settled g) g.cursor.row (g.cursor.row + 1) (sound_here s g h)
+    sound_erased s (settled_grid g) g.cursor.row (g.cursor.row + 1) (sound_here s g h)
 sound_change s g change.EraseBelow h =
     sound_erased s (cells_erased g.cursor.column s.columns g) (g.cursor.row + 1) s.rows
     (sound_cells s g g.cursor.column s.columns h)
 sound_change s g change.EraseAbove h =
     sound_erased s (cells_erased 0 (g.cursor.column + 1) g) 0 g.cursor.row
     (sound_cells s g 0 (g.cursor.column + 1) h)
-sound_change s g change.EraseAll h = sound_erased s (settled g) 0 s.rows (sound_here s g h)
+sound_change s g change.EraseAll h = sound_erased s (settled_grid g) 0 s.rows (sound_here s g h)
 sound_change s g (change.EraseCells n) h =
     sound_cells s g g.cursor.column (g.cursor.column + n) h
 sound_change s g (change.InsertCells n) h =
-    sound_in_row s (settled g) (inserted g.cursor.erased n g.cursor.column s.columns)
+    sound_in_row s (settled_grid g) (inserted_cells g.cursor.erased n g.cursor.column s.columns)
     (length_inserted g.cursor.erased n g.cursor.column s.columns) (sound_here s g h)
 sound_change s g (change.DeleteCells n) h =
-    sound_in_row s (settled g) (deleted g.cursor.erased n g.cursor.column s.columns)
+    sound_in_row s (settled_grid g) (deleted_cells g.cursor.erased n g.cursor.column s.columns)
     (length_deleted g.cursor.erased n g.cursor.column s.columns) (sound_here s g h)
 sound_change s g (change.InsertRows n) h = sound_if s (is_within g) _ _
-    (sound_down s (moved g.cursor.row 0 g) n g.cursor.row g.bottom (sound_start s g h)) h
+    (sound_down s (grid_at g.cursor.row 0 g) n g.cursor.row g.bottom (sound_start s g h)) h
 sound_change s g (change.DeleteRows n) h = sound_if s (is_within g) _ _
-    (sound_up s (moved g.cursor.row 0 g) n g.cursor.row g.bottom (sound_start s g h)) h
+    (sound_up s (grid_at g.cursor.row 0 g) n g.cursor.row g.bottom (sound_start s g h)) h
 sound_change s g (change.ScrollUp n) h = sound_up s g n g.top g.bottom h
 sound_change s g (change.ScrollDown n) h = sound_down s g n g.top g.bottom h
 sound_change s g (change.ScrollLeft n) h = sound_columns s g false n 0 h
@@ -293,7 +295,7 @@ sound_scrolling s m n g h =
     by_test (nat_lt (m + 1) (min n s.rows)) (λ e. grind (arith, nat_tests, e))
   where
     by_test : (b : Bool) → (b ≡ true → m + 1 < min n s.rows)
-        → IsSound s (if b then positioned s 0 0 (with_margins m (min n s.rows) g) else g)
+        → IsSound s (if b then positioned_grid s 0 0 (with_margins m (min n s.rows) g) else g)
     by_test false e = h
     by_test true e = sound_at s 0 0 (with_margins m (min n s.rows) g)
         (with_scrolling s g m (min n s.rows) h (omega (arith, e refl)) (omega arith))
@@ -309,7 +311,7 @@ sound_saving s g h = record {
   tabs = h.tabs;
 }
 
-sound_exchanged : (s : Size) (g : Grid) → IsSound s g → IsSound s (exchanged g)
+sound_exchanged : (s : Size) (g : Grid) → IsSound s g → IsSound s (exchanged_screens g)
 sound_exchanged s g h = record {
   rows = h.other;
   other = h.rows;

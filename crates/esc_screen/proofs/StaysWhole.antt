@@ -3,14 +3,14 @@ use Rattle.std.proofs.Common.{ℕ, suc, zero, ◌≡◌, ◌+◌, ◌-◌, ◌==
 use Rattle.std.proofs.lemmas.Bool.{and_parts}
 use Rattle.std.proofs.lemmas.Bool.Decides.{nat_tests}
 use Rattle.esc_screen.specs.Lists.{in_part, moved_down, moved_up, times}
-use Rattle.esc_screen.specs.Cells.{blank, blank_row, cleared, deleted, drawn, erased, filled, inserted, is_rest, joined_at, marked, put, put_wide, shifted}
-use Rattle.esc_screen.specs.Changes.{aligned, cells_erased, columns_moved, fed, grid_by_change, is_within}
+use Rattle.esc_screen.specs.Cells.{blank, blank_row, cleared_cells, deleted_cells, drawn_cell, erased_cells, filled_cells, inserted_cells, is_rest, joined_at, marked_cells, put, put_wide, shifted_cells}
+use Rattle.esc_screen.specs.Changes.{alignment_grid, cells_erased, columns_moved, fed, grid_by_change, is_within}
 use Rattle.esc_screen.specs.Cursors.{shown}
-use Rattle.esc_screen.specs.Grids.{Grid, Size, in_row, line_fed, line_fed_back, moved, next_line, rows_down, rows_erased, rows_up, settled, with_rows}
+use Rattle.esc_screen.specs.Grids.{Grid, Size, in_row, line_fed, line_fed_back, grid_at, next_line, rows_down, rows_erased, rows_up, settled_grid, with_rows}
 use Rattle.esc_screen.specs.Halves.{AreWhole, BeginsWhole, HasWholeRows, IsWhole, StaysWhole, is_wide}
 use Rattle.esc_screen.specs.Motions.{grid_by_motion}
-use Rattle.esc_screen.specs.Printing.{before, column_before, has_before, has_room, joined, mark_printed, narrow_printed, opened, printed, printed_wide, repeated_content, wide_printed, wrapped, wrapped_wide}
-use Rattle.esc_screen.specs.Settings.{alternate_cleared, exchanged, grid_by_setting, saving, scrolling, to_alternate, to_main}
+use Rattle.esc_screen.specs.Printing.{before, column_before, has_before, has_room, joined, mark_printed, narrow_printed, grid_with_room, grid_with_character, printed_wide, repeated_content, wide_printed, wrapped_grid, wrapped_wide}
+use Rattle.esc_screen.specs.Settings.{alternate_cleared, exchanged_screens, grid_by_setting, saving, scrolling, to_alternate, to_main}
 use Rattle.esc_screen.specs.Sound.{AreWide, IsSound}
 use Rattle.esc_screen.specs.Steps.{grid_by}
 use Rattle.esc_screen.specs.declared.cell.Cell.{Cell}
@@ -46,11 +46,11 @@ rows_drop (suc n) (x ∷ xs) h = rows_drop n xs h.1
 
 -- of which all are one cell that is no half
 rows_filled : (x : Cell) (xs : List (List Cell)) → is_rest x ≡ false → is_wide x ≡ false
-    → AreWhole (map (filled x) xs)
+    → AreWhole (map (filled_cells x) xs)
 rows_filled x [] r v = omega arith
 rows_filled x (y ∷ ys) r v = (whole_filled x (length y) r v, rows_filled x ys r v)
 
-rows_cleared : (l : ℕ) (xs : List (List Cell)) → AreWhole (map (cleared l) xs)
+rows_cleared : (l : ℕ) (xs : List (List Cell)) → AreWhole (map (cleared_cells l) xs)
 rows_cleared l xs = rows_filled (blank l) xs refl refl
 
 rows_part : (m n : ℕ) (f : List (List Cell) → List (List Cell)) (xs : List (List Cell))
@@ -72,7 +72,7 @@ rows_changed c zero f (x ∷ xs) w k h = (k x w.0 h.0, h.1)
 rows_changed c (suc r) f (x ∷ xs) w k h = (h.0, rows_changed c r f xs w.1 k h.1)
 
 rows_shifted : (more : Bool) (l k m n : ℕ) (xs : List (List Cell)) → AreWide n xs → m ≤ n
-    → AreWhole xs → AreWhole (map (shifted more l k m n) xs)
+    → AreWhole xs → AreWhole (map (shifted_cells more l k m n) xs)
 rows_shifted more l k m n [] w within h = omega arith
 rows_shifted more l k m n (x ∷ xs) w within h =
     (whole_shifted more l k m n x w.0 within h.0, rows_shifted more l k m n xs w.1 within h.1)
@@ -99,7 +99,7 @@ whole_if : (b : Bool) (g h : Grid) → HasWholeRows g → HasWholeRows h
 whole_if true g h x y = x
 whole_if false g h x y = y
 
-whole_moved : (r n : ℕ) (g : Grid) → HasWholeRows g → HasWholeRows (moved r n g)
+whole_moved : (r n : ℕ) (g : Grid) → HasWholeRows g → HasWholeRows (grid_at r n g)
 whole_moved r n g h = record {
   rows = h.rows;
   other = h.other;
@@ -113,14 +113,14 @@ whole_in_row s g f o k h =
 
 whole_up : (k m n : ℕ) (g : Grid) → HasWholeRows g → HasWholeRows (rows_up k m n g)
 whole_up k m n g h =
-    let f = map (cleared g.cursor.erased) in
+    let f = map (cleared_cells g.cursor.erased) in
     with_whole g _ h (rows_part m n (moved_up k f) g.rows h.rows (λ ys w.
     rows_append (drop k ys) (f (take k ys)) (rows_drop k ys w)
     (rows_cleared g.cursor.erased (take k ys))))
 
 whole_down : (k m n : ℕ) (g : Grid) → HasWholeRows g → HasWholeRows (rows_down k m n g)
 whole_down k m n g h =
-    let f = map (cleared g.cursor.erased) in
+    let f = map (cleared_cells g.cursor.erased) in
     with_whole g _ h (rows_part m n (moved_down k f) g.rows h.rows (λ ys w.
     let i = length ys - k in
     rows_append (f (drop i ys)) (take i ys) (rows_cleared g.cursor.erased (drop i ys))
@@ -128,19 +128,19 @@ whole_down k m n g h =
 
 whole_rows_erased : (m n : ℕ) (g : Grid) → HasWholeRows g → HasWholeRows (rows_erased m n g)
 whole_rows_erased m n g h = with_whole g _ h
-    (rows_part m n (map (cleared g.cursor.erased)) g.rows h.rows
+    (rows_part m n (map (cleared_cells g.cursor.erased)) g.rows h.rows
     (λ ys w. rows_cleared g.cursor.erased ys))
 
 -- ---- lines
 
 whole_fed : (s : Size) (g : Grid) → HasWholeRows g → HasWholeRows (line_fed s g)
 whole_fed s g h = whole_if (g.cursor.row + 1 == g.bottom) _ _
-    (whole_up 1 g.top g.bottom (settled g) (whole_moved g.cursor.row g.cursor.column g h))
+    (whole_up 1 g.top g.bottom (settled_grid g) (whole_moved g.cursor.row g.cursor.column g h))
     (whole_moved (min (g.cursor.row + 1) (s.rows - 1)) g.cursor.column g h)
 
 whole_back : (g : Grid) → HasWholeRows g → HasWholeRows (line_fed_back g)
 whole_back g h = whole_if (g.cursor.row == g.top) _ _
-    (whole_down 1 g.top g.bottom (settled g) (whole_moved g.cursor.row g.cursor.column g h))
+    (whole_down 1 g.top g.bottom (settled_grid g) (whole_moved g.cursor.row g.cursor.column g h))
     (whole_moved (g.cursor.row - 1) g.cursor.column g h)
 
 whole_next : (s : Size) (g : Grid) → HasWholeRows g → HasWholeRows (next_line s g)
@@ -156,7 +156,7 @@ whole_join s g o h =
     whole_in_row s g (joined_at g.cursor.column) o (λ ys e w. whole_joined g.cursor.column ys w) h
 
 whole_wrapped : (s : Size) (g : Grid) → IsSound s g → HasWholeRows g
-    → HasWholeRows (wrapped s g)
+    → HasWholeRows (wrapped_grid s g)
 whole_wrapped s g o h = whole_if g.cursor.pending _ _
     (whole_if g.modes.wraps _ _ (whole_next s (joined g) (whole_join s g o h))
     (whole_moved g.cursor.row g.cursor.column g h)) h
@@ -170,14 +170,14 @@ below : (m n : ℕ) → m < n → m ≤ n
 below m n h = omega (arith, h)
 
 whole_opened : (s : Size) (n : ℕ) (g : Grid) → IsSound s g → HasWholeRows g
-    → HasWholeRows (opened s n g)
+    → HasWholeRows (grid_with_room s n g)
 whole_opened s n g o h = whole_if g.modes.inserts _ _
-    (whole_in_row s g (inserted g.cursor.erased n g.cursor.column s.columns) o (λ ys e w.
+    (whole_in_row s g (inserted_cells g.cursor.erased n g.cursor.column s.columns) o (λ ys e w.
     whole_inserted g.cursor.erased n g.cursor.column s.columns ys e
     (below g.cursor.column s.columns o.cursor.column) w) h) h
 
 whole_printed : (s : Size) (c : ℕ) (g : Grid) → IsSound s g → HasWholeRows g
-    → HasWholeRows (printed s c g)
+    → HasWholeRows (grid_with_character s c g)
 whole_printed s c g o h = same_rows
     (in_row (put g.cursor.column g.cursor.look c) g) _
     (whole_in_row s g (put g.cursor.column g.cursor.look c) o
@@ -186,9 +186,9 @@ whole_printed s c g o h = same_rows
 whole_narrow : (s : Size) (c : ℕ) (g : Grid) → IsSound s g → HasWholeRows g
     → HasWholeRows (narrow_printed s c g)
 whole_narrow s c g o h =
-    let w = wrapped s g in
+    let w = wrapped_grid s g in
     let v = sound_wrapped s g o in
-    whole_printed s (shown w.cursor c) (opened s 1 w) (sound_opened s 1 w v)
+    whole_printed s (shown w.cursor c) (grid_with_room s 1 w) (sound_opened s 1 w v)
     (whole_opened s 1 w v (whole_wrapped s g o h))
 
 fits_two : (n c : ℕ) (ys : List Cell) → length ys ≡ c → n + 1 < c → n + 1 < length ys
@@ -203,11 +203,12 @@ whole_printed_wide s c g less o h = same_rows
     (fits_two g.cursor.column s.columns ys e less) w) h) refl refl
 
 -- where one of two columns comes, there are two
-opened_column : (s : Size) (n : ℕ) (g : Grid) → (opened s n g).cursor.column ≡ g.cursor.column
+opened_column : (s : Size) (n : ℕ) (g : Grid) → (grid_with_room s n g).cursor.column
+    ≡ g.cursor.column
 opened_column s n g = by_test g.modes.inserts
   where
     by_test : (b : Bool)
-        → (if b then in_row (inserted g.cursor.erased n g.cursor.column s.columns) g
+        → (if b then in_row (inserted_cells g.cursor.erased n g.cursor.column s.columns) g
         else g).cursor.column ≡ g.cursor.column
     by_test true = refl
     by_test false = refl
@@ -221,7 +222,7 @@ has_two s g h =
     by_test (nat_lt (g.cursor.column + 1) s.columns) some (λ e. grind (arith, nat_tests, e))
   where
     either : (p w : Bool) → 0 + 1 < s.columns → g.cursor.column + 1 < s.columns
-        → (if p then if w then next_line s (joined g) else settled g else g).cursor.column + 1
+        → (if p then if w then next_line s (joined g) else settled_grid g else g).cursor.column + 1
         < s.columns
     either true true some less = some
     either true false some less = less
@@ -229,7 +230,7 @@ has_two s g h =
 
     by_test : (t : Bool) → 0 + 1 < s.columns
         → (t ≡ true → g.cursor.column + 1 < s.columns)
-        → (if t then wrapped s g else next_line s (joined g)).cursor.column + 1 < s.columns
+        → (if t then wrapped_grid s g else next_line s (joined g)).cursor.column + 1 < s.columns
     by_test true some less = either g.cursor.pending g.modes.wraps some (less refl)
     by_test false some less = some
 
@@ -238,21 +239,21 @@ whole_wide : (s : Size) (c : ℕ) (g : Grid) → IsSound s g → HasWholeRows g
 whole_wide s c g o h = by_test (has_room s g) (λ e. e)
   where
     by_test : (b : Bool) → (b ≡ true → has_room s g ≡ true)
-        → HasWholeRows (if b then printed_wide s c (opened s 2 (wrapped_wide s g)) else g)
+        → HasWholeRows (if b then printed_wide s c (grid_with_room s 2 (wrapped_wide s g)) else g)
     by_test false e = h
     by_test true e =
         let w = wrapped_wide s g in
         let v = sound_wrapped_wide s g o in
         let k = has_two s g (e refl) in
-        let less : (opened s 2 w).cursor.column + 1 < s.columns =
+        let less : (grid_with_room s 2 w).cursor.column + 1 < s.columns =
         subst (λ n. n + 1 < s.columns) (sym (opened_column s 2 w)) k in
-        whole_printed_wide s c (opened s 2 w) less (sound_opened s 2 w v)
+        whole_printed_wide s c (grid_with_room s 2 w) less (sound_opened s 2 w v)
         (whole_opened s 2 w v (whole_wrapped_wide s g o h))
 
 whole_mark : (s : Size) (c : ℕ) (g : Grid) → IsSound s g → HasWholeRows g
     → HasWholeRows (mark_printed c g)
 whole_mark s c g o h = whole_if (has_before g) _ _
-    (whole_in_row s g (marked (column_before g) c) o
+    (whole_in_row s g (marked_cells (column_before g) c) o
     (λ ys e w. whole_marked (column_before g) c ys w) h) h
 
 -- what keeps both
@@ -308,7 +309,7 @@ whole_motion s g (motion.BackTab n) h = same_rows g _ h refl refl
 whole_cells : (s : Size) (g : Grid) (m n : ℕ) → IsSound s g → HasWholeRows g
     → HasWholeRows (cells_erased m n g)
 whole_cells s g m n o h =
-    whole_in_row s (settled g) (erased g.cursor.erased m n) (sound_here s g o)
+    whole_in_row s (settled_grid g) (erased_cells g.cursor.erased m n) (sound_here s g o)
     (λ ys e w. whole_erased g.cursor.erased m n ys w)
     (whole_moved g.cursor.row g.cursor.column g h)
 
@@ -322,14 +323,14 @@ whole_columns s g more n c o within h =
     let v = rows_drop g.top g.rows h.rows in
     with_whole g _ h
     (rows_append (take g.top g.rows) _ (rows_take g.top g.rows h.rows)
-    (rows_append (map (shifted more e n c s.columns) (take k ys)) (drop k ys)
+    (rows_append (map (shifted_cells more e n c s.columns) (take k ys)) (drop k ys)
     (rows_shifted more e n c s.columns (take k ys) (wide_take s.columns k ys w) within
     (rows_take k ys v))
     (rows_drop k ys v)))
 
-whole_aligned : (s : Size) (g : Grid) → HasWholeRows g → HasWholeRows (aligned s g)
+whole_aligned : (s : Size) (g : Grid) → HasWholeRows g → HasWholeRows (alignment_grid s g)
 whole_aligned s g h = record {
-  rows = rows_filled (drawn 0 0x45) g.rows refl refl;
+  rows = rows_filled (drawn_cell 0 0x45) g.rows refl refl;
   other = h.other;
 }
 
@@ -346,7 +347,7 @@ whole_change s g change.NextLine o h = whole_next s g h
 whole_change s g change.EraseRight o h = whole_cells s g g.cursor.column s.columns o h
 whole_change s g change.EraseLeft o h = whole_cells s g 0 (g.cursor.column + 1) o h
 whole_change s g change.EraseRow o h =
-    whole_rows_erased g.cursor.row (g.cursor.row + 1) (settled g)
+    whole_rows_erased g.cursor.row (g.cursor.row + 1) (settled_grid g)
     (whole_moved g.cursor.row g.cursor.column g h)
 whole_change s g change.EraseBelow o h =
     whole_rows_erased (g.cursor.row + 1) s.rows (cells_erased g.cursor.column s.columns g)
@@ -354,26 +355,26 @@ whole_change s g change.EraseBelow o h =
 whole_change s g change.EraseAbove o h =
     whole_rows_erased 0 g.cursor.row (cells_erased 0 (g.cursor.column + 1) g)
     (whole_cells s g 0 (g.cursor.column + 1) o h)
-whole_change s g change.EraseAll o h = whole_rows_erased 0 s.rows (settled g)
+whole_change s g change.EraseAll o h = whole_rows_erased 0 s.rows (settled_grid g)
     (whole_moved g.cursor.row g.cursor.column g h)
 whole_change s g (change.EraseCells n) o h =
     whole_cells s g g.cursor.column (g.cursor.column + n) o h
 whole_change s g (change.InsertCells n) o h =
-    whole_in_row s (settled g) (inserted g.cursor.erased n g.cursor.column s.columns)
+    whole_in_row s (settled_grid g) (inserted_cells g.cursor.erased n g.cursor.column s.columns)
     (sound_here s g o)
     (λ ys e w. whole_inserted g.cursor.erased n g.cursor.column s.columns ys e
     (below g.cursor.column s.columns o.cursor.column) w)
     (whole_moved g.cursor.row g.cursor.column g h)
 whole_change s g (change.DeleteCells n) o h =
-    whole_in_row s (settled g) (deleted g.cursor.erased n g.cursor.column s.columns)
+    whole_in_row s (settled_grid g) (deleted_cells g.cursor.erased n g.cursor.column s.columns)
     (sound_here s g o)
     (λ ys e w. whole_deleted g.cursor.erased n g.cursor.column s.columns ys e w)
     (whole_moved g.cursor.row g.cursor.column g h)
 whole_change s g (change.InsertRows n) o h = whole_if (is_within g) _ _
-    (whole_down n g.cursor.row g.bottom (moved g.cursor.row 0 g)
+    (whole_down n g.cursor.row g.bottom (grid_at g.cursor.row 0 g)
     (whole_moved g.cursor.row 0 g h)) h
 whole_change s g (change.DeleteRows n) o h = whole_if (is_within g) _ _
-    (whole_up n g.cursor.row g.bottom (moved g.cursor.row 0 g)
+    (whole_up n g.cursor.row g.bottom (grid_at g.cursor.row 0 g)
     (whole_moved g.cursor.row 0 g h)) h
 whole_change s g (change.ScrollUp n) o h = whole_up n g.top g.bottom g h
 whole_change s g (change.ScrollDown n) o h = whole_down n g.top g.bottom g h
@@ -396,7 +397,7 @@ whole_scrolling : (s : Size) (m n : ℕ) (g : Grid) → HasWholeRows g
 whole_scrolling s m n g h =
     whole_if (nat_lt (m + 1) (min n s.rows)) _ _ (same_rows g _ h refl refl) h
 
-whole_exchanged : (g : Grid) → HasWholeRows g → HasWholeRows (exchanged g)
+whole_exchanged : (g : Grid) → HasWholeRows g → HasWholeRows (exchanged_screens g)
 whole_exchanged g h = record {
   rows = h.other;
   other = h.rows;

@@ -41,8 +41,8 @@ abbrev pub blank : ℕ → Cell
 blank l = cell content.Blank l
 
 -- a character of one column that looks so
-abbrev pub drawn : ℕ → ℕ → Cell
-drawn l c = cell (content.Narrow c no_marks) l
+abbrev pub drawn_cell : ℕ → ℕ → Cell
+drawn_cell l c = cell (content.Narrow c no_marks) l
 
 abbrev pub is_rest_content : Content → Bool
 is_rest_content content.Rest = true
@@ -79,24 +79,25 @@ abbrev pub blank_row : ℕ → ℕ → List Cell
 blank_row l n = replicate n (blank l)
 
 -- cells of which each is this
-abbrev pub filled : Cell → List Cell → List Cell
-filled x xs = replicate (length xs) x
+abbrev pub filled_cells : Cell → List Cell → List Cell
+filled_cells x xs = replicate (length xs) x
 
 -- cells of which none has a character any more
-abbrev pub cleared : ℕ → List Cell → List Cell
-cleared l xs = filled (blank l) xs
+abbrev pub cleared_cells : ℕ → List Cell → List Cell
+cleared_cells l xs = filled_cells (blank l) xs
 
 -- the cell at a column has no character any more
-abbrev pub emptied : ℕ → List Cell → List Cell
-emptied n xs = set xs n (blank (get_or xs n (blank 0)).look)
+abbrev pub emptied_cells : ℕ → List Cell → List Cell
+emptied_cells n xs = set xs n (blank (get_or xs n (blank 0)).look)
 
 -- a row where no character stands on both sides of the left edge of a column: one that did is gone
-abbrev pub cut : ℕ → List Cell → List Cell
-cut n xs = if is_rest (get_or xs n (blank 0)) then emptied n (emptied (n - 1) xs) else xs
+abbrev pub cut_row : ℕ → List Cell → List Cell
+cut_row n xs = if is_rest (get_or xs n (blank 0)) then emptied_cells n (emptied_cells (n - 1) xs)
+    else xs
 
 -- with a character of one column at a column
 abbrev pub put : ℕ → ℕ → ℕ → List Cell → List Cell
-put n l c xs = set (cut (n + 1) (cut n xs)) n (drawn l c)
+put n l c xs = set (cut_row (n + 1) (cut_row n xs)) n (drawn_cell l c)
 
 -- with characters of one column each, one after another
 abbrev pub put_all : ℕ → ℕ → List ℕ → List Cell → List Cell
@@ -111,7 +112,7 @@ is_free (suc n) (x ∷ xs) = if is_rest x then false else is_free n xs
 
 -- with one of two columns
 abbrev pub put_wide : ℕ → ℕ → ℕ → List Cell → List Cell
-put_wide n l c xs = set (set (cut (n + 2) (cut n xs)) n (cell (content.Wide c no_marks) l))
+put_wide n l c xs = set (set (cut_row (n + 2) (cut_row n xs)) n (cell (content.Wide c no_marks) l))
     (n + 1) (cell content.Rest l)
 
 -- the column of the character of which a column is part
@@ -123,25 +124,27 @@ abbrev pub mark_at : ℕ → ℕ → List Cell → List Cell
 mark_at n c xs = set xs n (marked_cell c (get_or xs n (blank 0)))
 
 -- with a mark on the character of which a column is part
-abbrev pub marked : ℕ → ℕ → List Cell → List Cell
-marked n c xs = mark_at (start_of n xs) c xs
+abbrev pub marked_cells : ℕ → ℕ → List Cell → List Cell
+marked_cells n c xs = mark_at (start_of n xs) c xs
 
 -- what stands there
 abbrev pub content_at : ℕ → List Cell → Content
 content_at n xs = (get_or xs (start_of n xs) (blank 0)).content
 
 -- with blank cells from one column to before another
-abbrev pub erased : ℕ → ℕ → ℕ → List Cell → List Cell
-erased l m n xs = in_part m n (cleared l) (cut n (cut m xs))
+abbrev pub erased_cells : ℕ → ℕ → ℕ → List Cell → List Cell
+erased_cells l m n xs = in_part m n (cleared_cells l) (cut_row n (cut_row m xs))
 
 -- so many cells from one column on, and before another, are gone, and blank ones come at the end
-abbrev pub deleted : ℕ → ℕ → ℕ → ℕ → List Cell → List Cell
-deleted l k m n xs = in_part m n (moved_up k (cleared l)) (cut (m + k) (cut m xs))
+abbrev pub deleted_cells : ℕ → ℕ → ℕ → ℕ → List Cell → List Cell
+deleted_cells l k m n xs = in_part m n (moved_up k (cleared_cells l))
+    (cut_row (m + k) (cut_row m xs))
 
 -- so many blank cells come in at one column, and those that would be past another are gone
-abbrev pub inserted : ℕ → ℕ → ℕ → ℕ → List Cell → List Cell
-inserted l k m n xs = in_part m n (moved_down k (cleared l)) (cut (max m (n - k)) (cut m xs))
+abbrev pub inserted_cells : ℕ → ℕ → ℕ → ℕ → List Cell → List Cell
+inserted_cells l k m n xs = in_part m n (moved_down k (cleared_cells l))
+    (cut_row (max m (n - k)) (cut_row m xs))
 
 -- with so many cells more from one column on, and before another, or fewer
-abbrev pub shifted : Bool → ℕ → ℕ → ℕ → ℕ → List Cell → List Cell
-shifted more l k m n xs = if more then inserted l k m n xs else deleted l k m n xs
+abbrev pub shifted_cells : Bool → ℕ → ℕ → ℕ → ℕ → List Cell → List Cell
+shifted_cells more l k m n xs = if more then inserted_cells l k m n xs else deleted_cells l k m n xs

@@ -1,19 +1,21 @@
 -- What changes cells, other than printing.
 use Rattle.std.specs.Prelude.{ℕ, ◌+◌, nat_lt, Bool, true, false, ◌||◌, if◌then◌else◌, map}
-use Rattle.esc_screen.specs.Cells.{deleted, drawn, erased, filled, inserted, shifted}
-use Rattle.esc_screen.specs.Grids.{Grid, Size, in_row, in_rows, line_fed, line_fed_back, moved, next_line, rows_down, rows_erased, rows_up, settled, with_margins, with_rows}
+use Rattle.esc_screen.specs.Cells.{deleted_cells, drawn_cell, erased_cells, filled_cells, inserted_cells, shifted_cells}
+use Rattle.esc_screen.specs.Grids.{Grid, Size, in_row, in_rows, line_fed, line_fed_back, grid_at, next_line, rows_down, rows_erased, rows_up, settled_grid, with_margins, with_rows}
 use Rattle.esc_screen.specs.declared.change.Change.{Change}
 use Rattle.esc_screen.specs.declared.change.Change.TheVariants as change
 
 -- changes of the row of the cursor: no wrap is pending after them
 abbrev pub cells_erased : ℕ → ℕ → Grid → Grid
-cells_erased m n g = in_row (erased g.cursor.erased m n) (settled g)
+cells_erased m n g = in_row (erased_cells g.cursor.erased m n) (settled_grid g)
 
 abbrev pub cells_deleted : Size → ℕ → Grid → Grid
-cells_deleted s n g = in_row (deleted g.cursor.erased n g.cursor.column s.columns) (settled g)
+cells_deleted s n g = in_row (deleted_cells g.cursor.erased n g.cursor.column s.columns)
+    (settled_grid g)
 
 abbrev pub cells_inserted : Size → ℕ → Grid → Grid
-cells_inserted s n g = in_row (inserted g.cursor.erased n g.cursor.column s.columns) (settled g)
+cells_inserted s n g = in_row (inserted_cells g.cursor.erased n g.cursor.column s.columns)
+    (settled_grid g)
 
 -- whether the cursor is within the margins
 abbrev pub is_within : Grid → Bool
@@ -22,26 +24,27 @@ is_within g = if nat_lt g.cursor.row g.top then false else nat_lt g.cursor.row g
 -- rows from that of the cursor on move within the margins, where it is within them
 abbrev pub rows_deleted : ℕ → Grid → Grid
 rows_deleted n g = if is_within g
-    then rows_up n g.cursor.row g.bottom (moved g.cursor.row 0 g)
+    then rows_up n g.cursor.row g.bottom (grid_at g.cursor.row 0 g)
     else g
 
 abbrev pub rows_inserted : ℕ → Grid → Grid
 rows_inserted n g = if is_within g
-    then rows_down n g.cursor.row g.bottom (moved g.cursor.row 0 g)
+    then rows_down n g.cursor.row g.bottom (grid_at g.cursor.row 0 g)
     else g
 
 -- the rows within the margins with so many columns more from one on, or fewer
 abbrev pub columns_moved : Size → Bool → ℕ → ℕ → Grid → Grid
 columns_moved s more n c g =
-    in_rows g.top g.bottom (map (shifted more g.cursor.erased n c s.columns)) g
+    in_rows g.top g.bottom (map (shifted_cells more g.cursor.erased n c s.columns)) g
 
 -- from the column of the cursor on, where it is within the margins
 abbrev pub columns_here : Size → Bool → ℕ → Grid → Grid
 columns_here s more n g = if is_within g then columns_moved s more n g.cursor.column g else g
 
 -- a picture of the letter E
-abbrev pub aligned : Size → Grid → Grid
-aligned s g = moved 0 0 (with_margins 0 s.rows (with_rows (map (filled (drawn 0 0x45)) g.rows) g))
+abbrev pub alignment_grid : Size → Grid → Grid
+alignment_grid s g = grid_at 0 0
+    (with_margins 0 s.rows (with_rows (map (filled_cells (drawn_cell 0 0x45)) g.rows) g))
 
 -- to the next row, and to its first column where a line feed returns
 abbrev pub fed : Size → Bool → Grid → Grid
@@ -55,12 +58,12 @@ grid_by_change s g change.FormFeed = fed s g.modes.new_line g
 grid_by_change s g change.NextLine = next_line s g
 grid_by_change s g change.EraseRight = cells_erased g.cursor.column s.columns g
 grid_by_change s g change.EraseLeft = cells_erased 0 (g.cursor.column + 1) g
-grid_by_change s g change.EraseRow = rows_erased g.cursor.row (g.cursor.row + 1) (settled g)
+grid_by_change s g change.EraseRow = rows_erased g.cursor.row (g.cursor.row + 1) (settled_grid g)
 grid_by_change s g change.EraseBelow =
     rows_erased (g.cursor.row + 1) s.rows (cells_erased g.cursor.column s.columns g)
 grid_by_change s g change.EraseAbove =
     rows_erased 0 g.cursor.row (cells_erased 0 (g.cursor.column + 1) g)
-grid_by_change s g change.EraseAll = rows_erased 0 s.rows (settled g)
+grid_by_change s g change.EraseAll = rows_erased 0 s.rows (settled_grid g)
 grid_by_change s g (change.EraseCells n) =
     cells_erased g.cursor.column (g.cursor.column + n) g
 grid_by_change s g (change.InsertCells n) = cells_inserted s n g
@@ -73,4 +76,4 @@ grid_by_change s g (change.ScrollLeft n) = columns_moved s false n 0 g
 grid_by_change s g (change.ScrollRight n) = columns_moved s true n 0 g
 grid_by_change s g (change.InsertColumns n) = columns_here s true n g
 grid_by_change s g (change.DeleteColumns n) = columns_here s false n g
-grid_by_change s g change.Align = aligned s g
+grid_by_change s g change.Align = alignment_grid s g

@@ -40,8 +40,8 @@ at r n c = record c {
 }
 
 -- at a column of so many, but not past the last: there a wrap is pending, where lines wrap
-abbrev pub landed : ℕ → Bool → ℕ → Cursor → Cursor
-landed columns wraps n c = if nat_lt n columns then record c { column = n }
+abbrev pub landed_cursor : ℕ → Bool → ℕ → Cursor → Cursor
+landed_cursor columns wraps n c = if nat_lt n columns then record c { column = n }
     else record c {
       column = columns - 1;
       pending = wraps;

@@ -1,7 +1,7 @@
 -- The grid of a screen, and the parts of it.
 use Rattle.std.specs.Prelude.{ℕ, ◌+◌, ◌-◌, ◌==◌, min, Bool, false, if◌then◌else◌, List, [], map, replicate, set, get_or}
 use Rattle.esc_screen.specs.Lists.{in_part, moved_down, moved_up}
-use Rattle.esc_screen.specs.Cells.{blank_row, cleared}
+use Rattle.esc_screen.specs.Cells.{blank_row, cleared_cells}
 use Rattle.esc_screen.specs.Cursors.{at, eighths, first_modes, home}
 use Rattle.esc_screen.specs.declared.cell.Cell.{Cell}
 use Rattle.esc_screen.specs.declared.cursor.Cursor.{Cursor}
@@ -64,12 +64,12 @@ with_margins m n g = record g {
 }
 
 -- with the cursor at a row and a column
-abbrev pub moved : ℕ → ℕ → Grid → Grid
-moved r n g = with_cursor (at r n g.cursor) g
+abbrev pub grid_at : ℕ → ℕ → Grid → Grid
+grid_at r n g = with_cursor (at r n g.cursor) g
 
 -- with no wrap that is pending
-abbrev pub settled : Grid → Grid
-settled g = moved g.cursor.row g.cursor.column g
+abbrev pub settled_grid : Grid → Grid
+settled_grid g = grid_at g.cursor.row g.cursor.column g
 
 -- the row of the cursor
 abbrev pub row_of_cursor : Grid → List Cell
@@ -85,28 +85,28 @@ in_rows m n f g = with_rows (in_part m n f g.rows) g
 
 -- with rows that are blank, as cells are that are erased
 abbrev pub rows_erased : ℕ → ℕ → Grid → Grid
-rows_erased m n g = in_rows m n (map (cleared g.cursor.erased)) g
+rows_erased m n g = in_rows m n (map (cleared_cells g.cursor.erased)) g
 
 -- with the rows from one to before another moved up by so many; or down
 abbrev pub rows_up : ℕ → ℕ → ℕ → Grid → Grid
-rows_up k m n g = in_rows m n (moved_up k (map (cleared g.cursor.erased))) g
+rows_up k m n g = in_rows m n (moved_up k (map (cleared_cells g.cursor.erased))) g
 
 abbrev pub rows_down : ℕ → ℕ → ℕ → Grid → Grid
-rows_down k m n g = in_rows m n (moved_down k (map (cleared g.cursor.erased))) g
+rows_down k m n g = in_rows m n (moved_down k (map (cleared_cells g.cursor.erased))) g
 
 -- ---- to another line
 
 -- a row down: where that is past the margin, the rows within the margins move up
 abbrev pub line_fed : Size → Grid → Grid
 line_fed s g = if g.cursor.row + 1 == g.bottom
-    then rows_up 1 g.top g.bottom (settled g)
-    else moved (min (g.cursor.row + 1) (s.rows - 1)) g.cursor.column g
+    then rows_up 1 g.top g.bottom (settled_grid g)
+    else grid_at (min (g.cursor.row + 1) (s.rows - 1)) g.cursor.column g
 
 abbrev pub line_fed_back : Grid → Grid
 line_fed_back g = if g.cursor.row == g.top
-    then rows_down 1 g.top g.bottom (settled g)
-    else moved (g.cursor.row - 1) g.cursor.column g
+    then rows_down 1 g.top g.bottom (settled_grid g)
+    else grid_at (g.cursor.row - 1) g.cursor.column g
 
 -- to the first column of the next row
 abbrev pub next_line : Size → Grid → Grid
-next_line s g = moved (line_fed s g).cursor.row 0 (line_fed s g)
+next_line s g = grid_at (line_fed s g).cursor.row 0 (line_fed s g)

@@ -2,7 +2,7 @@
 use Rattle.std.specs.Prelude.{ℕ, ◌+◌, ◌-◌, nat_lt, min, if◌then◌else◌}
 use Rattle.esc_screen.specs.Lists.{times}
 use Rattle.esc_screen.specs.Cursors.{stop_after, stop_before}
-use Rattle.esc_screen.specs.Grids.{Grid, Size, moved, with_cursor}
+use Rattle.esc_screen.specs.Grids.{Grid, Size, grid_at, with_cursor}
 use Rattle.esc_screen.specs.declared.motion.Motion.{Motion}
 use Rattle.esc_screen.specs.declared.motion.Motion.TheVariants as motion
 
@@ -24,8 +24,8 @@ abbrev pub column_by : Size → ℕ → ℕ
 column_by s n = min n (s.columns - 1)
 
 -- at a row and a column by their numbers
-abbrev pub positioned : Size → ℕ → ℕ → Grid → Grid
-positioned s r n g = moved (row_by s r g) (column_by s n) g
+abbrev pub positioned_grid : Size → ℕ → ℕ → Grid → Grid
+positioned_grid s r n g = grid_at (row_by s r g) (column_by s n) g
 
 -- so many tab stops on, or back
 abbrev pub tab_after : Size → ℕ → Grid → ℕ
@@ -35,19 +35,19 @@ abbrev pub tab_before : Size → ℕ → Grid → ℕ
 tab_before s n g = times (min n s.columns) (stop_before g.tabs) g.cursor.column
 
 -- a wrap that is pending stays so
-abbrev pub tabbed : Size → ℕ → Grid → Grid
-tabbed s n g = with_cursor (record (g.cursor) { column = tab_after s n g }) g
+abbrev pub grid_at_tab : Size → ℕ → Grid → Grid
+grid_at_tab s n g = with_cursor (record (g.cursor) { column = tab_after s n g }) g
 
 abbrev pub grid_by_motion : Size → Grid → Motion → Grid
-grid_by_motion s g motion.RowStart = moved g.cursor.row 0 g
-grid_by_motion s g (motion.Left n) = moved g.cursor.row (g.cursor.column - n) g
-grid_by_motion s g (motion.Right n) = moved g.cursor.row (column_by s (g.cursor.column + n)) g
-grid_by_motion s g (motion.Up n) = moved (row_up n g) g.cursor.column g
-grid_by_motion s g (motion.Down n) = moved (row_down s n g) g.cursor.column g
-grid_by_motion s g (motion.UpToStart n) = moved (row_up n g) 0 g
-grid_by_motion s g (motion.DownToStart n) = moved (row_down s n g) 0 g
-grid_by_motion s g (motion.Column n) = moved g.cursor.row (column_by s n) g
-grid_by_motion s g (motion.Row n) = moved (row_by s n g) g.cursor.column g
-grid_by_motion s g (motion.Position r n) = positioned s r n g
-grid_by_motion s g (motion.Tab n) = tabbed s n g
-grid_by_motion s g (motion.BackTab n) = moved g.cursor.row (tab_before s n g) g
+grid_by_motion s g motion.RowStart = grid_at g.cursor.row 0 g
+grid_by_motion s g (motion.Left n) = grid_at g.cursor.row (g.cursor.column - n) g
+grid_by_motion s g (motion.Right n) = grid_at g.cursor.row (column_by s (g.cursor.column + n)) g
+grid_by_motion s g (motion.Up n) = grid_at (row_up n g) g.cursor.column g
+grid_by_motion s g (motion.Down n) = grid_at (row_down s n g) g.cursor.column g
+grid_by_motion s g (motion.UpToStart n) = grid_at (row_up n g) 0 g
+grid_by_motion s g (motion.DownToStart n) = grid_at (row_down s n g) 0 g
+grid_by_motion s g (motion.Column n) = grid_at g.cursor.row (column_by s n) g
+grid_by_motion s g (motion.Row n) = grid_at (row_by s n g) g.cursor.column g
+grid_by_motion s g (motion.Position r n) = positioned_grid s r n g
+grid_by_motion s g (motion.Tab n) = grid_at_tab s n g
+grid_by_motion s g (motion.BackTab n) = grid_at g.cursor.row (tab_before s n g) g

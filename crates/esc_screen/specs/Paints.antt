@@ -1,6 +1,6 @@
 -- Steps that paint a screen of plain text.
 use Rattle.std.specs.Prelude.{ℕ, ◌+◌, ◌-◌, ◌≤◌, ◌≡◌, List, [], ◌∷◌, ◌++◌, length, map}
-use Rattle.esc_screen.specs.Cells.{blank_row, drawn}
+use Rattle.esc_screen.specs.Cells.{blank_row, drawn_cell}
 use Rattle.esc_screen.specs.Grids.{Size, first_grid}
 use Rattle.esc_screen.specs.Steps.{grid_from}
 use Rattle.esc_screen.specs.declared.cell.Cell.{Cell}
@@ -8,12 +8,12 @@ use Rattle.esc_screen.specs.declared.motion.Motion.TheVariants as motion
 use Rattle.esc_screen.specs.declared.step.Step.{Step}
 use Rattle.esc_screen.specs.declared.step.Step.TheVariants as step
 
-abbrev pub plain : ℕ → Cell
-plain c = drawn 0 c
+abbrev pub plain_cell : ℕ → Cell
+plain_cell c = drawn_cell 0 c
 
 -- the row with these characters, of one column each, and blank cells after them
 abbrev pub row_of : Size → List ℕ → List Cell
-row_of s cs = map plain cs ++ blank_row 0 (s.columns - length cs)
+row_of s cs = map plain_cell cs ++ blank_row 0 (s.columns - length cs)
 
 -- to the first column of each row from this one on, and its characters
 abbrev pub paint_from : ℕ → List (List ℕ) → List Step

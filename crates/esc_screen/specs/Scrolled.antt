@@ -1,6 +1,6 @@
 -- The rows that are scrolled off a screen.
 use Rattle.std.specs.Prelude.{ℕ, ◌+◌, ◌≡◌, ◌==◌, min, nat_lt, Bool, true, ◌&&◌, not, if◌then◌else◌, List, [], ◌∷◌, ◌++◌, take, drop, map, replicate}
-use Rattle.esc_screen.specs.Cells.{cleared}
+use Rattle.esc_screen.specs.Cells.{cleared_cells}
 use Rattle.esc_screen.specs.Grids.{Grid, Size, rows_up}
 use Rattle.esc_screen.specs.Printing.{before, has_room, joined}
 use Rattle.esc_screen.specs.Steps.{grid_by, grid_from}
@@ -104,11 +104,11 @@ abbrev pub LosesNothing : Type 0
 LosesNothing = (n : ℕ) (g : Grid) → is_open g ≡ true
     → take (gone_up n g) g.rows ++ (rows_up n g.top g.bottom g).rows
     ≡ take g.bottom g.rows
-    ++ (map (cleared g.cursor.erased) (take (gone_up n g) g.rows) ++ drop g.bottom g.rows)
+    ++ (map (cleared_cells g.cursor.erased) (take (gone_up n g) g.rows) ++ drop g.bottom g.rows)
 
--- what steps in two pieces scroll off is what the first and then the second do
-abbrev pub GoesOffInPieces : Type 0
-GoesOffInPieces = (s : Size) (g : Grid) (xs ys : List Step)
+-- what steps in two chunks scroll off is what the first and then the second do
+abbrev pub GoesOffInChunks : Type 0
+GoesOffInChunks = (s : Size) (g : Grid) (xs ys : List Step)
     → off_from s g (xs ++ ys) ≡ off_from s g xs ++ off_from s (grid_from s g xs) ys
 
 -- where a line feed returns, it does what CR and LF do

@@ -1,9 +1,9 @@
 -- What changes the state.
 use Rattle.std.specs.Prelude.{ℕ, ◌+◌, nat_lt, min, Bool, true, false, if◌then◌else◌, length, map, replicate, set}
-use Rattle.esc_screen.specs.Cells.{cleared}
+use Rattle.esc_screen.specs.Cells.{cleared_cells}
 use Rattle.esc_screen.specs.Cursors.{eighths, first_modes, home, softly_reset, softly_reset_modes, with_mode}
 use Rattle.esc_screen.specs.Grids.{Grid, Size, rows_erased, with_cursor, with_margins}
-use Rattle.esc_screen.specs.Motions.{positioned}
+use Rattle.esc_screen.specs.Motions.{positioned_grid}
 use Rattle.esc_screen.specs.declared.setting.Setting.{Setting}
 use Rattle.esc_screen.specs.declared.setting.Setting.TheVariants as setting
 
@@ -14,21 +14,21 @@ tab_set b g = record g { tabs = set g.tabs g.cursor.column b }
 -- margins of one row or none are no margins
 abbrev pub scrolling : Size → ℕ → ℕ → Grid → Grid
 scrolling s m n g = if nat_lt (m + 1) (min n s.rows)
-    then positioned s 0 0 (with_margins m (min n s.rows) g)
+    then positioned_grid s 0 0 (with_margins m (min n s.rows) g)
     else g
 
 abbrev pub with_origin : Size → Bool → Grid → Grid
-with_origin s b g = positioned s 0 0 (with_cursor (record (g.cursor) { origin = b }) g)
+with_origin s b g = positioned_grid s 0 0 (with_cursor (record (g.cursor) { origin = b }) g)
 
 abbrev pub saving : Grid → Grid
 saving g = record g { saved = g.cursor }
 
-abbrev pub restored : Grid → Grid
-restored g = with_cursor g.saved g
+abbrev pub restored_grid : Grid → Grid
+restored_grid g = with_cursor g.saved g
 
 -- the other screen is seen
-abbrev pub exchanged : Grid → Grid
-exchanged g = record g {
+abbrev pub exchanged_screens : Grid → Grid
+exchanged_screens g = record g {
   rows = g.other;
   other = g.rows;
   alternate = if g.alternate then false else true;
@@ -37,10 +37,10 @@ exchanged g = record g {
 }
 
 abbrev pub to_alternate : Grid → Grid
-to_alternate g = if g.alternate then g else exchanged g
+to_alternate g = if g.alternate then g else exchanged_screens g
 
 abbrev pub to_main : Grid → Grid
-to_main g = if g.alternate then exchanged g else g
+to_main g = if g.alternate then exchanged_screens g else g
 
 -- the alternate screen is blank, where it is seen
 abbrev pub alternate_cleared : Size → Grid → Grid
@@ -57,8 +57,8 @@ softly_reset_grid s g = record g {
 
 abbrev pub reset_grid : Size → Grid → Grid
 reset_grid s g = record {
-  rows = map (cleared 0) g.rows;
-  other = map (cleared 0) g.other;
+  rows = map (cleared_cells 0) g.rows;
+  other = map (cleared_cells 0) g.other;
   alternate = false;
   cursor = home;
   saved = home;
@@ -84,11 +84,11 @@ grid_by_setting s g (setting.G0Draws b) = with_cursor (record (g.cursor) { g0_dr
 grid_by_setting s g (setting.G1Draws b) = with_cursor (record (g.cursor) { g1_draws = b }) g
 grid_by_setting s g (setting.Shift b) = with_cursor (record (g.cursor) { shifted = b }) g
 grid_by_setting s g setting.Save = saving g
-grid_by_setting s g setting.Restore = restored g
+grid_by_setting s g setting.Restore = restored_grid g
 grid_by_setting s g setting.ShowAlternate = to_alternate g
 grid_by_setting s g setting.ShowMain = to_main g
 grid_by_setting s g setting.ClearAlternate = to_main (alternate_cleared s g)
 grid_by_setting s g setting.EnterAlternate = rows_erased 0 s.rows (to_alternate (saving g))
-grid_by_setting s g setting.LeaveAlternate = restored (to_main g)
+grid_by_setting s g setting.LeaveAlternate = restored_grid (to_main g)
 grid_by_setting s g setting.SoftReset = softly_reset_grid s g
 grid_by_setting s g setting.Reset = reset_grid s g

@@ -38,7 +38,7 @@ StaysSound = (s : Size) (g : Grid) (xs : List Step) → IsSound s g → IsSound 
 abbrev pub BeginsSound : Type 0
 BeginsSound = (s : Size) → 0 < s.rows → 0 < s.columns → IsSound s (first_grid s)
 
--- steps in two pieces are those of the first and then of the second
-abbrev pub GoesInPieces : Type 0
-GoesInPieces = (s : Size) (g : Grid) (xs ys : List Step)
+-- steps in two chunks are those of the first and then of the second
+abbrev pub GoesInChunks : Type 0
+GoesInChunks = (s : Size) (g : Grid) (xs ys : List Step)
     → grid_from s g (xs ++ ys) ≡ grid_from s (grid_from s g xs) ys

@@ -1,7 +1,7 @@
 -- What each step does to the grid of a screen.
 use Rattle.std.specs.Prelude.{List, [], ◌∷◌}
 use Rattle.esc_screen.specs.Grids.{Grid, Size}
-use Rattle.esc_screen.specs.Printing.{mark_printed, narrow_printed, repeated, wide_printed}
+use Rattle.esc_screen.specs.Printing.{mark_printed, narrow_printed, grid_with_repeats, wide_printed}
 use Rattle.esc_screen.specs.Motions.{grid_by_motion}
 use Rattle.esc_screen.specs.Changes.{grid_by_change}
 use Rattle.esc_screen.specs.Settings.{grid_by_setting}
@@ -13,7 +13,7 @@ abbrev pub grid_by : Size → Grid → Step → Grid
 grid_by s g (step.Print c) = narrow_printed s c g
 grid_by s g (step.PrintWide c) = wide_printed s c g
 grid_by s g (step.Mark c) = mark_printed c g
-grid_by s g (step.Repeat n) = repeated s n g
+grid_by s g (step.Repeat n) = grid_with_repeats s n g
 grid_by s g (step.Move m) = grid_by_motion s g m
 grid_by s g (step.Edit e) = grid_by_change s g e
 grid_by s g (step.Set x) = grid_by_setting s g x

@@ -1,6 +1,6 @@
 //! The cells of a screen.
 ghost use Rattle.std.specs.Prelude.{◌≡◌};
-ghost use Rattle.esc_screen.specs.Cells.{blank, cell, drawn, is_joined, joined_cell};
+ghost use Rattle.esc_screen.specs.Cells.{blank, cell, drawn_cell, is_joined, joined_cell};
 
 use crate::content::Content;
 use crate::marks::Marks;
@@ -52,7 +52,7 @@ impl Cell {
     /// A character of one column that looks so, with no mark.
     #[inline]
     pub fn narrow(c: char, look: u16) -> Cell
-        ensures { result ≡ drawn look c }
+        ensures { result ≡ drawn_cell look c }
     {
         Cell::new(Content::Narrow(c, Marks::none()), look)
     }

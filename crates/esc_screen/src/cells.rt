@@ -1,6 +1,6 @@
 //! The cells of a row.
 ghost use Rattle.std.specs.Prelude.{◌≡◌, ◌+◌, ◌<◌, ◌≤◌, ◌^◌, drop, length, map, true};
-ghost use Rattle.esc_screen.specs.Cells.{cleared, content_at, cut, deleted, drawn, emptied, erased, filled, inserted, is_free, joined_at, mark_at, marked, put, put_all, put_wide, start_of};
+ghost use Rattle.esc_screen.specs.Cells.{cleared_cells, content_at, cut_row, deleted_cells, drawn_cell, emptied_cells, erased_cells, filled_cells, inserted_cells, is_free, joined_at, mark_at, marked_cells, put, put_all, put_wide, start_of};
 ghost use Rattle.esc_screen.specs.Lists.{in_part, moved_down, moved_up};
 
 use crate::cell::Cell;
@@ -10,7 +10,7 @@ use crate::marks::Marks;
 // Takes the character out of a cell.
 #[inline]
 fn empty(cells: &mut [Cell], at: usize)
-    ensures { cells.new ≡ emptied at cells.old }
+    ensures { cells.new ≡ emptied_cells at cells.old }
 {
     if at < cells.len() {
         cells[at] = Cell::blank(cells[at].look);
@@ -20,7 +20,7 @@ fn empty(cells: &mut [Cell], at: usize)
 /// Sees that no character stands on both sides of the left edge of a column.
 #[inline]
 pub(crate) fn cut_at(cells: &mut [Cell], at: usize)
-    ensures { cells.new ≡ cut at cells.old }
+    ensures { cells.new ≡ cut_row at cells.old }
 {
     if at < cells.len() && cells[at].content.is_rest() {
         empty(cells, at.saturating_sub(1));
@@ -59,7 +59,7 @@ fn is_free_for(cells: &[Cell], count: usize) -> bool
 // Writes characters of ASCII over as many cells.
 fn draw(cells: &mut [Cell], text: &[u8], look: u16)
     requires { length cells.old ≡ length text.now }
-    ensures { cells.new ≡ map (drawn look) text.now }
+    ensures { cells.new ≡ map (drawn_cell look) text.now }
 {
     for i in 0..text.len() {
         cells[i] = Cell::narrow(text[i] as char, look);
@@ -146,7 +146,7 @@ fn mark_cell(cells: &mut [Cell], at: usize, mark: char)
 
 /// Puts a mark on the character of which a column is part.
 pub(crate) fn mark(cells: &mut [Cell], at: usize, mark: char)
-    ensures { cells.new ≡ marked at mark cells.old }
+    ensures { cells.new ≡ marked_cells at mark cells.old }
 {
     let start = start_of(cells, at);
     mark_cell(cells, start, mark);
@@ -166,21 +166,21 @@ pub(crate) fn content_at(cells: &[Cell], at: usize) -> Content
 
 /// Makes all cells this one.
 pub(crate) fn fill(cells: &mut [Cell], cell: Cell)
-    ensures { cells.new ≡ filled cell cells.old }
+    ensures { cells.new ≡ filled_cells cell cells.old }
 {
     cells.fill(cell);
 }
 
 // Takes the characters out of cells.
 fn clear(cells: &mut [Cell], look: u16)
-    ensures { cells.new ≡ cleared look cells.old }
+    ensures { cells.new ≡ cleared_cells look cells.old }
 {
     fill(cells, Cell::blank(look));
 }
 
 // Makes the cells from one column to before another blank.
 fn clear_part(cells: &mut [Cell], from: usize, to: usize, look: u16)
-    ensures { cells.new ≡ in_part from to (cleared look) cells.old }
+    ensures { cells.new ≡ in_part from to (cleared_cells look) cells.old }
 {
     let end = to.min(cells.len());
     if from < end {
@@ -190,7 +190,7 @@ fn clear_part(cells: &mut [Cell], from: usize, to: usize, look: u16)
 
 /// Erases the cells from one column to before another.
 pub(crate) fn erase(cells: &mut [Cell], from: usize, to: usize, look: u16)
-    ensures { cells.new ≡ erased look from to cells.old }
+    ensures { cells.new ≡ erased_cells look from to cells.old }
 {
     cut_at(cells, from);
     cut_at(cells, to);
@@ -199,7 +199,7 @@ pub(crate) fn erase(cells: &mut [Cell], from: usize, to: usize, look: u16)
 
 // Moves cells so many columns back: the last ones are blank then.
 fn move_left(cells: &mut [Cell], count: usize, look: u16)
-    ensures { cells.new ≡ moved_up count (cleared look) cells.old }
+    ensures { cells.new ≡ moved_up count (cleared_cells look) cells.old }
 {
     let len = cells.len();
     if count < len {
@@ -212,7 +212,7 @@ fn move_left(cells: &mut [Cell], count: usize, look: u16)
 
 // Moves cells so many columns on: the first ones are blank then.
 fn move_right(cells: &mut [Cell], count: usize, look: u16)
-    ensures { cells.new ≡ moved_down count (cleared look) cells.old }
+    ensures { cells.new ≡ moved_down count (cleared_cells look) cells.old }
 {
     if count < cells.len() {
         cells.rotate_right(count);
@@ -224,7 +224,7 @@ fn move_right(cells: &mut [Cell], count: usize, look: u16)
 
 // Moves the cells from one column to before another back.
 fn part_left(cells: &mut [Cell], from: usize, to: usize, count: usize, look: u16)
-    ensures { cells.new ≡ in_part from to (moved_up count (cleared look)) cells.old }
+    ensures { cells.new ≡ in_part from to (moved_up count (cleared_cells look)) cells.old }
 {
     let end = to.min(cells.len());
     if from < end {
@@ -234,7 +234,7 @@ fn part_left(cells: &mut [Cell], from: usize, to: usize, count: usize, look: u16
 
 // Moves them on.
 fn part_right(cells: &mut [Cell], from: usize, to: usize, count: usize, look: u16)
-    ensures { cells.new ≡ in_part from to (moved_down count (cleared look)) cells.old }
+    ensures { cells.new ≡ in_part from to (moved_down count (cleared_cells look)) cells.old }
 {
     let end = to.min(cells.len());
     if from < end {
@@ -245,7 +245,7 @@ fn part_right(cells: &mut [Cell], from: usize, to: usize, count: usize, look: u1
 /// Takes out so many cells from one column on, and before another.
 pub(crate) fn delete(cells: &mut [Cell], count: usize, from: usize, to: usize, look: u16)
     requires { from + count < 2 ^ 64 }
-    ensures { cells.new ≡ deleted look count from to cells.old }
+    ensures { cells.new ≡ deleted_cells look count from to cells.old }
 {
     cut_at(cells, from);
     cut_at(cells, from + count);
@@ -254,7 +254,7 @@ pub(crate) fn delete(cells: &mut [Cell], count: usize, from: usize, to: usize, l
 
 /// Puts in so many blank cells at one column: those that would be past another are gone.
 pub(crate) fn insert(cells: &mut [Cell], count: usize, from: usize, to: usize, look: u16)
-    ensures { cells.new ≡ inserted look count from to cells.old }
+    ensures { cells.new ≡ inserted_cells look count from to cells.old }
 {
     cut_at(cells, from);
     cut_at(cells, from.max(to.saturating_sub(count)));

@@ -1,6 +1,6 @@
 //! A row of cells.
 ghost use Rattle.std.specs.Prelude.{◌≡◌, ◌+◌, ◌<◌, ◌^◌, IfOk, length};
-ghost use Rattle.esc_screen.specs.Cells.{blank_row, content_at, deleted, erased, filled, inserted, joined_at, marked, put, put_all, put_wide, shifted};
+ghost use Rattle.esc_screen.specs.Cells.{blank_row, content_at, deleted_cells, erased_cells, filled_cells, inserted_cells, joined_at, marked_cells, put, put_all, put_wide, shifted_cells};
 
 use crate::cell::Cell;
 use crate::cells;
@@ -76,7 +76,7 @@ impl<A: Allocator> Row<A> {
 
     /// Puts a mark on the character of which a column is part.
     pub fn mark(&mut self, at: usize, mark: char)
-        ensures { self.new ≡ marked at mark self.old }
+        ensures { self.new ≡ marked_cells at mark self.old }
     {
         cells::mark(&mut self.cells, at, mark);
     }
@@ -90,7 +90,7 @@ impl<A: Allocator> Row<A> {
 
     /// Erases the cells from one column to before another.
     pub fn erase(&mut self, from: usize, to: usize, look: u16)
-        ensures { self.new ≡ erased look from to self.old }
+        ensures { self.new ≡ erased_cells look from to self.old }
     {
         cells::erase(&mut self.cells, from, to, look);
     }
@@ -98,14 +98,14 @@ impl<A: Allocator> Row<A> {
     /// Takes out so many cells from one column on, and before another.
     pub fn delete(&mut self, count: usize, from: usize, to: usize, look: u16)
         requires { from + count < 2 ^ 64 }
-        ensures { self.new ≡ deleted look count from to self.old }
+        ensures { self.new ≡ deleted_cells look count from to self.old }
     {
         cells::delete(&mut self.cells, count, from, to, look);
     }
 
     /// Puts in so many blank cells at one column: those that would be past another are gone.
     pub fn insert(&mut self, count: usize, from: usize, to: usize, look: u16)
-        ensures { self.new ≡ inserted look count from to self.old }
+        ensures { self.new ≡ inserted_cells look count from to self.old }
     {
         cells::insert(&mut self.cells, count, from, to, look);
     }
@@ -113,7 +113,7 @@ impl<A: Allocator> Row<A> {
     /// Puts in so many blank cells, or takes as many out.
     pub fn shift(&mut self, shift: Shift)
         requires { shift.column + shift.count < 2 ^ 64 }
-        ensures { self.new ≡ shifted shift.more shift.look shift.count shift.column shift.end
+        ensures { self.new ≡ shifted_cells shift.more shift.look shift.count shift.column shift.end
             self.old }
     {
         let Shift {
@@ -132,7 +132,7 @@ impl<A: Allocator> Row<A> {
 
     /// Makes all cells this one.
     pub fn fill(&mut self, cell: Cell)
-        ensures { self.new ≡ filled cell self.old }
+        ensures { self.new ≡ filled_cells cell self.old }
     {
         cells::fill(&mut self.cells, cell);
     }

@@ -1,6 +1,6 @@
 //! The rows of a screen.
 ghost use Rattle.std.specs.Prelude.{◌≡◌, ◌+◌, ◌<◌, ◌^◌, map};
-ghost use Rattle.esc_screen.specs.Cells.{cleared, filled, shifted};
+ghost use Rattle.esc_screen.specs.Cells.{cleared_cells, filled_cells, shifted_cells};
 ghost use Rattle.esc_screen.specs.Lists.{in_part, moved_down, moved_up};
 
 use crate::cell::Cell;
@@ -10,7 +10,7 @@ use std::alloc::Allocator;
 
 /// Makes all cells of rows this one.
 pub(crate) fn fill<A: Allocator>(rows: &mut [Row<A>], cell: Cell)
-    ensures { rows.new ≡ map (filled cell) rows.old }
+    ensures { rows.new ≡ map (filled_cells cell) rows.old }
 {
     for i in 0..rows.len() {
         rows[i].fill(cell);
@@ -19,14 +19,14 @@ pub(crate) fn fill<A: Allocator>(rows: &mut [Row<A>], cell: Cell)
 
 // Takes the characters out of all cells of rows.
 fn clear<A: Allocator>(rows: &mut [Row<A>], look: u16)
-    ensures { rows.new ≡ map (cleared look) rows.old }
+    ensures { rows.new ≡ map (cleared_cells look) rows.old }
 {
     fill(rows, Cell::blank(look));
 }
 
 // Moves rows up by so many: the last ones are blank then.
 fn move_up<A: Allocator>(rows: &mut [Row<A>], count: usize, look: u16)
-    ensures { rows.new ≡ moved_up count (map (cleared look)) rows.old }
+    ensures { rows.new ≡ moved_up count (map (cleared_cells look)) rows.old }
 {
     let len = rows.len();
     if count < len {
@@ -39,7 +39,7 @@ fn move_up<A: Allocator>(rows: &mut [Row<A>], count: usize, look: u16)
 
 // Moves rows down by so many: the first ones are blank then.
 fn move_down<A: Allocator>(rows: &mut [Row<A>], count: usize, look: u16)
-    ensures { rows.new ≡ moved_down count (map (cleared look)) rows.old }
+    ensures { rows.new ≡ moved_down count (map (cleared_cells look)) rows.old }
 {
     if count < rows.len() {
         rows.rotate_right(count);
@@ -57,7 +57,7 @@ pub(crate) fn part_up<A: Allocator>(
     to: usize,
     look: u16,
 )
-    ensures { rows.new ≡ in_part from to (moved_up count (map (cleared look))) rows.old }
+    ensures { rows.new ≡ in_part from to (moved_up count (map (cleared_cells look))) rows.old }
 {
     let end = to.min(rows.len());
     if from < end {
@@ -73,7 +73,7 @@ pub(crate) fn part_down<A: Allocator>(
     to: usize,
     look: u16,
 )
-    ensures { rows.new ≡ in_part from to (moved_down count (map (cleared look))) rows.old }
+    ensures { rows.new ≡ in_part from to (moved_down count (map (cleared_cells look))) rows.old }
 {
     let end = to.min(rows.len());
     if from < end {
@@ -83,7 +83,7 @@ pub(crate) fn part_down<A: Allocator>(
 
 /// Takes the characters out of the rows from one to before another.
 pub(crate) fn clear_part<A: Allocator>(rows: &mut [Row<A>], from: usize, to: usize, look: u16)
-    ensures { rows.new ≡ in_part from to (map (cleared look)) rows.old }
+    ensures { rows.new ≡ in_part from to (map (cleared_cells look)) rows.old }
 {
     let end = to.min(rows.len());
     if from < end {
@@ -94,7 +94,8 @@ pub(crate) fn clear_part<A: Allocator>(rows: &mut [Row<A>], from: usize, to: usi
 // Puts columns into rows, or takes them out.
 fn shift<A: Allocator>(rows: &mut [Row<A>], shift: Shift)
     requires { shift.column + shift.count < 2 ^ 64 }
-    ensures { rows.new ≡ map (shifted shift.more shift.look shift.count shift.column shift.end)
+    ensures { rows.new ≡ map (shifted_cells shift.more shift.look shift.count shift.column
+        shift.end)
         rows.old }
 {
     for i in 0..rows.len() {
@@ -105,7 +106,7 @@ fn shift<A: Allocator>(rows: &mut [Row<A>], shift: Shift)
 /// Puts columns into the rows from one to before another, or takes them out.
 pub(crate) fn shift_part<A: Allocator>(rows: &mut [Row<A>], from: usize, to: usize, columns: Shift)
     requires { columns.column + columns.count < 2 ^ 64 }
-    ensures { rows.new ≡ in_part from to (map (shifted columns.more columns.look columns.count
+    ensures { rows.new ≡ in_part from to (map (shifted_cells columns.more columns.look columns.count
         columns.column columns.end)) rows.old }
 {
     let end = to.min(rows.len());

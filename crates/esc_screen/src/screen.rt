@@ -1,7 +1,7 @@
 //! The screen.
 ghost use Rattle.std.specs.Prelude.{◌≡◌, [], IfOk, false, get_or, true};
 ghost use Rattle.esc_screen.specs.Screens.{Becomes, Takes, grid_of, size_of};
-ghost use Rattle.esc_screen.specs.Grids.{first_grid, line_fed, line_fed_back, moved, next_line, rows_down, rows_erased, rows_up, settled};
+ghost use Rattle.esc_screen.specs.Grids.{first_grid, line_fed, line_fed_back, grid_at, next_line, rows_down, rows_erased, rows_up, settled_grid};
 ghost use Rattle.esc_screen.specs.Steps.{grid_from};
 
 use crate::cell::Cell;
@@ -156,7 +156,7 @@ impl<A: Allocator> Screen<A> {
     }
 
     fn move_to(&mut self, row: u16, column: u16)
-        ensures { Becomes self.old (moved row column (grid_of self.old)) self.new }
+        ensures { Becomes self.old (grid_at row column (grid_of self.old)) self.new }
     {
         self.cursor.row = row;
         self.cursor.column = column;
@@ -165,7 +165,7 @@ impl<A: Allocator> Screen<A> {
 
     // Gives up a wrap that is pending.
     fn settle(&mut self)
-        ensures { Becomes self.old (settled (grid_of self.old)) self.new }
+        ensures { Becomes self.old (settled_grid (grid_of self.old)) self.new }
     {
         self.cursor.pending = false;
     }

@@ -7,7 +7,7 @@ use Rattle.std.proofs.lemmas.List.{take_rest}
 use Rattle.std.proofs.lemmas.List.Sums.{prefix_len-le-length}
 use Rattle.std.proofs.lemmas.Bool.Decides.{nat_tests}
 use Rattle.esc_segments.specs.declared.kind.SegmentKind.TheVariants as kinds
-use Rattle.esc_segments.specs.Places.{found, IsOpened}
+use Rattle.esc_segments.specs.Places.{found_at, IsOpened}
 use Rattle.esc_frame.specs.declared.classes.Class.{Class}
 use Rattle.esc_frame.specs.declared.classes.Class.TheVariants.{Introducer, Final, Breaks}
 use Rattle.esc_frame.specs.declared.classes.Kind.{Kind}
@@ -61,7 +61,7 @@ module _ (body : List ℕ) (r : ℕ) (e : r ≡ prefix_len (λ b. in_csi (class_
   s = split in_csi body r e
 
   cut_csi : (w : Bool) → w ≡ breaks (drop r body) → (w ≡ false → drop r body ≡ [])
-      → IsOpened kind.Csi body (found kinds.CutShort r w)
+      → IsOpened kind.Csi body (found_at kinds.CutShort r w)
   cut_csi w f d = λ o io. record {
     g = CutCsi o (take r body);
     after = drop r body;
@@ -74,7 +74,7 @@ module _ (body : List ℕ) (r : ℕ) (e : r ≡ prefix_len (λ b. in_csi (class_
   }
 
   cut_dcs : (w : Bool) → w ≡ breaks (drop r body) → (w ≡ false → drop r body ≡ [])
-      → IsOpened kind.Dcs body (found kinds.CutShort r w)
+      → IsOpened kind.Dcs body (found_at kinds.CutShort r w)
   cut_dcs w f d = λ o io. record {
     g = CutDcs o (take r body);
     after = drop r body;
@@ -86,26 +86,26 @@ module _ (body : List ℕ) (r : ℕ) (e : r ≡ prefix_len (λ b. in_csi (class_
     last = d;
   }
 
-  pub csi_pending : r ≡ length body → IsOpened kind.Csi body (found kinds.CutShort r false)
+  pub csi_pending : r ≡ length body → IsOpened kind.Csi body (found_at kinds.CutShort r false)
   csi_pending h = cut_csi false (no_breaker (drop r body) (at_end body r h)) (λ _. at_end body r h)
 
   pub csi_broken : r < length body → is_breaker (class_of (get_or body r 0)) ≡ true
-      → IsOpened kind.Csi body (found kinds.CutShort r true)
+      → IsOpened kind.Csi body (found_at kinds.CutShort r true)
   csi_broken h b =
       cut_csi true (breaker (drop r body) (drop (r + 1) body) (get_or body r 0) (next body r h) b)
       (not_true (drop r body))
 
-  pub dcs_pending : r ≡ length body → IsOpened kind.Dcs body (found kinds.CutShort r false)
+  pub dcs_pending : r ≡ length body → IsOpened kind.Dcs body (found_at kinds.CutShort r false)
   dcs_pending h = cut_dcs false (no_breaker (drop r body) (at_end body r h)) (λ _. at_end body r h)
 
   pub dcs_broken : r < length body → is_breaker (class_of (get_or body r 0)) ≡ true
-      → IsOpened kind.Dcs body (found kinds.CutShort r true)
+      → IsOpened kind.Dcs body (found_at kinds.CutShort r true)
   dcs_broken h b =
       cut_dcs true (breaker (drop r body) (drop (r + 1) body) (get_or body r 0) (next body r h) b)
       (not_true (drop r body))
 
   pub csi_whole : r < length body → is_breaker (class_of (get_or body r 0)) ≡ false
-      → IsOpened kind.Csi body (found kinds.Csi (r + 1) true)
+      → IsOpened kind.Csi body (found_at kinds.Csi (r + 1) true)
   csi_whole h b = λ o io. record {
     g = Csi o (take r body) (get_or body r 0);
     after = drop (r + 1) body;
@@ -150,7 +150,7 @@ module _ (d : List ℕ) (n : ℕ) (e : n ≡ prefix_len (λ b. in_data (class_of
   t : Split in_data d n
   t = split in_data d n e
 
-  pub apc_is : IsOpened kind.Apc d (found kinds.Apc n w)
+  pub apc_is : IsOpened kind.Apc d (found_at kinds.Apc n w)
   apc_is = λ o io. record {
     g = Apc o (take n d);
     after = drop n d;
@@ -162,7 +162,7 @@ module _ (d : List ℕ) (n : ℕ) (e : n ≡ prefix_len (λ b. in_data (class_of
     last = data_last d n e w l;
   }
 
-  pub ignored_is : (k : Kind) → is_ignored k ≡ true → IsOpened k d (found kinds.Ignored n w)
+  pub ignored_is : (k : Kind) → is_ignored k ≡ true → IsOpened k d (found_at kinds.Ignored n w)
   ignored_is k i = λ o io. record {
     g = Ignored k o (take n d);
     after = drop n d;
@@ -177,7 +177,7 @@ module _ (d : List ℕ) (n : ℕ) (e : n ≡ prefix_len (λ b. in_data (class_of
   -- a device control string with its header and its final byte before the data
   dcs_by : (body x : List ℕ) (f : ℕ) (r : ℕ) → body ≡ x ++ (f ∷ d) → AllOf in_csi x
       → ends_csi (class_of f) ≡ true → r ≡ length x
-      → IsOpened kind.Dcs body (found kinds.Dcs (r + 1 + n) w)
+      → IsOpened kind.Dcs body (found_at kinds.Dcs (r + 1 + n) w)
   dcs_by body x f r p a h m = λ o io.
       let q = opener kind.Dcs o in record {
         g = Dcs o x f (take n d);
@@ -203,7 +203,7 @@ pub dcs_whole : (body : List ℕ) (r n : ℕ) → r ≡ prefix_len (λ b. in_csi
     → r < length body
     → is_breaker (class_of (get_or body r 0)) ≡ false
     → n ≡ prefix_len (λ b. in_data (class_of b)) (take (length body - (r + 1)) (drop (r + 1) body))
-    → IsOpened kind.Dcs body (found kinds.Dcs (r + 1 + n) (nat_lt (r + 1 + n) (length body)))
+    → IsOpened kind.Dcs body (found_at kinds.Dcs (r + 1 + n) (nat_lt (r + 1 + n) (length body)))
 dcs_whole body r n e h b i =
     let d : List ℕ = drop (r + 1) body in
     let j : n ≡ prefix_len (λ b. in_data (class_of b)) d =

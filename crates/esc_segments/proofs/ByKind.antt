@@ -3,7 +3,7 @@ use Rattle.std.proofs.Common.{◌≡◌, true, ℕ, List, Result}
 use Rattle.esc_frame.specs.Events.{Event, Takes}
 use Rattle.esc_frame.specs.Memory.{may_grow}
 use Rattle.esc_frame.specs.Segments.{HasShape, Segment, events_of}
-use Rattle.esc_frame.proofs.Given.{takes_for}
+use Rattle.esc_frame.proofs.Emits.EventsFold.{takes_for}
 use Rattle.esc_segments.specs.Items.{IsItem}
 use Rattle.esc_segments.specs.declared.item.Segment.{Segment as Item}
 use Rattle.esc_segments.proofs.Emitted.{takes_by}

@@ -9,8 +9,8 @@ use Rattle.esc_segments.specs.declared.item.Segment.{Segment as Item}
 use Rattle.esc_segments.specs.declared.iter.Segments.{Segments}
 use Rattle.esc_segments.specs.declared.found.Found.{Found}
 use Rattle.esc_segments.specs.Places.{IsFirst}
-use Rattle.esc_segments.specs.Items.{IsItem, IsHead, AreItems, GivesFirst, left, item_bytes}
-use Rattle.esc_frame.specs.Segments.{Segment, IsCut, HasShape, AreSegments, joined, bytes_of, is_finished}
+use Rattle.esc_segments.specs.Items.{IsItem, IsHead, AreItems, GivesFirst, left_bytes, item_bytes}
+use Rattle.esc_frame.specs.Segments.{Segment, IsCut, HasShape, AreSegments, joined_bytes, bytes_of, is_finished}
 
 -- what `has_cut` and `one_cut` say
 abbrev pub HasCut : Type 0
@@ -32,8 +32,8 @@ pub none_left : OneCut → (s : List ℕ) (gs : List Segment) → s ≡ [] → I
 none_left once s gs e c = once s gs [] c (subst (λ y. IsCut y []) (sym e) nothing)
 
 -- a segment before a cut
-are_more : (g : Segment) (hs : List Segment) → HasShape g (joined hs)
-    → is_finished g (joined hs) ≡ true → AreSegments hs → AreSegments (g ∷ hs)
+are_more : (g : Segment) (hs : List Segment) → HasShape g (joined_bytes hs)
+    → is_finished g (joined_bytes hs) ≡ true → AreSegments hs → AreSegments (g ∷ hs)
 are_more g [] s f a = s
 are_more g (h ∷ hs) s f a = (s, f, a)
 
@@ -91,9 +91,9 @@ first_of_cut has once s x t item d e k b f gs c =
 
 items_by : (xs : List Item) (s t u : Segments) (gs : List Segment) → Yields GivesFirst s xs t
     → GivesFirst t None u
-    → IsCut (left s) gs → AreItems xs gs
+    → IsCut (left_bytes s) gs → AreItems xs gs
 items_by [] s t u gs y n c =
-    let e : gs ≡ [] = (n gs (subst (λ z. IsCut (left z) gs) y c)).0 in
+    let e : gs ≡ [] = (n gs (subst (λ z. IsCut (left_bytes z) gs) y c)).0 in
     subst (λ z. AreItems [] z) (sym e) tt
 items_by (x ∷ xs) s t u gs (j, p, y) n c =
     let q = p gs c in
@@ -101,22 +101,22 @@ items_by (x ∷ xs) s t u gs (j, p, y) n c =
     subst (λ z. AreItems (x ∷ xs) z) (sym q.first) (here, items_by xs j t u q.others y n q.rest)
 
 pub items_are : (s : Segments) (xs : List Item) (gs : List Segment) → Drains GivesFirst s xs
-    → IsCut (left s) gs → AreItems xs gs
+    → IsCut (left_bytes s) gs → AreItems xs gs
 items_are s xs gs (u, (t, y, n)) c = items_by xs s t u gs y n c
 
 -- the items' bytes are the bytes that were left
 bytes_by : HasCut → (xs : List Item) (s t u : Segments) → Yields GivesFirst s xs t
-    → GivesFirst t None u → left s ≡ item_bytes xs
+    → GivesFirst t None u → left_bytes s ≡ item_bytes xs
 bytes_by has [] s t u y n =
-    let c = has (left t) in
-    let e : c.0 ≡ [] = (n c.0 c.1).0 in ap left y ∙ c.1.whole ∙ ap joined e
+    let c = has (left_bytes t) in
+    let e : c.0 ≡ [] = (n c.0 c.1).0 in ap left_bytes y ∙ c.1.whole ∙ ap joined_bytes e
 bytes_by has (x ∷ xs) s t u (j, p, y) n =
-    let c = has (left s) in
+    let c = has (left_bytes s) in
     let q = p c.0 c.1 in q.place ∙ ap (λ z. x.bytes.now ++ z) (bytes_by has xs j t u y n)
 
 pub items_lie : HasCut → (s : Segments) (before : List Item) (x : Item) (after : List Item)
     → Drains GivesFirst s (before ++ x ∷ after)
-    → left s ≡ item_bytes before ++ (x.bytes.now ++ item_bytes after)
+    → left_bytes s ≡ item_bytes before ++ (x.bytes.now ++ item_bytes after)
 items_lie has s before x after (u, (t, y, n)) =
     bytes_by has (before ++ x ∷ after) s t u y n ∙ flat_map-append (λ z.
     z.bytes.now) before (x ∷ after)

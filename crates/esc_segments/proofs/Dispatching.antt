@@ -10,13 +10,13 @@ use Rattle.esc_frame.specs.declared.classes.Class.TheVariants.{Introducer, Final
 use Rattle.esc_frame.specs.declared.classes.Kind.{Kind}
 use Rattle.esc_frame.specs.declared.classes.Kind.TheVariants as kind
 use Rattle.esc_frame.specs.Bodies.{is_dcs_parameter}
-use Rattle.esc_frame.specs.Classes.{class_of, AllOf, ends_csi, ends_escape, in_csi, is_noise, strip}
+use Rattle.esc_frame.specs.Classes.{class_of, AllOf, ends_csi, ends_escape, in_csi, is_noise, without_noise}
 use Rattle.esc_frame.specs.Events.{Event, StopsAt, Takes}
 use Rattle.esc_frame.specs.Machine.Keeps.{parameters_of}
-use Rattle.esc_frame.specs.Segments.{Ending, Opener, Piece, csi_events, escape_event, executes, is_finished, opener, opener_events}
+use Rattle.esc_frame.specs.Segments.{Ending, Opener, OscUnit, csi_events, escape_event, executes, is_finished, opener, opener_events}
 use Rattle.esc_frame.specs.Segments.Ending.{Open, Rung, Waits}
 use Rattle.esc_frame.specs.Segments.Segment.{Osc}
-use Rattle.esc_frame.proofs.Given.{stops_for, stops_more, stops_then, stops_here}
+use Rattle.esc_frame.proofs.Emits.EventsFold.{stops_for, stops_more, stops_then, stops_here}
 use Rattle.esc_segments.specs.Parts.{is_over}
 use Rattle.esc_segments.proofs.Beginnings.{run_is}
 use Rattle.esc_segments.proofs.Executes.{executes_opener, executes_whole_csi, executes_whole_escape}
@@ -52,13 +52,14 @@ module _ {S E : Type 0} (own : Type 0) (takes refuses : S → Event → S → Ty
   pub escape_emitted : (bytes x m : List ℕ) (f l : ℕ) → bytes ≡ (0x1b ∷ x) ++ f ∷ []
       → ends_escape (class_of f) ≡ true → m ≡ x → l ≡ f
       → FoldsTo takes old (executes bytes) mid
-      → Takes own takes refuses result mid (escape_event (strip m) l ∷ []) new
-      → Takes own takes refuses result old (executes x ++ escape_event (strip x) f ∷ []) new
+      → Takes own takes refuses result mid (escape_event (without_noise m) l ∷ []) new
+      → Takes own takes refuses result old (executes x ++ escape_event (without_noise x) f ∷ []) new
   escape_emitted bytes x m f l e h i j first next =
       let es : executes bytes ≡ executes x = ap executes e ∙ executes_whole_escape x f h in
-      let one : escape_event (strip m) l ≡ escape_event (strip x) f =
-      ap (λ y. escape_event (strip y) l) i ∙ ap (escape_event (strip x)) j in
-      takes_then own takes refuses result (executes x) (escape_event (strip x) f ∷ []) old mid new
+      let one : escape_event (without_noise m) l ≡ escape_event (without_noise x) f =
+      ap (λ y. escape_event (without_noise y) l) i ∙ ap (escape_event (without_noise x)) j in
+      takes_then own takes refuses result (executes x) (escape_event (without_noise x) f ∷ []) old
+      mid new
       (subst (λ y. FoldsTo takes old y mid) es first)
       (subst (λ y. Takes own takes refuses result mid (y ∷ []) new) one next)
 
@@ -66,15 +67,17 @@ module _ {S E : Type 0} (own : Type 0) (takes refuses : S → Event → S → Ty
   pub csi_emitted : (bytes x m : List ℕ) (o : Opener) (f l : ℕ)
       → bytes ≡ opener kind.Csi o ++ x ++ f ∷ [] → ends_csi (class_of f) ≡ true → m ≡ x → l ≡ f
       → FoldsTo takes old (executes bytes) mid
-      → Takes own takes refuses result mid (csi_events (strip m) l) new
-      → Takes own takes refuses result old (opener_events o ++ executes x ++ csi_events (strip x) f)
+      → Takes own takes refuses result mid (csi_events (without_noise m) l) new
+      → Takes own takes refuses result old
+      (opener_events o ++ executes x ++ csi_events (without_noise x) f)
       new
   csi_emitted bytes x m o f l e h i j first next =
       let es : executes bytes ≡ opener_events o ++ executes x =
       ap executes e ∙ executes_whole_csi o x f h in
-      let one : csi_events (strip m) l ≡ csi_events (strip x) f =
-      ap (λ y. csi_events (strip y) l) i ∙ ap (csi_events (strip x)) j in
-      takes_then own takes refuses result (opener_events o ++ executes x) (csi_events (strip x) f)
+      let one : csi_events (without_noise m) l ≡ csi_events (without_noise x) f =
+      ap (λ y. csi_events (without_noise y) l) i ∙ ap (csi_events (without_noise x)) j in
+      takes_then own takes refuses result (opener_events o ++ executes x)
+      (csi_events (without_noise x) f)
       old mid new
       (subst (λ y. FoldsTo takes old y mid) es first)
       (subst (λ y. Takes own takes refuses result mid y new) one next)
@@ -110,7 +113,7 @@ module _ {S : Type 0} (own : Type 0) (takes refuses : S → Event → S → Type
 
 -- ---- an operating system command
 
-pub over_is : (o : Opener) (ps : List Piece) (e : Ending) (after : List ℕ) (w : Bool) → w ≡ true
+pub over_is : (o : Opener) (ps : List OscUnit) (e : Ending) (after : List ℕ) (w : Bool) → w ≡ true
     → w ≡ is_finished (Osc o ps e) after → is_over e ≡ true
 over_is o ps Open after w t f = refl
 over_is o ps Rung after w t f = refl
@@ -162,12 +165,12 @@ unfolding class_of
 noise_no b h = grind (arith, nat_tests)
 
 strip_by : (b : ℕ) (x : List ℕ) (t : Bool) → is_noise (class_of b) ≡ t
-    → parameters_of x ≡ parameters_of (strip x)
-    → parameters_of (b ∷ x) ≡ parameters_of (strip (b ∷ x))
+    → parameters_of x ≡ parameters_of (without_noise x)
+    → parameters_of (b ∷ x) ≡ parameters_of (without_noise (b ∷ x))
 strip_by b x true e ih = rw e (rw (noise_no b e) ih)
 strip_by b x false e ih = rw e (ap (λ y. cond (is_dcs_parameter b) (b ∷ y) y) ih)
 
 -- noise is no parameter byte
-pub parameters_strip : (x : List ℕ) → parameters_of x ≡ parameters_of (strip x)
+pub parameters_strip : (x : List ℕ) → parameters_of x ≡ parameters_of (without_noise x)
 parameters_strip [] = refl
 parameters_strip (b ∷ x) = strip_by b x (is_noise (class_of b)) refl (parameters_strip x)

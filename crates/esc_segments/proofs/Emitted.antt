@@ -5,7 +5,7 @@ use Rattle.std.specs.List.{FoldsTo, filter}
 use Rattle.std.proofs.lemmas.List.{map-append, take_more, append-nil}
 use Rattle.std.proofs.lemmas.List.Elements.{filter-append}
 use Rattle.esc_frame.specs.Events.{Event, StopsAt, Takes}
-use Rattle.esc_frame.proofs.Given.{folds_then, stops_then, stops_more, refused_stops, takes_for}
+use Rattle.esc_frame.proofs.Emits.EventsFold.{folds_then, stops_then, stops_more, refused_stops, takes_for}
 
 -- some events, and then others
 pub takes_then : {S E : Type 0} (own : Type 0) (takes refuses : S → Event → S → Type 0)

@@ -8,13 +8,13 @@ use Rattle.esc_segments.specs.declared.kind.SegmentKind.TheVariants as kinds
 use Rattle.esc_segments.specs.declared.found.Found.{Found}
 use Rattle.esc_segments.specs.declared.sequence.Ahead.TheVariants as ahead
 use Rattle.esc_segments.specs.Items.{kind_of}
-use Rattle.esc_segments.specs.Places.{found, moved, IsFirst, IsOpened, IsRaw, IsSequence}
+use Rattle.esc_segments.specs.Places.{found_at, found_further, IsFirst, IsOpened, IsRaw, IsSequence}
 use Rattle.esc_frame.specs.declared.classes.Class.{Class}
 use Rattle.esc_frame.specs.declared.classes.Class.TheVariants.{C0, Bell, Parameter, Introducer, Final, Delete, High, Lead, Breaks}
 use Rattle.esc_frame.specs.declared.classes.Breaker.TheVariants.{C1Introducer, C1Terminator, C1}
 use Rattle.esc_frame.specs.declared.classes.Kind.{Kind}
 use Rattle.esc_frame.specs.declared.classes.Kind.TheVariants as kind
-use Rattle.esc_frame.specs.Classes.{class_of, strip, is_noise, in_escape, ends_escape, is_breaker, opens, letter_of, raw_of}
+use Rattle.esc_frame.specs.Classes.{class_of, without_noise, is_noise, in_escape, ends_escape, is_breaker, opens, letter_of, raw_of}
 use Rattle.esc_frame.specs.Classes.{is_text, is_high, is_control, is_c1, is_terminator, is_raw}
 use Rattle.esc_frame.specs.Segments.{Segment, HasShape, opener, bytes_of, is_finished, is_empty, breaks, after_c2}
 use Rattle.esc_frame.specs.Segments.Segment.{Character, Wide, Broken, Stray, Control, HighControl, Terminator, CutEscape}
@@ -26,16 +26,16 @@ use Rattle.esc_segments.proofs.Bodies.{no_breaker, breaker, not_true}
 -- ---- the same segment of the same bytes
 
 pub first_same : (a b : List ℕ) (x : Found) (n m : ℕ) → a ≡ b → n ≡ m
-    → IsFirst a (found x.kind n x.finished) → IsFirst b (found x.kind m x.finished)
-first_same a b x n m e i h = subst (λ y. IsFirst y (found x.kind m x.finished)) e
-    (subst (λ k. IsFirst a (found x.kind k x.finished)) i h)
+    → IsFirst a (found_at x.kind n x.finished) → IsFirst b (found_at x.kind m x.finished)
+first_same a b x n m e i h = subst (λ y. IsFirst y (found_at x.kind m x.finished)) e
+    (subst (λ k. IsFirst a (found_at x.kind k x.finished)) i h)
 
 -- ---- one byte
 
 -- a segment that is finished by itself
 alone : (g : Segment) (s t : List ℕ) (n : ℕ) → s ≡ bytes_of g ++ t → HasShape g t
     → n ≡ length (bytes_of g) → is_finished g t ≡ true
-    → IsFirst s (found (kind_of g) n true)
+    → IsFirst s (found_at (kind_of g) n true)
 alone g s t n e h l f = record {
   g = g;
   after = t;
@@ -52,7 +52,7 @@ unfolding class_of
 text_class b l h = grind (arith, nat_tests)
 
 pub one_text : (s : List ℕ) → 0 < length s → 0x20 ≤ get_or s 0 0 → get_or s 0 0 ≤ 0x7f
-    → IsFirst s (found kinds.Character 1 true)
+    → IsFirst s (found_at kinds.Character 1 true)
 one_text [] l low high = absurd (omega arith)
 one_text (b ∷ s) l low high = alone (Character b) (b ∷ s) s 1 refl (text_class b low high) refl refl
 
@@ -61,7 +61,7 @@ unfolding class_of
 low_class b h = grind (arith, nat_tests)
 
 pub low_control : (s : List ℕ) → 0 < length s → get_or s 0 0 ≤ 0x1a
-    → IsFirst s (found kinds.Control 1 true)
+    → IsFirst s (found_at kinds.Control 1 true)
 low_control [] l high = absurd (omega arith)
 low_control (b ∷ s) l high = alone (Control b) (b ∷ s) s 1 refl (low_class b high) refl refl
 
@@ -70,7 +70,7 @@ unfolding class_of
 separator_class b l h = grind (arith, nat_tests)
 
 pub separator : (s : List ℕ) → 0 < length s → 0x1c ≤ get_or s 0 0 → get_or s 0 0 ≤ 0x1f
-    → IsFirst s (found kinds.Control 1 true)
+    → IsFirst s (found_at kinds.Control 1 true)
 separator [] l low high = absurd (omega arith)
 separator (b ∷ s) l low high =
     alone (Control b) (b ∷ s) s 1 refl (separator_class b low high) refl refl
@@ -80,7 +80,7 @@ unfolding class_of
 stray_class b l h = grind (arith, nat_tests)
 
 pub low_stray : (s : List ℕ) → 0 < length s → 0xa0 ≤ get_or s 0 0 → get_or s 0 0 ≤ 0xc1
-    → IsFirst s (found kinds.Stray 1 true)
+    → IsFirst s (found_at kinds.Stray 1 true)
 low_stray [] l low high = absurd (omega arith)
 low_stray (b ∷ s) l low high = alone (Stray b) (b ∷ s) s 1 refl (stray_class b low high) refl refl
 
@@ -89,26 +89,26 @@ unfolding class_of
 high_class b l = grind (arith, nat_tests)
 
 pub high_stray : (s : List ℕ) → 0 < length s → 0xf5 ≤ get_or s 0 0
-    → IsFirst s (found kinds.Stray 1 true)
+    → IsFirst s (found_at kinds.Stray 1 true)
 high_stray [] l low = absurd (omega arith)
 high_stray (b ∷ s) l low = alone (Stray b) (b ∷ s) s 1 refl (high_class b low) refl refl
 
 -- ---- a sequence of UTF-8
 
 pub wide : (s : List ℕ) (n : ℕ) → IsSequence s (ahead.Whole n)
-    → IsFirst s (found kinds.Character n true)
+    → IsFirst s (found_at kinds.Character n true)
 wide s n (p, l, h, q) =
     alone (Wide (take n s)) s (drop n s) n (sym (take-append-drop n s)) (h, q)
     (sym (length-take-le n s l)) refl
 
 pub broken : (s : List ℕ) (n : ℕ) → IsSequence s (ahead.Broken n)
-    → IsFirst s (found kinds.Broken n true)
+    → IsFirst s (found_at kinds.Broken n true)
 broken s n (p, l, h, q) =
     alone (Broken (take n s)) s (drop n s) n (sym (take-append-drop n s)) h
     (sym (length-take-le n s l)) q
 
 pub pending : (s : List ℕ) → IsSequence s ahead.Pending
-    → IsFirst s (found kinds.Broken (length s) false)
+    → IsFirst s (found_at kinds.Broken (length s) false)
 pending s h = record {
   g = Broken s;
   after = [];
@@ -122,7 +122,7 @@ pending s h = record {
 
 -- C2 and a control
 pub pair : (s : List ℕ) (b : ℕ) (x : Found) → IsSequence s (ahead.Control b)
-    → IsRaw b (take (length s - 2) (drop 2 s)) x → IsFirst s (moved 2 x)
+    → IsRaw b (take (length s - 2) (drop 2 s)) x → IsFirst s (found_further 2 x)
 pair s b x h r =
     let e : 0xc2 ∷ b ∷ take (length s - 2) (drop 2 s) ≡ s =
     ap (λ y. 0xc2 ∷ b ∷ y) (take_rest s 2) ∙ ap (λ y. y ++ drop 2 s) (sym h.1)
@@ -131,7 +131,7 @@ pair s b x h r =
     (r true)
 
 pub raw : (s : List ℕ) (x : Found) → 0 < length s
-    → IsRaw (get_or s 0 0) (take (length s - 1) (drop 1 s)) x → IsFirst s (moved 1 x)
+    → IsRaw (get_or s 0 0) (take (length s - 1) (drop 1 s)) x → IsFirst s (found_further 1 x)
 raw [] x l r = absurd (omega arith)
 raw (b ∷ s) x l r =
     first_same (b ∷ take (length (b ∷ s) - 1) s) (b ∷ s) x (1 + x.len) (1 + x.len)
@@ -198,23 +198,24 @@ raw_by b (Breaks C1Terminator) e h n m = absurd (m (is_st b e))
 raw_by b _ e h n m = absurd (true≢false (sym h))
 
 control_by : (b : ℕ) (body : List ℕ) → is_c1 (class_of b) ≡ true → (p : Bool)
-    → IsFirst (after_c2 p b ++ body) (moved (length (after_c2 p b)) (found kinds.Control 0 true))
+    → IsFirst (after_c2 p b ++ body)
+    (found_further (length (after_c2 p b)) (found_at kinds.Control 0 true))
 control_by b body h true = alone (HighControl true b) (0xc2 ∷ b ∷ body) body 2 refl h refl refl
 control_by b body h false = alone (HighControl false b) (b ∷ body) body 1 refl h refl refl
 
 pub raw_control : (b : ℕ) (body : List ℕ) → 0x80 ≤ b → b ≤ 0x9f → (b ≡ 0x9c → ⊥)
     → opens (class_of (b - 0x40)) ≡ false
-    → IsRaw b body (found kinds.Control 0 true)
+    → IsRaw b body (found_at kinds.Control 0 true)
 raw_control b body l h m n = control_by b body (raw_by b (class_of b) refl (raw_from b l h) n m)
 
 terminator_by : (b : ℕ) (body : List ℕ) → is_terminator (class_of b) ≡ true → (p : Bool)
     → IsFirst (after_c2 p b ++ body)
-    (moved (length (after_c2 p b)) (found kinds.Terminator 0 true))
+    (found_further (length (after_c2 p b)) (found_at kinds.Terminator 0 true))
 terminator_by b body h true = alone (Terminator true b) (0xc2 ∷ b ∷ body) body 2 refl h refl refl
 terminator_by b body h false = alone (Terminator false b) (b ∷ body) body 1 refl h refl refl
 
 pub raw_terminator : (b : ℕ) (body : List ℕ) → b ≡ 0x9c
-    → IsRaw b body (found kinds.Terminator 0 true)
+    → IsRaw b body (found_at kinds.Terminator 0 true)
 raw_terminator b body e =
     terminator_by b body (subst (λ y. is_terminator (class_of y) ≡ true) (sym e) st_class)
 
@@ -235,7 +236,7 @@ raw_is b kind.Pm e = omega arith
 raw_is b kind.Apc e = omega arith
 
 opened_by : (k : Kind) (body : List ℕ) (x : Found) → IsOpened k body x → (p : Bool)
-    → IsFirst (after_c2 p (raw_of k) ++ body) (moved (length (after_c2 p (raw_of k))) x)
+    → IsFirst (after_c2 p (raw_of k) ++ body) (found_further (length (after_c2 p (raw_of k))) x)
 opened_by k body x h true = h Pair tt
 opened_by k body x h false = h Raw tt
 
@@ -252,7 +253,7 @@ pub escape_opened : (s : List ℕ) (n : ℕ) (x : Found) → n ≡ prefix_len (�
     → opens (class_of (get_or s n 0)) ≡ true
     → ((k : Kind) → get_or s n 0 ≡ letter_of k
     → IsOpened k (take (length s - (n + 1)) (drop (n + 1) s)) x)
-    → IsFirst (0x1b ∷ s) (moved 1 (moved (n + 1) x))
+    → IsFirst (0x1b ∷ s) (found_further 1 (found_further (n + 1) x))
 escape_opened s n x e h o f =
     let l = letter_is (get_or s n 0) o in
     let k = l.0 in
@@ -294,10 +295,11 @@ OpensNothing (b ∷ _) = opens (class_of b) ≡ false
 closed_by : (b : ℕ) (s u : List ℕ) (f : ℕ) (t w : Bool) → is_noise (class_of b) ≡ t
     → in_escape (class_of b) ≡ w
     → (rest in_escape s ≡ f ∷ u → OpensNothing (rest is_noise s)
-    → (is_empty (strip (prefix in_escape s)) && opens (class_of f)) ≡ false)
+    → (is_empty (without_noise (prefix in_escape s)) && opens (class_of f)) ≡ false)
     → (if w then rest in_escape s else b ∷ s) ≡ f ∷ u
     → OpensNothing (if t then rest is_noise s else b ∷ s)
-    → (is_empty (strip (if w then b ∷ prefix in_escape s else [])) && opens (class_of f)) ≡ false
+    → (is_empty (without_noise (if w then b ∷ prefix in_escape s else [])) && opens (class_of f))
+    ≡ false
 closed_by b s u f true true n i so e h = rw n (so e h)
 closed_by b s u f true false n i so e h =
     absurd (true≢false (sym (noise_in (class_of b) n) ∙ i))
@@ -306,7 +308,7 @@ closed_by b s u f false false n i so e h = let j : b ≡ f = cc in
     subst (λ y. opens (class_of y) ≡ false) j h
 
 closed : (s u : List ℕ) (f : ℕ) → rest in_escape s ≡ f ∷ u → OpensNothing (rest is_noise s)
-    → (is_empty (strip (prefix in_escape s)) && opens (class_of f)) ≡ false
+    → (is_empty (without_noise (prefix in_escape s)) && opens (class_of f)) ≡ false
 closed [] u f e h = absurd cc
 closed (b ∷ s) u f e h =
     closed_by b s u f (is_noise (class_of b)) (in_escape (class_of b)) refl refl (closed s u f) e h
@@ -325,7 +327,7 @@ module _ (s : List ℕ) (r : ℕ) (e : r ≡ prefix_len (λ b. in_escape (class_
   q = split in_escape s r e
 
   cut : (w : Bool) → w ≡ breaks (drop r s) → (w ≡ false → drop r s ≡ [])
-      → IsFirst (0x1b ∷ s) (moved 1 (found kinds.CutShort r w))
+      → IsFirst (0x1b ∷ s) (found_further 1 (found_at kinds.CutShort r w))
   cut w f d = record {
     g = CutEscape (take r s);
     after = drop r s;
@@ -338,24 +340,25 @@ module _ (s : List ℕ) (r : ℕ) (e : r ≡ prefix_len (λ b. in_escape (class_
     last = d;
   }
 
-  pub escape_pending : r ≡ length s → IsFirst (0x1b ∷ s) (moved 1 (found kinds.CutShort r false))
+  pub escape_pending : r ≡ length s
+      → IsFirst (0x1b ∷ s) (found_further 1 (found_at kinds.CutShort r false))
   escape_pending h = cut false (no_breaker (drop r s) (at_end s r h)) (λ _. at_end s r h)
 
   pub escape_broken : r < length s → is_breaker (class_of (get_or s r 0)) ≡ true
-      → IsFirst (0x1b ∷ s) (moved 1 (found kinds.CutShort r true))
+      → IsFirst (0x1b ∷ s) (found_further 1 (found_at kinds.CutShort r true))
   escape_broken h b = cut true (breaker (drop r s) (drop (r + 1) s) (get_or s r 0) (next s r h) b)
       (not_true (drop r s))
 
   pub escape_whole : (n : ℕ) → n ≡ prefix_len (λ b. is_noise (class_of b)) s
       → (n < length s → opens (class_of (get_or s n 0)) ≡ false) → r < length s
       → is_breaker (class_of (get_or s r 0)) ≡ false
-      → IsFirst (0x1b ∷ s) (moved 1 (found kinds.Escape (r + 1) true))
+      → IsFirst (0x1b ∷ s) (found_further 1 (found_at kinds.Escape (r + 1) true))
   escape_whole n i o h b =
       let f : ℕ = get_or s r 0 in
       let m = split is_noise s n i in
       let none : OpensNothing (rest is_noise s) = nothing_by s n (rest is_noise s) m.drops o in
-      let c : (is_empty (strip (take r s)) && opens (class_of f)) ≡ false =
-      subst (λ z. (is_empty (strip z) && opens (class_of f)) ≡ false) (sym q.takes)
+      let c : (is_empty (without_noise (take r s)) && opens (class_of f)) ≡ false =
+      subst (λ z. (is_empty (without_noise z) && opens (class_of f)) ≡ false) (sym q.takes)
       (closed s (drop (r + 1) s) f (sym q.drops ∙ next s r h) none) in
       let l : length (0x1b ∷ take r s) ≡ 1 + length (take r s) = omega arith in
       let one : length (f ∷ []) ≡ 1 = refl in record {

@@ -7,7 +7,7 @@ use Rattle.esc_frame.specs.declared.classes.Class.TheVariants.{Parameter, Introd
 use Rattle.esc_frame.specs.declared.classes.Breaker.TheVariants.{Escape, C1Introducer}
 use Rattle.esc_frame.specs.declared.classes.Kind.{Kind}
 use Rattle.esc_frame.specs.declared.classes.Kind.TheVariants as kind
-use Rattle.esc_frame.specs.Classes.{class_of, is_c0, ends_escape, ends_csi, letter_of, raw_of, those}
+use Rattle.esc_frame.specs.Classes.{class_of, is_c0, ends_escape, ends_csi, letter_of, raw_of, bytes_of_class}
 use Rattle.esc_frame.specs.Events.Event.{Execute}
 use Rattle.esc_frame.specs.Segments.{Opener, executes, opener, opener_events}
 use Rattle.esc_frame.specs.Segments.Opener.{Long, Raw, Pair}
@@ -40,7 +40,7 @@ raw_code kind.Apc = refl
 
 executes_append : (x y : List ℕ) → executes (x ++ y) ≡ executes x ++ executes y
 executes_append x y = ap (map Execute) (filter-append (λ b. is_c0 (class_of b)) x y)
-    ∙ map-append Execute (those is_c0 x) (those is_c0 y)
+    ∙ map-append Execute (bytes_of_class is_c0 x) (bytes_of_class is_c0 y)
 
 executes_none : (b : ℕ) → is_c0 (class_of b) ≡ false → executes (b ∷ []) ≡ []
 executes_none b h = rw h refl

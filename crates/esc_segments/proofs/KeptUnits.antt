@@ -5,14 +5,14 @@ use Rattle.std.proofs.lemmas.List.{append-nil, drop_all, drop_at, length-take-le
 use Rattle.std.proofs.lemmas.Bool.Decides.{nat_tests}
 use Rattle.esc_frame.specs.declared.classes.Class.{Class}
 use Rattle.esc_frame.specs.declared.classes.Class.TheVariants.{Bell, Lead}
-use Rattle.esc_frame.specs.Classes.{class_of, in_osc, is_text, those}
+use Rattle.esc_frame.specs.Classes.{class_of, in_osc, is_text, bytes_of_class}
 use Rattle.esc_frame.specs.Sequences.{is_pair, is_prefix, is_broken_before}
-use Rattle.esc_frame.specs.Segments.{Ending, Piece, ArePieces, ending_bytes, text_bytes, text_of}
+use Rattle.esc_frame.specs.Segments.{Ending, OscUnit, AreOscUnits, ending_bytes, text_bytes, text_of}
 use Rattle.esc_frame.specs.Segments.Ending.{Open, Rung, Waits}
-use Rattle.esc_frame.specs.Segments.Piece.{One, Sequence, BrokenOff}
-use Rattle.esc_frame.proofs.Scan.{begun, is_lead, lead_of, begun_waits, begun_breaks, begun_sequence, prefix_lead, sequence_lead}
-use Rattle.esc_frame.proofs.Scan.Begun.{Complete, Halted, Waiting}
-use Rattle.esc_frame.proofs.Units.{raw_in}
+use Rattle.esc_frame.specs.Segments.OscUnit.{One, Sequence, BrokenOff}
+use Rattle.esc_frame.proofs.Cut.FirstSequence.{begun, is_lead, lead_of, begun_waits, begun_breaks, begun_sequence, prefix_lead, sequence_lead}
+use Rattle.esc_frame.proofs.Cut.FirstSequence.Begun.{Complete, Halted, Waiting}
+use Rattle.esc_frame.proofs.Cut.UnitsAreDetermined.{raw_in}
 use Rattle.esc_segments.specs.declared.sequence.Ahead.TheVariants as ahead
 use Rattle.esc_segments.specs.Parts.{IsLeft, is_over}
 use Rattle.esc_segments.specs.Places.{IsSequence}
@@ -39,12 +39,12 @@ moved : (kept bytes other after t : List ℕ) → bytes ≡ other → IsLeft kep
 moved kept bytes other after t e l = subst (λ y. IsLeft kept y after t) e l
 
 -- a unit that keeps these bytes
-unit_taken : (kept more s after t : List ℕ) (ps : List Piece) (e : Ending) → is_over e ≡ true
+unit_taken : (kept more s after t : List ℕ) (ps : List OscUnit) (e : Ending) → is_over e ≡ true
     → s ≡ text_bytes ps ++ ending_bytes e
-    → ArePieces ps (ending_bytes e ++ after) → kept ++ (more ++ text_of ps) ≡ t
+    → AreOscUnits ps (ending_bytes e ++ after) → kept ++ (more ++ text_of ps) ≡ t
     → IsLeft (kept ++ more) s after t
 unit_taken kept more s after t ps e o w a q = record {
-  pieces = ps;
+  osc_units = ps;
   ending = e;
   over = o;
   whole = w;
@@ -54,9 +54,9 @@ unit_taken kept more s after t ps e o w a q = record {
 
 -- ---- a unit of one byte
 
-text_by : (kept : List ℕ) (b : ℕ) (s after t : List ℕ) (ps : List Piece) (e : Ending)
+text_by : (kept : List ℕ) (b : ℕ) (s after t : List ℕ) (ps : List OscUnit) (e : Ending)
     → is_text (class_of b) ≡ true → is_over e ≡ true
-    → b ∷ s ≡ text_bytes ps ++ ending_bytes e → ArePieces ps (ending_bytes e ++ after)
+    → b ∷ s ≡ text_bytes ps ++ ending_bytes e → AreOscUnits ps (ending_bytes e ++ after)
     → kept ++ text_of ps ≡ t → IsLeft (kept ++ b ∷ []) s after t
 text_by kept b s after t [] Open h o w a q = absurd cc
 text_by kept b s after t [] Rung h o w a q =
@@ -67,8 +67,8 @@ text_by kept b s after t [] (Waits f) h o w a q = absurd cc
 text_by kept b s after t (One c ∷ ps) e h o w a q =
     let i : b ≡ c = cc in
     let j : s ≡ text_bytes ps ++ ending_bytes e = cc in
-    let k : those is_text (c ∷ []) ≡ b ∷ [] =
-    subst (λ y. those is_text (y ∷ []) ≡ b ∷ []) i (rw h refl) in
+    let k : bytes_of_class is_text (c ∷ []) ≡ b ∷ [] =
+    subst (λ y. bytes_of_class is_text (y ∷ []) ≡ b ∷ []) i (rw h refl) in
     unit_taken kept (b ∷ []) s after t ps e o j a.1 (ap (λ y. kept ++ (y ++ text_of ps)) (sym k)
     ∙ q)
 text_by kept b s after t (Sequence x ∷ ps) e h o w a q =
@@ -85,18 +85,18 @@ text_by kept b s after t (BrokenOff x ∷ ps) e h o w a q =
 pub left_text : (kept : List ℕ) (b : ℕ) (s after t : List ℕ) → is_text (class_of b) ≡ true
     → IsLeft kept (b ∷ s) after t → IsLeft (kept ++ b ∷ []) s after t
 left_text kept b s after t h l =
-    text_by kept b s after t l.pieces l.ending h l.over l.whole l.each l.same
+    text_by kept b s after t l.osc_units l.ending h l.over l.whole l.each l.same
 
 no_lead : (c : Class) → is_lead c ≡ false → is_lead c ≡ true → ⊥
 no_lead c h l = let z : true ≡ false = sym l ∙ h in cc
 
-skip_by : (kept : List ℕ) (b : ℕ) (s after t : List ℕ) (ps : List Piece) (e : Ending)
+skip_by : (kept : List ℕ) (b : ℕ) (s after t : List ℕ) (ps : List OscUnit) (e : Ending)
     → is_text (class_of b) ≡ false → is_lead (class_of b) ≡ false
     → is_over e ≡ true → b ∷ s ≡ text_bytes ps ++ ending_bytes e
-    → ArePieces ps (ending_bytes e ++ after) → kept ++ text_of ps ≡ t → IsLeft kept s after t
+    → AreOscUnits ps (ending_bytes e ++ after) → kept ++ text_of ps ≡ t → IsLeft kept s after t
 skip_by kept b s after t [] Open h n o w a q = absurd cc
 skip_by kept b s after t [] Rung h n o w a q = record {
-  pieces = [];
+  osc_units = [];
   ending = Open;
   over = refl;
   whole = (let j : s ≡ [] = cc in j);
@@ -107,9 +107,10 @@ skip_by kept b s after t [] (Waits f) h n o w a q = absurd cc
 skip_by kept b s after t (One c ∷ ps) e h n o w a q =
     let i : b ≡ c = cc in
     let j : s ≡ text_bytes ps ++ ending_bytes e = cc in
-    let k : those is_text (c ∷ []) ≡ [] = subst (λ y. those is_text (y ∷ []) ≡ []) i (rw h refl) in
+    let k : bytes_of_class is_text (c ∷ [])
+    ≡ [] = subst (λ y. bytes_of_class is_text (y ∷ []) ≡ []) i (rw h refl) in
     record {
-      pieces = ps;
+      osc_units = ps;
       ending = e;
       over = o;
       whole = j;
@@ -130,7 +131,7 @@ pub left_skip : (kept : List ℕ) (b : ℕ) (s after t : List ℕ) → is_text (
     → is_lead (class_of b) ≡ false → IsLeft kept (b ∷ s) after t
     → IsLeft kept s after t
 left_skip kept b s after t h n l =
-    skip_by kept b s after t l.pieces l.ending h n l.over l.whole l.each l.same
+    skip_by kept b s after t l.osc_units l.ending h n l.over l.whole l.each l.same
 
 -- ---- a sequence
 
@@ -151,9 +152,9 @@ broken_by kept text x [] after rest t h k w l =
 broken_by kept text x (b ∷ r) after rest t h k w l =
     Replaced x (b ∷ r) (ap begun w ∙ begun_breaks x (b ∷ r) h k) w l
 
-lead_by : (kept text after t : List ℕ) (ps : List Piece) (e : Ending) → lead_of text ≡ true
+lead_by : (kept text after t : List ℕ) (ps : List OscUnit) (e : Ending) → lead_of text ≡ true
     → is_over e ≡ true → text ≡ text_bytes ps ++ ending_bytes e
-    → ArePieces ps (ending_bytes e ++ after) → kept ++ text_of ps ≡ t → LeadUnit kept text after t
+    → AreOscUnits ps (ending_bytes e ++ after) → kept ++ text_of ps ≡ t → LeadUnit kept text after t
 lead_by kept text after t [] Open h o w a q = let z : true ≡ false = sym h ∙ ap lead_of w in
     absurd cc
 lead_by kept text after t [] Rung h o w a q =
@@ -178,7 +179,7 @@ lead_by kept text after t (BrokenOff x ∷ ps) e h o w a q =
 lead_unit : (kept text after t : List ℕ) → lead_of text ≡ true → IsLeft kept text after t
     → LeadUnit kept text after t
 lead_unit kept text after t h l =
-    lead_by kept text after t l.pieces l.ending h l.over l.whole l.each l.same
+    lead_by kept text after t l.osc_units l.ending h l.over l.whole l.each l.same
 
 -- what the code found is that unit
 whole_unit : (kept text after t : List ℕ) (n : ℕ)
@@ -279,9 +280,9 @@ left_control kept text after t b (r, two, n) l =
 
 -- ---- the end
 
-done_by : (kept after t : List ℕ) (ps : List Piece) (e : Ending) → is_over e ≡ true
+done_by : (kept after t : List ℕ) (ps : List OscUnit) (e : Ending) → is_over e ≡ true
     → [] ≡ text_bytes ps ++ ending_bytes e
-    → ArePieces ps (ending_bytes e ++ after) → kept ++ text_of ps ≡ t → kept ≡ t
+    → AreOscUnits ps (ending_bytes e ++ after) → kept ++ text_of ps ≡ t → kept ≡ t
 done_by kept after t [] e o w a q = sym (append-nil kept) ∙ q
 done_by kept after t (One c ∷ ps) e o w a q = absurd cc
 done_by kept after t (Sequence x ∷ ps) e o w a q =
@@ -294,7 +295,7 @@ done_by kept after t (BrokenOff x ∷ ps) e o w a q =
     absurd cc
 
 pub left_none : (kept after t : List ℕ) → IsLeft kept [] after t → kept ≡ t
-left_none kept after t l = done_by kept after t l.pieces l.ending l.over l.whole l.each l.same
+left_none kept after t l = done_by kept after t l.osc_units l.ending l.over l.whole l.each l.same
 
 -- ---- the first byte, by its range
 

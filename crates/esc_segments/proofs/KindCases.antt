@@ -1,7 +1,7 @@
 -- What holds of each segment of a kind. One lemma a kind.
 use Rattle.std.specs.Prelude.{ℕ, ◌≡◌, Bool, List}
 use Rattle.esc_frame.specs.declared.classes.Kind.{Kind}
-use Rattle.esc_frame.specs.Segments.{Segment, Opener, Piece, Ending}
+use Rattle.esc_frame.specs.Segments.{Segment, Opener, OscUnit, Ending}
 use Rattle.esc_frame.specs.Segments.Segment.{Character, Wide, Broken, Stray, Control, HighControl, Escape, Csi, Osc, Dcs, Apc, Ignored}
 use Rattle.esc_frame.specs.Segments.Segment.{CutEscape, CutCsi, CutDcs}
 use Rattle.esc_segments.specs.Items.{kind_of}
@@ -45,7 +45,7 @@ dcss P (Dcs o x f d) e h = h o x f d
 dcss P _ e h = absurd cc
 
 pub oscs : (P : Segment → Type 0) (g : Segment) → kind_of g ≡ kinds.Osc
-    → ((o : Opener) (ps : List Piece) (e : Ending) → P (Osc o ps e)) → P g
+    → ((o : Opener) (ps : List OscUnit) (e : Ending) → P (Osc o ps e)) → P g
 oscs P (Osc o ps w) e h = h o ps w
 oscs P _ e h = absurd cc
 

@@ -10,37 +10,37 @@ use Rattle.std.proofs.lemmas.Bool.Decides.{nat_tests}
 use Rattle.esc_segments.specs.declared.kind.SegmentKind.TheVariants as kinds
 use Rattle.esc_segments.specs.declared.text.Unit.TheVariants as units
 use Rattle.esc_segments.specs.declared.sequence.Ahead.TheVariants as ahead
-use Rattle.esc_segments.specs.Places.{found, IsOpened, IsUnit, IsText, IsSequence}
+use Rattle.esc_segments.specs.Places.{found_at, IsOpened, IsUnit, IsText, IsSequence}
 use Rattle.esc_frame.specs.declared.classes.Class.{Class}
 use Rattle.esc_frame.specs.declared.classes.Class.TheVariants.{Bell}
 use Rattle.esc_frame.specs.declared.classes.Class.TheVariants.{Lead}
 use Rattle.esc_frame.specs.declared.classes.Kind.TheVariants as kind
 use Rattle.esc_frame.specs.Classes.{class_of, AllOf, in_osc, is_breaker, is_raw}
 use Rattle.esc_frame.specs.Sequences.{is_prefix}
-use Rattle.esc_frame.specs.Segments.{Piece, IsPiece, ArePieces, opener, text_bytes, breaks_text}
-use Rattle.esc_frame.specs.Segments.{piece_bytes}
+use Rattle.esc_frame.specs.Segments.{OscUnit, IsOscUnit, AreOscUnits, opener, text_bytes, breaks_text}
+use Rattle.esc_frame.specs.Segments.{osc_unit_bytes}
 use Rattle.esc_frame.specs.Segments.Segment.{Osc}
 use Rattle.esc_frame.specs.Segments.Ending.{Open, Rung, Waits}
-use Rattle.esc_frame.specs.Segments.Piece.{One, Sequence, BrokenOff}
+use Rattle.esc_frame.specs.Segments.OscUnit.{One, Sequence, BrokenOff}
 use Rattle.esc_segments.proofs.Prefixes.{split, at_end, stops}
 use Rattle.esc_segments.proofs.Bodies.{joins, lengths, lengths_one, not_true}
 
 -- ---- units
 
-pub pieces_append : (ps qs : List Piece) (t : List ℕ) → ArePieces ps (text_bytes qs ++ t)
-    → ArePieces qs t → ArePieces (ps ++ qs) t
-pieces_append [] qs t a b = b
-pieces_append (p ∷ ps) qs t a b =
+pub osc_units_append : (ps qs : List OscUnit) (t : List ℕ) → AreOscUnits ps (text_bytes qs ++ t)
+    → AreOscUnits qs t → AreOscUnits (ps ++ qs) t
+osc_units_append [] qs t a b = b
+osc_units_append (p ∷ ps) qs t a b =
     let e : text_bytes ps ++ (text_bytes qs ++ t) ≡ text_bytes (ps ++ qs) ++ t =
     sym (append_assoc (text_bytes ps) (text_bytes qs) t)
-    ∙ ap (λ y. y ++ t) (sym (flat_map-append piece_bytes ps qs)) in
-    (subst (λ y. IsPiece p y) e a.0, pieces_append ps qs t a.1 b)
+    ∙ ap (λ y. y ++ t) (sym (flat_map-append osc_unit_bytes ps qs)) in
+    (subst (λ y. IsOscUnit p y) e a.0, osc_units_append ps qs t a.1 b)
 
 ones_bytes : (x : List ℕ) → text_bytes (map One x) ≡ x
 ones_bytes [] = refl
 ones_bytes (b ∷ x) = ap (λ y. b ∷ y) (ones_bytes x)
 
-ones_are : (x t : List ℕ) → AllOf in_osc x → ArePieces (map One x) t
+ones_are : (x t : List ℕ) → AllOf in_osc x → AreOscUnits (map One x) t
 ones_are [] t h = tt
 ones_are (b ∷ x) t h = let p = and_parts (in_osc (class_of b)) _ h in (p.0, ones_are x t p.1)
 
@@ -128,10 +128,10 @@ text_more text n m (ps, e, a) (_, _, (qs, f, b)) =
     sym (take-append-drop m (drop n text))
     ∙ ap (λ y. y ++ drop m (drop n text)) (sym f) in (
       ps ++ qs,
-      flat_map-append piece_bytes ps qs ∙ ap (λ y. y ++ text_bytes qs) e
+      flat_map-append osc_unit_bytes ps qs ∙ ap (λ y. y ++ text_bytes qs) e
           ∙ ap (λ y. take n text ++ y) f ∙ sym (take-add n m text),
-      subst (λ y. ArePieces (ps ++ qs) y) d
-          (pieces_append ps qs (drop m (drop n text)) (subst (λ y. ArePieces ps y) c a) b),
+      subst (λ y. AreOscUnits (ps ++ qs) y) d
+          (osc_units_append ps qs (drop m (drop n text)) (subst (λ y. AreOscUnits ps y) c a) b),
     )
 
 module _ (text : List ℕ) (n : ℕ) (room : n ≤ length text) (so : IsText text n) where
@@ -150,7 +150,7 @@ module _ (text : List ℕ) (n : ℕ) (room : n ≤ length text) (so : IsText tex
   long = sym (ap length so.1 ∙ length-take-le n text room)
 
   osc_open : (w : Bool) → w ≡ breaks_text (drop n text) → (w ≡ false → drop n text ≡ [])
-      → IsOpened kind.Osc text (found kinds.Osc n w)
+      → IsOpened kind.Osc text (found_at kinds.Osc n w)
   osc_open w f d = λ o io.
       let p = opener kind.Osc o in
       let z = append-nil (p ++ text_bytes so.0) in record {
@@ -164,16 +164,16 @@ module _ (text : List ℕ) (n : ℕ) (room : n ≤ length text) (so : IsText tex
         last = d;
       }
 
-  pub osc_pending : n ≡ length text → IsOpened kind.Osc text (found kinds.Osc n false)
+  pub osc_pending : n ≡ length text → IsOpened kind.Osc text (found_at kinds.Osc n false)
   osc_pending h = osc_open false (sym (ap breaks_text (at_end text n h))) (λ _. at_end text n h)
 
   pub osc_broken : IsUnit (take (length text - n) (drop n text)) units.Breaker
-      → IsOpened kind.Osc text (found kinds.Osc n true)
+      → IsOpened kind.Osc text (found_at kinds.Osc n true)
   osc_broken h =
       osc_open true (sym (ap breaks_text (sym (tail text n)) ∙ h)) (not_true (drop n text))
 
   pub osc_rung : IsUnit (take (length text - n) (drop n text)) units.Bell
-      → IsOpened kind.Osc text (found kinds.Osc (n + 1) true)
+      → IsOpened kind.Osc text (found_at kinds.Osc (n + 1) true)
   osc_rung h = λ o io.
       let p = opener kind.Osc o in
       let u : List ℕ = drop 1 (drop n text) in
@@ -182,7 +182,7 @@ module _ (text : List ℕ) (n : ℕ) (room : n ≤ length text) (so : IsText tex
         after = u;
         whole = parted p ∙ ap (λ y. (p ++ text_bytes so.0) ++ y) e
             ∙ sym (append_assoc (p ++ text_bytes so.0) (0x07 ∷ []) u);
-        shape = (io, subst (λ y. ArePieces so.0 y) e so.2, tt);
+        shape = (io, subst (λ y. AreOscUnits so.0 y) e so.2, tt);
         kind = refl;
         len = lengths_one p (text_bytes so.0) n 0x07 long;
         finished = refl;
@@ -190,7 +190,7 @@ module _ (text : List ℕ) (n : ℕ) (room : n ≤ length text) (so : IsText tex
       }
 
   pub osc_waits : IsUnit (take (length text - n) (drop n text)) units.Pending
-      → IsOpened kind.Osc text (found kinds.Osc (length text) false)
+      → IsOpened kind.Osc text (found_at kinds.Osc (length text) false)
   osc_waits h = λ o io.
       let p = opener kind.Osc o in
       let i : is_prefix (drop n text) ≡ true = subst (λ y. is_prefix y ≡ true) (tail text n) h in
@@ -198,7 +198,7 @@ module _ (text : List ℕ) (n : ℕ) (room : n ≤ length text) (so : IsText tex
         g = Osc o so.0 (Waits (drop n text));
         after = [];
         whole = parted p ∙ sym (append-nil ((p ++ text_bytes so.0) ++ drop n text));
-        shape = (io, subst (λ y. ArePieces so.0 y) (sym z) so.2, i);
+        shape = (io, subst (λ y. AreOscUnits so.0 y) (sym z) so.2, i);
         kind = refl;
         len = omega (
           arith,

@@ -5,7 +5,7 @@ use Rattle.esc_segments.specs.declared.kind.SegmentKind.{SegmentKind}
 use Rattle.esc_segments.specs.declared.kind.SegmentKind.TheVariants as kinds
 use Rattle.esc_segments.specs.declared.item.Segment.{Segment as Item}
 use Rattle.esc_segments.specs.declared.iter.Segments.{Segments}
-use Rattle.esc_frame.specs.Segments.{Segment, IsCut, bytes_of, is_finished, joined}
+use Rattle.esc_frame.specs.Segments.{Segment, IsCut, bytes_of, is_finished, joined_bytes}
 use Rattle.esc_frame.specs.Segments.Segment.{Character, Wide, Broken, Stray, Control, HighControl, Terminator, Escape, Csi, Osc, Dcs, Apc, Ignored}
 use Rattle.esc_frame.specs.Segments.Segment.{CutEscape, CutCsi, CutDcs}
 
@@ -36,12 +36,12 @@ pub record IsItem (x : Item) (g : Segment) (after : List ℕ) : Type 0 where
 -- the items are these segments, one after another and no more
 abbrev pub AreItems : List Item → List Segment → Type 0
 AreItems [] [] = Unit {0}
-AreItems (x ∷ xs) (g ∷ gs) = IsItem x g (joined gs) × AreItems xs gs
+AreItems (x ∷ xs) (g ∷ gs) = IsItem x g (joined_bytes gs) × AreItems xs gs
 AreItems _ _ = ⊥
 
 -- the bytes that an iterator has left
-abbrev pub left : Segments → List ℕ
-left s = s.rest.now
+abbrev pub left_bytes : Segments → List ℕ
+left_bytes s = s.rest.now
 
 -- The item is the first segment of this cut of the bytes, and its bytes come first there; the rest
 -- is what follows, and its cut.
@@ -56,8 +56,9 @@ pub record IsHead (bytes : List ℕ) (gs : List Segment) (x : Item) (after : Lis
 -- A call gives the first segment of the one cut of what was left, and leaves what follows it; or
 -- none, where nothing was left.
 abbrev pub GivesFirst : Segments → Option Item → Segments → Type 0
-GivesFirst s r t = (gs : List Segment) → IsCut (left s) gs
-    → MatchOption r ((gs ≡ []) × (left t ≡ [])) (λ x. IsHead (left s) gs x (left t))
+GivesFirst s r t = (gs : List Segment) → IsCut (left_bytes s) gs
+    → MatchOption r ((gs ≡ []) × (left_bytes t ≡ []))
+    (λ x. IsHead (left_bytes s) gs x (left_bytes t))
 
 -- the bytes of items, one after another
 abbrev pub item_bytes : List Item → List ℕ

@@ -1,11 +1,11 @@
 -- The parts of a segment's bytes. Only private contracts cite it.
 use Rattle.std.specs.Prelude.{ℕ, ◌≡◌, Bool, true, false, List, ◌++◌, Result}
 use Rattle.esc_frame.specs.Bodies.{is_dcs_header}
-use Rattle.esc_frame.specs.Classes.{strip}
+use Rattle.esc_frame.specs.Classes.{without_noise}
 use Rattle.esc_frame.specs.Events.{Event, Takes}
 use Rattle.esc_frame.specs.Machine.Keeps.{KeepsDcs}
 use Rattle.esc_frame.specs.declared.unfinished.header.DcsHeader.{DcsHeader}
-use Rattle.esc_frame.specs.Segments.{Segment, Piece, Ending, HasShape, ArePieces, bytes_of, ending_bytes, events_of, is_finished, text_bytes, text_of}
+use Rattle.esc_frame.specs.Segments.{Segment, OscUnit, Ending, HasShape, AreOscUnits, bytes_of, ending_bytes, events_of, is_finished, text_bytes, text_of}
 use Rattle.esc_frame.specs.Segments.Ending.{Waits}
 
 -- no sequence may go on
@@ -16,17 +16,17 @@ is_over _ = true
 -- These bytes are left of the text of an OSC, which these bytes follow: with what was kept before
 -- them, what they keep is t.
 pub record IsLeft (kept bytes after t : List ℕ) : Type 0 where
-  pub pieces : List Piece
+  pub osc_units : List OscUnit
   pub ending : Ending
   pub over : is_over ending ≡ true
-  pub whole : bytes ≡ text_bytes pieces ++ ending_bytes ending
-  pub each : ArePieces pieces (ending_bytes ending ++ after)
-  pub same : kept ++ text_of pieces ≡ t
+  pub whole : bytes ≡ text_bytes osc_units ++ ending_bytes ending
+  pub each : AreOscUnits osc_units (ending_bytes ending ++ after)
+  pub same : kept ++ text_of osc_units ≡ t
 
 -- The header is that of these bytes but noise, which have its form.
 pub record HoldsHeader (header : DcsHeader) (bytes : List ℕ) : Type 0 where
-  pub kept : KeepsDcs header (strip bytes)
-  pub formed : is_dcs_header (strip bytes) ≡ true
+  pub kept : KeepsDcs header (without_noise bytes)
+  pub formed : is_dcs_header (without_noise bytes) ≡ true
 
 -- An actor was given the events of this segment, where these are its bytes and this is whether it
 -- is finished. By itself the call stopped only where `own` holds.

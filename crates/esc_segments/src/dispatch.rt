@@ -2,7 +2,7 @@
 #![tactic(auto)]
 
 ghost use Rattle.std.specs.Prelude.{◌≡◌, ◌∷◌, Bool, List, OnOk, [], ℕ};
-ghost use Rattle.esc_frame.specs.Classes.{strip};
+ghost use Rattle.esc_frame.specs.Classes.{without_noise};
 ghost use Rattle.esc_frame.specs.Events.{Takes};
 ghost use Rattle.esc_frame.specs.Machine.Keeps.{Keeps, KeepsBody};
 ghost use Rattle.esc_frame.specs.Segments.{Opener, Segment, csi_events, escape_event, executes};
@@ -56,7 +56,7 @@ pub fn escape<V: VTActor>(bytes: &[u8], actor: &mut V) -> Result<()>
 fn dispatch_escape<V: VTActor>(x: &[u8], last: u8, actor: &mut V) -> Result<()>
     requires { V.is_ready actor.old }
     ensures emitted { Takes ⊥ V.takes V.refuses result actor.old
-        (escape_event (strip x.now) last ∷ []) actor.new }
+        (escape_event (without_noise x.now) last ∷ []) actor.new }
     ensures ready { OnOk result (V.is_ready actor.new) }
 {
     let kept = intermediates_of(x);
@@ -65,7 +65,7 @@ fn dispatch_escape<V: VTActor>(x: &[u8], last: u8, actor: &mut V) -> Result<()>
 
 // The bytes but noise.
 fn intermediates_of(x: &[u8]) -> Intermediates
-    ensures { Keeps result (strip x.now) }
+    ensures { Keeps result (without_noise x.now) }
 {
     let mut kept = Intermediates::new();
     for b in x {
@@ -96,7 +96,7 @@ pub fn csi<V: VTActor>(bytes: &[u8], actor: &mut V) -> Result<()>
 fn dispatch_csi<V: VTActor>(x: &[u8], last: u8, actor: &mut V) -> Result<()>
     requires { V.is_ready actor.old }
     ensures emitted { Takes ⊥ V.takes V.refuses result actor.old
-        (csi_events (strip x.now) last) actor.new }
+        (csi_events (without_noise x.now) last) actor.new }
     ensures ready { OnOk result (V.is_ready actor.new) }
 {
     let mut body = body_of(x);
@@ -123,7 +123,7 @@ fn emit_body<V: VTActor>(body: &mut CsiBody, last: u8, actor: &mut V) -> Result<
 
 // The body that the bytes but noise are.
 fn body_of(x: &[u8]) -> CsiBody
-    ensures { KeepsBody result (strip x.now) }
+    ensures { KeepsBody result (without_noise x.now) }
 {
     let mut body = CsiBody::new();
     for b in x {

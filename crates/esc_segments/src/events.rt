@@ -7,7 +7,7 @@ ghost use Rattle.esc_frame.specs.Events.Event.{Execute, Print};
 ghost use Rattle.esc_frame.specs.Memory.{may_grow};
 ghost use Rattle.esc_frame.specs.Segments.{HasShape, Segment as Shape, after_c2, events_of};
 ghost use Rattle.esc_segments.specs.Items.{IsItem};
-ghost use Rattle.memory.specs.Refusals.{Refused};
+ghost use Rattle.fallible_alloc.specs.Refusals.{Refused};
 
 use crate::characters::character_of;
 use crate::dispatch::{csi, cut_short, escape, execute_in};

@@ -4,7 +4,7 @@
 ghost use Rattle.std.specs.Prelude.{◌≡◌, ◌<◌, ◌≤◌, ◌∷◌, false, length, slice_index};
 ghost use Rattle.std.specs.List.{prefix_len};
 ghost use Rattle.esc_frame.specs.Classes.{class_of, is_noise, opens};
-ghost use Rattle.esc_segments.specs.Places.{HasLead, IsFirst, IsRaw, moved};
+ghost use Rattle.esc_segments.specs.Places.{HasLead, IsFirst, IsRaw, found_further};
 
 use crate::bytes::{is_breaker, is_letter};
 use crate::found::Found;
@@ -65,7 +65,7 @@ fn control(b: u8, body: &[u8]) -> Found
 
 // What ESC begins, after it.
 fn escape(rest: &[u8]) -> Found
-    ensures found { IsFirst (0x1b ∷ rest.now) (moved 1 result) }
+    ensures found { IsFirst (0x1b ∷ rest.now) (found_further 1 result) }
     ensures few { result.len ≤ length rest.now }
 {
     let noise = noise_run(rest);
@@ -81,7 +81,7 @@ fn escape_sequence(rest: &[u8], noise: usize) -> Found
     requires noise { noise ≡ prefix_len (λ b. is_noise (class_of b)) rest.now }
     requires opens_nothing { noise < length rest.now
         → opens (class_of (slice_index rest.now noise)) ≡ false }
-    ensures found { IsFirst (0x1b ∷ rest.now) (moved 1 result) }
+    ensures found { IsFirst (0x1b ∷ rest.now) (found_further 1 result) }
     ensures few { result.len ≤ length rest.now }
 {
     let run = escape_run(rest);

@@ -2,7 +2,7 @@
 #![tactic(auto)]
 
 ghost use Rattle.std.specs.Prelude.{◌≡◌, ◌+◌, ◌<◌, ◌^◌, true, false};
-ghost use Rattle.esc_segments.specs.Places.{moved, found};
+ghost use Rattle.esc_segments.specs.Places.{found_further, found_at};
 
 use crate::kind::SegmentKind;
 
@@ -19,7 +19,7 @@ impl Found {
     /// One that is finished after so many bytes.
     #[inline(always)]
     pub fn finished(kind: SegmentKind, len: usize) -> Found
-        ensures { result ≡ found kind len true }
+        ensures { result ≡ found_at kind len true }
     {
         Found {
             kind,
@@ -31,7 +31,7 @@ impl Found {
     /// One that takes all bytes, and may go on.
     #[inline(always)]
     pub fn unfinished(kind: SegmentKind, len: usize) -> Found
-        ensures { result ≡ found kind len false }
+        ensures { result ≡ found_at kind len false }
     {
         Found {
             kind,
@@ -44,7 +44,7 @@ impl Found {
     #[inline(always)]
     pub fn later(self, count: usize) -> Found
         requires { count + self.len < 2 ^ 64 }
-        ensures { result ≡ moved count self }
+        ensures { result ≡ found_further count self }
     {
         Found {
             kind: self.kind,

@@ -17,11 +17,11 @@ pub struct Segments<'a> {
 }
 
 impl<'a> Segments<'a> {
-    ghost use Rattle.esc_segments.specs.Items.{left};
+    ghost use Rattle.esc_segments.specs.Items.{left_bytes};
 
     /// The segments of the bytes.
     pub fn new(bytes: &'a [u8]) -> Self
-        ensures { left result ≡ bytes.now }
+        ensures { left_bytes result ≡ bytes.now }
     {
         Segments { rest: bytes }
     }
@@ -29,13 +29,13 @@ impl<'a> Segments<'a> {
 
 impl<'a> Iterator for Segments<'a> {
     ghost use Rattle.std.specs.Iterator.{at_most};
-    ghost use Rattle.esc_segments.specs.Items.{left, GivesFirst};
+    ghost use Rattle.esc_segments.specs.Items.{left_bytes, GivesFirst};
 
     type Item = Segment<'a>;
 
     ghost next_gives = { GivesFirst };
 
-    ghost remaining = { λ s. at_most (length (left s)) };
+    ghost remaining = { λ s. at_most (length (left_bytes s)) };
 
     fn next(&mut self) -> Option<Segment<'a>> {
         laws::one_cut();

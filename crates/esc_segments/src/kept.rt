@@ -2,10 +2,10 @@
 #![tactic(auto)]
 
 ghost use Rattle.std.specs.Prelude.{◌≡◌, ◌<◌, ◌≤◌, ◌++◌, IfOk, List, OnErr, ℕ, drop, length, true};
-ghost use Rattle.esc_frame.specs.Segments.{ArePieces, Ending, Piece, ending_bytes, text_bytes, text_of};
+ghost use Rattle.esc_frame.specs.Segments.{AreOscUnits, Ending, OscUnit, ending_bytes, text_bytes, text_of};
 ghost use Rattle.esc_segments.specs.Parts.{IsLeft, is_over};
 ghost use Rattle.esc_segments.specs.Places.{HasLead};
-ghost use Rattle.memory.specs.Refusals.{Refused};
+ghost use Rattle.fallible_alloc.specs.Refusals.{Refused};
 
 use crate::sequence::{Ahead, sequence_ahead};
 use std::alloc::{AllocError, Allocator};
@@ -16,8 +16,8 @@ const REPLACEMENT: [u8; 3] = [0xef, 0xbf, 0xbd];
 /// What a text keeps whose end is known: its bytes 20 to 7F, its well-formed sequences, and U+FFFD
 /// for each broken one.
 pub fn kept_text<A: Allocator>(alloc: A, text: &[u8]) -> Result<Vec<u8, A>, AllocError>
-    ensures ok { (ps : List Piece) (e : Ending) (after : List ℕ)
-        → text.now ≡ text_bytes ps ++ ending_bytes e → ArePieces ps (ending_bytes e ++ after)
+    ensures ok { (ps : List OscUnit) (e : Ending) (after : List ℕ)
+        → text.now ≡ text_bytes ps ++ ending_bytes e → AreOscUnits ps (ending_bytes e ++ after)
         → is_over e ≡ true → IfOk result (λ v. v.items ≡ text_of ps) }
     ensures refused { OnErr result (Refused A) }
 {
@@ -39,7 +39,7 @@ fn keep_unit<A: Allocator>(kept: &mut Vec<u8, A>, text: &[u8]) -> Result<usize, 
 {
     match text[0] {
         0x20..=0x7f => {
-            memory::push(kept, text[0])?;
+            fallible_alloc::push(kept, text[0])?;
             Ok(1)
         }
         0xc2..=0xf4 => keep_sequence(kept, text),
@@ -57,15 +57,15 @@ fn keep_sequence<A: Allocator>(kept: &mut Vec<u8, A>, text: &[u8]) -> Result<usi
 {
     match sequence_ahead(text) {
         Ahead::Whole(count) => {
-            memory::extend(kept, &text[..count])?;
+            fallible_alloc::extend(kept, &text[..count])?;
             Ok(count)
         }
         Ahead::Broken(count) => {
-            memory::extend(kept, &REPLACEMENT)?;
+            fallible_alloc::extend(kept, &REPLACEMENT)?;
             Ok(count)
         }
         Ahead::Pending => {
-            memory::extend(kept, &REPLACEMENT)?;
+            fallible_alloc::extend(kept, &REPLACEMENT)?;
             Ok(text.len())
         }
         Ahead::Control(_) => Ok(text.len()),

@@ -3,15 +3,15 @@
 
 ghost use Rattle.std.specs.Prelude.{◌≡◌, ◌++◌, ◌∷◌, IfOk, List, OnErr, OnOk, [], if◌then◌else◌, map, pos, ℕ};
 ghost use Rattle.esc_values.specs.Clear.{parts_of};
-ghost use Rattle.esc_frame.specs.Bodies.{held, is_dcs_header, value_after};
-ghost use Rattle.esc_frame.specs.Classes.{is_text, strip, those};
+ghost use Rattle.esc_frame.specs.Bodies.{capped_at_i64, is_dcs_header, value_after};
+ghost use Rattle.esc_frame.specs.Classes.{is_text, without_noise, bytes_of_class};
 ghost use Rattle.esc_frame.specs.Events.{Takes};
 ghost use Rattle.esc_frame.specs.Events.Event.{ApcDispatch, DcsUnhook};
 ghost use Rattle.esc_frame.specs.Machine.Keeps.{KeepsDcs, parameters_of};
-ghost use Rattle.esc_frame.specs.Segments.{Ending, Opener, Piece, hook_event, puts};
+ghost use Rattle.esc_frame.specs.Segments.{Ending, Opener, OscUnit, hook_event, puts};
 ghost use Rattle.esc_frame.specs.Segments.Segment.{Apc, Dcs, Osc};
 ghost use Rattle.esc_segments.specs.Parts.{Emits, HoldsHeader};
-ghost use Rattle.memory.specs.Refusals.{Refused};
+ghost use Rattle.fallible_alloc.specs.Refusals.{Refused};
 
 use crate::bytes::{is_noise, is_put, is_text};
 use crate::dispatch::execute_in;
@@ -33,7 +33,7 @@ pub fn osc<A: Allocator + Copy, V: VTActor>(
     actor: &mut V,
 ) -> Result<()>
     requires { V.is_ready actor.old }
-    ensures emitted { (o : Opener) (ps : List Piece) (e : Ending)
+    ensures emitted { (o : Opener) (ps : List OscUnit) (e : Ending)
         → Emits (Refused A) V.takes V.refuses result actor.old actor.new bytes.now finished
         (Osc o ps e) }
     ensures ready { OnOk result (V.is_ready actor.new) }
@@ -74,7 +74,7 @@ pub fn apc<A: Allocator, V: VTActor>(
 fn dispatch_apc<A: Allocator, V: VTActor>(alloc: A, content: &[u8], actor: &mut V) -> Result<()>
     requires { V.is_ready actor.old }
     ensures emitted { Takes (Refused A) V.takes V.refuses result actor.old
-        (ApcDispatch (those is_text content.now) ∷ []) actor.new }
+        (ApcDispatch (bytes_of_class is_text content.now) ∷ []) actor.new }
     ensures ready { OnOk result (V.is_ready actor.new) }
 {
     let text = text_of(alloc, content)?;
@@ -83,10 +83,10 @@ fn dispatch_apc<A: Allocator, V: VTActor>(alloc: A, content: &[u8], actor: &mut 
 
 // The bytes 20 to 7F.
 fn text_of<A: Allocator>(alloc: A, content: &[u8]) -> Result<Vec<u8, A>>
-    ensures ok { IfOk result (λ v. v.items ≡ those is_text content.now) }
+    ensures ok { IfOk result (λ v. v.items ≡ bytes_of_class is_text content.now) }
     ensures refused { OnErr result (Refused A) }
 {
-    memory::collect(alloc, content.iter().copied().filter(|b| is_text(*b)))
+    fallible_alloc::collect(alloc, content.iter().copied().filter(|b| is_text(*b)))
 }
 
 /// A device control string: the controls in its opener, and where its header has its form the hook,
@@ -130,7 +130,8 @@ fn emit_dcs<A: Allocator + Copy, V: VTActor>(
 ) -> Result<()>
     requires { V.is_ready actor.old }
     ensures emitted { Takes (Refused A) V.takes V.refuses result actor.old
-        (if is_dcs_header (strip x.now) then (hook_event (strip x.now) last ∷ puts content.now)
+        (if is_dcs_header (without_noise x.now)
+        then (hook_event (without_noise x.now) last ∷ puts content.now)
         ++ (if finished then DcsUnhook ∷ [] else []) else []) actor.new }
     ensures ready { OnOk result (V.is_ready actor.new) }
 {
@@ -144,7 +145,7 @@ fn emit_dcs<A: Allocator + Copy, V: VTActor>(
 
 // What the bytes but noise are as a header.
 fn header_of(x: &[u8]) -> DcsHeader
-    ensures { KeepsDcs result (strip x.now) }
+    ensures { KeepsDcs result (without_noise x.now) }
 {
     let mut header = DcsHeader::new();
     for b in x {
@@ -166,7 +167,7 @@ fn hook<A: Allocator + Copy, V: VTActor>(
     requires ready { V.is_ready actor.old }
     requires header { HoldsHeader header.now x.now }
     ensures emitted { Takes (Refused A) V.takes V.refuses result actor.old
-        (hook_event (strip x.now) last ∷ []) actor.new }
+        (hook_event (without_noise x.now) last ∷ []) actor.new }
     ensures ready { OnOk result (V.is_ready actor.new) }
 {
     let params = params_in(alloc, x)?;
@@ -176,8 +177,8 @@ fn hook<A: Allocator + Copy, V: VTActor>(
 
 // The parameters that the bytes write.
 fn params_in<A: Allocator + Copy>(alloc: A, x: &[u8]) -> Result<Vec<i64, A>>
-    ensures ok { IfOk result (λ v. v.items ≡ map (λ p. pos (held (value_after 0 p)))
-        (parts_of (parameters_of (strip x.now)))) }
+    ensures ok { IfOk result (λ v. v.items ≡ map (λ p. pos (capped_at_i64 (value_after 0 p)))
+        (parts_of (parameters_of (without_noise x.now)))) }
     ensures refused { OnErr result (Refused A) }
 {
     let bytes = parameter_bytes(alloc, x)?;
@@ -189,7 +190,7 @@ fn parameter_bytes<A: Allocator>(alloc: A, x: &[u8]) -> Result<Vec<u8, A>>
     ensures ok { IfOk result (λ v. v.items ≡ parameters_of x.now) }
     ensures refused { OnErr result (Refused A) }
 {
-    memory::collect(alloc, x.iter().copied().filter(|b| is_parameter(*b)))
+    fallible_alloc::collect(alloc, x.iter().copied().filter(|b| is_parameter(*b)))
 }
 
 // The data, and the unhook.

@@ -7,7 +7,7 @@ use Rattle.std.proofs.lemmas.Bool.Decides.{nat_tests}
 use Rattle.std.proofs.lemmas.Bool.{and_parts}
 use Rattle.esc_values.specs.declared.csi_param.CsiParam.{CsiParam}
 use Rattle.esc_values.specs.declared.csi_param.CsiParam.TheVariants.{Integer, P}
-use Rattle.esc_values.specs.Params.{is_digit, is_private_prefix, is_intermediate_byte, is_csi_parameter, is_body_byte, drop_while, is_csi_body, held}
+use Rattle.esc_values.specs.Params.{is_digit, is_private_prefix, is_intermediate_byte, is_csi_parameter, is_body_byte, drop_while, is_csi_body, capped_at_i64}
 use Rattle.esc_values.specs.Params.{csi_params_after, csi_params}
 
 digit_is_parameter : (b : ℕ) → is_digit b ≡ true → is_csi_parameter b ≡ true
@@ -95,7 +95,7 @@ param_marked (P b ∷ es) =
 run_by : (n b : ℕ) (x : List ℕ) (t : Bool)
     → param_intermediates (csi_params_after (Some (10 * n + (b - 0x30))) x) ≡ false
     → param_intermediates (if t then csi_params_after (Some (10 * n + (b - 0x30))) x else Integer
-    (pos (held n)) ∷ P b ∷ csi_params_after None x) ≡ false
+    (pos (capped_at_i64 n)) ∷ P b ∷ csi_params_after None x) ≡ false
 run_by n b x true h = h
 run_by n b x false h = refl
 
@@ -138,7 +138,7 @@ some_by : (n b : ℕ) (x : List ℕ) (t : Bool) → is_digit b ≡ t
     → param_parameters (csi_params_after (Some (10 * n + (b - 0x30))) x) ≡ parameters x
     → param_parameters (csi_params x) ≡ parameters x
     → param_parameters (if t then csi_params_after (Some (10 * n + (b - 0x30))) x else Integer
-    (pos (held n)) ∷ P b ∷ csi_params_after None x) ≡ parameters (b ∷ x)
+    (pos (capped_at_i64 n)) ∷ P b ∷ csi_params_after None x) ≡ parameters (b ∷ x)
 some_by n b x true d h k = rw (digit_is_parameter b d) h
 some_by n b x false d h k = other_by b x (is_csi_parameter b) k
 
@@ -158,9 +158,9 @@ first_by : (n b : ℕ) (x : List ℕ) (t : Bool)
     → param_marked (csi_params_after (Some (10 * n + (b - 0x30))) x)
     ≡ param_parameters (csi_params_after (Some (10 * n + (b - 0x30))) x)
     → param_marked (if t then csi_params_after (Some (10 * n + (b - 0x30))) x else Integer
-    (pos (held n)) ∷ P b ∷ csi_params_after None x)
+    (pos (capped_at_i64 n)) ∷ P b ∷ csi_params_after None x)
     ≡ param_parameters (if t then csi_params_after (Some (10 * n + (b - 0x30))) x else Integer
-    (pos (held n)) ∷ P b ∷ csi_params_after None x)
+    (pos (capped_at_i64 n)) ∷ P b ∷ csi_params_after None x)
 first_by n b x true h = h
 first_by n b x false h = refl
 

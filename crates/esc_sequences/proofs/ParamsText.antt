@@ -13,7 +13,7 @@ use Rattle.std.proofs.lemmas.Str.Parse.{IsNumeralModel, numerals_by_fold}
 use Rattle.std.proofs.lemmas.Bool.{and_parts}
 use Rattle.esc_values.specs.declared.csi_param.CsiParam.{CsiParam}
 use Rattle.esc_values.specs.declared.csi_param.CsiParam.TheVariants.{Integer, P}
-use Rattle.esc_values.specs.Params.{is_digit, is_body_byte, held, value_after, csi_params_after, csi_params, csi_params_text}
+use Rattle.esc_values.specs.Params.{is_digit, is_body_byte, capped_at_i64, value_after, csi_params_after, csi_params, csi_params_text}
 use Rattle.esc_sequences.proofs.Bodies.{digit_in_body}
 
 abbrev are_digits : List ℕ → Bool
@@ -29,47 +29,50 @@ no_digit [] = true
 no_digit (b ∷ bs) = not (is_digit b)
 
 end_by : (n b : ℕ) (r : List ℕ) (t : Bool) → not t ≡ true
-    → (if t then csi_params_after (Some (10 * n + (b - 0x30))) r else Integer (pos (held n)) ∷ P b
+    → (if t then csi_params_after (Some (10 * n + (b - 0x30))) r
+    else Integer (pos (capped_at_i64 n)) ∷ P b
     ∷ csi_params_after None r)
-    ≡ Integer (pos (held n)) ∷ (if t then csi_params_after (Some (b - 0x30)) r else P b
+    ≡ Integer (pos (capped_at_i64 n)) ∷ (if t then csi_params_after (Some (b - 0x30)) r else P b
     ∷ csi_params_after None r)
 end_by n b r true h = absurd cc
 end_by n b r false h = refl
 
 end_is : (n : ℕ) (r : List ℕ) → no_digit r ≡ true
-    → csi_params_after (Some n) r ≡ Integer (pos (held n)) ∷ csi_params r
+    → csi_params_after (Some n) r ≡ Integer (pos (capped_at_i64 n)) ∷ csi_params r
 end_is n [] h = refl
 end_is n (b ∷ r) h = end_by n b r (is_digit b) h
 
 -- a run of digits in prefix is a number
 run_is : (n : ℕ) (ds r : List ℕ) → are_digits ds ≡ true → no_digit r ≡ true
-    → csi_params_after (Some n) (ds ++ r) ≡ Integer (pos (held (value_after n ds))) ∷ csi_params r
+    → csi_params_after (Some n) (ds ++ r) ≡ Integer (pos (capped_at_i64 (value_after n ds)))
+    ∷ csi_params r
 run_is n [] r h k = end_is n r k
 run_is n (d ∷ ds) r h k = let q = and_parts (is_digit d) (are_digits ds) h in
     rw q.0 (run_is (10 * n + (d - 0x30)) ds r q.1 k)
 
 digits_are : (ds r : List ℕ) → 0 < length ds → are_digits ds ≡ true → no_digit r ≡ true
-    → csi_params (ds ++ r) ≡ Integer (pos (held (value_after 0 ds))) ∷ csi_params r
+    → csi_params (ds ++ r) ≡ Integer (pos (capped_at_i64 (value_after 0 ds))) ∷ csi_params r
 digits_are [] r some h k = absurd (omega arith)
 digits_are (d ∷ ds) r some h k =
     let q = and_parts (is_digit d) (are_digits ds) h in
     let same : d - 0x30 ≡ 10 * 0 + (d - 0x30) = omega arith in
-    rw q.0 (run_is (d - 0x30) ds r q.1 k ∙ ap (λ n. Integer (pos (held (value_after n ds)))
+    rw q.0 (run_is (d - 0x30) ds r q.1 k ∙ ap (λ n. Integer (pos (capped_at_i64 (value_after n ds)))
     ∷ csi_params r) same)
 
-held_small : (n : ℕ) → held n < 2 ^ 64
+held_small : (n : ℕ) → capped_at_i64 n < 2 ^ 64
 held_small n = omega arith
 
-held_again : (n : ℕ) → held (held n) ≡ held n
+held_again : (n : ℕ) → capped_at_i64 (capped_at_i64 n) ≡ capped_at_i64 n
 held_again n = omega arith
 
 pub number_is : (n : ℕ) (r : List ℕ) → no_digit r ≡ true
-    → csi_params (decimal (held n) ++ r) ≡ Integer (pos (held n)) ∷ csi_params r
+    → csi_params (decimal (capped_at_i64 n) ++ r) ≡ Integer (pos (capped_at_i64 n)) ∷ csi_params r
 number_is n r k =
     let small = held_small n in
-    digits_are (decimal (held n)) r (decimal_nonempty (held n) small)
-    (digits_decimal own (held n) small) k
-    ∙ ap (λ m. Integer (pos (held m)) ∷ csi_params r) (digits_value-decimal own (held n) small)
+    digits_are (decimal (capped_at_i64 n)) r (decimal_nonempty (capped_at_i64 n) small)
+    (digits_decimal own (capped_at_i64 n) small) k
+    ∙ ap (λ m. Integer (pos (capped_at_i64 m)) ∷ csi_params r)
+    (digits_value-decimal own (capped_at_i64 n) small)
     ∙ ap (λ m. Integer (pos m) ∷ csi_params r) (held_again n)
 
 body_is_ascii : (b : ℕ) → is_body_byte b ≡ true → b < 128
@@ -105,13 +108,14 @@ some_by : (n b : ℕ) (x : List ℕ) (t : Bool) → is_digit b ≡ t → is_body
     → csi_params (csi_params_text (csi_params x)) ≡ csi_params x
     → csi_params
     (csi_params_text (if t then csi_params_after (Some (10 * n + (b - 0x30))) x else Integer
-    (pos (held n)) ∷ P b ∷ csi_params_after None x))
-    ≡ (if t then csi_params_after (Some (10 * n + (b - 0x30))) x else Integer (pos (held n)) ∷ P b
+    (pos (capped_at_i64 n)) ∷ P b ∷ csi_params_after None x))
+    ≡ (if t then csi_params_after (Some (10 * n + (b - 0x30))) x
+    else Integer (pos (capped_at_i64 n)) ∷ P b
     ∷ csi_params_after None x)
 some_by n b x true d i h k = h
 some_by n b x false d i h k =
     number_is n (csi_params_text (P b ∷ csi_params x)) (no_digit_in_prefix b (csi_params x) i d)
-    ∙ ap (λ y. Integer (pos (held n)) ∷ y) (other_is b (csi_params x) i d k)
+    ∙ ap (λ y. Integer (pos (capped_at_i64 n)) ∷ y) (other_is b (csi_params x) i d k)
 
 back : (o : Option ℕ) (x : List ℕ) → list_all is_body_byte x ≡ true
     → csi_params (csi_params_text (csi_params_after o x)) ≡ csi_params_after o x
@@ -137,11 +141,11 @@ module _ (p : ℕ → Bool) (each : (b : ℕ) → is_digit b ≡ true → p b �
   number_all n small = digits_all (decimal n) (digits_decimal own n small)
 
 number_bytes : (n : ℕ) (r : List ℕ) → list_all is_body_byte r ≡ true
-    → list_all is_body_byte (decimal (held n) ++ r) ≡ true
+    → list_all is_body_byte (decimal (capped_at_i64 n) ++ r) ≡ true
 number_bytes n r h =
     rw (
-      list_all-append is_body_byte (decimal (held n)) r,
-      number_all is_body_byte digit_in_body (held n) (held_small n),
+      list_all-append is_body_byte (decimal (capped_at_i64 n)) r,
+      number_all is_body_byte digit_in_body (capped_at_i64 n) (held_small n),
       h,
     ) refl
 
@@ -166,7 +170,7 @@ bytes_some_by : (n b : ℕ) (x : List ℕ) (t : Bool) → is_body_byte b ≡ tru
     → list_all is_body_byte (csi_params_text (csi_params x)) ≡ true
     → list_all is_body_byte
     (csi_params_text (if t then csi_params_after (Some (10 * n + (b - 0x30))) x else Integer
-    (pos (held n)) ∷ P b ∷ csi_params_after None x)) ≡ true
+    (pos (capped_at_i64 n)) ∷ P b ∷ csi_params_after None x)) ≡ true
 bytes_some_by n b x true i h k = h
 bytes_some_by n b x false i h k =
     number_bytes n (csi_params_text (P b ∷ csi_params x)) (other_bytes b (csi_params x) i k)

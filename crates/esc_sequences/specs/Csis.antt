@@ -25,8 +25,8 @@ csi_value (csi.Sgr s) = sgr s
 csi_value (csi.Unspecified u) = unspecified u.params u.parameters_truncated u.control
 
 -- the renditions by their numbers
-abbrev pub named : ℕ → Option Sgr
-named n = if n == 0 then Some Reset
+abbrev pub sgr_of_number : ℕ → Option Sgr
+sgr_of_number n = if n == 0 then Some Reset
     else if n == 1 then Some (Intensity intensity.Bold)
     else if n == 2 then Some (Intensity intensity.Half)
     else if n == 22 then Some (Intensity intensity.Normal)
@@ -37,9 +37,9 @@ named n = if n == 0 then Some Reset
     else if n == 24 then Some (Underline underline.None)
     else None
 
-abbrev pub numbered : ℤ → Option Sgr
-numbered (pos n) = named n
-numbered (negsuc n) = None
+abbrev pub sgr_at : ℤ → Option Sgr
+sgr_at (pos n) = sgr_of_number n
+sgr_at (negsuc n) = None
 
 -- the kinds of underlines by the number after `4:`
 abbrev pub kind_of : ℕ → Option Sgr
@@ -51,16 +51,17 @@ kind_of n = if n == 0 then Some (Underline underline.None)
     else if n == 5 then Some (Underline underline.Dashed)
     else None
 
-abbrev pub underlined : CsiParam → Option Sgr
-underlined (Integer (pos n)) = kind_of n
-underlined (Integer (negsuc n)) = None
-underlined (P b) = None
+abbrev pub underline_sgr : CsiParam → Option Sgr
+underline_sgr (Integer (pos n)) = kind_of n
+underline_sgr (Integer (negsuc n)) = None
+underline_sgr (P b) = None
 
 -- the rendition of an item: nothing, a number, or `4:` and a number
 abbrev pub rendition : List CsiParam → Option Sgr
 rendition [] = Some Reset
-rendition (Integer n ∷ []) = numbered n
-rendition (Integer (pos n) ∷ P b ∷ k ∷ []) = if (n == 4) && (b == 0x3a) then underlined k else None
+rendition (Integer n ∷ []) = sgr_at n
+rendition (Integer (pos n) ∷ P b ∷ k ∷ []) = if (n == 4) && (b == 0x3a) then underline_sgr k
+    else None
 rendition _ = None
 
 abbrev pub put_first : Option Sgr → Option (List CsiValue) → Option (List CsiValue)

@@ -5,7 +5,7 @@ ghost use Rattle.std.specs.Prelude.{◌≡◌, ◌+◌, ◌<◌, ◌≤◌, ◌�
 ghost use Rattle.std.specs.Option.{option_map};
 ghost use Rattle.std.specs.List.{position_or_len, slice_split};
 ghost use Rattle.esc_sequences.specs.Csis.{csi_value, csi_of, csi_text, is_separator, renditions, sgr, unspecified};
-ghost use Rattle.memory.specs.Refusals.{Refused};
+ghost use Rattle.fallible_alloc.specs.Refusals.{Refused};
 
 use crate::sgr::Sgr;
 use crate::unspecified::Unspecified;
@@ -87,7 +87,7 @@ impl<A: Allocator + Copy> CSI<A> {
             }
         }
         let mut read = Vec::new(alloc);
-        memory::push(
+        fallible_alloc::push(
             &mut read,
             as_it_came(alloc, params, parameters_truncated, control)?,
         )?;
@@ -134,7 +134,7 @@ pub fn as_it_came<A: Allocator + Copy>(
     ensures refused { OnErr result (Refused A) }
 {
     let kept = Unspecified {
-        params: Items::from_vec(memory::copied(alloc, params)?),
+        params: Items::from_vec(fallible_alloc::copied(alloc, params)?),
         parameters_truncated,
         control,
     };
@@ -189,7 +189,7 @@ fn read_renditions<A: Allocator + Copy>(
         let Some(sgr) = Sgr::from_item(&rest[..len]) else {
             return Ok(None);
         };
-        memory::push(&mut read, CSI::Sgr(sgr))?;
+        fallible_alloc::push(&mut read, CSI::Sgr(sgr))?;
         if len == rest.len() {
             return Ok(Some(read));
         }

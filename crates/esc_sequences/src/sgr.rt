@@ -1,7 +1,7 @@
 //! Renditions: how characters are shown from here on (xterm's list, "Character Attributes (SGR)",
 //! <https://invisible-island.net/xterm/ctlseqs/ctlseqs.html>).
 ghost use Rattle.std.specs.Prelude.{◌≡◌, Some};
-ghost use Rattle.esc_sequences.specs.Csis.{numbered, underlined, rendition, sgr_text};
+ghost use Rattle.esc_sequences.specs.Csis.{sgr_at, underline_sgr, rendition, sgr_text};
 
 use crate::intensity::Intensity;
 use crate::underline::Underline;
@@ -51,7 +51,7 @@ impl Sgr {
 // The rendition of an item that is one number.
 #[inline]
 fn by_number(number: i64) -> Option<Sgr>
-    ensures { result ≡ numbered number }
+    ensures { result ≡ sgr_at number }
 {
     match number {
         0 => Some(Sgr::Reset),
@@ -69,7 +69,7 @@ fn by_number(number: i64) -> Option<Sgr>
 
 // The rendition of this parameter after `4:`.
 fn underline_of(kind: CsiParam) -> Option<Sgr>
-    ensures { result ≡ underlined kind }
+    ensures { result ≡ underline_sgr kind }
 {
     match kind {
         CsiParam::Integer(0) => Some(Sgr::Underline(Underline::None)),

@@ -1,7 +1,7 @@
 //! Bytes as text.
 ghost use Rattle.std.specs.Prelude.{◌≡◌, ◌++◌, OnErr, OnOk, string_bytes};
 ghost use Rattle.std.specs.Str.{IsAscii};
-ghost use Rattle.memory.specs.Refusals.{Refused};
+ghost use Rattle.fallible_alloc.specs.Refusals.{Refused};
 
 use esc_values::ascii::as_str;
 use std::alloc::{AllocError, Allocator};
@@ -13,5 +13,5 @@ pub(crate) fn push_ascii<A: Allocator>(text: &mut String<A>, bytes: &[u8]) -> Re
     ensures ok { OnOk result (string_bytes text.new ≡ string_bytes text.old ++ bytes.now) }
     ensures refused { OnErr result (Refused A) }
 {
-    memory::push_str(text, as_str(bytes))
+    fallible_alloc::push_str(text, as_str(bytes))
 }

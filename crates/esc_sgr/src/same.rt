@@ -1,10 +1,10 @@
 //! Whether two looks are the same.
 ghost use Rattle.std.specs.Prelude.{◌≡◌, IsTrue};
-ghost use Rattle.esc_looks.specs.Looks.{plain_look};
+ghost use Rattle.esc_style.specs.Looks.{plain_look};
 ghost use Rattle.esc_sgr.specs.Sgr.{is_default, is_direct, is_entry, is_named, same_color, same_flags, same_look, underline_code};
 
-use esc_looks::{Color, Look};
 use esc_sequences::Underline;
+use esc_style::{Color, Look};
 use esc_values::RgbColor;
 
 /// Whether it is the look of the beginning.

@@ -1,12 +1,12 @@
 //! The control sequence that makes a look.
 ghost use Rattle.std.specs.Prelude.{◌≡◌, ◌≤◌, ◌<◌, ◌++◌, [], false, OnErr, OnOk, string_bytes};
 ghost use Rattle.esc_sgr.specs.Sgr.{change_text, color_text, colors_text, flag_text, flags_text, look_text, named_number, number_text, rgb_text, underline_color_text, underline_text, weight_text};
-ghost use Rattle.memory.specs.Refusals.{Refused};
+ghost use Rattle.fallible_alloc.specs.Refusals.{Refused};
 
 use crate::ascii::push_ascii;
 use crate::same::is_same;
-use esc_looks::{Color, Look};
 use esc_sequences::Underline;
+use esc_style::{Color, Look};
 use esc_values::RgbColor;
 use std::alloc::{AllocError, Allocator};
 
@@ -33,12 +33,12 @@ fn push_look<A: Allocator>(text: &mut String<A>, look: &Look) -> Result<(), Allo
         ≡ string_bytes text.old ++ look_text look.now) }
     ensures refused { OnErr result (Refused A) }
 {
-    memory::push_str(text, "\x1b[0")?;
-    memory::push_str(text, weight_text(look.bold, look.faint))?;
-    memory::push_str(text, underline_text(look.underline))?;
+    fallible_alloc::push_str(text, "\x1b[0")?;
+    fallible_alloc::push_str(text, weight_text(look.bold, look.faint))?;
+    fallible_alloc::push_str(text, underline_text(look.underline))?;
     push_flags(text, look)?;
     push_colors(text, look)?;
-    memory::push_str(text, "m")
+    fallible_alloc::push_str(text, "m")
 }
 
 fn push_flags<A: Allocator>(text: &mut String<A>, look: &Look) -> Result<(), AllocError>
@@ -88,7 +88,7 @@ fn push_flag<A: Allocator>(
     ensures refused { OnErr result (Refused A) }
 {
     if is_on {
-        memory::push_str(text, parameter)
+        fallible_alloc::push_str(text, parameter)
     } else {
         Ok(())
     }
@@ -120,11 +120,11 @@ fn push_color<A: Allocator>(
         Color::Default => Ok(()),
         Color::Named(color) => push_number(text, named_number(base, color.index())),
         Color::Palette(index) => {
-            memory::push_str(text, entry)?;
+            fallible_alloc::push_str(text, entry)?;
             push_number(text, index)
         }
         Color::Direct(color) => {
-            memory::push_str(text, direct)?;
+            fallible_alloc::push_str(text, direct)?;
             push_rgb(text, color)
         }
     }
@@ -138,15 +138,15 @@ fn push_underline_color<A: Allocator>(text: &mut String<A>, color: Color) -> Res
     match color {
         Color::Default => Ok(()),
         Color::Named(color) => {
-            memory::push_str(text, ";58;5")?;
+            fallible_alloc::push_str(text, ";58;5")?;
             push_number(text, color.index())
         }
         Color::Palette(index) => {
-            memory::push_str(text, ";58;5")?;
+            fallible_alloc::push_str(text, ";58;5")?;
             push_number(text, index)
         }
         Color::Direct(color) => {
-            memory::push_str(text, ";58;2")?;
+            fallible_alloc::push_str(text, ";58;2")?;
             push_rgb(text, color)
         }
     }

@@ -5,10 +5,10 @@ use Rattle.std.specs.Fmt.{decimal}
 use Rattle.std.proofs.lemmas.List.Folds.{list_all-append}
 use Rattle.std.proofs.lemmas.Grind.{flat_map-append}
 use Rattle.std.proofs.Math.Logic.{∥∥₁_map}
-use Rattle.esc_looks.specs.declared.look.Look.{Look}
+use Rattle.esc_style.specs.declared.look.Look.{Look}
 use Rattle.esc_sgr.specs.Sgr.{change_text, look_text, same_look}
-use Rattle.esc_visible.specs.Characters.{is_among, is_shown}
-use Rattle.esc_visible.specs.Following.{joins_emoji, joins_letters, may_follow}
+use Rattle.unicode_visibility.specs.Characters.{is_among, is_shown}
+use Rattle.unicode_visibility.specs.Following.{joins_emoji, joins_letters, may_follow}
 use Rattle.esc_sheet.specs.Sheets.{IsSheet, Piece, is_character, is_fit, is_joiner, piece_text}
 use Rattle.esc_sheet.specs.Sheets.Piece.{Change, Number}
 

@@ -4,9 +4,9 @@ use Rattle.std.specs.List.{list_all, flat_map}
 use Rattle.std.specs.Char.{encode_utf8}
 use Rattle.std.specs.Fmt.{decimal}
 use Rattle.std.specs.Io.KnownBytes.{Appends}
-use Rattle.esc_looks.specs.declared.look.Look.{Look}
+use Rattle.esc_style.specs.declared.look.Look.{Look}
 use Rattle.esc_sgr.specs.Sgr.{look_text}
-use Rattle.esc_visible.specs.Characters.{is_among, is_shown}
+use Rattle.unicode_visibility.specs.Characters.{is_among, is_shown}
 
 -- A character that may belong to the one before it, as in emoji: a variation selector 15 or 16, a
 -- joiner or a non-joiner.

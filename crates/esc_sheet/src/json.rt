@@ -2,13 +2,13 @@
 
 use crate::sheet::Sheet;
 use crate::view::View;
-use esc_looks::{Color, Look};
 use esc_screen::{Cell, Content, Cursor, Marks};
 use esc_sequences::Underline;
 use esc_sgr::is_first;
-use esc_typed::AnsiColor;
-use esc_visible::is_shown;
+use esc_style::{Color, Look};
 use std::alloc::AllocError;
+use typed_functions::AnsiColor;
+use unicode_visibility::is_shown;
 
 // The colours that have names, by their numbers.
 const NAMES: [&str; 16] = [

@@ -3,8 +3,8 @@
 use crate::rows::{end_lines, push_row};
 use crate::sheet::Sheet;
 use crate::view::Seen;
-use esc_looks::Look;
 use esc_screen::{Cell, Screen, is_joined};
+use esc_style::Look;
 use esc_terminal::Rows;
 use std::alloc::{AllocError, Global};
 

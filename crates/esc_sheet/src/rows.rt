@@ -2,8 +2,8 @@
 
 use crate::sheet::Sheet;
 use crate::view::{Seen, View};
-use esc_looks::Look;
 use esc_screen::{Cell, Content, Marks};
+use esc_style::Look;
 use std::alloc::AllocError;
 
 /// Adds the rows of a screen, a line each, without the last ones of which nothing is seen.

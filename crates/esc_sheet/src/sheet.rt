@@ -4,10 +4,10 @@ ghost use Rattle.std.specs.Fmt.{decimal};
 ghost use Rattle.esc_sgr.specs.Sgr.{change_text};
 ghost use Rattle.esc_sheet.specs.Sheets.{IsSheet, is_character};
 
-use esc_looks::Look;
 use esc_sgr::{is_same, push_change};
-use esc_visible::{is_shown, may_follow, number_text};
+use esc_style::Look;
 use std::alloc::{AllocError, Global};
+use unicode_visibility::{is_shown, may_follow, number_text};
 
 /// A text of which each character shows as itself, or belongs to the character before it, as in
 /// emoji; or ends a line; or is of a sequence that makes a look. Any other is spelled. Once a
@@ -67,7 +67,7 @@ impl Sheet {
     /// Ends the line.
     pub fn end_line(&mut self) -> Result<(), AllocError> {
         self.last = None;
-        memory::push_str(&mut self.text, "\n")
+        fallible_alloc::push_str(&mut self.text, "\n")
     }
 
     /// Adds what makes a look where another holds.
@@ -92,7 +92,7 @@ impl Sheet {
         requires { is_character c ≡ true }
     {
         self.last = Some(c);
-        memory::push_char(&mut self.text, c)
+        fallible_alloc::push_char(&mut self.text, c)
     }
 }
 
@@ -102,7 +102,7 @@ fn append_number(text: &mut String, number: u64) -> Result<(), AllocError>
         ≡ string_bytes text.old ++ decimal number) }
     ensures err { OnErr result (string_bytes text.new ≡ []) }
 {
-    match memory::push_display(text, &number) {
+    match fallible_alloc::push_display(text, &number) {
         Ok(()) => Ok(()),
         Err(error) => {
             text.clear();

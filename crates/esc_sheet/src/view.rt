@@ -1,8 +1,8 @@
 //! What is seen of a screen.
 
-use esc_looks::Look;
 use esc_screen::{Cell, Content, Screen};
 use esc_sgr::is_first;
+use esc_style::Look;
 
 /// What is seen of a screen: its cells, how they look, and the title of its window.
 #[derive(Clone, Copy)]

@@ -6,7 +6,7 @@ use Rattle.esc_sixel.specs.Classes.{class_of, IsDigit}
 use Rattle.esc_sixel.specs.Lines.{fresh, number_after}
 use Rattle.esc_sixel.specs.Meaning.{color_of, percent}
 use Rattle.esc_sixel.specs.Runs.{Keeps, param, separators, more_digit, more_digits}
-use Rattle.esc_sixel.specs.Steps.{LeadsTo, Pushes, Closed, closed_of, open_of}
+use Rattle.esc_sixel.specs.Steps.{HasConsumed, Pushes, Closed, closed_of, open_of}
 use Rattle.esc_sixel.specs.declared.builder.SixelBuilder.{SixelBuilder}
 use Rattle.esc_sixel.specs.declared.class.Class.TheVariants.{Separator}
 use Rattle.esc_sixel.specs.declared.introducer.Introducer.{Introducer}
@@ -50,7 +50,7 @@ keeps_next k r b e room h = rw e (record {
 pub separator_pushed : {A : Type 0} (p : SixelBuilder A) (k : Parameters) (b : ℕ) → b ≡ 0x3b
     → k.count < 5
     → Pushes (open_at p k) b (open_at p (record { values = k.values; count = k.count + 1 }))
-unfolding LeadsTo
+unfolding HasConsumed
 separator_pushed p k b e room = λ ps s lead.
     rw (closed_push Closed s b, open_push Closed s b)
     (after_some {T = Unit {0}} {E = Unit {0}} ps (closed_of Closed s) (open_of Closed s)

@@ -5,23 +5,23 @@ use Rattle.std.specs.Option.{unwrap_or}
 use Rattle.std.proofs.lemmas.Bool.Decides.{nat_tests}
 use Rattle.std.proofs.lemmas.List.{get_or-set_same, length-set, set-set, take_more}
 use Rattle.std.proofs.lemmas.List.Elements.{All-append, All-nil, All-cons}
-use Rattle.esc_values.specs.Params.{held}
+use Rattle.esc_values.specs.Params.{capped_at_i64}
 use Rattle.esc_sixel.specs.Classes.{IsDigit}
 use Rattle.esc_sixel.specs.Lines.{number_after}
 use Rattle.esc_sixel.specs.Runs.{more_digit, more_digits}
 use Rattle.esc_sixel.specs.declared.parameters.Parameters.{Parameters}
 
 number_push : (n : ℕ) (bs : List ℕ) (b : ℕ)
-    → number_after n (bs ++ b ∷ []) ≡ held (10 * number_after n bs + (b - 0x30))
+    → number_after n (bs ++ b ∷ []) ≡ capped_at_i64 (10 * number_after n bs + (b - 0x30))
 number_push n [] b = refl
-number_push n (x ∷ bs) b = number_push (held (10 * n + (x - 0x30))) bs b
+number_push n (x ∷ bs) b = number_push (capped_at_i64 (10 * n + (x - 0x30))) bs b
 
 pub number_more : (xs : List ℕ) (i n m after : ℕ) → i < length xs → m ≡ number_after n (take i xs)
-    → after ≡ held (10 * m + (get_or xs i 0 - 0x30))
+    → after ≡ capped_at_i64 (10 * m + (get_or xs i 0 - 0x30))
     → after ≡ number_after n (take (i + 1) xs)
 number_more xs i n m after lt e f =
     f
-    ∙ ap (λ k. held (10 * k + (get_or xs i 0 - 0x30))) e
+    ∙ ap (λ k. capped_at_i64 (10 * k + (get_or xs i 0 - 0x30))) e
     ∙ sym (number_push n (take i xs) (get_or xs i 0))
     ∙ ap (number_after n) (sym (take_more xs i 0 lt))
 
@@ -45,7 +45,7 @@ pub digits_written : (p : Parameters) (bs : List ℕ) → p.count < length p.val
 digits_written p [] lt some = absurd (omega (arith, some))
 digits_written p (b ∷ []) lt some = refl
 digits_written p (b ∷ x ∷ bs) lt some =
-    let n = held (10 * unwrap_or (get_or p.values p.count None) 0 + (b - 0x30)) in
+    let n = capped_at_i64 (10 * unwrap_or (get_or p.values p.count None) 0 + (b - 0x30)) in
     let vs = set p.values p.count (Some n) in
     digits_written (more_digit p b) (x ∷ bs)
     (omega (arith, lt, length-set p.values p.count (Some n))) (omega arith)

@@ -6,8 +6,8 @@ use Rattle.std.specs.Option.{option_map, unwrap_or}
 use Rattle.std.proofs.lemmas.Bool.{leb-true, cases_Bool}
 use Rattle.std.proofs.lemmas.Bool.Decides.{nat_tests}
 use borrow.Author.Tests.{ltb-true}
-use Rattle.esc_values.specs.Params.{held}
-use Rattle.esc_values.specs.Scalars.{and_then, when}
+use Rattle.esc_values.specs.Params.{capped_at_i64}
+use Rattle.esc_values.specs.Scalars.{and_then, some_if}
 use Rattle.esc_values.proofs.Where.{Where, where_if}
 use Rattle.esc_sixel.specs.Classes.{class_of}
 use Rattle.esc_sixel.specs.Items.{Item, OfReturn, OfLine, OfPixels, OfRepeat, OfColor, OfRaster, OfJunk, Place, Outside, pixels_of, run_of, after_run}
@@ -147,7 +147,7 @@ last_is : {X : Type 0} (P : X → Type 0) (f : Item → Option X) (x : X) (is : 
 last_is P f x [] k h = k
 last_is P f x (i ∷ is) k h = last_is P f (unwrap_or (f i) x) is (or_else P (f i) x (h i) k) h
 
-held_or : (o : Option ℕ) (d : ℕ) → d < 10 → unwrap_or (option_map held o) d < 2 ^ 63
+held_or : (o : Option ℕ) (d : ℕ) → d < 10 → unwrap_or (option_map capped_at_i64 o) d < 2 ^ 63
 held_or None d h = omega arith
 held_or (Some n) d h = omega arith
 
@@ -181,23 +181,24 @@ header_is (negsuc n ∷ ps) = omega arith
 abbrev PairFits : Option (ℕ × ℕ) → Type 0
 PairFits o = AreSizes (option_map (λ (s : ℕ × ℕ). s.0) o) (option_map (λ (s : ℕ × ℕ). s.1) o)
 
-small_when : (n : ℕ) → Where (λ m. m < 2 ^ 32) (when (nat_lt n (2 ^ 32)) n)
+small_when : (n : ℕ) → Where (λ m. m < 2 ^ 32) (some_if (nat_lt n (2 ^ 32)) n)
 small_when n = elim (cases_Bool (nat_lt n (2 ^ 32))) [
   | inl e ↦ rw e (ltb-true n (2 ^ 32) e)
   | inr e ↦ rw e tt
 ]
 
-size_small : (o : Option ℕ) → Where (λ m. m < 2 ^ 32) (and_then o (λ n. when (nat_lt n (2 ^ 32)) n))
+size_small : (o : Option ℕ) → Where (λ m. m < 2 ^ 32)
+    (and_then o (λ n. some_if (nat_lt n (2 ^ 32)) n))
 size_small None = tt
 size_small (Some n) = small_when n
 
 pair_by : (w h : ℕ) (b : Bool) → nat_le (w * h) 100000000 ≡ b → w < 2 ^ 32 → h < 2 ^ 32
-    → PairFits (when b (w, h))
+    → PairFits (some_if b (w, h))
 pair_by w h true e x y = (x, (y, leb-true (w * h) 100000000 e))
 pair_by w h false e x y = tt
 
 pair_fits : (a b : Option ℕ) → Where (λ m. m < 2 ^ 32) a → Where (λ m. m < 2 ^ 32) b
-    → PairFits (and_then a (λ w. and_then b (λ h. when (nat_le (w * h) 100000000) (w, h))))
+    → PairFits (and_then a (λ w. and_then b (λ h. some_if (nat_le (w * h) 100000000) (w, h))))
 pair_fits None b x y = tt
 pair_fits (Some w) None x y = tt
 pair_fits (Some w) (Some h) x y = pair_by w h (nat_le (w * h) 100000000) refl x y

@@ -6,8 +6,8 @@ use Rattle.std.specs.Fmt.{decimal}
 use Rattle.std.proofs.lemmas.Bool.{eqb-true, cases_Bool, and_parts}
 use Rattle.std.proofs.lemmas.List.Elements.{All-from_recursion}
 use Rattle.std.proofs.lemmas.List.Splits.{slice_split_none}
-use Rattle.esc_values.specs.Params.{held, value_after, is_digit}
-use Rattle.esc_sixel.proofs.Pieces.{are_digits, decimal_piece, digit_bytes, not_separator}
+use Rattle.esc_values.specs.Params.{capped_at_i64, value_after, is_digit}
+use Rattle.esc_sixel.proofs.Slices.{are_digits, decimal_slice, digit_bytes, not_separator}
 use Rattle.esc_sixel.specs.Meaning.{pan_number, is_one}
 use Rattle.esc_sixel.specs.Texts.{flag_text, background_text, short_form}
 use Rattle.esc_sixel.specs.Writable.{IsGrid, is_parameter_byte, params_of}
@@ -22,7 +22,7 @@ pub record Means (pan pad : ℤ) (m : List ℕ) : Type 0 where
   pub is : m ≡ digit ∷ []
   pub byte : is_parameter_byte digit ≡ true
   pub other : semi digit ≡ false
-  pub value : held (value_after 0 (digit ∷ [])) ≡ number
+  pub value : capped_at_i64 (value_after 0 (digit ∷ [])) ≡ number
   pub pan_is : pos (pan_number number) ≡ pan
   pub pad_is : pos 1 ≡ pad
 
@@ -32,7 +32,7 @@ MeansIn pan pad None = Unit {0}
 MeansIn pan pad (Some m) = Means pan pad m
 
 means_by : (digit number n : ℕ) → is_parameter_byte digit ≡ true → semi digit ≡ false
-    → held (value_after 0 (digit ∷ [])) ≡ number → pan_number number ≡ n
+    → capped_at_i64 (value_after 0 (digit ∷ [])) ≡ number → pan_number number ≡ n
     → Means (pos n) (pos 1) (digit ∷ [])
 means_by digit number n byte other value is = record {
   digit = digit;
@@ -71,7 +71,7 @@ means (negsuc n) (pos k) = elim (cases_Bool (k == 1)) [
   | inr e ↦ rw e tt
 ]
 
--- the pieces of the parameters
+-- the slices of the parameters
 lacks : (ds : List ℕ) → are_digits ds ≡ true → ByRecursion (λ b. semi b ≡ false) ds
 lacks [] h = tt
 lacks (d ∷ ds) h = let q = and_parts (is_digit d) (are_digits ds) h in
@@ -80,21 +80,21 @@ lacks (d ∷ ds) h = let q = and_parts (is_digit d) (are_digits ds) h in
 digits_alone : (ds : List ℕ) → are_digits ds ≡ true → slice_split semi ds ≡ ds ∷ []
 digits_alone ds h = slice_split_none semi ds (All-from_recursion _ ds (lacks ds h))
 
-abbrev grid_pieces : Option ℤ → List (List ℕ)
-grid_pieces None = []
-grid_pieces (Some (pos n)) = decimal n ∷ []
-grid_pieces (Some (negsuc n)) = []
+abbrev grid_slices : Option ℤ → List (List ℕ)
+grid_slices None = []
+grid_slices (Some (pos n)) = decimal n ∷ []
+grid_slices (Some (negsuc n)) = []
 
 background_split : (t : Bool) (g : Option ℤ) → IsGrid g
-    → slice_split semi (background_text t g) ≡ flag_text t ∷ grid_pieces g
+    → slice_split semi (background_text t g) ≡ flag_text t ∷ grid_slices g
 background_split true None h = refl
 background_split false None h = refl
 background_split true (Some (pos n)) h =
-    let piece = decimal_piece n (omega (arith, h)) in
-    ap (λ r. codes "1" ∷ r) (digits_alone (decimal n) piece.digits)
+    let slice = decimal_slice n (omega (arith, h)) in
+    ap (λ r. codes "1" ∷ r) (digits_alone (decimal n) slice.digits)
 background_split false (Some (pos n)) h =
-    let piece = decimal_piece n (omega (arith, h)) in
-    ap (λ r. codes "0" ∷ r) (digits_alone (decimal n) piece.digits)
+    let slice = decimal_slice n (omega (arith, h)) in
+    ap (λ r. codes "0" ∷ r) (digits_alone (decimal n) slice.digits)
 background_split true (Some (negsuc n)) h = absurd h
 background_split false (Some (negsuc n)) h = absurd h
 
@@ -107,28 +107,28 @@ abbrev pub grid_list : Option ℤ → List ℤ
 grid_list None = []
 grid_list (Some z) = z ∷ []
 
-abbrev number_of_piece : List ℕ → ℤ
-number_of_piece p = pos (held (value_after 0 p))
+abbrev number_of_slice : List ℕ → ℤ
+number_of_slice p = pos (capped_at_i64 (value_after 0 p))
 
-flag_is : (t : Bool) → number_of_piece (flag_text t) ≡ flag_number t
+flag_is : (t : Bool) → number_of_slice (flag_text t) ≡ flag_number t
 flag_is true = refl
 flag_is false = refl
 
-held_small : (n : ℕ) → n < 2 ^ 63 → held n ≡ n
+held_small : (n : ℕ) → n < 2 ^ 63 → capped_at_i64 n ≡ n
 held_small n small = omega arith
 
-grid_is : (g : Option ℤ) → IsGrid g → map number_of_piece (grid_pieces g) ≡ grid_list g
+grid_is : (g : Option ℤ) → IsGrid g → map number_of_slice (grid_slices g) ≡ grid_list g
 grid_is None h = refl
 grid_is (Some (pos n)) h =
-    let piece = decimal_piece n (omega (arith, h)) in
-    ap (λ k. pos (held k) ∷ []) piece.value ∙ ap (λ k. pos k ∷ []) (held_small n h)
+    let slice = decimal_slice n (omega (arith, h)) in
+    ap (λ k. pos (capped_at_i64 k) ∷ []) slice.value ∙ ap (λ k. pos k ∷ []) (held_small n h)
 grid_is (Some (negsuc n)) h = absurd h
 
 background_numbers : (t : Bool) (g : Option ℤ) → IsGrid g
-    → map number_of_piece (slice_split semi (background_text t g)) ≡ flag_number t ∷ grid_list g
+    → map number_of_slice (slice_split semi (background_text t g)) ≡ flag_number t ∷ grid_list g
 background_numbers t g h =
-    ap (map number_of_piece) (background_split t g h)
-    ∙ ap (λ k. k ∷ map number_of_piece (grid_pieces g)) (flag_is t)
+    ap (map number_of_slice) (background_split t g h)
+    ∙ ap (λ k. k ∷ map number_of_slice (grid_slices g)) (flag_is t)
     ∙ ap (λ r. flag_number t ∷ r) (grid_is g h)
 
 -- the parameters without a first one, and with one
@@ -137,10 +137,10 @@ pub params_plain : (t : Bool) (g : Option ℤ) → IsGrid g
 params_plain t g h = ap (λ r. pos 0 ∷ r) (background_numbers t g h)
 
 pub params_first : (d v : ℕ) (t : Bool) (g : Option ℤ) → semi d ≡ false
-    → held (value_after 0 (d ∷ [])) ≡ v → IsGrid g
+    → capped_at_i64 (value_after 0 (d ∷ [])) ≡ v → IsGrid g
     → params_of (d ∷ 0x3b ∷ background_text t g) ≡ pos v ∷ flag_number t ∷ grid_list g
 params_first d v t g other value h =
-    rw other (ap (λ k. pos k ∷ map number_of_piece (slice_split semi (background_text t g))) value
+    rw other (ap (λ k. pos k ∷ map number_of_slice (slice_split semi (background_text t g))) value
     ∙ ap (λ r. pos v ∷ r) (background_numbers t g h))
 
 -- what they say
@@ -159,9 +159,9 @@ pub background_bytes : (t : Bool) (g : Option ℤ) → IsGrid g
     → list_all is_parameter_byte (background_text t g) ≡ true
 background_bytes true None h = refl
 background_bytes false None h = refl
-background_bytes true (Some (pos n)) h = let piece = decimal_piece n (omega (arith, h)) in
-    digit_bytes (decimal n) piece.digits
-background_bytes false (Some (pos n)) h = let piece = decimal_piece n (omega (arith, h)) in
-    digit_bytes (decimal n) piece.digits
+background_bytes true (Some (pos n)) h = let slice = decimal_slice n (omega (arith, h)) in
+    digit_bytes (decimal n) slice.digits
+background_bytes false (Some (pos n)) h = let slice = decimal_slice n (omega (arith, h)) in
+    digit_bytes (decimal n) slice.digits
 background_bytes true (Some (negsuc n)) h = absurd h
 background_bytes false (Some (negsuc n)) h = absurd h

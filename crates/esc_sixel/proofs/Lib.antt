@@ -7,7 +7,7 @@ pub mod Gathered
 pub mod Handed
 pub mod Headers
 pub mod PixelRuns
-pub mod Pieces
+pub mod Slices
 pub mod Pushed
 pub mod Runs
 pub mod Steps

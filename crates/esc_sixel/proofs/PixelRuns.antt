@@ -13,7 +13,7 @@ use Rattle.std.proofs.lemmas.Simd.{map-map, mask_l-mod, first_set_mask_l, chunk-
 use lib.Lanes.{Each1, mask_l, top}
 use Rattle.esc_sixel.specs.Appending.{BeginsWithPixels}
 use Rattle.esc_sixel.specs.Classes.{class_of, is_pixels, IsPixels, lowest}
-use Rattle.esc_sixel.specs.Meaning.{drawn}
+use Rattle.esc_sixel.specs.Meaning.{drawn_data}
 use Rattle.esc_sixel.specs.declared.class.Class.TheVariants.{Pixels}
 use Rattle.esc_sixel.specs.declared.sixel_data.SixelData.{SixelData}
 use Rattle.esc_sixel.specs.declared.sixel_data.SixelData.TheVariants.{Data}
@@ -101,7 +101,7 @@ less_least f same b h =
 pub block_drawn : (f : ℕ → ℕ)
     → agree_below (λ b. not (is_pixels b) || f b == b - 0x3f) (λ b. true) 256 ≡ true → (bs : List ℕ)
     → All IsPixels bs
-    → map Data (map f bs) ≡ drawn bs
+    → map Data (map f bs) ≡ drawn_data bs
 block_drawn f same [] h = refl
 block_drawn f same (b ∷ bs) h =
     ap (λ v. Data v ∷ map Data (map f bs)) (less_least f same b (All-head IsPixels b bs h))
@@ -142,32 +142,32 @@ four (a ∷ b ∷ c ∷ d ∷ e ∷ vs) l = absurd (omega (arith, l))
 
 -- a run that is drawn goes on
 pub drawn_more : (items before after : List SixelData) (xs : List ℕ) (at n : ℕ)
-    → before ≡ items ++ drawn (take at xs)
-    → after ≡ before ++ drawn (take n (take (length xs - at) (drop at xs)))
-    → after ≡ items ++ drawn (take (at + n) xs)
+    → before ≡ items ++ drawn_data (take at xs)
+    → after ≡ before ++ drawn_data (take n (take (length xs - at) (drop at xs)))
+    → after ≡ items ++ drawn_data (take (at + n) xs)
 drawn_more items before after xs at n e f =
     let rest : take (length xs - at) (drop at xs) ≡ drop at xs =
     take_all (length xs - at) (drop at xs) (omega (arith, length-drop at xs)) in
-    let more : after ≡ before ++ drawn (take n (drop at xs)) =
-    f ∙ ap (λ t. before ++ drawn (take n t)) rest in
+    let more : after ≡ before ++ drawn_data (take n (drop at xs)) =
+    f ∙ ap (λ t. before ++ drawn_data (take n t)) rest in
     more
-    ∙ ap (λ t. t ++ drawn (take n (drop at xs))) e
-    ∙ append_assoc items (drawn (take at xs)) (drawn (take n (drop at xs)))
+    ∙ ap (λ t. t ++ drawn_data (take n (drop at xs))) e
+    ∙ append_assoc items (drawn_data (take at xs)) (drawn_data (take n (drop at xs)))
     ∙ ap (λ t. items ++ t)
     (sym (map-append (λ b. Data (b - 0x3f)) (take at xs) (take n (drop at xs))))
-    ∙ ap (λ t. items ++ drawn t) (sym (take-add at n xs))
+    ∙ ap (λ t. items ++ drawn_data t) (sym (take-add at n xs))
 
 -- and by one
 pub drawn_one : (items before after : List SixelData) (xs : List ℕ) (at v : ℕ) → at < length xs
-    → before ≡ items ++ drawn (take at xs)
+    → before ≡ items ++ drawn_data (take at xs)
     → v ≡ get_or xs at 0 - 0x3f → after ≡ before ++ Data v ∷ []
-    → after ≡ items ++ drawn (take (at + 1) xs)
+    → after ≡ items ++ drawn_data (take (at + 1) xs)
 drawn_one items before after xs at v lt e is f =
-    put_more items (drawn (take at xs)) before after v e f
-    ∙ ap (λ w. items ++ (drawn (take at xs) ++ Data w ∷ [])) is
+    put_more items (drawn_data (take at xs)) before after v e f
+    ∙ ap (λ w. items ++ (drawn_data (take at xs) ++ Data w ∷ [])) is
     ∙ ap (λ t. items ++ t)
     (sym (map-append (λ b. Data (b - 0x3f)) (take at xs) (get_or xs at 0 ∷ [])))
-    ∙ ap (λ t. items ++ drawn t) (sym (take_more xs at 0 lt))
+    ∙ ap (λ t. items ++ drawn_data t) (sym (take_more xs at 0 lt))
 
 -- some of a run, and one of it
 pub some_pixels : (xs : List ℕ) (at n : ℕ) → at + n ≤ length xs → All IsPixels xs

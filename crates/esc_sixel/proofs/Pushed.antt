@@ -7,13 +7,13 @@ use Rattle.std.proofs.lemmas.List.{length-set, length-take, take_all, take_more}
 use Rattle.std.proofs.Math.Seq.{take-add}
 use Rattle.std.specs.List.{FoldsTo, All}
 use Rattle.std.proofs.lemmas.List.Elements.{All-head, All-tail}
-use Rattle.esc_values.specs.Params.{held}
+use Rattle.esc_values.specs.Params.{capped_at_i64}
 use Rattle.esc_sixel.specs.Classes.{class_of, IsDigit, IsPixels}
 use Rattle.esc_sixel.specs.Lines.{Ends, fresh, number_after}
 use Rattle.esc_sixel.specs.Runs.{Keeps, param, separators, more_digit, more_digits}
 use Rattle.esc_sixel.proofs.DigitRuns.{digits_written}
-use Rattle.esc_sixel.specs.Meaning.{color_of, drawn, repeat_of}
-use Rattle.esc_sixel.specs.Steps.{LeadsTo, Pushes, HoldsOpen, Closed, closed_of, open_of, with_items, alone, opened}
+use Rattle.esc_sixel.specs.Meaning.{color_of, drawn_data, repeat_of}
+use Rattle.esc_sixel.specs.Steps.{HasConsumed, Pushes, HoldsOpen, Closed, closed_of, open_of, with_items, alone, opened_command}
 use Rattle.esc_sixel.specs.Taking.{with_data}
 use Rattle.esc_sixel.specs.declared.builder.SixelBuilder.{SixelBuilder}
 use Rattle.esc_sixel.specs.declared.class.Class.{Class}
@@ -57,26 +57,26 @@ folds_one R p xs at q r lt e one =
 
 -- what a run of bytes leads to
 pub run_leads : {A : Type 0} (ps : List ℤ) (s : List ℕ) (bs : List ℕ) (p q : SixelBuilder A)
-    → FoldsTo Pushes p bs q → LeadsTo ps s p → LeadsTo ps (s ++ bs) q
+    → FoldsTo Pushes p bs q → HasConsumed ps s p → HasConsumed ps (s ++ bs) q
 run_leads ps s [] p q e h =
-    subst (λ t. LeadsTo ps t q) (sym (append-nil s)) (subst (LeadsTo ps s) e h)
+    subst (λ t. HasConsumed ps t q) (sym (append-nil s)) (subst (HasConsumed ps s) e h)
 run_leads ps s (b ∷ bs) p q (j, one, rest) h =
-    subst (λ t. LeadsTo ps t q) (append_assoc s (b ∷ []) bs)
+    subst (λ t. HasConsumed ps t q) (append_assoc s (b ∷ []) bs)
     (run_leads ps (s ++ b ∷ []) bs j q rest (one ps s h))
 
 -- six pixels outside a command
 abbrev pub with_drawn : {A : Type 0} → SixelBuilder A → List ℕ → SixelBuilder A
-with_drawn p bs = record p { sixel = record p.sixel { content = p.sixel.content ++ drawn bs } }
+with_drawn p bs = record p { sixel = record p.sixel { content = p.sixel.content ++ drawn_data bs } }
 
 drawn_alone : {A : Type 0} (p : SixelBuilder A) (b : ℕ) (c : Class) → p.introducer ≡ None
     → c ≡ Pixels (b - 0x3f)
     → ((with_drawn p (b ∷ [])).sixel ≡ with_items p.sixel (alone c b))
-    × HoldsOpen (opened c) p.introducer p.parameters
+    × HoldsOpen (opened_command c) p.introducer p.parameters
 drawn_alone p b c none e = rw e (refl, none)
 
 pixel_pushed : {A : Type 0} (p : SixelBuilder A) (b : ℕ) → p.introducer ≡ None → IsPixels b
     → Pushes p b (with_drawn p (b ∷ []))
-unfolding LeadsTo
+unfolding HasConsumed
 pixel_pushed p b none h = λ ps s lead.
     rw (closed_push Closed s b, open_push Closed s b)
     (after_none {T = Unit {0}} {E = Unit {0}} ps (closed_of Closed s) (open_of Closed s)
@@ -93,7 +93,7 @@ pixels_pushed (b ∷ bs) p q none h e = (
   pixel_pushed p b none (All-head IsPixels b bs h),
   pixels_pushed bs (with_drawn p (b ∷ [])) q none (All-tail IsPixels b bs h)
       (e ∙ ap (λ t. record p { sixel = record p.sixel { content = t } })
-      (sym (append_assoc p.sixel.content (drawn (b ∷ [])) (drawn bs)))),
+      (sym (append_assoc p.sixel.content (drawn_data (b ∷ [])) (drawn_data bs)))),
 )
 
 -- the end of a line outside a command
@@ -107,14 +107,14 @@ ends_class b d (inr h) = inr (rw h.0 refl, h.1)
 
 ended_alone : {A : Type 0} (s : Sixel A) (b : ℕ) (c : Class) (d : SixelData) (i : Option Introducer)
     (k : Parameters) → i ≡ None → EndsBy c d
-    → (with_data s d ≡ with_items s (alone c b)) × HoldsOpen (opened c) i k
+    → (with_data s d ≡ with_items s (alone c b)) × HoldsOpen (opened_command c) i k
 ended_alone s b c d i k none (inl h) = rw (h.0, h.1) (refl, none)
 ended_alone s b c d i k none (inr h) = rw (h.0, h.1) (refl, none)
 
 pub line_ended : {A : Type 0} (p q : SixelBuilder A) (b : ℕ) (d : SixelData) → p.introducer ≡ None
     → Ends b d → q.sixel ≡ with_data p.sixel d
     → q.introducer ≡ None → Pushes p b q
-unfolding LeadsTo
+unfolding HasConsumed
 line_ended p q b d none h e after = λ ps s lead.
     let did = ended_alone p.sixel b (class_of b) d q.introducer q.parameters after
     (ends_class b d h) in
@@ -132,9 +132,9 @@ keeps_more : (p : Parameters) (run : List ℕ) (b : ℕ) → length p.values ≡
 keeps_more p run b five room h k =
     let low : b - 0x30 < 10 = digit_below b h in
     let whole : (b - 0x30) + 48 ≡ b = digit_whole b h in
-    let number = held (10 * unwrap_or (get_or p.values p.count None) 0 + (b - 0x30)) in
-    let e : number ≡ held (10 * unwrap_or (param run p.count) 0 + (b - 0x30)) =
-    ap (λ o. held (10 * unwrap_or o 0 + (b - 0x30))) (k.values p.count room) in
+    let number = capped_at_i64 (10 * unwrap_or (get_or p.values p.count None) 0 + (b - 0x30)) in
+    let e : number ≡ capped_at_i64 (10 * unwrap_or (param run p.count) 0 + (b - 0x30)) =
+    ap (λ o. capped_at_i64 (10 * unwrap_or o 0 + (b - 0x30))) (k.values p.count room) in
     let none = digit_is_none (b - 0x30) low in
     subst (λ x. Keeps (more_digit p b) (run ++ x ∷ [])) whole (record {
       values = keeps_digit p.values p.count (b - 0x30) number run five low room k.values k.count e;
@@ -147,7 +147,7 @@ with_parameters p k = record p { parameters = k }
 pub digit_pushed : {A : Type 0} (p : SixelBuilder A) (m : Introducer) (b : ℕ)
     → p.introducer ≡ Some m → length p.parameters.values ≡ 5 → p.parameters.count < 5
     → IsDigit b → Pushes p b (with_parameters p (more_digit p.parameters b))
-unfolding LeadsTo
+unfolding HasConsumed
 digit_pushed p m b some five room h = λ ps s lead.
     rw (closed_push Closed s b, open_push Closed s b)
     (after_some {T = Unit {0}} {E = Unit {0}} ps (closed_of Closed s) (open_of Closed s) m
@@ -185,7 +185,7 @@ repeat_class b e = rw e refl
 pub begins : {A : Type 0} (p : SixelBuilder A) (m : Introducer) (fresh : Parameters) (b : ℕ)
     → p.introducer ≡ None → class_of b ≡ Introduces m
     → Keeps fresh [] → Pushes p b (record p { introducer = Some m; parameters = fresh })
-unfolding LeadsTo
+unfolding HasConsumed
 begins p m fresh b none is k = λ ps s lead.
     rw (closed_push Closed s b, open_push Closed s b)
     (after_none {T = Unit {0}} {E = Unit {0}} ps (closed_of Closed s) (open_of Closed s)
@@ -197,7 +197,7 @@ pub selected_begins : {A : Type 0} (p : SixelBuilder A) (m : Introducer) (fresh 
     → class_of b ≡ Introduces m → Keeps fresh []
     → ((r : List ℕ) → Keeps p.parameters r → d ≡ color_of r)
     → Pushes p b (record { sixel = with_data p.sixel d; introducer = Some m; parameters = fresh })
-unfolding LeadsTo
+unfolding HasConsumed
 selected_begins p m fresh b d some is k gives = λ ps s lead.
     rw (closed_push Closed s b, open_push Closed s b)
     (after_some {T = Unit {0}} {E = Unit {0}} ps (closed_of Closed s) (open_of Closed s)
@@ -210,7 +210,7 @@ pub repeat_ends : {A : Type 0} (p q : SixelBuilder A) (b : ℕ) (d : SixelData)
     → p.introducer ≡ Some introducer.Repeat → IsPixels b
     → ((r : List ℕ) → Keeps p.parameters r → d ≡ repeat_of r (b - 0x3f))
     → q.sixel ≡ with_data p.sixel d → q.introducer ≡ None → Pushes p b q
-unfolding LeadsTo
+unfolding HasConsumed
 repeat_ends p q b d some is gives e none = λ ps s lead.
     rw (closed_push Closed s b, open_push Closed s b)
     (after_some {T = Unit {0}} {E = Unit {0}} ps (closed_of Closed s) (open_of Closed s)

@@ -6,7 +6,7 @@ use Rattle.std.proofs.lemmas.Bool.{eqb-false, eqb-true, cases_Bool}
 use Rattle.std.proofs.lemmas.List.{get_or-set_same, get_or-set_other}
 use Rattle.std.proofs.lemmas.Bool.{ne_eqb}
 use Rattle.esc_sixel.specs.Runs.{numbers_after, param, separators}
-use Rattle.esc_values.specs.Params.{held}
+use Rattle.esc_values.specs.Params.{capped_at_i64}
 
 next_end : (n : Option ℕ) (k : ℕ) → get_or (n ∷ None ∷ []) k None ≡ get_or (n ∷ []) k None
 next_end n zero = refl
@@ -79,21 +79,21 @@ digit_else n (b ∷ run) d k h e = elim (cases_Bool (b == 59)) [
 
 -- the parameters
 pub param_next : (run : List ℕ) (k : ℕ) → param (run ++ 59 ∷ []) k ≡ param run k
-param_next run k = ap (option_map held) (numbers_next None run k)
+param_next run k = ap (option_map capped_at_i64) (numbers_next None run k)
 
 pub param_else : (run : List ℕ) (d k : ℕ) → (d == 59) ≡ false → k ≢ separators run
     → param (run ++ d ∷ []) k ≡ param run k
-param_else run d k h e = ap (option_map held) (digit_else None run d k h e)
+param_else run d k h e = ap (option_map capped_at_i64) (digit_else None run d k h e)
 
-held_more : (o : Option ℕ) (d : ℕ) (m : Option ℕ) → option_map held o ≡ m
-    → held (10 * unwrap_or o 0 + d) ≡ held (10 * unwrap_or m 0 + d)
+held_more : (o : Option ℕ) (d : ℕ) (m : Option ℕ) → option_map capped_at_i64 o ≡ m
+    → capped_at_i64 (10 * unwrap_or o 0 + d) ≡ capped_at_i64 (10 * unwrap_or m 0 + d)
 held_more None d m e = rw (sym e) refl
 held_more (Some n) d m e = rw (sym e) (omega arith)
 
 pub param_here : (run : List ℕ) (d k : ℕ) → (d == 59) ≡ false → k ≡ separators run
-    → param (run ++ d ∷ []) k ≡ Some (held (10 * unwrap_or (param run k) 0 + (d - 48)))
+    → param (run ++ d ∷ []) k ≡ Some (capped_at_i64 (10 * unwrap_or (param run k) 0 + (d - 48)))
 param_here run d k h e =
-    ap (option_map held) (digit_here None run d k h e)
+    ap (option_map capped_at_i64) (digit_here None run d k h e)
     ∙ ap Some (held_more (get_or (numbers_after None run) k None) (d - 48) (param run k) refl)
 
 pub digit_is_none : (d : ℕ) → d < 10 → (d + 48 == 59) ≡ false
@@ -103,7 +103,7 @@ digit_is_none d h = ne_eqb (d + 48) 59 (λ e. omega (arith, e))
 pub keeps_digit : (values : List (Option ℕ)) (count d number : ℕ) (run : List ℕ) → length values ≡ 5
     → d < 10 → count < 5
     → ((k : ℕ) → k < 5 → get_or values k None ≡ param run k) → count ≡ min (separators run) 5
-    → number ≡ held (10 * unwrap_or (param run count) 0 + d)
+    → number ≡ capped_at_i64 (10 * unwrap_or (param run count) 0 + d)
     → (k : ℕ) → k < 5
     → get_or (set values count (Some number)) k None ≡ param (run ++ (d + 48) ∷ []) k
 keeps_digit values count d number run five small room was at is k low =
@@ -114,8 +114,8 @@ keeps_digit values count d number run five small room was at is k low =
           let minus : (d + 48) - 48 ≡ d = omega arith in
           ap (λ j. get_or (set values count (Some number)) j None) e
           ∙ get_or-set_same values count (Some number) None (omega arith)
-          ∙ ap Some (is ∙ ap (λ j. held (10 * unwrap_or (param run j) 0 + d)) (sym e))
-          ∙ ap (λ x. Some (held (10 * unwrap_or (param run k) 0 + x))) (sym minus)
+          ∙ ap Some (is ∙ ap (λ j. capped_at_i64 (10 * unwrap_or (param run j) 0 + d)) (sym e))
+          ∙ ap (λ x. Some (capped_at_i64 (10 * unwrap_or (param run k) 0 + x))) (sym minus)
           ∙ sym (param_here run (d + 48) k (digit_is_none d small) s)
       | inr t ↦
           let e : k ≢ count = eqb-false k count t in

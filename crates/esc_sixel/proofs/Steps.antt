@@ -7,9 +7,9 @@ use Rattle.std.specs.List.{flat_map, list_any}
 use Rattle.std.proofs.lemmas.List.{flat_map_more}
 use Rattle.esc_sixel.specs.Classes.{class_of}
 use Rattle.esc_sixel.specs.Items.{Item, OfRepeat, OfColor, OfRaster, OfJunk, Outside, InRepeat, InRun}
-use Rattle.esc_sixel.specs.Items.{run_of, after_run, first_pixels, begun, item_of, items_at, items}
+use Rattle.esc_sixel.specs.Items.{run_of, after_run, first_pixels, begun_place, item_of, items_at, items}
 use Rattle.esc_sixel.specs.Meaning.{sixel_of, raster_pan, raster_pad, raster_sizes, is_oversize, gives, last_of, after_last}
-use Rattle.esc_sixel.specs.Steps.{Open, Closed, In, ended, alone, closed_by, opened, open_by, closed_of, open_of, with_item, with_items, HoldsOpen}
+use Rattle.esc_sixel.specs.Steps.{Open, Closed, In, ended_items, alone, closed_by, opened_command, open_by, closed_of, open_of, with_item, with_items, HoldsOpen}
 use Rattle.esc_sixel.specs.declared.parameters.Parameters.{Parameters}
 use Rattle.esc_sixel.specs.declared.sixel.Sixel.{Sixel}
 use Rattle.esc_sixel.specs.declared.class.Class.{Class}
@@ -26,7 +26,7 @@ from (In introducer.Color r) bs = OfColor (r ++ run_of bs) ∷ items_at InRun bs
 from (In introducer.Raster r) bs = OfRaster (r ++ run_of bs) ∷ items_at InRun bs
 
 begin : (m : Introducer) (bs : List ℕ) (b : ℕ)
-    → item_of (Introduces m) b bs ∷ items_at (begun (Introduces m)) bs ≡ from (In m []) bs
+    → item_of (Introduces m) b bs ∷ items_at (begun_place (Introduces m)) bs ≡ from (In m []) bs
 begin introducer.Repeat bs b = refl
 begin introducer.Color bs b = refl
 begin introducer.Raster bs b = refl
@@ -66,19 +66,19 @@ first_byte (In introducer.Raster r) b bs (Digit d) e = rw (e, append_assoc) refl
 first_byte (In introducer.Raster r) b bs Separator e = rw (e, append_assoc) refl
 first_byte (In introducer.Raster r) b bs Junk e = rw (e, append-nil) refl
 
-last_bytes : (o : Open) → from o [] ≡ ended o
+last_bytes : (o : Open) → from o [] ≡ ended_items o
 last_bytes Closed = refl
 last_bytes (In introducer.Repeat r) = rw append-nil refl
 last_bytes (In introducer.Color r) = rw append-nil refl
 last_bytes (In introducer.Raster r) = rw append-nil refl
 
-pub halves : (o : Open) (bs : List ℕ) → from o bs ≡ closed_of o bs ++ ended (open_of o bs)
+pub halves : (o : Open) (bs : List ℕ) → from o bs ≡ closed_of o bs ++ ended_items (open_of o bs)
 halves o [] = last_bytes o
 halves o (b ∷ bs) =
     first_byte o b bs (class_of b) refl
     ∙ ap (λ y. closed_by o (class_of b) b ++ y) (halves (open_by o (class_of b) b) bs)
     ∙ sym (append_assoc (closed_by o (class_of b) b) (closed_of (open_by o (class_of b) b) bs)
-    (ended (open_of (open_by o (class_of b) b) bs)))
+    (ended_items (open_of (open_by o (class_of b) b) bs)))
 
 pub open_push : (o : Open) (bs : List ℕ) (b : ℕ)
     → open_of o (bs ++ b ∷ []) ≡ open_by (open_of o bs) (class_of b) b
@@ -192,7 +192,7 @@ pub after_none : {A : Type 0} {T E : Type 0} (ps : List ℤ) (is : List Item) (o
     (b : ℕ)
     (old new : Sixel A) (was is_now : Option Introducer) (kept keeps : Parameters) (r : Result T E)
     → old ≡ sixel_of ps is → HoldsOpen o was kept → was ≡ None
-    → OnOk r ((new ≡ with_items old (alone c b)) × HoldsOpen (opened c) is_now keeps)
+    → OnOk r ((new ≡ with_items old (alone c b)) × HoldsOpen (opened_command c) is_now keeps)
     → OnOk r ((new ≡ sixel_of ps (is ++ closed_by o c b)) × HoldsOpen (open_by o c b) is_now keeps)
 after_none {A = A} ps is Closed c b old new was is_now kept keeps r so h none did =
     on_ok r (λ d. (
@@ -224,7 +224,7 @@ after_some {A = A} ps is (In n q) m c b old new was is_now kept keeps r so h som
 
 -- a byte of junk at the end
 abbrev junk_closes : Open → Type 0
-junk_closes o = closed_by o Junk 0 ≡ ended o ++ OfJunk 0 ∷ []
+junk_closes o = closed_by o Junk 0 ≡ ended_items o ++ OfJunk 0 ∷ []
 
 junk_last : (o : Open) → junk_closes o
 junk_last Closed = refl
@@ -239,13 +239,15 @@ zero_is_junk = refl
 pub finished : {A : Type 0} (ps : List ℤ) (s : List ℕ)
     → sixel_of {A = A} ps (closed_of Closed (s ++ 0 ∷ [])) ≡ sixel_of ps (items s)
 finished {A = A} ps s =
-    let all : closed_of Closed (s ++ 0 ∷ []) ≡ (closed_of Closed s ++ ended (open_of Closed s))
+    let all : closed_of Closed (s ++ 0 ∷ [])
+    ≡ (closed_of Closed s ++ ended_items (open_of Closed s))
     ++ OfJunk 0 ∷ [] =
     closed_push Closed s 0
     ∙ ap (λ c. closed_of Closed s ++ closed_by (open_of Closed s) c 0) zero_is_junk
     ∙ ap (λ y. closed_of Closed s ++ y) (junk_last (open_of Closed s))
-    ∙ sym (append_assoc (closed_of Closed s) (ended (open_of Closed s)) (OfJunk 0 ∷ [])) in
-    let cut : closed_of Closed s ++ ended (open_of Closed s) ≡ items s = sym (halves Closed s) in
+    ∙ sym (append_assoc (closed_of Closed s) (ended_items (open_of Closed s)) (OfJunk 0 ∷ [])) in
+    let cut : closed_of Closed s ++ ended_items (open_of Closed s) ≡ items s = sym (halves Closed s)
+    in
     let same : sixel_of {A = A} ps (closed_of Closed (s ++ 0 ∷ []))
     ≡ sixel_of ps (items s ++ OfJunk 0 ∷ []) =
     ap (sixel_of {A = A} ps) (all ∙ ap (λ y. y ++ OfJunk 0 ∷ []) cut) in

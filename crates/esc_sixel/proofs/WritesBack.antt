@@ -8,10 +8,10 @@ use Rattle.std.specs.Fmt.{decimal, signed_decimal}
 use Rattle.std.proofs.lemmas.Bool.{le-leb}
 use Rattle.std.proofs.lemmas.List.Folds.{list_all-append}
 use Rattle.esc_values.specs.Clear.{joined}
-use Rattle.esc_values.specs.Params.{held}
-use Rattle.esc_values.specs.Scalars.{and_then, when}
+use Rattle.esc_values.specs.Params.{capped_at_i64}
+use Rattle.esc_values.specs.Scalars.{and_then, some_if}
 use Rattle.esc_sixel.proofs.Headers.{Means, MeansIn, means, flag_number, grid_list, params_plain, params_first, flag_back, grid_back, background_bytes}
-use Rattle.esc_sixel.proofs.Pieces.{IsPiece, ArePieces, decimal_piece, run_numbers, run_separators, run_bytes, data_bytes}
+use Rattle.esc_sixel.proofs.Slices.{IsSlice, AreSlices, decimal_slice, run_numbers, run_separators, run_bytes, data_bytes}
 use Rattle.esc_sixel.proofs.Written.{item_for, raster_item, content_items, content_stops, content_back, content_after, raster_after, last_none}
 use Rattle.esc_sixel.proofs.Written.{no_pan, no_pad, no_sizes, content_bytes, content_fits}
 use Rattle.esc_sixel.specs.Items.{Item, OfRaster, items}
@@ -43,26 +43,26 @@ same_image {A = A} s ps is a b w h t g c = λ i. record {
 }
 
 -- the parameters of a run of numbers
-held_small : (n : ℕ) → n < 2 ^ 63 → held n ≡ n
+held_small : (n : ℕ) → n < 2 ^ 63 → capped_at_i64 n ≡ n
 held_small n small = omega arith
 
 param_at : (run : List ℕ) (ns : List (Option ℕ)) (k n : ℕ) → numbers_after None run ≡ ns
     → get_or ns k None ≡ Some n → n < 2 ^ 63 → param run k ≡ Some n
 param_at run ns k n e f small =
-    ap (λ xs. option_map held (get_or xs k None)) e ∙ ap (option_map held) f
+    ap (λ xs. option_map capped_at_i64 (get_or xs k None)) e ∙ ap (option_map capped_at_i64) f
     ∙ ap Some (held_small n small)
 
 size_at : (run : List ℕ) (k n : ℕ) → param run k ≡ Some n → n < 2 ^ 32 → size_of run k ≡ Some n
-size_at run k n e small = ap (λ o. and_then o (λ m. when (nat_lt m (2 ^ 32)) m)) e
-    ∙ ap (λ b. when b n) (lt-ltb n (2 ^ 32) small)
+size_at run k n e small = ap (λ o. and_then o (λ m. some_if (nat_lt m (2 ^ 32)) m)) e
+    ∙ ap (λ b. some_if b n) (lt-ltb n (2 ^ 32) small)
 
 sizes_at : (run : List ℕ) (w h : ℕ) → size_of run 2 ≡ Some w → size_of run 3 ≡ Some h
     → w * h ≤ 100000000 → sizes_of run ≡ Some (w, h)
 sizes_at run w h e f room =
     ap (λ o. and_then o (λ x.
-    and_then (size_of run 3) (λ y. when (nat_le (x * y) 100000000) (x, y)))) e
-    ∙ ap (λ o. and_then o (λ y. when (nat_le (w * y) 100000000) (w, y))) f
-    ∙ ap (λ b. when b (w, h)) (le-leb (w * h) 100000000 room)
+    and_then (size_of run 3) (λ y. some_if (nat_le (x * y) 100000000) (x, y)))) e
+    ∙ ap (λ o. and_then o (λ y. some_if (nat_le (w * y) 100000000) (w, y))) f
+    ∙ ap (λ b. some_if b (w, h)) (le-leb (w * h) 100000000 room)
 
 -- data without raster attributes
 short_image : {A : Type 0} (s : Sixel A) (ps : List ℤ) → AreWritableData s.content
@@ -120,9 +120,9 @@ natural_small : (z : ℤ) → IsNatural z → natural z < 2 ^ 63
 natural_small (pos n) h = h
 natural_small (negsuc n) h = absurd h
 
-natural_piece : (z : ℤ) → IsNatural z → IsPiece (signed_decimal z) (natural z)
-natural_piece (pos n) h = decimal_piece n (omega (arith, h))
-natural_piece (negsuc n) h = absurd h
+natural_slice : (z : ℤ) → IsNatural z → IsSlice (signed_decimal z) (natural z)
+natural_slice (pos n) h = decimal_slice n (omega (arith, h))
+natural_slice (negsuc n) h = absurd h
 
 number_is : (run : List ℕ) (ns : List (Option ℕ)) (k d : ℕ) (z : ℤ) → numbers_after None run ≡ ns
     → get_or ns k None ≡ Some (natural z) → IsNatural z
@@ -235,20 +235,20 @@ writes_ratio {A = A} s form w h ok =
     let grid_ok = ok.1.1.1.0 in
     let ps = pos 0 ∷ flag_number t ∷ grid_list g in
     let run = joined (signed_decimal s.pan ∷ signed_decimal s.pad ∷ []) in
-    let pieces : ArePieces (signed_decimal s.pan ∷ signed_decimal s.pad ∷ []) (natural s.pan
+    let slices : AreSlices (signed_decimal s.pan ∷ signed_decimal s.pad ∷ []) (natural s.pan
     ∷ natural s.pad ∷ []) =
-    (natural_piece s.pan ok.0, (natural_piece s.pad ok.1.0, tt)) in
+    (natural_slice s.pan ok.0, (natural_slice s.pad ok.1.0, tt)) in
     let numbers : numbers_after None run ≡ Some (natural s.pan) ∷ Some (natural s.pad) ∷ [] =
     run_numbers (signed_decimal s.pan) (signed_decimal s.pad ∷ []) (natural s.pan) (natural s.pad
-    ∷ []) pieces in
+    ∷ []) slices in
     let count : separators run ≡ 1 =
     run_separators (signed_decimal s.pan) (signed_decimal s.pad ∷ []) (natural s.pan)
-    (natural s.pad ∷ []) pieces in
+    (natural s.pad ∷ []) slices in
     let bytes : list_all is_parameter_byte run ≡ true =
     run_bytes (signed_decimal s.pan) (signed_decimal s.pad ∷ []) (natural s.pan) (natural s.pad
-    ∷ []) pieces in
+    ∷ []) slices in
     let sizes : raster_sizes (OfRaster run) ≡ None =
-    ap (λ n. when (nat_le 3 n) (sizes_of run)) count in
+    ap (λ n. some_if (nat_le 3 n) (sizes_of run)) count in
     let fits : is_oversize (OfRaster run) ≡ false =
     ap (λ n. nat_le 3 n && not (is_some (sizes_of run))) count in (
       0x3b ∷ background_text t g,
@@ -282,30 +282,30 @@ writes_sizes {A = A} s x y w h small ok =
     let texts = signed_decimal s.pad ∷ decimal x ∷ decimal y ∷ [] in
     let ns = natural s.pad ∷ x ∷ y ∷ [] in
     let run = joined (signed_decimal s.pan ∷ texts) in
-    let pieces : ArePieces (signed_decimal s.pan ∷ texts) (natural s.pan ∷ ns) = (
-      natural_piece s.pan ok.0,
+    let slices : AreSlices (signed_decimal s.pan ∷ texts) (natural s.pan ∷ ns) = (
+      natural_slice s.pan ok.0,
       (
-        natural_piece s.pad ok.1.0,
+        natural_slice s.pad ok.1.0,
         (
-          decimal_piece x (omega (arith, x_small)),
-          (decimal_piece y (omega (arith, y_small)), tt),
+          decimal_slice x (omega (arith, x_small)),
+          (decimal_slice y (omega (arith, y_small)), tt),
         ),
       ),
     ) in
     let numbers : numbers_after None run ≡ Some (natural s.pan) ∷ Some (natural s.pad) ∷ Some x
     ∷ Some y ∷ [] =
-    run_numbers (signed_decimal s.pan) texts (natural s.pan) ns pieces in
+    run_numbers (signed_decimal s.pan) texts (natural s.pan) ns slices in
     let count : separators run ≡ 3 =
-    run_separators (signed_decimal s.pan) texts (natural s.pan) ns pieces in
+    run_separators (signed_decimal s.pan) texts (natural s.pan) ns slices in
     let bytes : list_all is_parameter_byte run ≡ true =
-    run_bytes (signed_decimal s.pan) texts (natural s.pan) ns pieces in
+    run_bytes (signed_decimal s.pan) texts (natural s.pan) ns slices in
     let width : size_of run 2 ≡ Some x =
     size_at run 2 x (param_at run _ 2 x numbers refl (omega (arith, x_small))) x_small in
     let height : size_of run 3 ≡ Some y =
     size_at run 3 y (param_at run _ 3 y numbers refl (omega (arith, y_small))) y_small in
     let both : sizes_of run ≡ Some (x, y) = sizes_at run x y width height small.1.1 in
     let sizes : raster_sizes (OfRaster run) ≡ Some (Some (x, y)) =
-    ap (λ n. when (nat_le 3 n) (sizes_of run)) count ∙ ap Some both in
+    ap (λ n. some_if (nat_le 3 n) (sizes_of run)) count ∙ ap Some both in
     let fits : is_oversize (OfRaster run) ≡ false =
     ap (λ n. nat_le 3 n && not (is_some (sizes_of run))) count ∙ ap (λ o. not (is_some o)) both in (
       0x3b ∷ background_text t g,

@@ -8,8 +8,8 @@ use Rattle.std.proofs.lemmas.Bool.{eqb-true, cases_Bool, and_parts}
 use Rattle.std.proofs.lemmas.Bool.Decides.{nat_tests}
 use Rattle.std.proofs.lemmas.List.Folds.{list_all-append}
 use Rattle.esc_values.specs.Clear.{joined}
-use Rattle.esc_values.specs.Params.{held, is_digit}
-use Rattle.esc_sixel.proofs.Pieces.{are_digits, ArePieces, IsPiece, decimal_piece, piece_last, run_numbers, run_separators, run_bytes, digit_bytes, data_bytes}
+use Rattle.esc_values.specs.Params.{capped_at_i64, is_digit}
+use Rattle.esc_sixel.proofs.Slices.{are_digits, AreSlices, IsSlice, decimal_slice, slice_last, run_numbers, run_separators, run_bytes, digit_bytes, data_bytes}
 use Rattle.esc_sixel.specs.Classes.{class_of}
 use Rattle.esc_sixel.specs.Items.{Item, OfReturn, OfLine, OfPixels, OfRepeat, OfColor, OfRaster, Outside, InRepeat, InRun, in_run, run_of, after_run, items_at}
 use Rattle.esc_sixel.specs.Meaning.{gives, color_of, repeat_of, percent, raster_pan, raster_pad, raster_sizes, is_oversize, last_of, after_last}
@@ -171,54 +171,54 @@ rgb_text n c = simp (append_assoc, append-nil) refl
 hsl_text : (n h l s : ℕ) → data_text (DefineColorMapHSL n h l s) ≡ 0x23 ∷ hsl_run n h l s
 hsl_text n h l s = simp (append_assoc, append-nil) refl
 
-one : IsPiece (codes "1") 1
+one : IsSlice (codes "1") 1
 one = record { digits = refl; some = omega arith; value = refl }
 
-two : IsPiece (codes "2") 2
+two : IsSlice (codes "2") 2
 two = record { digits = refl; some = omega arith; value = refl }
 
 least_small : (c : ℕ) → IsChannel c → least_percent c < 2 ^ 64
 least_small c h = let is = h.2 in omega (arith, is)
 
-rgb_pieces : (n : ℕ) (c : ℕ × ℕ × ℕ) → IsWritableData (DefineColorMapRGB n c)
-    → ArePieces (decimal n ∷ rgb_texts c) (n ∷ rgb_numbers c)
-rgb_pieces n c h =
+rgb_slices : (n : ℕ) (c : ℕ × ℕ × ℕ) → IsWritableData (DefineColorMapRGB n c)
+    → AreSlices (decimal n ∷ rgb_texts c) (n ∷ rgb_numbers c)
+rgb_slices n c h =
     let small = h.0 in (
-      decimal_piece n (omega (arith, small)),
+      decimal_slice n (omega (arith, small)),
       (
         two,
         (
-          decimal_piece _ (least_small c.0 h.1.0),
+          decimal_slice _ (least_small c.0 h.1.0),
           (
-            decimal_piece _ (least_small c.1 h.1.1.0),
-            (decimal_piece _ (least_small c.2 h.1.1.1), tt),
+            decimal_slice _ (least_small c.1 h.1.1.0),
+            (decimal_slice _ (least_small c.2 h.1.1.1), tt),
           ),
         ),
       ),
     )
 
-hsl_pieces : (n h l s : ℕ) → IsWritableData (DefineColorMapHSL n h l s)
-    → ArePieces (decimal n ∷ hsl_texts h l s) (n ∷ hsl_numbers h l s)
-hsl_pieces n h l s w =
+hsl_slices : (n h l s : ℕ) → IsWritableData (DefineColorMapHSL n h l s)
+    → AreSlices (decimal n ∷ hsl_texts h l s) (n ∷ hsl_numbers h l s)
+hsl_slices n h l s w =
     let n_small = w.0 in
     let h_small = w.1.0 in
     let l_small = w.1.1.0 in
     let s_small = w.1.1.1 in (
-      decimal_piece n (omega (arith, n_small)),
+      decimal_slice n (omega (arith, n_small)),
       (
         one,
         (
-          decimal_piece h (omega (arith, h_small)),
+          decimal_slice h (omega (arith, h_small)),
           (
-            decimal_piece l (omega (arith, l_small)),
-            (decimal_piece s (omega (arith, s_small)), tt),
+            decimal_slice l (omega (arith, l_small)),
+            (decimal_slice s (omega (arith, s_small)), tt),
           ),
         ),
       ),
     )
 
 -- what the items give
-channel_back : (c : ℕ) → IsChannel c → percent (held (least_percent c)) ≡ c
+channel_back : (c : ℕ) → IsChannel c → percent (capped_at_i64 (least_percent c)) ≡ c
 channel_back c h = let low = h.1 in let is = h.2 in omega (arith, low, is)
 
 rgb_same : (a n r g b : ℕ) (c : ℕ × ℕ × ℕ) → a ≡ n → r ≡ c.0 → g ≡ c.1 → b ≡ c.2
@@ -229,22 +229,22 @@ hsl_same : (a n b h c l d s : ℕ) → a ≡ n → b ≡ h → c ≡ l → d ≡
     → DefineColorMapHSL a b c d ≡ DefineColorMapHSL n h l s
 hsl_same a n b h c l d s e x y z = λ i. DefineColorMapHSL (e i) (x i) (y i) (z i)
 
-held_short : (n : ℕ) → n < 2 ^ 16 → min (held n) 65535 ≡ n
+held_short : (n : ℕ) → n < 2 ^ 16 → min (capped_at_i64 n) 65535 ≡ n
 held_short n small = omega arith
 
-held_byte : (n : ℕ) → n < 2 ^ 8 → min (held n) 255 ≡ n
+held_byte : (n : ℕ) → n < 2 ^ 8 → min (capped_at_i64 n) 255 ≡ n
 held_byte n small = omega arith
 
-held_count : (n : ℕ) → n < 2 ^ 32 → min (held n) 4294967295 ≡ n
+held_count : (n : ℕ) → n < 2 ^ 32 → min (capped_at_i64 n) 4294967295 ≡ n
 held_count n small = omega arith
 
 rgb_back : (n : ℕ) (c : ℕ × ℕ × ℕ) → IsWritableData (DefineColorMapRGB n c)
     → color_of (rgb_run n c) ≡ DefineColorMapRGB n c
 rgb_back n c h =
-    let pieces = rgb_pieces n c h in
+    let slices = rgb_slices n c h in
     rw (
-      run_separators (decimal n) (rgb_texts c) n (rgb_numbers c) pieces,
-      run_numbers (decimal n) (rgb_texts c) n (rgb_numbers c) pieces,
+      run_separators (decimal n) (rgb_texts c) n (rgb_numbers c) slices,
+      run_numbers (decimal n) (rgb_texts c) n (rgb_numbers c) slices,
     )
     (rgb_same _ n _ _ _ c (held_short n h.0) (channel_back c.0 h.1.0) (channel_back c.1 h.1.1.0)
     (channel_back c.2 h.1.1.1))
@@ -252,25 +252,25 @@ rgb_back n c h =
 hsl_back : (n h l s : ℕ) → IsWritableData (DefineColorMapHSL n h l s)
     → color_of (hsl_run n h l s) ≡ DefineColorMapHSL n h l s
 hsl_back n h l s w =
-    let pieces = hsl_pieces n h l s w in
+    let slices = hsl_slices n h l s w in
     rw (
-      run_separators (decimal n) (hsl_texts h l s) n (hsl_numbers h l s) pieces,
-      run_numbers (decimal n) (hsl_texts h l s) n (hsl_numbers h l s) pieces,
+      run_separators (decimal n) (hsl_texts h l s) n (hsl_numbers h l s) slices,
+      run_numbers (decimal n) (hsl_texts h l s) n (hsl_numbers h l s) slices,
     )
     (hsl_same _ n _ h _ l _ s (held_short n w.0) (held_short h w.1.0) (held_byte l w.1.1.0)
     (held_byte s w.1.1.1))
 
 select_back : (n : ℕ) → n < 2 ^ 16 → color_of (joined (decimal n ∷ [])) ≡ SelectColorMapEntry n
 select_back n small =
-    let pieces : ArePieces (decimal n ∷ []) (n ∷ []) = (decimal_piece n (omega arith), tt) in
-    rw (run_separators (decimal n) [] n [] pieces, run_numbers (decimal n) [] n [] pieces)
+    let slices : AreSlices (decimal n ∷ []) (n ∷ []) = (decimal_slice n (omega arith), tt) in
+    rw (run_separators (decimal n) [] n [] slices, run_numbers (decimal n) [] n [] slices)
     (ap SelectColorMapEntry (held_short n small))
 
 repeat_back : (n v : ℕ) → n < 2 ^ 32 → repeat_of (decimal n) v ≡ Repeat v n
-repeat_back n v small = rw (piece_last (decimal n) n (decimal_piece n (omega arith)))
+repeat_back n v small = rw (slice_last (decimal n) n (decimal_slice n (omega arith)))
     (ap (λ m. Repeat v m) (held_count n small))
 
--- the item of a piece of data
+-- the item of a slice of data
 abbrev pub item_for : SixelData → Item
 item_for (Data v) = OfPixels v
 item_for (Repeat v n) = OfRepeat (decimal n) (Some v)
@@ -300,29 +300,29 @@ content_items (Data v ∷ ds) h =
     pixels_item v (content_text ds) h.0 ∙ ap (λ r. OfPixels v ∷ r) (content_items ds h.1)
 content_items (Repeat v n ∷ ds) h =
     let small = h.0.0 in
-    let piece = decimal_piece n (omega (arith, small)) in
+    let slice = decimal_slice n (omega (arith, small)) in
     ap (λ t. items_at Outside (0x21 ∷ t))
     (append_assoc (decimal n) (pixels_text v) (content_text ds))
-    ∙ repeat_item (decimal n) v (content_text ds) piece.digits h.0.1
+    ∙ repeat_item (decimal n) v (content_text ds) slice.digits h.0.1
     ∙ ap (λ r. OfRepeat (decimal n) (Some v) ∷ r) (content_items ds h.1)
 content_items (DefineColorMapRGB n c ∷ ds) h =
     ap (λ t. items_at Outside (t ++ content_text ds)) (rgb_text n c)
     ∙ color_item (rgb_run n c) (content_text ds)
-    (run_bytes (decimal n) (rgb_texts c) n (rgb_numbers c) (rgb_pieces n c h.0))
+    (run_bytes (decimal n) (rgb_texts c) n (rgb_numbers c) (rgb_slices n c h.0))
     (content_stops ds h.1)
     ∙ ap (λ r. OfColor (rgb_run n c) ∷ r) (content_items ds h.1)
 content_items (DefineColorMapHSL n a l s ∷ ds) h =
     ap (λ t. items_at Outside (t ++ content_text ds)) (hsl_text n a l s)
     ∙ color_item (hsl_run n a l s) (content_text ds)
-    (run_bytes (decimal n) (hsl_texts a l s) n (hsl_numbers a l s) (hsl_pieces n a l s h.0))
+    (run_bytes (decimal n) (hsl_texts a l s) n (hsl_numbers a l s) (hsl_slices n a l s h.0))
     (content_stops ds h.1)
     ∙ ap (λ r. OfColor (hsl_run n a l s) ∷ r) (content_items ds h.1)
 content_items (SelectColorMapEntry n ∷ ds) h =
     let small = h.0 in
-    let pieces : ArePieces (decimal n ∷ []) (n ∷ []) =
-    (decimal_piece n (omega (arith, small)), tt) in
+    let slices : AreSlices (decimal n ∷ []) (n ∷ []) =
+    (decimal_slice n (omega (arith, small)), tt) in
     ap (λ t. items_at Outside (t ++ content_text ds)) (select_text n)
-    ∙ color_item (joined (decimal n ∷ [])) (content_text ds) (run_bytes (decimal n) [] n [] pieces)
+    ∙ color_item (joined (decimal n ∷ [])) (content_text ds) (run_bytes (decimal n) [] n [] slices)
     (content_stops ds h.1)
     ∙ ap (λ r. OfColor (joined (decimal n ∷ [])) ∷ r) (content_items ds h.1)
 content_items (CarriageReturn ∷ ds) h =
@@ -414,20 +414,20 @@ text_bytes : (d : SixelData) → IsWritableData d → list_all is_data_byte (dat
 text_bytes (Data v) h = rw (pixels_byte v h) refl
 text_bytes (Repeat v n) h =
     let small = h.0 in
-    let piece = decimal_piece n (omega (arith, small)) in
+    let slice = decimal_slice n (omega (arith, small)) in
     list_all-append is_data_byte (decimal n) (pixels_text v)
-    ∙ rw (data_bytes (decimal n) (digit_bytes (decimal n) piece.digits), pixels_byte v h.1) refl
+    ∙ rw (data_bytes (decimal n) (digit_bytes (decimal n) slice.digits), pixels_byte v h.1) refl
 text_bytes (DefineColorMapRGB n c) h =
     ap (list_all is_data_byte) (rgb_text n c)
     ∙ data_bytes (rgb_run n c) (run_bytes (decimal n) (rgb_texts c) n (rgb_numbers c)
-    (rgb_pieces n c h))
+    (rgb_slices n c h))
 text_bytes (DefineColorMapHSL n a l s) h =
     ap (list_all is_data_byte) (hsl_text n a l s)
     ∙ data_bytes (hsl_run n a l s) (run_bytes (decimal n) (hsl_texts a l s) n (hsl_numbers a l s)
-    (hsl_pieces n a l s h))
+    (hsl_slices n a l s h))
 text_bytes (SelectColorMapEntry n) h =
-    let piece = decimal_piece n (omega (arith, h)) in
-    data_bytes (decimal n) (digit_bytes (decimal n) piece.digits)
+    let slice = decimal_slice n (omega (arith, h)) in
+    data_bytes (decimal n) (digit_bytes (decimal n) slice.digits)
 text_bytes CarriageReturn h = refl
 text_bytes NewLine h = refl
 

@@ -1,4 +1,4 @@
--- Pieces of data that are appended where there is room. Only private contracts cite it.
+-- Slices of data that are appended where there is room. Only private contracts cite it.
 use Rattle.std.specs.Prelude.{ℕ, ◌≡◌, ◌+◌, ◌≤◌, List, ◌++◌, Vec, length, take, vec_capacity, vec_len}
 use Rattle.std.specs.List.{All}
 use Rattle.esc_sixel.specs.Classes.{IsPixels}
@@ -9,7 +9,7 @@ pub record BeginsWithPixels (n : ℕ) (bytes : List ℕ) : Type 0 where
   pub room : n ≤ length bytes
   pub pixels : All IsPixels (take n bytes)
 
--- These n pieces of data were appended, and no memory was taken.
+-- These n slices of data were appended, and no memory was taken.
 pub record Appends {A : Type 0} (old : Vec SixelData A) (n : ℕ) (added : List SixelData)
     (new : Vec SixelData A) : Type 0 where
   pub items : new.items ≡ old.items ++ added

@@ -6,10 +6,10 @@ use Rattle.esc_sixel.specs.declared.sixel_data.SixelData.{SixelData}
 use Rattle.esc_sixel.specs.declared.sixel_data.SixelData.TheVariants.{Data, Repeat, CarriageReturn, NewLine}
 
 -- the greatest number of 32 bits
-abbrev pub most : ℕ
-most = 4294967295
+abbrev pub u32_max : ℕ
+u32_max = 4294967295
 
--- how wide the line is after a piece of data, where it was n wide
+-- how wide the line is after a slice of data, where it was n wide
 abbrev pub line_after : ℕ → SixelData → ℕ
 line_after n (Data v) = n + 1
 line_after n (Repeat v c) = n + c
@@ -44,20 +44,20 @@ last_band b f [] = f
 last_band b f (d ∷ ds) = last_band (band_after b d) (found_after b f d) ds
 
 -- the width and height of what data draws
-abbrev pub measured : List SixelData → ℕ × ℕ
-measured ds = (min (widest_after 0 ds) most, min (6 * last_band 1 0 ds) most)
+abbrev pub measured_size : List SixelData → ℕ × ℕ
+measured_size ds = (min (widest_after 0 ds) u32_max, min (6 * last_band 1 0 ds) u32_max)
 
 -- the sizes of the raster attributes, where both are there; else those of what the data draws
 abbrev pub dimensions_by : Option ℕ → Option ℕ → List SixelData → ℕ × ℕ
 dimensions_by (Some w) (Some h) ds = (w, h)
-dimensions_by w h ds = measured ds
+dimensions_by w h ds = measured_size ds
 
 abbrev pub dimensions_of : {A : Type 0} → Sixel A → ℕ × ℕ
 dimensions_of s = dimensions_by s.pixel_width s.pixel_height s.content
 
 -- the counters hold these numbers, at most the greatest of 32 bits
 pub record Has (e : Extent) (best n b f : ℕ) : Type 0 where
-  pub widest : e.widest ≡ min best most
-  pub line : e.line ≡ min n most
-  pub band : e.band ≡ min b most
-  pub last : e.last ≡ min f most
+  pub widest : e.widest ≡ min best u32_max
+  pub line : e.line ≡ min n u32_max
+  pub band : e.band ≡ min b u32_max
+  pub last : e.last ≡ min f u32_max

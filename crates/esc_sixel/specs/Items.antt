@@ -57,13 +57,13 @@ belongs InRepeat (Pixels v) = true
 belongs InRepeat c = in_run c
 belongs InRun c = in_run c
 
-abbrev pub begun : Class → Place
-begun (Introduces introducer.Repeat) = InRepeat
-begun (Introduces m) = InRun
-begun c = Outside
+abbrev pub begun_place : Class → Place
+begun_place (Introduces introducer.Repeat) = InRepeat
+begun_place (Introduces m) = InRun
+begun_place c = Outside
 
 abbrev pub place_after : Place → Class → Place
-place_after p c = if in_run c then p else begun c
+place_after p c = if in_run c then p else begun_place c
 
 -- the item that a byte begins, where these bytes follow it
 abbrev pub item_of : Class → ℕ → List ℕ → Item

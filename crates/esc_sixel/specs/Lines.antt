@@ -1,7 +1,7 @@
 -- What the parts of a line of pixels give.
 use Rattle.std.specs.Prelude.{ℕ, ◌≡◌, ◌<◌, ◌≤◌, ◌+◌, ◌-◌, ◌*◌, ◌⊎◌, List, [], ◌∷◌, None, drop, length, slice_index, take}
 use Rattle.std.specs.List.{All}
-use Rattle.esc_values.specs.Params.{held}
+use Rattle.esc_values.specs.Params.{capped_at_i64}
 use Rattle.esc_sixel.specs.Classes.{IsDigit}
 use Rattle.esc_sixel.specs.declared.parameters.Parameters.{Parameters}
 use Rattle.esc_sixel.specs.declared.sixel_data.SixelData.{SixelData}
@@ -10,7 +10,7 @@ use Rattle.esc_sixel.specs.declared.sixel_data.SixelData.TheVariants.{CarriageRe
 -- a number with these digits after its own
 abbrev pub number_after : ℕ → List ℕ → ℕ
 number_after n [] = n
-number_after n (b ∷ bs) = number_after (held (10 * n + (b - 0x30))) bs
+number_after n (b ∷ bs) = number_after (capped_at_i64 (10 * n + (b - 0x30))) bs
 
 -- the bytes from a place on
 abbrev pub rest_at : ℕ → List ℕ → List ℕ

@@ -3,7 +3,7 @@ use Rattle.std.specs.Prelude.{ℕ, ℤ, pos, negsuc, map, ◌-◌, ◌*◌, ◌/
 use Rattle.std.specs.Prelude.{Option, Some, None, option_map, unwrap_or}
 use Rattle.std.specs.Option.{is_some}
 use Rattle.std.specs.List.{flat_map, slice_get, list_any}
-use Rattle.esc_values.specs.Scalars.{and_then, when}
+use Rattle.esc_values.specs.Scalars.{and_then, some_if}
 use Rattle.esc_sixel.specs.Items.{Item, OfReturn, OfLine, OfPixels, OfRepeat, OfColor, OfRaster, OfJunk}
 use Rattle.esc_sixel.specs.Runs.{param, separators}
 use Rattle.esc_sixel.specs.declared.sixel.Sixel.{Sixel}
@@ -29,12 +29,12 @@ is_one z = false
 
 -- parameter k of raster attributes as a size, where it is there and has 32 bits
 abbrev pub size_of : List ℕ → ℕ → Option ℕ
-size_of run k = and_then (param run k) (λ n. when (nat_lt n (2 ^ 32)) n)
+size_of run k = and_then (param run k) (λ n. some_if (nat_lt n (2 ^ 32)) n)
 
 -- the width and the height, where both are there and their product is at most 100,000,000
 abbrev pub sizes_of : List ℕ → Option (ℕ × ℕ)
 sizes_of run = and_then (size_of run 2) (λ w.
-    and_then (size_of run 3) (λ h. when (nat_le (w * h) 100000000) (w, h)))
+    and_then (size_of run 3) (λ h. some_if (nat_le (w * h) 100000000) (w, h)))
 
 -- what raster attributes say of pan, pad and sizes; the sizes only where they have three `;` or
 -- more
@@ -47,7 +47,7 @@ raster_pad (OfRaster run) = Some (pos (unwrap_or (param run 1) 1))
 raster_pad i = None
 
 abbrev pub raster_sizes : Item → Option (Option (ℕ × ℕ))
-raster_sizes (OfRaster run) = when (nat_le 3 (separators run)) (sizes_of run)
+raster_sizes (OfRaster run) = some_if (nat_le 3 (separators run)) (sizes_of run)
 raster_sizes i = None
 
 -- raster attributes that have three `;` or more, and no sizes
@@ -81,8 +81,8 @@ abbrev pub repeat_of : List ℕ → ℕ → SixelData
 repeat_of run v = Repeat v (min (unwrap_or (param run 0) 1) 4294967295)
 
 -- six pixels each
-abbrev pub drawn : List ℕ → List SixelData
-drawn run = map (λ b. Data (b - 0x3f)) run
+abbrev pub drawn_data : List ℕ → List SixelData
+drawn_data run = map (λ b. Data (b - 0x3f)) run
 
 -- what an item adds to the data
 abbrev pub gives : Item → List SixelData

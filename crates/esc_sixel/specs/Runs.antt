@@ -1,9 +1,9 @@
 -- The parameters of a command: what its run of digits and `;` says.
 use Rattle.std.specs.Prelude.{ℕ, ◌+◌, ◌*◌, ◌<◌, ◌≡◌, ◌-◌, ◌==◌, min, if◌then◌else◌, List, [], ◌∷◌, get_or, set, Option, Some, None, option_map, unwrap_or}
-use Rattle.esc_values.specs.Params.{held}
+use Rattle.esc_values.specs.Params.{capped_at_i64}
 use Rattle.esc_sixel.specs.declared.parameters.Parameters.{Parameters}
 
--- The numbers of the pieces between `;`, none for an empty piece. The first piece goes on one that
+-- The numbers of the slices between `;`, none for an empty slice. The first slice goes on one that
 -- began before the run, of which n is the number, if it had digits.
 abbrev pub numbers_after : Option ℕ → List ℕ → List (Option ℕ)
 numbers_after n [] = n ∷ []
@@ -13,7 +13,7 @@ numbers_after n (b ∷ bs) = if b == 0x3b then n ∷ numbers_after None bs else 
 -- parameter k of a run, the first being 0, at most the greatest number of 64 bits with a sign; none
 -- where it is missing or empty
 abbrev pub param : List ℕ → ℕ → Option ℕ
-param run k = option_map held (get_or (numbers_after None run) k None)
+param run k = option_map capped_at_i64 (get_or (numbers_after None run) k None)
 
 -- how many `;` it has
 abbrev pub separators : List ℕ → ℕ
@@ -29,7 +29,7 @@ pub record Keeps (p : Parameters) (run : List ℕ) : Type 0 where
 abbrev pub more_digit : Parameters → ℕ → Parameters
 more_digit p b = record {
   values = set p.values p.count
-      (Some (held (10 * unwrap_or (get_or p.values p.count None) 0 + (b - 0x30))));
+      (Some (capped_at_i64 (10 * unwrap_or (get_or p.values p.count None) 0 + (b - 0x30))));
   count = p.count;
 }
 

@@ -21,11 +21,11 @@ pub data Open : Type 0 where
   In : Introducer → List ℕ → Open
 
 -- the item of a command that ends before a byte that it does not take
-abbrev pub ended : Open → List Item
-ended Closed = []
-ended (In introducer.Repeat r) = OfRepeat r None ∷ []
-ended (In introducer.Color r) = OfColor r ∷ []
-ended (In introducer.Raster r) = OfRaster r ∷ []
+abbrev pub ended_items : Open → List Item
+ended_items Closed = []
+ended_items (In introducer.Repeat r) = OfRepeat r None ∷ []
+ended_items (In introducer.Color r) = OfColor r ∷ []
+ended_items (In introducer.Raster r) = OfRaster r ∷ []
 
 -- the item of a byte outside a command, which no later byte changes
 abbrev pub alone : Class → ℕ → List Item
@@ -39,15 +39,15 @@ alone c b = OfJunk b ∷ []
 abbrev pub closed_by : Open → Class → ℕ → List Item
 closed_by Closed c b = alone c b
 closed_by (In introducer.Repeat r) (Pixels v) b = OfRepeat r (Some v) ∷ []
-closed_by (In m r) c b = if in_run c then [] else ended (In m r) ++ alone c b
+closed_by (In m r) c b = if in_run c then [] else ended_items (In m r) ++ alone c b
 
-abbrev pub opened : Class → Open
-opened (Introduces m) = In m []
-opened c = Closed
+abbrev pub opened_command : Class → Open
+opened_command (Introduces m) = In m []
+opened_command c = Closed
 
 abbrev pub open_by : Open → Class → ℕ → Open
-open_by Closed c b = opened c
-open_by (In m r) c b = if in_run c then In m (r ++ b ∷ []) else opened c
+open_by Closed c b = opened_command c
+open_by (In m r) c b = if in_run c then In m (r ++ b ∷ []) else opened_command c
 
 -- the same of bytes
 abbrev pub closed_of : Open → List ℕ → List Item
@@ -78,7 +78,7 @@ abbrev pub with_items : {A : Type 0} → Sixel A → List Item → Sixel A
 with_items s [] = s
 with_items s (i ∷ is) = with_items (with_item s i) is
 
--- the image with one more piece of data, where there is one
+-- the image with one more slice of data, where there is one
 abbrev pub add_to : {A : Type 0} → Sixel A → Option SixelData → Sixel A
 add_to s next = record s { content = s.content ++ option_to_list next }
 
@@ -120,10 +120,10 @@ WantsForData o c b =
     wants_memory (introducer_of o) c ≡ has_data (flat_map gives (closed_by o c b))
 
 -- a builder with these parameters that was pushed these bytes
-unfoldable pub LeadsTo : {A : Type 0} → List ℤ → List ℕ → SixelBuilder A → Type 0
-LeadsTo ps s b = (b.sixel ≡ sixel_of ps (closed_of Closed s))
+unfoldable pub HasConsumed : {A : Type 0} → List ℤ → List ℕ → SixelBuilder A → Type 0
+HasConsumed ps s b = (b.sixel ≡ sixel_of ps (closed_of Closed s))
     × HoldsOpen (open_of Closed s) b.introducer b.parameters
 
 -- a byte pushed to p makes q of it
 abbrev pub Pushes : {A : Type 0} → SixelBuilder A → ℕ → SixelBuilder A → Type 0
-Pushes p b q = (ps : List ℤ) (s : List ℕ) → LeadsTo ps s p → LeadsTo ps (s ++ b ∷ []) q
+Pushes p b q = (ps : List ℤ) (s : List ℕ) → HasConsumed ps s p → HasConsumed ps (s ++ b ∷ []) q

@@ -23,9 +23,9 @@ pub record TakesFirst {A : Type 0} (p : SixelBuilder A) (rest : List ℕ) (n : �
   pub few : n ≤ length rest
   pub pushes : FoldsTo Pushes p (take n rest) q
 
--- an image, and the builder of one, with one more piece of data
+-- an image, and the builder of one, with one more slice of data
 abbrev pub with_data : {A : Type 0} → Sixel A → SixelData → Sixel A
 with_data s d = record s { content = s.content ++ d ∷ [] }
 
-abbrev pub with_piece : {A : Type 0} → SixelBuilder A → SixelData → SixelBuilder A
-with_piece p d = record p { sixel = with_data p.sixel d }
+abbrev pub with_slice : {A : Type 0} → SixelBuilder A → SixelData → SixelBuilder A
+with_slice p d = record p { sixel = with_data p.sixel d }

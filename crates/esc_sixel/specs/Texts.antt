@@ -22,7 +22,7 @@ least_percent c = (100 * c + 254) / 255
 abbrev pub pixels_text : ℕ → List ℕ
 pixels_text v = (v + 0x3f) ∷ []
 
--- the text of a piece of data
+-- the text of a slice of data
 abbrev pub data_text : SixelData → List ℕ
 data_text (Data v) = pixels_text v
 data_text (Repeat v n) = codes "!" ++ decimal n ++ pixels_text v

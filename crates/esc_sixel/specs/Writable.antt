@@ -2,7 +2,7 @@
 use Rattle.std.specs.Prelude.{ℕ, ℤ, pos, negsuc, ◌≡◌, ◌<◌, ◌≤◌, ◌*◌, ◌^◌, ◌==◌, ◌||◌, Bool, true, List, [], ◌∷◌, ◌++◌, map, Option, Some, None}
 use Rattle.std.specs.List.{list_all}
 use Rattle.esc_values.specs.Clear.{parts_of}
-use Rattle.esc_values.specs.Params.{held, value_after, is_digit, is_from}
+use Rattle.esc_values.specs.Params.{capped_at_i64, value_after, is_digit, is_from}
 use Rattle.esc_sixel.specs.Items.{items}
 use Rattle.esc_sixel.specs.Meaning.{percent, sixel_of}
 use Rattle.esc_sixel.specs.Texts.{sixel_output}
@@ -66,7 +66,7 @@ is_data_byte b = is_from 0x20 0x7e b
 -- the parameters of a header: the numbers between `;`, an empty one being 0; none where there are
 -- no bytes
 abbrev pub params_of : List ℕ → List ℤ
-params_of x = map (λ p. pos (held (value_after 0 p))) (parts_of x)
+params_of x = map (λ p. pos (capped_at_i64 (value_after 0 p))) (parts_of x)
 
 -- the image is written as `ESC P`, parameters, `q` and data, which mean the image
 abbrev pub WritesBack : {A : Type 0} → Sixel A → Type 0

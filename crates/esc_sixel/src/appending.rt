@@ -4,7 +4,7 @@ ghost use Rattle.std.specs.Option.{is_some};
 ghost use Rattle.std.specs.Fmt.{decimal};
 ghost use Rattle.std.specs.List.{list_all};
 ghost use Rattle.std.specs.Str.{IsAscii};
-ghost use Rattle.memory.specs.Refusals.{Refused};
+ghost use Rattle.fallible_alloc.specs.Refusals.{Refused};
 ghost use Rattle.esc_sixel.specs.Putting.{HasRoom, Puts};
 ghost use Rattle.esc_sixel.specs.Texts.{content_text, data_text, is_sixel, sixel_text};
 
@@ -19,7 +19,7 @@ use std::alloc::{AllocError, Allocator};
 // How many bytes are gathered at most.
 pub(crate) const ROOM: usize = 128;
 
-// The room for a piece of data: up to four numbers of ten digits, and what is between them.
+// The room for a slice of data: up to four numbers of ten digits, and what is between them.
 const MOST: usize = 46;
 
 impl<A: Allocator> Sixel<A> {
@@ -103,7 +103,7 @@ fn put_pixels(bytes: &mut [u8; ROOM], at: usize, content: &[SixelData]) -> usize
     count
 }
 
-// Puts the text of a piece of data at this place, and returns the place after it; none where a
+// Puts the text of a slice of data at this place, and returns the place after it; none where a
 // value is over 63.
 #[inline]
 pub(crate) fn put(bytes: &mut [u8; ROOM], at: usize, item: SixelData) -> Option<usize>

@@ -2,15 +2,15 @@
 ghost use Rattle.std.specs.Prelude.{◌≡◌, ◌<◌, ◌≤◌, IfOk, IfSome, ℕ, ℤ, length, take, List, [], ◌∷◌, ◌++◌, OnOk, OnErr, Some, None, false, true};
 ghost use Rattle.std.specs.List.{FoldsTo, slice_get};
 ghost use Rattle.std.specs.Option.{is_some};
-ghost use Rattle.memory.specs.Refusals.{Refused};
+ghost use Rattle.fallible_alloc.specs.Refusals.{Refused};
 ghost use Rattle.esc_sixel.specs.Classes.{class_of};
 ghost use Rattle.esc_sixel.specs.Items.{items, OfRaster, OfColor};
 ghost use Rattle.esc_sixel.specs.Meaning.{sixel_of, header_pan, is_one};
 ghost use Rattle.esc_sixel.specs.Runs.{Keeps};
 ghost use Rattle.esc_sixel.specs.declared.class.Class.TheVariants.{Pixels};
-ghost use Rattle.esc_sixel.specs.Steps.{add_to, ended, alone, LeadsTo, HoldsOpen, In, Pushes, closed_by, open_by, opened, with_item, with_items};
+ghost use Rattle.esc_sixel.specs.Steps.{add_to, ended_items, alone, HasConsumed, HoldsOpen, In, Pushes, closed_by, open_by, opened_command, with_item, with_items};
 ghost use Rattle.esc_sixel.specs.Steps.{Closed, gives_at_end, is_data, wants_memory};
-ghost use Rattle.esc_sixel.specs.Taking.{AreOutside, ComesOutside, TakesFirst, with_piece};
+ghost use Rattle.esc_sixel.specs.Taking.{AreOutside, ComesOutside, TakesFirst, with_slice};
 ghost use Rattle.esc_sixel.specs.declared.introducer.Introducer.TheVariants.{Color};
 
 use crate::class::{Class, classify};
@@ -47,7 +47,7 @@ pub struct SixelBuilder<A: Allocator = Global> {
     parameters: Parameters,
 }
 
-// For how many pieces of data memory is taken before they come. Many bytes can give few of them.
+// For how many slices of data memory is taken before they come. Many bytes can give few of them.
 const MOST_ROOM: usize = 4096;
 
 // The pan that the first parameter of a header means.
@@ -88,9 +88,9 @@ impl<A: Allocator> SixelBuilder<A> {
     /// The first means pan: 7, 8 and 9 mean 1; 0, 1, 5 and 6 mean 2; 3 and 4 mean 3; 2 means 5; any
     /// other, or none, 2. Where the second is 1 the background is transparent. The third is the
     /// horizontal grid size.
-    #[tactic(auto, unfolding(crate::specs::Steps::LeadsTo))]
+    #[tactic(auto, unfolding(crate::specs::Steps::HasConsumed))]
     pub fn new(alloc: A, params: &[i64]) -> SixelBuilder<A>
-        ensures { LeadsTo params.now [] result }
+        ensures { HasConsumed params.now [] result }
     {
         SixelBuilder {
             sixel: Sixel {
@@ -111,8 +111,8 @@ impl<A: Allocator> SixelBuilder<A> {
     /// ends a `#`. The error is that it was refused, and the builder stays as it was.
     #[inline(always)]
     pub fn push(&mut self, byte: u8) -> Result<(), AllocError>
-        ensures ok { (ps : List ℤ) (s : List ℕ) → LeadsTo ps s self.old
-            → OnOk result (LeadsTo ps (s ++ byte ∷ []) self.new) }
+        ensures ok { (ps : List ℤ) (s : List ℕ) → HasConsumed ps s self.old
+            → OnOk result (HasConsumed ps (s ++ byte ∷ []) self.new) }
         ensures err { OnErr result (self.new ≡ self.old) }
         ensures refused { OnErr result (Refused A) }
         ensures asks { OnErr result (wants_memory self.old.introducer (class_of byte) ≡ true) }
@@ -124,12 +124,12 @@ impl<A: Allocator> SixelBuilder<A> {
     }
 
     /// These bytes of the data, as `push` of each takes them. Memory for what they can give is
-    /// taken first, for up to 4096 pieces of data. The error is that memory was refused; the
+    /// taken first, for up to 4096 slices of data. The error is that memory was refused; the
     /// builder has then taken none of them, or those before the bytes that needed more of it.
     pub fn push_run(&mut self, bytes: &[u8]) -> Result<(), AllocError>
         ensures each { OnOk result (FoldsTo Pushes self.old bytes.now self.new) }
-        ensures ok { (ps : List ℤ) (s : List ℕ) → LeadsTo ps s self.old
-            → OnOk result (LeadsTo ps (s ++ bytes.now) self.new) }
+        ensures ok { (ps : List ℤ) (s : List ℕ) → HasConsumed ps s self.old
+            → OnOk result (HasConsumed ps (s ++ bytes.now) self.new) }
         ensures err { OnErr result ((n : ℕ) × (n < length bytes.now)
             × FoldsTo Pushes self.old (take n bytes.now) self.new) }
         ensures refused { OnErr result (Refused A) }
@@ -137,7 +137,7 @@ impl<A: Allocator> SixelBuilder<A> {
         if bytes.is_empty() {
             return Ok(());
         }
-        // A byte gives one piece of data or none, but for the first after a colour.
+        // A byte gives one slice of data or none, but for the first after a colour.
         make_room(
             &mut self.sixel.content,
             &bytes[..bytes.len().min(MOST_ROOM)],
@@ -246,7 +246,7 @@ impl<A: Allocator> SixelBuilder<A> {
     fn repeated(&self, rest: &[u8]) -> Option<(SixelData, usize)>
         requires { AreOutside self.now rest.now }
         ensures { IfSome result (λ r. TakesFirst self.now rest.now r.1
-            (with_piece self.now r.0)) }
+            (with_slice self.now r.0)) }
     {
         if rest[0] != b'!' {
             return None;
@@ -268,7 +268,7 @@ impl<A: Allocator> SixelBuilder<A> {
     #[inline(always)]
     fn defined(&self, rest: &[u8]) -> Option<(SixelData, usize)>
         ensures { IfSome result (λ r. TakesFirst self.now rest.now r.1
-            (with_piece self.now r.0)) }
+            (with_slice self.now r.0)) }
     {
         let Some(Introducer::Color) = self.introducer else {
             return None;
@@ -306,8 +306,8 @@ impl<A: Allocator> SixelBuilder<A> {
     /// dropped. Takes memory only where a `#` is open. The error is that it was refused, and the
     /// builder stays as it was.
     pub fn finish(&mut self) -> Result<(), AllocError>
-        ensures ok { (ps : List ℤ) (s : List ℕ) → LeadsTo ps s self.old
-            → OnOk result (LeadsTo ps (s ++ 0 ∷ []) self.new
+        ensures ok { (ps : List ℤ) (s : List ℕ) → HasConsumed ps s self.old
+            → OnOk result (HasConsumed ps (s ++ 0 ∷ []) self.new
             × (self.new.sixel ≡ sixel_of ps (items s))) }
         ensures err { OnErr result (self.new ≡ self.old) }
         ensures refused { OnErr result (Refused A) }
@@ -362,7 +362,7 @@ impl<A: Allocator> SixelBuilder<A> {
     ) -> Result<(), AllocError>
         ensures ok { (r : List ℕ) → Keeps self.old.parameters r
             → OnOk result (self.new.sixel
-            ≡ add_to (with_items self.old.sixel (ended (In introducer r))) next) }
+            ≡ add_to (with_items self.old.sixel (ended_items (In introducer r))) next) }
         ensures err { OnErr result (self.new ≡ self.old) }
         ensures refused { OnErr result (Refused A) }
         ensures asks { OnErr result (gives_at_end introducer (is_some next) ≡ true) }
@@ -378,7 +378,8 @@ impl<A: Allocator> SixelBuilder<A> {
     fn end(&mut self, introducer: Introducer, next: Option<SixelData>) -> Result<(), AllocError>
         ensures ok { (r : List ℕ) → Keeps self.old.parameters r
             → OnOk result
-            ((self.new.sixel ≡ add_to (with_items self.old.sixel (ended (In introducer r))) next)
+            ((self.new.sixel ≡ add_to (with_items self.old.sixel (ended_items (In introducer r)))
+            next)
             × (self.new.introducer ≡ None)) }
         ensures err { OnErr result (self.new ≡ self.old) }
         ensures refused { OnErr result (Refused A) }
@@ -393,7 +394,8 @@ impl<A: Allocator> SixelBuilder<A> {
     fn end_and_begin(&mut self, introducer: Introducer, begun: Introducer) -> Result<(), AllocError>
         ensures ok { (r : List ℕ) → Keeps self.old.parameters r
             → OnOk result
-            ((self.new.sixel ≡ add_to (with_items self.old.sixel (ended (In introducer r))) None)
+            ((self.new.sixel ≡ add_to (with_items self.old.sixel (ended_items (In introducer r)))
+            None)
             × HoldsOpen (In begun []) self.new.introducer self.new.parameters) }
         ensures err { OnErr result (self.new ≡ self.old) }
         ensures refused { OnErr result (Refused A) }
@@ -463,7 +465,7 @@ impl<A: Allocator> SixelBuilder<A> {
     fn push_alone(&mut self, byte: u8) -> Result<(), AllocError>
         ensures ok { (b : ℕ) → HoldsOpen Closed self.old.introducer self.old.parameters
             → OnOk result ((self.new.sixel ≡ with_items self.old.sixel (alone (class_of byte) b))
-            × HoldsOpen (opened (class_of byte)) self.new.introducer self.new.parameters) }
+            × HoldsOpen (opened_command (class_of byte)) self.new.introducer self.new.parameters) }
         ensures err { OnErr result (self.new ≡ self.old) }
         ensures refused { OnErr result (Refused A) }
         ensures asks { OnErr result (is_data (class_of byte) ≡ true) }

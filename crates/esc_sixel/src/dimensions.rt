@@ -1,6 +1,6 @@
 //! How large the data of a sixel image is.
 ghost use Rattle.std.specs.Prelude.{◌≡◌, ℕ, max, ◌+◌};
-ghost use Rattle.esc_sixel.specs.Dimensions.{Has, line_after, band_after, found_after, measured};
+ghost use Rattle.esc_sixel.specs.Dimensions.{Has, line_after, band_after, found_after, measured_size};
 
 use crate::sixel_data::SixelData;
 
@@ -28,7 +28,7 @@ impl Extent {
         self.last = self.band;
     }
 
-    // One more piece of data.
+    // One more slice of data.
     fn step(&mut self, item: &SixelData)
         ensures { (best n b f : ℕ) → Has self.old best n b f
             → Has self.new (max best (line_after n item.now)) (line_after n item.now)
@@ -71,7 +71,7 @@ impl Extent {
 
 // The width and height of what the data draws.
 pub(crate) fn measure(content: &[SixelData]) -> (u32, u32)
-    ensures { result ≡ measured content.now }
+    ensures { result ≡ measured_size content.now }
 {
     let mut extent = Extent {
         widest: 0,

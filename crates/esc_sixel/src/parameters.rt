@@ -4,7 +4,7 @@ ghost use Rattle.std.specs.List.{All};
 ghost use Rattle.esc_sixel.specs.Classes.{IsDigit};
 ghost use Rattle.esc_sixel.specs.Lines.{fresh};
 ghost use Rattle.esc_sixel.specs.Runs.{Keeps, more_digits, param, separators};
-ghost use Rattle.esc_values.specs.Params.{held};
+ghost use Rattle.esc_values.specs.Params.{capped_at_i64};
 
 // The first five parameters of a run of digits and `;`. Takes no memory.
 #[derive(Clone, Copy)]
@@ -106,7 +106,7 @@ impl Parameters {
 #[inline(always)]
 fn with_digit(number: u64, digit: u8) -> u64
     requires { digit < 10 }
-    ensures { result ≡ held (10 * number + digit) }
+    ensures { result ≡ capped_at_i64 (10 * number + digit) }
 {
     // Below a tenth of the bound, no sum can pass it.
     if number < 0x7fff_ffff_ffff_ffff / 10 {

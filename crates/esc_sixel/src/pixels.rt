@@ -1,11 +1,11 @@
 //! Six pixels, many times.
 ghost use Rattle.std.specs.Prelude.{◌≡◌, ◌<◌, ◌≤◌, ◌+◌, ◌++◌, ◌∷◌, [], length, map, take, drop, IfSome, OnOk, OnErr, vec_len, vec_capacity};
 ghost use Rattle.std.specs.List.{All};
-ghost use Rattle.memory.specs.Refusals.{Refused};
+ghost use Rattle.fallible_alloc.specs.Refusals.{Refused};
 ghost use Rattle.esc_sixel.specs.Appending.{Appends, BeginsWithPixels};
 ghost use Rattle.esc_sixel.specs.Classes.{IsPixels, lowest};
 ghost use Rattle.esc_sixel.specs.Lines.{Ends};
-ghost use Rattle.esc_sixel.specs.Meaning.{drawn};
+ghost use Rattle.esc_sixel.specs.Meaning.{drawn_data};
 ghost use Rattle.esc_sixel.specs.declared.sixel_data.SixelData.TheVariants.{Data};
 
 use crate::sixel_data::SixelData;
@@ -79,7 +79,7 @@ fn put<A: Allocator>(vec: &mut Vec<SixelData, A>, value: u8)
 #[inline(always)]
 fn values_of(block: &[u8]) -> [u8; 8]
     requires { BeginsWithPixels 8 block.now }
-    ensures { map Data result ≡ drawn (take 8 block.now) }
+    ensures { map Data result ≡ drawn_data (take 8 block.now) }
 {
     (u8x8::from_slice(block) - u8x8::splat(0x3f)).to_array()
 }
@@ -88,7 +88,7 @@ fn values_of(block: &[u8]) -> [u8; 8]
 #[inline(always)]
 fn four_values_of(block: &[u8]) -> [u8; 4]
     requires { BeginsWithPixels 4 block.now }
-    ensures { map Data result ≡ drawn (take 4 block.now) }
+    ensures { map Data result ≡ drawn_data (take 4 block.now) }
 {
     (u8x4::from_slice(block) - u8x4::splat(0x3f)).to_array()
 }
@@ -120,7 +120,7 @@ fn put_block<A: Allocator>(vec: &mut Vec<SixelData, A>, values: [u8; 8])
 fn put_two<A: Allocator>(vec: &mut Vec<SixelData, A>, block: &[u8])
     requires room { vec_len vec.old + 2 ≤ vec_capacity vec.old }
     requires pixels { BeginsWithPixels 2 block.now }
-    ensures { Appends vec.old 2 (drawn (take 2 block.now)) vec.new }
+    ensures { Appends vec.old 2 (drawn_data (take 2 block.now)) vec.new }
 {
     put(vec, block[0] - 0x3f);
     put(vec, block[1] - 0x3f);
@@ -131,7 +131,7 @@ fn put_two<A: Allocator>(vec: &mut Vec<SixelData, A>, block: &[u8])
 fn fill<A: Allocator>(vec: Vec<SixelData, A>, run: &[u8]) -> Vec<SixelData, A>
     requires room { vec_len vec + length run.now ≤ vec_capacity vec }
     requires pixels { All IsPixels run.now }
-    ensures { result.items ≡ vec.items ++ drawn run.now }
+    ensures { result.items ≡ vec.items ++ drawn_data run.now }
 {
     let mut vec = vec;
     let mut at = 0;
@@ -170,13 +170,13 @@ fn append_line<A: Allocator>(
 ) -> (Items<SixelData, A>, Result<(), AllocError>)
     requires { All IsPixels line.now.run.now }
     ensures ok { OnOk result.1 (result.0 ≡ items ++ line.now.selected ∷ line.now.repeated
-        ∷ drawn line.now.run.now) }
+        ∷ drawn_data line.now.run.now) }
     ensures err { OnErr result.1 (result.0 ≡ items) }
     ensures refused { OnErr result.1 (Refused A) }
 {
     let run = line.run;
     let mut vec = items.into_vec();
-    match memory::reserve_for(&mut vec, run, 3) {
+    match fallible_alloc::reserve_for(&mut vec, run, 3) {
         Ok(()) => {
             vec.push_reserved(line.selected);
             vec.push_reserved(line.repeated);
@@ -195,7 +195,7 @@ pub(crate) fn push_line<A: Allocator>(
 ) -> Result<(), AllocError>
     requires { All IsPixels line.now.run.now }
     ensures ok { OnOk result (items.new ≡ items.old ++ line.now.selected ∷ line.now.repeated
-        ∷ drawn line.now.run.now) }
+        ∷ drawn_data line.now.run.now) }
     ensures err { OnErr result (items.new ≡ items.old) }
     ensures refused { OnErr result (Refused A) }
 {
@@ -211,7 +211,7 @@ fn with_room<A: Allocator>(
     ensures refused { OnErr result.1 (Refused A) }
 {
     let mut vec = items.into_vec();
-    let result = memory::reserve_for(&mut vec, bytes, 0);
+    let result = fallible_alloc::reserve_for(&mut vec, bytes, 0);
     (Items::from_vec(vec), result)
 }
 
@@ -234,12 +234,12 @@ fn append<A: Allocator>(
     run: &[u8],
 ) -> (Items<SixelData, A>, Result<(), AllocError>)
     requires { All IsPixels run.now }
-    ensures ok { OnOk result.1 (result.0 ≡ items ++ drawn run.now) }
+    ensures ok { OnOk result.1 (result.0 ≡ items ++ drawn_data run.now) }
     ensures err { OnErr result.1 (result.0 ≡ items) }
     ensures refused { OnErr result.1 (Refused A) }
 {
     let mut vec = items.into_vec();
-    match memory::reserve_for(&mut vec, run, 1) {
+    match fallible_alloc::reserve_for(&mut vec, run, 1) {
         Ok(()) => (Items::from_vec(fill(vec, run)), Ok(())),
         Err(error) => (Items::from_vec(vec), Err(error)),
     }
@@ -253,7 +253,7 @@ pub(crate) fn push_pixels<A: Allocator>(
     run: &[u8],
 ) -> Result<(), AllocError>
     requires { All IsPixels run.now }
-    ensures ok { OnOk result (items.new ≡ items.old ++ drawn run.now) }
+    ensures ok { OnOk result (items.new ≡ items.old ++ drawn_data run.now) }
     ensures err { OnErr result (items.new ≡ items.old) }
     ensures refused { OnErr result (Refused A) }
 {

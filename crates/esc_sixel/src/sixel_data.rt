@@ -10,7 +10,7 @@ use std::fmt;
 /// pixel.
 pub type SixelValue = u8;
 
-/// A piece of sixel data.
+/// A slice of sixel data.
 #[derive(Clone, Copy, PartialEq, Eq)]
 pub enum SixelData {
     /// Six pixels, a byte from `?` to `~`.

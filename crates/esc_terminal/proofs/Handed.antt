@@ -6,17 +6,17 @@ use Rattle.std.proofs.lemmas.Fn.{FoldsTo-push}
 use Rattle.std.proofs.lemmas.List.{map-append, map_more, replicate_more}
 use Rattle.std.proofs.lemmas.Option.{none-some}
 use Rattle.esc_values.specs.declared.csi_param.CsiParam.{CsiParam}
-use Rattle.esc_typed.specs.Choices.{cursor_tabulation_control_at, tabulation_clear_at}
-use Rattle.esc_typed.specs.Functions.{Value as Function, charset, cursor, device, edit, escape, keyboard, modes, mode_status, mouse, other, renditions, tabs, window}
-use Rattle.esc_typed.specs.declared.cursor_tabulation_control.CursorTabulationControl.{CursorTabulationControl}
-use Rattle.esc_typed.specs.declared.cursor_tabulation_control.CursorTabulationControl.TheVariants as tab
-use Rattle.esc_typed.specs.declared.mode_change.ModeChange.{ModeChange}
-use Rattle.esc_typed.specs.declared.mode_change.ModeChange.TheVariants as changes
-use Rattle.esc_typed.specs.declared.tab_change.TabChange.{TabChange}
-use Rattle.esc_typed.specs.declared.tab_change.TabChange.TheVariants as tab_changes
-use Rattle.esc_typed.specs.declared.tabulation_clear.TabulationClear.{TabulationClear}
-use Rattle.esc_typed.specs.declared.tabulation_clear.TabulationClear.TheVariants as clear
-use Rattle.esc_looks.specs.declared.look.Look.{Look}
+use Rattle.typed_functions.specs.Choices.{cursor_tabulation_control_at, tabulation_clear_at}
+use Rattle.typed_functions.specs.Functions.{Value as Function, charset, cursor, device, edit, escape, keyboard, modes, mode_status, mouse, other, renditions, tabs, window}
+use Rattle.typed_functions.specs.declared.cursor_tabulation_control.CursorTabulationControl.{CursorTabulationControl}
+use Rattle.typed_functions.specs.declared.cursor_tabulation_control.CursorTabulationControl.TheVariants as tab
+use Rattle.typed_functions.specs.declared.mode_change.ModeChange.{ModeChange}
+use Rattle.typed_functions.specs.declared.mode_change.ModeChange.TheVariants as changes
+use Rattle.typed_functions.specs.declared.tab_change.TabChange.{TabChange}
+use Rattle.typed_functions.specs.declared.tab_change.TabChange.TheVariants as tab_changes
+use Rattle.typed_functions.specs.declared.tabulation_clear.TabulationClear.{TabulationClear}
+use Rattle.typed_functions.specs.declared.tabulation_clear.TabulationClear.TheVariants as clear
+use Rattle.esc_style.specs.declared.look.Look.{Look}
 use Rattle.esc_screen.specs.Grids.{Grid, Size}
 use Rattle.esc_screen.specs.Scrolled.{gone_by, joined_by, off_by, off_each, off_from}
 use Rattle.esc_screen.specs.Steps.{grid_by, grid_from}

@@ -1,11 +1,11 @@
 -- What a character that is printed leaves of a grid.
 use Rattle.std.proofs.Common.{ℕ, ◌≡◌, ◌+◌, ◌-◌, ◌==◌, Bool, true, false, List, ◌++◌, length, map, take, drop, if◌then◌else◌, refl, ap, sym, ◌∙◌, length-append, arith}
 use Rattle.std.proofs.lemmas.List.{length-map, length-set, take-append-drop}
-use Rattle.esc_screen.specs.Cells.{cleared}
+use Rattle.esc_screen.specs.Cells.{cleared_cells}
 use Rattle.esc_screen.specs.Cursors.{shown}
-use Rattle.esc_screen.specs.Grids.{Grid, Size, line_fed, moved}
+use Rattle.esc_screen.specs.Grids.{Grid, Size, line_fed, grid_at}
 use Rattle.esc_screen.specs.Lists.{in_part, moved_up}
-use Rattle.esc_screen.specs.Printing.{joined, narrow_printed, opened, printed, wrapped}
+use Rattle.esc_screen.specs.Printing.{joined, narrow_printed, grid_with_room, grid_with_character, wrapped_grid}
 
 -- ---- lengths
 
@@ -56,7 +56,7 @@ kept_same g = record {
   rest = refl;
 }
 
-kept_moved : (r n : ℕ) (g : Grid) → IsKept g (moved r n g)
+kept_moved : (r n : ℕ) (g : Grid) → IsKept g (grid_at r n g)
 kept_moved r n g = record {
   count = refl;
   rest = refl;
@@ -65,9 +65,9 @@ kept_moved r n g = record {
 kept_fed : (s : Size) (g : Grid) → IsKept g (line_fed s g)
 kept_fed s g = kept_if (g.cursor.row + 1 == g.bottom) g _ _
     (record {
-      count = length_part g.top g.bottom (moved_up 1 (map (cleared g.cursor.erased))) g.rows
-          (λ xs. length_up 1 (map (cleared g.cursor.erased)) xs
-          (λ ys. length-map ys (cleared g.cursor.erased)));
+      count = length_part g.top g.bottom (moved_up 1 (map (cleared_cells g.cursor.erased))) g.rows
+          (λ xs. length_up 1 (map (cleared_cells g.cursor.erased)) xs
+          (λ ys. length-map ys (cleared_cells g.cursor.erased)));
       rest = refl;
     })
     (record {
@@ -81,7 +81,7 @@ kept_joined g = record {
   rest = refl;
 }
 
-kept_wrapped : (s : Size) (g : Grid) → IsKept g (wrapped s g)
+kept_wrapped : (s : Size) (g : Grid) → IsKept g (wrapped_grid s g)
 kept_wrapped s g = let f = line_fed s (joined g) in kept_if g.cursor.pending g _ _
     (kept_if g.modes.wraps g _ _
     (kept_then g (joined g) _ (kept_joined g)
@@ -89,7 +89,7 @@ kept_wrapped s g = let f = line_fed s (joined g) in kept_if g.cursor.pending g _
     (kept_moved g.cursor.row g.cursor.column g))
     (kept_same g)
 
-kept_opened : (s : Size) (n : ℕ) (g : Grid) → IsKept g (opened s n g)
+kept_opened : (s : Size) (n : ℕ) (g : Grid) → IsKept g (grid_with_room s n g)
 kept_opened s n g = kept_if g.modes.inserts g _ _
     (record {
       count = length-set g.rows g.cursor.row _;
@@ -97,7 +97,7 @@ kept_opened s n g = kept_if g.modes.inserts g _ _
     })
     (kept_same g)
 
-kept_printed : (s : Size) (c : ℕ) (g : Grid) → IsKept g (printed s c g)
+kept_printed : (s : Size) (c : ℕ) (g : Grid) → IsKept g (grid_with_character s c g)
 kept_printed s c g = record {
   count = length-set g.rows g.cursor.row _;
   rest = refl;
@@ -105,7 +105,7 @@ kept_printed s c g = record {
 
 pub kept_narrow : (s : Size) (c : ℕ) (g : Grid) → IsKept g (narrow_printed s c g)
 kept_narrow s c g =
-    let w = wrapped s g in
-    let o = opened s 1 w in
+    let w = wrapped_grid s g in
+    let o = grid_with_room s 1 w in
     kept_then g w _ (kept_wrapped s g)
     (kept_then w o _ (kept_opened s 1 w) (kept_printed s (shown w.cursor c) o))

@@ -6,14 +6,14 @@ use Rattle.std.proofs.lemmas.Bool.{and_parts, true≢false}
 use Rattle.std.proofs.lemmas.Bool.Decides.{nat_tests}
 use Rattle.std.proofs.lemmas.List.{with_items_is}
 use Rattle.memchr.specs.Find.{is_byte}
-use Rattle.memory.specs.Refusals.{Refused}
+use Rattle.fallible_alloc.specs.Refusals.{Refused}
 use Rattle.unicode_width.specs.Width.{char_width}
 use Rattle.esc_values.specs.Params.{is_from}
 use Rattle.esc_values.specs.declared.csi_param.CsiParam.{CsiParam}
 use Rattle.esc_frame.specs.Scans.{is_text_byte}
 use Rattle.esc_sequences.specs.Csis.{CsiValue, csi_of, unspecified}
 use Rattle.esc_sequences.specs.declared.csi.CSI.TheVariants as csi_variant
-use Rattle.esc_typed.specs.Functions.{of_params}
+use Rattle.typed_functions.specs.Functions.{of_params}
 use Rattle.esc_actions.specs.Values.{csi, value_of}
 use Rattle.esc_actions.specs.declared.action.Action.{Action}
 use Rattle.esc_actions.specs.declared.action.Action.TheVariants as action

@@ -9,8 +9,8 @@ use Rattle.esc_actions.proofs.Meanings.{meaning_more}
 use Rattle.esc_actions.specs.Meaning.{yield_within}
 use Rattle.esc_actions.specs.Values.{Value, value_of, print, string, control, esc, csi, osc, kitty, sixel, termcap, short, enter, datum, exit}
 use Rattle.esc_actions.specs.declared.action.Action.{Action}
-use Rattle.esc_typed.specs.Functions.{Value as Function}
-use Rattle.esc_looks.specs.declared.look.Look.{Look}
+use Rattle.typed_functions.specs.Functions.{Value as Function}
+use Rattle.esc_style.specs.declared.look.Look.{Look}
 use Rattle.esc_screen.specs.Grids.{Grid, Size}
 use Rattle.esc_screen.specs.Screens.{Becomes, grid_of, size_of}
 use Rattle.esc_screen.specs.Scrolled.{gone_by, joined_by, off_by, off_each, off_from, parts_of}
@@ -18,11 +18,11 @@ use Rattle.esc_screen.specs.Steps.{grid_by, grid_from}
 use Rattle.esc_screen.specs.declared.screen.Screen.{Screen}
 use Rattle.esc_screen.specs.declared.step.Step.{Step}
 use Rattle.esc_screen.proofs.Joined.{gone_joined, joins_once}
-use Rattle.esc_screen.proofs.Runs.{in_pieces}
+use Rattle.esc_screen.proofs.Runs.{in_chunks}
 use Rattle.esc_screen.proofs.Scrolling.{in_parts}
 use Rattle.esc_terminal.specs.Fed.{Does, Shows, Takes, TakesAll, TakesValue, looks_in, requests_in, shown_in}
 use Rattle.esc_terminal.specs.Kept.{HandsOut, KeepsAction, KeepsFunction, KeepsStep}
-use Rattle.esc_terminal.specs.Requests.{function_request, listed}
+use Rattle.esc_terminal.specs.Requests.{function_request, request_list}
 use Rattle.esc_terminal.specs.Scrolled.{GoesOffOn, Row, off_after, off_by_value, with_looks}
 use Rattle.esc_terminal.specs.Steps.{one_step}
 use Rattle.esc_terminal.specs.Streams.{Shown, first_shown, shown_after, shown_by, shown_of, values_of}
@@ -92,7 +92,7 @@ stepped_more takes p j k x n u t so on out b =
     let grid = on.grid ∙ ap (λ z. joined_by z (grid_of j.state.screen) x) so.screen.size
     ∙ ap (λ z. joined_by s z x) so.screen.grid in
     let more : grid_by s h x ≡ grid_from s g (replicate (n + 1) x) =
-    sym (in_pieces s g (replicate n x) (x ∷ [])) ∙ ap (grid_from s g) (replicate_more n x) in
+    sym (in_chunks s g (replicate n x) (x ∷ [])) ∙ ap (grid_from s g) (replicate_more n x) in
     let last = joined_rows takes j k x u s h ls size grid so.looks out in
     record {
       screen = record {
@@ -134,11 +134,11 @@ stepped_all takes p q x y n is so =
 
 pub step_kept : {R A : Type 0} (takes : R → Row → R → Type 0) (p j q : Keeping R A) (x : Step)
     (f : Function) → one_step p.state.screen.cursor f ≡ Some x → KeepsStep takes p x j
-    → Does j.state [] (looks_in j.state) j.state.title (listed (function_request f)) q.state
+    → Does j.state [] (looks_in j.state) j.state.title (request_list (function_request f)) q.state
     → q.rows ≡ j.rows → KeepsFunction takes p f q
 step_kept takes p j q x f is (h, out) k rows =
     let ls = looks_in p.state in
-    let rs = listed (function_request f) in
+    let rs = request_list (function_request f) in
     let one = one_is ls p.state.screen.cursor f x is in
     let s = size_of p.state.screen in
     let g = grid_of p.state.screen in (

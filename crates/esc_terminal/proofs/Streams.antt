@@ -7,7 +7,7 @@ use Rattle.esc_actions.specs.Values.{Value, value_of, print, string, control, es
 use Rattle.esc_actions.specs.declared.action.Action.{Action}
 use Rattle.esc_parse.specs.Given.{At, StopsAt}
 use Rattle.esc_parse.specs.Images.{is_image}
-use Rattle.esc_looks.specs.Looks.{plain_look}
+use Rattle.esc_style.specs.Looks.{plain_look}
 use Rattle.esc_screen.specs.Grids.{Size, first_grid}
 use Rattle.esc_screen.specs.Screens.{grid_of, size_of}
 use Rattle.esc_screen.specs.Halves.{HasWholeRows}

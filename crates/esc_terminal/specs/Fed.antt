@@ -3,14 +3,14 @@ use Rattle.std.specs.Prelude.{ℕ, ◌≡◌, false, true, List, [], ◌++◌, I
 use Rattle.esc_actions.specs.Meaning.{yield_within}
 use Rattle.esc_actions.specs.Values.{Value, value_of}
 use Rattle.esc_actions.specs.declared.action.Action.{Action}
-use Rattle.esc_looks.specs.declared.look.Look.{Look}
-use Rattle.esc_parse.specs.Fed.{WasFedWithin}
-use Rattle.esc_typed.specs.Functions.{Value as Function}
+use Rattle.esc_style.specs.declared.look.Look.{Look}
+use Rattle.esc_parse.specs.Fed.{ParserHasConsumedWithin}
+use Rattle.typed_functions.specs.Functions.{Value as Function}
 use Rattle.esc_screen.specs.Grids.{Size}
 use Rattle.esc_screen.specs.Screens.{Becomes, grid_of, size_of}
 use Rattle.esc_screen.specs.Steps.{grid_from}
 use Rattle.esc_screen.specs.declared.step.Step.{Step}
-use Rattle.esc_terminal.specs.Requests.{function_request, listed, requests_of}
+use Rattle.esc_terminal.specs.Requests.{function_request, request_list, requests_of}
 use Rattle.esc_terminal.specs.Steps.{function_looks, function_steps, looks_by, steps_of}
 use Rattle.esc_terminal.specs.Streams.{Shown, asked_by, shown_of, title_by}
 use Rattle.esc_terminal.specs.declared.request.Request.{Request}
@@ -51,7 +51,7 @@ TakesFunction p f q = Does p (function_steps (looks_in p) p.screen.cursor f)
 -- and what it asks for too
 abbrev pub TakesAll : {A : Type 0} → State A → Function → State A → Type 0
 TakesAll p f q = Does p (function_steps (looks_in p) p.screen.cursor f)
-    (function_looks (looks_in p) p.screen.cursor f) p.title (listed (function_request f)) q
+    (function_looks (looks_in p) p.screen.cursor f) p.title (request_list (function_request f)) q
 
 -- a value does what its steps do
 abbrev pub TakesValue : {A : Type 0} → State A → Value A → State A → Type 0
@@ -68,13 +68,13 @@ pub record Shows {A : Type 0} (z : Size) (s : List ℕ) (p : State A) : Type 0 w
   pub size : size_of p.screen ≡ z
 
 -- the terminal, of this size, was fed these bytes
-pub record WasFed {A : Type 0} (z : Size) (s : List ℕ) (t : Terminal A) : Type 0 where
-  pub parser : WasFedWithin (Some 0x1000) s t.parser
+pub record HasConsumed {A : Type 0} (z : Size) (s : List ℕ) (t : Terminal A) : Type 0 where
+  pub parser : ParserHasConsumedWithin (Some 0x1000) s t.parser
   pub state : IsSomeAnd t.state (Shows z s)
 
 -- so many columns and rows
-abbrev pub sized : ℕ → ℕ → Size
-sized columns rows = record {
+abbrev pub screen_size : ℕ → ℕ → Size
+screen_size columns rows = record {
   rows = rows;
   columns = columns;
   returns = false;
@@ -82,7 +82,7 @@ sized columns rows = record {
 
 -- and LF returns to the first column
 abbrev pub for_log : ℕ → ℕ → Size
-for_log columns rows = record (sized columns rows) { returns = true }
+for_log columns rows = record (screen_size columns rows) { returns = true }
 
 -- an earlier call was refused memory
 abbrev pub IsBroken : {A : Type 0} → Terminal A → Type 0
@@ -107,9 +107,9 @@ title_in (Some p) = p.title
 
 -- this holds of each stream that the terminal may have been fed
 abbrev pub After : {A : Type 0} → Terminal A → (Size → List ℕ → Type 0) → Type 0
-After t C = (z : Size) (s : List ℕ) → WasFed z s t → C z s
+After t C = (z : Size) (s : List ℕ) → HasConsumed z s t → C z s
 
 -- the terminal, which was fed s, was fed b too, and has the requests that b adds
 abbrev pub TakesIn : {A : Type 0} → Size → List ℕ → List ℕ → Terminal A → Type 0
-TakesIn {A} z s b t = WasFed z (s ++ b) t
+TakesIn {A} z s b t = HasConsumed z (s ++ b) t
     × (requests_now t ≡ asked_by (yield_within {A = A} (Some 0x1000) s b))

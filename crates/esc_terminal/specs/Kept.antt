@@ -4,7 +4,7 @@ use Rattle.std.specs.List.{FoldsTo}
 use Rattle.esc_actions.specs.Values.{value_of}
 use Rattle.esc_actions.specs.Meaning.{yield_within}
 use Rattle.esc_actions.specs.declared.action.Action.{Action}
-use Rattle.esc_typed.specs.Functions.{Value as Function}
+use Rattle.typed_functions.specs.Functions.{Value as Function}
 use Rattle.esc_screen.specs.Grids.{Size}
 use Rattle.esc_screen.specs.Screens.{grid_of, size_of}
 use Rattle.esc_screen.specs.Scrolled.{off_from}

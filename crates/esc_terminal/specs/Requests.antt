@@ -1,16 +1,16 @@
 -- What a stream asks a terminal for.
 use Rattle.std.specs.Prelude.{List, [], ◌∷◌, Option, Some, None}
 use Rattle.esc_actions.specs.Values.{Value, csi, esc}
-use Rattle.esc_typed.specs.Escapes.{of_escape}
-use Rattle.esc_typed.specs.Functions.{Value as Function, cursor, device, escape, mode_status, of_csi}
-use Rattle.esc_typed.specs.declared.cursor.Cursor.{Cursor}
-use Rattle.esc_typed.specs.declared.cursor.Cursor.TheVariants as cursors
-use Rattle.esc_typed.specs.declared.device.Device.{Device}
-use Rattle.esc_typed.specs.declared.device.Device.TheVariants as devices
-use Rattle.esc_typed.specs.declared.escape.Escape.{Escape}
-use Rattle.esc_typed.specs.declared.escape.Escape.TheVariants as escapes
-use Rattle.esc_typed.specs.declared.mode_status.ModeStatus.{ModeStatus}
-use Rattle.esc_typed.specs.declared.mode_status.ModeStatus.TheVariants as statuses
+use Rattle.typed_functions.specs.Escapes.{of_escape}
+use Rattle.typed_functions.specs.Functions.{Value as Function, cursor, device, escape, mode_status, of_csi}
+use Rattle.typed_functions.specs.declared.cursor.Cursor.{Cursor}
+use Rattle.typed_functions.specs.declared.cursor.Cursor.TheVariants as cursors
+use Rattle.typed_functions.specs.declared.device.Device.{Device}
+use Rattle.typed_functions.specs.declared.device.Device.TheVariants as devices
+use Rattle.typed_functions.specs.declared.escape.Escape.{Escape}
+use Rattle.typed_functions.specs.declared.escape.Escape.TheVariants as escapes
+use Rattle.typed_functions.specs.declared.mode_status.ModeStatus.{ModeStatus}
+use Rattle.typed_functions.specs.declared.mode_status.ModeStatus.TheVariants as statuses
 use Rattle.esc_terminal.specs.declared.request.Request.{Request}
 use Rattle.esc_terminal.specs.declared.request.Request.TheVariants as request
 
@@ -51,10 +51,10 @@ value_request (csi c) = function_request (of_csi c)
 value_request (esc e) = function_request (of_escape e)
 value_request _ = None
 
-abbrev pub listed : Option Request → List Request
-listed None = []
-listed (Some r) = r ∷ []
+abbrev pub request_list : Option Request → List Request
+request_list None = []
+request_list (Some r) = r ∷ []
 
 -- what a value asks for
 abbrev pub requests_of : {A : Type 0} → Value A → List Request
-requests_of v = listed (value_request v)
+requests_of v = request_list (value_request v)

@@ -6,37 +6,37 @@ use Rattle.esc_values.specs.declared.csi_param.CsiParam.{CsiParam}
 use Rattle.esc_actions.specs.Values.{Value, print, control, esc, csi}
 use Rattle.esc_actions.specs.declared.control_code.ControlCode.{ControlCode}
 use Rattle.esc_actions.specs.declared.control_code.ControlCode.TheVariants as code
-use Rattle.esc_typed.specs.Choices.{cursor_tabulation_control_at, tabulation_clear_at}
-use Rattle.esc_typed.specs.Counts.{one_based}
-use Rattle.esc_typed.specs.Escapes.{of_escape}
-use Rattle.esc_typed.specs.Functions.{Value as Function, charset, cursor, device, edit, escape, modes, of_csi, renditions, tabs}
-use Rattle.esc_typed.specs.declared.charset.Charset.{Charset}
-use Rattle.esc_typed.specs.declared.charset.Charset.TheVariants as charsets
-use Rattle.esc_typed.specs.declared.charset94.Charset94.{Charset94}
-use Rattle.esc_typed.specs.declared.charset94.Charset94.TheVariants as sets
-use Rattle.esc_typed.specs.declared.cursor.Cursor.{Cursor}
-use Rattle.esc_typed.specs.declared.cursor.Cursor.TheVariants as cursors
-use Rattle.esc_typed.specs.declared.cursor_tabulation_control.CursorTabulationControl.{CursorTabulationControl}
-use Rattle.esc_typed.specs.declared.cursor_tabulation_control.CursorTabulationControl.TheVariants as tab
-use Rattle.esc_typed.specs.declared.device.Device.{Device}
-use Rattle.esc_typed.specs.declared.device.Device.TheVariants as devices
-use Rattle.esc_typed.specs.declared.edit.Edit.{Edit}
-use Rattle.esc_typed.specs.declared.edit.Edit.TheVariants as edits
-use Rattle.esc_typed.specs.declared.erase_in_display.EraseInDisplay.{EraseInDisplay}
-use Rattle.esc_typed.specs.declared.erase_in_display.EraseInDisplay.TheVariants as display
-use Rattle.esc_typed.specs.declared.erase_in_line.EraseInLine.{EraseInLine}
-use Rattle.esc_typed.specs.declared.erase_in_line.EraseInLine.TheVariants as line
-use Rattle.esc_typed.specs.declared.escape.Escape.{Escape}
-use Rattle.esc_typed.specs.declared.escape.Escape.TheVariants as escapes
-use Rattle.esc_typed.specs.declared.mode_change.ModeChange.{ModeChange}
-use Rattle.esc_typed.specs.declared.mode_change.ModeChange.TheVariants as changes
-use Rattle.esc_typed.specs.declared.one_based.OneBased.{OneBased}
-use Rattle.esc_typed.specs.declared.tab_change.TabChange.{TabChange}
-use Rattle.esc_typed.specs.declared.tab_change.TabChange.TheVariants as tab_changes
-use Rattle.esc_typed.specs.declared.tabulation_clear.TabulationClear.{TabulationClear}
-use Rattle.esc_typed.specs.declared.tabulation_clear.TabulationClear.TheVariants as clear
-use Rattle.esc_looks.specs.Looks.{look_by_all}
-use Rattle.esc_looks.specs.declared.look.Look.{Look}
+use Rattle.typed_functions.specs.Choices.{cursor_tabulation_control_at, tabulation_clear_at}
+use Rattle.typed_functions.specs.Counts.{one_based}
+use Rattle.typed_functions.specs.Escapes.{of_escape}
+use Rattle.typed_functions.specs.Functions.{Value as Function, charset, cursor, device, edit, escape, modes, of_csi, renditions, tabs}
+use Rattle.typed_functions.specs.declared.charset.Charset.{Charset}
+use Rattle.typed_functions.specs.declared.charset.Charset.TheVariants as charsets
+use Rattle.typed_functions.specs.declared.charset94.Charset94.{Charset94}
+use Rattle.typed_functions.specs.declared.charset94.Charset94.TheVariants as sets
+use Rattle.typed_functions.specs.declared.cursor.Cursor.{Cursor}
+use Rattle.typed_functions.specs.declared.cursor.Cursor.TheVariants as cursors
+use Rattle.typed_functions.specs.declared.cursor_tabulation_control.CursorTabulationControl.{CursorTabulationControl}
+use Rattle.typed_functions.specs.declared.cursor_tabulation_control.CursorTabulationControl.TheVariants as tab
+use Rattle.typed_functions.specs.declared.device.Device.{Device}
+use Rattle.typed_functions.specs.declared.device.Device.TheVariants as devices
+use Rattle.typed_functions.specs.declared.edit.Edit.{Edit}
+use Rattle.typed_functions.specs.declared.edit.Edit.TheVariants as edits
+use Rattle.typed_functions.specs.declared.erase_in_display.EraseInDisplay.{EraseInDisplay}
+use Rattle.typed_functions.specs.declared.erase_in_display.EraseInDisplay.TheVariants as display
+use Rattle.typed_functions.specs.declared.erase_in_line.EraseInLine.{EraseInLine}
+use Rattle.typed_functions.specs.declared.erase_in_line.EraseInLine.TheVariants as line
+use Rattle.typed_functions.specs.declared.escape.Escape.{Escape}
+use Rattle.typed_functions.specs.declared.escape.Escape.TheVariants as escapes
+use Rattle.typed_functions.specs.declared.mode_change.ModeChange.{ModeChange}
+use Rattle.typed_functions.specs.declared.mode_change.ModeChange.TheVariants as changes
+use Rattle.typed_functions.specs.declared.one_based.Ordinal.{Ordinal}
+use Rattle.typed_functions.specs.declared.tab_change.TabChange.{TabChange}
+use Rattle.typed_functions.specs.declared.tab_change.TabChange.TheVariants as tab_changes
+use Rattle.typed_functions.specs.declared.tabulation_clear.TabulationClear.{TabulationClear}
+use Rattle.typed_functions.specs.declared.tabulation_clear.TabulationClear.TheVariants as clear
+use Rattle.esc_style.specs.Looks.{look_by_all}
+use Rattle.esc_style.specs.declared.look.Look.{Look}
 use Rattle.esc_screen.specs.declared.change.Change.TheVariants as change
 use Rattle.esc_screen.specs.declared.cursor.Cursor.{Cursor as Place}
 use Rattle.esc_screen.specs.declared.mode.Mode.TheVariants as mode
@@ -78,19 +78,19 @@ control_step _ = Nothing
 -- ---- control sequences
 
 -- how many, where a screen counts to 65,535
-abbrev pub count : OneBased → ℕ
+abbrev pub count : Ordinal → ℕ
 count n = min (one_based n) 0xffff
 
 -- a row or a column, from 0 on
-abbrev pub place : OneBased → ℕ
+abbrev pub place : Ordinal → ℕ
 place n = min (one_based n - 1) 0xffff
 
 -- the row after the last that scrolls
-abbrev pub margin_end : Option OneBased → ℕ
+abbrev pub margin_end : Option Ordinal → ℕ
 margin_end None = 0xffff
 margin_end (Some n) = count n
 
-abbrev pub margins_step : ℕ → Option OneBased → Step
+abbrev pub margins_step : ℕ → Option Ordinal → Step
 margins_step m n = Set (setting.Margins m (margin_end n))
 
 -- TBC and CTC: no tab stop is of a line
@@ -271,8 +271,9 @@ choice_steps c (n ∷ ns) = choice_step c n.0 ∷ choice_steps c ns
 -- ---- values
 
 -- SGR: how the characters look that come, from these looks on, and these with those that are new
-abbrev pub selected : Look → List Look → List Step
-selected l ls = Set (setting.Select (number_in l ls) (number_in (erased_look l) (with_look l ls)))
+abbrev pub selected_steps : Look → List Look → List Step
+selected_steps l ls = Set (setting.Select (number_in l ls)
+    (number_in (erased_look l) (with_look l ls)))
     ∷ []
 
 abbrev pub selected_looks : Look → List Look → List Look
@@ -288,7 +289,7 @@ function_steps ls k (charset c) = charset_step c ∷ []
 function_steps ls k (escape e) = escape_step e ∷ []
 function_steps ls k (modes c ms) = mode_steps c ms
 function_steps ls k (tabs c ns) = choice_steps c ns
-function_steps ls k (renditions rs) = selected (look_by_all (look_at k.look ls) rs) ls
+function_steps ls k (renditions rs) = selected_steps (look_by_all (look_at k.look ls) rs) ls
 function_steps ls k _ = []
 
 -- the step that a function is, where it is one and asks for no look

@@ -4,8 +4,8 @@ use Rattle.esc_actions.specs.Meaning.{meaning_within}
 use Rattle.esc_actions.specs.Values.{Value, osc}
 use Rattle.esc_osc.specs.declared.command.OperatingSystemCommand.{OperatingSystemCommand}
 use Rattle.esc_osc.specs.declared.command.OperatingSystemCommand.TheVariants as command
-use Rattle.esc_looks.specs.Looks.{plain_look}
-use Rattle.esc_looks.specs.declared.look.Look.{Look}
+use Rattle.esc_style.specs.Looks.{plain_look}
+use Rattle.esc_style.specs.declared.look.Look.{Look}
 use Rattle.esc_screen.specs.Grids.{Grid, Size, first_grid}
 use Rattle.esc_screen.specs.Steps.{grid_from}
 use Rattle.esc_terminal.specs.Requests.{requests_of}

@@ -2,11 +2,11 @@
 ghost use Rattle.std.specs.Prelude.{◌≡◌};
 ghost use Rattle.esc_terminal.specs.Steps.{count, place};
 
-use esc_typed::OneBased;
+use typed_functions::Ordinal;
 
 /// How many, where a screen counts to 65,535.
 #[inline]
-pub(crate) fn count(n: OneBased) -> u16
+pub(crate) fn count(n: Ordinal) -> u16
     ensures { result ≡ count n }
 {
     n.as_one_based().min(0xffff) as u16
@@ -14,7 +14,7 @@ pub(crate) fn count(n: OneBased) -> u16
 
 /// A row or a column, from 0 on.
 #[inline]
-pub(crate) fn place(n: OneBased) -> u16
+pub(crate) fn place(n: Ordinal) -> u16
     ensures { result ≡ place n }
 {
     n.as_zero_based().min(0xffff) as u16

@@ -3,8 +3,8 @@ ghost use Rattle.std.specs.Prelude.{◌⊎◌, OnErr, OnOk, take};
 ghost use Rattle.esc_screen.specs.Scrolled.{gone_by};
 ghost use Rattle.esc_screen.specs.Screens.{grid_of, size_of};
 ghost use Rattle.esc_terminal.specs.Kept.{HandsOut, KeepsAction, KeepsFunction, KeepsStep};
-ghost use Rattle.esc_typed.specs.Functions.{value_of as function_value};
-ghost use Rattle.memory.specs.Refusals.{Refused};
+ghost use Rattle.typed_functions.specs.Functions.{value_of as function_value};
+ghost use Rattle.fallible_alloc.specs.Refusals.{Refused};
 
 use crate::request::request_of;
 use crate::rows::Rows;
@@ -13,8 +13,8 @@ use crate::steps::{control_step, one_step, print_step};
 use esc_actions::Action;
 use esc_parse::Sink;
 use esc_screen::Step;
-use esc_typed::Function;
 use std::alloc::{AllocError, Allocator, Global};
+use typed_functions::Function;
 
 /// What a terminal holds, and what takes the rows that are scrolled off its screen.
 #[derive(Drop)]

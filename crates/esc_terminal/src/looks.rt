@@ -1,11 +1,11 @@
 //! The looks of a screen, which its cells have the numbers of.
 ghost use Rattle.std.specs.Prelude.{◌≡◌, OnErr, OnOk, IfOk};
 ghost use Rattle.esc_terminal.specs.Looks.{erased_look, look_at, number_in, place_of, with_look};
-ghost use Rattle.memory.specs.Refusals.{Refused};
+ghost use Rattle.fallible_alloc.specs.Refusals.{Refused};
 
-use esc_looks::{Color, Look};
 use esc_sequences::Underline;
 use esc_sgr::is_same;
+use esc_style::{Color, Look};
 use std::alloc::{AllocError, Allocator};
 
 // How many looks are kept.
@@ -35,7 +35,7 @@ pub(crate) fn keep_look<A: Allocator>(
         return Ok(0);
     }
     if place == looks.len() {
-        memory::push(looks, *look)?;
+        fallible_alloc::push(looks, *look)?;
     }
     Ok(place as u16)
 }

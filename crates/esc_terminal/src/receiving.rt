@@ -1,14 +1,14 @@
 //! What actions do to a terminal.
 ghost use Rattle.esc_terminal.specs.Fed.{Takes};
-ghost use Rattle.memory.specs.Refusals.{Refused};
+ghost use Rattle.fallible_alloc.specs.Refusals.{Refused};
 
 use crate::state::State;
 use esc_actions::Action;
 use esc_parse::Sink;
 use esc_sequences::csi::is_unspecified;
-use esc_typed::Function;
 use esc_values::CsiParam;
 use std::alloc::{AllocError, Allocator};
+use typed_functions::Function;
 
 /// Each action does what its value does.
 impl<A: Allocator + Copy> Sink<Action<A>> for State<A> {

@@ -1,9 +1,9 @@
 //! What is asked of a terminal.
 ghost use Rattle.std.specs.Prelude.{◌≡◌};
 ghost use Rattle.esc_terminal.specs.Requests.{cursor_request, device_request, escape_request, function_request, mode_request};
-ghost use Rattle.esc_typed.specs.Functions.{value_of as function_value};
+ghost use Rattle.typed_functions.specs.Functions.{value_of as function_value};
 
-use esc_typed::{Cursor, Device, Escape, Function, ModeStatus};
+use typed_functions::{Cursor, Device, Escape, Function, ModeStatus};
 
 /// What a stream asks a terminal for, which a real one answers.
 #[derive(Clone, Copy, Debug, PartialEq, Eq)]

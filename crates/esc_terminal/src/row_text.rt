@@ -2,10 +2,10 @@
 ghost use Rattle.std.specs.Prelude.{◌≡◌, ◌++◌, OnErr, OnOk, replicate, string_bytes};
 ghost use Rattle.std.specs.Char.{encode_utf8};
 ghost use Rattle.esc_terminal.specs.Rows.{mark_text, marks_text, row_text, shown_text};
-ghost use Rattle.memory.specs.Refusals.{Refused};
+ghost use Rattle.fallible_alloc.specs.Refusals.{Refused};
 
 use esc_screen::{Cell, Content, Marks};
-use memory::push_char;
+use fallible_alloc::push_char;
 use std::alloc::{AllocError, Allocator};
 
 /// Appends the text of a row: a character with its marks for each that stands there, a space for

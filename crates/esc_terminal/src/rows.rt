@@ -1,14 +1,14 @@
 //! What takes the rows that are scrolled off a screen.
 ghost use Rattle.std.specs.Prelude.{◌≡◌, [], ◌∷◌, ◌++◌, List, OnErr, OnOk, string_bytes};
-ghost use Rattle.esc_looks.specs.declared.look.Look.{Look as TheLook};
+ghost use Rattle.esc_style.specs.declared.look.Look.{Look as TheLook};
 ghost use Rattle.esc_screen.specs.declared.cell.Cell.{Cell as TheCell};
 ghost use Rattle.esc_terminal.specs.Rows.{row_text};
-ghost use Rattle.memory.specs.Refusals.{Refused};
+ghost use Rattle.fallible_alloc.specs.Refusals.{Refused};
 
 use crate::row_text::push_row;
-use esc_looks::Look;
 use esc_screen::Cell;
-use memory::push_char;
+use esc_style::Look;
+use fallible_alloc::push_char;
 use std::alloc::{AllocError, Allocator};
 
 /// Takes the rows that are scrolled off a screen, one after another: a text or a list of them.

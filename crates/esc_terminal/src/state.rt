@@ -4,17 +4,17 @@ ghost use Rattle.std.specs.List.{FoldsTo};
 ghost use Rattle.std.specs.Str.{chars};
 ghost use Rattle.esc_actions.specs.declared.action.Action.TheVariants as action;
 ghost use Rattle.esc_frame.specs.Scans.{IsRun, is_text_byte};
-ghost use Rattle.esc_looks.specs.Looks.{look_by_all, plain_look};
+ghost use Rattle.esc_style.specs.Looks.{look_by_all, plain_look};
 ghost use Rattle.esc_screen.specs.Grids.{first_grid};
 ghost use Rattle.esc_screen.specs.Screens.{grid_of, size_of};
-ghost use Rattle.esc_terminal.specs.Fed.{Does, Takes, TakesAll, TakesFunction, TakesSteps, looks_in, requests_in, sized};
+ghost use Rattle.esc_terminal.specs.Fed.{Does, Takes, TakesAll, TakesFunction, TakesSteps, looks_in, requests_in, screen_size};
 ghost use Rattle.esc_terminal.specs.Looks.{look_at};
-ghost use Rattle.esc_terminal.specs.Requests.{listed};
-ghost use Rattle.esc_terminal.specs.Steps.{choice_steps, mode_steps, selected, selected_looks};
+ghost use Rattle.esc_terminal.specs.Requests.{request_list};
+ghost use Rattle.esc_terminal.specs.Steps.{choice_steps, mode_steps, selected_steps, selected_looks};
 ghost use Rattle.esc_terminal.specs.Streams.{title_by_command};
-ghost use Rattle.esc_typed.specs.Functions.{value_of as function_value};
-ghost use Rattle.esc_typed.specs.Selections.{left, modes_left};
-ghost use Rattle.memory.specs.Refusals.{Refused};
+ghost use Rattle.typed_functions.specs.Functions.{value_of as function_value};
+ghost use Rattle.typed_functions.specs.Selections.{left, modes_left};
+ghost use Rattle.fallible_alloc.specs.Refusals.{Refused};
 
 use crate::looks::{erased_look, keep_look, look_at};
 use crate::request::{Request, request_of};
@@ -23,13 +23,13 @@ use crate::steps::{
     mode_step, print_step,
 };
 use esc_actions::Action;
-use esc_looks::Look;
 use esc_osc::OperatingSystemCommand;
 use esc_screen::{Screen, Setting, Step};
-use esc_typed::{Function, ModeChange, Modes, Renditions, TabChange};
+use esc_style::Look;
 use esc_values::Text;
 use memchr::memchr;
 use std::alloc::{AllocError, Allocator, Global};
+use typed_functions::{Function, ModeChange, Modes, Renditions, TabChange};
 
 /// The screen of a terminal, its title, and what it was asked for since it was cleared.
 #[derive(Drop)]
@@ -47,8 +47,8 @@ pub(crate) struct State<A: Allocator = Global> {
 impl<A: Allocator + Copy> State<A> {
     /// A blank screen, no title and no requests.
     pub fn new(alloc: A, columns: u16, rows: u16) -> Result<State<A>, AllocError>
-        ensures grid { IfOk result (λ p. grid_of p.screen ≡ first_grid (sized columns rows)) }
-        ensures size { IfOk result (λ p. size_of p.screen ≡ sized columns rows) }
+        ensures grid { IfOk result (λ p. grid_of p.screen ≡ first_grid (screen_size columns rows)) }
+        ensures size { IfOk result (λ p. size_of p.screen ≡ screen_size columns rows) }
         ensures looks { IfOk result (λ p. (looks_in p ≡ plain_look ∷ []) × (p.title ≡ None)) }
         ensures requests { IfOk result (λ p. requests_in p ≡ []) }
     {
@@ -154,7 +154,7 @@ impl<A: Allocator> State<A> {
 
     // Takes how the characters look that come.
     fn select(&mut self, look: &Look) -> Result<(), AllocError>
-        ensures ok { OnOk result (Does self.old (selected look.now (looks_in self.old))
+        ensures ok { OnOk result (Does self.old (selected_steps look.now (looks_in self.old))
             (selected_looks look.now (looks_in self.old)) self.old.title [] self.new) }
         ensures refused { OnErr result (Refused A) }
     {
@@ -203,12 +203,12 @@ impl<A: Allocator> State<A> {
     /// Notes what is asked for, where something is.
     pub fn ask(&mut self, request: Option<Request>) -> Result<(), AllocError>
         ensures ok { OnOk result (Does self.old [] (looks_in self.old) self.old.title
-            (listed request) self.new) }
+            (request_list request) self.new) }
         ensures refused { OnErr result (Refused A) }
     {
         match request {
             Some(request) => {
-                memory::push(&mut self.requests, request)?;
+                fallible_alloc::push(&mut self.requests, request)?;
                 Ok(())
             }
             None => Ok(()),

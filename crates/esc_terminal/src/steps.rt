@@ -1,14 +1,14 @@
 //! What a value of a stream does to a screen.
 ghost use Rattle.std.specs.Prelude.{◌≡◌};
-ghost use Rattle.esc_typed.specs.Functions.{value_of as function_value};
+ghost use Rattle.typed_functions.specs.Functions.{value_of as function_value};
 ghost use Rattle.esc_terminal.specs.Steps.{after_step, before_step, charset_step, choice_step, chosen, clear_step, control_step, cursor_step, device_step, display_step, edit_step, escape_step, is_drawing, line_step, margins_step, mode_step, one_step, print_step, private_step, standard_step, tab_step};
 
 use crate::counts::{count, place};
 use esc_actions::ControlCode;
 use esc_screen::{Change, Cursor as Place, Mode, Motion, Setting, Step};
-use esc_typed::{
+use typed_functions::{
     Charset, Charset94, Cursor, CursorTabulationControl, Device, Edit, EraseInDisplay, EraseInLine,
-    Escape, Function, ModeChange, OneBased, TabChange, TabulationClear,
+    Escape, Function, ModeChange, Ordinal, TabChange, TabulationClear,
 };
 use unicode_width::UnicodeWidthChar;
 
@@ -112,7 +112,7 @@ fn before_step(from: Place, n: u16) -> Step
 }
 
 // The rows from this one to the one of a number, or to the last one.
-fn margins_step(top: u16, bottom: Option<OneBased>) -> Step
+fn margins_step(top: u16, bottom: Option<Ordinal>) -> Step
     ensures { result ≡ margins_step top bottom }
 {
     let end = match bottom {

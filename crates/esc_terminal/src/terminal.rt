@@ -2,24 +2,24 @@
 ghost use Rattle.std.specs.Prelude.{◌≡◌, ◌⊎◌, [], IfOk, IfSome, IsErr, IsSomeAnd, OnErr, OnOk};
 ghost use Rattle.std.specs.Option.{option_map};
 ghost use Rattle.esc_terminal.specs.Fed.{asked_in, looks_at, title_in};
-ghost use Rattle.memory.specs.Refusals.{Refused};
+ghost use Rattle.fallible_alloc.specs.Refusals.{Refused};
 
 use crate::keeping::Keeping;
 use crate::request::Request;
 use crate::rows::Rows;
 use crate::state::State;
-use esc_looks::Look;
 use esc_parse::Parser;
 use esc_screen::{Cell, Screen};
+use esc_style::Look;
 use std::alloc::{AllocError, Allocator, Global};
 
 // How many bytes of a title are kept.
 const MOST: usize = 0x1000;
 
-/// Takes a stream in whatever pieces it comes, and has the screen that a terminal shows then.
+/// Takes a stream in whatever chunks it comes, and has the screen that a terminal shows then.
 ///
 /// It keeps a screen of its size, which is made at once, at most 4,096 looks, a title of at most
-/// 4,096 bytes, and what the last piece asked for.
+/// 4,096 bytes, and what the last chunk asked for.
 #[derive(Drop)]
 pub struct Terminal<A: Allocator = Global> {
     parser: Parser<A>,
@@ -27,7 +27,7 @@ pub struct Terminal<A: Allocator = Global> {
 }
 
 impl<A: Allocator + Copy> Terminal<A> {
-    ghost use Rattle.esc_terminal.specs.Fed.{After, IsBroken, TakesIn, WasFed, for_log, requests_now, sized};
+    ghost use Rattle.esc_terminal.specs.Fed.{After, IsBroken, TakesIn, HasConsumed, for_log, requests_now, screen_size};
     ghost use Rattle.esc_terminal.specs.Kept.{KeepsIn};
 
     /// A terminal of so many columns and rows at the beginning of a stream: each should be 1 at
@@ -35,7 +35,7 @@ impl<A: Allocator + Copy> Terminal<A> {
     ///
     /// The error is that a request for memory was refused.
     pub fn new(alloc: A, columns: u16, rows: u16) -> Result<Terminal<A>, AllocError>
-        ensures fed { IfOk result (λ t. WasFed (sized columns rows) [] t) }
+        ensures fed { IfOk result (λ t. HasConsumed (screen_size columns rows) [] t) }
         ensures asked { IfOk result (λ t. requests_now t ≡ []) }
     {
         let state = State::new(alloc, columns, rows)?;
@@ -50,7 +50,7 @@ impl<A: Allocator + Copy> Terminal<A> {
     ///
     /// The error is that a request for memory was refused.
     pub fn for_log(alloc: A, columns: u16, rows: u16) -> Result<Terminal<A>, AllocError>
-        ensures fed { IfOk result (λ t. WasFed (for_log columns rows) [] t) }
+        ensures fed { IfOk result (λ t. HasConsumed (for_log columns rows) [] t) }
         ensures asked { IfOk result (λ t. requests_now t ≡ []) }
     {
         let state = State::new(alloc, columns, rows)?;
@@ -156,7 +156,7 @@ impl<A: Allocator> Terminal<A> {
         }
     }
 
-    /// What the last piece asked for, in order.
+    /// What the last chunk asked for, in order.
     pub fn requests(&self) -> &[Request]
         ensures { result.now ≡ asked_in self.now.state }
     {

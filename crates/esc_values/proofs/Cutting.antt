@@ -155,17 +155,17 @@ split_free b (a ∷ x) r p ps h e = let q = free_parts b a x h in
     rw (q.0, split_free b x r p ps q.1 e) refl
 
 -- a clear part without b
-abbrev pub IsPiece : ℕ → List ℕ → Type 0
-IsPiece b p = IsClearPart p × Free b p
+abbrev pub IsStretch : ℕ → List ℕ → Type 0
+IsStretch b p = IsClearPart p × Free b p
 
-abbrev pub ArePieces : ℕ → List (List ℕ) → Type 0
-ArePieces b [] = Unit {0}
-ArePieces b (p ∷ ps) = IsPiece b p × ArePieces b ps
+abbrev pub AreStretchs : ℕ → List (List ℕ) → Type 0
+AreStretchs b [] = Unit {0}
+AreStretchs b (p ∷ ps) = IsStretch b p × AreStretchs b ps
 
--- the pieces of a text between the bytes b: at least one
+-- the stretchs of a text between the bytes b: at least one
 abbrev pub SplitsAt : ℕ → List ℕ → Type 0
 SplitsAt b t = (p : List ℕ) × (ps : List (List ℕ)) × (slice_split (λ c. c == b) t ≡ p ∷ ps)
-    × IsPiece b p × ArePieces b ps
+    × IsStretch b p × AreStretchs b ps
 
 split_char : (b c : ℕ) (r : List ℕ) (q : Bool) → b < 128 → (c == b) ≡ q
     → (c ≢ b → is_part_char c ≡ true) → SplitsAt b r → SplitsAt b (encode_utf8 c ++ r)

@@ -9,7 +9,7 @@ use Rattle.std.proofs.lemmas.Str.{encodes-append}
 use Rattle.std.specs.Str.{encode_utf8_all}
 use Rattle.std.specs.Char.{encode_utf8}
 use Rattle.esc_values.specs.Clear.{is_clear, is_part_char, IsClearText, IsClearPart, AreClearParts, AreTextParts, parts_of, joined}
-use Rattle.esc_values.proofs.Cutting.{Free, free_append, encode_free, split_free, ArePieces, SplitsAt, splits}
+use Rattle.esc_values.proofs.Cutting.{Free, free_append, encode_free, split_free, AreStretchs, SplitsAt, splits}
 
 abbrev semi : ℕ → Bool
 semi c = c == 0x3b
@@ -21,9 +21,9 @@ other_part c ok other = rw (ok, ne_eqb c 0x3b other) refl
 split_clear : (t : List ℕ) → IsClearText t → SplitsAt 0x3b t
 split_clear t h = splits is_clear 0x3b t (lit< tt) other_part h
 
-pieces_clear : (ps : List (List ℕ)) → ArePieces 0x3b ps → AreClearParts ps
-pieces_clear [] h = tt
-pieces_clear (p ∷ ps) h = (h.0.0, pieces_clear ps h.1)
+stretchs_clear : (ps : List (List ℕ)) → AreStretchs 0x3b ps → AreClearParts ps
+stretchs_clear [] h = tt
+stretchs_clear (p ∷ ps) h = (h.0.0, stretchs_clear ps h.1)
 
 -- joining
 joined_is : (xs : List (List ℕ)) → joined xs ≡ join_with_byte 0x3b xs
@@ -41,7 +41,7 @@ joined_parts (b ∷ t) = joined_split (b ∷ t)
 all_clear : (ps : List (List ℕ)) (t : List ℕ) → SplitsAt 0x3b t → slice_split semi t ≡ ps
     → AreClearParts ps
 all_clear ps t (p, more, is, one, rest) e = let P : List (List ℕ) → Type 0 =
-    λ xs. AreClearParts xs in subst P (sym is ∙ e) (one.0, pieces_clear more rest)
+    λ xs. AreClearParts xs in subst P (sym is ∙ e) (one.0, stretchs_clear more rest)
 
 pub text_parts : (t : List ℕ) → IsClearText t → AreTextParts (parts_of t)
 text_parts [] h = (tt, λ e. cc)

@@ -31,19 +31,19 @@ abbrev pub AreClearParts : List (List ℕ) → Type 0
 AreClearParts [] = Unit {0}
 AreClearParts (p ∷ ps) = IsClearPart p × AreClearParts ps
 
--- the pieces between `;`; none where the text is empty
+-- the stretchs between `;`; none where the text is empty
 abbrev pub parts_of : List ℕ → List (List ℕ)
 parts_of [] = []
 parts_of (b ∷ text) = slice_split (λ c. c == 0x3b) (b ∷ text)
 
 -- the parts, each after a `;`
-abbrev pub separated : List (List ℕ) → List ℕ
-separated ps = flat_map (λ q. 0x3b ∷ q) ps
+abbrev pub separated_parts : List (List ℕ) → List ℕ
+separated_parts ps = flat_map (λ q. 0x3b ∷ q) ps
 
 -- the parts, with `;` between them
 abbrev pub joined : List (List ℕ) → List ℕ
 joined [] = []
-joined (p ∷ ps) = p ++ separated ps
+joined (p ∷ ps) = p ++ separated_parts ps
 
 -- clear parts, but not one empty part: what a clear text splits into
 abbrev pub AreTextParts : List (List ℕ) → Type 0
@@ -51,5 +51,5 @@ AreTextParts ps = AreClearParts ps × (ps ≢ [] ∷ [])
 
 -- a text between the introducer of an operating system command, `ESC ]`, and the string terminator,
 -- `ESC \`
-abbrev pub framed : List ℕ → List ℕ
-framed t = 0x1b ∷ 0x5d ∷ (t ++ 0x1b ∷ 0x5c ∷ [])
+abbrev pub framed_text : List ℕ → List ℕ
+framed_text t = 0x1b ∷ 0x5d ∷ (t ++ 0x1b ∷ 0x5c ∷ [])

@@ -24,12 +24,12 @@ pair_text e = e.0 ++ 0x3d ∷ e.1
 abbrev pub Pairs : Type 0
 Pairs = List (List ℕ × List ℕ)
 
--- the pieces as keys and values, where each is one
+-- the stretchs as keys and values, where each is one
 abbrev pub pairs_in : List (List ℕ) → Option Pairs
 pairs_in [] = Some []
 pairs_in (p ∷ ps) = and_then (key_and_value p) (λ e. option_map (λ es. e ∷ es) (pairs_in ps))
 
--- the pieces that are not empty
+-- the stretchs that are not empty
 abbrev pub without_empty : List (List ℕ) → List (List ℕ)
 without_empty ps = filter (λ p. not (length p == 0)) ps
 

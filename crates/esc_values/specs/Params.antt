@@ -49,8 +49,8 @@ unfoldable pub is_csi_body : List ℕ → Bool
 is_csi_body x = list_all is_intermediate_byte (drop_while is_csi_parameter (after_private_prefix x))
 
 -- held at the greatest i64
-abbrev pub held : ℕ → ℕ
-held n = min n 0x7fff_ffff_ffff_ffff
+abbrev pub capped_at_i64 : ℕ → ℕ
+capped_at_i64 n = min n 0x7fff_ffff_ffff_ffff
 
 -- the number that these digits write after those of n
 abbrev pub value_after : ℕ → List ℕ → ℕ
@@ -61,12 +61,12 @@ value_after n (b ∷ bs) = value_after (10 * n + (b - 0x30)) bs
 -- is one: each run of digits is its number, every other byte is itself
 abbrev pub csi_params_after : Option ℕ → List ℕ → List CsiParam
 csi_params_after None [] = []
-csi_params_after (Some n) [] = Integer (pos (held n)) ∷ []
+csi_params_after (Some n) [] = Integer (pos (capped_at_i64 n)) ∷ []
 csi_params_after None (b ∷ bs) = if is_digit b then csi_params_after (Some (b - 0x30)) bs else P b
     ∷ csi_params_after None bs
 csi_params_after (Some n) (b ∷ bs) =
     if is_digit b then csi_params_after (Some (10 * n + (b - 0x30))) bs
-    else Integer (pos (held n)) ∷ P b ∷ csi_params_after None bs
+    else Integer (pos (capped_at_i64 n)) ∷ P b ∷ csi_params_after None bs
 
 abbrev pub csi_params : List ℕ → List CsiParam
 csi_params x = csi_params_after None x

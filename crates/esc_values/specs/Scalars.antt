@@ -9,17 +9,17 @@ and_then None f = None
 and_then (Some x) f = f x
 
 -- x, where the test holds
-abbrev pub when : {X : Type 0} → Bool → X → Option X
-when b x = if b then Some x else None
+abbrev pub some_if : {X : Type 0} → Bool → X → Option X
+some_if b x = if b then Some x else None
 
 -- bytes that are a text
 abbrev pub utf8_of : List ℕ → Option (List ℕ)
-utf8_of bs = when (is_utf8 bs) bs
+utf8_of bs = some_if (is_utf8 bs) bs
 
 -- the number of at least one digit, where it has k bits
 abbrev pub number_in : ℕ → List ℕ → Option ℕ
 number_in k ds =
-    when (nat_lt 0 (length ds) && all_ascii_digits ds && nat_lt (digits_value 10 ds) (2 ^ k))
+    some_if (nat_lt 0 (length ds) && all_ascii_digits ds && nat_lt (digits_value 10 ds) (2 ^ k))
     (digits_value 10 ds)
 
 -- the number of k bits that a text writes in decimal, with or without a `+`
@@ -40,6 +40,7 @@ is_signed k (negsuc n) = nat_lt n (2 ^ (k - 1))
 -- one digit
 abbrev pub signed_of : ℕ → List ℕ → Option ℤ
 signed_of k bs =
-    when (nat_lt 0 (length (without_leading_sign bs)) && all_ascii_digits (without_leading_sign bs)
+    some_if (nat_lt 0 (length (without_leading_sign bs))
+    && all_ascii_digits (without_leading_sign bs)
     && is_signed k (signed_digits_value 10 bs))
     (signed_digits_value 10 bs)

@@ -2,7 +2,7 @@
 ghost use Rattle.std.specs.Prelude.{◌≡◌, IfOk, OnErr, Some};
 ghost use Rattle.std.specs.Option.{option_map};
 ghost use Rattle.esc_values.specs.Base64.{IsEngine, base64_of, base64_text_of, base64_text};
-ghost use Rattle.memory.specs.Refusals.{Refused};
+ghost use Rattle.fallible_alloc.specs.Refusals.{Refused};
 
 use crate::scalar::text_of;
 use crate::text::Text;
@@ -30,7 +30,7 @@ pub fn read_base64<A: Allocator>(alloc: A, text: &[u8]) -> Result<Option<Vec<u8,
     ensures ok { IfOk result (λ o. option_map (λ v. v.items) o ≡ base64_of text.now) }
     ensures refused { OnErr result (Refused A) }
 {
-    match memory::decode_base64(&engine(), alloc, text) {
+    match fallible_alloc::decode_base64(&engine(), alloc, text) {
         Ok(decoded) => Ok(Some(decoded)),
         Err(DecodeAllocError::OutOfMemory) => Err(AllocError),
         Err(DecodeAllocError::DecodeError(_)) => Ok(None),

@@ -1,6 +1,6 @@
 //! A value on the heap, which contracts see as the value itself.
 ghost use Rattle.std.specs.Prelude.{◌≡◌, IfOk, OnErr};
-ghost use Rattle.memory.specs.Refusals.{Refused};
+ghost use Rattle.fallible_alloc.specs.Refusals.{Refused};
 
 use std::alloc::{AllocError, Allocator, Global};
 use std::convert::AsRef;
@@ -30,7 +30,7 @@ impl<T: Drop, A: Allocator> Boxed<T, A> {
         ensures refused { OnErr result (Refused A) }
     {
         Ok(Boxed {
-            held: memory::boxed(alloc, value)?,
+            held: fallible_alloc::boxed(alloc, value)?,
         })
     }
 }

@@ -21,10 +21,10 @@ pub fn cut(bytes: &[u8], at: u8) -> Option<(&[u8], &[u8])>
 
 /// The key before the first `=` and the value after it; none where there is no `=`, or one of them
 /// is no UTF-8.
-pub fn key_and_value(piece: &[u8]) -> Option<(&str, &str)>
-    ensures { option_map (λ e. (e.0.now, e.1.now)) result ≡ key_and_value piece.now }
+pub fn key_and_value(stretch: &[u8]) -> Option<(&str, &str)>
+    ensures { option_map (λ e. (e.0.now, e.1.now)) result ≡ key_and_value stretch.now }
 {
-    let Some((key, value)) = cut(piece, b'=') else {
+    let Some((key, value)) = cut(stretch, b'=') else {
         return None;
     };
     match (text_in(key), text_in(value)) {

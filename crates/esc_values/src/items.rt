@@ -7,7 +7,7 @@ ghost use Rattle.std.specs.Iterator.Adapters.{IterYieldsInOrder};
 ghost use Rattle.std.specs.Iterator.Runs.{EveryRun, ItemsAre};
 ghost use Rattle.std.specs.Vec.Iter.{into_iter_items, into_iter_len, into_iter_steps};
 ghost use Rattle.std.specs.Cmp.Lexicographic.{pointwise, lists_per, lists_equiv};
-ghost use Rattle.memory.specs.Refusals.{Refused};
+ghost use Rattle.fallible_alloc.specs.Refusals.{Refused};
 
 use std::alloc::{AllocError, Allocator, Global};
 use std::convert::AsSlice;
@@ -96,7 +96,7 @@ impl<T, A: Allocator> Items<T, A> {
         ensures refused { OnErr result (Refused A) }
     {
         if self.vec.len() == self.vec.capacity() {
-            memory::reserve(&mut self.vec, 1)?;
+            fallible_alloc::reserve(&mut self.vec, 1)?;
         }
         self.vec.push_reserved(item);
         Ok(())
@@ -130,7 +130,7 @@ impl<T, A: Allocator> Items<T, A> {
         let Some(second) = second else {
             return self.push(first);
         };
-        memory::reserve(&mut self.vec, 2)?;
+        fallible_alloc::reserve(&mut self.vec, 2)?;
         self.vec.push_reserved(first);
         self.vec.push_reserved(second);
         Ok(())
@@ -151,7 +151,7 @@ impl<T, A: Allocator> Items<T, A> {
             self.vec.clear();
             return Ok(());
         };
-        memory::reserve(&mut self.vec, 1)?;
+        fallible_alloc::reserve(&mut self.vec, 1)?;
         self.vec.clear();
         self.vec.push_reserved(item);
         Ok(())
@@ -165,7 +165,7 @@ impl<T: Copy, A: Allocator> Items<T, A> {
         ensures refused { OnErr result (Refused A) }
     {
         Ok(Items {
-            vec: memory::copied(alloc, items)?,
+            vec: fallible_alloc::copied(alloc, items)?,
         })
     }
 }

@@ -7,7 +7,7 @@ ghost use Rattle.std.specs.Cmp.Rules.{hashing};
 ghost use Rattle.std.specs.Hash as fed;
 ghost use Rattle.std.specs.Ordering.{nat_cmp};
 ghost use Rattle.std.proofs.Common.{rules};
-ghost use Rattle.memory.specs.Refusals.{Refused};
+ghost use Rattle.fallible_alloc.specs.Refusals.{Refused};
 
 use std::alloc::{AllocError, Allocator, Global};
 use std::cmp::Ordering;
@@ -46,7 +46,7 @@ impl<A: Allocator> Text<A> {
         ensures refused { OnErr result (Refused A) }
     {
         Ok(Text {
-            string: memory::text(alloc, s)?,
+            string: fallible_alloc::text(alloc, s)?,
         })
     }
 
@@ -85,7 +85,7 @@ impl<A: Allocator> Text<A> {
         ensures err { OnErr result (self.new ≡ self.old) }
         ensures refused { OnErr result (Refused A) }
     {
-        memory::push_char(&mut self.string, c)
+        fallible_alloc::push_char(&mut self.string, c)
     }
 
     /// Appends a text. The error is that memory was refused, and the text stays as it was.
@@ -94,7 +94,7 @@ impl<A: Allocator> Text<A> {
         ensures err { OnErr result (self.new ≡ self.old) }
         ensures refused { OnErr result (Refused A) }
     {
-        memory::push_str(&mut self.string, s)
+        fallible_alloc::push_str(&mut self.string, s)
     }
 
     /// Appends what Display writes of `value`. The error is that memory was refused, or that its
@@ -103,7 +103,7 @@ impl<A: Allocator> Text<A> {
         ensures text { IfSome (T.output value.now) (λ t. OnOk result (self.new ≡ self.old ++ t)) }
         ensures refused { OnErr result (Refused A) }
     {
-        memory::push_display(&mut self.string, value)
+        fallible_alloc::push_display(&mut self.string, value)
     }
 
     /// How many bytes it has.

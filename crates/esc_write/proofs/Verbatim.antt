@@ -15,7 +15,7 @@ use Rattle.std.proofs.lemmas.List.Splits.{length-slice_split, slice_split-cons_n
 use Rattle.std.proofs.lemmas.List.Sums.{prefix_len-le-length}
 use Rattle.std.proofs.lemmas.Str.{IsCharBoundary-after_ascii, IsCharBoundary-before_ascii, IsUtf8-drop, IsUtf8-past_char, IsUtf8-take}
 use Rattle.std.proofs.lemmas.Str.{encode_ascii, is_utf8-from_IsUtf8}
-use Rattle.esc_values.specs.Clear.{framed, joined, parts_of}
+use Rattle.esc_values.specs.Clear.{framed_text, joined, parts_of}
 use Rattle.esc_links.specs.Hyperlinks.{is_colon, link_to, params_of}
 use Rattle.esc_values.specs.Scalars.{utf8_of}
 use Rattle.esc_links.specs.declared.hyperlink.Hyperlink.{Hyperlink}
@@ -23,7 +23,7 @@ use Rattle.esc_values.proofs.ClearTexts.{part_utf8}
 use Rattle.esc_values.proofs.PlainParts.{plain_part}
 use Rattle.esc_values.proofs.Split.{joined_split}
 use Rattle.esc_frame.specs.Scans.{is_unmarked}
-use Rattle.esc_frame.proofs.Splits.{split_end, split_next}
+use Rattle.esc_frame.proofs.Cut.SplitAtSemicolons.{split_end, split_next}
 use Rattle.esc_osc.proofs.NamedMarks.{named_end, named_output, named_start}
 use Rattle.esc_osc.proofs.Written.{code_means}
 use Rattle.esc_osc.specs.Commands.{command_text}
@@ -154,7 +154,7 @@ bare_meant A (b ∷ u) h =
     meant {A = A} code.SetHyperlink ([] ∷ (b ∷ u) ∷ [])
     (command.SetHyperlink (Some (link_to [] (b ∷ u)))) read
 
-bare_written : (A : Type 0) (u : List ℕ) → command_text (bare_of A u) ≡ framed (codes "8;;" ++ u)
+bare_written : (A : Type 0) (u : List ℕ) → command_text (bare_of A u) ≡ framed_text (codes "8;;" ++ u)
 bare_written A [] = refl
 bare_written A (b ∷ u) = refl
 
@@ -243,8 +243,8 @@ id_verbatim : (A : Type 0) (t v u : List ℕ) → slice_split semi t ≡ v ∷ u
     → IsVerbatim A (codes "8;id=" ++ t)
 id_verbatim A t v u e one h =
     ap command_text (id_read A t v u e one h)
-    ∙ ap (λ x. framed (codes "8;id=" ++ (x ++ 0x3b ∷ u))) (append-nil v)
-    ∙ ap (λ x. framed (codes "8;id=" ++ x)) (sym (two_joined t v u e))
+    ∙ ap (λ x. framed_text (codes "8;id=" ++ (x ++ 0x3b ∷ u))) (append-nil v)
+    ∙ ap (λ x. framed_text (codes "8;id=" ++ x)) (sym (two_joined t v u e))
 
 pub id_link : (A : Type 0) (t v u : List ℕ) → slice_split semi t ≡ v ∷ u ∷ []
     → list_any is_colon v ≡ false → IsUtf8 (codes "8;id=" ++ t)
@@ -309,13 +309,13 @@ text_of (Some d) c t h = cc
 
 mark_text : (A : Type 0) (args : List (List ℕ)) (t : List ℕ)
     → option_map command_text (reading {A = A} code.FinalTermSemanticPrompt (codes "133") args)
-    ≡ Some (framed t)
-    → command_text (meaning {A = A} (codes "133" ∷ args)) ≡ framed t
+    ≡ Some (framed_text t)
+    → command_text (meaning {A = A} (codes "133" ∷ args)) ≡ framed_text t
 mark_text A args t h =
     ap (λ f. command_text (unwrap_or f (command.Unspecified (codes "133" ∷ args))))
     (code_means {A = A} code.FinalTermSemanticPrompt args)
     ∙ text_of (reading {A = A} code.FinalTermSemanticPrompt (codes "133") args)
-    (command.Unspecified (codes "133" ∷ args)) (framed t) h
+    (command.Unspecified (codes "133" ∷ args)) (framed_text t) h
 
 abbrev alone : (A : Type 0) → ℕ → Type 0
 alone A b = IsVerbatim A (codes "133;" ++ b ∷ [])
@@ -352,7 +352,7 @@ mark A b h =
 named_by : (A : Type 0) (l name t : List ℕ)
     → parts_of t ≡ codes "133" ∷ l ∷ (codes "aid=" ++ name) ∷ []
     → option_map command_text (reading {A = A} code.FinalTermSemanticPrompt (codes "133")
-    (l ∷ (codes "aid=" ++ name) ∷ [])) ≡ Some (framed t) → IsVerbatim A t
+    (l ∷ (codes "aid=" ++ name) ∷ [])) ≡ Some (framed_text t) → IsVerbatim A t
 named_by A l name t e h = ap (λ ps. command_text (meaning {A = A} ps)) e
     ∙ mark_text A (l ∷ (codes "aid=" ++ name) ∷ []) t h
 

@@ -6,7 +6,7 @@ use Rattle.esc_actions.specs.Meaning.{meaning}
 use Rattle.esc_actions.specs.Texts.{has_text, list_text, normal, texts_after}
 use Rattle.esc_actions.specs.Values.{Value, value_of}
 use Rattle.esc_actions.specs.declared.action.Action.{Action}
-use Rattle.memory.specs.Refusals.{Refused}
+use Rattle.fallible_alloc.specs.Refusals.{Refused}
 
 -- the text t of these values means their normal list, and is the text of that list too
 abbrev pub ReadsBack : {A : Type 0} → List (Value A) → List ℕ → Type 0

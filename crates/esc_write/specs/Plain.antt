@@ -3,7 +3,7 @@
 use Rattle.std.specs.Prelude.{ℕ, ℤ, pos, ◌≡◌, ◌≢◌, ◌⊎◌, ◌==◌, Bool, false, List, [], ◌∷◌, ◌++◌, Option, codes}
 use Rattle.std.specs.Fmt.{decimal}
 use Rattle.std.specs.List.{list_any, slice_split}
-use Rattle.esc_values.specs.Clear.{framed, parts_of}
+use Rattle.esc_values.specs.Clear.{framed_text, parts_of}
 use Rattle.esc_sequences.specs.Csis.{csi_of, unspecified}
 use Rattle.esc_links.specs.Hyperlinks.{is_colon}
 use Rattle.esc_values.specs.declared.csi_param.CsiParam.{CsiParam}
@@ -75,7 +75,7 @@ IsNamedLink t = (u : List ℕ) × (t ≡ codes "8;id=" ++ u) × IsNameAndAddress
 
 -- the command of a text is written as the text came, between `ESC ]` and the string terminator
 abbrev pub IsVerbatim : (A : Type 0) → List ℕ → Type 0
-IsVerbatim A t = command_text (meaning {A = A} (parts_of t)) ≡ framed t
+IsVerbatim A t = command_text (meaning {A = A} (parts_of t)) ≡ framed_text t
 
 -- it is a link, or the end of one, and is written so
 abbrev pub IsPlainLink : (A : Type 0) → List ℕ → Type 0

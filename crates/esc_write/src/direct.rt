@@ -1,6 +1,6 @@
 //! Control sequences, appended to a text with no action made of them.
 ghost use Rattle.std.specs.Prelude.{◌≡◌, ◌++◌, IsTrue, OnErr, OnOk};
-ghost use Rattle.memory.specs.Refusals.{Refused};
+ghost use Rattle.fallible_alloc.specs.Refusals.{Refused};
 ghost use Rattle.esc_sequences.specs.Csis.{csi_text, csi_value, unspecified};
 ghost use Rattle.esc_write.specs.Plain.{IsNumber, IsPlain};
 

@@ -1,7 +1,7 @@
 //! The text of a list of actions.
 ghost use Rattle.std.specs.Prelude.{◌≡◌, ◌<◌, ◌↔◌, ◌++◌, false, true, IfOk, IsErrOf, OnErr, OnOk, length, string_bytes, map};
 ghost use Rattle.std.specs.List.{list_all};
-ghost use Rattle.memory.specs.Refusals.{Refused};
+ghost use Rattle.fallible_alloc.specs.Refusals.{Refused};
 ghost use Rattle.esc_actions.specs.Texts.{has_text, is_string, list_text, text_after, value_text};
 ghost use Rattle.esc_actions.specs.Values.{value_of};
 ghost use Rattle.esc_actions.specs.Writable.{AreWritable};

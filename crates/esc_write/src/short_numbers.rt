@@ -1,7 +1,7 @@
 //! Control sequences of short numbers, appended to a text from arrays of bytes whose lengths are
 //! known as the program is made.
 ghost use Rattle.std.specs.Prelude.{◌≡◌, ◌<◌, ◌∷◌, ◌++◌, [], Bool, pos, IfSome, OnErr, OnOk};
-ghost use Rattle.memory.specs.Refusals.{Refused};
+ghost use Rattle.fallible_alloc.specs.Refusals.{Refused};
 ghost use Rattle.esc_sequences.specs.Csis.{csi_text, unspecified};
 ghost use Rattle.esc_values.specs.declared.csi_param.CsiParam.TheVariants.{Integer, P};
 ghost use Rattle.esc_write.specs.Plain.{AreParams, IsPlain, indexed_text, last_text, number_text, pair_text, short_text};

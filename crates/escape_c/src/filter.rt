@@ -1,22 +1,22 @@
-//! The filter: of a stream that is there whole, and of one in pieces.
+//! The filter: of a stream that is there whole, and of one in chunks.
 ghost use Rattle.std.specs.Prelude.{◌↔◌, ◌≡◌, ◌≢◌, IfSome, List, None, ℕ};
-ghost use Rattle.esc_calls.specs.Filtered.{IsAdmitted, IsFilterRefusal, passed};
+ghost use Rattle.esc_calls.specs.Filtered.{IsAdmitted, IsFilterRefusal, open_text};
 ghost use Rattle.esc_calls.specs.Output.{Copies, Writes};
 ghost use Rattle.esc_calls.specs.Policies.{policy_numbered};
-ghost use Rattle.memory.specs.Refusals.{Refused};
+ghost use Rattle.fallible_alloc.specs.Refusals.{Refused};
 ghost use Rattle.esc_filter.specs.declared.policy.Policy.{Policy};
-ghost use Rattle.esc_calls.specs.FilterPieces.{FinishesFilter, TakesFilter, WasFedFilter};
-ghost use Rattle.esc_calls.specs.InPieces.{Begins, Breaks, IsEnded, KeepsNone, Stays, text_of};
+ghost use Rattle.esc_calls.specs.FilterChunks.{FinishesFilter, TakesFilter, FilterHasConsumed};
+ghost use Rattle.esc_calls.specs.InChunks.{Begins, Breaks, IsEnded, KeepsNone, Stays, text_of};
 ghost use Rattle.esc_calls.specs.Kept.{filter_in};
 
-use esc_calls::in_pieces::InPieces;
-use esc_calls::{DONE, NO_MEMORY, NOT_BEGUN, UNKNOWN_POLICY, filter, filter_pieces};
+use esc_calls::in_chunks::InChunks;
+use esc_calls::{DONE, NO_MEMORY, NOT_BEGUN, UNKNOWN_POLICY, filter, filter_chunks};
 use std::alloc::Global;
 
 /// Writes to `out` the text of those actions of the stream `bytes` that the policy admits, as much
 /// of it as fits, and the length of all of it in bytes to `needed`. The whole text reads back as
 /// these actions, and as nothing else; a part of it need not. What the stream leaves changed at a
-/// terminal, as a rendition, is not taken back: a filter in pieces does that at its end.
+/// terminal, as a rendition, is not taken back: a filter in chunks does that at its end.
 ///
 /// The policies are 0 text, 1 color, 2 screen and 3 all, each as [`Policy`] says; any other number
 /// is `UNKNOWN_POLICY`. Of a string with more than `limit` bytes nothing is written, as of
@@ -44,21 +44,21 @@ pub extern "C" fn escape_stream_filter(
 #[unsafe(no_mangle)]
 pub extern "C" fn escape_stream_filter_begin(
     alloc: Global,
-    filter: &mut InPieces,
+    filter: &mut InChunks,
     policy: u32,
     limit: usize,
 ) -> u32
     ensures begun { result ≡ DONE → IfSome (policy_numbered policy) (λ p.
-        Begins (WasFedFilter limit p) filter.new) }
+        Begins (FilterHasConsumed limit p) filter.new) }
     ensures unknown { result ≡ UNKNOWN_POLICY ↔ (policy_numbered policy ≡ None) }
     ensures refused { result ≢ DONE → (result ≢ NO_MEMORY → result ≡ UNKNOWN_POLICY)
         × IsEnded filter.new }
     ensures memory { result ≡ NO_MEMORY → Refused Global }
 {
-    filter_pieces::filter_begin(alloc, filter, policy, limit)
+    filter_chunks::filter_begin(alloc, filter, policy, limit)
 }
 
-/// Takes the next piece of the stream. What it adds to the text of the stream is then the text that
+/// Takes the next chunk of the stream. What it adds to the text of the stream is then the text that
 /// [`escape_stream_filter_text`] gives.
 ///
 /// `NO_MEMORY` says that a request for memory was refused: the filter has ended, and what it kept
@@ -66,19 +66,19 @@ pub extern "C" fn escape_stream_filter_begin(
 #[unsafe(no_mangle)]
 pub extern "C" fn escape_stream_filter_feed(
     alloc: Global,
-    filter: &mut InPieces,
+    filter: &mut InChunks,
     bytes: &[u8],
 ) -> u32
-    ensures taken { (limit : ℕ) (p : Policy) (s : List ℕ) → WasFedFilter limit p s filter.old
+    ensures taken { (limit : ℕ) (p : Policy) (s : List ℕ) → FilterHasConsumed limit p s filter.old
         → result ≡ DONE → TakesFilter limit p s bytes.now filter.new }
-    ensures memory { (limit : ℕ) (p : Policy) (s : List ℕ) → WasFedFilter limit p s filter.old
-        → result ≢ DONE → (result ≡ NO_MEMORY) × Breaks (passed limit p) s bytes.now filter.new
+    ensures memory { (limit : ℕ) (p : Policy) (s : List ℕ) → FilterHasConsumed limit p s filter.old
+        → result ≢ DONE → (result ≡ NO_MEMORY) × Breaks (open_text limit p) s bytes.now filter.new
         × Refused Global }
     ensures refused { result ≢ DONE → (result ≢ NO_MEMORY → result ≡ NOT_BEGUN)
         × IsEnded filter.new }
     ensures ended { result ≡ NOT_BEGUN ↔ KeepsNone filter_in filter.old }
 {
-    filter_pieces::filter_feed(alloc, filter, bytes)
+    filter_chunks::filter_feed(alloc, filter, bytes)
 }
 
 /// Ends the stream, and begins the next, within the same limit and by the same policy. What takes
@@ -88,15 +88,16 @@ pub extern "C" fn escape_stream_filter_feed(
 /// `NO_MEMORY` says that a request for memory was refused: the filter has ended, and what it kept
 /// was given back. `NOT_BEGUN` says that it had not begun, or had ended.
 #[unsafe(no_mangle)]
-pub extern "C" fn escape_stream_filter_finish(alloc: Global, filter: &mut InPieces) -> u32
-    ensures finished { (limit : ℕ) (p : Policy) (s : List ℕ) → WasFedFilter limit p s filter.old
+pub extern "C" fn escape_stream_filter_finish(alloc: Global, filter: &mut InChunks) -> u32
+    ensures finished { (limit : ℕ) (p : Policy) (s : List ℕ)
+        → FilterHasConsumed limit p s filter.old
         → result ≡ DONE → FinishesFilter limit p s filter.new }
     ensures memory { result ≡ NO_MEMORY → Refused Global }
     ensures refused { result ≢ DONE → (result ≢ NO_MEMORY → result ≡ NOT_BEGUN)
         × IsEnded filter.new }
     ensures ended { result ≡ NOT_BEGUN ↔ KeepsNone filter_in filter.old }
 {
-    filter_pieces::filter_finish(alloc, filter)
+    filter_chunks::filter_finish(alloc, filter)
 }
 
 /// Copies the text that the last call added, from its byte `from` on, to the beginning of `out`,
@@ -104,20 +105,20 @@ pub extern "C" fn escape_stream_filter_finish(alloc: Global, filter: &mut InPiec
 #[unsafe(no_mangle)]
 pub extern "C" fn escape_stream_filter_text(
     alloc: Global,
-    filter: &mut InPieces,
+    filter: &mut InChunks,
     from: usize,
     out: &mut [u8],
 ) -> usize
     ensures copied { Copies (text_of filter.old) from out.old out.new result }
     ensures kept { Stays filter.old filter.new }
 {
-    filter_pieces::filter_text(alloc, filter, from, out)
+    filter_chunks::filter_text(alloc, filter, from, out)
 }
 
 /// Ends a filter, and gives back what it kept. One that is not begun stays so.
 #[unsafe(no_mangle)]
-pub extern "C" fn escape_stream_filter_end(alloc: Global, filter: &mut InPieces)
+pub extern "C" fn escape_stream_filter_end(alloc: Global, filter: &mut InChunks)
     ensures { IsEnded filter.new }
 {
-    filter_pieces::filter_end(alloc, filter);
+    filter_chunks::filter_end(alloc, filter);
 }

@@ -1,5 +1,5 @@
 //! Control functions by name.
-ghost use Rattle.esc_functions.specs.Controls.{control_of};
+ghost use Rattle.control_functions.specs.Controls.{control_of};
 ghost use Rattle.esc_calls.specs.FunctionRows.{Says, SaysControl, SaysEscape, escape_function_with, function_with};
 
 use esc_calls::function;

@@ -1,15 +1,15 @@
-//! The HTML of a stream in pieces.
+//! The HTML of a stream in chunks.
 ghost use Rattle.std.specs.Prelude.{◌↔◌, ◌≡◌, ◌≢◌, List, ℕ};
 ghost use Rattle.esc_html.specs.declared.layout.Layout.{Layout};
-ghost use Rattle.esc_calls.specs.InPieces.{Begins, IsEnded, KeepsNone, Stays, Takes, text_of};
+ghost use Rattle.esc_calls.specs.InChunks.{Begins, IsEnded, KeepsNone, Stays, Takes, text_of};
 ghost use Rattle.esc_calls.specs.Kept.{page_in};
-ghost use Rattle.esc_calls.specs.PagePieces.{Closes, WasFedPage, layout_of};
-ghost use Rattle.esc_calls.specs.PageStates.{paged};
+ghost use Rattle.esc_calls.specs.PageChunks.{Closes, PageHasConsumed, layout_of};
+ghost use Rattle.esc_calls.specs.PageStates.{open_page};
 ghost use Rattle.esc_calls.specs.Output.{Copies};
-ghost use Rattle.memory.specs.Refusals.{Refused};
+ghost use Rattle.fallible_alloc.specs.Refusals.{Refused};
 
-use esc_calls::in_pieces::InPieces;
-use esc_calls::{DONE, NO_MEMORY, NOT_BEGUN, page_pieces};
+use esc_calls::in_chunks::InChunks;
+use esc_calls::{DONE, NO_MEMORY, NOT_BEGUN, page_chunks};
 use std::alloc::Global;
 
 /// Begins the page of a stream, of which at most `limit` bytes are kept of a string. With
@@ -19,47 +19,47 @@ use std::alloc::Global;
 #[unsafe(no_mangle)]
 pub extern "C" fn escape_stream_html_begin(
     alloc: Global,
-    page: &mut InPieces,
+    page: &mut InChunks,
     per_line: bool,
     is_inline: bool,
     limit: usize,
 ) -> u32
     ensures begun { result ≡ DONE
-        → Begins (WasFedPage limit (layout_of per_line is_inline)) page.new }
+        → Begins (PageHasConsumed limit (layout_of per_line is_inline)) page.new }
     ensures refused { result ≢ DONE → (result ≡ NO_MEMORY) × IsEnded page.new }
     ensures memory { result ≡ NO_MEMORY → Refused Global }
 {
-    page_pieces::html_begin(alloc, page, per_line, is_inline, limit)
+    page_chunks::html_begin(alloc, page, per_line, is_inline, limit)
 }
 
-/// Takes the next piece of the stream. What it adds to the page is then the text that
+/// Takes the next chunk of the stream. What it adds to the page is then the text that
 /// [`escape_stream_html_text`] gives.
 ///
 /// `NO_MEMORY` says that a request for memory was refused: the page was given back. `NOT_BEGUN`
 /// says that it had not begun, or that its stream had ended; it was given back too.
 #[unsafe(no_mangle)]
-pub extern "C" fn escape_stream_html_feed(alloc: Global, page: &mut InPieces, bytes: &[u8]) -> u32
-    ensures taken { (limit : ℕ) (y : Layout) (s : List ℕ) → WasFedPage limit y s page.old
-        → result ≡ DONE → Takes (WasFedPage limit y) (paged limit y) s bytes.now page.new }
-    ensures memory { (limit : ℕ) (y : Layout) (s : List ℕ) → WasFedPage limit y s page.old
+pub extern "C" fn escape_stream_html_feed(alloc: Global, page: &mut InChunks, bytes: &[u8]) -> u32
+    ensures taken { (limit : ℕ) (y : Layout) (s : List ℕ) → PageHasConsumed limit y s page.old
+        → result ≡ DONE → Takes (PageHasConsumed limit y) (open_page limit y) s bytes.now page.new }
+    ensures memory { (limit : ℕ) (y : Layout) (s : List ℕ) → PageHasConsumed limit y s page.old
         → result ≢ DONE → (result ≡ NO_MEMORY) × Refused Global }
     ensures refused { result ≢ DONE → (result ≢ NO_MEMORY → result ≡ NOT_BEGUN)
         × IsEnded page.new }
 {
-    page_pieces::html_feed(alloc, page, bytes)
+    page_chunks::html_feed(alloc, page, bytes)
 }
 
 /// Ends the stream. What closes the tags that are open is then the text that
-/// [`escape_stream_html_text`] gives: with it, the texts of all pieces, one after another, are a
+/// [`escape_stream_html_text`] gives: with it, the texts of all chunks, one after another, are a
 /// page. It takes no memory. `NOT_BEGUN` says that the page had not begun.
 #[unsafe(no_mangle)]
-pub extern "C" fn escape_stream_html_finish(alloc: Global, page: &mut InPieces) -> u32
-    ensures closed { (limit : ℕ) (y : Layout) (s : List ℕ) → WasFedPage limit y s page.old
+pub extern "C" fn escape_stream_html_finish(alloc: Global, page: &mut InChunks) -> u32
+    ensures closed { (limit : ℕ) (y : Layout) (s : List ℕ) → PageHasConsumed limit y s page.old
         → result ≡ DONE → Closes limit y s page.new }
     ensures refused { result ≢ DONE → (result ≡ NOT_BEGUN) × IsEnded page.new }
     ensures gone { result ≡ NOT_BEGUN ↔ KeepsNone page_in page.old }
 {
-    page_pieces::html_finish(alloc, page)
+    page_chunks::html_finish(alloc, page)
 }
 
 /// Copies the text that the last call added, from its byte `from` on, to the beginning of `out`,
@@ -67,20 +67,20 @@ pub extern "C" fn escape_stream_html_finish(alloc: Global, page: &mut InPieces) 
 #[unsafe(no_mangle)]
 pub extern "C" fn escape_stream_html_text(
     alloc: Global,
-    page: &mut InPieces,
+    page: &mut InChunks,
     from: usize,
     out: &mut [u8],
 ) -> usize
     ensures copied { Copies (text_of page.old) from out.old out.new result }
     ensures kept { Stays page.old page.new }
 {
-    page_pieces::html_text(alloc, page, from, out)
+    page_chunks::html_text(alloc, page, from, out)
 }
 
 /// Gives back what a page kept. One that is not begun stays so.
 #[unsafe(no_mangle)]
-pub extern "C" fn escape_stream_html_end(alloc: Global, page: &mut InPieces)
+pub extern "C" fn escape_stream_html_end(alloc: Global, page: &mut InChunks)
     ensures { IsEnded page.new }
 {
-    page_pieces::html_end(alloc, page);
+    page_chunks::html_end(alloc, page);
 }

@@ -3,8 +3,8 @@
 //!
 //! A call that takes a stream whole returns a status: `DONE`, or why nothing was written. A text
 //! goes into the caller's buffer, as much of it as fits, and its whole length into `needed`.
-//! The filter, the sanitizer, the HTML and the normal form of a stream in pieces are each an
-//! `InPieces` of the caller's. Other calls name a function, or read and write commands, images and
+//! The filter, the sanitizer, the HTML and the normal form of a stream in chunks are each an
+//! `InChunks` of the caller's. Other calls name a function, or read and write commands, images and
 //! queries. The crate `esc_calls` does what each call says.
 //!
 //! ```text
@@ -28,7 +28,7 @@ mod write_tcap;
 pub use esc_calls::account_row::AccountRow;
 pub use esc_calls::function_row::FunctionRow;
 pub use esc_calls::image_value::ImageValue;
-pub use esc_calls::in_pieces::InPieces;
+pub use esc_calls::in_chunks::InChunks;
 pub use esc_calls::osc_value::OscValue;
 pub use esc_calls::query_value::QueryValue;
 pub use esc_calls::sanitizer_options::SanitizerOptions;

@@ -1,16 +1,16 @@
-//! The normal form: of a stream that is there whole, and of one in pieces.
+//! The normal form: of a stream that is there whole, and of one in chunks.
 ghost use Rattle.std.specs.Prelude.{◌↔◌, ◌≡◌, ◌≢◌, IsTrue, List, true, ℕ};
 ghost use Rattle.esc_actions.specs.Meaning.{meaning};
 ghost use Rattle.esc_actions.specs.Texts.{list_text};
 ghost use Rattle.esc_calls.specs.Output.{Copies, LacksMemory, Writes};
 ghost use Rattle.esc_actions.specs.Writable.{AreWritable};
-ghost use Rattle.memory.specs.Refusals.{Refused};
-ghost use Rattle.esc_calls.specs.InPieces.{Begins, Breaks, IsEnded, KeepsNone, Stays, Takes, text_of};
+ghost use Rattle.fallible_alloc.specs.Refusals.{Refused};
+ghost use Rattle.esc_calls.specs.InChunks.{Begins, Breaks, IsEnded, KeepsNone, Stays, Takes, text_of};
 ghost use Rattle.esc_calls.specs.Kept.{normaliser_in};
-ghost use Rattle.esc_calls.specs.NormalPieces.{FinishesNormal, WasFedNormaliser, formed};
+ghost use Rattle.esc_calls.specs.NormalChunks.{FinishesNormal, NormaliserHasConsumed, formed};
 
-use esc_calls::in_pieces::InPieces;
-use esc_calls::{DONE, NO_MEMORY, NOT_BEGUN, is_normal, normal, normal_pieces};
+use esc_calls::in_chunks::InChunks;
+use esc_calls::{DONE, NO_MEMORY, NOT_BEGUN, is_normal, normal, normal_chunks};
 use std::alloc::Global;
 
 /// Writes the normal form of the stream `bytes` to `out`, as much of it as fits, and its length in
@@ -53,17 +53,17 @@ pub extern "C" fn escape_stream_is_normal(alloc: Global, bytes: &[u8], answer: &
 #[unsafe(no_mangle)]
 pub extern "C" fn escape_stream_normal_begin(
     alloc: Global,
-    normaliser: &mut InPieces,
+    normaliser: &mut InChunks,
     limit: usize,
 ) -> u32
-    ensures begun { result ≡ DONE → Begins (WasFedNormaliser limit) normaliser.new }
+    ensures begun { result ≡ DONE → Begins (NormaliserHasConsumed limit) normaliser.new }
     ensures refused { result ≢ DONE → (result ≡ NO_MEMORY) × IsEnded normaliser.new }
     ensures memory { result ≡ NO_MEMORY → Refused Global }
 {
-    normal_pieces::normal_begin(alloc, normaliser, limit)
+    normal_chunks::normal_begin(alloc, normaliser, limit)
 }
 
-/// Takes the next piece of the stream. What it adds to the normal form of the stream is then the
+/// Takes the next chunk of the stream. What it adds to the normal form of the stream is then the
 /// text that [`escape_stream_normal_text`] gives.
 ///
 /// `NO_MEMORY` says that a request for memory was refused: the normaliser has ended, and what it
@@ -71,33 +71,33 @@ pub extern "C" fn escape_stream_normal_begin(
 #[unsafe(no_mangle)]
 pub extern "C" fn escape_stream_normal_feed(
     alloc: Global,
-    normaliser: &mut InPieces,
+    normaliser: &mut InChunks,
     bytes: &[u8],
 ) -> u32
-    ensures taken { (limit : ℕ) (s : List ℕ) → WasFedNormaliser limit s normaliser.old
+    ensures taken { (limit : ℕ) (s : List ℕ) → NormaliserHasConsumed limit s normaliser.old
         → result ≡ DONE
-        → Takes (WasFedNormaliser limit) (formed limit) s bytes.now normaliser.new }
-    ensures memory { (limit : ℕ) (s : List ℕ) → WasFedNormaliser limit s normaliser.old
+        → Takes (NormaliserHasConsumed limit) (formed limit) s bytes.now normaliser.new }
+    ensures memory { (limit : ℕ) (s : List ℕ) → NormaliserHasConsumed limit s normaliser.old
         → result ≢ DONE → (result ≡ NO_MEMORY) × Breaks (formed limit) s bytes.now normaliser.new
         × Refused Global }
     ensures refused { result ≢ DONE → (result ≢ NO_MEMORY → result ≡ NOT_BEGUN)
         × IsEnded normaliser.new }
     ensures ended { result ≡ NOT_BEGUN ↔ KeepsNone normaliser_in normaliser.old }
 {
-    normal_pieces::normal_feed(alloc, normaliser, bytes)
+    normal_chunks::normal_feed(alloc, normaliser, bytes)
 }
 
 /// Ends the stream, and begins the next, within the same limit. The end adds nothing: the text that
 /// [`escape_stream_normal_text`] gives is then empty. What is unfinished is dropped. It takes no
 /// memory. `NOT_BEGUN` says that the normaliser had not begun, or had ended.
 #[unsafe(no_mangle)]
-pub extern "C" fn escape_stream_normal_finish(alloc: Global, normaliser: &mut InPieces) -> u32
-    ensures finished { (limit : ℕ) (s : List ℕ) → WasFedNormaliser limit s normaliser.old
+pub extern "C" fn escape_stream_normal_finish(alloc: Global, normaliser: &mut InChunks) -> u32
+    ensures finished { (limit : ℕ) (s : List ℕ) → NormaliserHasConsumed limit s normaliser.old
         → result ≡ DONE → FinishesNormal limit s normaliser.new }
     ensures refused { result ≢ DONE → (result ≡ NOT_BEGUN) × IsEnded normaliser.new }
     ensures ended { result ≡ NOT_BEGUN ↔ KeepsNone normaliser_in normaliser.old }
 {
-    normal_pieces::normal_finish(alloc, normaliser)
+    normal_chunks::normal_finish(alloc, normaliser)
 }
 
 /// Copies the text that the last call added, from its byte `from` on, to the beginning of `out`,
@@ -105,20 +105,20 @@ pub extern "C" fn escape_stream_normal_finish(alloc: Global, normaliser: &mut In
 #[unsafe(no_mangle)]
 pub extern "C" fn escape_stream_normal_text(
     alloc: Global,
-    normaliser: &mut InPieces,
+    normaliser: &mut InChunks,
     from: usize,
     out: &mut [u8],
 ) -> usize
     ensures copied { Copies (text_of normaliser.old) from out.old out.new result }
     ensures kept { Stays normaliser.old normaliser.new }
 {
-    normal_pieces::normal_text(alloc, normaliser, from, out)
+    normal_chunks::normal_text(alloc, normaliser, from, out)
 }
 
 /// Ends a normaliser, and gives back what it kept. One that is not begun stays so.
 #[unsafe(no_mangle)]
-pub extern "C" fn escape_stream_normal_end(alloc: Global, normaliser: &mut InPieces)
+pub extern "C" fn escape_stream_normal_end(alloc: Global, normaliser: &mut InChunks)
     ensures { IsEnded normaliser.new }
 {
-    normal_pieces::normal_end(alloc, normaliser);
+    normal_chunks::normal_end(alloc, normaliser);
 }

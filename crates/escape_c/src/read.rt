@@ -2,7 +2,7 @@
 ghost use Rattle.std.specs.Prelude.{◌≡◌, ◌≢◌};
 ghost use Rattle.esc_calls.specs.OscValues.{IsValue, table_in};
 ghost use Rattle.esc_calls.specs.Reads.{Reads};
-ghost use Rattle.memory.specs.Refusals.{Refused};
+ghost use Rattle.fallible_alloc.specs.Refusals.{Refused};
 ghost use Rattle.esc_calls.specs.ImageValues.{IsImage, image_table};
 ghost use Rattle.esc_calls.specs.Output.{put_into};
 ghost use Rattle.esc_calls.specs.SixelValues.{IsSixel, sixel_in, sixel_rows};
@@ -13,7 +13,7 @@ use esc_calls::osc_value::OscValue;
 use esc_calls::query_value::QueryValue;
 use esc_calls::sixel_value::SixelValue;
 use esc_calls::{DONE, NO_MEMORY, kitty, osc, sixel, tcap};
-use esc_fields::{FieldRow, SixelRow};
+use flat_values::{FieldRow, SixelRow};
 use std::alloc::Global;
 
 /// Writes to `value` what the command is that the text of an operating system command means, which

@@ -1,19 +1,19 @@
-//! A sanitizer of a stream in pieces: the filter of the program `escfilter`.
+//! A sanitizer of a stream in chunks: the filter of the program `escfilter`.
 ghost use Rattle.std.specs.Prelude.{◌↔◌, ◌≡◌, ◌≢◌, IfSome, List, [], ℕ};
 ghost use Rattle.esc_calls.specs.AccountRows.{row_of};
-ghost use Rattle.esc_calls.specs.InPieces.{IsEnded, KeepsNone, Stays, Takes, text_of};
+ghost use Rattle.esc_calls.specs.InChunks.{IsEnded, KeepsNone, Stays, Takes, text_of};
 ghost use Rattle.esc_calls.specs.Kept.{sanitizer_in};
 ghost use Rattle.esc_calls.specs.Output.{Copies};
 ghost use Rattle.esc_calls.specs.SanitizerOptions.{IsSaid, SaysFault};
-ghost use Rattle.esc_calls.specs.SanitizerPieces.{FinishesSanitizer, WasFedSanitizer, going};
+ghost use Rattle.esc_calls.specs.SanitizerChunks.{FinishesSanitizer, SanitizerHasConsumed, going};
 ghost use Rattle.esc_calls.specs.Sanitizers.{Settings};
 ghost use Rattle.esc_sanitize.specs.Sanitized.{account_in};
-ghost use Rattle.memory.specs.Refusals.{Refused};
+ghost use Rattle.fallible_alloc.specs.Refusals.{Refused};
 
 use esc_calls::account_row::AccountRow;
-use esc_calls::in_pieces::InPieces;
+use esc_calls::in_chunks::InChunks;
 use esc_calls::sanitizer_options::SanitizerOptions;
-use esc_calls::{DONE, NO_MEMORY, NOT_BEGUN, sanitizer_pieces};
+use esc_calls::{DONE, NO_MEMORY, NOT_BEGUN, sanitizer_chunks};
 use std::alloc::Global;
 
 /// Begins a stream, which is filtered as these options say. A sanitizer that was begun before is
@@ -24,19 +24,19 @@ use std::alloc::Global;
 #[unsafe(no_mangle)]
 pub extern "C" fn escape_stream_sanitizer_begin(
     alloc: Global,
-    sanitizer: &mut InPieces,
+    sanitizer: &mut InChunks,
     options: &SanitizerOptions,
 ) -> u32
     ensures begun { result ≡ DONE → (o : Settings) × IsSaid options.now o
-        × WasFedSanitizer o [] sanitizer.new }
+        × SanitizerHasConsumed o [] sanitizer.new }
     ensures wrong { result ≢ DONE → result ≢ NO_MEMORY → SaysFault options.now result }
     ensures refused { result ≢ DONE → IsEnded sanitizer.new }
     ensures memory { result ≡ NO_MEMORY → Refused Global }
 {
-    sanitizer_pieces::sanitizer_begin(alloc, sanitizer, options)
+    sanitizer_chunks::sanitizer_begin(alloc, sanitizer, options)
 }
 
-/// Takes the next piece of the stream. What it adds to the text of the stream is then the text that
+/// Takes the next chunk of the stream. What it adds to the text of the stream is then the text that
 /// [`escape_stream_sanitizer_text`] gives.
 ///
 /// `NO_MEMORY` says that a request for memory was refused: the sanitizer has ended, and what it
@@ -45,17 +45,17 @@ pub extern "C" fn escape_stream_sanitizer_begin(
 #[unsafe(no_mangle)]
 pub extern "C" fn escape_stream_sanitizer_feed(
     alloc: Global,
-    sanitizer: &mut InPieces,
+    sanitizer: &mut InChunks,
     bytes: &[u8],
 ) -> u32
-    ensures taken { (o : Settings) (s : List ℕ) → WasFedSanitizer o s sanitizer.old
-        → result ≡ DONE → Takes (WasFedSanitizer o) (going o) s bytes.now sanitizer.new }
-    ensures memory { (o : Settings) (s : List ℕ) → WasFedSanitizer o s sanitizer.old
+    ensures taken { (o : Settings) (s : List ℕ) → SanitizerHasConsumed o s sanitizer.old
+        → result ≡ DONE → Takes (SanitizerHasConsumed o) (going o) s bytes.now sanitizer.new }
+    ensures memory { (o : Settings) (s : List ℕ) → SanitizerHasConsumed o s sanitizer.old
         → result ≢ DONE → (result ≡ NO_MEMORY) × Refused Global }
     ensures refused { result ≢ DONE → (result ≢ NO_MEMORY → result ≡ NOT_BEGUN)
         × IsEnded sanitizer.new }
 {
-    sanitizer_pieces::sanitizer_feed(alloc, sanitizer, bytes)
+    sanitizer_chunks::sanitizer_feed(alloc, sanitizer, bytes)
 }
 
 /// Ends the stream. What that adds to its text is then the text that
@@ -63,15 +63,15 @@ pub extern "C" fn escape_stream_sanitizer_feed(
 ///
 /// The statuses are those of [`escape_stream_sanitizer_feed`].
 #[unsafe(no_mangle)]
-pub extern "C" fn escape_stream_sanitizer_finish(alloc: Global, sanitizer: &mut InPieces) -> u32
-    ensures finished { (o : Settings) (s : List ℕ) → WasFedSanitizer o s sanitizer.old
+pub extern "C" fn escape_stream_sanitizer_finish(alloc: Global, sanitizer: &mut InChunks) -> u32
+    ensures finished { (o : Settings) (s : List ℕ) → SanitizerHasConsumed o s sanitizer.old
         → result ≡ DONE → FinishesSanitizer o s sanitizer.new }
-    ensures memory { (o : Settings) (s : List ℕ) → WasFedSanitizer o s sanitizer.old
+    ensures memory { (o : Settings) (s : List ℕ) → SanitizerHasConsumed o s sanitizer.old
         → result ≢ DONE → (result ≡ NO_MEMORY) × Refused Global }
     ensures refused { result ≢ DONE → (result ≢ NO_MEMORY → result ≡ NOT_BEGUN)
         × IsEnded sanitizer.new }
 {
-    sanitizer_pieces::sanitizer_finish(alloc, sanitizer)
+    sanitizer_chunks::sanitizer_finish(alloc, sanitizer)
 }
 
 /// Copies the text that the last call added, from its byte `from` on, to the beginning of `out`,
@@ -79,14 +79,14 @@ pub extern "C" fn escape_stream_sanitizer_finish(alloc: Global, sanitizer: &mut 
 #[unsafe(no_mangle)]
 pub extern "C" fn escape_stream_sanitizer_text(
     alloc: Global,
-    sanitizer: &mut InPieces,
+    sanitizer: &mut InChunks,
     from: usize,
     out: &mut [u8],
 ) -> usize
     ensures copied { Copies (text_of sanitizer.old) from out.old out.new result }
     ensures kept { Stays sanitizer.old sanitizer.new }
 {
-    sanitizer_pieces::sanitizer_text(alloc, sanitizer, from, out)
+    sanitizer_chunks::sanitizer_text(alloc, sanitizer, from, out)
 }
 
 /// Writes to `account` what became of the bytes of the stream: of those of the lines, or of the
@@ -97,7 +97,7 @@ pub extern "C" fn escape_stream_sanitizer_text(
 #[unsafe(no_mangle)]
 pub extern "C" fn escape_stream_sanitizer_account(
     alloc: Global,
-    sanitizer: &mut InPieces,
+    sanitizer: &mut InChunks,
     account: &mut AccountRow,
 ) -> u32
     ensures told { result ≡ DONE → IfSome (sanitizer_in sanitizer.old.held.kept)
@@ -106,13 +106,13 @@ pub extern "C" fn escape_stream_sanitizer_account(
         × (account.new ≡ account.old) }
     ensures ended { result ≡ NOT_BEGUN ↔ KeepsNone sanitizer_in sanitizer.old }
 {
-    sanitizer_pieces::sanitizer_account(alloc, sanitizer, account)
+    sanitizer_chunks::sanitizer_account(alloc, sanitizer, account)
 }
 
 /// Ends a sanitizer, and gives back what it kept. One that is not begun stays so.
 #[unsafe(no_mangle)]
-pub extern "C" fn escape_stream_sanitizer_end(alloc: Global, sanitizer: &mut InPieces)
+pub extern "C" fn escape_stream_sanitizer_end(alloc: Global, sanitizer: &mut InChunks)
     ensures { IsEnded sanitizer.new }
 {
-    sanitizer_pieces::sanitizer_end(alloc, sanitizer);
+    sanitizer_chunks::sanitizer_end(alloc, sanitizer);
 }

@@ -3,7 +3,7 @@ ghost use Rattle.esc_calls.specs.Output.{Writes};
 ghost use Rattle.esc_calls.specs.WrittenImages.{IsRefusal, IsText};
 
 use esc_calls::write_kitty;
-use esc_fields::FieldRow;
+use flat_values::FieldRow;
 use std::alloc::Global;
 
 /// Writes the text of the command of kitty's graphics protocol of this kind, which has these

@@ -3,7 +3,7 @@ ghost use Rattle.esc_calls.specs.Output.{Writes};
 ghost use Rattle.esc_calls.specs.WrittenOscs.{IsRefusal, IsText};
 
 use esc_calls::write_osc;
-use esc_fields::FieldRow;
+use flat_values::FieldRow;
 use std::alloc::Global;
 
 /// Writes the text of the operating system command of this kind, which has these fields, to `out`:

@@ -4,7 +4,7 @@ ghost use Rattle.esc_calls.specs.WrittenSixels.{IsRefusal, IsText};
 
 use esc_calls::sixel_value::SixelValue;
 use esc_calls::write_sixel;
-use esc_fields::SixelRow;
+use flat_values::SixelRow;
 use std::alloc::Global;
 
 /// Writes the text of the sixel image that has this value and these rows to `out`: `ESC P`,

@@ -3,7 +3,7 @@ ghost use Rattle.esc_calls.specs.Output.{Writes};
 ghost use Rattle.esc_calls.specs.WrittenQueries.{IsRefusal, IsText};
 
 use esc_calls::write_tcap;
-use esc_fields::FieldRow;
+use flat_values::FieldRow;
 use std::alloc::Global;
 
 /// Writes the text of the termcap query for the names that these fields are to `out`: `ESC P + q`,

@@ -19,7 +19,7 @@ use Rattle.escape_stream.specs.Borrowed.{Awaits as AwaitsRefs, Gets, GetsSome, I
 use Rattle.escape_stream.specs.Lent.{Ends, Lends, LendsNot, MayLend}
 use Rattle.escape_stream.specs.declared.borrowed.ActionRef.{ActionRef}
 use Rattle.escape_stream.specs.declared.borrowed.ActionRef.TheVariants.{Text, Print, Control, Sgr, Sequence, Command, Owned}
-use Rattle.escape_stream.specs.declared.lending.Lending.{Lending}
+use Rattle.escape_stream.specs.declared.borrow_adapter.BorrowAdapter.{BorrowAdapter}
 
 -- a run of ASCII is UTF-8, and its bytes are its characters
 text_small : (b : ℕ) → is_text_byte b ≡ true → b < 128
@@ -81,11 +81,11 @@ some_ends (Command t) vs v ws e = tt
 some_ends (Owned a) vs v ws e = tt
 
 module _ {S A : Type 0} (R : S → ActionRef (Action A) → S → Type 0) where
-  abbrev with_one : Lending S → ℕ → Lending S
+  abbrev with_one : BorrowAdapter S → ℕ → BorrowAdapter S
   with_one p c = record { sink = p.sink; begun = p.begun ++ c ∷ [] }
 
   -- one action, as it is handed on
-  module _ (p q : Lending S) (a : Action A) (r : ActionRef (Action A)) (none : p.begun ≡ [])
+  module _ (p q : BorrowAdapter S) (a : Action A) (r : ActionRef (Action A)) (none : p.begun ≡ [])
       (done : q.begun ≡ []) (means : values_of r ≡ value_of a ∷ []) where
     ends_alone : Ends p a r
     ends_alone = means ∙ ap (λ l. map print l ++ value_of a ∷ []) (sym none)
@@ -101,7 +101,7 @@ module _ {S A : Type 0} (R : S → ActionRef (Action A) → S → Type 0) where
     alone_given Q (Ok x) h = inr (done, r, ends_alone, h)
     alone_given Q (Err e) h = (r, ends_alone, h)
 
-  pub lends_run : (cs : List ℕ) (p q : Lending S) (r : ActionRef (Action A)) → 0 < length cs
+  pub lends_run : (cs : List ℕ) (p q : BorrowAdapter S) (r : ActionRef (Action A)) → 0 < length cs
       → q.begun ≡ []
       → values_of r ≡ map print (p.begun ++ cs) → R p.sink r q.sink
       → FoldsTo (Lends R) p (map action.Print cs) q
@@ -115,7 +115,8 @@ module _ {S A : Type 0} (R : S → ActionRef (Action A) → S → Type 0) where
         (means ∙ ap (map print) (sym (append_assoc p.begun (c ∷ []) (d ∷ cs)))) took,
   )
 
-  pub run_refused : (Q : S → ActionRef (Action A) → S → Type 0) (cs : List ℕ) (p q : Lending S)
+  pub run_refused : (Q : S → ActionRef (Action A) → S → Type 0) (cs : List ℕ)
+      (p q : BorrowAdapter S)
       (r : ActionRef (Action A)) → 0 < length cs
       → values_of r ≡ map print (p.begun ++ cs) → Q p.sink r q.sink
       → StopsAt ⊥ (Lends R) (LendsNot Q) p (map action.Print cs) q
@@ -130,7 +131,7 @@ module _ {S A : Type 0} (R : S → ActionRef (Action A) → S → Type 0) where
             (means ∙ ap (map print) (sym (append_assoc p.begun (c ∷ []) (d ∷ cs)))) refused,
       ))
 
-  pub may_run : (may : S → ActionRef (Action A) → Type 0) (cs : List ℕ) (p : Lending S)
+  pub may_run : (may : S → ActionRef (Action A) → Type 0) (cs : List ℕ) (p : BorrowAdapter S)
       (r : ActionRef (Action A)) → 0 < length cs → values_of r ≡ map print (p.begun ++ cs)
       → Awaits (MayLend may) (Lends R) p (map action.Print cs) → may p.sink r
   may_run may [] p r some means w = absurd (omega arith)
@@ -141,7 +142,7 @@ module _ {S A : Type 0} (R : S → ActionRef (Action A) → S → Type 0) where
       (w.1 (with_one p c) (inl (c, refl, refl, refl)))
 
   -- the values of what ends here, and those after it
-  ends : (p : Lending S) (a : Action A) (r : ActionRef (Action A)) (v : Value A)
+  ends : (p : BorrowAdapter S) (a : Action A) (r : ActionRef (Action A)) (v : Value A)
       (vs : List (Value A))
       → value_of a ≡ v → Ends p a r → values_of r ++ vs ≡ map print p.begun ++ v ∷ vs
   ends p a r v vs is means =
@@ -163,7 +164,7 @@ module _ {S A : Type 0} (R : S → ActionRef (Action A) → S → Type 0) where
   folds_one (x ∷ rs) p mid r q (j, t, rest) u = (j, t, folds_one rs j mid r q rest u)
 
   -- all that was given, in borrowed actions
-  pub gets_refs : (p : Lending S) (vs : List (Value A)) (q : Lending S)
+  pub gets_refs : (p : BorrowAdapter S) (vs : List (Value A)) (q : BorrowAdapter S)
       → FoldsTo (At value_of (Lends R)) p vs q → q.begun ≡ []
       → Gets R p.sink (map print p.begun ++ vs) q.sink
   gets_refs p [] q e done =
@@ -187,8 +188,8 @@ module _ {S A : Type 0} (R : S → ActionRef (Action A) → S → Type 0) where
       )
 
   -- a prefix that was given, and why no more was
-  pub refs_stop : (Q : S → ActionRef (Action A) → S → Type 0) (own : Type 0) (p : Lending S)
-      (vs : List (Value A)) (q : Lending S) → q.begun ≡ []
+  pub refs_stop : (Q : S → ActionRef (Action A) → S → Type 0) (own : Type 0) (p : BorrowAdapter S)
+      (vs : List (Value A)) (q : BorrowAdapter S) → q.begun ≡ []
       → StopsAt own (At value_of (Lends R)) (At value_of (LendsNot Q)) p vs q
       → Stops own R Q p.sink (map print p.begun ++ vs) q.sink
   refs_stop Q own p [] q done e =
@@ -237,7 +238,7 @@ module _ {S A : Type 0} (R : S → ActionRef (Action A) → S → Type 0) where
   module _ (may : S → ActionRef (Action A) → Type 0) (old : S) (all : List (Value A))
       (can : AwaitsRefs may R old all) where
     -- who awaits borrowed actions with these values may be given them by actions
-    pub awaits_lent : (rs : List (ActionRef (Action A))) (p : Lending S) (vs : List (Value A))
+    pub awaits_lent : (rs : List (ActionRef (Action A))) (p : BorrowAdapter S) (vs : List (Value A))
         → all ≡ flat_map values_of rs ++ (map print p.begun ++ vs) → FoldsTo R old rs p.sink
         → Awaits (AnyAt value_of (MayLend may)) (At value_of (Lends R)) p vs
     awaits_lent rs p [] whole took = tt
@@ -264,7 +265,7 @@ module _ {S A : Type 0} (R : S → ActionRef (Action A) → S → Type 0) where
 
   -- a run of characters at once
   module _ (cs : List ℕ) (text : Bor (List ℕ)) (is : chars text.now ≡ cs) (some : 0 < length cs)
-      (p : Lending S) (none : p.begun ≡ []) where
+      (p : BorrowAdapter S) (none : p.begun ≡ []) where
     meant : values_of {A = A} (Text text) ≡ map print (p.begun ++ cs)
     meant = ap (map print) is ∙ ap (λ l. map print (l ++ cs)) (sym none)
 
@@ -275,14 +276,14 @@ module _ {S A : Type 0} (R : S → ActionRef (Action A) → S → Type 0) where
         ⊎_map (λ r. r) (may_run may cs p (Text text) some meant) w
 
     pub text_given : (Q : S → ActionRef (Action A) → S → Type 0) {E : Type 0}
-        (result : Result (Unit {0}) E) (q : Lending S) → q.begun ≡ []
+        (result : Result (Unit {0}) E) (q : BorrowAdapter S) → q.begun ≡ []
         → MatchResult result (λ _. R p.sink (Text text) q.sink) (λ _. Q p.sink (Text text) q.sink)
         → Receives ⊥ (Lends R) (LendsNot Q) result p (map action.Print cs) q
     text_given Q (Ok x) q done h = lends_run cs p q (Text text) some done meant h
     text_given Q (Err e) q done h = run_refused Q cs p q (Text text) some meant h
 
   -- one action, by what it is
-  module _ {V : Type 0} (IsIt : Action A → V → Type 0) (p : Lending S) (none : p.begun ≡ [])
+  module _ {V : Type 0} (IsIt : Action A → V → Type 0) (p : BorrowAdapter S) (none : p.begun ≡ [])
       (vs : List V) (v : V) (a : Action A) (r : ActionRef (Action A)) (one : vs ≡ v ∷ [])
       (is : IsIt a v)
       (means : values_of r ≡ value_of a ∷ []) where
@@ -296,13 +297,13 @@ module _ {S A : Type 0} (R : S → ActionRef (Action A) → S → Type 0) where
         ⊎_map (λ x. x) (λ x. (subst (Awaits (AnyBy IsIt (MayLend may)) (By IsIt (Lends R)) p)
         one x).0 a is r ends_one) w
 
-    pub one_given : (q : Lending S) → q.begun ≡ [] → R p.sink r q.sink
+    pub one_given : (q : BorrowAdapter S) → q.begun ≡ [] → R p.sink r q.sink
         → FoldsTo (By IsIt (Lends R)) p vs q
     one_given q done took =
         subst (λ l. FoldsTo (By IsIt (Lends R)) p l q) (sym one)
         (q, (a, is, inr (done, r, ends_one, took)), refl)
 
-    pub one_refused : (Q : S → ActionRef (Action A) → S → Type 0) (q : Lending S)
+    pub one_refused : (Q : S → ActionRef (Action A) → S → Type 0) (q : BorrowAdapter S)
         → Q p.sink r q.sink
         → StopsAt ⊥ (By IsIt (Lends R)) (By IsIt (LendsNot Q)) p vs q
     one_refused Q q refused =
@@ -310,7 +311,7 @@ module _ {S A : Type 0} (R : S → ActionRef (Action A) → S → Type 0) where
         (inr (inl (a, is, (r, ends_one, refused))))
 
   -- the same of a call that begins and ends with no character begun
-  module _ (p q : Lending S) (vs : List (Value A)) (sink last : S) (first : p.sink ≡ sink)
+  module _ (p q : BorrowAdapter S) (vs : List (Value A)) (sink last : S) (first : p.sink ≡ sink)
       (none : p.begun ≡ []) (after : last ≡ q.sink) (done : q.begun ≡ []) where
     pub gets_lent : FoldsTo (At value_of (Lends R)) p vs q → Gets R sink vs last
     gets_lent h =
@@ -327,7 +328,7 @@ module _ {S A : Type 0} (R : S → ActionRef (Action A) → S → Type 0) where
         (subst (λ l. Stops own R Q p.sink (map print l ++ vs) q.sink) none
         (refs_stop Q own p vs q done h)))
 
-  pub may_lend : (may : S → ActionRef (Action A) → Type 0) (old : S) (p : Lending S)
+  pub may_lend : (may : S → ActionRef (Action A) → Type 0) (old : S) (p : BorrowAdapter S)
       (vs : List (Value A)) → p.sink ≡ old → p.begun ≡ []
       → AwaitsRefs may R old vs → Awaits (AnyAt value_of (MayLend may)) (At value_of (Lends R)) p vs
   may_lend may old p vs same none can =

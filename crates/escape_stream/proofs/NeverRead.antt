@@ -18,7 +18,7 @@ use Rattle.esc_sequences.specs.declared.sgr.Sgr.{Sgr}
 use Rattle.esc_sequences.proofs.CsisBack.{truncated}
 use Rattle.esc_device.specs.Writable.{is_datum, is_high_byte}
 use Rattle.esc_frame.specs.Bodies.{kept_csi_params, has_more_csi_params}
-use Rattle.esc_frame.specs.Classes.{class_of, AllOf, strip, is_noise, in_csi, in_escape, ends_csi, opens}
+use Rattle.esc_frame.specs.Classes.{class_of, AllOf, without_noise, is_noise, in_csi, in_escape, ends_csi, opens}
 use Rattle.esc_frame.specs.Events.{Event}
 use Rattle.esc_frame.specs.Events.Event.{Execute}
 use Rattle.esc_frame.specs.Segments.{Segment, bytes_of, csi_event, csi_events, ends_itself, events_of, HasShape}
@@ -26,11 +26,11 @@ use Rattle.esc_frame.specs.Segments.Opener.{Long, Raw, Pair}
 use Rattle.esc_frame.specs.Segments.Ending.{Open, Rung, Waits}
 use Rattle.esc_frame.specs.Segments.Segment.{Character, Wide, Broken, Stray, Control, HighControl, Terminator, Escape, Csi, Osc, Dcs, Apc, Ignored}
 use Rattle.esc_frame.specs.Segments.Segment.{CutEscape, CutCsi, CutDcs}
-use Rattle.esc_frame.specs.Classes.{those, is_c0}
-use Rattle.esc_frame.proofs.CsiRuns.{body_strip}
+use Rattle.esc_frame.specs.Classes.{bytes_of_class, is_c0}
+use Rattle.esc_frame.proofs.ByteRuns.CsiRuns.{body_strip}
 use Rattle.esc_actions.specs.ControlCodes.{code_of}
 use Rattle.esc_actions.specs.Meaning.{values_from}
-use Rattle.esc_actions.specs.Values.{Value, print, string, control, esc, csi, osc, kitty, sixel, termcap, short, enter, datum, exit, executed, plain}
+use Rattle.esc_actions.specs.Values.{Value, print, string, control, esc, csi, osc, kitty, sixel, termcap, short, enter, datum, exit, control_values, plain}
 use Rattle.esc_actions.specs.Writable.{IsWritable, is_exception}
 use Rattle.esc_actions.specs.declared.control_code.ControlCode.{ControlCode}
 use Rattle.escape_stream.proofs.ParamCounts.{AreRead, first_read, take_few, texts_body, texts_few}
@@ -76,7 +76,7 @@ no_values A = []
 
 -- the values of controls are no sequence
 controls_none : {A : Type 0} (o : Option ControlCode) (vs : List (Value A)) (c : CsiValue)
-    → executed o ++ vs ≡ csi c ∷ [] → vs ≡ csi c ∷ []
+    → control_values o ++ vs ≡ csi c ∷ [] → vs ≡ csi c ∷ []
 controls_none None vs c h = h
 controls_none (Some k) vs c h = absurd cc
 
@@ -89,7 +89,7 @@ after_controls (y ∷ ys) es c h =
     (controls_none (code_of y) (values_from None plain (map Execute ys ++ es)) c h)
 
 no_control : (A : Type 0) (o : Option ControlCode) (c : CsiValue)
-    → executed o ++ [] ≡ one_sequence A c → ⊥
+    → control_values o ++ [] ≡ one_sequence A c → ⊥
 no_control A None c h = cc
 no_control A (Some k) c h = cc
 
@@ -167,12 +167,12 @@ unfolding class_of
 body_byte b h k = grind (arith, nat_tests)
 
 strip_by : (b : ℕ) (x : List ℕ) (t : Bool) → is_noise (class_of b) ≡ t → in_csi (class_of b) ≡ true
-    → list_all is_body_byte (strip x) ≡ true
-    → list_all is_body_byte (if not t then b ∷ strip x else strip x) ≡ true
+    → list_all is_body_byte (without_noise x) ≡ true
+    → list_all is_body_byte (if not t then b ∷ without_noise x else without_noise x) ≡ true
 strip_by b x true e i h = h
 strip_by b x false e i h = rw (body_byte b i e, h) refl
 
-strip_body : (x : List ℕ) → AllOf in_csi x → list_all is_body_byte (strip x) ≡ true
+strip_body : (x : List ℕ) → AllOf in_csi x → list_all is_body_byte (without_noise x) ≡ true
 strip_body [] h = refl
 strip_body (b ∷ x) h =
     let q = and_parts (in_csi (class_of b))
@@ -192,13 +192,13 @@ kept_read : (x : List ℕ) → list_all is_body_byte x ≡ true → AreRead (kep
 unfolding kept_csi_params
 kept_read x h = first_read 256 x h
 
-not_its_text : (x : List ℕ) → AllOf in_csi x → has_more_csi_params (strip x) ≡ true
-    → x ≡ csi_params_text (kept_csi_params (strip x)) → ⊥
+not_its_text : (x : List ℕ) → AllOf in_csi x → has_more_csi_params (without_noise x) ≡ true
+    → x ≡ csi_params_text (kept_csi_params (without_noise x)) → ⊥
 not_its_text x all more e =
-    let s = strip x in
+    let s = without_noise x in
     let read = kept_read s (strip_body x all) in
     let t = csi_params_text (kept_csi_params s) in
-    let same : s ≡ t = ap strip e ∙ body_strip [] t (texts_body (kept_csi_params s) read) in
+    let same : s ≡ t = ap without_noise e ∙ body_strip [] t (texts_body (kept_csi_params s) read) in
     let few = texts_few (kept_csi_params s) read in
     let most = few_kept s in
     let many = many_are s more in
@@ -208,12 +208,13 @@ not_its_text x all more e =
 -- so a control sequence that was cut at 256 parameters is not read of its text
 not_read : (es : List CsiParam) (f g : ℕ) (x : List ℕ) → AllOf in_csi x
     → ends_csi (class_of g) ≡ true → x ++ g ∷ [] ≡ csi_params_text es ++ encode_utf8 f
-    → csi_of (kept_csi_params (strip x)) (has_more_csi_params (strip x)) g ≡ unspecified es true f
+    → csi_of (kept_csi_params (without_noise x)) (has_more_csi_params (without_noise x)) g
+    ≡ unspecified es true f
     ∷ []
     → ⊥
 not_read es f g x all ends e h =
     let (more, kept, final) =
-    came_of (kept_csi_params (strip x)) es g f (has_more_csi_params (strip x)) h in
+    came_of (kept_csi_params (without_noise x)) es g f (has_more_csi_params (without_noise x)) h in
     let last : encode_utf8 f ≡ g ∷ [] =
     ap encode_utf8 (sym final) ∙ encode_ascii g (csi_final_small g ends) in
     let body : x ≡ csi_params_text es =
@@ -240,8 +241,8 @@ truncated_not A es f (Escape (b ∷ x) g) e ends h v =
     no_bracket_inside b x ((heads b 0x5b _ _ (heads 0x1b 0x1b _ _ e).1).0) h.0
 truncated_not A es f (Csi (Long []) x g) e ends h v =
     not_read es f g x h.1 h.2 ((heads 0x5b 0x5b _ _ (heads 0x1b 0x1b _ _ e).1).1)
-    (dispatched A (strip x) g _ (is_csi_body (strip x))
-    (after_controls (those is_c0 x) (csi_events (strip x) g) _ v))
+    (dispatched A (without_noise x) g _ (is_csi_body (without_noise x))
+    (after_controls (bytes_of_class is_c0 x) (csi_events (without_noise x) g) _ v))
 truncated_not A es f (Csi (Long (b ∷ n)) x g) e ends h v =
     no_bracket_noise b n ((heads b 0x5b _ _ (heads 0x1b 0x1b _ _ e).1).0) h.0
 truncated_not A es f (Csi Raw x g) e ends h v = differ 0x9b 0x1b _ _ refl e
@@ -270,7 +271,7 @@ no_print_escape : (A : Type 0) (n : ℕ) (c : Esc) → one_print A n ≡ one_esc
 no_print_escape A n c h = cc
 
 no_control_escape : (A : Type 0) (o : Option ControlCode) (c : Esc)
-    → executed o ++ [] ≡ one_escape A c → ⊥
+    → control_values o ++ [] ≡ one_escape A c → ⊥
 no_control_escape A None c h = cc
 no_control_escape A (Some k) c h = cc
 

@@ -13,7 +13,7 @@ use Rattle.std.proofs.lemmas.Str.{encode_ascii}
 use Rattle.std.proofs.lemmas.Str.Parse.{IsNumeralModel, numerals_by_fold}
 use Rattle.esc_values.specs.declared.csi_param.CsiParam.{CsiParam}
 use Rattle.esc_values.specs.declared.csi_param.CsiParam.TheVariants.{Integer, P}
-use Rattle.esc_values.specs.Params.{is_digit, is_body_byte, held, value_after, csi_params_after, csi_params, param_text, csi_params_text}
+use Rattle.esc_values.specs.Params.{is_digit, is_body_byte, capped_at_i64, value_after, csi_params_after, csi_params, param_text, csi_params_text}
 
 abbrev are_digits : List ℕ → Bool
 are_digits [] = true
@@ -27,9 +27,9 @@ any_by : (n m b : ℕ) (x : List ℕ) (t : Bool)
     → length (csi_params_after (Some (10 * n + (b - 0x30))) x)
     ≡ length (csi_params_after (Some (10 * m + (b - 0x30))) x)
     → length (if t then csi_params_after (Some (10 * n + (b - 0x30))) x else Integer
-    (pos (held n)) ∷ P b ∷ csi_params_after None x)
+    (pos (capped_at_i64 n)) ∷ P b ∷ csi_params_after None x)
     ≡ length (if t then csi_params_after (Some (10 * m + (b - 0x30))) x else Integer
-    (pos (held m)) ∷ P b ∷ csi_params_after None x)
+    (pos (capped_at_i64 m)) ∷ P b ∷ csi_params_after None x)
 any_by n m b x true h = h
 any_by n m b x false h = refl
 
@@ -42,7 +42,7 @@ any_count n m (b ∷ x) =
 -- a number before a text is one parameter more at most
 more_by : (n b : ℕ) (x : List ℕ) (t : Bool)
     → length (if t then csi_params_after (Some (10 * n + (b - 0x30))) x else Integer
-    (pos (held n)) ∷ P b ∷ csi_params_after None x)
+    (pos (capped_at_i64 n)) ∷ P b ∷ csi_params_after None x)
     ≤ 1 + length (if t then csi_params_after (Some (b - 0x30)) x else P b ∷ csi_params_after None x)
 more_by n b x true = let same = any_count (10 * n + (b - 0x30)) (b - 0x30) x in omega arith
 more_by n b x false = omega arith
@@ -68,9 +68,9 @@ some_by : (n b : ℕ) (x y : List ℕ) (t : Bool)
     (csi_params_after (Some (10 * n + (b - 0x30))) x) + length (csi_params y)
     → length (csi_params (x ++ y)) ≤ length (csi_params x) + length (csi_params y)
     → length (if t then csi_params_after (Some (10 * n + (b - 0x30))) (x ++ y) else Integer
-    (pos (held n)) ∷ P b ∷ csi_params_after None (x ++ y))
+    (pos (capped_at_i64 n)) ∷ P b ∷ csi_params_after None (x ++ y))
     ≤ length (if t then csi_params_after (Some (10 * n + (b - 0x30))) x else Integer
-    (pos (held n)) ∷ P b ∷ csi_params_after None x) + length (csi_params y)
+    (pos (capped_at_i64 n)) ∷ P b ∷ csi_params_after None x) + length (csi_params y)
 some_by n b x y true h k = h
 some_by n b x y false h k = omega arith
 
@@ -94,7 +94,7 @@ abbrev pub AreRead : List CsiParam → Type 0
 AreRead [] = Unit {0}
 AreRead (e ∷ es) = IsRead e × AreRead es
 
-held_small : (n : ℕ) → held n < 2 ^ 64
+held_small : (n : ℕ) → capped_at_i64 n < 2 ^ 64
 held_small n = omega arith
 
 read_none_by : (b : ℕ) (x : List ℕ) (t : Bool) → is_body_byte b ≡ true
@@ -107,7 +107,7 @@ read_some_by : (n b : ℕ) (x : List ℕ) (t : Bool) → is_body_byte b ≡ true
     → AreRead (csi_params_after (Some (10 * n + (b - 0x30))) x) → AreRead (csi_params x)
     → AreRead
     (if t then csi_params_after (Some (10 * n + (b - 0x30))) x else Integer
-    (pos (held n)) ∷ P b ∷ csi_params_after None x)
+    (pos (capped_at_i64 n)) ∷ P b ∷ csi_params_after None x)
 read_some_by n b x true i h k = h
 read_some_by n b x false i h k = (held_small n, (i, k))
 

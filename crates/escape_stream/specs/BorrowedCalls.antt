@@ -6,15 +6,15 @@ use Rattle.esc_frame.specs.declared.error.ParseError.{ParseError}
 use Rattle.esc_frame.specs.declared.error.ParseError.TheVariants.{Failed}
 use Rattle.esc_actions.specs.Meaning.{yield_within}
 use Rattle.esc_actions.specs.Values.{Value}
-use Rattle.esc_actions.specs.Writable.{AreHandedOut}
+use Rattle.esc_actions.specs.Writable.{EmittedAreWritable}
 use Rattle.esc_actions.specs.declared.action.Action.{Action}
 use Rattle.esc_parse.specs.Calls.{After, IsRefused, IsStopped, OneOf, StaysBroken}
-use Rattle.esc_parse.specs.Fed.{IsBroken, WasFedWithin}
+use Rattle.esc_parse.specs.Fed.{IsBroken, ParserHasConsumedWithin}
 use Rattle.esc_parse.specs.declared.parser.Parser.{Parser}
 use Rattle.escape_stream.specs.Borrowed.{Awaits, Gets, GetsSome, Stops}
 use Rattle.escape_stream.specs.declared.borrowed.ActionRef.{ActionRef}
 use Rattle.escape_stream.specs.declared.borrowing.BorrowingSink.{Ghosts as Sinks}
-use Rattle.memory.specs.Refusals.{Refused}
+use Rattle.fallible_alloc.specs.Refusals.{Refused}
 
 -- A receiver need not be ready for every borrowed action: the parser has failed, and gives none; or
 -- the receiver awaits what b adds to a stream that the parser may have been fed.
@@ -22,7 +22,7 @@ abbrev pub MayParse : {A S : Type 0} → (S → ActionRef (Action A) → Type 0)
     → (S → ActionRef (Action A) → S → Type 0) → Parser A → S → List ℕ
     → Type 0
 MayParse may takes p old b =
-    IsBroken p ⊎ ((limit : Option ℕ) × (s : List ℕ) × WasFedWithin limit s p
+    IsBroken p ⊎ ((limit : Option ℕ) × (s : List ℕ) × ParserHasConsumedWithin limit s p
     × Awaits may takes old (yield_within limit s b))
 
 -- the sink is ready for any borrowed action, or for these
@@ -60,7 +60,7 @@ CallsOnPrefix {F = F} calls f vs = (last : F) × GetsSome (CallsOn calls) f vs l
 pub record GivesBorrowed {A S : Type 0} (T : Sinks S (Action A)) (old : Parser A) (b : List ℕ)
     (sink : S) (result : Result (Unit {0}) ParseError) (new : Parser A) (back : S) : Type 0 where
   -- they were fed, and the sink was given these, in order
-  pub given : After old (λ limit s. OnOk result (WasFedWithin limit (s ++ b) new
+  pub given : After old (λ limit s. OnOk result (ParserHasConsumedWithin limit (s ++ b) new
       × Gets T.takes sink (yield_within limit s b) back))
   -- an error says that memory was refused, and the sink was given a prefix of them
   pub refused : After old (λ limit s. IsStopped result new
@@ -76,9 +76,9 @@ pub record CallsBorrowed {A F : Type 0} (calls : Callback A F) (old : Parser A) 
     (result : Result (Unit {0}) ParseError) (new : Parser A) : Type 0 where
   -- they were fed, and the closure was called on these, in order
   pub given : After old (λ limit s. OnOk result
-      (WasFedWithin limit (s ++ b) new × CallsOnAll calls f (yield_within limit s b)))
+      (ParserHasConsumedWithin limit (s ++ b) new × CallsOnAll calls f (yield_within limit s b)))
   -- what they add can be written, but for the exceptions
-  pub handed_out : After old (λ limit s. AreHandedOut {A = A} (yield_within limit s b))
+  pub handed_out : After old (λ limit s. EmittedAreWritable {A = A} (yield_within limit s b))
   -- an error says that memory was refused, and the closure was called on a prefix of these
   pub refused : After old (λ limit s. IsRefused result new
       (MayTake (s ++ b) × CallsOnPrefix calls f (yield_within limit s b)))

@@ -3,7 +3,7 @@ ghost use Rattle.std.specs.Prelude.{◌≡◌, ◌+◌, ◌≤◌, [], ◌∷◌
 ghost use Rattle.std.specs.Str.{chars};
 ghost use Rattle.esc_actions.specs.Values.{print, value_of};
 ghost use Rattle.escape_stream.specs.Borrowed.{HasGrown, values_of};
-ghost use Rattle.memory.specs.Refusals.{Refused};
+ghost use Rattle.fallible_alloc.specs.Refusals.{Refused};
 
 use esc_actions::{Action, ControlCode};
 use esc_parse::commands::command_in;
@@ -85,7 +85,7 @@ fn append<A: Allocator>(
         (HasGrown actions.old.items (value_of action ∷ []) actions.new.items) }
     ensures refused { OnErr result ((actions.new.items ≡ actions.old.items) × Refused A) }
 {
-    memory::push(actions, action)?;
+    fallible_alloc::push(actions, action)?;
     Ok(())
 }
 
@@ -95,7 +95,7 @@ fn append_text<A: Allocator>(text: &str, actions: &mut Vec<Action<A>, A>) -> Res
         (HasGrown actions.old.items (map print (chars text.now)) actions.new.items) }
     ensures refused { OnErr result ((actions.new.items ≡ actions.old.items) × Refused A) }
 {
-    memory::reserve_for(actions, text.as_bytes(), 0)?;
+    fallible_alloc::reserve_for(actions, text.as_bytes(), 0)?;
     push_text(text, actions);
     Ok(())
 }

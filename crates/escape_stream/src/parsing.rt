@@ -1,9 +1,9 @@
 //! Reading a stream as borrowed actions.
 ghost use Rattle.escape_stream.specs.BorrowedCalls.{CallsBorrowed, GivesBorrowed, MayCall, MayFeed};
 
+use crate::borrow_adapter::BorrowAdapter;
 use crate::borrowed::ActionRef;
 use crate::borrowing::{BorrowingCalls, BorrowingSink};
-use crate::lending::Lending;
 use esc_actions::{Action, laws};
 use esc_frame::error::ParseError;
 use esc_parse::Parser;
@@ -31,8 +31,8 @@ pub fn parse_borrowed_into<A: Allocator + Copy, S: BorrowingSink<Action<A>>>(
     ensures { GivesBorrowed S.BorrowingSink parser.old bytes.now sink result.0 parser.new
         result.1 }
 {
-    let (result, lending) = parser.parse_into(bytes, Lending::new(sink));
-    (result, lending.into_sink())
+    let (result, borrow_adapter) = parser.parse_into(bytes, BorrowAdapter::new(sink));
+    (result, borrow_adapter.into_sink())
 }
 
 /// Calls `callback`, in order, on borrowed actions that together are exactly the actions that

@@ -4,7 +4,7 @@ ghost use Rattle.esc_actions.specs.Readings.{reading};
 ghost use Rattle.esc_actions.specs.Values.{value_of};
 ghost use Rattle.esc_frame.specs.Segments.{HasShape, Segment as Shape};
 ghost use Rattle.esc_segments.specs.Items.{IsItem};
-ghost use Rattle.memory.specs.Refusals.{Refused};
+ghost use Rattle.fallible_alloc.specs.Refusals.{Refused};
 ghost use Rattle.escape_stream.specs.Reading.{MayWantToRead};
 
 use esc_actions::Action;

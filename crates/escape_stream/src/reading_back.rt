@@ -7,7 +7,7 @@ ghost use Rattle.esc_actions.specs.Values.{value_of};
 ghost use Rattle.esc_actions.specs.Writable.{IsHandedOut, IsWritable};
 ghost use Rattle.escape_stream.specs.Asked.{has_own_text};
 ghost use Rattle.esc_parse.specs.Firsts.{first};
-ghost use Rattle.memory.specs.Refusals.{Refused};
+ghost use Rattle.fallible_alloc.specs.Refusals.{Refused};
 
 use esc_actions::exceptions::is_exception;
 use esc_actions::{Action, laws};

@@ -3,7 +3,7 @@ ghost use Rattle.std.specs.Prelude.{◌≡◌, ◌↔◌, IfOk, IsTrue, OnErr, m
 ghost use Rattle.esc_actions.specs.Values.{value_of};
 ghost use Rattle.esc_actions.specs.Writable.{AreWritable, IsWritable, is_within, stays_within};
 ghost use Rattle.escape_stream.specs.Asked.{wants_text};
-ghost use Rattle.memory.specs.Refusals.{Refused};
+ghost use Rattle.fallible_alloc.specs.Refusals.{Refused};
 
 use crate::clear::{cut_alone, is_clear, is_clear_string, is_datum};
 use crate::reading_back::reads_back;

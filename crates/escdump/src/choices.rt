@@ -5,7 +5,7 @@
 //! (<https://invisible-island.net/xterm/ctlseqs/ctlseqs.html>).
 
 use crate::named::words_of;
-use esc_functions::ControlFunction;
+use control_functions::ControlFunction;
 
 const IN_DISPLAY: &str = "\
 0 below

@@ -1,8 +1,8 @@
 //! Colours of renditions in words.
 
 use dump_page::Phrase;
-use esc_typed::ColorSpec;
 use esc_values::RgbColor;
+use typed_functions::ColorSpec;
 
 /// Adds what has a colour, and the colour: `default`, `palette` and its place there, or `#` and its
 /// red, green and blue, each as two hexadecimal digits.

@@ -1,7 +1,7 @@
 //! Controls in words.
 
+use control_functions::{C0, EscapeFunction};
 use dump_page::Phrase;
-use esc_functions::{C0, EscapeFunction};
 
 /// A C0 control, and how often it came.
 #[derive(Clone, Copy)]

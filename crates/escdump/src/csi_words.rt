@@ -9,8 +9,8 @@ use crate::mode_words::{add_modes, add_private_modes, add_state};
 use crate::named::words_of;
 use crate::renditions::add_renditions;
 use crate::rows::{Row, find_row};
+use control_functions::{ControlFunction, Effect, Parameter, Parameters};
 use dump_page::Phrase;
-use esc_functions::{ControlFunction, Effect, Parameter, Parameters};
 use esc_values::CsiParam;
 
 /// Adds a control sequence by its name, where it has one.

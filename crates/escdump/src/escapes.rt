@@ -1,8 +1,8 @@
 //! Escape sequences in words.
 
 use crate::charsets::{SETS_94, SETS_96, SETS_MULTIPLE, SETS_OTHER, SETS_TWO};
+use control_functions::EscapeFunction;
 use dump_page::Phrase;
-use esc_functions::EscapeFunction;
 use esc_sequences::Esc;
 
 // The bytes of an escape sequence after ESC: its intermediates, of which two are kept, how many

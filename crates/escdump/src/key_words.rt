@@ -3,8 +3,8 @@
 use crate::entries::{number_at, part_at};
 use crate::named::words_of;
 use crate::values::number_in;
+use control_functions::ControlFunction;
 use dump_page::Phrase;
-use esc_functions::ControlFunction;
 use esc_values::CsiParam;
 
 // Function keys (the VT510's manual, chapter 8; xterm's list, "PC-Style Function Keys"; rxvt for 7

@@ -2,8 +2,8 @@
 
 use crate::entries::number_at;
 use crate::named::words_of;
+use control_functions::{ControlFunction, Mode, PrivateMode};
 use dump_page::Phrase;
-use esc_functions::{ControlFunction, Mode, PrivateMode};
 use esc_values::CsiParam;
 
 // What happens where a private mode is set, and where it is reset, of those that people meet, the

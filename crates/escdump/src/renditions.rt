@@ -6,8 +6,8 @@ use crate::csi_words::add_entries;
 use crate::entries::{number_at, part_at};
 use dump_page::Phrase;
 use esc_sequences::Underline;
-use esc_typed::{ColorSpec, Rendition, Renditions, Selection};
 use esc_values::CsiParam;
+use typed_functions::{ColorSpec, Rendition, Renditions, Selection};
 
 // A rendition, by its number.
 #[derive(Clone, Copy)]

@@ -2,8 +2,8 @@
 
 use crate::csi_words::add_sequence;
 use crate::fields::add_label;
+use control_functions::ControlFunction;
 use dump_page::Phrase;
-use esc_functions::ControlFunction;
 use esc_values::CsiParam;
 use std::alloc::{AllocError, Global};
 

@@ -2,7 +2,7 @@
 use Rattle.std.proofs.Common.{◌≡◌, true, Option, None, Some, ◌∙◌}
 use Rattle.esc_actions.specs.Values.{Value}
 use Rattle.esc_filter.specs.Groups.{admits_groups, groups_of, has}
-use Rattle.esc_filter.specs.Pieces.{AdmitsAtMost}
+use Rattle.esc_filter.specs.Tokens.{AdmitsAtMost}
 use Rattle.esc_filter.specs.Rules.{admits}
 use Rattle.esc_filter.specs.declared.group.Group.{Group}
 use Rattle.esc_filter.specs.declared.groups.Groups.{Groups}

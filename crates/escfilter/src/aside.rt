@@ -1,7 +1,7 @@
 //! A file beside the output, for what is told of streams.
 
-use command_line::{Noting, Reason};
-use new_file::{FileFault, Output};
+use atomic_file::{FileFault, Output};
+use command_line::{ErrorCapture, Reason};
 use std::alloc::Global;
 use std::io;
 use std::io::Write;
@@ -10,7 +10,7 @@ use std::io::Write;
 /// does.
 #[derive(Drop)]
 pub struct Aside {
-    output: Noting<Output>,
+    output: ErrorCapture<Output>,
     // what was put into it since the last flush
     held: Vec<u8>,
     // why it is not written any more
@@ -21,7 +21,7 @@ impl Aside {
     /// A file that goes there, and has nothing yet. Takes no memory.
     pub fn new(alloc: Global, output: Output) -> Aside {
         Aside {
-            output: Noting::new(output),
+            output: ErrorCapture::new(output),
             held: Vec::new(alloc),
             fault: None,
         }

@@ -2,7 +2,7 @@
 
 use crate::named_groups::Choice;
 use crate::rows::Rows;
-use esc_cast::{CastError, Recording};
+use asciicast::{CastError, Recording};
 use esc_filter::FilterError;
 use esc_normal::Watched;
 use esc_sanitize::{Auditor, FilterOptions, Sanitizing, sanitizing};
@@ -120,7 +120,7 @@ pub fn filter_recording<'a, R: Read, W: Write>(
     writer: &mut Watched<W>,
 ) -> Filtered<'a> {
     let mut lines = Lines::new(alloc, sanitizing(alloc, options, rows));
-    let outcome = match memory::read_buffer(alloc) {
+    let outcome = match fallible_alloc::read_buffer(alloc) {
         Ok(mut chunk) => filter_lines(&mut lines, reader, writer, chunk.as_mut_slice()),
         Err(_) => Err(CastFault::Stream(FilterError::Memory)),
     };

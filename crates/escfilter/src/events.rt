@@ -1,7 +1,7 @@
 //! What did not pass of streams, one thing after another, in lines of JSON (RFC 8259).
 ghost use Rattle.std.specs.Prelude.{OnErr};
 ghost use Rattle.std.specs.Global.{Global};
-ghost use Rattle.memory.specs.Refusals.{Refused};
+ghost use Rattle.fallible_alloc.specs.Refusals.{Refused};
 
 use crate::aside::Aside;
 use crate::json::{put_fate, put_name, put_place, put_text};
@@ -123,7 +123,7 @@ impl Events {
             event.length = event.length.saturating_add(bytes.len() as u64);
         }
         let room = MOST.saturating_sub(self.bytes.len());
-        memory::extend(&mut self.bytes, &bytes[..bytes.len().min(room)])
+        fallible_alloc::extend(&mut self.bytes, &bytes[..bytes.len().min(room)])
     }
 }
 

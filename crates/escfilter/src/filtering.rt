@@ -11,7 +11,7 @@ use crate::options::{Form, Options};
 use crate::report::tell_text;
 use crate::rows::Rows;
 use crate::told::Told;
-use command_line::{Ended, Noting, Place, Reason, Work, ended_by, unwritten};
+use command_line::{Ended, ErrorCapture, Place, Reason, Work, ended_by, unwritten};
 use esc_account::Account;
 use esc_decode::Input;
 use esc_filter::FilterError;
@@ -65,8 +65,8 @@ impl<'a, W: Write, E: Write> Filtering<'a, W, E> {
         choices_admit_less::<Global>();
         let rows = Rows::new(self.alloc, self.options, events);
         let input = Input::new(self.alloc, self.options.order, input);
-        let mut reader = Watched::new(Noting::new(input));
-        let mut writer = Watched::new(Noting::new(Passage {
+        let mut reader = Watched::new(ErrorCapture::new(input));
+        let mut writer = Watched::new(ErrorCapture::new(Passage {
             output: &mut *self.output,
             is_open: !self.options.is_list,
         }));
@@ -100,8 +100,8 @@ impl<'a, W: Write, E: Write> Filtering<'a, W, E> {
     ) -> (Ended, bool, Option<Events>) {
         let rows = Rows::new(self.alloc, self.options, events);
         let input = Input::new(self.alloc, self.options.order, input);
-        let mut reader = Watched::new(Noting::new(input));
-        let mut writer = Watched::new(Noting::new(Passage {
+        let mut reader = Watched::new(ErrorCapture::new(input));
+        let mut writer = Watched::new(ErrorCapture::new(Passage {
             output: &mut *self.output,
             is_open: !self.options.is_list,
         }));

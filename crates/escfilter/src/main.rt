@@ -21,6 +21,7 @@ mod settings;
 mod told;
 mod values;
 
+use atomic_file::{NewFile, Output};
 use command_line::{
     DONE, Ended, FAULT, OUTPUT, Reason, Wrong, is_text, open_closed, program_words, refused,
     status_after, status_of_text, take_opened, unread, unwritable, work_through, wrong_apart,
@@ -28,7 +29,6 @@ use command_line::{
 use filtering::Filtering;
 use listing::Names;
 use named_groups::Listed;
-use new_file::{NewFile, Output};
 use options::{Kind, Options, Target, Task};
 use std::fs::File;
 use std::io;

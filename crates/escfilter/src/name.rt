@@ -1,8 +1,8 @@
 //! What is left out of a stream, by name.
 
+use control_functions::{C0, ControlFunction, EscapeFunction};
 use esc_actions::Action;
 use esc_device::{DeviceControlMode, EnterDeviceControlMode};
-use esc_functions::{C0, ControlFunction, EscapeFunction};
 use esc_osc::OperatingSystemCommand as Command;
 use esc_segments::SegmentKind;
 use esc_values::Items;

@@ -16,7 +16,7 @@ use std::io::Write;
 /// what did not pass by its name, with the place in the input where the first of it was; and what
 /// the end of the stream leaves open. Where all of it passed, or was respelled, it writes nothing.
 pub fn tell_text<E: Write>(account: Account, rows: &Rows, name: &str, faults: &mut E) {
-    if !is_less(account.sums) {
+    if !has_omissions(account.sums) {
         return;
     }
     tell_sums(account.sums, name, faults);
@@ -29,7 +29,7 @@ pub fn tell_text<E: Write>(account: Account, rows: &Rows, name: &str, faults: &m
 }
 
 /// Whether some bytes are not in the output, in any spelling.
-pub fn is_less(sums: Sums) -> bool
+pub fn has_omissions(sums: Sums) -> bool
     ensures { result ≡ false ↔ IsComplete sums }
 {
     Failing::LESS.is_met(sums)

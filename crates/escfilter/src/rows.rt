@@ -4,7 +4,7 @@ ghost use Rattle.std.specs.Global.{Global};
 ghost use Rattle.esc_account.specs.Entries.{Entry as Told, as_entry};
 ghost use Rattle.esc_account.specs.Tables.{HasAllRows};
 ghost use Rattle.escfilter.specs.Rows.{HasRows, is_respelled, told};
-ghost use Rattle.memory.specs.Refusals.{Refused};
+ghost use Rattle.fallible_alloc.specs.Refusals.{Refused};
 
 use crate::events::Events;
 use crate::name::{Name, kind_name, name_of};

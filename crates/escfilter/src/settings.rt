@@ -3,10 +3,10 @@ ghost use Rattle.std.specs.Prelude.{◌≡◌};
 
 use crate::named_groups::Choice;
 use crate::values::rows_of;
+use caret_notation::Marking;
 use command_line::Given;
 use esc_decode::{CodePage, Encoding, encoding_of};
 use esc_filter::{Guard, Policy, Returns, Unicode};
-use esc_reveal::Marking;
 use esc_sanitize::FilterOptions;
 
 /// What the words say of how streams are filtered. Where they do not say something, the policy may

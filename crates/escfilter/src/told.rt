@@ -5,8 +5,8 @@ use crate::events::Events;
 use crate::failing::{Failing, Gate};
 use crate::options::{Options, Target, Task};
 use crate::{NEW, PROGRAM};
+use atomic_file::{Output, are_one};
 use command_line::{FAULT, unwritable};
-use new_file::{Output, are_one};
 use output_file::is_output;
 use std::fs::metadata;
 

@@ -1,22 +1,22 @@
 -- What is left of the lines of a stream, as HTML.
 use Rattle.std.proofs.Common.{ℕ, ◌≡◌, false, List, [], ◌++◌, Option, Result, Some, ap, refl, subst, sym, ◌∙◌, append_assoc}
 use Rattle.esc_actions.specs.Texts.{list_text, texts_after}
-use Rattle.esc_filter.proofs.Begun.{nothing}
-use Rattle.esc_filter.proofs.Closers.{closed_more}
-use Rattle.esc_filter.proofs.Texts.{added_as, text_longer_as}
+use Rattle.esc_filter.proofs.Output.NothingWasFed.{nothing}
+use Rattle.esc_filter.proofs.GivingBack.GivingBackIsWritable.{closed_more}
+use Rattle.esc_filter.proofs.Output.TextsGrow.{added_as, text_longer_as}
 use Rattle.esc_filter.specs.Closing.{closing}
-use Rattle.esc_filter.specs.Passing.{passed, passed_as}
+use Rattle.esc_filter.specs.Passing.{passed_values, passed_as}
 use Rattle.esc_filter.specs.Rules.{admits}
 use Rattle.esc_normal.specs.Texts.{ends_in_string}
 use Rattle.esc_filter.specs.declared.policy.Policy.TheVariants.{Screen}
-use Rattle.esc_filter.specs.Characters.{kept}
+use Rattle.esc_filter.specs.Characters.{keep_all}
 use Rattle.esc_html.specs.Pages.{closing_text, page_text}
 use Rattle.esc_html.specs.declared.layout.Layout.{Layout}
-use Rattle.esc_lines.proofs.Streams.{final_after_longer, final_after_nil, left_after_more}
-use Rattle.esc_lines.specs.Fed.{final_after, left_after}
-use Rattle.esc_lines.specs.Windows.{Size}
+use Rattle.line_collapse.proofs.Streams.{final_after_longer, final_after_nil, left_after_more}
+use Rattle.line_collapse.specs.Fed.{final_after, left_after}
+use Rattle.line_collapse.specs.Windows.{Size}
 use Rattle.esc_decode.specs.Decodings.{OnlyAdds}
-use Rattle.eschtml.specs.Piped.{after}
+use Rattle.eschtml.specs.Piped.{composed}
 use Rattle.eschtml.specs.Written.{IsHtmlWith, html_with, page_of, screen_text, whole_screen}
 use Rattle.eschtml.specs.declared.options.Options.{Options}
 use Rattle.std.specs.declared.io.traits.Read.{Ghosts as Reader}
@@ -36,33 +36,34 @@ pages_add A limit y = record {
 
 -- what changes the screen has no text where there is nothing, and only grows
 pub no_screen : (A : Type 0) (limit : ℕ) → screen_text A limit [] ≡ []
-no_screen A limit = nothing {A = A} kept limit (admits Screen)
+no_screen A limit = nothing {A = A} keep_all limit (admits Screen)
 
 screen_more : (A : Type 0) (limit : ℕ) (s b : List ℕ)
     → (t : List ℕ) × (screen_text A limit (s ++ b) ≡ screen_text A limit s ++ t)
 screen_more A limit s b = (
-  texts_after (ends_in_string false (passed_as {A = A} kept (Some limit) (admits Screen) s))
-      (added_as kept (Some limit) (admits Screen) s b),
-  text_longer_as kept (Some limit) (admits Screen) s b,
+  texts_after (ends_in_string false (passed_as {A = A} keep_all (Some limit) (admits Screen) s))
+      (added_as keep_all (Some limit) (admits Screen) s b),
+  text_longer_as keep_all (Some limit) (admits Screen) s b,
 )
 
 screen_longer : (A : Type 0) (limit : ℕ) (s : List ℕ)
     → (t : List ℕ) × (whole_screen A limit s ≡ screen_text A limit s ++ t)
 screen_longer A limit s =
-    let vs = passed {A = A} (Some limit) (admits Screen) s in
+    let vs = passed_values {A = A} (Some limit) (admits Screen) s in
     (list_text (closing (admits Screen) vs), closed_more (admits Screen) vs)
 
 -- the same of the HTML of what is left of it
 module _ (A : Type 0) (limit : ℕ) (y : Layout) (z : Size) where
-  pub no_html : after (page_text A (Some limit) y) (final_after A z (screen_text A limit)) [] ≡ []
+  pub no_html : composed (page_text A (Some limit) y) (final_after A z (screen_text A limit)) []
+      ≡ []
   no_html = ap (page_text A (Some limit) y)
       (final_after_nil A z (screen_text A limit) (no_screen A limit))
       ∙ page_of_nothing A (Some limit) y
 
   html_more : (s b : List ℕ)
       → (t : List ℕ)
-      × (after (page_text A (Some limit) y) (final_after A z (screen_text A limit)) (s ++ b)
-      ≡ after (page_text A (Some limit) y) (final_after A z (screen_text A limit)) s ++ t)
+      × (composed (page_text A (Some limit) y) (final_after A z (screen_text A limit)) (s ++ b)
+      ≡ composed (page_text A (Some limit) y) (final_after A z (screen_text A limit)) s ++ t)
   html_more s b =
       let m = screen_text A limit in
       let (a, e) = final_after_longer A z m (final_after A z m) s b refl (screen_more A limit s b)
@@ -74,8 +75,8 @@ module _ (A : Type 0) (limit : ℕ) (y : Layout) (z : Size) where
 
   html_longer : (s : List ℕ)
       → (t : List ℕ)
-      × (after (page_of A limit y) (left_after A z (whole_screen A limit)) s
-      ≡ after (page_text A (Some limit) y) (final_after A z (screen_text A limit)) s ++ t)
+      × (composed (page_of A limit y) (left_after A z (whole_screen A limit)) s
+      ≡ composed (page_text A (Some limit) y) (final_after A z (screen_text A limit)) s ++ t)
   html_longer s =
       let (a, e) = left_after_more A z (screen_text A limit) (whole_screen A limit)
       (screen_longer A limit) s in
@@ -88,9 +89,9 @@ module _ (A : Type 0) (limit : ℕ) (y : Layout) (z : Size) where
             ∙ append_assoc (page_text A (Some limit) y f) t u,
       )
 
-  pub html_adds : OnlyAdds (after (page_text A (Some limit) y)
+  pub html_adds : OnlyAdds (composed (page_text A (Some limit) y)
       (final_after A z (screen_text A limit)))
-      (after (page_of A limit y) (left_after A z (whole_screen A limit)))
+      (composed (page_of A limit y) (left_after A z (whole_screen A limit)))
   html_adds = record { more = html_more; end = html_longer }
 
 -- where these rows may be written again

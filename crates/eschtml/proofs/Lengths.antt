@@ -11,24 +11,24 @@ use Rattle.std.proofs.lemmas.List.{length-append}
 use Rattle.std.proofs.lemmas.Str.{len_utf8_bounds, length-encode}
 use Rattle.esc_actions.specs.Values.{Value}
 use Rattle.esc_decode.proofs.Masks.{length_stays}
-use Rattle.esc_decode.specs.Decodings.{decoded}
+use Rattle.esc_decode.specs.Decodings.{decoded_stream}
 use Rattle.esc_decode.specs.Pages.{character_in, table_of}
 use Rattle.esc_decode.specs.declared.encoding.Encoding.{Encoding}
 use Rattle.esc_decode.specs.declared.encoding.Encoding.TheVariants.{CodePage, EightBit, Utf8}
 use Rattle.esc_frame.specs.Sequences.{is_prefix, is_sequence, number_of, outcome}
 use Rattle.esc_frame.specs.declared.utf8.sequence.Outcome.{Outcome}
 use Rattle.esc_frame.specs.declared.utf8.sequence.Outcome.TheVariants.{Whole, More, Broken}
-use Rattle.esc_html.specs.Lines.{begin_unless, end_if, feeds, in_lines, line_end, lined, next_number, open_after}
+use Rattle.esc_html.specs.Lines.{begin_unless, end_if, feeds, in_lines, line_end, lined_page, next_number, open_after}
 use Rattle.esc_html.specs.Pages.{closing_text, page_text}
 use Rattle.esc_html.specs.declared.layout.Layout.{Layout}
 use Rattle.esc_normal.specs.Io.{Borrowed}
 use Rattle.esc_normal.specs.Streams.{Filters, HasFiltered}
 use Rattle.esc_normal.specs.declared.filter_error.FilterError.{FilterError}
-use Rattle.esc_reveal.specs.Pieces.{is_piece, pieces_after, rest_after}
-use Rattle.esc_reveal.specs.Revealed.{is_kept, piece_text, revealed_whole_as}
-use Rattle.esc_reveal.specs.Visible.{begun_after, character_text, first_begun, first_text, hex_byte, next_begun, next_text, settled, shown, single_text, stray_text, visible}
-use Rattle.esc_reveal.specs.declared.marking.Marking.TheVariants.{Reversed}
-use Rattle.esc_visible.specs.Characters.{digit_at, four_digits, is_shown, leading, number_text}
+use Rattle.caret_notation.specs.Pieces.{is_piece, pieces_after, rest_after}
+use Rattle.caret_notation.specs.Revealed.{is_kept, piece_text, revealed_whole_as}
+use Rattle.caret_notation.specs.Visible.{begun_after, character_text, first_begun, first_text, hex_byte, next_begun, next_text, settled_text, shown_text, single_text, stray_text, visible_text}
+use Rattle.caret_notation.specs.declared.marking.Marking.TheVariants.{Reversed}
+use Rattle.unicode_visibility.specs.Characters.{digit_at, four_digits, is_shown, leading, number_text}
 use Rattle.eschtml.specs.Lengths.{IsShort, IsShortBy, most_content, most_decoded, most_seen}
 use Rattle.eschtml.specs.Written.{IsHtml, IsPageBy, html_of, layout_by, seen_by, whole_in}
 use Rattle.eschtml.specs.Written.{is_kept as is_kept_value}
@@ -118,33 +118,33 @@ next_most f b = by (is_sequence (f ++ b ∷ [])) (is_prefix (f ++ b ∷ [])) ref
         omega (arith, length-append (stray_text f) (first_text b), stray_size f, first_most b)
 
 settled_most : (f s : List ℕ)
-    → length (settled f s) + 4 * length (begun_after f s) ≤ 4 * length f + 4 * length s
+    → length (settled_text f s) + 4 * length (begun_after f s) ≤ 4 * length f + 4 * length s
 settled_most f [] = omega arith
 settled_most f (b ∷ s) =
     let n = next_begun f b (outcome f b) in
     omega (
       arith,
-      length-append (next_text f b (outcome f b)) (settled n s),
+      length-append (next_text f b (outcome f b)) (settled_text n s),
       next_most f b,
       settled_most n s,
     )
 
-visible_most : (s : List ℕ) → length (visible s) ≤ 4 * length s
+visible_most : (s : List ℕ) → length (visible_text s) ≤ 4 * length s
 visible_most s =
     let f = begun_after [] s in
     omega (
       arith,
-      length-append (settled [] s) (stray_text f),
+      length-append (settled_text [] s) (stray_text f),
       stray_size f,
       settled_most [] s,
     )
 
 -- ---- what is revealed in reverse video: at most 13 bytes for each
 
-shown_most : (p : List ℕ) → length (shown Reversed p) ≤ 13 * length p
+shown_most : (p : List ℕ) → length (shown_text Reversed p) ≤ 13 * length p
 shown_most [] = omega arith
 shown_most (b ∷ p) =
-    let v = visible (b ∷ p) in
+    let v = visible_text (b ∷ p) in
     omega (
       arith,
       visible_most (b ∷ p),
@@ -158,7 +158,7 @@ module _ {A : Type 0} (limit : ℕ) (admits : Value A → Bool) where
   text_most : (p : List ℕ) → length (text p) ≤ 13 * length p
   text_most p = by (is_kept Reversed limit admits p)
     where
-      by : (k : Bool) → length (if k then p else shown Reversed p) ≤ 13 * length p
+      by : (k : Bool) → length (if k then p else shown_text Reversed p) ≤ 13 * length p
       by true = omega arith
       by false = shown_most p
 
@@ -196,7 +196,7 @@ module _ {A : Type 0} (limit : ℕ) (admits : Value A → Bool) where
       let r = rest_after false [] s in
       omega (
         arith,
-        length-append (flat_map text (pieces_after false [] s)) (shown Reversed r),
+        length-append (flat_map text (pieces_after false [] s)) (shown_text Reversed r),
         all_most [] s,
         shown_most r,
       )
@@ -215,7 +215,7 @@ characters_most t (b ∷ s) =
       characters_most t s,
     )
 
-decoded_most : (e : Encoding) (s : List ℕ) → length (decoded e s) ≤ most_decoded e (length s)
+decoded_most : (e : Encoding) (s : List ℕ) → length (decoded_stream e s) ≤ most_decoded e (length s)
 decoded_most Utf8 s = omega (arith, length_stays s)
 decoded_most EightBit s = omega arith
 decoded_most (CodePage p) s = characters_most (table_of p) s
@@ -228,7 +228,7 @@ whole_most A false limit s n h = h
 
 seen_most : (A : Type 0) (o : Options) (s : List ℕ)
     → length (seen_by A o false true s) ≤ most_content o s
-seen_most A o s = whole_most A o.shows o.limit (decoded o.encoding s)
+seen_most A o s = whole_most A o.shows o.limit (decoded_stream o.encoding s)
     (most_decoded o.encoding (length s)) (decoded_most o.encoding s)
 
 -- ---- lines
@@ -238,17 +238,19 @@ feeds_append [] t = omega arith
 feeds_append (b ∷ s) t = omega (arith, feeds_append s t)
 
 -- no line feed of a text is left out where its lines are elements
-more_feeds : (n : ℕ) (t : List ℕ) (x : Bool) → feeds t ≤ feeds (lined (next_number n) false t)
-    → feeds t ≤ feeds (lined n true t)
-    → feeds t ≤ feeds (if x then line_end ++ lined (next_number n) false t else lined n true t)
+more_feeds : (n : ℕ) (t : List ℕ) (x : Bool) → feeds t ≤ feeds (lined_page (next_number n) false t)
+    → feeds t ≤ feeds (lined_page n true t)
+    → feeds t ≤ feeds (if x then line_end ++ lined_page (next_number n) false t
+    else lined_page n true t)
 more_feeds n t true h k =
-    omega (arith, h, feeds_append line_end (lined (next_number n) false t))
+    omega (arith, h, feeds_append line_end (lined_page (next_number n) false t))
 more_feeds n t false h k = k
 
-lined_feeds : (n : ℕ) (begun : Bool) (t : List ℕ) → feeds t ≤ feeds (lined n begun t)
+lined_feeds : (n : ℕ) (begun : Bool) (t : List ℕ) → feeds t ≤ feeds (lined_page n begun t)
 lined_feeds n begun [] = omega arith
 lined_feeds n begun (b ∷ t) =
-    let more = if b == 0x0a then line_end ++ lined (next_number n) false t else lined n true t in
+    let more = if b == 0x0a then line_end ++ lined_page (next_number n) false t
+    else lined_page n true t in
     omega (
       arith,
       feeds_append (begin_unless begun n) (b ∷ more),
@@ -259,7 +261,7 @@ in_lines_feeds : (n : ℕ) (t : List ℕ) → feeds t ≤ feeds (in_lines n t)
 in_lines_feeds n t = omega (
   arith,
   lined_feeds n false t,
-  feeds_append (lined n false t) (end_if (open_after false t)),
+  feeds_append (lined_page n false t) (end_if (open_after false t)),
 )
 
 -- ---- pages

@@ -3,13 +3,13 @@ use Rattle.std.proofs.Common.{ℕ, ◌≡◌, true, false, List, [], ◌++◌, O
 use Rattle.esc_decode.specs.Decodings.{OnlyAdds}
 use Rattle.esc_html.proofs.Lined.{lined_more}
 use Rattle.esc_html.specs.LinedPages.{IsLinedPage}
-use Rattle.esc_html.specs.Lines.{end_if, in_lines, lined, number_after, open_after}
+use Rattle.esc_html.specs.Lines.{end_if, in_lines, lined_page, number_after, open_after}
 use Rattle.esc_html.specs.Lining.{EndsLines, TakesLines, added_in}
 use Rattle.esc_html.specs.Pages.{closing_text, page_text}
 use Rattle.esc_html.specs.Shown.{IsPage}
 use Rattle.esc_html.specs.declared.layout.Layout.{Layout}
 use Rattle.esc_html.specs.declared.line_writer.LineWriter.{LineWriter}
-use Rattle.esc_normal.specs.declared.feeding.Feeding.{Ghosts as Feeder}
+use Rattle.esc_normal.specs.declared.feeding.StreamFilter.{Ghosts as Feeder}
 use Rattle.eschtml.specs.Lined.{FeedsLines, ended_in, going_in}
 use Rattle.eschtml.specs.Written.{IsHtml, IsPageBy, ended_by, going_by, html_of, layout_by, page_of}
 use Rattle.eschtml.specs.declared.lined.Lined.{Lined}
@@ -19,23 +19,23 @@ use Rattle.eschtml.specs.declared.options.Options.{Options}
 
 -- what a text adds that comes after another
 abbrev more_lines : ℕ → List ℕ → List ℕ → List ℕ
-more_lines n s t = lined (number_after n s) (open_after false s) t
+more_lines n s t = lined_page (number_after n s) (open_after false s) t
 
 abbrev last_lines : ℕ → List ℕ → List ℕ → List ℕ
 last_lines n s t = more_lines n s t ++ end_if (open_after false (s ++ t))
 
 ended_more : (n : ℕ) (s t : List ℕ)
-    → in_lines n (s ++ t) ≡ lined n false s ++ last_lines n s t
+    → in_lines n (s ++ t) ≡ lined_page n false s ++ last_lines n s t
 ended_more n s t =
     ap (λ x. x ++ end_if (open_after false (s ++ t))) (lined_more n false s t)
-    ∙ append_assoc (lined n false s) (more_lines n s t) (end_if (open_after false (s ++ t)))
+    ∙ append_assoc (lined_page n false s) (more_lines n s t) (end_if (open_after false (s ++ t)))
 
 pub lines_add : (n : ℕ) (m c : List ℕ → List ℕ) → OnlyAdds m c
     → OnlyAdds (going_in n m) (ended_in n c)
 lines_add n m c only = record {
   more = λ s b.
       let (t, e) = only.more s b in
-      (more_lines n (m s) t, ap (lined n false) e ∙ lined_more n false (m s) t);
+      (more_lines n (m s) t, ap (lined_page n false) e ∙ lined_more n false (m s) t);
   end = λ s.
       let (t, e) = only.end s in
       (last_lines n (m s) t, ap (in_lines n) e ∙ ended_more n (m s) t);
@@ -45,7 +45,7 @@ lines_add n m c only = record {
 
 module _ {F A : Type 0} (V : Feeder F A) (f : Lined F A) (m c : List ℕ → List ℕ) (s : List ℕ)
     (h : FeedsLines V f m c s) where
-  goes_on : (x : List ℕ) → m x ≡ lined h.first false (h.inner x)
+  goes_on : (x : List ℕ) → m x ≡ lined_page h.first false (h.inner x)
   goes_on x = ap (λ k. k x) h.goes_on
 
   ended : (x : List ℕ) → c x ≡ in_lines h.first (h.inner_end x)
@@ -77,7 +77,7 @@ module _ {F A : Type 0} (V : Feeder F A) (f : Lined F A) (m c : List ℕ → Lis
       goes_on = h.goes_on;
       ended = h.ended;
     }),
-    goes_on (s ++ b) ∙ ap (lined h.first false) more ∙ text
+    goes_on (s ++ b) ∙ ap (lined_page h.first false) more ∙ text
         ∙ ap (λ y. y ++ added_in w) (sym (goes_on s)),
   )
 

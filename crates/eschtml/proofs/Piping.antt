@@ -1,6 +1,6 @@
 -- What a filter of the text of another adds.
 use Rattle.std.proofs.Common.{ℕ, ◌≡◌, List, ◌++◌, ap, sym, ◌∙◌, append_assoc}
-use Rattle.esc_normal.specs.declared.feeding.Feeding.{Ghosts as Feeder}
+use Rattle.esc_normal.specs.declared.feeding.StreamFilter.{Ghosts as Feeder}
 use Rattle.eschtml.specs.Piped.{Pipes}
 
 module _ {F G A : Type 0} (V : Feeder F A) (W : Feeder G A) (f : F) (g : G)

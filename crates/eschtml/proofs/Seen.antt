@@ -4,18 +4,18 @@ use Rattle.std.specs.List.{list_all}
 use Rattle.std.proofs.lemmas.Bool.{false_from_ne_true}
 use Rattle.memchr.specs.Find.{is_byte}
 use Rattle.esc_actions.specs.Values.{print}
-use Rattle.esc_decode.specs.Decodings.{OnlyAdds, decoded}
+use Rattle.esc_decode.specs.Decodings.{OnlyAdds, decoded_stream}
 use Rattle.esc_decode.specs.declared.encoding.Encoding.{Encoding}
 use Rattle.esc_decode.specs.declared.encoding.Encoding.TheVariants.{CodePage, EightBit, Utf8}
 use Rattle.esc_filter.specs.declared.admit.Admit.{Ghosts as Admitter}
-use Rattle.esc_reveal.proofs.Begins.{through_longer}
-use Rattle.esc_reveal.proofs.Cutting.{rest_none}
-use Rattle.esc_reveal.proofs.Longer.{revealed_longer}
-use Rattle.esc_reveal.specs.Fed.{text_by, whole_by}
-use Rattle.esc_reveal.specs.Revealed.{revealed_as, revealed_whole_as}
-use Rattle.esc_reveal.specs.Through.{through, through_whole}
-use Rattle.esc_reveal.specs.declared.marking.Marking.TheVariants as marking
-use Rattle.esc_reveal.specs.declared.reveal.Rule.{Rule}
+use Rattle.caret_notation.proofs.Begins.{through_longer}
+use Rattle.caret_notation.proofs.Cutting.{rest_none}
+use Rattle.caret_notation.proofs.Longer.{revealed_longer}
+use Rattle.caret_notation.specs.Fed.{text_by, whole_by}
+use Rattle.caret_notation.specs.Revealed.{revealed_as, revealed_whole_as}
+use Rattle.caret_notation.specs.Through.{through, through_whole}
+use Rattle.caret_notation.specs.declared.marking.Marking.TheVariants as marking
+use Rattle.caret_notation.specs.declared.reveal.Rule.{Rule}
 use Rattle.eschtml.specs.Written.{going_in, is_kept, whole_in}
 
 -- where nothing is shown
@@ -77,7 +77,7 @@ all_stay A moves (b ∷ x) h =
 -- ---- nothing
 
 -- nothing becomes nothing
-pub nothing_decoded : (e : Encoding) → decoded e [] ≡ []
+pub nothing_decoded : (e : Encoding) → decoded_stream e [] ≡ []
 nothing_decoded Utf8 = refl
 nothing_decoded EightBit = refl
 nothing_decoded (CodePage p) = refl
@@ -89,7 +89,7 @@ no_sight_of m A true limit moves h = ap m (rest_none marking.Reversed limit) ∙
 no_sight_of m A false limit moves h = h
 
 pub no_sight : (m : List ℕ → List ℕ) (A : Type 0) (e : Encoding) (shows : Bool) (limit : ℕ)
-    (moves : Bool) → m [] ≡ [] → m (going_in A shows limit moves (decoded e [])) ≡ []
+    (moves : Bool) → m [] ≡ [] → m (going_in A shows limit moves (decoded_stream e [])) ≡ []
 no_sight m A e shows limit moves h =
     ap (λ s. m (going_in A shows limit moves s)) (nothing_decoded e)
     ∙ no_sight_of m A shows limit moves h

@@ -1,14 +1,14 @@
 -- A filter of which the text is a page, and elements of its lines.
 use Rattle.std.specs.Prelude.{ℕ, ◌≡◌, List, false}
 use Rattle.esc_decode.specs.Decodings.{OnlyAdds}
-use Rattle.esc_html.specs.Lines.{in_lines, lined}
+use Rattle.esc_html.specs.Lines.{in_lines, lined_page}
 use Rattle.esc_html.specs.Lining.{WasLined}
-use Rattle.esc_normal.specs.declared.feeding.Feeding.{Ghosts as Feeder}
+use Rattle.esc_normal.specs.declared.feeding.StreamFilter.{Ghosts as Feeder}
 use Rattle.eschtml.specs.declared.lined.Lined.{Lined}
 
 -- the text of a stream that goes on, with its lines in elements; and of one that has ended
 abbrev pub going_in : ℕ → (List ℕ → List ℕ) → List ℕ → List ℕ
-going_in n m s = lined n false (m s)
+going_in n m s = lined_page n false (m s)
 
 abbrev pub ended_in : ℕ → (List ℕ → List ℕ) → List ℕ → List ℕ
 ended_in n c s = in_lines n (c s)

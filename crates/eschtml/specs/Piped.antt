@@ -1,7 +1,7 @@
 -- A filter of the text of another.
 use Rattle.std.specs.Prelude.{ℕ, ◌≡◌, List, []}
 use Rattle.esc_decode.specs.Decodings.{OnlyAdds}
-use Rattle.esc_normal.specs.declared.feeding.Feeding.{Ghosts as Feeder}
+use Rattle.esc_normal.specs.declared.feeding.StreamFilter.{Ghosts as Feeder}
 
 -- this holds of the texts that a filter gives, which was fed nothing; nothing has no text, and more
 -- of a stream only adds to its text
@@ -10,8 +10,8 @@ abbrev pub NewAdding : {F A : Type 0} → Feeder F A → F
 NewAdding V f C = (m c : List ℕ → List ℕ) → V.gives f m c [] → m [] ≡ [] → OnlyAdds m c → C m c
 
 -- one after the other
-abbrev pub after : (List ℕ → List ℕ) → (List ℕ → List ℕ) → List ℕ → List ℕ
-after g f s = g (f s)
+abbrev pub composed : (List ℕ → List ℕ) → (List ℕ → List ℕ) → List ℕ → List ℕ
+composed g f s = g (f s)
 
 -- The first was fed this stream, and the second its text: the text of both is that of the second,
 -- of the text of the first.
@@ -24,5 +24,5 @@ pub record Pipes {F G A : Type 0} (V : Feeder F A) (W : Feeder G A) (f : F) (g :
   pub adds : OnlyAdds of_second second_ended
   pub first : V.gives f of_first first_ended s
   pub second : W.gives g of_second second_ended (of_first s)
-  pub goes_on : m ≡ after of_second of_first
-  pub ended : c ≡ after second_ended first_ended
+  pub goes_on : m ≡ composed of_second of_first
+  pub ended : c ≡ composed second_ended first_ended

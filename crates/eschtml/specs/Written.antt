@@ -1,22 +1,22 @@
 -- What is written of a stream.
 use Rattle.std.specs.Prelude.{ℕ, ◌≡◌, Bool, true, false, not, ◌&&◌, ◌||◌, if◌then◌else◌, List, ◌++◌, Option, None, Some, is_some, max}
 use Rattle.esc_actions.specs.Values.{Value, csi}
-use Rattle.esc_decode.specs.Decodings.{decoded}
+use Rattle.esc_decode.specs.Decodings.{decoded_stream}
 use Rattle.esc_filter.specs.Passing.{closed_text, passed_text}
 use Rattle.esc_filter.specs.Rules.{admits}
 use Rattle.esc_filter.specs.declared.policy.Policy.TheVariants.{Screen}
 use Rattle.esc_html.specs.LinedPages.{IsLinedPage}
-use Rattle.esc_html.specs.Lines.{in_lines, lined}
+use Rattle.esc_html.specs.Lines.{in_lines, lined_page}
 use Rattle.esc_html.specs.Marks.{is_shown}
 use Rattle.esc_html.specs.Pages.{closing_text, page_text}
 use Rattle.esc_html.specs.Shown.{IsPage}
 use Rattle.esc_html.specs.declared.layout.Layout.{Layout}
-use Rattle.esc_lines.specs.Fed.{final_after, left_after}
-use Rattle.esc_lines.specs.Windows.{Size, sized}
-use Rattle.esc_looks.specs.Looks.{look_after, plain_look}
-use Rattle.esc_looks.specs.declared.look.Look.{Look}
-use Rattle.esc_reveal.specs.Revealed.{revealed_as, revealed_whole_as}
-use Rattle.esc_reveal.specs.declared.marking.Marking.TheVariants.{Reversed}
+use Rattle.line_collapse.specs.Fed.{final_after, left_after}
+use Rattle.line_collapse.specs.Windows.{Size, window_size}
+use Rattle.esc_style.specs.Looks.{look_after, plain_look}
+use Rattle.esc_style.specs.declared.look.Look.{Look}
+use Rattle.caret_notation.specs.Revealed.{revealed_as, revealed_whole_as}
+use Rattle.caret_notation.specs.declared.marking.Marking.TheVariants.{Reversed}
 use Rattle.eschtml.specs.declared.options.Options.{Options}
 use Rattle.eschtml.specs.declared.stream.TheConstants.{COLUMNS}
 
@@ -31,7 +31,7 @@ layout_by (Some n) y = record y { per_line = true }
 -- this is the number of the first
 abbrev pub going_by : Option ℕ → List ℕ → List ℕ
 going_by None t = t
-going_by (Some n) t = lined n false t
+going_by (Some n) t = lined_page n false t
 
 abbrev pub ended_by : Option ℕ → List ℕ → List ℕ
 ended_by None t = t
@@ -84,14 +84,14 @@ whole_in A shows limit moves s =
 
 -- of what the stream becomes by its encoding
 abbrev pub seen_by : Type 0 → Options → Bool → Bool → List ℕ → List ℕ
-seen_by A o moves true s = whole_in A o.shows o.limit moves (decoded o.encoding s)
-seen_by A o moves false s = going_in A o.shows o.limit moves (decoded o.encoding s)
+seen_by A o moves true s = whole_in A o.shows o.limit moves (decoded_stream o.encoding s)
+seen_by A o moves false s = going_in A o.shows o.limit moves (decoded_stream o.encoding s)
 
 -- ---- what is left of lines
 
 -- so many rows may be written again
 abbrev pub size_of : ℕ → Size
-size_of n = sized (max n 1) COLUMNS
+size_of n = window_size (max n 1) COLUMNS
 
 -- what changes the screen of a stream, as text, of one that goes on, and of one that has ended
 abbrev pub screen_text : Type 0 → ℕ → List ℕ → List ℕ

@@ -6,7 +6,9 @@ use crate::options::Options;
 use crate::page::{AFTER, Side, before, counted, ending, group, heading, lost_note};
 use crate::stream::{PROGRAM, write_html};
 use crate::strings::Lost;
-use command_line::{Ended, Noting, Place, Reason, Shown, Work, ended_by, tell, unread, unwritten};
+use command_line::{
+    Ended, ErrorCapture, Place, Reason, Shown, Work, ended_by, tell, unread, unwritten,
+};
 use esc_decode::Input;
 use esc_filter::FilterError;
 use esc_normal::Watched;
@@ -156,7 +158,7 @@ impl<'a, W: Write, E: Write> Converting<'a, W, E> {
         if is_last(ended) {
             return ended;
         }
-        let text = memory::text(self.alloc, AFTER);
+        let text = fallible_alloc::text(self.alloc, AFTER);
         self.push(ended, text)
     }
 
@@ -173,8 +175,8 @@ impl<'a, W: Write, E: Write> Converting<'a, W, E> {
     // Writes the HTML of what this reads, of a stream of this name.
     fn write<R: Read + Drop>(&mut self, name: &str, input: R) -> Ended {
         let options = self.numbered();
-        let mut reader = Watched::new(Noting::new(input));
-        let mut writer = Watched::new(Noting::new(Counting::new(&mut *self.output)));
+        let mut reader = Watched::new(ErrorCapture::new(input));
+        let mut writer = Watched::new(ErrorCapture::new(Counting::new(&mut *self.output)));
         let outcome = write_html(self.alloc, &options, &mut reader, &mut writer);
         let writer = writer.into_inner();
         let reason = reader.into_inner().reason().or(writer.reason());

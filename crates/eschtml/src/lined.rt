@@ -4,7 +4,7 @@ ghost use Rattle.esc_decode.specs.Decodings.{OnlyAdds};
 ghost use Rattle.esc_html.specs.Lining.{added_in};
 ghost use Rattle.eschtml.specs.Lined.{FeedsLines, ended_in, going_in};
 
-use esc_filter::Feeding;
+use esc_filter::StreamFilter;
 use esc_html::LineWriter;
 use std::alloc::{AllocError, Allocator, Global};
 
@@ -15,13 +15,13 @@ pub struct Lined<F, A: Allocator = Global> {
     lines: LineWriter<A>,
 }
 
-impl<F: Feeding<A>, A: Allocator + Copy> Lined<F, A> {
+impl<F: StreamFilter<A>, A: Allocator + Copy> Lined<F, A> {
     /// This filter, and lines of which the first has this number. Takes no memory.
     pub fn new(alloc: A, first: u64, filter: F) -> Lined<F, A>
         ensures filter { result.filter ≡ filter }
         ensures begins { (m c : List ℕ → List ℕ) → F.gives filter m c [] → m [] ≡ []
             → OnlyAdds m c
-            → FeedsLines F.Feeding result (going_in first m) (ended_in first c) [] }
+            → FeedsLines F.StreamFilter result (going_in first m) (ended_in first c) [] }
     {
         Lined {
             filter,
@@ -30,24 +30,24 @@ impl<F: Feeding<A>, A: Allocator + Copy> Lined<F, A> {
     }
 }
 
-impl<F: Feeding<A>, A: Allocator + Copy> Feeding<A> for Lined<F, A> {
-    ghost gives = { λ f m c s. FeedsLines F.Feeding f m c s };
+impl<F: StreamFilter<A>, A: Allocator + Copy> StreamFilter<A> for Lined<F, A> {
+    ghost gives = { λ f m c s. FeedsLines F.StreamFilter f m c s };
 
     ghost added = { λ f. added_in f.lines };
 
     ghost has_ended = { λ _ _ _. Unit {0} };
 
-    fn feed_piece(&mut self, bytes: &[u8]) -> Result<(), AllocError> {
-        self.filter.feed_piece(bytes)?;
-        self.lines.feed(self.filter.added_text())
+    fn feed_chunk(&mut self, bytes: &[u8]) -> Result<(), AllocError> {
+        self.filter.feed_chunk(bytes)?;
+        self.lines.feed(self.filter.output_text())
     }
 
     fn finish_all(&mut self) -> Result<(), AllocError> {
         self.filter.finish_all()?;
-        self.lines.end(self.filter.added_text())
+        self.lines.end(self.filter.output_text())
     }
 
-    fn added_text(&self) -> &str {
+    fn output_text(&self) -> &str {
         self.lines.html()
     }
 }

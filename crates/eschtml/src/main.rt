@@ -16,13 +16,13 @@ mod stream;
 mod strings;
 mod style;
 
+use atomic_file::{NewFile, Output};
 use command_line::{
     DONE, FAULT, INPUT, OUTPUT, is_text, open_closed, program_words, refused, status_of_text, tell,
     unwritable, work_through, wrong_apart,
 };
 use converting::Converting;
 use esc_filter::FilterError;
-use new_file::{NewFile, Output};
 use options::{Kind, Options, Task};
 use page::{END, head};
 use std::alloc::{AllocError, Global};

@@ -33,24 +33,24 @@ pub fn head(alloc: Global, title: &str, options: &Options<'_>) -> Result<String,
 }
 
 fn push_head(text: &mut String, title: &str, options: &Options<'_>) -> Result<(), AllocError> {
-    memory::push_str(text, "<!DOCTYPE html>\n<html lang=\"")?;
+    fallible_alloc::push_str(text, "<!DOCTYPE html>\n<html lang=\"")?;
     push_value(text, options.lang)?;
-    memory::push_str(
+    fallible_alloc::push_str(
         text,
         "\">\n<head>\n<meta charset=\"utf-8\">\n\
          <meta http-equiv=\"Content-Security-Policy\" content=\"",
     )?;
-    memory::push_str(text, allowed(options.css))?;
-    memory::push_str(
+    fallible_alloc::push_str(text, allowed(options.css))?;
+    fallible_alloc::push_str(
         text,
         "\">\n<meta name=\"viewport\" content=\"width=device-width, initial-scale=1\">\n<title>",
     )?;
     push_title(text, title)?;
-    memory::push_str(text, "</title>\n")?;
+    fallible_alloc::push_str(text, "</title>\n")?;
     push_sheet(text, options)?;
-    memory::push_str(text, "</head>\n<body>\n<main>\n<h1>")?;
+    fallible_alloc::push_str(text, "</head>\n<body>\n<main>\n<h1>")?;
     push_title(text, title)?;
-    memory::push_str(text, "</h1>\n")
+    fallible_alloc::push_str(text, "</h1>\n")
 }
 
 // Appends a title, with U+FFFD in the place of controls and noncharacters: some are no HTML, and
@@ -70,7 +70,7 @@ fn as_characters(alloc: Global, title: &str) -> Result<String, AllocError> {
 fn push_characters(shown: &mut String, title: &str) -> Result<(), AllocError> {
     for c in title.chars() {
         let stays = !is_control(c) && !is_noncharacter(c);
-        memory::push_char(shown, if stays { c } else { '\u{fffd}' })?;
+        fallible_alloc::push_char(shown, if stays { c } else { '\u{fffd}' })?;
     }
     Ok(())
 }
@@ -107,16 +107,16 @@ fn colors_of(options: &Options<'_>) -> (Theme, Option<Palette>) {
 fn push_sheet(text: &mut String, options: &Options<'_>) -> Result<(), AllocError> {
     match options.css {
         Some(address) => {
-            memory::push_str(text, "<link rel=\"stylesheet\" href=\"")?;
+            fallible_alloc::push_str(text, "<link rel=\"stylesheet\" href=\"")?;
             push_value(text, address)?;
-            memory::push_str(text, "\">\n")
+            fallible_alloc::push_str(text, "\">\n")
         }
         None => {
-            memory::push_str(text, "<style>\n")?;
+            fallible_alloc::push_str(text, "<style>\n")?;
             let (theme, palette) = colors_of(options);
             push_style(text, theme, palette)?;
             push_page_style(text, theme, palette)?;
-            memory::push_str(text, "</style>\n")
+            fallible_alloc::push_str(text, "</style>\n")
         }
     }
 }
@@ -126,7 +126,7 @@ fn push_value(text: &mut String, value: &str) -> Result<(), AllocError> {
     let mut is_first = true;
     for part in value.split('"') {
         if !is_first {
-            memory::push_str(text, "&quot;")?;
+            fallible_alloc::push_str(text, "&quot;")?;
         }
         is_first = false;
         push_text(text, part)?;
@@ -182,11 +182,11 @@ fn push_heading(
     left_out: u64,
 ) -> Result<(), AllocError> {
     if let Some(number) = number {
-        memory::push_str(text, "<h2 id=\"F")?;
-        memory::push_display(text, &number)?;
-        memory::push_str(text, "\">")?;
+        fallible_alloc::push_str(text, "<h2 id=\"F")?;
+        fallible_alloc::push_display(text, &number)?;
+        fallible_alloc::push_str(text, "\">")?;
         push_title(text, name)?;
-        memory::push_str(text, "</h2>\n")?;
+        fallible_alloc::push_str(text, "</h2>\n")?;
     }
     push_left_out(text, left_out, Side::Before)
 }
@@ -213,7 +213,7 @@ fn push_before(
     push_opening(text, lines, options)?;
     let name = as_characters(*text.allocator(), name)?;
     push_value(text, name.as_str())?;
-    memory::push_str(text, "\">\n")
+    fallible_alloc::push_str(text, "\">\n")
 }
 
 /// What comes after it.
@@ -222,20 +222,20 @@ pub const AFTER: &str = "</pre></div>\n";
 // What it begins with, up to the name. Where not all lines are shown as such, the numbers of the
 // others are counted from the first of them on.
 fn push_opening(text: &mut String, lines: u64, options: &Options<'_>) -> Result<(), AllocError> {
-    memory::push_str(text, "<div class=\"es-stream")?;
+    fallible_alloc::push_str(text, "<div class=\"es-stream")?;
     if options.wraps {
-        memory::push_str(text, " es-wrap")?;
+        fallible_alloc::push_str(text, " es-wrap")?;
     }
     if options.shows {
-        memory::push_str(text, " es-shows")?;
+        fallible_alloc::push_str(text, " es-shows")?;
     }
-    memory::push_str(text, "\"><pre tabindex=\"0\" role=\"region\"")?;
+    fallible_alloc::push_str(text, "\"><pre tabindex=\"0\" role=\"region\"")?;
     if lines > 0 && (options.folds || options.cut.is_some()) {
-        memory::push_str(text, " style=\"counter-reset: es-line ")?;
-        memory::push_display(text, &lines)?;
-        memory::push_str(text, "\"")?;
+        fallible_alloc::push_str(text, " style=\"counter-reset: es-line ")?;
+        fallible_alloc::push_display(text, &lines)?;
+        fallible_alloc::push_str(text, "\"")?;
     }
-    memory::push_str(text, " aria-label=\"")
+    fallible_alloc::push_str(text, " aria-label=\"")
 }
 
 /// What comes after a stream, of which so many lines after those that are written are left out. The
@@ -256,11 +256,11 @@ pub fn group(alloc: Global, mark: &Mark) -> Result<String, AllocError> {
 fn push_group(text: &mut String, mark: &Mark) -> Result<(), AllocError> {
     match mark {
         Mark::Begin { title, is_closed } => {
-            memory::push_str(text, opening_of(*is_closed))?;
+            fallible_alloc::push_str(text, opening_of(*is_closed))?;
             push_title(text, title.as_str())?;
-            memory::push_str(text, "</summary>\n")
+            fallible_alloc::push_str(text, "</summary>\n")
         }
-        Mark::End => memory::push_str(text, "</details>\n"),
+        Mark::End => fallible_alloc::push_str(text, "</details>\n"),
     }
 }
 
@@ -273,12 +273,12 @@ pub fn lost_note(alloc: Global, is_page: bool, lost: Lost) -> Result<String, All
 }
 
 fn push_lost(text: &mut String, is_page: bool, lost: Lost) -> Result<(), AllocError> {
-    memory::push_str(text, if is_page { "<p class=\"es-note\">" } else { "" })?;
-    memory::push_str(text, "<span class=\"es-lost\">line ")?;
-    memory::push_display(text, &lost.line)?;
-    memory::push_str(text, ": an unended string swallowed ")?;
-    memory::push_display(text, &lost.bytes)?;
-    memory::push_str(
+    fallible_alloc::push_str(text, if is_page { "<p class=\"es-note\">" } else { "" })?;
+    fallible_alloc::push_str(text, "<span class=\"es-lost\">line ")?;
+    fallible_alloc::push_display(text, &lost.line)?;
+    fallible_alloc::push_str(text, ": an unended string swallowed ")?;
+    fallible_alloc::push_display(text, &lost.bytes)?;
+    fallible_alloc::push_str(
         text,
         if is_page {
             " bytes</span></p>\n"
@@ -302,11 +302,11 @@ fn push_left_out(text: &mut String, lines: u64, side: Side) -> Result<(), AllocE
     if lines == 0 {
         return Ok(());
     }
-    memory::push_str(text, "<p class=\"es-note\">")?;
-    memory::push_display(text, &lines)?;
-    memory::push_str(text, " ")?;
-    memory::push_str(text, counted(lines))?;
-    memory::push_str(text, " left out at the ")?;
-    memory::push_str(text, side.place())?;
-    memory::push_str(text, "</p>\n")
+    fallible_alloc::push_str(text, "<p class=\"es-note\">")?;
+    fallible_alloc::push_display(text, &lines)?;
+    fallible_alloc::push_str(text, " ")?;
+    fallible_alloc::push_str(text, counted(lines))?;
+    fallible_alloc::push_str(text, " left out at the ")?;
+    fallible_alloc::push_str(text, side.place())?;
+    fallible_alloc::push_str(text, "</p>\n")
 }

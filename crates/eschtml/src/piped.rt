@@ -1,9 +1,9 @@
 //! A filter of the text of another.
 ghost use Rattle.std.specs.Prelude.{ℕ, ◌≡◌, List, [], string_bytes};
 ghost use Rattle.esc_decode.specs.Decodings.{OnlyAdds};
-ghost use Rattle.eschtml.specs.Piped.{Pipes, after};
+ghost use Rattle.eschtml.specs.Piped.{Pipes, composed};
 
-use esc_filter::Feeding;
+use esc_filter::StreamFilter;
 use std::alloc::{AllocError, Allocator, Global};
 
 /// Feeds a stream to a filter, and the text of that to a second.
@@ -16,13 +16,14 @@ pub struct Piped<F, G, A: Allocator = Global> {
     text: String<A>,
 }
 
-impl<F: Feeding<A>, G: Feeding<A>, A: Allocator> Piped<F, G, A> {
+impl<F: StreamFilter<A>, G: StreamFilter<A>, A: Allocator> Piped<F, G, A> {
     /// These filters. Takes no memory.
     pub fn new(alloc: A, first: F, second: G) -> Piped<F, G, A>
         ensures filters { (result.first ≡ first) × (result.second ≡ second) }
         ensures begins { (m c n d : List ℕ → List ℕ) → F.gives first m c [] → m [] ≡ []
             → G.gives second n d [] → OnlyAdds n d
-            → Pipes F.Feeding G.Feeding result.first result.second (after n m) (after d c) [] }
+            → Pipes F.StreamFilter G.StreamFilter result.first result.second (composed n m)
+            (composed d c) [] }
     {
         Piped {
             first,
@@ -32,21 +33,21 @@ impl<F: Feeding<A>, G: Feeding<A>, A: Allocator> Piped<F, G, A> {
     }
 }
 
-impl<F: Feeding<A>, G: Feeding<A>, A: Allocator> Feeding<A> for Piped<F, G, A> {
-    ghost gives = { λ f m c s. Pipes F.Feeding G.Feeding f.first f.second m c s };
+impl<F: StreamFilter<A>, G: StreamFilter<A>, A: Allocator> StreamFilter<A> for Piped<F, G, A> {
+    ghost gives = { λ f m c s. Pipes F.StreamFilter G.StreamFilter f.first f.second m c s };
 
     ghost added = { λ f. string_bytes f.text };
 
     ghost has_ended = { λ _ _ _. Unit {0} };
 
-    fn feed_piece(&mut self, bytes: &[u8]) -> Result<(), AllocError> {
+    fn feed_chunk(&mut self, bytes: &[u8]) -> Result<(), AllocError> {
         self.text.clear();
-        match self.first.feed_piece(bytes) {
+        match self.first.feed_chunk(bytes) {
             Ok(()) => {}
             Err(error) => return Err(error),
         }
-        match self.second.feed_piece(self.first.added_text().as_bytes()) {
-            Ok(()) => memory::push_str(&mut self.text, self.second.added_text()),
+        match self.second.feed_chunk(self.first.output_text().as_bytes()) {
+            Ok(()) => fallible_alloc::push_str(&mut self.text, self.second.output_text()),
             Err(error) => Err(error),
         }
     }
@@ -57,21 +58,21 @@ impl<F: Feeding<A>, G: Feeding<A>, A: Allocator> Feeding<A> for Piped<F, G, A> {
             Ok(()) => {}
             Err(error) => return Err(error),
         }
-        match self.second.feed_piece(self.first.added_text().as_bytes()) {
+        match self.second.feed_chunk(self.first.output_text().as_bytes()) {
             Ok(()) => {}
             Err(error) => return Err(error),
         }
-        match memory::push_str(&mut self.text, self.second.added_text()) {
+        match fallible_alloc::push_str(&mut self.text, self.second.output_text()) {
             Ok(()) => {}
             Err(error) => return Err(error),
         }
         match self.second.finish_all() {
-            Ok(()) => memory::push_str(&mut self.text, self.second.added_text()),
+            Ok(()) => fallible_alloc::push_str(&mut self.text, self.second.output_text()),
             Err(error) => Err(error),
         }
     }
 
-    fn added_text(&self) -> &str {
+    fn output_text(&self) -> &str {
         self.text.as_str()
     }
 }

@@ -1,10 +1,10 @@
 //! One stream, from its reader to the output.
 ghost use Rattle.std.specs.Prelude.{◌≡◌, [], ℕ, IsErrOf, None, OnOk, Some, false, if◌then◌else◌, true};
 ghost use Rattle.esc_normal.specs.Streams.{Filters, HasFiltered, IsEither};
-ghost use Rattle.esc_html.specs.Fed.{WasFed, added_by};
+ghost use Rattle.esc_html.specs.Fed.{HasConsumed, added_by};
 ghost use Rattle.esc_html.specs.Pages.{page_text};
 ghost use Rattle.esc_html.specs.declared.layout.Layout.{Layout as LayoutValue};
-ghost use Rattle.memory.specs.Refusals.{Refused};
+ghost use Rattle.fallible_alloc.specs.Refusals.{Refused};
 ghost use Rattle.eschtml.specs.Lengths.{IsShort};
 ghost use Rattle.eschtml.specs.Piped.{NewAdding};
 ghost use Rattle.eschtml.specs.Written.{IsHtml, IsHtmlBy, ended_by, going_by, html_by, html_of, layout_by, page_of, seen_by, shown_of};
@@ -13,12 +13,12 @@ use crate::kept::Kept;
 use crate::lined::Lined;
 use crate::options::Options;
 use crate::piped::Piped;
+use caret_notation::{Marking, Reveal, Revealing};
 use esc_decode::Decoding;
-use esc_filter::{Feeding, Filter, FilterError, Policy, filter_from};
+use esc_filter::{Filter, FilterError, Policy, StreamFilter, pump};
 use esc_html::{HtmlWriter, Layout, laws};
-use esc_lines::Collapsing;
 use esc_normal::Watched;
-use esc_reveal::{Marking, Reveal, Revealing};
+use line_collapse::Collapsing;
 use std::alloc::{AllocError, Allocator, Global};
 use std::io::{Read, Write};
 
@@ -36,7 +36,7 @@ struct Marked<A: Allocator = Global> {
 impl<A: Allocator + Copy> Marked<A> {
     // Of nothing. Takes no memory.
     fn new(alloc: A, limit: usize, layout: Layout) -> Marked<A>
-        ensures { WasFed limit layout [] result.writer }
+        ensures { HasConsumed limit layout [] result.writer }
     {
         Marked {
             writer: HtmlWriter::with_layout(alloc, limit, layout),
@@ -46,15 +46,15 @@ impl<A: Allocator + Copy> Marked<A> {
     }
 }
 
-impl<A: Allocator + Copy> Feeding<A> for Marked<A> {
-    ghost gives = { λ f m c s. (limit : ℕ) × (y : LayoutValue) × WasFed limit y s f.writer
+impl<A: Allocator + Copy> StreamFilter<A> for Marked<A> {
+    ghost gives = { λ f m c s. (limit : ℕ) × (y : LayoutValue) × HasConsumed limit y s f.writer
         × (m ≡ page_text A (Some limit) y) × (c ≡ page_of A limit y) };
 
     ghost added = { λ f. if f.has_ended then f.closing.now else added_by f.writer };
 
     ghost has_ended = { λ _ _ _. Unit {0} };
 
-    fn feed_piece(&mut self, bytes: &[u8]) -> Result<(), AllocError> {
+    fn feed_chunk(&mut self, bytes: &[u8]) -> Result<(), AllocError> {
         self.has_ended = false;
         match self.writer.feed(bytes) {
             Ok(()) => Ok(()),
@@ -68,7 +68,7 @@ impl<A: Allocator + Copy> Feeding<A> for Marked<A> {
         Ok(())
     }
 
-    fn added_text(&self) -> &str {
+    fn output_text(&self) -> &str {
         if self.has_ended {
             self.closing
         } else {
@@ -83,7 +83,7 @@ pub(crate) const COLUMNS: usize = 16_384;
 /// Writes on `writer` the HTML of what the stream that `reader` reads becomes by its encoding, as
 /// it comes, and at its end what closes the tags that are open; by the options, what is left out of
 /// it is shown in place, and of the lines that is written which is left of them. It returns what
-/// [`filter_from`] does. Where no lines are, the HTML is bounded by the length of the stream.
+/// [`pump`] does. Where no lines are, the HTML is bounded by the length of the stream.
 pub fn write_html<A: Allocator + Copy, R: Read, W: Write>(
     alloc: A,
     options: &Options<'_>,
@@ -164,7 +164,7 @@ fn layout_by(options: &Options<'_>) -> Layout
 
 // The same as `write_seen`, where this filter has the text of a page, of which each line is made an
 // element, where the options ask for that.
-fn write_lined<A: Allocator + Copy, R: Read, W: Write, F: Feeding<A> + Drop>(
+fn write_lined<A: Allocator + Copy, R: Read, W: Write, F: StreamFilter<A> + Drop>(
     alloc: A,
     options: &Options<'_>,
     moves: bool,
@@ -172,12 +172,12 @@ fn write_lined<A: Allocator + Copy, R: Read, W: Write, F: Feeding<A> + Drop>(
     reader: &mut Watched<R>,
     writer: &mut Watched<W>,
 ) -> Result<(), FilterError>
-    ensures holds { NewAdding F.Feeding filter (λ m c. Filters R.Read W.Write
+    ensures holds { NewAdding F.StreamFilter filter (λ m c. Filters R.Read W.Write
         (λ s. ended_by options.now.first (c (seen_by A options.now moves true s)))
         (IsEither (λ s. ended_by options.now.first (c (seen_by A options.now moves true s)))
         (λ s. going_by options.now.first (m (seen_by A options.now moves false s)))) result
         reader writer) }
-    ensures refused { NewAdding F.Feeding filter (λ m c.
+    ensures refused { NewAdding F.StreamFilter filter (λ m c.
         IsErrOf result FilterError.Memory → Refused A) }
 {
     match options.first {
@@ -192,7 +192,7 @@ fn write_lined<A: Allocator + Copy, R: Read, W: Write, F: Feeding<A> + Drop>(
 // Writes on `writer` by this filter, which was fed nothing, what is written of what that becomes by
 // its encoding that `reader` reads, or where what is left out is shown, of that; `moves` says that
 // what changes the screen is not.
-fn write_seen<A: Allocator + Copy, R: Read, W: Write, F: Feeding<A> + Drop>(
+fn write_seen<A: Allocator + Copy, R: Read, W: Write, F: StreamFilter<A> + Drop>(
     alloc: A,
     options: &Options<'_>,
     moves: bool,
@@ -200,11 +200,11 @@ fn write_seen<A: Allocator + Copy, R: Read, W: Write, F: Feeding<A> + Drop>(
     reader: &mut Watched<R>,
     writer: &mut Watched<W>,
 ) -> Result<(), FilterError>
-    ensures holds { NewAdding F.Feeding filter (λ m c. Filters R.Read W.Write
+    ensures holds { NewAdding F.StreamFilter filter (λ m c. Filters R.Read W.Write
         (λ s. c (seen_by A options.now moves true s))
         (IsEither (λ s. c (seen_by A options.now moves true s))
         (λ s. m (seen_by A options.now moves false s))) result reader writer) }
-    ensures refused { NewAdding F.Feeding filter (λ m c.
+    ensures refused { NewAdding F.StreamFilter filter (λ m c.
         IsErrOf result FilterError.Memory → Refused A) }
 {
     let shows = options.shows;
@@ -218,9 +218,9 @@ fn write_seen<A: Allocator + Copy, R: Read, W: Write, F: Feeding<A> + Drop>(
         );
         let shown = Revealing::new(alloc, reveal, filter);
         let mut filter = Decoding::new(alloc, options.encoding, shown);
-        filter_from(alloc, &mut filter, reader, writer)
+        pump(alloc, &mut filter, reader, writer)
     } else {
         let mut filter = Decoding::new(alloc, options.encoding, filter);
-        filter_from(alloc, &mut filter, reader, writer)
+        pump(alloc, &mut filter, reader, writer)
     }
 }

@@ -245,20 +245,20 @@ pub fn push_style(
         None => push_own(text, theme)?,
     }
     push_palette(text, true)?;
-    memory::push_str(text, COLORS)?;
+    fallible_alloc::push_str(text, COLORS)?;
     push_palette(text, false)?;
-    memory::push_str(text, LAST_RULES)
+    fallible_alloc::push_str(text, LAST_RULES)
 }
 
 // Appends the rules up to the grounds that have names, with the colours of a palette.
 fn push_given(text: &mut String, theme: Theme, palette: Palette) -> Result<(), AllocError> {
-    memory::push_str(text, RULES)?;
+    fallible_alloc::push_str(text, RULES)?;
     match theme {
         Theme::Auto => {
             push_scheme(text, &palette.light())?;
-            memory::push_str(text, IF_DARK)?;
+            fallible_alloc::push_str(text, IF_DARK)?;
             push_scheme(text, &palette.dark())?;
-            memory::push_str(text, "}\n")
+            fallible_alloc::push_str(text, "}\n")
         }
         Theme::Light => push_scheme(text, &palette.light()),
         Theme::Dark => push_scheme(text, &palette.dark()),
@@ -267,7 +267,7 @@ fn push_given(text: &mut String, theme: Theme, palette: Palette) -> Result<(), A
 
 // Appends the rules of colours that have names, on a light or a dark page.
 fn push_scheme(text: &mut String, scheme: &Scheme) -> Result<(), AllocError> {
-    memory::push_str(text, ".es-stream { ")?;
+    fallible_alloc::push_str(text, ".es-stream { ")?;
     push_variable(text, "text", scheme.text)?;
     push_variable(text, "page", scheme.page)?;
     push_variable(text, "dim", scheme.dim)?;
@@ -275,7 +275,7 @@ fn push_scheme(text: &mut String, scheme: &Scheme) -> Result<(), AllocError> {
     for (name, color) in NAMES.iter().zip(&scheme.colors) {
         push_variable(text, name, *color)?;
     }
-    memory::push_str(text, "}\n")?;
+    fallible_alloc::push_str(text, "}\n")?;
     for (name, color) in NAMES.iter().zip(&scheme.colors) {
         push_ground(text, name, *color)?;
     }
@@ -284,49 +284,49 @@ fn push_scheme(text: &mut String, scheme: &Scheme) -> Result<(), AllocError> {
 
 // Appends the declaration of a variable.
 fn push_variable(text: &mut String, name: &str, color: Rgb) -> Result<(), AllocError> {
-    memory::push_str(text, "--es-")?;
-    memory::push_str(text, name)?;
-    memory::push_str(text, ": ")?;
+    fallible_alloc::push_str(text, "--es-")?;
+    fallible_alloc::push_str(text, name)?;
+    fallible_alloc::push_str(text, ": ")?;
     push_rgb(text, color)?;
-    memory::push_str(text, " ")
+    fallible_alloc::push_str(text, " ")
 }
 
 // Appends the rule of a ground: text without a colour is black or white on it.
 fn push_ground(text: &mut String, name: &str, color: Rgb) -> Result<(), AllocError> {
     let (red, green, blue) = color;
-    memory::push_str(text, ".es-stream .es-bg-")?;
-    memory::push_str(text, name)?;
-    memory::push_str(text, " {")?;
-    memory::push_str(text, text_on(RgbColor::new_8bpc(red, green, blue)))?;
-    memory::push_str(text, "background-color:")?;
+    fallible_alloc::push_str(text, ".es-stream .es-bg-")?;
+    fallible_alloc::push_str(text, name)?;
+    fallible_alloc::push_str(text, " {")?;
+    fallible_alloc::push_str(text, text_on(RgbColor::new_8bpc(red, green, blue)))?;
+    fallible_alloc::push_str(text, "background-color:")?;
     push_rgb(text, color)?;
-    memory::push_str(text, "}\n")
+    fallible_alloc::push_str(text, "}\n")
 }
 
 // Appends a colour by its numbers, and a semicolon.
 fn push_rgb(text: &mut String, color: Rgb) -> Result<(), AllocError> {
     let (red, green, blue) = color;
     let code = Style::Color(red, green, blue).code();
-    memory::push_str(text, str::from_utf8(&code).unwrap_or(""))
+    fallible_alloc::push_str(text, str::from_utf8(&code).unwrap_or(""))
 }
 
 // Appends the rules up to the grounds that have names, with colours of the program's own.
 fn push_own(text: &mut String, theme: Theme) -> Result<(), AllocError> {
     match theme {
         Theme::Auto => {
-            memory::push_str(text, LIGHT)?;
-            memory::push_str(text, IF_DARK)?;
-            memory::push_str(text, DARK)?;
-            memory::push_str(text, "}\n")?;
+            fallible_alloc::push_str(text, LIGHT)?;
+            fallible_alloc::push_str(text, IF_DARK)?;
+            fallible_alloc::push_str(text, DARK)?;
+            fallible_alloc::push_str(text, "}\n")?;
         }
-        Theme::Light => memory::push_str(text, LIGHT)?,
-        Theme::Dark => memory::push_str(text, DARK)?,
+        Theme::Light => fallible_alloc::push_str(text, LIGHT)?,
+        Theme::Dark => fallible_alloc::push_str(text, DARK)?,
     }
-    memory::push_str(text, OWN_GROUNDS)?;
-    memory::push_str(text, RULES)?;
-    memory::push_str(text, ON_GROUNDS)?;
+    fallible_alloc::push_str(text, OWN_GROUNDS)?;
+    fallible_alloc::push_str(text, RULES)?;
+    fallible_alloc::push_str(text, ON_GROUNDS)?;
     push_light_grounds(text)?;
-    memory::push_str(text, GROUNDS)
+    fallible_alloc::push_str(text, GROUNDS)
 }
 
 /// Appends what a whole page has beside it.
@@ -342,14 +342,14 @@ pub fn push_page_style(
     match theme {
         Theme::Auto => {
             push_root(text, "color-scheme: light dark; ", light)?;
-            memory::push_str(text, IF_DARK)?;
+            fallible_alloc::push_str(text, IF_DARK)?;
             push_root(text, "", dark)?;
-            memory::push_str(text, "}\n")?;
+            fallible_alloc::push_str(text, "}\n")?;
         }
         Theme::Light => push_root(text, "color-scheme: light; ", light)?,
         Theme::Dark => push_root(text, "color-scheme: dark; ", dark)?,
     }
-    memory::push_str(text, PAGE)
+    fallible_alloc::push_str(text, PAGE)
 }
 
 // The colours of text and of what is around it.
@@ -359,28 +359,28 @@ fn page_of(scheme: &Scheme) -> (Rgb, Rgb) {
 
 // Appends the rule of what is around all.
 fn push_root(text: &mut String, first: &str, colors: (Rgb, Rgb)) -> Result<(), AllocError> {
-    memory::push_str(text, ":root { ")?;
-    memory::push_str(text, first)?;
-    memory::push_str(text, "background: ")?;
+    fallible_alloc::push_str(text, ":root { ")?;
+    fallible_alloc::push_str(text, first)?;
+    fallible_alloc::push_str(text, "background: ")?;
     push_rgb(text, colors.1)?;
-    memory::push_str(text, " color: ")?;
+    fallible_alloc::push_str(text, " color: ")?;
     push_rgb(text, colors.0)?;
-    memory::push_str(text, " }\n")
+    fallible_alloc::push_str(text, " }\n")
 }
 
 // Appends the rule of light grounds.
 fn push_light_grounds(text: &mut String) -> Result<(), AllocError> {
-    memory::push_str(
+    fallible_alloc::push_str(
         text,
         ".es-stream .es-bg-white, .es-stream .es-bg-bright-white",
     )?;
     for index in FIRST..=LAST {
         if !is_deep(palette(index)) {
-            memory::push_str(text, ",\n.es-stream .es-bg-")?;
-            memory::push_display(text, &index)?;
+            fallible_alloc::push_str(text, ",\n.es-stream .es-bg-")?;
+            fallible_alloc::push_display(text, &index)?;
         }
     }
-    memory::push_str(text, ON_LIGHT)
+    fallible_alloc::push_str(text, ON_LIGHT)
 }
 
 // Appends the rules of the palette: of grounds, or of characters and underlines.
@@ -419,15 +419,15 @@ fn push_rule(
     first: &str,
     style: Style,
 ) -> Result<(), AllocError> {
-    memory::push_str(text, ".es-stream .es-")?;
-    memory::push_str(text, kind)?;
-    memory::push_str(text, "-")?;
-    memory::push_display(text, &index)?;
-    memory::push_str(text, "{")?;
-    memory::push_str(text, first)?;
-    memory::push_str(text, style.property())?;
-    memory::push_str(text, str::from_utf8(&style.code()).unwrap_or(""))?;
-    memory::push_str(text, "}\n")
+    fallible_alloc::push_str(text, ".es-stream .es-")?;
+    fallible_alloc::push_str(text, kind)?;
+    fallible_alloc::push_str(text, "-")?;
+    fallible_alloc::push_display(text, &index)?;
+    fallible_alloc::push_str(text, "{")?;
+    fallible_alloc::push_str(text, first)?;
+    fallible_alloc::push_str(text, style.property())?;
+    fallible_alloc::push_str(text, str::from_utf8(&style.code()).unwrap_or(""))?;
+    fallible_alloc::push_str(text, "}\n")
 }
 
 // What is declared of text on a ground: it is black or white.

@@ -25,9 +25,9 @@ pub fn html_of<A: Allocator + Copy>(alloc: A, text: &str) -> Result<String<A>, A
         return Err(AllocError);
     };
     let mut html = String::new(alloc);
-    memory::push_str(&mut html, "<pre>\n")?;
-    memory::push_str(&mut html, writer.html())?;
-    memory::push_str(&mut html, writer.closing())?;
-    memory::push_str(&mut html, "</pre>\n")?;
+    fallible_alloc::push_str(&mut html, "<pre>\n")?;
+    fallible_alloc::push_str(&mut html, writer.html())?;
+    fallible_alloc::push_str(&mut html, writer.closing())?;
+    fallible_alloc::push_str(&mut html, "</pre>\n")?;
     Ok(html)
 }

@@ -11,13 +11,13 @@ mod reading;
 mod recorded;
 mod showing;
 
+use atomic_file::{NewFile, Output};
 use command_line::{
     DONE, FAULT, OUTPUT, USAGE_FAULT, open_closed, program_words, refused, status_of_text,
     unwritable, work_through,
 };
 use differing::Differing;
 use fault::PROGRAM;
-use new_file::{NewFile, Output};
 use options::{Kind, Task};
 use showing::Showing;
 use std::io;

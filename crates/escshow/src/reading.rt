@@ -5,7 +5,7 @@ use crate::display::Display;
 use crate::fault::Fault;
 use crate::options::{DEFAULT_SIZE, Options};
 use crate::recorded::Recorded;
-use command_line::{Noting, Reason};
+use command_line::{ErrorCapture, Reason};
 use esc_decode::Mask;
 use std::alloc::Global;
 use std::io::Read;
@@ -17,8 +17,8 @@ pub fn display_of<R: Read + Drop>(
     options: Options,
     input: R,
 ) -> Result<Display, Fault> {
-    let mut chunk = memory::read_buffer(alloc)?;
-    let mut reader = Noting::new(input);
+    let mut chunk = fallible_alloc::read_buffer(alloc)?;
+    let mut reader = ErrorCapture::new(input);
     if options.is_cast {
         let mut recorded = Recorded::new(alloc, options);
         play(&mut recorded, &mut reader, &mut chunk)?;
@@ -38,7 +38,7 @@ pub fn display_of<R: Read + Drop>(
 // begins nothing.
 fn feed<R: Read>(
     display: &mut Display,
-    reader: &mut Noting<R>,
+    reader: &mut ErrorCapture<R>,
     chunk: &mut [u8],
 ) -> Result<(), Fault> {
     let mut mask = Mask::new();
@@ -57,7 +57,7 @@ fn feed<R: Read>(
 // Plays a recording, chunk by chunk, up to its end or the time that is asked for.
 fn play<R: Read>(
     recorded: &mut Recorded,
-    reader: &mut Noting<R>,
+    reader: &mut ErrorCapture<R>,
     chunk: &mut [u8],
 ) -> Result<(), Fault> {
     for _ in 0..u64::MAX {
@@ -78,7 +78,7 @@ fn mask_all(mask: &mut Mask, bytes: &mut [u8]) {
 }
 
 // Reads some bytes, 0 at the end.
-fn read<R: Read>(reader: &mut Noting<R>, chunk: &mut [u8]) -> Result<usize, Fault>
+fn read<R: Read>(reader: &mut ErrorCapture<R>, chunk: &mut [u8]) -> Result<usize, Fault>
     ensures { IfOk result (λ n. n ≤ length chunk.new) }
 {
     match reader.read(chunk) {

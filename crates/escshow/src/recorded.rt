@@ -3,7 +3,7 @@
 use crate::display::Display;
 use crate::fault::Fault;
 use crate::options::{DEFAULT_SIZE, Options, Size};
-use esc_cast::{Event, event_in};
+use asciicast::{Event, event_in};
 use json::{Scratch, Value};
 use memchr::memchr;
 use std::alloc::Global;

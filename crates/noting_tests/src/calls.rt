@@ -1,12 +1,15 @@
-//! Calls of `Noting`.
+//! Calls of `ErrorCapture`.
 use crate::scripted::{Scripted, with_errors};
-use command_line::Noting;
+use command_line::ErrorCapture;
 use std::io;
 use std::io::{ErrorKind, Read, Write};
 use std::test::Fail;
 
 // How many bytes a call took, or the kind of its error; and how many calls that came to.
-fn told(outcome: io::Result<usize>, inner: Noting<Scripted>) -> (Result<usize, ErrorKind>, usize) {
+fn told(
+    outcome: io::Result<usize>,
+    inner: ErrorCapture<Scripted>,
+) -> (Result<usize, ErrorKind>, usize) {
     let calls = inner.into_inner().calls;
     match outcome {
         Ok(count) => (Ok(count), calls),
@@ -15,13 +18,13 @@ fn told(outcome: io::Result<usize>, inner: Noting<Scripted>) -> (Result<usize, E
 }
 
 fn read_by(errors: &'static [ErrorKind]) -> (Result<usize, ErrorKind>, usize) {
-    let mut reader = Noting::new(with_errors(errors));
+    let mut reader = ErrorCapture::new(with_errors(errors));
     let outcome = reader.read(&mut [0u8; 4]);
     told(outcome, reader)
 }
 
 fn write_by(errors: &'static [ErrorKind]) -> (Result<usize, ErrorKind>, usize) {
-    let mut writer = Noting::new(with_errors(errors));
+    let mut writer = ErrorCapture::new(with_errors(errors));
     let outcome = writer.write(b"ab");
     told(outcome, writer)
 }
@@ -51,7 +54,7 @@ fn a_call_that_ends_well_is_made_once(rt: HostRuntime) -> Result<(), Fail> {
 
 #[test]
 fn a_flush_is_passed_on(rt: HostRuntime) -> Result<(), Fail> {
-    let mut writer = Noting::new(with_errors(&[ErrorKind::BrokenPipe]));
+    let mut writer = ErrorCapture::new(with_errors(&[ErrorKind::BrokenPipe]));
     let is_error = writer.flush().is_err();
     let is_closed = match writer.reason() {
         Some(reason) => reason.is_closed(),

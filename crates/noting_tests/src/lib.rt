@@ -1,4 +1,5 @@
-//! Tests of `Noting` of `command_line`: which call it makes again, and which error comes back.
+//! Tests of `ErrorCapture` of `command_line`: which call it makes again, and which error comes
+//! back.
 #![tactic(auto)]
 
 #[cfg(test)]

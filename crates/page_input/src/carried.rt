@@ -2,10 +2,10 @@
 
 use esc_frame::{VTActor, VTParser};
 use esc_pen::Pen;
-use esc_typed::Function;
 use esc_values::CsiParam;
 use memchr::memchr;
 use std::alloc::{AllocError, Global};
+use typed_functions::Function;
 
 const ESC: u8 = 0x1b;
 

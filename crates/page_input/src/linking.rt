@@ -135,19 +135,19 @@ impl<R: Read> Linking<R> {
             }
         }
         self.previous = b' ';
-        memory::extend(&mut self.made, bytes.get(..n).unwrap_or(bytes))?;
+        fallible_alloc::extend(&mut self.made, bytes.get(..n).unwrap_or(bytes))?;
         Ok(n)
     }
 
     // Takes a run of text.
     fn take_run(&mut self, run: &[u8]) -> Result<(), AllocError> {
         if self.links.is_on {
-            return memory::extend(&mut self.made, run);
+            return fallible_alloc::extend(&mut self.made, run);
         }
         let mut rest = run;
         if !self.held.is_empty() {
             let (word, after) = rest.split_at(address_run(rest).min(rest.len()));
-            memory::extend(&mut self.held, word)?;
+            fallible_alloc::extend(&mut self.held, word)?;
             if after.is_empty() && self.held.len() < MOST {
                 return Ok(());
             }
@@ -156,7 +156,7 @@ impl<R: Read> Linking<R> {
         }
         let (text, word) = rest.split_at(word_start(rest).min(rest.len()));
         self.push_linked(text)?;
-        memory::extend(&mut self.held, word)
+        fallible_alloc::extend(&mut self.held, word)
     }
 
     // Makes what is held.
@@ -176,7 +176,7 @@ impl<R: Read> Linking<R> {
             let end = begin.saturating_add(length).max(1).min(rest.len());
             let (part, after) = rest.split_at(end);
             let (before, address) = part.split_at(begin.min(part.len()));
-            memory::extend(&mut self.made, before)?;
+            fallible_alloc::extend(&mut self.made, before)?;
             self.push_link(address)?;
             self.previous = b' ';
             if after.len() >= rest.len() {
@@ -184,7 +184,7 @@ impl<R: Read> Linking<R> {
             }
             rest = after;
         }
-        memory::extend(&mut self.made, rest)?;
+        fallible_alloc::extend(&mut self.made, rest)?;
         if let Some(last) = rest.last() {
             self.previous = *last;
         }
@@ -193,11 +193,11 @@ impl<R: Read> Linking<R> {
 
     // Appends a link to an address, of this address.
     fn push_link(&mut self, address: &[u8]) -> Result<(), AllocError> {
-        memory::extend(&mut self.made, b"\x1b]8;;")?;
-        memory::extend(&mut self.made, address)?;
-        memory::extend(&mut self.made, b"\x1b\\")?;
-        memory::extend(&mut self.made, address)?;
-        memory::extend(&mut self.made, b"\x1b]8;;\x1b\\")
+        fallible_alloc::extend(&mut self.made, b"\x1b]8;;")?;
+        fallible_alloc::extend(&mut self.made, address)?;
+        fallible_alloc::extend(&mut self.made, b"\x1b\\")?;
+        fallible_alloc::extend(&mut self.made, address)?;
+        fallible_alloc::extend(&mut self.made, b"\x1b]8;;\x1b\\")
     }
 
     // Hands out what was made, as much as there is room for.

@@ -179,8 +179,8 @@ impl<R: Read> Sections<R> {
     }
 
     fn keep(&mut self, bytes: &[u8]) -> Result<(), AllocError> {
-        let mut kept = memory::copied(self.alloc, self.rest())?;
-        memory::extend(&mut kept, bytes)?;
+        let mut kept = fallible_alloc::copied(self.alloc, self.rest())?;
+        fallible_alloc::extend(&mut kept, bytes)?;
         self.kept = kept;
         self.at = 0;
         Ok(())

@@ -35,7 +35,7 @@ impl VTActor for Title {
     ghost may = { λ _ _. Unit {0} };
 
     fn print(&mut self, c: char) -> Result<(), AllocError> {
-        memory::push_char(&mut self.text, c)
+        fallible_alloc::push_char(&mut self.text, c)
     }
 
     fn execute_c0_or_c1(&mut self, _control: u8) -> Result<(), AllocError> {

@@ -178,7 +178,7 @@ impl<R: Read> Window<R> {
 
     // Keeps more.
     fn keep(&mut self, tail: u64, bytes: &[u8]) -> Result<(), AllocError> {
-        memory::extend(&mut self.kept, bytes)?;
+        fallible_alloc::extend(&mut self.kept, bytes)?;
         if self.kept.len() < self.most {
             return Ok(());
         }
@@ -193,7 +193,7 @@ impl<R: Read> Window<R> {
         let (gone, rest) = self.kept.as_slice().split_at(start);
         self.before = self.before.and(gone);
         self.carried.take(gone);
-        let rest = memory::copied(self.alloc, rest)?;
+        let rest = fallible_alloc::copied(self.alloc, rest)?;
         self.kept = rest;
         Ok(())
     }
@@ -202,7 +202,7 @@ impl<R: Read> Window<R> {
     fn begin(&mut self, tail: u64) -> Result<(), AllocError> {
         self.let_go(tail)?;
         let mut text = self.carried.text(self.alloc)?.into_bytes();
-        memory::extend(&mut text, self.kept.as_slice())?;
+        fallible_alloc::extend(&mut text, self.kept.as_slice())?;
         self.kept = text;
         Ok(())
     }

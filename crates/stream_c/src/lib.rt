@@ -1,6 +1,6 @@
 //! A parser of terminal escape sequences for C, and for programs that link C's libraries: it takes
-//! a stream in chunks, keeps all in its caller's memory, and takes none itself. `esc_lent` is that
-//! parser.
+//! a stream in chunks, keeps all in its caller's memory, and takes none itself. `heapless_parser`
+//! is that parser.
 //!
 //! `include/escape_stream_parser.h` declares the calls for C. The archive needs no other.
 //!
@@ -14,17 +14,17 @@
 ghost use Rattle.std.specs.Prelude.{◌≡◌, ◌↔◌, ℕ, List, [], IsTrue, false, true};
 ghost use Rattle.esc_frame.specs.Events.{Event};
 ghost use Rattle.esc_frame.specs.Stream.{IsAtGround};
-ghost use Rattle.esc_lent.specs.States.{IsAt, lower};
-ghost use Rattle.esc_lent.specs.Next.{Next, NeverFails, halves};
+ghost use Rattle.heapless_parser.specs.States.{HasConsumed, lower};
+ghost use Rattle.heapless_parser.specs.Next.{Next, NeverFails, halves};
 
-use esc_lent::event::EscEvent;
-use esc_lent::next::next;
-use esc_lent::parser::EscParser;
+use heapless_parser::event::EscEvent;
+use heapless_parser::next::next;
+use heapless_parser::parser::EscParser;
 
 /// Begins a stream.
 #[unsafe(no_mangle)]
 pub extern "C" fn escape_stream_begin(parser: &mut EscParser)
-    ensures { (memory : List ℕ) → IsAt [] [] parser.new memory }
+    ensures { (memory : List ℕ) → HasConsumed [] [] parser.new memory }
 {
     *parser = EscParser::new();
 }
@@ -36,8 +36,8 @@ pub extern "C" fn escape_stream_begin(parser: &mut EscParser)
 /// which nobody else may write, its upper half receives the texts that are handed out. A string
 /// longer than the lower half is not handed out.
 ///
-/// What it promises is the record `Next` of `esc_lent`. It fails only where the parser or the
-/// buffer hold other bytes than its calls left there.
+/// What it promises is the record `Next` of `heapless_parser`. It fails only where the parser or
+/// the buffer hold other bytes than its calls left there.
 #[unsafe(no_mangle)]
 pub extern "C" fn escape_stream_next(
     parser: &mut EscParser,
@@ -56,7 +56,7 @@ pub extern "C" fn escape_stream_next(
 #[unsafe(no_mangle)]
 pub extern "C" fn escape_stream_is_ground(parser: &EscParser) -> bool
     ensures ground { (s : List ℕ) (es : List Event) (memory : List ℕ)
-        → IsAt s es parser.now memory → IsTrue result ↔ IsAtGround s }
+        → HasConsumed s es parser.now memory → IsTrue result ↔ IsAtGround s }
     ensures failed { parser.now.has_failed ≡ true → result ≡ false }
 {
     parser.is_ground()

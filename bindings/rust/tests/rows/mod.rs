@@ -55,7 +55,7 @@ pub fn unescaped(text: &str) -> Vec<u8> {
 
 // Calls `check` on each row of the tables, and returns how many there are of which it returns true.
 pub fn count_rows(check: impl Fn(&Row) -> bool) -> usize {
-    let folder = Path::new(env!("CARGO_MANIFEST_DIR")).join("../../crates/check_rows/data");
+    let folder = Path::new(env!("CARGO_MANIFEST_DIR")).join("../../crates/stream_tables/data");
     let mut count = 0;
     for table in fs::read_dir(folder).unwrap() {
         let text = fs::read_to_string(table.unwrap().path()).unwrap();

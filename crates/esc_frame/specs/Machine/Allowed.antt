@@ -4,15 +4,15 @@ use Rattle.std.specs.Prelude.{ℕ, ◌≡◌, true, List, [], ◌++◌, Option}
 use Rattle.esc_frame.specs.declared.machine.Machine.{Machine}
 use Rattle.esc_frame.specs.declared.unfinished.body.CsiBody.{CsiBody}
 use Rattle.esc_frame.specs.declared.unfinished.header.DcsHeader.{DcsHeader}
-use Rattle.esc_frame.specs.declared.unfinished.store.Store.{Ghosts as Keeper}
-use Rattle.esc_frame.specs.Classes.{strip, those, is_text}
+use Rattle.esc_frame.specs.declared.unfinished.store.TextRoom.{Ghosts as Keeper}
+use Rattle.esc_frame.specs.Classes.{without_noise, bytes_of_class, is_text}
 use Rattle.esc_frame.specs.Leads.{Unfinished, Holds}
 use Rattle.esc_frame.specs.Leads.Unfinished.{InEscape, InCsi, InOsc, InOscPending, InDcs, InData, InApc}
 use Rattle.esc_frame.specs.Limits.{is_read}
 use Rattle.esc_frame.specs.Machine.Prefixes.{prefix_of}
 use Rattle.esc_frame.specs.Machine.Keeping.{StoresText}
 use Rattle.esc_frame.specs.Machine.Keeps.{Keeps, KeepsBody, KeepsDcs, parameters_of}
-use Rattle.esc_frame.specs.Segments.{Opener, Piece, text_of}
+use Rattle.esc_frame.specs.Segments.{Opener, OscUnit, text_of}
 
 -- what is unfinished
 abbrev pub KeptSegment : {K A : Type 0} → Keeper K → Machine K A → (Unfinished → Type 0)
@@ -26,7 +26,8 @@ KeptText K store P = (limit : Option ℕ) × (t : List ℕ) × K.keeps limit sto
 -- ---- escape: the intermediates
 
 abbrev pub KeptEscape : {K A : Type 0} → Machine K A → (Option ℕ → Unfinished → Type 0) → Type 0
-KeptEscape machine P = (limit : Option ℕ) × (x : List ℕ) × Keeps machine.intermediates (strip x)
+KeptEscape machine P = (limit : Option ℕ) × (x : List ℕ)
+    × Keeps machine.intermediates (without_noise x)
     × P limit (InEscape x)
 
 -- ---- csi: the parameters
@@ -36,67 +37,68 @@ KeptBody body P = (x : List ℕ) × KeepsBody body x × P x
 
 abbrev pub KeptCsi : {K A : Type 0} → Machine K A → (Option ℕ → Unfinished → Type 0) → Type 0
 KeptCsi machine P = (limit : Option ℕ) × (o : Opener) × (x : List ℕ)
-    × KeepsBody machine.body (strip x) × P limit (InCsi o x)
+    × KeepsBody machine.body (without_noise x) × P limit (InCsi o x)
 
 -- of which these bytes come next, and are kept already
 abbrev pub KeptCsiAnd : {K A : Type 0} → List ℕ → Machine K A → (Option ℕ → Unfinished → Type 0)
     → Type 0
 KeptCsiAnd more machine P = (limit : Option ℕ) × (o : Opener) × (x : List ℕ)
-    × KeepsBody machine.body (strip x ++ more) × P limit (InCsi o x)
+    × KeepsBody machine.body (without_noise x ++ more) × P limit (InCsi o x)
 
 -- ---- osc string: the text
 
 abbrev pub KeptOsc : {K A : Type 0} → Keeper K → Machine K A → (Unfinished → Type 0)
     → Type 0
-KeptOsc K machine P = (o : Opener) × (ps : List Piece)
+KeptOsc K machine P = (o : Opener) × (ps : List OscUnit)
     × StoresText K machine (text_of ps) × P (InOsc o ps)
 
 abbrev pub KeptOscAnd : {K A : Type 0} → Keeper K → List ℕ → Machine K A
     → (Unfinished → Type 0)
     → Type 0
-KeptOscAnd K more machine P = (o : Opener) × (ps : List Piece)
+KeptOscAnd K more machine P = (o : Opener) × (ps : List OscUnit)
     × StoresText K machine (text_of ps ++ more) × P (InOsc o ps)
 
-abbrev pub KeptPieces : {K A : Type 0} → Keeper K → Machine K A
-    → (Opener → List Piece → Type 0)
+abbrev pub KeptOscUnits : {K A : Type 0} → Keeper K → Machine K A
+    → (Opener → List OscUnit → Type 0)
     → Type 0
-KeptPieces K machine P = (o : Opener) × (ps : List Piece)
+KeptOscUnits K machine P = (o : Opener) × (ps : List OscUnit)
     × StoresText K machine (text_of ps) × P o ps
 
 -- in which a UTF-8 sequence has begun
 abbrev pub KeptOscPending : {K A : Type 0} → Keeper K → Machine K A
     → (Unfinished → Type 0)
     → Type 0
-KeptOscPending K machine P = (o : Opener) × (ps : List Piece)
+KeptOscPending K machine P = (o : Opener) × (ps : List OscUnit)
     × StoresText K machine (text_of ps)
     × P (InOscPending o ps (prefix_of machine.pending))
 
 -- of which no text has come
 abbrev pub NewOsc : (Unfinished → Type 0) → Type 0
-NewOsc P = (o : Opener) × (ps : List Piece) × (text_of ps ≡ []) × P (InOsc o ps)
+NewOsc P = (o : Opener) × (ps : List OscUnit) × (text_of ps ≡ []) × P (InOsc o ps)
 
 -- ---- apc string: the text
 
 abbrev pub KeptApc : {K A : Type 0} → Keeper K → Machine K A → (Unfinished → Type 0)
     → Type 0
 KeptApc K machine P = (o : Opener) × (d : List ℕ)
-    × StoresText K machine (those is_text d) × P (InApc o d)
+    × StoresText K machine (bytes_of_class is_text d) × P (InApc o d)
 
 abbrev pub KeptApcAnd : {K A : Type 0} → Keeper K → List ℕ → Machine K A
     → (Unfinished → Type 0)
     → Type 0
 KeptApcAnd K more machine P = (o : Opener) × (d : List ℕ)
-    × StoresText K machine (those is_text d ++ more) × P (InApc o d)
+    × StoresText K machine (bytes_of_class is_text d ++ more) × P (InApc o d)
 
 abbrev pub NewApc : (Unfinished → Type 0) → Type 0
-NewApc P = (o : Opener) × (d : List ℕ) × (those is_text d ≡ []) × P (InApc o d)
+NewApc P = (o : Opener) × (d : List ℕ) × (bytes_of_class is_text d ≡ []) × P (InApc o d)
 
 -- ---- dcs entry, param and intermediate: the header
 
 abbrev pub KeptDcs : {K A : Type 0} → Keeper K → Machine K A → (Unfinished → Type 0)
     → Type 0
 KeptDcs K machine P = (o : Opener) × (x : List ℕ)
-    × StoresText K machine (parameters_of (strip x)) × KeepsDcs machine.header (strip x)
+    × StoresText K machine (parameters_of (without_noise x))
+    × KeepsDcs machine.header (without_noise x)
     × P (InDcs o x)
 
 -- a header that is hooked, within a store and a `DcsHeader`
@@ -109,4 +111,4 @@ KeptHeader K parameters header P = (limit : Option ℕ) × (x : List ℕ)
 
 abbrev pub KeptPassthrough : (Option ℕ → Unfinished → Type 0) → Type 0
 KeptPassthrough P = (limit : Option ℕ) × (o : Opener) × (x : List ℕ) × (f : ℕ) × (d : List ℕ)
-    × (is_read limit (strip x) ≡ true) × P limit (InData o x f d)
+    × (is_read limit (without_noise x) ≡ true) × P limit (InData o x f d)

@@ -2,7 +2,7 @@
 use Rattle.std.specs.Prelude.{ℕ, ◌≡◌, ◌≤◌, ◌<◌, Bool, true, false, not, List, [], ◌∷◌, length, take, Option, Result, MatchResult, IfOk, ◌⊎◌}
 use Rattle.std.specs.List.{FoldsTo}
 use denote.Bor.{Bor}
-use Rattle.memory.specs.Refusals.{Refused}
+use Rattle.fallible_alloc.specs.Refusals.{Refused}
 use Rattle.esc_frame.specs.Limits.{is_within}
 use Rattle.esc_frame.specs.declared.machine.Machine.{Machine}
 use Rattle.esc_frame.specs.declared.machine.State.{State}
@@ -20,19 +20,19 @@ Stops stops A limit = (t : List ℕ) × (is_within limit (length t) ≡ true) ×
 
 -- Why a machine may stop by itself under a limit: its store failed, or the actor stopped.
 abbrev pub Fails : (Option ℕ → Type 0) → (Type 0 → List ℕ → Type 0) → Type 0 → Option ℕ → Type 0
-Fails denied stops A limit = denied limit ⊎ Stops stops A limit
+Fails may_fail stops A limit = may_fail limit ⊎ Stops stops A limit
 
 -- The machine made this move: it keeps what is unfinished after it, and the actor was given its
 -- events. Where the result is an error the actor was given a prefix of them; the machine stopped by
--- itself only where `own` holds, for the reason `denied`.
+-- itself only where `own` holds, for the reason `may_fail`.
 abbrev pub Moved : {K A S E : Type 0} → (Option ℕ → K → List ℕ → Type 0) → (Option ℕ → Type 0)
     → Option ℕ → Bool
     → (S → Event → S → Type 0) → (S → Event → S → Type 0) → Result (Unit {0}) E → Move
     → Machine K A → S → S
     → Type 0
-Moved {K} {A} keeps denied limit own takes refuses result m machine old new =
+Moved {K} {A} keeps may_fail limit own takes refuses result m machine old new =
     MatchResult result (λ _. Holds keeps limit machine m.0 × FoldsTo takes old m.1 new)
-    (λ _. StopsAt ((own ≡ true) × denied limit) takes refuses old m.1 new)
+    (λ _. StopsAt ((own ≡ true) × may_fail limit) takes refuses old m.1 new)
 
 -- where all strings in the rest can be lent, none of them is begun after its first n bytes but for
 -- its opener
@@ -48,12 +48,12 @@ abbrev pub Took : {K A S E : Type 0} → (Option ℕ → K → List ℕ → Type
     → (S → Event → S → Type 0) → (S → Event → S → Type 0) → Result ℕ E → Unfinished → List ℕ
     → Machine K A → S → S
     → Type 0
-Took {K} {A} keeps denied limit takes refuses result u rest machine old new =
+Took {K} {A} keeps may_fail limit takes refuses result u rest machine old new =
     MatchResult result
     (λ n. Holds keeps limit machine (after_all u (take n rest))
     × FoldsTo takes old (events_all limit u (take n rest)) new
     × StaysFresh u rest n)
-    (λ _. StopsAt ((may_grow_within u rest ≡ true) × denied limit) takes refuses old
+    (λ _. StopsAt ((may_grow_within u rest ≡ true) × may_fail limit) takes refuses old
     (events_all limit u rest) new)
 
 -- it took a byte at least, and no more than there are, the actor stays ready, and the machine keeps
@@ -105,8 +105,8 @@ abbrev pub TookSome : {K A S E : Type 0} → (Option ℕ → K → List ℕ → 
     → (S → Event → S → Type 0) → (S → Event → S → Type 0) → (S → Type 0) → Result ℕ E → List ℕ
     → Machine K A → Machine K A → S → S
     → Type 0
-TookSome keeps denied limit takes refuses is_ready result rest before machine old new =
-    Took keeps denied limit takes refuses result Ground rest machine old new
+TookSome keeps may_fail limit takes refuses is_ready result rest before machine old new =
+    Took keeps may_fail limit takes refuses result Ground rest machine old new
     × Quietly limit result Ground rest
     × Advances is_ready result rest before machine old new
 

@@ -4,16 +4,16 @@ use Rattle.std.specs.Prelude.{ℕ, ◌≡◌, true, false, List, [], ◌++◌, B
 use Rattle.esc_frame.specs.declared.classes.Kind.{Kind}
 use Rattle.esc_frame.specs.declared.unfinished.header.DcsHeader.{DcsHeader}
 use Rattle.esc_frame.specs.declared.machine.Machine.{Machine}
-use Rattle.esc_frame.specs.declared.unfinished.store.Store.{Ghosts as Keeper}
+use Rattle.esc_frame.specs.declared.unfinished.store.TextRoom.{Ghosts as Keeper}
 use Rattle.esc_frame.specs.Changed.{Changed}
-use Rattle.esc_frame.specs.Classes.{strip, those, is_text}
+use Rattle.esc_frame.specs.Classes.{without_noise, bytes_of_class, is_text}
 use Rattle.esc_frame.specs.Leads.{Unfinished, Holds}
 use Rattle.esc_frame.specs.Leads.Unfinished.{InEscape, InCsi, InOsc, InOscPending, InDcs, InData, InApc, InIgnored}
 use Rattle.esc_frame.specs.Limits.{is_read}
 use Rattle.esc_frame.specs.Machine.Prefixes.{prefix_of}
 use Rattle.esc_frame.specs.Machine.Keeps.{Keeps, KeepsBody, KeepsDcs, parameters_of}
 use Rattle.esc_frame.specs.Machine.Moves.{is_borrowable}
-use Rattle.esc_frame.specs.Segments.{Opener, Piece, text_of}
+use Rattle.esc_frame.specs.Segments.{Opener, OscUnit, text_of}
 
 -- the store of the machine keeps this text, as far as its limit allows
 abbrev pub StoresText : {K A : Type 0} → Keeper K → Machine K A → List ℕ → Type 0
@@ -39,7 +39,8 @@ abbrev pub KeepingEscape : {K A : Type 0} → Changed (Machine K A)
     → (Option ℕ → Bool → Unfinished → Type 0)
     → Type 0
 KeepingEscape self P =
-    (limit : Option ℕ) (own : Bool) (x : List ℕ) → Keeps self.entry.now.intermediates (strip x)
+    (limit : Option ℕ) (own : Bool) (x : List ℕ)
+    → Keeps self.entry.now.intermediates (without_noise x)
     → P limit own (InEscape x)
 
 -- ---- csi: the parameters, under any limit
@@ -47,7 +48,7 @@ KeepingEscape self P =
 abbrev pub KeepingCsi : {K A : Type 0} → Changed (Machine K A) → (Option ℕ → Unfinished → Type 0)
     → Type 0
 KeepingCsi self P =
-    (limit : Option ℕ) (o : Opener) (x : List ℕ) → KeepsBody self.entry.now.body (strip x)
+    (limit : Option ℕ) (o : Opener) (x : List ℕ) → KeepsBody self.entry.now.body (without_noise x)
     → P limit (InCsi o x)
 
 -- of which these bytes come next, and are kept already
@@ -56,7 +57,7 @@ abbrev pub KeepingCsiAnd : {K A : Type 0} → List ℕ → Changed (Machine K A)
     → Type 0
 KeepingCsiAnd more self P =
     (limit : Option ℕ) (o : Opener) (x : List ℕ)
-    → KeepsBody self.entry.now.body (strip x ++ more)
+    → KeepsBody self.entry.now.body (without_noise x ++ more)
     → P limit (InCsi o x)
 
 -- whatever is kept of it
@@ -69,7 +70,7 @@ abbrev pub KeepingOsc : {K A : Type 0} → Keeper K → Changed (Machine K A)
     → (Unfinished → Type 0)
     → Type 0
 KeepingOsc K self P =
-    (o : Opener) (ps : List Piece) → StoresText K self.entry.now (text_of ps)
+    (o : Opener) (ps : List OscUnit) → StoresText K self.entry.now (text_of ps)
     → P (InOsc o ps)
 
 -- of which these bytes come next, and are kept already
@@ -77,7 +78,7 @@ abbrev pub KeepingOscAnd : {K A : Type 0} → Keeper K → List ℕ → Changed 
     → (Unfinished → Type 0)
     → Type 0
 KeepingOscAnd K more self P =
-    (o : Opener) (ps : List Piece) → StoresText K self.entry.now (text_of ps ++ more)
+    (o : Opener) (ps : List OscUnit) → StoresText K self.entry.now (text_of ps ++ more)
     → P (InOsc o ps)
 
 -- in which a UTF-8 sequence has begun
@@ -85,17 +86,17 @@ abbrev pub KeepingOscPending : {K A : Type 0} → Keeper K → Changed (Machine 
     → (Unfinished → Type 0)
     → Type 0
 KeepingOscPending K self P =
-    (o : Opener) (ps : List Piece) (f : List ℕ)
+    (o : Opener) (ps : List OscUnit) (f : List ℕ)
     → StoresText K self.entry.now (text_of ps) → prefix_of self.entry.now.pending ≡ f
     → P (InOscPending o ps f)
 
 -- of which no text has come
 abbrev pub FreshOsc : (Unfinished → Type 0) → Type 0
-FreshOsc P = (o : Opener) (ps : List Piece) → text_of ps ≡ [] → P (InOsc o ps)
+FreshOsc P = (o : Opener) (ps : List OscUnit) → text_of ps ≡ [] → P (InOsc o ps)
 
 -- whatever is kept of it
 abbrev pub AnyOsc : (Unfinished → Type 0) → Type 0
-AnyOsc P = (o : Opener) (ps : List Piece) → P (InOsc o ps)
+AnyOsc P = (o : Opener) (ps : List OscUnit) → P (InOsc o ps)
 
 -- ---- apc string: the text
 
@@ -103,7 +104,7 @@ abbrev pub KeepingApc : {K A : Type 0} → Keeper K → Changed (Machine K A)
     → (Unfinished → Type 0)
     → Type 0
 KeepingApc K self P =
-    (o : Opener) (d : List ℕ) → StoresText K self.entry.now (those is_text d)
+    (o : Opener) (d : List ℕ) → StoresText K self.entry.now (bytes_of_class is_text d)
     → P (InApc o d)
 
 -- of which these bytes come next, and are kept already
@@ -111,12 +112,12 @@ abbrev pub KeepingApcAnd : {K A : Type 0} → Keeper K → List ℕ → Changed 
     → (Unfinished → Type 0)
     → Type 0
 KeepingApcAnd K more self P =
-    (o : Opener) (d : List ℕ) → StoresText K self.entry.now (those is_text d ++ more)
+    (o : Opener) (d : List ℕ) → StoresText K self.entry.now (bytes_of_class is_text d ++ more)
     → P (InApc o d)
 
 -- of which no text has come
 abbrev pub FreshApc : (Unfinished → Type 0) → Type 0
-FreshApc P = (o : Opener) (d : List ℕ) → those is_text d ≡ [] → P (InApc o d)
+FreshApc P = (o : Opener) (d : List ℕ) → bytes_of_class is_text d ≡ [] → P (InApc o d)
 
 -- whatever is kept of it
 abbrev pub AnyApc : (Unfinished → Type 0) → Type 0
@@ -128,8 +129,8 @@ abbrev pub KeepingDcs : {K A : Type 0} → Keeper K → Changed (Machine K A)
     → (Unfinished → Type 0)
     → Type 0
 KeepingDcs K self P =
-    (o : Opener) (x : List ℕ) → StoresText K self.entry.now (parameters_of (strip x))
-    → KeepsDcs self.entry.now.header (strip x)
+    (o : Opener) (x : List ℕ) → StoresText K self.entry.now (parameters_of (without_noise x))
+    → KeepsDcs self.entry.now.header (without_noise x)
     → P (InDcs o x)
 
 -- a header within a store and a `DcsHeader`
@@ -145,7 +146,7 @@ KeepingHeader K parameters header P =
 abbrev pub InPassthrough : (Option ℕ → Unfinished → Type 0) → Type 0
 InPassthrough P =
     (limit : Option ℕ) (o : Opener) (x : List ℕ) (f : ℕ) (d : List ℕ)
-    → is_read limit (strip x) ≡ true
+    → is_read limit (without_noise x) ≡ true
     → P limit (InData o x f d)
 
 -- ---- dcs ignore: after a header that was not
@@ -153,7 +154,7 @@ InPassthrough P =
 abbrev pub InDcsIgnore : (Option ℕ → Unfinished → Type 0) → Type 0
 InDcsIgnore P =
     (limit : Option ℕ) (o : Opener) (x : List ℕ) (f : ℕ) (d : List ℕ)
-    → is_read limit (strip x) ≡ false
+    → is_read limit (without_noise x) ≡ false
     → P limit (InData o x f d)
 
 -- ---- sos and pm strings, of which nothing is kept

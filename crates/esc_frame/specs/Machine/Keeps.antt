@@ -7,13 +7,13 @@ use Rattle.esc_values.specs.declared.csi_param.CsiParam.{CsiParam}
 use Rattle.esc_values.specs.declared.csi_param.CsiParam.TheVariants.{Integer, P}
 use Rattle.esc_frame.specs.declared.unfinished.intermediates.Intermediates.{Intermediates}
 use Rattle.esc_frame.specs.declared.unfinished.csi_params.Params.{Params}
-use Rattle.esc_frame.specs.declared.unfinished.kept.Kept.{Kept}
+use Rattle.esc_frame.specs.declared.unfinished.kept.HeapBuffer.{HeapBuffer}
 use Rattle.esc_frame.specs.declared.unfinished.body.CsiBody.{CsiBody}
 use Rattle.esc_frame.specs.declared.unfinished.body.Form.{Form}
 use Rattle.esc_frame.specs.declared.unfinished.header.DcsHeader.{DcsHeader}
 use Rattle.esc_frame.specs.declared.unfinished.body.Form.TheVariants as form
 use Rattle.esc_frame.specs.Limits.{is_within}
-use Rattle.esc_frame.specs.Bodies.{is_digit, held, is_private_prefix, is_csi_parameter, is_dcs_parameter, is_intermediate_byte}
+use Rattle.esc_frame.specs.Bodies.{is_digit, capped_at_i64, is_private_prefix, is_csi_parameter, is_dcs_parameter, is_intermediate_byte}
 
 -- the first two of these bytes are kept, and whether there are more
 abbrev pub Keeps : Intermediates → List ℕ → Type 0
@@ -21,9 +21,9 @@ Keeps i bytes = (take i.kept i.bytes ≡ take 2 bytes) × (i.ignored ≡ nat_lt 
     × (i.kept ≡ length (take 2 bytes))
 
 -- the parameters that no further digit can change, and the number of the run of digits at the end
-abbrev pub shown : Option ℕ → List CsiParam
-shown None = []
-shown (Some n) = Integer (pos (held n)) ∷ []
+abbrev pub params_with : Option ℕ → List CsiParam
+params_with None = []
+params_with (Some n) = Integer (pos (capped_at_i64 n)) ∷ []
 
 -- the number of the run of digits at the end, or 0
 abbrev pub number_at : Option ℕ → ℕ
@@ -35,7 +35,7 @@ next_number_of None b = if is_digit b then Some (b - 0x30) else None
 next_number_of (Some n) b = if is_digit b then Some (10 * n + (b - 0x30)) else None
 
 abbrev pub closed_by : Option ℕ → ℕ → List CsiParam
-closed_by o b = if is_digit b then [] else shown o ++ P b ∷ []
+closed_by o b = if is_digit b then [] else params_with o ++ P b ∷ []
 
 abbrev pub number_of_run : Option ℕ → List ℕ → Option ℕ
 number_of_run o [] = o
@@ -47,7 +47,7 @@ closed_of o (b ∷ bs) = closed_by o b ++ closed_of (next_number_of o b) bs
 
 abbrev pub IsNumber : Params → Option ℕ → Type 0
 IsNumber e None = e.is_open ≡ false
-IsNumber e (Some n) = (e.is_open ≡ true) × (e.number ≡ held n)
+IsNumber e (Some n) = (e.is_open ≡ true) × (e.number ≡ capped_at_i64 n)
 
 -- these are the first parameters of the list, as many as are kept, and whether it has more
 pub record AreFirst (items : List CsiParam) (truncated : Bool) (limit : ℕ)
@@ -92,7 +92,8 @@ KeepsBody e x = KeepsEntries e.csi_params x × (e.form ≡ form_from form.Empty 
 
 -- this text is kept, each byte of which counts; or nothing, not even memory, where it is past the
 -- limit
-pub record KeepsText {A : Type 0} (limit : Option ℕ) (k : Kept A) (text : List ℕ) : Type 0 where
+pub record KeepsText {A : Type 0} (limit : Option ℕ) (k : HeapBuffer A) (text : List ℕ) : Type
+    0 where
   pub over : k.is_over ≡ not (is_within limit (length text))
   pub kept : k.is_over ≡ false → k.bytes.items ≡ text
   pub none : k.is_over ≡ true → k.bytes.items ≡ []

@@ -1,9 +1,9 @@
--- What a call does, said of a store and an actor (`K.Store`, `V.Taker`), and of the machine and
--- the actor before the call and after it (`self`, `actor`). No contract of `VTParser` cites it.
+-- What a call does, said of a store and an actor (`K.TextRoom`, `V.EventSink`), and of the machine
+-- and the actor before the call and after it (`self`, `actor`). No contract of `VTParser` cites it.
 use Rattle.std.specs.Prelude.{ℕ, ◌≡◌, Bool, List, Option, None, Result, IfOk, OnOk}
-use Rattle.esc_frame.specs.declared.taker.Taker.{Ghosts as Actor}
+use Rattle.esc_frame.specs.declared.taker.EventSink.{Ghosts as Actor}
 use Rattle.esc_frame.specs.declared.machine.Machine.{Machine}
-use Rattle.esc_frame.specs.declared.unfinished.store.Store.{Ghosts as Keeper}
+use Rattle.esc_frame.specs.declared.unfinished.store.TextRoom.{Ghosts as Keeper}
 use Rattle.esc_frame.specs.Changed.{Changed}
 use Rattle.esc_frame.specs.Events.{Event, MayGet, Receives, Takes}
 use Rattle.esc_frame.specs.Leads.{Unfinished, Holds}
@@ -35,7 +35,7 @@ abbrev pub Makes : {K A S E : Type 0} → Keeper K → Actor S → Option ℕ �
     → Result (Unit {0}) E → Move → Changed (Machine K A) → Changed S
     → Type 0
 Makes {A} K V limit own result move self actor =
-    calls.Moved K.keeps (calls.Fails K.denied V.stops A) limit own V.takes V.refuses result move
+    calls.Moved K.keeps (calls.Fails K.may_fail V.stops A) limit own V.takes V.refuses result move
     self.exit.now
     actor.entry.now actor.exit.now
 
@@ -51,7 +51,7 @@ abbrev pub Consumes : {K A S E : Type 0} → Keeper K → Actor S → Option ℕ
     → Result ℕ E → Unfinished → List ℕ → Changed (Machine K A) → Changed S
     → Type 0
 Consumes {A} K V limit result u rest self actor =
-    calls.Took K.keeps (calls.Fails K.denied V.stops A) limit V.takes V.refuses result u rest
+    calls.Took K.keeps (calls.Fails K.may_fail V.stops A) limit V.takes V.refuses result u rest
     self.exit.now
     actor.entry.now actor.exit.now
 
@@ -60,7 +60,7 @@ abbrev pub ConsumesSome : {K A S E : Type 0} → Keeper K → Actor S → Option
     → Result ℕ E → List ℕ → Changed (Machine K A) → Changed S
     → Type 0
 ConsumesSome {A} K V limit result rest self actor =
-    calls.TookSome K.keeps (calls.Fails K.denied V.stops A) limit V.takes V.refuses V.is_ready
+    calls.TookSome K.keeps (calls.Fails K.may_fail V.stops A) limit V.takes V.refuses V.is_ready
     result rest self.entry.now self.exit.now
     actor.entry.now actor.exit.now
 

@@ -9,13 +9,13 @@ use Rattle.esc_frame.specs.declared.classes.Kind.TheVariants as kind
 use Rattle.esc_frame.specs.declared.utf8.sequence.Outcome.{Outcome}
 use Rattle.esc_frame.specs.declared.utf8.sequence.Outcome.TheVariants as outcomes
 use Rattle.esc_frame.specs.Sequences.{is_pair, number_of, outcome}
-use Rattle.esc_frame.specs.Classes.{class_of, strip, those, is_text, is_breaker, is_c0, is_control, is_c1, in_escape, in_csi, in_osc, is_put}
+use Rattle.esc_frame.specs.Classes.{class_of, without_noise, bytes_of_class, is_text, is_breaker, is_c0, is_control, is_c1, in_escape, in_csi, in_osc, is_put}
 use Rattle.esc_frame.specs.Events.{Event}
 use Rattle.esc_frame.specs.Events.Event.{Print, Execute, DcsPut, DcsUnhook}
 use Rattle.esc_frame.specs.Limits.{is_read, has_few_parts}
-use Rattle.esc_frame.specs.Segments.{Opener, Piece, text_of, is_empty, escape_event, csi_events, hook_event, osc_events, apc_events}
+use Rattle.esc_frame.specs.Segments.{Opener, OscUnit, text_of, is_empty, escape_event, csi_events, hook_event, osc_events, apc_events}
 use Rattle.esc_frame.specs.Segments.Opener.{Long, Raw, Pair}
-use Rattle.esc_frame.specs.Segments.Piece.{One, Sequence, BrokenOff}
+use Rattle.esc_frame.specs.Segments.OscUnit.{One, Sequence, BrokenOff}
 use Rattle.esc_frame.specs.Leads.{Unfinished}
 use Rattle.esc_frame.specs.Leads.Unfinished.{Ground, Pending, InEscape, InCsi, InOsc, InOscPending, InDcs, InData, InApc, InIgnored}
 
@@ -27,17 +27,17 @@ Move = Unfinished × List Event
 abbrev pub emitting : List Event → Move → Move
 emitting es m = (m.0, es ++ m.1)
 
-abbrev pub opened : Kind → Opener → Unfinished
-opened kind.Csi o = InCsi o []
-opened kind.Osc o = InOsc o []
-opened kind.Dcs o = InDcs o []
-opened kind.Apc o = InApc o []
-opened k o = InIgnored k o []
+abbrev pub unfinished_at_opener : Kind → Opener → Unfinished
+unfinished_at_opener kind.Csi o = InCsi o []
+unfinished_at_opener kind.Osc o = InOsc o []
+unfinished_at_opener kind.Dcs o = InDcs o []
+unfinished_at_opener kind.Apc o = InApc o []
+unfinished_at_opener k o = InIgnored k o []
 
 -- a byte in ground that is no character and no control
 abbrev pub begins : ℕ → Class → Move
 begins b (Breaks Escape) = (InEscape [], [])
-begins b (Breaks (C1Introducer k)) = (opened k Raw, [])
+begins b (Breaks (C1Introducer k)) = (unfinished_at_opener k Raw, [])
 begins b Lead = (Pending (b ∷ []), [])
 begins b High = (Ground, Print 0xfffd ∷ [])
 begins b _ = (Ground, [])
@@ -48,7 +48,7 @@ ground_move b c = if is_text c then (Ground, Print b ∷ []) else if is_control 
 
 -- after C2: 80-9F
 abbrev pub pair_move : ℕ → Class → Move
-pair_move b (Breaks (C1Introducer k)) = (opened k Pair, [])
+pair_move b (Breaks (C1Introducer k)) = (unfinished_at_opener k Pair, [])
 pair_move b c = (Ground, if is_c1 c then Execute b ∷ [] else [])
 
 -- a control in a sequence that goes on
@@ -58,23 +58,25 @@ noise b c = if is_c0 c then Execute b ∷ [] else []
 -- the final byte of an escape sequence, or what it opens
 abbrev pub final_escape : List ℕ → ℕ → Class → Move
 final_escape x b (Introducer k) =
-    if is_empty (strip x) then (opened k (Long x), []) else (Ground, escape_event (strip x) b ∷ [])
-final_escape x b _ = (Ground, escape_event (strip x) b ∷ [])
+    if is_empty (without_noise x) then (unfinished_at_opener k (Long x), [])
+    else (Ground, escape_event (without_noise x) b ∷ [])
+final_escape x b _ = (Ground, escape_event (without_noise x) b ∷ [])
 
 -- the hook of a header that is read
 abbrev pub hooks : Option ℕ → List ℕ → ℕ → List Event
-hooks limit x b = if is_read limit (strip x) then hook_event (strip x) b ∷ [] else []
+hooks limit x b = if is_read limit (without_noise x) then hook_event (without_noise x) b ∷ []
+    else []
 
 -- what a sequence or a string emits where it is left
 abbrev pub leaving : Option ℕ → Unfinished → List Event
-leaving limit (InData o x f d) = if is_read limit (strip x) then DcsUnhook ∷ [] else []
-leaving limit (InApc o d) = apc_events limit (those is_text d)
+leaving limit (InData o x f d) = if is_read limit (without_noise x) then DcsUnhook ∷ [] else []
+leaving limit (InApc o d) = apc_events limit (bytes_of_class is_text d)
 leaving limit (InOsc o ps) = osc_events limit (text_of ps)
 leaving limit (InOscPending o ps f) = osc_events limit (text_of ps)
 leaving limit _ = []
 
 -- a lead byte in an OSC, or the bell that ends it
-abbrev pub final_osc : Option ℕ → Opener → List Piece → ℕ → Class → Move
+abbrev pub final_osc : Option ℕ → Opener → List OscUnit → ℕ → Class → Move
 final_osc limit o ps b Lead = (InOscPending o ps (b ∷ []), [])
 final_osc limit o ps b _ = (Ground, leaving limit (InOsc o ps))
 
@@ -83,11 +85,15 @@ abbrev pub goes_on : Option ℕ → Unfinished → ℕ → Class → Move
 goes_on limit (InEscape x) b c =
     if in_escape c then (InEscape (x ++ b ∷ []), noise b c) else final_escape x b c
 goes_on limit (InCsi o x) b c =
-    if in_csi c then (InCsi o (x ++ b ∷ []), noise b c) else (Ground, csi_events (strip x) b)
+    if in_csi c then (InCsi o (x ++ b ∷ []), noise b c)
+    else (Ground, csi_events (without_noise x) b)
 goes_on limit (InDcs o x) b c =
     if in_csi c then (InDcs o (x ++ b ∷ []), []) else (InData o x b [], hooks limit x b)
-goes_on limit (InData o x f d) b c =
-    (InData o x f (d ++ b ∷ []), if is_read limit (strip x) && is_put c then DcsPut b ∷ [] else [])
+goes_on limit (InData o x f d) b c = (
+  InData o x f (d ++ b ∷ []),
+  if is_read limit (without_noise x) && is_put c then DcsPut b ∷ []
+      else [],
+)
 goes_on limit (InApc o d) b c = (InApc o (d ++ b ∷ []), [])
 goes_on limit (InIgnored k o d) b c = (InIgnored k o (d ++ b ∷ []), [])
 goes_on limit (InOsc o ps) b c =
@@ -95,8 +101,8 @@ goes_on limit (InOsc o ps) b c =
 goes_on limit u b c = (u, [])
 
 -- a byte in a sequence or a string: a breaker breaks it off, and does what it does in ground
-abbrev pub inside : Option ℕ → Unfinished → ℕ → Class → Move
-inside limit u b c =
+abbrev pub move_inside : Option ℕ → Unfinished → ℕ → Class → Move
+move_inside limit u b c =
     if is_breaker c then emitting (leaving limit u) (ground_move b c) else goes_on limit u b c
 
 -- a byte that ends an operating system command: a bell, which belongs to it, or a breaker
@@ -116,21 +122,21 @@ pending_move f b c outcomes.More = (Pending (f ++ b ∷ []), [])
 pending_move f b c outcomes.Broken = emitting (Print 0xfffd ∷ []) (ground_move b c)
 
 -- the same in an OSC
-abbrev pub osc_pending_move : Option ℕ → Opener → List Piece → List ℕ → ℕ → Class → Outcome → Move
+abbrev pub osc_pending_move : Option ℕ → Opener → List OscUnit → List ℕ → ℕ → Class → Outcome → Move
 osc_pending_move limit o ps f b c outcomes.Whole =
     if is_pair (f ++ b ∷ [])
     then emitting (leaving limit (InOscPending o ps f)) (pair_move b c) else
     (InOsc o (ps ++ Sequence (f ++ b ∷ []) ∷ []), [])
 osc_pending_move limit o ps f b c outcomes.More = (InOscPending o ps (f ++ b ∷ []), [])
 osc_pending_move limit o ps f b c outcomes.Broken =
-    inside limit (InOsc o (ps ++ BrokenOff f ∷ [])) b c
+    move_inside limit (InOsc o (ps ++ BrokenOff f ∷ [])) b c
 
 -- what a byte of this class makes of what is unfinished
 abbrev pub move : Option ℕ → Unfinished → ℕ → Class → Move
 move limit Ground b c = ground_move b c
 move limit (Pending f) b c = pending_move f b c (outcome f b)
 move limit (InOscPending o ps f) b c = osc_pending_move limit o ps f b c (outcome f b)
-move limit u b c = inside limit u b c
+move limit u b c = move_inside limit u b c
 
 -- what is unfinished does not depend on the limit
 abbrev pub after_by : Unfinished → ℕ → Class → Unfinished
@@ -172,12 +178,12 @@ reaches_growing u (b ∷ bs) = may_grow_in u || reaches_growing (after_by u b (c
 -- ---- strings that are lent
 
 -- a byte in the text of an OSC that can be lent, or a byte that ends it
-abbrev pub passes_osc : List Piece → Class → Bool
+abbrev pub passes_osc : List OscUnit → Class → Bool
 passes_osc ps Lead = true
 passes_osc ps c = is_text c || (ends_osc c && has_few_parts (text_of ps))
 
 -- a byte after a prefix of a sequence there
-abbrev pub passes_pending : List Piece → List ℕ → ℕ → Outcome → Bool
+abbrev pub passes_pending : List OscUnit → List ℕ → ℕ → Outcome → Bool
 passes_pending ps f b outcomes.Whole =
     if is_pair (f ++ b ∷ []) then has_few_parts (text_of ps) else true
 passes_pending ps f b outcomes.More = true
@@ -209,7 +215,7 @@ is_fresh (Pending f) = true
 is_fresh (InEscape x) = true
 is_fresh (InCsi o x) = true
 is_fresh (InOsc o ps) = is_empty (text_of ps)
-is_fresh (InApc o d) = is_empty (those is_text d)
+is_fresh (InApc o d) = is_empty (bytes_of_class is_text d)
 is_fresh _ = false
 
 abbrev pub is_borrowable : Unfinished → List ℕ → Bool

@@ -1,11 +1,11 @@
 -- Bodies of control sequences that have few parameters. Contracts of parts cite it, here and in
--- `esc_lent`.
+-- `heapless_parser`.
 use Rattle.std.specs.Prelude.{ℕ, ◌≡◌, ◌<◌, ◌≤◌, ◌+◌, ◌++◌, Bool, true, false, List, None, length, take}
 use Rattle.std.specs.List.{list_all}
 use Rattle.esc_values.specs.declared.csi_param.CsiParam.{CsiParam}
 use Rattle.esc_frame.specs.declared.unfinished.body.Form.{Form}
 use Rattle.esc_frame.specs.declared.unfinished.body.Form.TheVariants as form
-use Rattle.esc_frame.specs.Bodies.{csi_params, is_csi_body, kept_csi_params, has_more_csi_params, held, is_digit, value_after}
+use Rattle.esc_frame.specs.Bodies.{csi_params, is_csi_body, kept_csi_params, has_more_csi_params, capped_at_i64, is_digit, value_after}
 use Rattle.esc_frame.specs.Machine.Keeps.{number_of_run, form_from}
 use Rattle.esc_frame.specs.Scans.{is_body_byte}
 
@@ -56,5 +56,5 @@ pub record IsShort (items : List CsiParam) (x : List ℕ) : Type 0 where
 pub record ReadsNumber (number : ℕ) (run : ℕ) (rest : List ℕ) : Type 0 where
   pub count : (0 < run) × (run ≤ length rest)
   pub digits : list_all is_digit (take run rest) ≡ true
-  pub value : number ≡ held (value_after 0 (take run rest))
+  pub value : number ≡ capped_at_i64 (value_after 0 (take run rest))
   pub small : number ≤ 0x7fff_ffff_ffff_ffff

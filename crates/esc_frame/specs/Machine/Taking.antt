@@ -1,12 +1,12 @@
 -- What a call that takes bytes in one state of the machine is given, and what it says, in the same
--- words for each state. Contracts of parts cite it, here and in `esc_lent`.
+-- words for each state. Contracts of parts cite it, here and in `heapless_parser`.
 use Rattle.std.specs.Prelude.{ℕ, ◌≡◌, ◌<◌, ◌≤◌, ◌+◌, ◌⊎◌, true, Bool, List, [], Option, Result, IfOk, length, take, drop, slice_index}
 use Rattle.std.specs.List.{list_all}
 use Rattle.esc_values.specs.declared.csi_param.CsiParam.{CsiParam}
 use Rattle.esc_frame.specs.declared.machine.Machine.{Machine}
 use Rattle.esc_frame.specs.declared.machine.State.TheVariants as state
-use Rattle.esc_frame.specs.declared.taker.Taker.{Ghosts as Actor}
-use Rattle.esc_frame.specs.declared.unfinished.store.Store.{Ghosts as Keeper}
+use Rattle.esc_frame.specs.declared.taker.EventSink.{Ghosts as Actor}
+use Rattle.esc_frame.specs.declared.unfinished.store.TextRoom.{Ghosts as Keeper}
 use Rattle.esc_frame.specs.Changed.{Changed}
 use Rattle.esc_frame.specs.Events.{Awaits}
 use Rattle.esc_frame.specs.Leads.{Unfinished}

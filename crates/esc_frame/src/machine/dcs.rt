@@ -18,21 +18,21 @@ ghost use Rattle.esc_frame.specs.Machine.Taking.{MayBeGiven, TakesPart};
 use crate::classes::Class;
 use crate::machine::{Machine, Result, State};
 use crate::runs::scans::data_run;
-use crate::taker::Taker;
+use crate::taker::EventSink;
 use crate::unfinished::header::{DcsHeader, is_parameter};
-use crate::unfinished::store::Store;
+use crate::unfinished::store::TextRoom;
 use std::alloc::Allocator;
 
-impl<K: Store, A: Allocator> Machine<K, A> {
+impl<K: TextRoom, A: Allocator> Machine<K, A> {
     /// A byte after a DCS's opener and x.
-    #[tactic(auto, using(crate::proofs::Given::takes_moved))]
-    pub fn in_dcs<V: Taker>(&mut self, b: u8, class: Class, actor: &mut V) -> Result<()>
-        requires { V.is_ready actor.old ⊎ KeptDcs K.Store self.old (λ u.
+    #[tactic(auto, using(crate::proofs::Emits::EventsFold::takes_moved))]
+    pub fn in_dcs<V: EventSink>(&mut self, b: u8, class: Class, actor: &mut V) -> Result<()>
+        requires { V.is_ready actor.old ⊎ KeptDcs K.TextRoom self.old (λ u.
             Awaits V.may V.takes actor.old (move self.old.limit u b class).1) }
-        ensures moved { class ≡ class_of b → KeepingDcs K.Store self (λ u.
-            Makes K.Store V.Taker self.old.limit true result
+        ensures moved { class ≡ class_of b → KeepingDcs K.TextRoom self (λ u.
+            Makes K.TextRoom V.EventSink self.old.limit true result
             (move self.old.limit u b class) self actor) }
-        ensures ready { StaysReady V.Taker result self actor }
+        ensures ready { StaysReady V.EventSink result self actor }
     {
         self.state = State::Dcs;
         match class {
@@ -57,13 +57,13 @@ impl<K: Store, A: Allocator> Machine<K, A> {
     }
 
     /// A byte of a DCS's data, whose header has its form.
-    #[tactic(auto, using(crate::proofs::Given::receives_moved))]
-    pub fn in_data<V: Taker>(&mut self, b: u8, class: Class, actor: &mut V) -> Result<()>
+    #[tactic(auto, using(crate::proofs::Emits::EventsFold::receives_moved))]
+    pub fn in_data<V: EventSink>(&mut self, b: u8, class: Class, actor: &mut V) -> Result<()>
         requires { V.is_ready actor.old ⊎ KeptPassthrough (λ limit u.
             Awaits V.may V.takes actor.old (move limit u b class).1) }
         ensures moved { InPassthrough (λ limit u.
-            Makes K.Store V.Taker limit true result (move limit u b class) self actor) }
-        ensures ready { StaysReady V.Taker result self actor }
+            Makes K.TextRoom V.EventSink limit true result (move limit u b class) self actor) }
+        ensures ready { StaysReady V.EventSink result self actor }
     {
         self.state = State::Data;
         match class {
@@ -81,12 +81,12 @@ impl<K: Store, A: Allocator> Machine<K, A> {
     }
 
     // A breaker after a DCS's data.
-    fn leave_data<V: Taker>(&mut self, b: u8, class: Class, actor: &mut V) -> Result<()>
-        requires { MayEmit V.Taker (DcsUnhook ∷ (ground_move b class).1) actor.old }
+    fn leave_data<V: EventSink>(&mut self, b: u8, class: Class, actor: &mut V) -> Result<()>
+        requires { MayEmit V.EventSink (DcsUnhook ∷ (ground_move b class).1) actor.old }
         ensures moved { (limit : Option ℕ)
-            → Makes K.Store V.Taker limit true result
+            → Makes K.TextRoom V.EventSink limit true result
             (emitting (DcsUnhook ∷ []) (ground_move b class)) self actor }
-        ensures ready { StaysReady V.Taker result self actor }
+        ensures ready { StaysReady V.EventSink result self actor }
     {
         actor.dcs_unhook()?;
         self.in_ground(b, class, actor)
@@ -94,16 +94,17 @@ impl<K: Store, A: Allocator> Machine<K, A> {
 
     /// The run of 20-7E in the data of a device control string.
     #[inline(always)]
-    pub fn take_in_data<V: Taker>(&mut self, rest: &[u8], actor: &mut V) -> Result<usize>
+    pub fn parse_in_data<V: EventSink>(&mut self, rest: &[u8], actor: &mut V) -> Result<usize>
         requires some { 0 < length rest.now }
-        requires ready { MayBeGiven V.Taker (KeptSegment K.Store self.old)
+        requires ready { MayBeGiven V.EventSink (KeptSegment K.TextRoom self.old)
             self.old.limit rest.now actor.old }
         requires state { self.old.state ≡ State.Data }
-        ensures { TakesPart (Holding K.Store self) K.Store V.Taker result rest.now self actor }
+        ensures { TakesPart (Holding K.TextRoom self) K.TextRoom V.EventSink result rest.now self
+            actor }
     {
         let run = data_run(rest);
         if run == 0 {
-            return self.take_one(rest, actor);
+            return self.parse_one(rest, actor);
         }
         actor.dcs_put_text(&rest[..run])?;
         Ok(run)
@@ -111,7 +112,7 @@ impl<K: Store, A: Allocator> Machine<K, A> {
 }
 
 // Takes a byte, 20-3F, of the header.
-fn keep<K: Store>(
+fn keep<K: TextRoom>(
     limit: Option<usize>,
     header: &mut DcsHeader,
     parameters: &mut K,
@@ -120,7 +121,7 @@ fn keep<K: Store>(
     ensures parameters { (x : List ℕ) → K.keeps limit parameters.old (parameters_of x)
         → OnOk result (K.keeps limit parameters.new (parameters_of (x ++ b ∷ []))) }
     ensures header { (x : List ℕ) → KeepsDcs header.old x → KeepsDcs header.new (x ++ b ∷ []) }
-    ensures refused { OnErr result (K.denied limit) }
+    ensures refused { OnErr result (K.may_fail limit) }
 {
     header.push(b);
     if is_parameter(b) {
@@ -131,26 +132,26 @@ fn keep<K: Store>(
 }
 
 // Whether the header is hooked: its parameter bytes are within the limit, and it has its form.
-fn is_read<K: Store>(header: &DcsHeader, parameters: &K) -> bool
-    ensures { KeepingHeader K.Store parameters.now header.now (λ limit x.
+fn is_read<K: TextRoom>(header: &DcsHeader, parameters: &K) -> bool
+    ensures { KeepingHeader K.TextRoom parameters.now header.now (λ limit x.
         result ≡ is_read limit x) }
 {
     !parameters.is_over() && header.is_formed()
 }
 
 // The hook of a header that is read, emitted.
-fn hook<K: Store, A: Allocator, V: Taker>(
+fn hook<K: TextRoom, A: Allocator, V: EventSink>(
     header: &DcsHeader,
     parameters: &K,
     alloc: &A,
     b: u8,
     actor: &mut V,
 ) -> Result<()>
-    requires { V.is_ready actor.old ⊎ KeptHeader K.Store parameters.now header.now (λ x.
+    requires { V.is_ready actor.old ⊎ KeptHeader K.TextRoom parameters.now header.now (λ x.
         Awaits V.may V.takes actor.old (hook_event x b ∷ [])) }
-    ensures emitted { KeepingHeader K.Store parameters.now header.now (λ limit x.
+    ensures emitted { KeepingHeader K.TextRoom parameters.now header.now (λ limit x.
         is_read limit x ≡ true
-        → Emits V.Taker (Stops V.stops A limit) result (hook_event x b ∷ []) actor) }
+        → Emits V.EventSink (Stops V.stops A limit) result (hook_event x b ∷ []) actor) }
     ensures ready { V.is_ready actor.old → OnOk result (V.is_ready actor.new) }
 {
     let kept = &header.intermediates;

@@ -19,22 +19,22 @@ ghost use Rattle.esc_frame.specs.Machine.Taking.{TakesQuietly, InAny, HasRun, Ar
 
 use crate::classes::{Class, Kind, classify};
 use crate::machine::{Machine, Result, State};
-use crate::taker::Taker;
+use crate::taker::EventSink;
 use crate::unfinished::body::CsiBody;
-use crate::unfinished::store::Store;
+use crate::unfinished::store::TextRoom;
 use crate::utf8::sequence::{Pending, lies_from};
 use std::alloc::Allocator;
 
-impl<K: Store, A: Allocator> Machine<K, A> {
+impl<K: TextRoom, A: Allocator> Machine<K, A> {
     /// A byte after ESC x.
     #[inline(always)]
-    #[tactic(auto, using(crate::proofs::Given::receives_moved))]
-    pub fn in_escape<V: Taker>(&mut self, b: u8, class: Class, actor: &mut V) -> Result<()>
+    #[tactic(auto, using(crate::proofs::Emits::EventsFold::receives_moved))]
+    pub fn in_escape<V: EventSink>(&mut self, b: u8, class: Class, actor: &mut V) -> Result<()>
         requires { V.is_ready actor.old ⊎ KeptEscape self.old (λ limit u.
             Awaits V.may V.takes actor.old (move limit u b class).1) }
         ensures moved { class ≡ class_of b → KeepingEscape self (λ limit own u.
-            Makes K.Store V.Taker limit own result (move limit u b class) self actor) }
-        ensures ready { StaysReady V.Taker result self actor }
+            Makes K.TextRoom V.EventSink limit own result (move limit u b class) self actor) }
+        ensures ready { StaysReady V.EventSink result self actor }
     {
         self.state = State::Escape;
         match class {
@@ -59,11 +59,11 @@ impl<K: Store, A: Allocator> Machine<K, A> {
 
     /// The `\` after an ESC that ended a string; else nothing.
     #[inline(always)]
-    pub fn take_terminator<V: Taker>(&mut self, rest: &[u8], actor: &mut V) -> Result<usize>
-        requires { V.is_ready actor.old ⊎ KeptSegment K.Store self.old (λ u.
+    pub fn parse_terminator<V: EventSink>(&mut self, rest: &[u8], actor: &mut V) -> Result<usize>
+        requires { V.is_ready actor.old ⊎ KeptSegment K.TextRoom self.old (λ u.
             Awaits V.may V.takes actor.old (events_all self.old.limit u rest.now)) }
-        ensures took { Holding K.Store self (λ u.
-            Consumes K.Store V.Taker self.old.limit result u rest.now self actor) }
+        ensures took { Holding K.TextRoom self (λ u.
+            Consumes K.TextRoom V.EventSink self.old.limit result u rest.now self actor) }
         ensures count { IfOk result (λ n. (n ≤ length rest.now)
             × (V.is_ready actor.old → V.is_ready actor.new)
             × (self.new.limit ≡ self.old.limit)) }
@@ -72,7 +72,7 @@ impl<K: Store, A: Allocator> Machine<K, A> {
             return Ok(0);
         }
         if let State::Escape = self.state {
-            self.take_in_escape(rest, actor)
+            self.parse_in_escape(rest, actor)
         } else {
             Ok(0)
         }
@@ -80,28 +80,28 @@ impl<K: Store, A: Allocator> Machine<K, A> {
 
     /// A byte in an escape sequence.
     #[inline(always)]
-    pub fn take_in_escape<V: Taker>(&mut self, rest: &[u8], actor: &mut V) -> Result<usize>
+    pub fn parse_in_escape<V: EventSink>(&mut self, rest: &[u8], actor: &mut V) -> Result<usize>
         requires some { 0 < length rest.now }
-        requires ready { MayBeGiven V.Taker (KeptSegment K.Store self.old)
+        requires ready { MayBeGiven V.EventSink (KeptSegment K.TextRoom self.old)
             self.old.limit rest.now actor.old }
         requires state { self.old.state ≡ State.Escape }
-        ensures { TakesIn (Holding K.Store self) InAny
-            K.Store V.Taker result rest.now self actor }
+        ensures { TakesIn (Holding K.TextRoom self) InAny
+            K.TextRoom V.EventSink result rest.now self actor }
     {
         self.in_escape(rest[0], classify(rest[0]), actor)?;
         Ok(1)
     }
 
     // The final byte of an escape sequence.
-    fn dispatch_escape<V: Taker>(&mut self, b: u8, actor: &mut V) -> Result<()>
-        requires { MayEmit V.Taker (EscDispatch
+    fn dispatch_escape<V: EventSink>(&mut self, b: u8, actor: &mut V) -> Result<()>
+        requires { MayEmit V.EventSink (EscDispatch
             (take self.old.intermediates.kept self.old.intermediates.bytes)
             self.old.intermediates.ignored b ∷ []) actor.old }
         ensures holds { Holds K.keeps None self.new Ground }
-        ensures emitted { EmitsOne V.Taker result
+        ensures emitted { EmitsOne V.EventSink result
             (EscDispatch (take self.old.intermediates.kept self.old.intermediates.bytes)
             self.old.intermediates.ignored b) actor }
-        ensures ready { StaysReady V.Taker result self actor }
+        ensures ready { StaysReady V.EventSink result self actor }
     {
         self.state = State::Ground;
         self.pending = Pending::Nothing;
@@ -114,13 +114,13 @@ impl<K: Store, A: Allocator> Machine<K, A> {
     }
 
     /// A byte after a CSI's opener and x.
-    #[tactic(auto, using(crate::proofs::Given::receives_moved))]
-    pub fn in_csi<V: Taker>(&mut self, b: u8, class: Class, actor: &mut V) -> Result<()>
+    #[tactic(auto, using(crate::proofs::Emits::EventsFold::receives_moved))]
+    pub fn in_csi<V: EventSink>(&mut self, b: u8, class: Class, actor: &mut V) -> Result<()>
         requires { V.is_ready actor.old ⊎ KeptCsi self.old (λ limit u.
             Awaits V.may V.takes actor.old (move limit u b class).1) }
         ensures moved { class ≡ class_of b → KeepingCsi self (λ limit u.
-            Makes K.Store V.Taker limit false result (move limit u b class) self actor) }
-        ensures ready { StaysReady V.Taker result self actor }
+            Makes K.TextRoom V.EventSink limit false result (move limit u b class) self actor) }
+        ensures ready { StaysReady V.EventSink result self actor }
     {
         self.state = State::Csi;
         match class {
@@ -136,13 +136,13 @@ impl<K: Store, A: Allocator> Machine<K, A> {
     }
 
     // The final byte of a CSI.
-    #[tactic(auto, using(crate::proofs::Given::quiet_moved))]
-    fn dispatch_csi<V: Taker>(&mut self, b: u8, actor: &mut V) -> Result<()>
+    #[tactic(auto, using(crate::proofs::Emits::EventsFold::quiet_moved))]
+    fn dispatch_csi<V: EventSink>(&mut self, b: u8, actor: &mut V) -> Result<()>
         requires { V.is_ready actor.old ⊎ KeptBody self.old.body (λ x.
             Awaits V.may V.takes actor.old (csi_events x b)) }
         ensures moved { (limit : Option ℕ) (x : List ℕ) → KeepsBody self.old.body x
-            → Makes K.Store V.Taker limit false result (Ground, csi_events x b) self actor }
-        ensures ready { StaysReady V.Taker result self actor }
+            → Makes K.TextRoom V.EventSink limit false result (Ground, csi_events x b) self actor }
+        ensures ready { StaysReady V.EventSink result self actor }
     {
         self.state = State::Ground;
         self.pending = Pending::Nothing;
@@ -155,28 +155,28 @@ impl<K: Store, A: Allocator> Machine<K, A> {
 
     /// ESC and at least two bytes more, in ground: no control sequence that is short and whole.
     #[inline(always)]
-    pub fn take_escape<V: Taker>(&mut self, rest: &[u8], actor: &mut V) -> Result<usize>
+    pub fn parse_escape<V: EventSink>(&mut self, rest: &[u8], actor: &mut V) -> Result<usize>
         requires some { 2 < length rest.now }
         requires escape { slice_index rest.now 0 ≡ 0x1b }
-        requires ready { MayEmit V.Taker (events_all self.old.limit Ground rest.now) actor.old }
-        ensures { ConsumesSome K.Store V.Taker self.old.limit result rest.now self actor }
+        requires ready { MayEmit V.EventSink (events_all self.old.limit Ground rest.now) actor.old }
+        ensures { ConsumesSome K.TextRoom V.EventSink self.old.limit result rest.now self actor }
     {
         if rest[1] == b'[' {
-            self.take_long_csi(rest, actor)
+            self.parse_long_csi(rest, actor)
         } else if rest[1] == b']' {
-            self.take_osc(rest, actor)
+            self.parse_osc(rest, actor)
         } else {
-            self.take_one_in_ground(rest, actor)
+            self.parse_one_in_ground(rest, actor)
         }
     }
 
     /// A control sequence that is short and whole at the start of the bytes; else nothing.
     #[inline(always)]
-    pub fn take_quick_csi<V: Taker>(&mut self, rest: &[u8], actor: &mut V) -> Result<usize>
+    pub fn parse_short_csi<V: EventSink>(&mut self, rest: &[u8], actor: &mut V) -> Result<usize>
         requires escape { slice_index rest.now 0 ≡ 0x1b }
-        requires ready { MayEmitAll V.Taker Ground rest.now actor.old }
+        requires ready { MayEmitAll V.EventSink Ground rest.now actor.old }
         requires ground { Holds K.keeps None self.old Ground }
-        ensures { TakesQuietly K.Store V.Taker result rest.now self actor }
+        ensures { TakesQuietly K.TextRoom V.EventSink result rest.now self actor }
     {
         if rest.len() <= 2 {
             return Ok(0);
@@ -189,7 +189,7 @@ impl<K: Store, A: Allocator> Machine<K, A> {
             return Ok(0);
         }
         if lies_from(0x40, 0x7e, rest[run + 2]) {
-            self.take_short_csi(rest, run, actor)
+            self.dispatch_short_csi(rest, run, actor)
         } else {
             Ok(0)
         }
@@ -197,51 +197,61 @@ impl<K: Store, A: Allocator> Machine<K, A> {
 
     // A control sequence whose parameters were read.
     #[inline(always)]
-    fn take_short_csi<V: Taker>(&mut self, rest: &[u8], run: usize, actor: &mut V) -> Result<usize>
+    fn dispatch_short_csi<V: EventSink>(
+        &mut self,
+        rest: &[u8],
+        run: usize,
+        actor: &mut V,
+    ) -> Result<usize>
         requires starts { StartsWithShortCsi (take self.old.short.count self.old.short.items)
             rest.now run }
         requires ground { Holds K.keeps None self.old Ground }
-        requires ready { MayEmitAll V.Taker Ground rest.now actor.old }
-        ensures { TakesSequence K.Store V.Taker result rest.now self actor }
+        requires ready { MayEmitAll V.EventSink Ground rest.now actor.old }
+        ensures { TakesSequence K.TextRoom V.EventSink result rest.now self actor }
     {
         actor.csi_dispatch(self.short.as_slice(), false, rest[run + 2])?;
         Ok(run + 3)
     }
 
     // A control sequence, up to its final byte or what else is not of its body.
-    fn take_long_csi<V: Taker>(&mut self, rest: &[u8], actor: &mut V) -> Result<usize>
+    fn parse_long_csi<V: EventSink>(&mut self, rest: &[u8], actor: &mut V) -> Result<usize>
         requires opens { OpensCsi rest.now }
-        requires ready { MayEmitAll V.Taker Ground rest.now actor.old }
+        requires ready { MayEmitAll V.EventSink Ground rest.now actor.old }
         ensures { (limit : Option ℕ)
-            → ConsumesSome K.Store V.Taker limit result rest.now self actor }
+            → ConsumesSome K.TextRoom V.EventSink limit result rest.now self actor }
     {
         self.open(Kind::Csi);
-        let n = self.take_in_csi(&rest[2..], actor)?;
+        let n = self.parse_in_csi(&rest[2..], actor)?;
         Ok(2 + n)
     }
 
     /// The run of 20-3F in a control sequence, and the byte after it.
     #[inline(always)]
-    pub fn take_in_csi<V: Taker>(&mut self, rest: &[u8], actor: &mut V) -> Result<usize>
+    pub fn parse_in_csi<V: EventSink>(&mut self, rest: &[u8], actor: &mut V) -> Result<usize>
         requires some { 0 < length rest.now }
-        requires ready { MayBeGivenUnder V.Taker (KeptCsi self.old) rest.now actor.old }
+        requires ready { MayBeGivenUnder V.EventSink (KeptCsi self.old) rest.now actor.old }
         requires state { self.old.state ≡ State.Csi }
         ensures { TakesUnder (KeepingCsi self) AnyCsi
-            K.Store V.Taker result rest.now self actor }
+            K.TextRoom V.EventSink result rest.now self actor }
     {
         let run = push_run(&mut self.body, rest);
-        self.take_after_body(rest, run, actor)
+        self.parse_after_body(rest, run, actor)
     }
 
     // The byte after a run in a control sequence that was kept.
     #[inline(always)]
-    fn take_after_body<V: Taker>(&mut self, rest: &[u8], run: usize, actor: &mut V) -> Result<usize>
+    fn parse_after_body<V: EventSink>(
+        &mut self,
+        rest: &[u8],
+        run: usize,
+        actor: &mut V,
+    ) -> Result<usize>
         requires run { HasRun (AreAll is_body_byte) rest.now run }
-        requires ready { MayBeGivenUnder V.Taker (KeptCsiAnd (take run rest.now) self.old)
+        requires ready { MayBeGivenUnder V.EventSink (KeptCsiAnd (take run rest.now) self.old)
             rest.now actor.old }
         requires state { self.old.state ≡ State.Csi }
         ensures { TakesUnder (KeepingCsiAnd (take run rest.now) self) AnyCsi
-            K.Store V.Taker result rest.now self actor }
+            K.TextRoom V.EventSink result rest.now self actor }
     {
         if run == rest.len() {
             return Ok(run);
@@ -252,12 +262,13 @@ impl<K: Store, A: Allocator> Machine<K, A> {
 
     // A byte of a control sequence, which most often is its final byte.
     #[inline(always)]
-    fn end_body<V: Taker>(&mut self, b: u8, actor: &mut V) -> Result<()>
+    fn end_body<V: EventSink>(&mut self, b: u8, actor: &mut V) -> Result<()>
         requires { V.is_ready actor.old ⊎ KeptCsi self.old (λ limit u.
             Awaits V.may V.takes actor.old (move limit u b (class_of b)).1) }
         ensures moved { KeepingCsi self (λ limit u.
-            Makes K.Store V.Taker limit false result (move limit u b (class_of b)) self actor) }
-        ensures ready { StaysReady V.Taker result self actor }
+            Makes K.TextRoom V.EventSink limit false result (move limit u b (class_of b)) self
+            actor) }
+        ensures ready { StaysReady V.EventSink result self actor }
     {
         if 0x40 <= b && b <= 0x7e {
             self.dispatch_csi(b, actor)
@@ -268,12 +279,12 @@ impl<K: Store, A: Allocator> Machine<K, A> {
 }
 
 // A control sequence whose body has its form, emitted.
-#[tactic(auto, using(crate::proofs::Given::receives_takes))]
-fn emit_csi<V: Taker>(body: &mut CsiBody, b: u8, actor: &mut V) -> Result<()>
+#[tactic(auto, using(crate::proofs::Emits::EventsFold::receives_takes))]
+fn emit_csi<V: EventSink>(body: &mut CsiBody, b: u8, actor: &mut V) -> Result<()>
     requires { V.is_ready actor.old ⊎ KeptBody body.old (λ x.
         Awaits V.may V.takes actor.old (csi_event x b ∷ [])) }
     ensures emitted { (x : List ℕ) → KeepsBody body.old x
-        → Emits V.Taker ⊥ result (csi_event x b ∷ []) actor }
+        → Emits V.EventSink ⊥ result (csi_event x b ∷ []) actor }
     ensures ready { V.is_ready actor.old → OnOk result (V.is_ready actor.new) }
 {
     body.finish();

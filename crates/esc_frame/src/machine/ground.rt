@@ -15,19 +15,19 @@ ghost use Rattle.esc_frame.specs.Machine.Taking.{InGround, StartsWithEscape, Tak
 use crate::classes::{Breaker, Class, classify};
 use crate::machine::{Machine, Result, State};
 use crate::runs::printing::{execute_one, print_first, print_one};
-use crate::taker::Taker;
+use crate::taker::EventSink;
 use crate::unfinished::intermediates::Intermediates;
-use crate::unfinished::store::Store;
+use crate::unfinished::store::TextRoom;
 use crate::utf8::sequence::{Outcome, Pending};
 use std::alloc::Allocator;
 
-impl<K: Store, A: Allocator> Machine<K, A> {
+impl<K: TextRoom, A: Allocator> Machine<K, A> {
     /// A byte in ground, with nothing pending.
-    #[tactic(auto, using(crate::proofs::Given::receives_moved))]
-    pub fn in_ground<V: Taker>(&mut self, b: u8, class: Class, actor: &mut V) -> Result<()>
-        requires { MayEmit V.Taker (ground_move b class).1 actor.old }
-        ensures moved { AlwaysMakes K.Store V.Taker result (ground_move b class) self actor }
-        ensures ready { StaysReady V.Taker result self actor }
+    #[tactic(auto, using(crate::proofs::Emits::EventsFold::receives_moved))]
+    pub fn in_ground<V: EventSink>(&mut self, b: u8, class: Class, actor: &mut V) -> Result<()>
+        requires { MayEmit V.EventSink (ground_move b class).1 actor.old }
+        ensures moved { AlwaysMakes K.TextRoom V.EventSink result (ground_move b class) self actor }
+        ensures ready { StaysReady V.EventSink result self actor }
     {
         self.state = State::Ground;
         self.pending = Pending::Nothing;
@@ -59,11 +59,11 @@ impl<K: Store, A: Allocator> Machine<K, A> {
 
     /// What `in_ground` does, after a string: mostly it is the ESC of the string terminator.
     #[inline(always)]
-    pub fn leave_string<V: Taker>(&mut self, b: u8, actor: &mut V) -> Result<()>
-        requires { MayEmit V.Taker (ground_move b (class_of b)).1 actor.old }
-        ensures moved { AlwaysMakes K.Store V.Taker result
+    pub fn leave_string<V: EventSink>(&mut self, b: u8, actor: &mut V) -> Result<()>
+        requires { MayEmit V.EventSink (ground_move b (class_of b)).1 actor.old }
+        ensures moved { AlwaysMakes K.TextRoom V.EventSink result
             (ground_move b (class_of b)) self actor }
-        ensures ready { StaysReady V.Taker result self actor }
+        ensures ready { StaysReady V.EventSink result self actor }
     {
         if b == 0x1b {
             self.enter_escape();
@@ -75,15 +75,20 @@ impl<K: Store, A: Allocator> Machine<K, A> {
 
     // A breaker in ground.
     #[inline(always)]
-    #[tactic(auto, using(crate::proofs::Given::receives_moved))]
-    fn break_in_ground<V: Taker>(&mut self, b: u8, breaker: Breaker, actor: &mut V) -> Result<()>
-        requires ready { MayEmit V.Taker
+    #[tactic(auto, using(crate::proofs::Emits::EventsFold::receives_moved))]
+    fn break_in_ground<V: EventSink>(
+        &mut self,
+        b: u8,
+        breaker: Breaker,
+        actor: &mut V,
+    ) -> Result<()>
+        requires ready { MayEmit V.EventSink
             (ground_move b (Class.Breaks breaker)).1 actor.old }
         requires ground { (self.old.state ≡ State.Ground)
             × (self.old.pending ≡ Pending.Nothing) }
-        ensures moved { AlwaysMakes K.Store V.Taker result
+        ensures moved { AlwaysMakes K.TextRoom V.EventSink result
             (ground_move b (Class.Breaks breaker)) self actor }
-        ensures ready { StaysReady V.Taker result self actor }
+        ensures ready { StaysReady V.EventSink result self actor }
     {
         match breaker {
             Breaker::Cancel | Breaker::C1 => actor.execute_c0_or_c1(b),
@@ -100,11 +105,11 @@ impl<K: Store, A: Allocator> Machine<K, A> {
     }
 
     /// A control after C2.
-    #[tactic(auto, using(crate::proofs::Given::receives_moved))]
-    pub fn in_pair<V: Taker>(&mut self, b: u8, class: Class, actor: &mut V) -> Result<()>
-        requires { MayEmit V.Taker (pair_move b class).1 actor.old }
-        ensures moved { AlwaysMakes K.Store V.Taker result (pair_move b class) self actor }
-        ensures ready { StaysReady V.Taker result self actor }
+    #[tactic(auto, using(crate::proofs::Emits::EventsFold::receives_moved))]
+    pub fn c1_in_utf8<V: EventSink>(&mut self, b: u8, class: Class, actor: &mut V) -> Result<()>
+        requires { MayEmit V.EventSink (pair_move b class).1 actor.old }
+        ensures moved { AlwaysMakes K.TextRoom V.EventSink result (pair_move b class) self actor }
+        ensures ready { StaysReady V.EventSink result self actor }
     {
         self.state = State::Ground;
         self.pending = Pending::Nothing;
@@ -128,14 +133,14 @@ impl<K: Store, A: Allocator> Machine<K, A> {
     }
 
     /// A byte after a prefix of a character's sequence.
-    pub fn in_pending<V: Taker>(&mut self, b: u8, class: Class, actor: &mut V) -> Result<()>
-        requires { MayEmit V.Taker (pending_move (prefix_of self.old.pending) b class
+    pub fn in_pending<V: EventSink>(&mut self, b: u8, class: Class, actor: &mut V) -> Result<()>
+        requires { MayEmit V.EventSink (pending_move (prefix_of self.old.pending) b class
             (outcome (prefix_of self.old.pending) b)).1 actor.old }
         ensures moved { (limit : Option ℕ) (own : Bool) (f : List ℕ)
             → prefix_of self.old.pending ≡ f
-            → Makes K.Store V.Taker limit own result
+            → Makes K.TextRoom V.EventSink limit own result
             (pending_move f b class (outcome f b)) self actor }
-        ensures ready { StaysReady V.Taker result self actor }
+        ensures ready { StaysReady V.EventSink result self actor }
     {
         match self.pending.outcome(b) {
             Outcome::Whole => self.whole(b, class, actor),
@@ -149,29 +154,29 @@ impl<K: Store, A: Allocator> Machine<K, A> {
     }
 
     // A byte that breaks off a character's sequence.
-    fn break_off<V: Taker>(&mut self, b: u8, class: Class, actor: &mut V) -> Result<()>
-        requires { MayEmit V.Taker
+    fn break_off<V: EventSink>(&mut self, b: u8, class: Class, actor: &mut V) -> Result<()>
+        requires { MayEmit V.EventSink
             (emitting (Print 0xfffd ∷ []) (ground_move b class)).1 actor.old }
-        ensures moved { AlwaysMakes K.Store V.Taker result
+        ensures moved { AlwaysMakes K.TextRoom V.EventSink result
             (emitting (Print 0xfffd ∷ []) (ground_move b class)) self actor }
-        ensures ready { StaysReady V.Taker result self actor }
+        ensures ready { StaysReady V.EventSink result self actor }
     {
         actor.print('\u{fffd}')?;
         self.in_ground(b, class, actor)
     }
 
     // A byte that completes a sequence.
-    #[tactic(auto, using(crate::proofs::Given::receives_moved))]
-    fn whole<V: Taker>(&mut self, b: u8, class: Class, actor: &mut V) -> Result<()>
-        requires ready { MayEmit V.Taker (pending_move (prefix_of self.old.pending) b class
+    #[tactic(auto, using(crate::proofs::Emits::EventsFold::receives_moved))]
+    fn whole<V: EventSink>(&mut self, b: u8, class: Class, actor: &mut V) -> Result<()>
+        requires ready { MayEmit V.EventSink (pending_move (prefix_of self.old.pending) b class
             Outcome.Whole).1 actor.old }
         requires whole { is_sequence (prefix_of self.old.pending ++ b ∷ []) ≡ true }
-        ensures moved { AlwaysMakes K.Store V.Taker result
+        ensures moved { AlwaysMakes K.TextRoom V.EventSink result
             (pending_move (prefix_of self.old.pending) b class Outcome.Whole) self actor }
-        ensures ready { StaysReady V.Taker result self actor }
+        ensures ready { StaysReady V.EventSink result self actor }
     {
         if self.pending.pairs_with(b) {
-            self.in_pair(b, class, actor)
+            self.c1_in_utf8(b, class, actor)
         } else {
             let c = self.pending.character(b);
             self.state = State::Ground;
@@ -182,26 +187,26 @@ impl<K: Store, A: Allocator> Machine<K, A> {
 
     /// Characters, and what follows them.
     #[inline(always)]
-    pub fn take_in_ground<V: Taker>(&mut self, rest: &[u8], actor: &mut V) -> Result<usize>
+    pub fn parse_in_ground<V: EventSink>(&mut self, rest: &[u8], actor: &mut V) -> Result<usize>
         requires some { 0 < length rest.now }
-        requires ready { MayEmit V.Taker (events_all self.old.limit Ground rest.now) actor.old }
+        requires ready { MayEmit V.EventSink (events_all self.old.limit Ground rest.now) actor.old }
         requires ground { Holds K.keeps self.old.limit self.old Ground }
-        ensures { TakesPart InGround K.Store V.Taker result rest.now self actor }
+        ensures { TakesPart InGround K.TextRoom V.EventSink result rest.now self actor }
     {
         let printed = self.take_quick(rest, actor)?;
         if printed == rest.len() {
             return Ok(printed);
         }
-        let n = self.take_string(&rest[printed..], actor)?;
+        let n = self.parse_with_terminator(&rest[printed..], actor)?;
         Ok(printed + n)
     }
 
     // Characters, controls and short control sequences, as long as they come.
     #[inline(always)]
-    fn take_quick<V: Taker>(&mut self, rest: &[u8], actor: &mut V) -> Result<usize>
-        requires ready { MayEmitAll V.Taker Ground rest.now actor.old }
+    fn take_quick<V: EventSink>(&mut self, rest: &[u8], actor: &mut V) -> Result<usize>
+        requires ready { MayEmitAll V.EventSink Ground rest.now actor.old }
         requires ground { Holds K.keeps None self.old Ground }
-        ensures { TakesInGround K.Store V.Taker result rest.now self actor }
+        ensures { TakesInGround K.TextRoom V.EventSink result rest.now self actor }
     {
         let mut at = 0;
         while at < rest.len() {
@@ -216,17 +221,17 @@ impl<K: Store, A: Allocator> Machine<K, A> {
 
     // Characters, a control, or a short control sequence; nothing where something else comes.
     #[inline(always)]
-    fn take_quick_one<V: Taker>(&mut self, rest: &[u8], actor: &mut V) -> Result<usize>
+    fn take_quick_one<V: EventSink>(&mut self, rest: &[u8], actor: &mut V) -> Result<usize>
         requires some { 0 < length rest.now }
-        requires ready { MayEmitAll V.Taker Ground rest.now actor.old }
+        requires ready { MayEmitAll V.EventSink Ground rest.now actor.old }
         requires ground { Holds K.keeps None self.old Ground }
-        ensures { TakesInGround K.Store V.Taker result rest.now self actor }
+        ensures { TakesInGround K.TextRoom V.EventSink result rest.now self actor }
     {
         if rest[0] >= 0x20 {
             return print_one(rest, actor);
         }
         if rest[0] == 0x1b {
-            self.take_quick_csi(rest, actor)
+            self.parse_short_csi(rest, actor)
         } else {
             execute_one(rest, actor)
         }
@@ -234,17 +239,17 @@ impl<K: Store, A: Allocator> Machine<K, A> {
 
     /// One character, or what else comes in ground.
     #[inline(always)]
-    pub fn take_first<V: Taker>(&mut self, rest: &[u8], actor: &mut V) -> Result<usize>
+    pub fn first_in_ground<V: EventSink>(&mut self, rest: &[u8], actor: &mut V) -> Result<usize>
         requires some { 0 < length rest.now }
-        requires ready { MayEmit V.Taker (events_all self.old.limit Ground rest.now) actor.old }
+        requires ready { MayEmit V.EventSink (events_all self.old.limit Ground rest.now) actor.old }
         requires ground { Holds K.keeps self.old.limit self.old Ground }
-        ensures { ConsumesSome K.Store V.Taker self.old.limit result rest.now self actor }
+        ensures { ConsumesSome K.TextRoom V.EventSink self.old.limit result rest.now self actor }
     {
         if rest[0] == 0x1b {
-            return self.take_sequence(rest, actor);
+            return self.parse_sequence(rest, actor);
         }
         match print_first(rest, actor) {
-            Ok(0) => self.take_one_in_ground(rest, actor),
+            Ok(0) => self.parse_one_in_ground(rest, actor),
             Ok(n) => Ok(n),
             Err(e) => Err(e),
         }
@@ -252,14 +257,14 @@ impl<K: Store, A: Allocator> Machine<K, A> {
 
     // ESC, and the sequence that it begins.
     #[inline(always)]
-    fn take_sequence<V: Taker>(&mut self, rest: &[u8], actor: &mut V) -> Result<usize>
+    fn parse_sequence<V: EventSink>(&mut self, rest: &[u8], actor: &mut V) -> Result<usize>
         requires starts { StartsWithEscape rest.now }
-        requires ready { MayEmit V.Taker (events_all self.old.limit Ground rest.now) actor.old }
+        requires ready { MayEmit V.EventSink (events_all self.old.limit Ground rest.now) actor.old }
         requires ground { Holds K.keeps self.old.limit self.old Ground }
-        ensures { ConsumesSome K.Store V.Taker self.old.limit result rest.now self actor }
+        ensures { ConsumesSome K.TextRoom V.EventSink self.old.limit result rest.now self actor }
     {
-        match self.take_quick_csi(rest, actor) {
-            Ok(0) => self.take_control(rest, actor),
+        match self.parse_short_csi(rest, actor) {
+            Ok(0) => self.parse_control(rest, actor),
             Ok(n) => Ok(n),
             Err(e) => Err(e),
         }
@@ -267,37 +272,37 @@ impl<K: Store, A: Allocator> Machine<K, A> {
 
     // A byte, or a sequence that ESC begins, and the terminator of a command.
     #[inline(always)]
-    fn take_string<V: Taker>(&mut self, rest: &[u8], actor: &mut V) -> Result<usize>
+    fn parse_with_terminator<V: EventSink>(&mut self, rest: &[u8], actor: &mut V) -> Result<usize>
         requires some { 0 < length rest.now }
-        requires ready { MayEmit V.Taker (events_all self.old.limit Ground rest.now) actor.old }
-        ensures { TakesPart InGround K.Store V.Taker result rest.now self actor }
+        requires ready { MayEmit V.EventSink (events_all self.old.limit Ground rest.now) actor.old }
+        ensures { TakesPart InGround K.TextRoom V.EventSink result rest.now self actor }
     {
-        let n = self.take_control(rest, actor)?;
-        let more = self.take_terminator(&rest[n..], actor)?;
+        let n = self.parse_control(rest, actor)?;
+        let more = self.parse_terminator(&rest[n..], actor)?;
         Ok(n + more)
     }
 
     // A byte, or a sequence that ESC begins, in ground.
     #[inline(always)]
-    fn take_control<V: Taker>(&mut self, rest: &[u8], actor: &mut V) -> Result<usize>
+    fn parse_control<V: EventSink>(&mut self, rest: &[u8], actor: &mut V) -> Result<usize>
         requires some { 0 < length rest.now }
-        requires ready { MayEmit V.Taker (events_all self.old.limit Ground rest.now) actor.old }
-        ensures { ConsumesSome K.Store V.Taker self.old.limit result rest.now self actor }
+        requires ready { MayEmit V.EventSink (events_all self.old.limit Ground rest.now) actor.old }
+        ensures { ConsumesSome K.TextRoom V.EventSink self.old.limit result rest.now self actor }
     {
         if rest[0] == 0x1b && rest.len() > 2 {
-            self.take_escape(rest, actor)
+            self.parse_escape(rest, actor)
         } else {
-            self.take_one_in_ground(rest, actor)
+            self.parse_one_in_ground(rest, actor)
         }
     }
 
     /// One byte in ground.
     #[inline(always)]
-    pub fn take_one_in_ground<V: Taker>(&mut self, rest: &[u8], actor: &mut V) -> Result<usize>
+    pub fn parse_one_in_ground<V: EventSink>(&mut self, rest: &[u8], actor: &mut V) -> Result<usize>
         requires some { 0 < length rest.now }
-        requires ready { MayEmitAll V.Taker Ground rest.now actor.old }
+        requires ready { MayEmitAll V.EventSink Ground rest.now actor.old }
         ensures { (limit : Option ℕ)
-            → ConsumesSome K.Store V.Taker limit result rest.now self actor }
+            → ConsumesSome K.TextRoom V.EventSink limit result rest.now self actor }
     {
         self.in_ground(rest[0], classify(rest[0]), actor)?;
         Ok(1)

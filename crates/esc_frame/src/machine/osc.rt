@@ -8,34 +8,34 @@ ghost use Rattle.esc_frame.specs.Leads.Unfinished.{Ground};
 ghost use Rattle.esc_frame.specs.Machine.Calls.{Stops};
 ghost use Rattle.esc_frame.specs.Machine.Prefixes.{prefix_of};
 ghost use Rattle.esc_frame.specs.Machine.Keeping.{StoresText, KeepingText, KeepingOsc, KeepingOscAnd, KeepingOscPending, FreshOsc, AnyOsc};
-ghost use Rattle.esc_frame.specs.Machine.Allowed.{KeptPieces, KeptOsc, KeptOscAnd, KeptOscPending, KeptText, NewOsc};
+ghost use Rattle.esc_frame.specs.Machine.Allowed.{KeptOscUnits, KeptOsc, KeptOscAnd, KeptOscPending, KeptText, NewOsc};
 ghost use Rattle.esc_frame.specs.Events.{Awaits};
 ghost use Rattle.esc_frame.specs.Machine.Makes.{MayEmit, Emits, Makes, AlwaysMakes, ConsumesSome, StaysReady};
 ghost use Rattle.esc_frame.specs.Machine.Moves.{events_all, emitting, ground_move, pair_move, osc_pending_move, osc_left, ends_osc, move};
 ghost use Rattle.esc_frame.specs.Machine.TextRuns.{IsTextRun};
-ghost use Rattle.esc_frame.specs.Segments.{Opener, Piece, text_of, osc_events};
+ghost use Rattle.esc_frame.specs.Segments.{Opener, OscUnit, text_of, osc_events};
 ghost use Rattle.esc_frame.specs.Sequences.{is_from, outcome};
 ghost use Rattle.esc_frame.specs.Machine.Taking.{HasRun, HasEndedRun, HasRunToPair, OpensOsc, IsBetweenUnits, MayBeGiven, AtUnborrowed, TakesIn};
 
 use crate::classes::{Class, Kind, classify};
 use crate::machine::{Machine, Result, State};
 use crate::runs::scans::units_run;
-use crate::taker::Taker;
+use crate::taker::EventSink;
 use crate::unfinished::count::fits;
-use crate::unfinished::store::Store;
+use crate::unfinished::store::TextRoom;
 use crate::utf8::sequence::{Outcome, Pending, lies_from};
 use std::alloc::Allocator;
 
-impl<K: Store, A: Allocator> Machine<K, A> {
+impl<K: TextRoom, A: Allocator> Machine<K, A> {
     /// A byte after an OSC's units, with nothing pending.
-    #[tactic(auto, using(crate::proofs::Given::takes_moved))]
-    pub fn in_osc<V: Taker>(&mut self, b: u8, class: Class, actor: &mut V) -> Result<()>
-        requires { V.is_ready actor.old ⊎ KeptOsc K.Store self.old (λ u.
+    #[tactic(auto, using(crate::proofs::Emits::EventsFold::takes_moved))]
+    pub fn in_osc<V: EventSink>(&mut self, b: u8, class: Class, actor: &mut V) -> Result<()>
+        requires { V.is_ready actor.old ⊎ KeptOsc K.TextRoom self.old (λ u.
             Awaits V.may V.takes actor.old (move self.old.limit u b class).1) }
-        ensures moved { class ≡ class_of b → KeepingOsc K.Store self (λ u.
-            Makes K.Store V.Taker self.old.limit true result
+        ensures moved { class ≡ class_of b → KeepingOsc K.TextRoom self (λ u.
+            Makes K.TextRoom V.EventSink self.old.limit true result
             (move self.old.limit u b class) self actor) }
-        ensures ready { StaysReady V.Taker result self actor }
+        ensures ready { StaysReady V.EventSink result self actor }
     {
         self.state = State::Osc;
         self.pending = Pending::Nothing;
@@ -59,13 +59,13 @@ impl<K: Store, A: Allocator> Machine<K, A> {
     }
 
     /// A byte after a prefix of a sequence, in an OSC.
-    pub fn in_osc_pending<V: Taker>(&mut self, b: u8, class: Class, actor: &mut V) -> Result<()>
-        requires { V.is_ready actor.old ⊎ KeptOscPending K.Store self.old (λ u.
+    pub fn in_osc_pending<V: EventSink>(&mut self, b: u8, class: Class, actor: &mut V) -> Result<()>
+        requires { V.is_ready actor.old ⊎ KeptOscPending K.TextRoom self.old (λ u.
             Awaits V.may V.takes actor.old (move self.old.limit u b class).1) }
-        ensures moved { class ≡ class_of b → KeepingOscPending K.Store self (λ u.
-            Makes K.Store V.Taker self.old.limit true result
+        ensures moved { class ≡ class_of b → KeepingOscPending K.TextRoom self (λ u.
+            Makes K.TextRoom V.EventSink self.old.limit true result
             (move self.old.limit u b class) self actor) }
-        ensures ready { StaysReady V.Taker result self actor }
+        ensures ready { StaysReady V.EventSink result self actor }
     {
         match self.pending.outcome(b) {
             Outcome::Whole => self.whole_in_osc(b, class, actor),
@@ -82,16 +82,17 @@ impl<K: Store, A: Allocator> Machine<K, A> {
     }
 
     // A byte that completes a sequence in an OSC.
-    fn whole_in_osc<V: Taker>(&mut self, b: u8, class: Class, actor: &mut V) -> Result<()>
-        requires { V.is_ready actor.old ⊎ KeptPieces K.Store self.old (λ o ps.
+    fn whole_in_osc<V: EventSink>(&mut self, b: u8, class: Class, actor: &mut V) -> Result<()>
+        requires { V.is_ready actor.old ⊎ KeptOscUnits K.TextRoom self.old (λ o ps.
             Awaits V.may V.takes actor.old (osc_pending_move self.old.limit o ps
             (prefix_of self.old.pending) b class Outcome.Whole).1) }
-        ensures moved { (o : Opener) (ps : List Piece) → StoresText K.Store self.old (text_of ps)
-            → Makes K.Store V.Taker self.old.limit true result
+        ensures moved { (o : Opener) (ps : List OscUnit)
+            → StoresText K.TextRoom self.old (text_of ps)
+            → Makes K.TextRoom V.EventSink self.old.limit true result
             (osc_pending_move self.old.limit o ps (prefix_of self.old.pending) b class
             Outcome.Whole)
             self actor }
-        ensures ready { StaysReady V.Taker result self actor }
+        ensures ready { StaysReady V.EventSink result self actor }
     {
         if self.pending.pairs_with(b) {
             self.leave_osc_by_pair(b, class, actor)
@@ -104,81 +105,86 @@ impl<K: Store, A: Allocator> Machine<K, A> {
     }
 
     // A breaker after an OSC.
-    fn leave_osc<V: Taker>(&mut self, b: u8, class: Class, actor: &mut V) -> Result<()>
-        requires { V.is_ready actor.old ⊎ KeptText K.Store self.old.text (λ limit t.
+    fn leave_osc<V: EventSink>(&mut self, b: u8, class: Class, actor: &mut V) -> Result<()>
+        requires { V.is_ready actor.old ⊎ KeptText K.TextRoom self.old.text (λ limit t.
             Awaits V.may V.takes actor.old (osc_events limit t ++ (ground_move b class).1)) }
-        ensures moved { KeepingText K.Store self.old.text (λ limit t.
-            Makes K.Store V.Taker limit true result
+        ensures moved { KeepingText K.TextRoom self.old.text (λ limit t.
+            Makes K.TextRoom V.EventSink limit true result
             (emitting (osc_events limit t) (ground_move b class)) self actor) }
-        ensures ready { StaysReady V.Taker result self actor }
+        ensures ready { StaysReady V.EventSink result self actor }
     {
         emit_osc(&self.text, &self.alloc, actor)?;
         self.in_ground(b, class, actor)
     }
 
     // A control after C2, in an OSC.
-    fn leave_osc_by_pair<V: Taker>(&mut self, b: u8, class: Class, actor: &mut V) -> Result<()>
-        requires { V.is_ready actor.old ⊎ KeptText K.Store self.old.text (λ limit t.
+    fn leave_osc_by_pair<V: EventSink>(&mut self, b: u8, class: Class, actor: &mut V) -> Result<()>
+        requires { V.is_ready actor.old ⊎ KeptText K.TextRoom self.old.text (λ limit t.
             Awaits V.may V.takes actor.old (osc_events limit t ++ (pair_move b class).1)) }
-        ensures moved { KeepingText K.Store self.old.text (λ limit t.
-            Makes K.Store V.Taker limit true result
+        ensures moved { KeepingText K.TextRoom self.old.text (λ limit t.
+            Makes K.TextRoom V.EventSink limit true result
             (emitting (osc_events limit t) (pair_move b class)) self actor) }
-        ensures ready { StaysReady V.Taker result self actor }
+        ensures ready { StaysReady V.EventSink result self actor }
     {
         emit_osc(&self.text, &self.alloc, actor)?;
-        self.in_pair(b, class, actor)
+        self.c1_in_utf8(b, class, actor)
     }
 
     /// An operating system command, up to its end or what else its text does not keep as it is.
     #[inline(always)]
-    pub fn take_osc<V: Taker>(&mut self, rest: &[u8], actor: &mut V) -> Result<usize>
+    pub fn parse_osc<V: EventSink>(&mut self, rest: &[u8], actor: &mut V) -> Result<usize>
         requires opens { OpensOsc rest.now }
-        requires ready { MayEmit V.Taker (events_all self.old.limit Ground rest.now) actor.old }
-        ensures { ConsumesSome K.Store V.Taker self.old.limit result rest.now self actor }
+        requires ready { MayEmit V.EventSink (events_all self.old.limit Ground rest.now) actor.old }
+        ensures { ConsumesSome K.TextRoom V.EventSink self.old.limit result rest.now self actor }
     {
-        let n = self.take_body(&rest[2..], actor)?;
+        let n = self.parse_osc_text(&rest[2..], actor)?;
         Ok(2 + n)
     }
 
     // What follows the opener, or else no byte that counts: a text that ends in these bytes is lent
     // to the actor from there, any other is kept.
     #[inline(always)]
-    fn take_body<V: Taker>(&mut self, rest: &[u8], actor: &mut V) -> Result<usize>
+    fn parse_osc_text<V: EventSink>(&mut self, rest: &[u8], actor: &mut V) -> Result<usize>
         requires some { 0 < length rest.now }
-        requires ready { MayBeGiven V.Taker NewOsc self.old.limit rest.now actor.old }
-        ensures { TakesIn FreshOsc AnyOsc K.Store V.Taker result rest.now self actor }
+        requires ready { MayBeGiven V.EventSink NewOsc self.old.limit rest.now actor.old }
+        ensures { TakesIn FreshOsc AnyOsc K.TextRoom V.EventSink result rest.now self actor }
     {
         let run = units_run(rest);
         if run == rest.len() {
             return self.keep_body(rest, run, actor);
         }
         if ends_osc(classify(rest[run])) {
-            return self.take_borrowed(rest, run, actor);
+            return self.parse_lent_osc(rest, run, actor);
         }
         if is_pair_at(rest, run) {
-            self.take_borrowed_by_pair(rest, run, actor)
+            self.parse_lent_osc_to_c1(rest, run, actor)
         } else {
             self.keep_body(rest, run, actor)
         }
     }
 
     // A text that is kept from its first byte on.
-    fn keep_body<V: Taker>(&mut self, rest: &[u8], run: usize, actor: &mut V) -> Result<usize>
+    fn keep_body<V: EventSink>(&mut self, rest: &[u8], run: usize, actor: &mut V) -> Result<usize>
         requires run { HasRun IsTextRun rest.now run }
-        requires ready { MayBeGiven V.Taker NewOsc self.old.limit rest.now actor.old }
+        requires ready { MayBeGiven V.EventSink NewOsc self.old.limit rest.now actor.old }
         ensures { TakesIn (AtUnborrowed rest.now FreshOsc) AnyOsc
-            K.Store V.Taker result rest.now self actor }
+            K.TextRoom V.EventSink result rest.now self actor }
     {
         self.open(Kind::Osc);
-        self.take_units(rest, run, actor)
+        self.parse_units(rest, run, actor)
     }
 
     // A text, and the byte that ends it.
     #[inline(always)]
-    fn take_borrowed<V: Taker>(&mut self, rest: &[u8], run: usize, actor: &mut V) -> Result<usize>
+    fn parse_lent_osc<V: EventSink>(
+        &mut self,
+        rest: &[u8],
+        run: usize,
+        actor: &mut V,
+    ) -> Result<usize>
         requires run { HasEndedRun IsTextRun (λ b. ends_osc (class_of b)) rest.now run }
-        requires ready { MayBeGiven V.Taker NewOsc self.old.limit rest.now actor.old }
-        ensures { TakesIn FreshOsc AnyOsc K.Store V.Taker result rest.now self actor }
+        requires ready { MayBeGiven V.EventSink NewOsc self.old.limit rest.now actor.old }
+        ensures { TakesIn FreshOsc AnyOsc K.TextRoom V.EventSink result rest.now self actor }
     {
         self.end_borrowed(&rest[..run], rest[run], actor)?;
         Ok(run + 1)
@@ -186,15 +192,15 @@ impl<K: Store, A: Allocator> Machine<K, A> {
 
     // A text, and the control after C2 that ends it.
     #[inline(never)]
-    fn take_borrowed_by_pair<V: Taker>(
+    fn parse_lent_osc_to_c1<V: EventSink>(
         &mut self,
         rest: &[u8],
         run: usize,
         actor: &mut V,
     ) -> Result<usize>
         requires run { HasRunToPair IsTextRun rest.now run }
-        requires ready { MayBeGiven V.Taker NewOsc self.old.limit rest.now actor.old }
-        ensures { TakesIn FreshOsc AnyOsc K.Store V.Taker result rest.now self actor }
+        requires ready { MayBeGiven V.EventSink NewOsc self.old.limit rest.now actor.old }
+        ensures { TakesIn FreshOsc AnyOsc K.TextRoom V.EventSink result rest.now self actor }
     {
         self.end_borrowed_by_pair(&rest[..run], rest[run + 1], actor)?;
         Ok(run + 2)
@@ -202,35 +208,43 @@ impl<K: Store, A: Allocator> Machine<K, A> {
 
     // What ends a command whose text is lent.
     #[inline(always)]
-    fn end_borrowed<V: Taker>(&mut self, text: &[u8], b: u8, actor: &mut V) -> Result<()>
-        requires { MayEmit V.Taker
+    fn end_borrowed<V: EventSink>(&mut self, text: &[u8], b: u8, actor: &mut V) -> Result<()>
+        requires { MayEmit V.EventSink
             (osc_events self.old.limit text.now ++ (osc_left b (class_of b)).1) actor.old }
-        ensures moved { Makes K.Store V.Taker self.old.limit (not (has_few_parts text.now)) result
+        ensures moved { Makes K.TextRoom V.EventSink self.old.limit (not (has_few_parts text.now))
+            result
             (emitting (osc_events self.old.limit text.now) (osc_left b (class_of b))) self actor }
-        ensures ready { StaysReady V.Taker result self actor }
+        ensures ready { StaysReady V.EventSink result self actor }
     {
         emit_borrowed(self.limit, &self.alloc, text, actor)?;
         self.leave_borrowed(b, actor)
     }
 
     // A control after C2 that ends a command whose text is lent.
-    fn end_borrowed_by_pair<V: Taker>(&mut self, text: &[u8], b: u8, actor: &mut V) -> Result<()>
-        requires { MayEmit V.Taker
+    fn end_borrowed_by_pair<V: EventSink>(
+        &mut self,
+        text: &[u8],
+        b: u8,
+        actor: &mut V,
+    ) -> Result<()>
+        requires { MayEmit V.EventSink
             (osc_events self.old.limit text.now ++ (pair_move b (class_of b)).1) actor.old }
-        ensures moved { Makes K.Store V.Taker self.old.limit (not (has_few_parts text.now)) result
+        ensures moved { Makes K.TextRoom V.EventSink self.old.limit (not (has_few_parts text.now))
+            result
             (emitting (osc_events self.old.limit text.now) (pair_move b (class_of b))) self actor }
-        ensures ready { StaysReady V.Taker result self actor }
+        ensures ready { StaysReady V.EventSink result self actor }
     {
         emit_borrowed(self.limit, &self.alloc, text, actor)?;
-        self.in_pair(b, classify(b), actor)
+        self.c1_in_utf8(b, classify(b), actor)
     }
 
     // A bell, or a breaker.
     #[inline(always)]
-    fn leave_borrowed<V: Taker>(&mut self, b: u8, actor: &mut V) -> Result<()>
-        requires { MayEmit V.Taker (osc_left b (class_of b)).1 actor.old }
-        ensures moved { AlwaysMakes K.Store V.Taker result (osc_left b (class_of b)) self actor }
-        ensures ready { StaysReady V.Taker result self actor }
+    fn leave_borrowed<V: EventSink>(&mut self, b: u8, actor: &mut V) -> Result<()>
+        requires { MayEmit V.EventSink (osc_left b (class_of b)).1 actor.old }
+        ensures moved { AlwaysMakes K.TextRoom V.EventSink result (osc_left b (class_of b)) self
+            actor }
+        ensures ready { StaysReady V.EventSink result self actor }
     {
         if b == 0x07 {
             self.state = State::Ground;
@@ -243,44 +257,52 @@ impl<K: Store, A: Allocator> Machine<K, A> {
 
     /// The units that an operating system command keeps as they are, and the byte after them.
     #[inline(never)]
-    pub fn take_in_osc<V: Taker>(&mut self, rest: &[u8], actor: &mut V) -> Result<usize>
+    pub fn parse_in_osc<V: EventSink>(&mut self, rest: &[u8], actor: &mut V) -> Result<usize>
         requires some { 0 < length rest.now }
-        requires ready { MayBeGiven V.Taker (KeptOsc K.Store self.old) self.old.limit rest.now
+        requires ready { MayBeGiven V.EventSink (KeptOsc K.TextRoom self.old) self.old.limit
+            rest.now
             actor.old }
         requires state { IsBetweenUnits self.old }
-        ensures { TakesIn (KeepingOsc K.Store self) AnyOsc
-            K.Store V.Taker result rest.now self actor }
+        ensures { TakesIn (KeepingOsc K.TextRoom self) AnyOsc
+            K.TextRoom V.EventSink result rest.now self actor }
     {
         if self.text.is_new() {
-            return self.take_body(rest, actor);
+            return self.parse_osc_text(rest, actor);
         }
         let run = units_run(rest);
-        self.take_units(rest, run, actor)
+        self.parse_units(rest, run, actor)
     }
 
     // A run of units, which is kept, and the byte after them.
     #[inline(always)]
-    fn take_units<V: Taker>(&mut self, rest: &[u8], run: usize, actor: &mut V) -> Result<usize>
+    fn parse_units<V: EventSink>(&mut self, rest: &[u8], run: usize, actor: &mut V) -> Result<usize>
         requires run { HasRun IsTextRun rest.now run }
-        requires ready { MayBeGiven V.Taker (KeptOsc K.Store self.old) self.old.limit rest.now
+        requires ready { MayBeGiven V.EventSink (KeptOsc K.TextRoom self.old) self.old.limit
+            rest.now
             actor.old }
         requires state { IsBetweenUnits self.old }
-        ensures { TakesIn (AtUnborrowed rest.now (KeepingOsc K.Store self)) AnyOsc
-            K.Store V.Taker result rest.now self actor }
+        ensures { TakesIn (AtUnborrowed rest.now (KeepingOsc K.TextRoom self)) AnyOsc
+            K.TextRoom V.EventSink result rest.now self actor }
     {
         self.text.push(self.limit, &rest[..run])?;
-        self.take_after_text(rest, run, actor)
+        self.parse_after_text(rest, run, actor)
     }
 
     // The byte after units of an operating system command that were kept.
     #[inline(always)]
-    fn take_after_text<V: Taker>(&mut self, rest: &[u8], run: usize, actor: &mut V) -> Result<usize>
+    fn parse_after_text<V: EventSink>(
+        &mut self,
+        rest: &[u8],
+        run: usize,
+        actor: &mut V,
+    ) -> Result<usize>
         requires run { HasRun IsTextRun rest.now run }
-        requires ready { MayBeGiven V.Taker (KeptOscAnd K.Store (take run rest.now) self.old)
+        requires ready { MayBeGiven V.EventSink (KeptOscAnd K.TextRoom (take run rest.now) self.old)
             self.old.limit rest.now actor.old }
         requires state { IsBetweenUnits self.old }
-        ensures { TakesIn (AtUnborrowed rest.now (KeepingOscAnd K.Store (take run rest.now) self))
-            AnyOsc K.Store V.Taker result rest.now self actor }
+        ensures { TakesIn (AtUnborrowed rest.now
+            (KeepingOscAnd K.TextRoom (take run rest.now) self))
+            AnyOsc K.TextRoom V.EventSink result rest.now self actor }
     {
         if run == rest.len() {
             return Ok(run);
@@ -323,14 +345,14 @@ fn is_pair_at(rest: &[u8], at: usize) -> bool
 
 // A lent text, emitted where it is within the limit.
 #[inline(always)]
-fn emit_borrowed<A: Allocator, V: Taker>(
+fn emit_borrowed<A: Allocator, V: EventSink>(
     limit: Option<usize>,
     alloc: &A,
     text: &[u8],
     actor: &mut V,
 ) -> Result<()>
-    requires { MayEmit V.Taker (osc_events limit text.now) actor.old }
-    ensures emitted { Emits V.Taker ((not (has_few_parts text.now) ≡ true)
+    requires { MayEmit V.EventSink (osc_events limit text.now) actor.old }
+    ensures emitted { Emits V.EventSink ((not (has_few_parts text.now) ≡ true)
         × Stops V.stops A limit) result
         (osc_events limit text.now) actor }
     ensures ready { V.is_ready actor.old → OnOk result (V.is_ready actor.new) }
@@ -343,11 +365,15 @@ fn emit_borrowed<A: Allocator, V: Taker>(
 }
 
 // The text of an operating system command, emitted where it is within the limit.
-fn emit_osc<K: Store, A: Allocator, V: Taker>(text: &K, alloc: &A, actor: &mut V) -> Result<()>
-    requires { V.is_ready actor.old ⊎ KeptText K.Store text.now (λ limit t.
+fn emit_osc<K: TextRoom, A: Allocator, V: EventSink>(
+    text: &K,
+    alloc: &A,
+    actor: &mut V,
+) -> Result<()>
+    requires { V.is_ready actor.old ⊎ KeptText K.TextRoom text.now (λ limit t.
         Awaits V.may V.takes actor.old (osc_events limit t)) }
-    ensures emitted { KeepingText K.Store text.now (λ limit t.
-        Emits V.Taker (Stops V.stops A limit) result (osc_events limit t) actor) }
+    ensures emitted { KeepingText K.TextRoom text.now (λ limit t.
+        Emits V.EventSink (Stops V.stops A limit) result (osc_events limit t) actor) }
     ensures ready { V.is_ready actor.old → OnOk result (V.is_ready actor.new) }
 {
     if text.is_over() {

@@ -16,20 +16,20 @@ ghost use Rattle.esc_frame.specs.Machine.Taking.{HasRun, AreAll, HasEndedRun, Ma
 use crate::classes::{Class, classify};
 use crate::machine::{Machine, Result, State};
 use crate::runs::scans::ascii_run;
-use crate::taker::Taker;
+use crate::taker::EventSink;
 use crate::unfinished::count::fits;
-use crate::unfinished::store::Store;
+use crate::unfinished::store::TextRoom;
 use std::alloc::Allocator;
 
-impl<K: Store, A: Allocator> Machine<K, A> {
+impl<K: TextRoom, A: Allocator> Machine<K, A> {
     /// A byte of an APC.
-    pub fn in_apc<V: Taker>(&mut self, b: u8, class: Class, actor: &mut V) -> Result<()>
-        requires { V.is_ready actor.old ⊎ KeptApc K.Store self.old (λ u.
+    pub fn in_apc<V: EventSink>(&mut self, b: u8, class: Class, actor: &mut V) -> Result<()>
+        requires { V.is_ready actor.old ⊎ KeptApc K.TextRoom self.old (λ u.
             Awaits V.may V.takes actor.old (move self.old.limit u b class).1) }
-        ensures moved { class ≡ class_of b → KeepingApc K.Store self (λ u.
-            Makes K.Store V.Taker self.old.limit true result
+        ensures moved { class ≡ class_of b → KeepingApc K.TextRoom self (λ u.
+            Makes K.TextRoom V.EventSink self.old.limit true result
             (move self.old.limit u b class) self actor) }
-        ensures ready { StaysReady V.Taker result self actor }
+        ensures ready { StaysReady V.EventSink result self actor }
     {
         self.state = State::Apc;
         match class {
@@ -44,26 +44,27 @@ impl<K: Store, A: Allocator> Machine<K, A> {
     }
 
     // A breaker after an APC.
-    fn leave_apc<V: Taker>(&mut self, b: u8, class: Class, actor: &mut V) -> Result<()>
-        requires { V.is_ready actor.old ⊎ KeptText K.Store self.old.text (λ limit t.
+    fn leave_apc<V: EventSink>(&mut self, b: u8, class: Class, actor: &mut V) -> Result<()>
+        requires { V.is_ready actor.old ⊎ KeptText K.TextRoom self.old.text (λ limit t.
             Awaits V.may V.takes actor.old (apc_events limit t ++ (ground_move b class).1)) }
-        ensures moved { KeepingText K.Store self.old.text (λ limit t.
-            Makes K.Store V.Taker limit true result
+        ensures moved { KeepingText K.TextRoom self.old.text (λ limit t.
+            Makes K.TextRoom V.EventSink limit true result
             (emitting (apc_events limit t) (ground_move b class)) self actor) }
-        ensures ready { StaysReady V.Taker result self actor }
+        ensures ready { StaysReady V.EventSink result self actor }
     {
         emit_apc(&self.text, actor)?;
         self.in_ground(b, class, actor)
     }
 
     /// A byte that is passed over, but for a breaker.
-    pub fn in_ignored<V: Taker>(&mut self, b: u8, class: Class, actor: &mut V) -> Result<()>
-        requires { MayEmit V.Taker (cond (is_breaker class) (ground_move b class).1 []) actor.old }
+    pub fn in_ignored<V: EventSink>(&mut self, b: u8, class: Class, actor: &mut V) -> Result<()>
+        requires { MayEmit V.EventSink (cond (is_breaker class) (ground_move b class).1 [])
+            actor.old }
         ensures ignored { InIgnoredString (λ limit u.
-            Makes K.Store V.Taker limit true result (move limit u b class) self actor) }
+            Makes K.TextRoom V.EventSink limit true result (move limit u b class) self actor) }
         ensures data { InDcsIgnore (λ limit u.
-            Makes K.Store V.Taker limit true result (move limit u b class) self actor) }
-        ensures ready { StaysReady V.Taker result self actor }
+            Makes K.TextRoom V.EventSink limit true result (move limit u b class) self actor) }
+        ensures ready { StaysReady V.EventSink result self actor }
     {
         self.state = State::Ignored;
         match class {
@@ -83,13 +84,14 @@ impl<K: Store, A: Allocator> Machine<K, A> {
     /// The run of 20-7F in an application program command, and the byte after it: a text that
     /// begins and ends in these bytes is lent to the actor from there, any other is kept.
     #[inline(always)]
-    pub fn take_in_apc<V: Taker>(&mut self, rest: &[u8], actor: &mut V) -> Result<usize>
+    pub fn parse_in_apc<V: EventSink>(&mut self, rest: &[u8], actor: &mut V) -> Result<usize>
         requires some { 0 < length rest.now }
-        requires ready { MayBeGiven V.Taker (KeptApc K.Store self.old) self.old.limit rest.now
+        requires ready { MayBeGiven V.EventSink (KeptApc K.TextRoom self.old) self.old.limit
+            rest.now
             actor.old }
         requires state { self.old.state ≡ State.Apc }
-        ensures { TakesIn (KeepingApc K.Store self) AnyApc
-            K.Store V.Taker result rest.now self actor }
+        ensures { TakesIn (KeepingApc K.TextRoom self) AnyApc
+            K.TextRoom V.EventSink result rest.now self actor }
     {
         let run = ascii_run(rest);
         if run == rest.len() {
@@ -99,34 +101,41 @@ impl<K: Store, A: Allocator> Machine<K, A> {
             return self.keep_apc(rest, run, actor);
         }
         if is_breaker(classify(rest[run])) {
-            self.take_borrowed_apc(rest, run, actor)
+            self.parse_lent_apc(rest, run, actor)
         } else {
             self.keep_apc(rest, run, actor)
         }
     }
 
     // A run in an application program command, which is kept, and the byte after it.
-    fn keep_apc<V: Taker>(&mut self, rest: &[u8], run: usize, actor: &mut V) -> Result<usize>
+    fn keep_apc<V: EventSink>(&mut self, rest: &[u8], run: usize, actor: &mut V) -> Result<usize>
         requires run { HasRun (AreAll is_text_byte) rest.now run }
-        requires ready { MayBeGiven V.Taker (KeptApc K.Store self.old) self.old.limit rest.now
+        requires ready { MayBeGiven V.EventSink (KeptApc K.TextRoom self.old) self.old.limit
+            rest.now
             actor.old }
         requires state { self.old.state ≡ State.Apc }
-        ensures { TakesIn (AtUnborrowed rest.now (KeepingApc K.Store self)) AnyApc
-            K.Store V.Taker result rest.now self actor }
+        ensures { TakesIn (AtUnborrowed rest.now (KeepingApc K.TextRoom self)) AnyApc
+            K.TextRoom V.EventSink result rest.now self actor }
     {
         self.text.push(self.limit, &rest[..run])?;
-        self.take_after_apc(rest, run, actor)
+        self.parse_after_apc(rest, run, actor)
     }
 
     // The byte after a run in an application program command that was kept.
     #[inline(always)]
-    fn take_after_apc<V: Taker>(&mut self, rest: &[u8], run: usize, actor: &mut V) -> Result<usize>
+    fn parse_after_apc<V: EventSink>(
+        &mut self,
+        rest: &[u8],
+        run: usize,
+        actor: &mut V,
+    ) -> Result<usize>
         requires run { HasRun (AreAll is_text_byte) rest.now run }
-        requires ready { MayBeGiven V.Taker (KeptApcAnd K.Store (take run rest.now) self.old)
+        requires ready { MayBeGiven V.EventSink (KeptApcAnd K.TextRoom (take run rest.now) self.old)
             self.old.limit rest.now actor.old }
         requires state { self.old.state ≡ State.Apc }
-        ensures { TakesIn (AtUnborrowed rest.now (KeepingApcAnd K.Store (take run rest.now) self))
-            AnyApc K.Store V.Taker result rest.now self actor }
+        ensures { TakesIn (AtUnborrowed rest.now
+            (KeepingApcAnd K.TextRoom (take run rest.now) self))
+            AnyApc K.TextRoom V.EventSink result rest.now self actor }
     {
         if run == rest.len() {
             return Ok(run);
@@ -137,7 +146,7 @@ impl<K: Store, A: Allocator> Machine<K, A> {
 
     // A text, and the breaker that ends it.
     #[inline(always)]
-    fn take_borrowed_apc<V: Taker>(
+    fn parse_lent_apc<V: EventSink>(
         &mut self,
         rest: &[u8],
         run: usize,
@@ -145,22 +154,22 @@ impl<K: Store, A: Allocator> Machine<K, A> {
     ) -> Result<usize>
         requires run { HasEndedRun (AreAll is_text_byte) (λ b. is_breaker (class_of b)) rest.now
             run }
-        requires ready { MayBeGiven V.Taker NewApc self.old.limit rest.now actor.old }
-        ensures { TakesIn FreshApc AnyApc K.Store V.Taker result rest.now self actor }
+        requires ready { MayBeGiven V.EventSink NewApc self.old.limit rest.now actor.old }
+        ensures { TakesIn FreshApc AnyApc K.TextRoom V.EventSink result rest.now self actor }
     {
         self.end_borrowed_apc(&rest[..run], rest[run], actor)?;
         Ok(run + 1)
     }
 
     // A breaker after an application program command whose text is lent.
-    fn end_borrowed_apc<V: Taker>(&mut self, text: &[u8], b: u8, actor: &mut V) -> Result<()>
-        requires { MayEmit V.Taker
+    fn end_borrowed_apc<V: EventSink>(&mut self, text: &[u8], b: u8, actor: &mut V) -> Result<()>
+        requires { MayEmit V.EventSink
             (apc_events self.old.limit text.now ++ (ground_move b (class_of b)).1) actor.old }
         ensures moved { (own : Bool)
-            → Makes K.Store V.Taker self.old.limit own result
+            → Makes K.TextRoom V.EventSink self.old.limit own result
             (emitting (apc_events self.old.limit text.now) (ground_move b (class_of b)))
             self actor }
-        ensures ready { StaysReady V.Taker result self actor }
+        ensures ready { StaysReady V.EventSink result self actor }
     {
         emit_borrowed_apc(self.limit, text, actor)?;
         self.leave_string(b, actor)
@@ -168,17 +177,17 @@ impl<K: Store, A: Allocator> Machine<K, A> {
 
     /// The run of 20-7F in what is passed over.
     #[inline(always)]
-    pub fn take_in_ignored<V: Taker>(&mut self, rest: &[u8], actor: &mut V) -> Result<usize>
+    pub fn parse_in_ignored<V: EventSink>(&mut self, rest: &[u8], actor: &mut V) -> Result<usize>
         requires some { 0 < length rest.now }
-        requires ready { MayBeGiven V.Taker (KeptSegment K.Store self.old)
+        requires ready { MayBeGiven V.EventSink (KeptSegment K.TextRoom self.old)
             self.old.limit rest.now actor.old }
         requires state { self.old.state ≡ State.Ignored }
-        ensures { TakesIn (Holding K.Store self) (Holding K.Store self)
-            K.Store V.Taker result rest.now self actor }
+        ensures { TakesIn (Holding K.TextRoom self) (Holding K.TextRoom self)
+            K.TextRoom V.EventSink result rest.now self actor }
     {
         let run = ascii_run(rest);
         if run == 0 {
-            return self.take_one(rest, actor);
+            return self.parse_one(rest, actor);
         }
         Ok(run)
     }
@@ -204,9 +213,9 @@ fn is_breaker(class: Class) -> bool
 }
 
 // A lent text, emitted where it is within the limit.
-fn emit_borrowed_apc<V: Taker>(limit: Option<usize>, text: &[u8], actor: &mut V) -> Result<()>
-    requires { MayEmit V.Taker (apc_events limit text.now) actor.old }
-    ensures emitted { Emits V.Taker ⊥ result (apc_events limit text.now) actor }
+fn emit_borrowed_apc<V: EventSink>(limit: Option<usize>, text: &[u8], actor: &mut V) -> Result<()>
+    requires { MayEmit V.EventSink (apc_events limit text.now) actor.old }
+    ensures emitted { Emits V.EventSink ⊥ result (apc_events limit text.now) actor }
     ensures ready { V.is_ready actor.old → OnOk result (V.is_ready actor.new) }
 {
     if fits(limit, 0, text.len()) {
@@ -217,12 +226,12 @@ fn emit_borrowed_apc<V: Taker>(limit: Option<usize>, text: &[u8], actor: &mut V)
 }
 
 // The text of an APC, emitted where it is within the limit.
-#[tactic(auto, using(crate::proofs::Given::receives_takes))]
-fn emit_apc<K: Store, V: Taker>(text: &K, actor: &mut V) -> Result<()>
-    requires { V.is_ready actor.old ⊎ KeptText K.Store text.now (λ limit t.
+#[tactic(auto, using(crate::proofs::Emits::EventsFold::receives_takes))]
+fn emit_apc<K: TextRoom, V: EventSink>(text: &K, actor: &mut V) -> Result<()>
+    requires { V.is_ready actor.old ⊎ KeptText K.TextRoom text.now (λ limit t.
         Awaits V.may V.takes actor.old (apc_events limit t)) }
-    ensures emitted { KeepingText K.Store text.now (λ limit t.
-        Emits V.Taker ⊥ result (apc_events limit t) actor) }
+    ensures emitted { KeepingText K.TextRoom text.now (λ limit t.
+        Emits V.EventSink ⊥ result (apc_events limit t) actor) }
     ensures ready { V.is_ready actor.old → OnOk result (V.is_ready actor.new) }
 {
     if text.is_over() {

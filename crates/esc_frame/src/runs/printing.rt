@@ -12,7 +12,7 @@ ghost use Rattle.esc_frame.specs.Scans.{StartsFrom, StartsWithControl};
 
 use crate::machine::Result;
 use crate::runs::scans::{ascii_run, free_run};
-use crate::taker::Taker;
+use crate::taker::EventSink;
 use crate::utf8::sequence::{ahead, of_four, of_three, of_two};
 
 /// The character that comes first and is whole, and its length; `None` where there is none, or
@@ -57,10 +57,10 @@ pub fn first_control(rest: &[u8]) -> Option<u8>
 
 /// The control that comes first.
 #[inline(always)]
-pub fn execute_one<V: Taker>(rest: &[u8], actor: &mut V) -> Result<usize>
+pub fn execute_one<V: EventSink>(rest: &[u8], actor: &mut V) -> Result<usize>
     requires control { StartsWithControl rest.now }
-    requires ready { MayEmitAll V.Taker Ground rest.now actor.old }
-    ensures { StaysInGround V.Taker result rest.now actor }
+    requires ready { MayEmitAll V.EventSink Ground rest.now actor.old }
+    ensures { StaysInGround V.EventSink result rest.now actor }
 {
     match actor.execute_c0_or_c1(rest[0]) {
         Ok(()) => Ok(1),
@@ -80,9 +80,9 @@ fn first_wide(rest: &[u8]) -> Option<(char, usize)>
 
 /// The character that comes first, where it is whole; else nothing.
 #[inline(always)]
-pub fn print_first<V: Taker>(rest: &[u8], actor: &mut V) -> Result<usize>
-    requires { MayEmitAll V.Taker Ground rest.now actor.old }
-    ensures stays { StaysInGround V.Taker result rest.now actor }
+pub fn print_first<V: EventSink>(rest: &[u8], actor: &mut V) -> Result<usize>
+    requires { MayEmitAll V.EventSink Ground rest.now actor.old }
+    ensures stays { StaysInGround V.EventSink result rest.now actor }
     ensures quiet { (limit : Option ℕ) → Quietly limit result Ground rest.now }
 {
     match first_char(rest) {
@@ -96,10 +96,10 @@ pub fn print_first<V: Taker>(rest: &[u8], actor: &mut V) -> Result<usize>
 
 /// A run of text, or sequences, that come first.
 #[inline(always)]
-pub fn print_one<V: Taker>(rest: &[u8], actor: &mut V) -> Result<usize>
+pub fn print_one<V: EventSink>(rest: &[u8], actor: &mut V) -> Result<usize>
     requires some { 0 < length rest.now }
-    requires ready { MayEmitAll V.Taker Ground rest.now actor.old }
-    ensures { StaysInGround V.Taker result rest.now actor }
+    requires ready { MayEmitAll V.EventSink Ground rest.now actor.old }
+    ensures { StaysInGround V.EventSink result rest.now actor }
 {
     if rest[0] < 0x20 {
         Ok(0)
@@ -114,9 +114,9 @@ pub fn print_one<V: Taker>(rest: &[u8], actor: &mut V) -> Result<usize>
 // well-formed. A stream that is not UTF-8 mostly shows that at once. It is out of the way of the
 // code for plain text.
 #[inline(never)]
-fn print_long<V: Taker>(rest: &[u8], actor: &mut V) -> Result<usize>
-    requires { MayEmitAll V.Taker Ground rest.now actor.old }
-    ensures { StaysInGround V.Taker result rest.now actor }
+fn print_long<V: EventSink>(rest: &[u8], actor: &mut V) -> Result<usize>
+    requires { MayEmitAll V.EventSink Ground rest.now actor.old }
+    ensures { StaysInGround V.EventSink result rest.now actor }
 {
     if ahead(rest).0 == 0 {
         return Ok(0);
@@ -135,7 +135,7 @@ fn print_long<V: Taker>(rest: &[u8], actor: &mut V) -> Result<usize>
 }
 
 // Characters of one kind, which mostly come one after another.
-trait Glyphs<V: Taker> {
+trait Glyphs<V: EventSink> {
     // How many bytes a look at the next of them needs.
     const LEAST: usize;
 
@@ -144,15 +144,15 @@ trait Glyphs<V: Taker> {
     // Prints the next ones; nothing where others come.
     fn print_next(rest: &[u8], actor: &mut V) -> Result<usize>
         requires some { LEAST ≤ length rest.now }
-        requires ready { MayEmitAll V.Taker Ground rest.now actor.old }
-        ensures { StaysInGround V.Taker result rest.now actor };
+        requires ready { MayEmitAll V.EventSink Ground rest.now actor.old }
+        ensures { StaysInGround V.EventSink result rest.now actor };
 }
 
 // The characters of a kind that come first.
 #[inline(always)]
-fn print_glyphs<V: Taker, G: Glyphs<V>>(rest: &[u8], actor: &mut V) -> Result<usize>
-    requires { MayEmitAll V.Taker Ground rest.now actor.old }
-    ensures { StaysInGround V.Taker result rest.now actor }
+fn print_glyphs<V: EventSink, G: Glyphs<V>>(rest: &[u8], actor: &mut V) -> Result<usize>
+    requires { MayEmitAll V.EventSink Ground rest.now actor.old }
+    ensures { StaysInGround V.EventSink result rest.now actor }
 {
     let mut at = 0;
     while rest.len() - at >= G::LEAST {
@@ -168,7 +168,7 @@ fn print_glyphs<V: Taker, G: Glyphs<V>>(rest: &[u8], actor: &mut V) -> Result<us
 // Sequences, and short runs of text between them; a longer run is left.
 struct Mixed;
 
-impl<V: Taker> Glyphs<V> for Mixed {
+impl<V: EventSink> Glyphs<V> for Mixed {
     const LEAST: usize = 8;
 
     ghost LEAST = { 8 };
@@ -195,21 +195,21 @@ impl<V: Taker> Glyphs<V> for Mixed {
 // Bytes of text.
 struct Ascii;
 
-impl<V: Taker> Glyphs<V> for Ascii {
+impl<V: EventSink> Glyphs<V> for Ascii {
     const LEAST: usize = 1;
 
     ghost LEAST = { 1 };
 
     #[inline(always)]
     fn print_next(rest: &[u8], actor: &mut V) -> Result<usize> {
-        print_lone(rest, actor)
+        print_ascii_byte(rest, actor)
     }
 }
 
 // Sequences of two bytes, and single bytes of text between them.
 struct TwoBytes;
 
-impl<V: Taker> Glyphs<V> for TwoBytes {
+impl<V: EventSink> Glyphs<V> for TwoBytes {
     const LEAST: usize = 4;
 
     ghost LEAST = { 4 };
@@ -217,7 +217,7 @@ impl<V: Taker> Glyphs<V> for TwoBytes {
     #[inline(always)]
     fn print_next(rest: &[u8], actor: &mut V) -> Result<usize> {
         if rest[0] < 0x80 {
-            return print_near(rest, actor);
+            return print_ascii_before_multibyte(rest, actor);
         }
         let (n, c) = of_two(rest[0], rest[1]);
         print_ahead(rest, n, c, actor)
@@ -227,7 +227,7 @@ impl<V: Taker> Glyphs<V> for TwoBytes {
 // Sequences of three bytes.
 struct ThreeBytes;
 
-impl<V: Taker> Glyphs<V> for ThreeBytes {
+impl<V: EventSink> Glyphs<V> for ThreeBytes {
     const LEAST: usize = 3;
 
     ghost LEAST = { 3 };
@@ -241,24 +241,24 @@ impl<V: Taker> Glyphs<V> for ThreeBytes {
 
 // A byte of text that a sequence follows soon.
 #[inline(always)]
-fn print_near<V: Taker>(rest: &[u8], actor: &mut V) -> Result<usize>
+fn print_ascii_before_multibyte<V: EventSink>(rest: &[u8], actor: &mut V) -> Result<usize>
     requires some { 4 ≤ length rest.now }
-    requires ready { MayEmitAll V.Taker Ground rest.now actor.old }
-    ensures { StaysInGround V.Taker result rest.now actor }
+    requires ready { MayEmitAll V.EventSink Ground rest.now actor.old }
+    ensures { StaysInGround V.EventSink result rest.now actor }
 {
     if rest[3] < 0x80 {
         Ok(0)
     } else {
-        print_lone(rest, actor)
+        print_ascii_byte(rest, actor)
     }
 }
 
 // The character that is whole ahead, if one is.
 #[inline(always)]
-fn print_ahead<V: Taker>(rest: &[u8], n: usize, c: char, actor: &mut V) -> Result<usize>
+fn print_ahead<V: EventSink>(rest: &[u8], n: usize, c: char, actor: &mut V) -> Result<usize>
     requires ahead { IsAhead rest.now n c }
-    requires ready { MayEmitAll V.Taker Ground rest.now actor.old }
-    ensures { StaysInGround V.Taker result rest.now actor }
+    requires ready { MayEmitAll V.EventSink Ground rest.now actor.old }
+    ensures { StaysInGround V.EventSink result rest.now actor }
 {
     if n == 0 {
         return Ok(0);
@@ -271,10 +271,10 @@ fn print_ahead<V: Taker>(rest: &[u8], n: usize, c: char, actor: &mut V) -> Resul
 
 // A byte of text.
 #[inline(always)]
-fn print_lone<V: Taker>(rest: &[u8], actor: &mut V) -> Result<usize>
+fn print_ascii_byte<V: EventSink>(rest: &[u8], actor: &mut V) -> Result<usize>
     requires some { 1 ≤ length rest.now }
-    requires ready { MayEmitAll V.Taker Ground rest.now actor.old }
-    ensures { StaysInGround V.Taker result rest.now actor }
+    requires ready { MayEmitAll V.EventSink Ground rest.now actor.old }
+    ensures { StaysInGround V.EventSink result rest.now actor }
 {
     if rest[0] < 0x20 || rest[0] > 0x7f {
         return Ok(0);
@@ -286,10 +286,10 @@ fn print_lone<V: Taker>(rest: &[u8], actor: &mut V) -> Result<usize>
 }
 
 #[inline(always)]
-fn print_text<V: Taker>(rest: &[u8], actor: &mut V) -> Result<usize>
+fn print_text<V: EventSink>(rest: &[u8], actor: &mut V) -> Result<usize>
     requires starts { StartsFrom 0x20 0x7f rest.now }
-    requires ready { MayEmitAll V.Taker Ground rest.now actor.old }
-    ensures { StaysInGround V.Taker result rest.now actor }
+    requires ready { MayEmitAll V.EventSink Ground rest.now actor.old }
+    ensures { StaysInGround V.EventSink result rest.now actor }
 {
     let run = ascii_run(rest);
     match actor.print_text(&rest[..run]) {

@@ -74,7 +74,7 @@ fn short_run_to(bytes: &[u8], last: u8) -> usize
 }
 
 // The same, where the bytes before `from` are a part of it.
-#[tactic(auto, using(crate::proofs::Prefixes::runs))]
+#[tactic(auto, using(crate::proofs::ByteRuns::PrefixesPass::runs))]
 #[inline(always)]
 fn run_from(bytes: &[u8], from: usize, last: u8) -> usize
     requires last { is_from 0x7e 0x7f last ≡ true }
@@ -126,7 +126,7 @@ fn unmarked_in_lanes(text: &[u8], at: usize) -> usize
 }
 
 /// Where the first `;` from `from` on is, or the end of the text.
-#[tactic(auto, using(crate::proofs::Prefixes::runs))]
+#[tactic(auto, using(crate::proofs::ByteRuns::PrefixesPass::runs))]
 #[inline(always)]
 pub fn mark_from(text: &[u8], from: usize) -> usize
     requires { from ≤ length text.now }

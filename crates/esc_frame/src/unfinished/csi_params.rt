@@ -3,7 +3,7 @@
 
 ghost use Rattle.std.specs.Prelude.{◌≡◌, ◌++◌, ◌<◌, ◌≤◌, ◌-◌, ◌+◌, ◌*◌, ℕ, List, [], ◌∷◌, take, length, Option, true, false};
 ghost use Rattle.std.specs.List.{list_all};
-ghost use Rattle.esc_frame.specs.Bodies.{held, is_digit, kept_csi_params, has_more_csi_params};
+ghost use Rattle.esc_frame.specs.Bodies.{capped_at_i64, is_digit, kept_csi_params, has_more_csi_params};
 ghost use Rattle.esc_frame.specs.Scans.{StartsWithDigit};
 
 use crate::unfinished::param_list::ParamList;
@@ -36,7 +36,7 @@ pub struct Params {
 #[inline(always)]
 pub fn next_number(n: u64, d: u8) -> u64
     requires { n ≤ 0x7fff_ffff_ffff_ffff }
-    ensures value { result ≡ held (10 * n + d) }
+    ensures value { result ≡ capped_at_i64 (10 * n + d) }
     ensures small { result ≤ 0x7fff_ffff_ffff_ffff }
 {
     if n < FAR_BELOW {
@@ -49,7 +49,7 @@ pub fn next_number(n: u64, d: u8) -> u64
 }
 
 impl Params {
-    ghost use Rattle.esc_frame.specs.Machine.Keeps.{KeepsEntries, IsNumber, number_at, AreFirst, shown, next_number_of};
+    ghost use Rattle.esc_frame.specs.Machine.Keeps.{KeepsEntries, IsNumber, number_at, AreFirst, params_with, next_number_of};
 
     /// No parameters.
     #[inline(always)]
@@ -81,11 +81,11 @@ impl Params {
         ensures { (x : List ℕ) → KeepsEntries self.old x → KeepsEntries self.new (x ++ b ∷ []) }
     {
         if b < b'0' {
-            self.take_other(b)
+            self.push_other(b)
         } else if b <= b'9' {
-            self.take_digit(b)
+            self.push_digit(b)
         } else {
-            self.take_other(b)
+            self.push_other(b)
         }
     }
 
@@ -112,14 +112,15 @@ impl Params {
     // The number of the run of digits at the end, or 0.
     #[inline(always)]
     fn number_so_far(&self) -> u64
-        ensures value { (o : Option ℕ) → IsNumber self.now o → result ≡ held (number_at o) }
+        ensures value { (o : Option ℕ) → IsNumber self.now o → result
+            ≡ capped_at_i64 (number_at o) }
         ensures small { result ≤ 0x7fff_ffff_ffff_ffff }
     {
         if self.is_open { self.number } else { 0 }
     }
 
-    #[tactic(auto, using(crate::proofs::FirstParams::held_next))]
-    fn take_digit(&mut self, b: u8)
+    #[tactic(auto, using(crate::proofs::Steps::ParamsGrow::held_next))]
+    fn push_digit(&mut self, b: u8)
         requires low { 0x30 ≤ b }
         requires high { b ≤ 0x39 }
         ensures number { (o : Option ℕ) → IsNumber self.old o
@@ -137,13 +138,13 @@ impl Params {
     }
 
     #[inline(always)]
-    fn take_other(&mut self, b: u8)
+    fn push_other(&mut self, b: u8)
         ensures number { self.new.is_open ≡ false }
         ensures limit { self.new.limit ≡ self.old.limit }
         ensures first { (o : Option ℕ) (all : List CsiParam) → IsNumber self.old o
             → AreFirst self.old.items self.old.is_truncated self.old.limit all
             → AreFirst self.new.items self.new.is_truncated self.new.limit
-            ((all ++ shown o) ++ CsiParam.P b ∷ []) }
+            ((all ++ params_with o) ++ CsiParam.P b ∷ []) }
     {
         self.close();
         self.add(CsiParam::P(b));
@@ -156,7 +157,7 @@ impl Params {
         ensures limit { self.new.limit ≡ self.old.limit }
         ensures first { (o : Option ℕ) (all : List CsiParam) → IsNumber self.old o
             → AreFirst self.old.items self.old.is_truncated self.old.limit all
-            → AreFirst self.new.items self.new.is_truncated self.new.limit (all ++ shown o) }
+            → AreFirst self.new.items self.new.is_truncated self.new.limit (all ++ params_with o) }
     {
         if self.is_open {
             self.is_open = false;
@@ -174,7 +175,7 @@ impl Params {
         self.close();
     }
 
-    #[tactic(auto, using(crate::proofs::FirstParams::first_fits, crate::proofs::FirstParams::first_full, crate::proofs::FirstParams::first_past))]
+    #[tactic(auto, using(crate::proofs::Steps::ParamsGrow::first_fits, crate::proofs::Steps::ParamsGrow::first_full, crate::proofs::Steps::ParamsGrow::first_past))]
     #[inline(always)]
     fn add(&mut self, entry: CsiParam)
         ensures number { self.new.is_open ≡ self.old.is_open }

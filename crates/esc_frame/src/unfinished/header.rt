@@ -4,9 +4,9 @@
 
 ghost use Rattle.std.specs.Prelude.{◌≡◌, ◌++◌, ℕ, List, [], ◌∷◌, map, pos, IfOk, OnErr};
 ghost use Rattle.esc_values.specs.Clear.{parts_of};
-ghost use Rattle.esc_frame.specs.Bodies.{is_dcs_parameter, is_dcs_header, held, value_after};
+ghost use Rattle.esc_frame.specs.Bodies.{is_dcs_parameter, is_dcs_header, capped_at_i64, value_after};
 ghost use Rattle.esc_frame.specs.Machine.Keeps.{KeepsDcs, next_form_by};
-ghost use Rattle.memory.specs.Refusals.{Refused};
+ghost use Rattle.fallible_alloc.specs.Refusals.{Refused};
 
 use crate::split::split_parts;
 use crate::unfinished::body::Form;
@@ -71,31 +71,31 @@ pub fn is_parameter(byte: u8) -> bool
     lies_from(0x30, 0x39, byte) || byte == b';'
 }
 
-// The number of a piece, held at the greatest `i64`.
-fn number_of(piece: &[u8]) -> i64
-    ensures { result ≡ pos (held (value_after 0 piece.now)) }
+// The number of a unit, held at the greatest `i64`.
+fn number_of(osc_unit: &[u8]) -> i64
+    ensures { result ≡ pos (capped_at_i64 (value_after 0 osc_unit.now)) }
 {
     let mut number = 0;
-    for b in piece {
+    for b in osc_unit {
         number = next_number(number, b.saturating_sub(b'0'));
     }
     number as i64
 }
 
-/// The parameters that parameter bytes write: the numbers of the pieces between `;`.
+/// The parameters that parameter bytes write: the numbers of the units between `;`.
 pub fn params_of<A: Allocator + Copy>(alloc: A, bytes: &[u8]) -> Result<Vec<i64, A>, AllocError>
-    ensures ok { IfOk result (λ v. v.items ≡ map (λ p. pos (held (value_after 0 p)))
+    ensures ok { IfOk result (λ v. v.items ≡ map (λ p. pos (capped_at_i64 (value_after 0 p)))
         (parts_of bytes.now)) }
     ensures refused { OnErr result (Refused A) }
 {
-    let pieces = split_parts(alloc, bytes)?;
-    numbers_of(alloc, &pieces)
+    let osc_units = split_parts(alloc, bytes)?;
+    numbers_of(alloc, &osc_units)
 }
 
-fn numbers_of<A: Allocator>(alloc: A, pieces: &[&[u8]]) -> Result<Vec<i64, A>, AllocError>
+fn numbers_of<A: Allocator>(alloc: A, osc_units: &[&[u8]]) -> Result<Vec<i64, A>, AllocError>
     ensures ok { IfOk result (λ v. v.items ≡ map
-        (λ p. pos (held (value_after 0 p.now))) pieces.now) }
+        (λ p. pos (capped_at_i64 (value_after 0 p.now))) osc_units.now) }
     ensures refused { OnErr result (Refused A) }
 {
-    memory::collect(alloc, pieces.iter().map(|piece| number_of(piece)))
+    fallible_alloc::collect(alloc, osc_units.iter().map(|osc_unit| number_of(osc_unit)))
 }

@@ -3,36 +3,36 @@
 
 ghost use Rattle.std.specs.Prelude.{ℕ, [], Option};
 ghost use Rattle.esc_frame.specs.Machine.Keeps.{KeepsText};
-ghost use Rattle.memory.specs.Refusals.{Refused};
+ghost use Rattle.fallible_alloc.specs.Refusals.{Refused};
 
 use crate::unfinished::count::fits;
-use crate::unfinished::store::Store;
+use crate::unfinished::store::TextRoom;
 use std::alloc::{AllocError, Allocator};
 
 /// The bytes that are kept of a string; no byte and no memory once there were more than the limit.
 #[derive(Drop)]
-pub struct Kept<A: Allocator> {
+pub struct HeapBuffer<A: Allocator> {
     pub bytes: Vec<u8, A>,
     /// Whether there were more than the limit.
     pub is_over: bool,
 }
 
-impl<A: Allocator> Kept<A> {
+impl<A: Allocator> HeapBuffer<A> {
     /// Nothing.
     pub fn new(alloc: A) -> Self
         ensures { (limit : Option ℕ) → KeepsText limit result [] }
     {
-        Kept {
+        HeapBuffer {
             bytes: Vec::new(alloc),
             is_over: false,
         }
     }
 }
 
-impl<A: Allocator> Store for Kept<A> {
+impl<A: Allocator> TextRoom for HeapBuffer<A> {
     ghost keeps = { λ limit kept t. KeepsText limit kept t };
 
-    ghost denied = { λ _. Refused A };
+    ghost may_fail = { λ _. Refused A };
 
     // The memory is kept.
     fn clear(&mut self) {
@@ -62,7 +62,7 @@ impl<A: Allocator> Store for Kept<A> {
             return Ok(());
         }
         if fits(limit, self.bytes.len(), text.len()) {
-            memory::extend(&mut self.bytes, text)
+            fallible_alloc::extend(&mut self.bytes, text)
         } else {
             self.is_over = true;
             self.bytes.clear();

@@ -8,13 +8,13 @@ ghost use Rattle.esc_frame.specs.Segments.{is_empty};
 use std::alloc::AllocError;
 
 /// Keeps the text of an unfinished string, as far as a limit allows. A store says by `keeps` what
-/// it keeps, and by `denied` why it may fail.
-pub trait Store: Drop {
+/// it keeps, and by `may_fail` why it may fail.
+pub trait TextRoom: Drop {
     // this text is kept, each byte of which counts; or nothing, where it is past the limit
     ghost keeps: { Option ℕ → Self → List ℕ → Type 0 };
 
     // why it may fail under this limit: a request for memory was refused to it
-    ghost denied: { Option ℕ → Type 0 };
+    ghost may_fail: { Option ℕ → Type 0 };
 
     /// Begins anew.
     fn clear(&mut self)
@@ -40,5 +40,5 @@ pub trait Store: Drop {
     fn push(&mut self, limit: Option<usize>, text: &[u8]) -> Result<(), AllocError>
         ensures ok { (t : List ℕ) → keeps limit self.old t
             → OnOk result (keeps limit self.new (t ++ text.now)) }
-        ensures refused { OnErr result (denied limit) };
+        ensures refused { OnErr result (may_fail limit) };
 }

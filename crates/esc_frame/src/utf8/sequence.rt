@@ -6,7 +6,7 @@ ghost use Rattle.esc_frame.specs.Sequences.{is_from, is_second, is_sequence, is_
 ghost use Rattle.esc_frame.specs.Machine.Characters.{IsAhead, IsCharacter, NoneAhead};
 ghost use Rattle.esc_frame.specs.Machine.Prefixes.{prefix_of};
 
-use crate::unfinished::store::Store;
+use crate::unfinished::store::TextRoom;
 use std::alloc::AllocError;
 
 /// The bytes of a sequence that has begun.
@@ -129,10 +129,15 @@ impl Pending {
     }
 
     /// Appends prefix and byte to the text.
-    pub fn put<K: Store>(self, limit: Option<usize>, text: &mut K, b: u8) -> Result<(), AllocError>
+    pub fn put<K: TextRoom>(
+        self,
+        limit: Option<usize>,
+        text: &mut K,
+        b: u8,
+    ) -> Result<(), AllocError>
         ensures ok { (t : List ℕ) → K.keeps limit text.old t
             → OnOk result (K.keeps limit text.new (t ++ (prefix_of self ++ b ∷ []))) }
-        ensures refused { OnErr result (K.denied limit) }
+        ensures refused { OnErr result (K.may_fail limit) }
     {
         match self {
             Pending::Nothing => text.push(limit, &[b]),

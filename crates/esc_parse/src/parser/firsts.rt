@@ -8,7 +8,7 @@ ghost use Rattle.esc_parse.specs.Firsts.{IsStop, first};
 ghost use Rattle.esc_frame.specs.Memory.{MayTake};
 ghost use Rattle.esc_actions.specs.Meaning.{MayWant, yield_within};
 ghost use Rattle.esc_actions.specs.Values.{control, value_of};
-ghost use Rattle.memory.specs.Refusals.{Refused};
+ghost use Rattle.fallible_alloc.specs.Refusals.{Refused};
 
 use crate::parser::Parser;
 use crate::performer::Performer;
@@ -31,12 +31,12 @@ fn listed<L: Drop>(list: L, found: Option<usize>) -> Option<(L, usize)>
 }
 
 impl<A: Allocator + Copy> Parser<A> {
-    ghost use Rattle.esc_parse.specs.Fed.{IsBroken, WasFedWithin};
+    ghost use Rattle.esc_parse.specs.Fed.{IsBroken, ParserHasConsumedWithin};
 
     // Gives the sink, in order, the actions that a prefix of `bytes` adds, and hands it back, with
     // the length of the prefix. All but the last byte of it add nothing and leave a segment
     // unfinished.
-    #[tactic(auto, unfolding(crate::specs::Fed::WasFedWithin))]
+    #[tactic(auto, unfolding(crate::specs::Fed::ParserHasConsumedWithin))]
     fn feed_next<S: Sink<Action<A>>>(
         &mut self,
         bytes: &[u8],
@@ -119,7 +119,7 @@ impl<A: Allocator + Copy> Parser<A> {
     }
 
     // The control that comes first, in ground.
-    #[tactic(auto, unfolding(crate::specs::Fed::WasFedWithin))]
+    #[tactic(auto, unfolding(crate::specs::Fed::ParserHasConsumedWithin))]
     #[cold]
     fn first_control(&self, bytes: &[u8]) -> Option<ControlCode>
         ensures given { After self.now (λ limit s. IfSome result
@@ -139,7 +139,7 @@ impl<A: Allocator + Copy> Parser<A> {
     /// does not come where the bytes fed before and `bytes` hold no control sequence and no string,
     /// whole or cut short. `ParseError::Failed` says that an earlier call returned `Memory`, also
     /// where `bytes` are empty.
-    #[tactic(auto, unfolding(crate::specs::Fed::WasFedWithin))]
+    #[tactic(auto, unfolding(crate::specs::Fed::ParserHasConsumedWithin))]
     #[inline]
     pub fn parse_first(&mut self, bytes: &[u8]) -> Result<Option<(Action<A>, usize)>, ParseError>
         ensures { FindsFirst self.old bytes.now result self.new }
@@ -173,7 +173,7 @@ impl<A: Allocator + Copy> Parser<A> {
     }
 
     // Whether actions came after the first `had`, and no segment is unfinished.
-    #[tactic(auto, unfolding(crate::specs::Fed::WasFedWithin))]
+    #[tactic(auto, unfolding(crate::specs::Fed::ParserHasConsumedWithin))]
     fn stops(&self, had: usize, actions: &[Action<A>]) -> bool
         ensures some { IsTrue result → had < length actions.now }
         ensures yes { AfterMore self.now had (length actions.now)
@@ -240,7 +240,7 @@ impl<A: Allocator + Copy> Parser<A> {
     /// a prefix of the actions that `bytes` add was appended, and the parser has failed.
     /// `ParseError::Failed` says that an earlier call returned `Memory`, also where `bytes` are
     /// empty; the list stays as it was.
-    #[tactic(auto, unfolding(crate::specs::Fed::WasFedWithin))]
+    #[tactic(auto, unfolding(crate::specs::Fed::ParserHasConsumedWithin))]
     #[inline]
     pub fn parse_first_into(
         &mut self,

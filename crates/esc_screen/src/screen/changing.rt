@@ -1,7 +1,7 @@
 //! Changes of cells.
 ghost use Rattle.std.specs.Prelude.{◌≡◌};
 ghost use Rattle.esc_screen.specs.Screens.{Becomes, grid_of, size_of};
-ghost use Rattle.esc_screen.specs.Changes.{aligned, cells_deleted, cells_erased, cells_inserted, columns_here, columns_moved, fed, grid_by_change, is_within, rows_deleted, rows_inserted};
+ghost use Rattle.esc_screen.specs.Changes.{alignment_grid, cells_deleted, cells_erased, cells_inserted, columns_here, columns_moved, fed, grid_by_change, is_within, rows_deleted, rows_inserted};
 
 use crate::cell::Cell;
 use crate::change::Change;
@@ -110,7 +110,7 @@ impl<A: Allocator> Screen<A> {
     }
 
     fn align(&mut self)
-        ensures { Becomes self.old (aligned (size_of self.old) (grid_of self.old)) self.new }
+        ensures { Becomes self.old (alignment_grid (size_of self.old) (grid_of self.old)) self.new }
     {
         rows::fill(&mut self.rows, Cell::narrow('E', 0));
         self.top = 0;

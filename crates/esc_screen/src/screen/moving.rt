@@ -2,7 +2,7 @@
 ghost use Rattle.std.specs.Prelude.{◌≡◌, ◌+◌};
 ghost use Rattle.esc_screen.specs.Screens.{Becomes, grid_of, size_of};
 ghost use Rattle.esc_screen.specs.Cursors.{stop_after};
-ghost use Rattle.esc_screen.specs.Motions.{column_by, grid_by_motion, positioned, row_by, row_down, row_up, tab_after, tab_before};
+ghost use Rattle.esc_screen.specs.Motions.{column_by, grid_by_motion, positioned_grid, row_by, row_down, row_up, tab_after, tab_before};
 
 use crate::motion::Motion;
 use crate::screen::Screen;
@@ -59,7 +59,8 @@ impl<A: Allocator> Screen<A> {
     }
 
     pub(crate) fn position(&mut self, row: u16, column: u16)
-        ensures { Becomes self.old (positioned (size_of self.old) row column (grid_of self.old))
+        ensures { Becomes self.old (positioned_grid (size_of self.old) row column
+            (grid_of self.old))
             self.new }
     {
         let to = self.row_by(row);

@@ -5,7 +5,7 @@ ghost use Rattle.esc_screen.specs.Cells.{put_all};
 ghost use Rattle.esc_screen.specs.Cursors.{shown};
 ghost use Rattle.esc_screen.specs.Grids.{in_row, next_line};
 ghost use Rattle.esc_screen.specs.Lists.{times};
-ghost use Rattle.esc_screen.specs.Printing.{before, column_before, has_before, has_room, is_direct, joined, mark_printed, narrow_printed, narrow_put, opened, passed, printed, printed_wide, repeated, wide_printed, wide_put, wrapped, wrapped_past, wrapped_wide};
+ghost use Rattle.esc_screen.specs.Printing.{before, column_before, has_before, has_room, is_direct, joined, mark_printed, narrow_printed, narrow_put, grid_with_room, grid_past, grid_with_character, printed_wide, grid_with_repeats, wide_printed, wide_put, wrapped_grid, wrapped_past, wrapped_wide};
 ghost use Rattle.esc_screen.specs.Steps.{grid_from};
 ghost use Rattle.esc_screen.specs.declared.step.Step.TheVariants as step;
 
@@ -45,7 +45,7 @@ impl<A: Allocator> Screen<A> {
     }
 
     fn wrap(&mut self)
-        ensures { Becomes self.old (wrapped (size_of self.old) (grid_of self.old)) self.new }
+        ensures { Becomes self.old (wrapped_grid (size_of self.old) (grid_of self.old)) self.new }
     {
         if self.cursor.pending {
             self.wrap_past();
@@ -64,7 +64,8 @@ impl<A: Allocator> Screen<A> {
 
     // Past a character of so many columns.
     fn pass(&mut self, columns: u16)
-        ensures { Becomes self.old (passed (size_of self.old) columns (grid_of self.old)) self.new }
+        ensures { Becomes self.old (grid_past (size_of self.old) columns (grid_of self.old))
+            self.new }
     {
         if columns < self.max_columns.saturating_sub(self.cursor.column) {
             self.cursor.column += columns;
@@ -76,7 +77,8 @@ impl<A: Allocator> Screen<A> {
 
     // Makes room for a character of so many columns, where characters are inserted.
     fn open(&mut self, columns: u16)
-        ensures { Becomes self.old (opened (size_of self.old) columns (grid_of self.old)) self.new }
+        ensures { Becomes self.old (grid_with_room (size_of self.old) columns (grid_of self.old))
+            self.new }
     {
         if self.modes.inserts {
             let Cursor {
@@ -93,7 +95,8 @@ impl<A: Allocator> Screen<A> {
     }
 
     fn put(&mut self, c: char)
-        ensures { Becomes self.old (printed (size_of self.old) c (grid_of self.old)) self.new }
+        ensures { Becomes self.old (grid_with_character (size_of self.old) c (grid_of self.old))
+            self.new }
     {
         if let Some(row) = self.rows.get_mut(self.cursor.row as usize) {
             row.put_narrow(self.cursor.column as usize, c, self.cursor.look);
@@ -225,7 +228,8 @@ impl<A: Allocator> Screen<A> {
 
     /// Prints the character before the cursor so many times.
     pub(crate) fn repeat(&mut self, count: u16)
-        ensures { Becomes self.old (repeated (size_of self.old) count (grid_of self.old)) self.new }
+        ensures { Becomes self.old (grid_with_repeats (size_of self.old) count (grid_of self.old))
+            self.new }
     {
         let count = count.min(self.max_columns);
         match self.before() {
@@ -244,7 +248,7 @@ impl<A: Allocator> Screen<A> {
     // Puts characters of ASCII from the cursor on, in its row.
     fn put_here(&mut self, text: &[u8])
         requires { self.old.cursor.column + length text.now ≤ self.old.max_columns }
-        ensures { Becomes self.old (passed (size_of self.old) (length text.now)
+        ensures { Becomes self.old (grid_past (size_of self.old) (length text.now)
             (in_row (put_all self.old.cursor.column self.old.cursor.look text.now)
             (grid_of self.old))) self.new }
     {

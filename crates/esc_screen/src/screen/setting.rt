@@ -1,6 +1,6 @@
 //! Changes of the state.
 ghost use Rattle.esc_screen.specs.Screens.{Becomes, grid_of, size_of};
-ghost use Rattle.esc_screen.specs.Settings.{alternate_cleared, exchanged, grid_by_setting, reset_grid, restored, scrolling, softly_reset_grid, tab_set, to_alternate, to_main, with_origin};
+ghost use Rattle.esc_screen.specs.Settings.{alternate_cleared, exchanged_screens, grid_by_setting, reset_grid, restored_grid, scrolling, softly_reset_grid, tab_set, to_alternate, to_main, with_origin};
 
 use crate::cell::Cell;
 use crate::cursor::Cursor;
@@ -40,7 +40,7 @@ impl<A: Allocator> Screen<A> {
     }
 
     fn exchange(&mut self)
-        ensures { Becomes self.old (exchanged (grid_of self.old)) self.new }
+        ensures { Becomes self.old (exchanged_screens (grid_of self.old)) self.new }
     {
         std::mem::swap(&mut self.rows, &mut self.other);
         std::mem::swap(&mut self.saved, &mut self.other_saved);
@@ -82,7 +82,7 @@ impl<A: Allocator> Screen<A> {
     }
 
     fn leave_alternate(&mut self)
-        ensures { Becomes self.old (restored (to_main (grid_of self.old))) self.new }
+        ensures { Becomes self.old (restored_grid (to_main (grid_of self.old))) self.new }
     {
         self.show_main();
         self.cursor = self.saved;

@@ -1,5 +1,5 @@
 use Rattle.std.proofs.Common.{rules, ◌≡◌, ◌∙◌, ap, false, map, string_bytes}
-use Rattle.command_line.specs.Given.{said}
+use Rattle.command_line.specs.Given.{said_option}
 use Rattle.command_line.specs.Words.{ends_options}
 use Rattle.command_line.proofs.Words.{files_step, options_step, right_step}
 use Rattle.command_line.proofs.reading.read_into.Goals as goal
@@ -22,10 +22,10 @@ loop-word-preserved g c =
           (λ is. let f = file is in (f.0, f.1))
           (λ is. let o = option is in (o.0, ap (map (λ f. f.now)) o.1))
           ∙ c.loop-word.invariant.0,
-      options_step string_bytes c.args.known.now (map said old.options.items)
-          (map said new.options.items) w word all after rest
+      options_step string_bytes c.args.known.now (map said_option old.options.items)
+          (map said_option new.options.items) w word all after rest
           c.as_str-in-Some.ensures.value c.in-Some.ensures.cases.0 goes_on
-          (λ is. let f = file is in (f.0, ap (map said) f.2))
+          (λ is. let f = file is in (f.0, ap (map said_option) f.2))
           (λ is. let o = option is in (o.0, o.2))
           ∙ c.loop-word.invariant.1,
       right_step string_bytes c.args.known.now w word all after rest

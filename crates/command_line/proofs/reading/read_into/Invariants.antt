@@ -1,5 +1,5 @@
 use Rattle.std.proofs.Common.{◌≡◌, ◌++◌, false, length, map, string_bytes}
-use Rattle.command_line.specs.Given.{said}
+use Rattle.command_line.specs.Given.{said_option}
 use Rattle.command_line.specs.Words.{are_right, files_of, options_of}
 use Rattle.command_line.proofs.reading.read_into.Given as goal
 
@@ -10,8 +10,8 @@ invariant-loop-word g l =
     (map (λ f. f.now) l.found.files.items ++ files_of l.known false (map string_bytes l.rest)
     ≡ map (λ f. f.now) l.initial.found.files.items
     ++ files_of l.known false (map string_bytes l.initial.rest))
-    × (map said l.found.options.items ++ options_of l.known false (map string_bytes l.rest)
-    ≡ map said l.initial.found.options.items
+    × (map said_option l.found.options.items ++ options_of l.known false (map string_bytes l.rest)
+    ≡ map said_option l.initial.found.options.items
     ++ options_of l.known false (map string_bytes l.initial.rest))
     × (are_right l.known false (map string_bytes l.rest)
     ≡ are_right l.known false (map string_bytes l.initial.rest))

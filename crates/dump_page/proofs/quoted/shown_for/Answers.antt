@@ -1,5 +1,5 @@
 use Rattle.std.proofs.Common.{refl}
-use Rattle.esc_visible.proofs.Ranges.{replacement_plain}
+use Rattle.unicode_visibility.proofs.Ranges.{replacement_plain}
 use Rattle.dump_page.proofs.quoted.shown_for.Goals as goal
 
 pub returns-else-is_shown : goal.returns-else-is_shown

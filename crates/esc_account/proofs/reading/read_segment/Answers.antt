@@ -1,5 +1,5 @@
 use Rattle.std.proofs.Common.{Some, map, ◌++◌, refl, ap, ◌∙◌}
-use Rattle.esc_frame.specs.Segments.{is_finished, joined}
+use Rattle.esc_frame.specs.Segments.{is_finished, joined_bytes}
 use Rattle.esc_actions.specs.Readings.{reading_within}
 use Rattle.esc_actions.specs.Values.{value_of}
 use Rattle.esc_account.specs.Brief.{brief}
@@ -8,7 +8,7 @@ use Rattle.esc_account.proofs.reading.read_segment.Goals as goal
 
 pub returns-in-Ok-clause-given : goal.returns-in-Ok-clause-given
 returns-in-Ok-clause-given g c = λ s gs each item.
-    let reading = reading_within (Some c.args.limit) s (is_finished s (joined gs)) in
+    let reading = reading_within (Some c.args.limit) s (is_finished s (joined_bytes gs)) in
     keeps reading _ _ (c.in-Ok.ensures.given s gs each item)
     ∙ ap (λ l. map value_of l ++ brief reading) c.new.ensures.items
 

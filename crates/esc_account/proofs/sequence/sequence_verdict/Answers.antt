@@ -1,4 +1,4 @@
-use Rattle.esc_frame.specs.Segments.{joined}
+use Rattle.esc_frame.specs.Segments.{joined_bytes}
 use Rattle.esc_account.proofs.Ended.{first_shape}
 use Rattle.esc_account.proofs.Sequences.{rule_is, some_by}
 use Rattle.esc_account.proofs.sequence.sequence_verdict.Goals as goal
@@ -10,4 +10,4 @@ returns-in-Some g c = λ l u s gs each item.
     c.args.segment.kind c.args.segment.bytes.now c.args.segment.finished s gs
     c.as_slice.result.now _ _ each item.kind item.bytes item.finished c.in-Some.ensures.csi
     (c.is_short.ensures c.if-not-is_short.false)
-    (c.in-Some.ensures.told s (joined gs) (first_shape s gs each) item) c.as_slice.ensures)
+    (c.in-Some.ensures.told s (joined_bytes gs) (first_shape s gs each) item) c.as_slice.ensures)

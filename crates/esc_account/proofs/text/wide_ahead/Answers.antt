@@ -1,5 +1,5 @@
 use Rattle.std.proofs.Common.{◌≡◌, false, take, ◌∙◌, sym, arith}
-use Rattle.esc_visible.specs.Characters.{is_deceiving}
+use Rattle.unicode_visibility.specs.Characters.{is_deceiving}
 use Rattle.esc_account.specs.Rules.{rule_of}
 use Rattle.esc_account.proofs.Texts.{none_pass, wide_passes}
 use Rattle.esc_account.proofs.text.wide_ahead.Goals as goal

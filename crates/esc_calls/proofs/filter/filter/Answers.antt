@@ -3,7 +3,7 @@ use Rattle.esc_filter.specs.Passing.{IsFiltered}
 use Rattle.esc_filter.specs.Rules.{admits}
 use Rattle.esc_calls.proofs.Known.{if_known}
 use Rattle.esc_calls.proofs.filter.filter.Goals as goal
-use Rattle.esc_calls.specs.Filtered.{passed}
+use Rattle.esc_calls.specs.Filtered.{open_text}
 use Rattle.esc_calls.specs.Policies.{policy_numbered}
 
 pub returns-in-Some-clause-written : goal.returns-in-Some-clause-written
@@ -16,7 +16,7 @@ returns-in-Some-clause-written c = record {
       (sym it.1)
       (c.passed_reads_back.ensures.goes_on (Some limit) (admits c.in-Some.known) bs) in (
         it.0,
-        if_known (λ p. (it.0 ≡ passed limit p bs)
+        if_known (λ p. (it.0 ≡ open_text limit p bs)
             × IsFiltered {A = Global} false (Some limit) (admits p) bs it.0)
             (policy_numbered c.args.policy) c.in-Some.known
             (sym c.policy_of.ensures ∙ c.in-Some.is) (it.1, filtered),

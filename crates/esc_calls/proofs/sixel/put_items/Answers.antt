@@ -1,7 +1,7 @@
 use Rattle.std.proofs.Common.{◌<◌, ◌+◌, ◌≤◌, ◌++◌, ◌∙◌, ap, arith, drop, length, map, slice_set, take}
 use Rattle.std.proofs.lemmas.Grind.{common_steps}
 use Rattle.esc_calls.proofs.Rows.{row_put}
-use Rattle.esc_fields.specs.Sixels.{sixel_row}
+use Rattle.flat_values.specs.Sixels.{sixel_row}
 use Rattle.esc_calls.proofs.sixel.put_items.Goals as goal
 
 pub loop-at-preserved : goal.loop-at-preserved

@@ -1,5 +1,5 @@
 use Rattle.std.proofs.Common.{◌≡◌, ◌++◌, ◌≤◌, ◌-◌, drop, map, take}
-use Rattle.esc_fields.specs.Sixels.{sixel_row}
+use Rattle.flat_values.specs.Sixels.{sixel_row}
 use Rattle.esc_calls.proofs.sixel.put_items.Given as goal
 
 -- the rows so far, and after them what was there

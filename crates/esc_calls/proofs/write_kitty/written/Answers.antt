@@ -2,8 +2,8 @@ use Rattle.std.proofs.Common.{rules, ℕ, ◌≡◌, ◌++◌, true, Some, ap, d
 use Rattle.std.proofs.lemmas.Bool.{true≢false}
 use Rattle.std.specs.Global.{Global}
 use Rattle.std.specs.List.{list_all}
-use Rattle.esc_fields.specs.Fields.{Table}
-use Rattle.esc_fields.specs.HeldImages.{HasImage}
+use Rattle.flat_values.specs.Fields.{Table}
+use Rattle.flat_values.specs.HeldImages.{HasImage}
 use Rattle.esc_kitty.specs.Texts.{image_body}
 use Rattle.esc_kitty.specs.Writable.{IsWritableImage, is_kept}
 use Rattle.esc_kitty.specs.declared.image.KittyImage.{KittyImage}

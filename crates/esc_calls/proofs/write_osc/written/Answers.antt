@@ -5,8 +5,8 @@ use Rattle.esc_values.specs.Clear.{IsClearText}
 use Rattle.esc_osc.specs.Commands.{inner_text}
 use Rattle.esc_osc.specs.Writable.{IsWritable}
 use Rattle.esc_osc.specs.declared.command.OperatingSystemCommand.{OperatingSystemCommand}
-use Rattle.esc_fields.specs.Fields.{Table}
-use Rattle.esc_fields.specs.Held.{Has}
+use Rattle.flat_values.specs.Fields.{Table}
+use Rattle.flat_values.specs.Held.{Has}
 use Rattle.esc_calls.proofs.WrittenBack.{writable_back}
 use Rattle.esc_calls.specs.OscValues.{command_of}
 use Rattle.esc_calls.proofs.write_osc.written.Goals as goal

@@ -1,8 +1,8 @@
 use Rattle.std.proofs.Common.{rules, ℕ, ◌≡◌, ◌++◌, List, IfSome, ap, drop, sym, subst, ◌∙◌}
 use Rattle.std.proofs.lemmas.Bool.{true≢false}
-use Rattle.esc_fields.specs.Fields.{Table}
-use Rattle.esc_fields.specs.FoundNames.{HasNames}
-use Rattle.esc_tcap.specs.Names.{AreWritable, names_text, query_text}
+use Rattle.flat_values.specs.Fields.{Table}
+use Rattle.flat_values.specs.FoundNames.{HasNames}
+use Rattle.xtgettcap.specs.Names.{AreWritable, names_text, query_text}
 use Rattle.esc_calls.proofs.QueriesWritten.{none_asked, query_written}
 use Rattle.esc_calls.specs.QueryValues.{query_table}
 use Rattle.esc_calls.specs.Written.{string_end}

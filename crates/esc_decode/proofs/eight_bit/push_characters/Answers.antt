@@ -1,6 +1,6 @@
 use Rattle.std.proofs.Common.{◌-◌, ◌++◌, length, take, drop, sym, ap, ◌∙◌, arith, append_assoc}
-use Rattle.esc_frame.proofs.CsiRuns.{run_joins}
-use Rattle.esc_frame.proofs.ManyBytes.{tail_length}
+use Rattle.esc_frame.proofs.ByteRuns.CsiRuns.{run_joins}
+use Rattle.esc_frame.proofs.ByteRuns.ManyBytes.{tail_length}
 use Rattle.esc_decode.proofs.Reading.{read_append}
 use Rattle.esc_decode.specs.Pages.{read_in}
 use Rattle.esc_decode.proofs.eight_bit.push_characters.Goals as goal

@@ -1,6 +1,6 @@
 use Rattle.std.proofs.Common.{◌≡◌, ◌++◌, true, take, ap, subst, sym, ◌∙◌}
 use Rattle.std.specs.List.{list_all}
-use Rattle.esc_frame.proofs.ManyBytes.{run_passes}
+use Rattle.esc_frame.proofs.ByteRuns.ManyBytes.{run_passes}
 use Rattle.esc_frame.specs.Scans.{is_text_byte}
 use Rattle.esc_decode.proofs.Reading.{read_text}
 use Rattle.esc_decode.proofs.eight_bit.push_some.Goals as goal

@@ -1,7 +1,7 @@
 use Rattle.std.proofs.Common.{◌-◌, ◌++◌, List, ℕ, length, take, drop, sym, ap, ◌∙◌, arith}
 use Rattle.std.proofs.lemmas.Bool.{and_parts}
-use Rattle.esc_frame.proofs.CsiRuns.{run_joins}
-use Rattle.esc_frame.proofs.ManyBytes.{tail_length}
+use Rattle.esc_frame.proofs.ByteRuns.CsiRuns.{run_joins}
+use Rattle.esc_frame.proofs.ByteRuns.ManyBytes.{tail_length}
 use Rattle.esc_frame.specs.Machine.Prefixes.{prefix_of}
 use Rattle.esc_decode.proofs.Masks.{begun_append, masked_append}
 use Rattle.esc_decode.specs.Masks.{begun_after, masked_after}

@@ -1,10 +1,10 @@
 use Rattle.std.proofs.Common.{Some}
-use Rattle.esc_filter.proofs.Begun.{begun, filters, nothing}
-use Rattle.esc_filter.proofs.Closers.{closed_more}
+use Rattle.esc_filter.proofs.Output.NothingWasFed.{begun, filters, nothing}
+use Rattle.esc_filter.proofs.GivingBack.GivingBackIsWritable.{closed_more}
 use Rattle.esc_actions.specs.Texts.{list_text}
 use Rattle.esc_filter.specs.Closing.{closing}
-use Rattle.esc_filter.specs.Passing.{closed_text, passed, passed_text, IsFiltered}
-use Rattle.esc_filter.specs.Characters.{kept}
+use Rattle.esc_filter.specs.Passing.{closed_text, passed_values, passed_text, IsFiltered}
+use Rattle.esc_filter.specs.Characters.{keep_all}
 use Rattle.esc_filter.proofs.filtering.filter_stream.Goals as goal
 
 pub returns-clause-holds : goal.returns-clause-holds
@@ -13,13 +13,13 @@ returns-clause-holds g c =
     let limit = c.args.limit in
     let m = passed_text {A = g.row.A.Denot} (Some limit) admits in
     let e = closed_text {A = g.row.A.Denot} (Some limit) admits in
-    let new = begun g.P.Admit.admits kept limit c.args.policy c.new-filter.result
+    let new = begun g.P.Admit.admits keep_all limit c.args.policy c.new-filter.result
     c.new-filter.ensures.policy c.new-filter.ensures.fed in
     let f = filters e m (λ b. IsFiltered b (Some limit) admits)
     (c.passed_reads_back.ensures.ended (Some limit) admits)
     (c.passed_reads_back.ensures.goes_on (Some limit) admits) _ _ _
-    (c.filter_from.ensures.holds m e new (nothing kept limit admits)
-    (λ s. let vs = passed (Some limit) admits s in
+    (c.pump.ensures.holds m e new (nothing keep_all limit admits)
+    (λ s. let vs = passed_values (Some limit) admits s in
     (list_text (closing admits vs), closed_more admits vs))) in
     record {
       read_all = f.read_all;
@@ -36,9 +36,9 @@ pub returns-clause-refused : goal.returns-clause-refused
 returns-clause-refused g c =
     let admits = g.P.Admit.admits c.args.policy in
     let limit = c.args.limit in
-    let new = begun g.P.Admit.admits kept limit c.args.policy c.new-filter.result
+    let new = begun g.P.Admit.admits keep_all limit c.args.policy c.new-filter.result
     c.new-filter.ensures.policy c.new-filter.ensures.fed in
-    c.filter_from.ensures.refused (passed_text {A = g.row.A.Denot} (Some limit) admits)
-    (closed_text {A = g.row.A.Denot} (Some limit) admits) new (nothing kept limit admits)
-    (λ s. let vs = passed (Some limit) admits s in
+    c.pump.ensures.refused (passed_text {A = g.row.A.Denot} (Some limit) admits)
+    (closed_text {A = g.row.A.Denot} (Some limit) admits) new (nothing keep_all limit admits)
+    (λ s. let vs = passed_values (Some limit) admits s in
     (list_text (closing admits vs), closed_more admits vs))

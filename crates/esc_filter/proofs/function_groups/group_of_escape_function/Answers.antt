@@ -1,5 +1,5 @@
 use Rattle.std.proofs.Common.{◌∙◌}
-use Rattle.esc_filter.proofs.ByGroup.{escape_row_group}
+use Rattle.esc_filter.proofs.Admission.GroupsByKey.{escape_row_group}
 use Rattle.esc_filter.proofs.function_groups.group_of_escape_function.Goals as goal
 
 pub returns : goal.returns

@@ -1,4 +1,4 @@
-use Rattle.esc_filter.proofs.Parts.{one_more}
+use Rattle.esc_filter.proofs.Output.PartsAreAppended.{one_more}
 use Rattle.esc_filter.proofs.giving_back.push_all.Goals as goal
 
 pub loop-part-preserved : goal.loop-part-preserved

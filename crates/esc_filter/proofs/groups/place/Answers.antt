@@ -1,6 +1,6 @@
 use Rattle.std.proofs.Common.{refl}
 use Rattle.esc_filter.specs.Groups.{place}
-use Rattle.esc_filter.proofs.Choices.{below}
+use Rattle.esc_filter.proofs.Admission.ChoicesAdmit.{below}
 use Rattle.esc_filter.proofs.groups.place.Goals as goal
 
 pub returns-clause-place : goal.returns-clause-place

@@ -1,4 +1,4 @@
-use Rattle.esc_filter.proofs.OneLine.{ended_line, last_line_closed, last_line_open, lines_are}
+use Rattle.esc_filter.proofs.ByLine.LineHasOneFeed.{ended_line, last_line_closed, last_line_open, lines_are}
 use Rattle.esc_filter.proofs.laws.lines_written.Goals as goal
 
 pub returns-clause-ended : goal.returns-clause-ended

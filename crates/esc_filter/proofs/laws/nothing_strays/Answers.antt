@@ -1,4 +1,4 @@
-use Rattle.esc_filter.proofs.Strays.{nothing_strays}
+use Rattle.esc_filter.proofs.Output.NoStrayIsWritten.{nothing_strays}
 use Rattle.esc_filter.proofs.laws.nothing_strays.Goals as goal
 
 pub returns : goal.returns

@@ -1,5 +1,5 @@
 use Rattle.std.proofs.Common.{false, true}
-use Rattle.esc_filter.proofs.Rest.{rest_pieces}
+use Rattle.esc_filter.proofs.Output.NoUnitBeginsAnother.{rest_pieces}
 use Rattle.esc_filter.proofs.laws.rest_is_whole.Goals as goal
 
 pub returns-clause-plain : goal.returns-clause-plain

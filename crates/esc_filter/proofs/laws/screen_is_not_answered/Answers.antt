@@ -1,4 +1,4 @@
-use Rattle.esc_filter.proofs.Screens.{escape_unanswered, sequence_unanswered}
+use Rattle.esc_filter.proofs.GivingBack.ScreenFunctions.{escape_unanswered, sequence_unanswered}
 use Rattle.esc_filter.proofs.laws.screen_is_not_answered.Goals as goal
 
 pub returns-clause-sequences : goal.returns-clause-sequences

@@ -1,4 +1,4 @@
-use Rattle.esc_filter.proofs.Backs.{at_start}
+use Rattle.esc_filter.proofs.GivingBack.GivingBackRestores.{at_start}
 use Rattle.esc_filter.proofs.laws.terminal_as_at_the_start.Goals as goal
 
 pub returns : goal.returns

@@ -1,5 +1,5 @@
 use Rattle.std.proofs.Common.{true}
-use Rattle.esc_filter.proofs.AtMost.{closed_lines_pieces, closed_pieces, lines_pieces, passed_pieces}
+use Rattle.esc_filter.proofs.Admission.AtMostTextOrColor.{closed_lines_pieces, closed_pieces, lines_pieces, passed_pieces}
 use Rattle.esc_filter.proofs.laws.writes_color_text.Goals as goal
 
 pub returns-clause-goes_on : goal.returns-clause-goes_on

@@ -3,7 +3,7 @@ use Rattle.esc_actions.specs.Values.{control}
 use Rattle.esc_actions.specs.declared.control_code.ControlCode.TheVariants.{CarriageReturn, LineFeed}
 use lib.Utf8.{encode}
 use Rattle.esc_filter.specs.Passing.{in_lines}
-use Rattle.esc_filter.proofs.ReadLines.{filtered}
+use Rattle.esc_filter.proofs.ByLine.LinesReadBack.{filtered}
 use Rattle.esc_filter.proofs.laws.written_lines_read_back.Goals as goal
 
 pub returns : goal.returns

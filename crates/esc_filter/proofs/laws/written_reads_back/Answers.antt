@@ -1,5 +1,5 @@
 use Rattle.std.proofs.Common.{true, false}
-use Rattle.esc_filter.proofs.Writable.{is_filtered}
+use Rattle.esc_filter.proofs.Admission.PassedIsWritable.{is_filtered}
 use Rattle.esc_filter.proofs.laws.written_reads_back.Goals as goal
 
 pub returns-clause-goes_on : goal.returns-clause-goes_on

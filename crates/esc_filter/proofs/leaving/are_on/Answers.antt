@@ -1,5 +1,5 @@
 use Rattle.std.proofs.Common.{rules}
-use Rattle.esc_filter.proofs.Lights.{first_turns}
+use Rattle.esc_filter.proofs.GivingBack.RenditionsAfterSequence.{first_turns}
 use Rattle.esc_filter.proofs.leaving.are_on.Goals as goal
 
 pub returns-in-Some-first_number : goal.returns-in-Some-first_number

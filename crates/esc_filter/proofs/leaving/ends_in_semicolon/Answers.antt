@@ -1,5 +1,5 @@
 use Rattle.std.proofs.Common.{rules}
-use Rattle.esc_filter.proofs.Lights.{last_semicolon}
+use Rattle.esc_filter.proofs.GivingBack.RenditionsAfterSequence.{last_semicolon}
 use Rattle.esc_filter.proofs.leaving.ends_in_semicolon.Goals as goal
 
 pub returns-then-not-is_empty : goal.returns-then-not-is_empty

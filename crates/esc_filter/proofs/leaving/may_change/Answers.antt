@@ -1,5 +1,5 @@
 use Rattle.std.proofs.Common.{rules}
-use Rattle.esc_filter.proofs.Lights.{others_stay}
+use Rattle.esc_filter.proofs.GivingBack.RenditionsAfterSequence.{others_stay}
 use Rattle.esc_filter.proofs.leaving.may_change.Goals as goal
 
 pub returns-in_default : goal.returns-in_default

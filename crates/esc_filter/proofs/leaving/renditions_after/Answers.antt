@@ -1,6 +1,6 @@
 use Rattle.std.proofs.Common.{rules, refl, false}
 use Rattle.esc_sequences.specs.Csis.{unspecified}
-use Rattle.esc_filter.proofs.Lights.{nameless_any, other_pens}
+use Rattle.esc_filter.proofs.GivingBack.RenditionsAfterSequence.{nameless_any, other_pens}
 use Rattle.esc_filter.proofs.leaving.renditions_after.Goals as goal
 
 pub returns-then-control-ne109 : goal.returns-then-control-ne109

@@ -1,5 +1,5 @@
 use Rattle.std.proofs.Common.{arith}
-use Rattle.esc_filter.proofs.LineFeeds.{first_line, no_line}
+use Rattle.esc_filter.proofs.ByLine.FirstAndLastFeed.{first_line, no_line}
 use Rattle.esc_filter.proofs.line_filter.line_length.Goals as goal
 
 pub returns-in-Some : goal.returns-in-Some

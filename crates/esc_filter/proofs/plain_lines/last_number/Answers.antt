@@ -1,5 +1,5 @@
 use Rattle.std.proofs.Common.{rules}
-use Rattle.esc_filter.proofs.ShortRenditions.{one_digit, three_digits, two_digits}
+use Rattle.esc_filter.proofs.Renditions.ShortRenditionsMean.{one_digit, three_digits, two_digits}
 use Rattle.esc_filter.proofs.plain_lines.last_number.Goals as goal
 
 pub returns-then-bytes-eq109 : goal.returns-then-bytes-eq109

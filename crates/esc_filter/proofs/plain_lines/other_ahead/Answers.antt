@@ -1,5 +1,5 @@
 use Rattle.std.proofs.Common.{rules}
-use Rattle.esc_filter.proofs.WideBytes.{wide_one}
+use Rattle.esc_filter.proofs.ByLine.WideBytesAreKept.{wide_one}
 use Rattle.esc_filter.proofs.plain_lines.other_ahead.Goals as goal
 
 pub returns-then-not-is_deceiving-clause-character :

@@ -1,5 +1,5 @@
 use Rattle.std.proofs.Common.{◌+◌, ◌≡◌, rules, sym, subst, false, take}
-use Rattle.esc_filter.proofs.ReadPlain.{HasRead, read_feed, read_rendition, read_return, read_run, read_tab, read_wide}
+use Rattle.esc_filter.proofs.ByLine.PlainLinesReadBack.{HasRead, read_feed, read_rendition, read_return, read_run, read_tab, read_wide}
 use Rattle.esc_filter.proofs.plain_lines.plain_length.Goals as goal
 
 pub loop-at-preserved-in-10-1 : goal.loop-at-preserved-in-10-1

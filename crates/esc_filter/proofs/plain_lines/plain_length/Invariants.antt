@@ -1,6 +1,6 @@
 use Rattle.std.proofs.Common.{◌-◌, ◌≤◌, length, take}
 use Rattle.esc_filter.specs.Openings.{ArePlainLines}
-use Rattle.esc_filter.proofs.ReadPlain.{HasRead}
+use Rattle.esc_filter.proofs.ByLine.PlainLinesReadBack.{HasRead}
 use Rattle.esc_filter.proofs.plain_lines.plain_length.Given as goal
 
 abbrev pub invariant-loop-at : goal.invariant-loop-at

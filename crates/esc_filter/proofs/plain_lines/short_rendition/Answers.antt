@@ -1,5 +1,5 @@
 use Rattle.std.proofs.Common.{◌∷◌, [], codes, inl, inr, refl, rules, take}
-use Rattle.esc_filter.proofs.ShortRenditions.{after}
+use Rattle.esc_filter.proofs.Renditions.ShortRenditionsMean.{after}
 use Rattle.esc_filter.proofs.plain_lines.short_rendition.Goals as goal
 
 pub returns-in-Some : goal.returns-in-Some

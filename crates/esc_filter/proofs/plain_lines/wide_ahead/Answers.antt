@@ -1,6 +1,6 @@
 use Rattle.std.proofs.Common.{rules, arith, subst, sym}
 use Rattle.esc_filter.specs.Lines.{AreWide}
-use Rattle.esc_filter.proofs.WideBytes.{plain_three, plain_two, taken_three, taken_two}
+use Rattle.esc_filter.proofs.ByLine.WideBytesAreKept.{plain_three, plain_two, taken_three, taken_two}
 use Rattle.esc_filter.proofs.plain_lines.wide_ahead.Goals as goal
 
 pub returns-then-is_plain_two-clause-character : goal.returns-then-is_plain_two-clause-character

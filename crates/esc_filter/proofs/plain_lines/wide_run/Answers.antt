@@ -1,8 +1,8 @@
 use Rattle.std.proofs.Common.{◌-◌, arith, drop, length, subst, take}
-use Rattle.esc_frame.proofs.CsiRuns.{run_joins}
-use Rattle.esc_frame.proofs.ManyBytes.{tail_length}
+use Rattle.esc_frame.proofs.ByteRuns.CsiRuns.{run_joins}
+use Rattle.esc_frame.proofs.ByteRuns.ManyBytes.{tail_length}
 use Rattle.esc_filter.specs.Lines.{AreWide}
-use Rattle.esc_filter.proofs.WideBytes.{wide_more}
+use Rattle.esc_filter.proofs.ByLine.WideBytesAreKept.{wide_more}
 use Rattle.esc_filter.proofs.plain_lines.wide_run.Goals as goal
 
 pub loop-end-preserved : goal.loop-end-preserved

@@ -1,5 +1,5 @@
 use Rattle.std.proofs.lemmas.Str.{IsUtf8-from_ascii}
-use Rattle.esc_filter.proofs.Commands.{other_begins, plain_is_link}
+use Rattle.esc_filter.proofs.Admission.CommandsAreKnown.{other_begins, plain_is_link}
 use Rattle.esc_filter.proofs.policy.link_passes.Goals as goal
 
 pub returns-then-has_other_code : goal.returns-then-has_other_code

@@ -1,6 +1,6 @@
 use Rattle.std.proofs.Common.{◌∙◌, ap, sym}
 use Rattle.esc_filter.specs.Rules.{changes_with}
-use Rattle.esc_filter.proofs.Screens.{other_changes}
+use Rattle.esc_filter.proofs.GivingBack.ScreenFunctions.{other_changes}
 use Rattle.esc_filter.proofs.screen.changes_with.Goals as goal
 
 pub returns-in-SM : goal.returns-in-SM

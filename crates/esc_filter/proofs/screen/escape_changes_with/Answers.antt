@@ -1,6 +1,6 @@
 use Rattle.std.proofs.Common.{◌∙◌, ap, sym}
 use Rattle.esc_filter.specs.Rules.{escape_changes_with}
-use Rattle.esc_filter.proofs.Screens.{other_escape}
+use Rattle.esc_filter.proofs.GivingBack.ScreenFunctions.{other_escape}
 use Rattle.esc_filter.proofs.screen.escape_changes_with.Goals as goal
 
 pub returns-in-GZD4 : goal.returns-in-GZD4

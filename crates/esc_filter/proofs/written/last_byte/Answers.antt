@@ -1,5 +1,5 @@
 use Rattle.std.proofs.Common.{◌≡◌, ◌+◌, ◌-◌, length, arith, sym}
-use Rattle.esc_filter.proofs.Characters.{last_at}
+use Rattle.esc_filter.proofs.Output.DeceivingCharacters.{last_at}
 use Rattle.esc_filter.proofs.written.last_byte.Goals as goal
 
 pub returns-else-is_empty : goal.returns-else-is_empty

@@ -1,5 +1,5 @@
 use Rattle.std.proofs.Common.{None}
-use Rattle.esc_frame.proofs.Fitting.{events_fit}
+use Rattle.esc_frame.proofs.Emits.EventsFit.{events_fit}
 use Rattle.esc_frame.proofs.laws.events_fit.Goals as goal
 
 pub returns : goal.returns

@@ -1,4 +1,4 @@
-use Rattle.esc_frame.proofs.Fitting.{events_fit}
+use Rattle.esc_frame.proofs.Emits.EventsFit.{events_fit}
 use Rattle.esc_frame.proofs.laws.events_fit_within.Goals as goal
 
 pub returns : goal.returns

@@ -1,4 +1,4 @@
-use Rattle.esc_frame.proofs.Cuts.{events_of_the_cut}
+use Rattle.esc_frame.proofs.Cut.CutExists.{events_of_the_cut}
 use Rattle.esc_frame.proofs.laws.events_of_the_cut_within.Goals as goal
 
 pub returns : goal.returns

@@ -1,5 +1,5 @@
 use Rattle.std.proofs.Common.{None}
-use Rattle.esc_frame.proofs.OneCut.{events_once}
+use Rattle.esc_frame.proofs.Cut.CutIsUnique.{events_once}
 use Rattle.esc_frame.proofs.laws.events_once.Goals as goal
 
 pub returns : goal.returns

@@ -1,4 +1,4 @@
-use Rattle.esc_frame.proofs.OneCut.{events_once}
+use Rattle.esc_frame.proofs.Cut.CutIsUnique.{events_once}
 use Rattle.esc_frame.proofs.laws.events_once_within.Goals as goal
 
 pub returns : goal.returns

@@ -1,5 +1,5 @@
 use Rattle.std.proofs.Common.{None}
-use Rattle.esc_frame.proofs.AtGround.{ground_added}
+use Rattle.esc_frame.proofs.Cut.CutAtGround.{ground_added}
 use Rattle.esc_frame.proofs.laws.ground_added.Goals as goal
 
 pub returns : goal.returns

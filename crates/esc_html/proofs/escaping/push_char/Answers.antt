@@ -3,7 +3,7 @@ use Rattle.std.specs.Char.{encode_utf8}
 use Rattle.std.specs.List.{flat_map}
 use Rattle.esc_html.proofs.Encoded.{referenced, unreferenced}
 use Rattle.esc_html.proofs.EscapedRuns.{grown_ok}
-use Rattle.esc_html.specs.Pieces.{escape_text}
+use Rattle.esc_html.specs.PageParts.{escape_text}
 use Rattle.esc_html.proofs.escaping.push_char.Goals as goal
 
 pub returns-then-needs_reference-clause-ok : goal.returns-then-needs_reference-clause-ok

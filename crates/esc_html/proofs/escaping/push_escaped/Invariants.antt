@@ -3,7 +3,7 @@ use denote.Text.{Utf8}
 use denote.Shadow.{shadow}
 use Rattle.std.specs.List.{flat_map}
 use Rattle.esc_html.specs.Growing.{Grows}
-use Rattle.esc_html.specs.Pieces.{escape}
+use Rattle.esc_html.specs.PageParts.{escape}
 use Rattle.esc_html.proofs.escaping.push_escaped.Given as goal
 
 abbrev pub invariant-loop-at : goal.invariant-loop-at

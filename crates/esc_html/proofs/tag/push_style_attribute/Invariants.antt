@@ -1,7 +1,7 @@
 use Rattle.std.proofs.Common.{◌≡◌, ◌++◌, string_bytes, take}
 use Rattle.esc_html.specs.Attributes.{begun_styles, is_empty}
 use Rattle.esc_html.specs.Growing.{Grows}
-use Rattle.esc_looks.specs.Looks.{present}
+use Rattle.esc_style.specs.Looks.{present}
 use Rattle.esc_html.proofs.tag.push_style_attribute.Given as goal
 
 abbrev pub invariant-loop-style : goal.invariant-loop-style

@@ -1,6 +1,6 @@
 use Rattle.std.proofs.Common.{◌∷◌, map}
 use Rattle.esc_iterm.specs.Keys.{values}
-use Rattle.esc_iterm.proofs.ReadPieces.{file_read, nothing_read}
+use Rattle.esc_iterm.proofs.ReadSlices.{file_read, nothing_read}
 use Rattle.esc_iterm.proofs.read_file.read_from.Goals as goal
 
 pub returns-in-Some-clause-ok : goal.returns-in-Some-clause-ok

@@ -85,7 +85,7 @@ returns g c = record {
 
 pub loop-preserved : goal.loop-preserved
 loop-preserved g c =
-    let piece = take c.in-Ok.n c.read.new.buf in
+    let input_chunk = take c.in-Ok.n c.read.new.buf in
     let pass = c.in-Ok-pass_on.ensures in
     let some : 0 < c.in-Ok.n = omega arith in
     record {
@@ -95,8 +95,8 @@ loop-preserved g c =
       read = λ m e fresh none.
           let r = c.loop.invariant.read m e fresh none in
           let f = pass.given m e r.0 r.2 in (
-            r.0 ++ piece,
-            Consumes-trans _ _ _ r.0 piece r.1 c.in-Ok.ensures.bytes.0,
+            r.0 ++ input_chunk,
+            Consumes-trans _ _ _ r.0 input_chunk r.1 c.in-Ok.ensures.bytes.0,
             f.0,
             written_more _ _ _ _ f.1.0 _ r.3 f.1.2 f.1.1,
             one_more c.loop.counter c.in-Ok.n r.0 c.read.new.buf r.4 some c.in-Ok.ensures.bound.1,
@@ -106,20 +106,20 @@ loop-preserved g c =
 pub returns-in-Err-pass_on : goal.returns-in-Err-pass_on
 returns-in-Err-pass_on g c =
     let pass = c.in-Err-pass_on.ensures in
-    let piece = take c.in-Ok.n c.read.new.buf in record {
+    let input_chunk = take c.in-Ok.n c.read.new.buf in record {
       read_all = tt;
       fed = λ m e fresh none more. tt;
       decided = λ m e fresh none more k. absurd (pass.no_read k);
       endless = λ m e fresh none more k. absurd (pass.no_end k);
       until_refused = λ m e fresh none more memory.
           let r = c.loop.invariant.read m e fresh none in
-          let within : length piece ≤ length c.args.chunk.now =
+          let within : length input_chunk ≤ length c.args.chunk.now =
           omega (arith, c.in-Ok.ensures.bound.0, c.in-Ok.ensures.bound.1) in (
             r.0,
-            piece,
+            input_chunk,
             m r.0,
             within,
-            Consumes-trans _ _ _ r.0 piece r.1 c.in-Ok.ensures.bytes.0,
+            Consumes-trans _ _ _ r.0 input_chunk r.1 c.in-Ok.ensures.bytes.0,
             subst (λ w. Appends (g.W.Write.contents c.args.writer.now.inner)
                 (g.W.Write.contents w.inner) (m r.0)) (sym (pass.unwritten memory)) r.3,
             refl,
@@ -127,9 +127,10 @@ returns-in-Err-pass_on g c =
       beginning = λ m e fresh none more.
           let r = c.loop.invariant.read m e fresh none in
           let f = pass.beginning m e r.0 r.2 in (
-            r.0 ++ piece,
-            Consumes-trans _ _ _ r.0 piece r.1 c.in-Ok.ensures.bytes.0,
-            prefix_longer _ _ _ _ (more (r.0 ++ piece)) (prefix_after _ _ _ _ f.0 _ r.3 f.2 f.1),
+            r.0 ++ input_chunk,
+            Consumes-trans _ _ _ r.0 input_chunk r.1 c.in-Ok.ensures.bytes.0,
+            prefix_longer _ _ _ _ (more (r.0 ++ input_chunk))
+                (prefix_after _ _ _ _ f.0 _ r.3 f.2 f.1),
           );
       read_fault = λ h. not_failed _ fault.Read _ pass.no_read
           (stays_sound _ _ _ _ c.read.ensures.emitted c.in-Ok.is (c.loop.invariant.reader h));

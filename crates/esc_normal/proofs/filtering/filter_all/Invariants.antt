@@ -6,10 +6,10 @@ abbrev pub invariant-loop : goal.invariant-loop
 invariant-loop g l = record {
   reader : l.fn.reader.failed ≡ false → l.reader.failed ≡ false;
   writer : l.fn.writer.failed ≡ false → l.writer.failed ≡ false;
-  read : (m c : List ℕ → List ℕ) → g.F.Feeding.gives l.fn.filter m c [] → m [] ≡ []
+  read : (m c : List ℕ → List ℕ) → g.F.StreamFilter.gives l.fn.filter m c [] → m [] ≡ []
       → (s : List ℕ) × Consumes (g.R.Read.remaining l.fn.reader.inner)
       (g.R.Read.remaining l.reader.inner) s
-      × g.F.Feeding.gives l.filter m c s
+      × g.F.StreamFilter.gives l.filter m c s
       × Appends (g.W.Write.contents l.fn.writer.inner) (g.W.Write.contents l.writer.inner) (m s)
       × (l.counter ≤ length s);
 }

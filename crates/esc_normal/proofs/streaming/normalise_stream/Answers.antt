@@ -10,7 +10,7 @@ pub returns-clause-holds : goal.returns-clause-holds
 returns-clause-holds g c =
     let limit = c.args.limit in
     let m = normal_form g.row.A.Denot limit in
-    let f = c.filter_from.ensures.holds m m (limit, c.new-normaliser.ensures.fed, refl, refl)
+    let f = c.pump.ensures.holds m m (limit, c.new-normaliser.ensures.fed, refl, refl)
     (ap list_text (meaning_nil limit)) (λ s. ([], sym (append-nil (m s)))) in
     record {
       read_all = f.read_all;
@@ -26,17 +26,17 @@ returns-clause-holds g c =
 pub returns-clause-written : goal.returns-clause-written
 returns-clause-written g c =
     let f = returns-clause-holds g c in
-    written_all g.row.A.Denot c.args.limit _ _ _ _ c.filter_from.result f.read_all f.written
+    written_all g.row.A.Denot c.args.limit _ _ _ _ c.pump.result f.read_all f.written
 
 pub returns-clause-beginning : goal.returns-clause-beginning
 returns-clause-beginning g c =
     let f = returns-clause-holds g c in
-    on_err_weaker c.filter_from.result
+    on_err_weaker c.pump.result
     (λ h. prefix_of_had g.row.A.Denot c.args.limit _ _ _ _ h.0 h.1 h.2) f.beginning
 
 pub returns-clause-refused : goal.returns-clause-refused
 returns-clause-refused g c =
     let limit = c.args.limit in
     let m = normal_form g.row.A.Denot limit in
-    c.filter_from.ensures.refused m m (limit, c.new-normaliser.ensures.fed, refl, refl)
+    c.pump.ensures.refused m m (limit, c.new-normaliser.ensures.fed, refl, refl)
     (ap list_text (meaning_nil limit)) (λ s. ([], sym (append-nil (m s))))

@@ -5,13 +5,13 @@ use Rattle.std.specs.Vec.Iter.{into_iter_items}
 use Rattle.esc_sequences.specs.Csis.{csi_value}
 use Rattle.esc_parse.proofs.Lists.{folds_more, match_err, nothing_left, stops_more}
 use Rattle.std.proofs.Math.Logic.{⊎_map}
-use Rattle.esc_frame.proofs.May.{get_first, get_rest}
+use Rattle.esc_frame.proofs.Emits.MayAfterSome.{get_first, get_rest}
 use Rattle.std.proofs.lemmas.List.{map-append}
 use Rattle.esc_parse.proofs.performer.give_all.Goals as goal
 use Rattle.esc_parse.specs.Given.{AnyAt, At, StopsAt}
 use Rattle.esc_actions.specs.Values.{csi, value_of}
 use Rattle.esc_actions.specs.declared.action.Action.TheVariants as action
-use Rattle.memory.specs.Refusals.{Refused}
+use Rattle.fallible_alloc.specs.Refusals.{Refused}
 
 pub loop-value-init : goal.loop-value-init
 loop-value-init g c =

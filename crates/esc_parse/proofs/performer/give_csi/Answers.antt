@@ -3,7 +3,7 @@ use Rattle.std.proofs.Math.Logic.{⊎_map}
 use Rattle.esc_parse.proofs.performer.give_csi.Goals as goal
 use Rattle.esc_actions.specs.Values.{csi, value_of}
 use Rattle.esc_parse.specs.Given.{At}
-use Rattle.memory.specs.Refusals.{Refused}
+use Rattle.fallible_alloc.specs.Refusals.{Refused}
 
 pub returns-in-Ok-true-clause-given : goal.returns-in-Ok-true-clause-given
 returns-in-Ok-true-clause-given g c =

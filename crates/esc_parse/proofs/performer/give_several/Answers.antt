@@ -4,7 +4,7 @@ use Rattle.esc_parse.proofs.Lists.{StopsAt-here}
 use Rattle.esc_parse.proofs.performer.give_several.Goals as goal
 use Rattle.esc_parse.specs.Given.{At}
 use Rattle.esc_actions.specs.Values.{csi, value_of}
-use Rattle.memory.specs.Refusals.{Refused}
+use Rattle.fallible_alloc.specs.Refusals.{Refused}
 
 pub returns-in-Err-clause-given : goal.returns-in-Err-clause-given
 returns-in-Err-clause-given g c =

@@ -7,7 +7,7 @@ use Rattle.esc_parse.specs.Given.{At, MayReceive, StopsAt}
 use Rattle.std.proofs.Math.Logic.{⊎_map}
 use Rattle.std.proofs.Common.{sym}
 use Rattle.esc_parse.proofs.performer.give_text.Goals as goal
-use Rattle.memory.specs.Refusals.{Refused}
+use Rattle.fallible_alloc.specs.Refusals.{Refused}
 
 pub returns-in-Ok-false-clause-given : goal.returns-in-Ok-false-clause-given
 returns-in-Ok-false-clause-given g c =

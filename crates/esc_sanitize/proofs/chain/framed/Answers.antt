@@ -1,4 +1,4 @@
-use Rattle.esc_filter.proofs.Begun.{begun, nothing}
+use Rattle.esc_filter.proofs.Output.NothingWasFed.{begun, nothing}
 use Rattle.esc_sanitize.proofs.Beginning.{begins_framed, begins_whole}
 use Rattle.esc_sanitize.proofs.Texts.{whole_adds}
 use Rattle.esc_sanitize.proofs.chain.framed.Goals as goal

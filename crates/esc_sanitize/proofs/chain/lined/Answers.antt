@@ -1,5 +1,5 @@
 use Rattle.std.proofs.Common.{false, refl, true}
-use Rattle.esc_filter.proofs.Begun.{begun_lines, begun_resuming}
+use Rattle.esc_filter.proofs.Output.NothingWasFed.{begun_lines, begun_resuming}
 use Rattle.esc_sanitize.proofs.Beginning.{begins_lined}
 use Rattle.esc_sanitize.proofs.Texts.{lines_add, resumed_add}
 use Rattle.esc_sanitize.proofs.chain.lined.Goals as goal

@@ -1,6 +1,6 @@
 use Rattle.std.proofs.Common.{rules, ◌≡◌, ◌++◌, ap, append_assoc, subst, sym, ◌∙◌}
-use Rattle.esc_lines.specs.Fed.{TakesIn, added_by}
-use Rattle.esc_lines.specs.Streams.{final_of, open_of, values_of}
+use Rattle.line_collapse.specs.Fed.{TakesIn, added_by}
+use Rattle.line_collapse.specs.Streams.{final_of, open_of, values_of}
 use Rattle.esc_sanitize.proofs.left.last_text.Goals as goal
 
 pub returns-clause-ended : goal.returns-clause-ended

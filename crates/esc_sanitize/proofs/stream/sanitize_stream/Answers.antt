@@ -31,7 +31,7 @@ returns-clause-holds g c =
         read_fault = f.read_fault;
         write_fault = f.write_fault;
       },
-      c.writes_pieces.ensures o,
+      c.writes_chunks.ensures o,
     )
 
 pub returns-clause-account : goal.returns-clause-account

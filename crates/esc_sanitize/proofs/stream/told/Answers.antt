@@ -10,7 +10,7 @@ returns-clause-holds g c =
     let V = g.P.Admit in
     let n = g.N.Known in
     let o = options_of c.args.staged in
-    let is = subst (λ k. IsRun g.F.Feeding V g.B.Book n.encoding n.way n.text k (going_of V o)
+    let is = subst (λ k. IsRun g.F.StreamFilter V g.B.Book n.encoding n.way n.text k (going_of V o)
     (text_of V o) []) (sym c.new-filter.ensures) (record {
       runs = c.requires.0;
       goes_on = λ x. refl;
@@ -19,9 +19,11 @@ returns-clause-holds g c =
       way = c.requires.2;
       passed = c.requires.3;
     }) in
-    let f = c.filter_from-outcome.ensures.holds (going_of V o) (text_of V o) is
-    (run_none g.F.Feeding V g.B.Book n.encoding n.way n.text (going_of V o) (text_of V o) _ [] is)
-    (run_closed g.F.Feeding V g.B.Book n.encoding n.way n.text (going_of V o) (text_of V o) _ []
+    let f = c.pump-outcome.ensures.holds (going_of V o) (text_of V o) is
+    (run_none g.F.StreamFilter V g.B.Book n.encoding n.way n.text (going_of V o) (text_of V o) _ []
+    is)
+    (run_closed g.F.StreamFilter V g.B.Book n.encoding n.way n.text (going_of V o) (text_of V o) _
+    []
     is) in
     record {
       read_all = f.read_all;
@@ -39,7 +41,7 @@ returns-clause-refused g c =
     let V = g.P.Admit in
     let n = g.N.Known in
     let o = options_of c.args.staged in
-    let is = subst (λ k. IsRun g.F.Feeding V g.B.Book n.encoding n.way n.text k (going_of V o)
+    let is = subst (λ k. IsRun g.F.StreamFilter V g.B.Book n.encoding n.way n.text k (going_of V o)
     (text_of V o) []) (sym c.new-filter.ensures) (record {
       runs = c.requires.0;
       goes_on = λ x. refl;
@@ -48,9 +50,11 @@ returns-clause-refused g c =
       way = c.requires.2;
       passed = c.requires.3;
     }) in
-    c.filter_from-outcome.ensures.refused (going_of V o) (text_of V o) is
-    (run_none g.F.Feeding V g.B.Book n.encoding n.way n.text (going_of V o) (text_of V o) _ [] is)
-    (run_closed g.F.Feeding V g.B.Book n.encoding n.way n.text (going_of V o) (text_of V o) _ []
+    c.pump-outcome.ensures.refused (going_of V o) (text_of V o) is
+    (run_none g.F.StreamFilter V g.B.Book n.encoding n.way n.text (going_of V o) (text_of V o) _ []
+    is)
+    (run_closed g.F.StreamFilter V g.B.Book n.encoding n.way n.text (going_of V o) (text_of V o) _
+    []
     is)
 
 pub returns-clause-heard : goal.returns-clause-heard
@@ -58,7 +62,7 @@ returns-clause-heard g c =
     let V = g.P.Admit in
     let n = g.N.Known in
     let o = options_of c.args.staged in
-    let is = subst (λ k. IsRun g.F.Feeding V g.B.Book n.encoding n.way n.text k (going_of V o)
+    let is = subst (λ k. IsRun g.F.StreamFilter V g.B.Book n.encoding n.way n.text k (going_of V o)
     (text_of V o) []) (sym c.new-filter.ensures) (record {
       runs = c.requires.0;
       goes_on = λ x. refl;
@@ -67,14 +71,16 @@ returns-clause-heard g c =
       way = c.requires.2;
       passed = c.requires.3;
     }) in
-    on_ok_more _ _ c.filter_from-outcome.result
+    on_ok_more _ _ c.pump-outcome.result
     (λ h. (
       h.0,
       subst (λ a. HasListened V g.B.Book n.encoding n.way n.text a h.0)
           (sym c.into_auditor.ensures) h.1,
       h.2,
     ))
-    (c.filter_from-outcome.ensures.ended (going_of V o) (text_of V o) is
-    (run_none g.F.Feeding V g.B.Book n.encoding n.way n.text (going_of V o) (text_of V o) _ [] is)
-    (run_closed g.F.Feeding V g.B.Book n.encoding n.way n.text (going_of V o) (text_of V o) _ []
+    (c.pump-outcome.ensures.ended (going_of V o) (text_of V o) is
+    (run_none g.F.StreamFilter V g.B.Book n.encoding n.way n.text (going_of V o) (text_of V o) _ []
+    is)
+    (run_closed g.F.StreamFilter V g.B.Book n.encoding n.way n.text (going_of V o) (text_of V o) _
+    []
     is))

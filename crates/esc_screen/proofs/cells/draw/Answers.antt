@@ -1,5 +1,5 @@
 use Rattle.std.proofs.Common.{◌<◌, length, get_or, set, ap, ◌∙◌, rules}
-use Rattle.esc_screen.specs.Cells.{drawn}
+use Rattle.esc_screen.specs.Cells.{drawn_cell}
 use Rattle.esc_screen.proofs.Free.{draw_more}
 use Rattle.esc_screen.proofs.cells.draw.Goals as goal
 
@@ -10,5 +10,5 @@ loop-i-preserved c =
     let l = c.args.look in
     let less : i < length t = search rules in
     ap (set c.loop-i.cells i) c.narrow.ensures
-    ∙ ap (λ z. set z i (drawn l (get_or t i 0))) c.loop-i.invariant
+    ∙ ap (λ z. set z i (drawn_cell l (get_or t i 0))) c.loop-i.invariant
     ∙ draw_more l i t c.args.cells.now 0 less c.requires

@@ -1,5 +1,5 @@
 use Rattle.std.proofs.Common.{map, take, drop, ◌++◌, ◌-◌, ◌<◌, ◌≤◌, length, get_or, set, ap, sym, ◌∙◌, arith, rules}
-use Rattle.esc_screen.specs.Cells.{filled}
+use Rattle.esc_screen.specs.Cells.{filled_cells}
 use Rattle.esc_screen.proofs.Middles.{change_more}
 use Rattle.esc_screen.proofs.rows.fill.Goals as goal
 
@@ -7,7 +7,7 @@ pub loop-i-preserved : goal.loop-i-preserved
 loop-i-preserved g c =
     let i = c.loop-i.i in
     let xs = c.args.rows.now in
-    let f = filled c.args.cell in
+    let f = filled_cells c.args.cell in
     let less : i < length xs = search rules in
     let from : 0 ≤ i = omega arith in
     let x = c.index-rows-i.result in

@@ -1,5 +1,5 @@
 use Rattle.std.proofs.Common.{map, take, drop, ◌++◌, ◌-◌, ◌<◌, ◌≤◌, length, get_or, set, ap, sym, ◌∙◌, arith, rules}
-use Rattle.esc_screen.specs.Cells.{shifted}
+use Rattle.esc_screen.specs.Cells.{shifted_cells}
 use Rattle.esc_screen.proofs.Middles.{change_more}
 use Rattle.esc_screen.proofs.rows.shift.Goals as goal
 
@@ -8,7 +8,7 @@ loop-i-preserved g c =
     let i = c.loop-i.i in
     let xs = c.args.rows.now in
     let s = c.args.shift in
-    let f = shifted s.more s.look s.count s.column s.end in
+    let f = shifted_cells s.more s.look s.count s.column s.end in
     let less : i < length xs = search rules in
     let from : 0 ≤ i = omega arith in
     let x = c.index-rows-i.result in

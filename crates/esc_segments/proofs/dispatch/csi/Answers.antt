@@ -1,12 +1,12 @@
 use Rattle.std.proofs.Common.{[], ◌∷◌, ◌++◌, ap, ◌∙◌, subst, append_assoc}
 use Rattle.esc_frame.specs.declared.classes.Kind.TheVariants as kind
-use Rattle.esc_frame.specs.Classes.{strip}
+use Rattle.esc_frame.specs.Classes.{without_noise}
 use Rattle.esc_frame.specs.Events.{StopsAt}
 use Rattle.esc_frame.specs.Segments.{csi_events, executes, opener, opener_events}
-use Rattle.esc_frame.proofs.Given.{stops_more}
+use Rattle.esc_frame.proofs.Emits.EventsFold.{stops_more}
 use Rattle.esc_segments.proofs.Dispatching.{before_last, csi_emitted, last_is}
 use Rattle.esc_segments.proofs.Executes.{executes_whole_csi}
-use Rattle.esc_frame.proofs.Failed.{error_of}
+use Rattle.esc_frame.proofs.Steps.FailureIsHandedOn.{error_of}
 use Rattle.esc_segments.proofs.dispatch.csi.Goals as goal
 
 pub returns-clause-emitted : goal.returns-clause-emitted
@@ -24,7 +24,7 @@ pub returns-in_err-execute_in-clause-emitted : goal.returns-in_err-execute_in-cl
 returns-in_err-execute_in-clause-emitted g c = λ finished o x f after h e i.
     rw (error_of c.from_residual.result c.from_residual.ensures.0).1
     (stops_more ⊥ g.V.VTActor.takes g.V.VTActor.refuses (opener_events o ++ executes x)
-    (csi_events (strip x) f) c.args.actor.now
+    (csi_events (without_noise x) f) c.args.actor.now
     c.execute_in.new.actor
     (subst (λ es. StopsAt ⊥ g.V.VTActor.takes g.V.VTActor.refuses c.args.actor.now es
     c.execute_in.new.actor)

@@ -1,6 +1,6 @@
 use Rattle.std.proofs.Common.{◌∙◌, sym, subst, map, take, ◌+◌, arith}
 use Rattle.std.specs.List.{FoldsTo}
-use Rattle.esc_frame.specs.Classes.{class_of, is_c0, those}
+use Rattle.esc_frame.specs.Classes.{class_of, is_c0, bytes_of_class}
 use Rattle.esc_frame.specs.Events.Event.{Execute}
 use Rattle.esc_segments.proofs.Emitted.{emitted_next, emitted_same, emitted_stop}
 use Rattle.esc_segments.proofs.dispatch.execute_in.Goals as goal
@@ -20,7 +20,7 @@ loop-b-preserved g c =
     elim c.if-is_c0.branch [
       | then-is_c0+in-Ok w ↦ subst (λ a. g.V.VTActor.is_ready a
           × FoldsTo g.V.VTActor.takes c.args.actor.now
-          (map Execute (those is_c0 (take (i + 1) bytes))) a)
+          (map Execute (bytes_of_class is_c0 (take (i + 1) bytes))) a)
           (sym w.actor-is) (
             w.in-Ok.ensures.ready c.loop-b.invariant.0,
             emitted_next g.V.VTActor.takes g.V.VTActor.refuses Execute (λ b. is_c0 (class_of b))
@@ -30,7 +30,7 @@ loop-b-preserved g c =
           )
       | else-is_c0 w ↦ subst (λ a. g.V.VTActor.is_ready a
           × FoldsTo g.V.VTActor.takes c.args.actor.now
-          (map Execute (those is_c0 (take (i + 1) bytes))) a)
+          (map Execute (bytes_of_class is_c0 (take (i + 1) bytes))) a)
           (sym w.actor-is) (
             c.loop-b.invariant.0,
             emitted_same g.V.VTActor.takes g.V.VTActor.refuses Execute (λ b. is_c0 (class_of b))

@@ -1,7 +1,7 @@
 use Rattle.std.proofs.Common.{take}
-use Rattle.esc_frame.specs.Classes.{strip}
+use Rattle.esc_frame.specs.Classes.{without_noise}
 use Rattle.esc_frame.specs.Machine.Keeps.{Keeps}
 use Rattle.esc_segments.proofs.dispatch.intermediates_of.Given as goal
 
 abbrev pub invariant-loop-b : goal.invariant-loop-b
-invariant-loop-b l = Keeps l.kept (strip (take l.b-index l.x))
+invariant-loop-b l = Keeps l.kept (without_noise (take l.b-index l.x))

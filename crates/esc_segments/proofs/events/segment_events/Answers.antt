@@ -4,8 +4,8 @@ use Rattle.esc_frame.specs.Events.Event.{Print}
 use Rattle.esc_frame.specs.Segments.{Segment, executes}
 use Rattle.esc_frame.specs.Segments.Segment.{Apc, Broken, Character, Control, Csi, CutCsi, CutDcs, CutEscape, Dcs, Escape, HighControl, Ignored, Osc, Stray, Wide}
 use Rattle.esc_frame.specs.Sequences.{is_sequence, number_of}
-use Rattle.esc_frame.proofs.Given.{receives_takes}
-use Rattle.memory.specs.Refusals.{Refused}
+use Rattle.esc_frame.proofs.Emits.EventsFold.{receives_takes}
+use Rattle.fallible_alloc.specs.Refusals.{Refused}
 use Rattle.esc_segments.proofs.ByKind.{IsGiven, plainly, with_memory}
 use Rattle.esc_segments.proofs.Executes.{executes_opener}
 use Rattle.esc_segments.proofs.KindCases.{apcs, brokens, characters, controls, csis, cut_shorts, dcss, escapes, ignoreds, oscs, strays}

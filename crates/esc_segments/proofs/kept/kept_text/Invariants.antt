@@ -1,13 +1,13 @@
 use Rattle.std.proofs.Common.{◌-◌, ◌≡◌, ◌≤◌, ◌++◌, ℕ, List, true, length, drop}
-use Rattle.esc_frame.specs.Segments.{ArePieces, Ending, Piece, ending_bytes, text_bytes, text_of}
+use Rattle.esc_frame.specs.Segments.{AreOscUnits, Ending, OscUnit, ending_bytes, text_bytes, text_of}
 use Rattle.esc_segments.specs.Parts.{IsLeft, is_over}
 use Rattle.esc_segments.proofs.kept.kept_text.Given as goal
 
 abbrev pub invariant-loop-end : goal.invariant-loop-end
 invariant-loop-end g l =
-    (l.end ≤ length l.text) × ((ps : List Piece) (e : Ending) (after : List ℕ)
+    (l.end ≤ length l.text) × ((ps : List OscUnit) (e : Ending) (after : List ℕ)
     → l.text ≡ text_bytes ps ++ ending_bytes e
-    → ArePieces ps (ending_bytes e ++ after)
+    → AreOscUnits ps (ending_bytes e ++ after)
     → is_over e ≡ true → IsLeft l.kept.items (drop l.end l.text) after (text_of ps))
 
 abbrev pub decreases-loop-end : goal.decreases-loop-end

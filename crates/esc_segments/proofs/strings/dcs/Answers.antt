@@ -1,13 +1,13 @@
 use Rattle.std.proofs.Common.{[], ◌∷◌, ◌++◌, if◌then◌else◌, ◌∙◌, append_assoc, arith}
 use Rattle.esc_frame.specs.declared.classes.Kind.TheVariants as kind
 use Rattle.esc_frame.specs.Bodies.{is_dcs_header}
-use Rattle.esc_frame.specs.Classes.{strip}
+use Rattle.esc_frame.specs.Classes.{without_noise}
 use Rattle.esc_frame.specs.Events.{Takes}
 use Rattle.esc_frame.specs.Events.Event.{DcsUnhook}
 use Rattle.esc_frame.specs.Segments.{hook_event, opener, puts}
-use Rattle.memory.specs.Refusals.{Refused}
+use Rattle.fallible_alloc.specs.Refusals.{Refused}
 use Rattle.esc_segments.proofs.Dispatching.{header_is, header_moves, string_stops, string_emitted}
-use Rattle.esc_frame.proofs.Failed.{error_of}
+use Rattle.esc_frame.proofs.Steps.FailureIsHandedOn.{error_of}
 use Rattle.esc_segments.proofs.strings.dcs.Goals as goal
 
 pub returns-then-run-body-clause-emitted : goal.returns-then-run-body-clause-emitted
@@ -32,7 +32,7 @@ returns-clause-emitted g c = λ o x f d after h w i.
     (header_moves c.split_opener.result.1.now x d f c.header_run-run.result p
     (λ x f d. Takes (Refused g.row.A.Denot)
     g.V.VTActor.takes g.V.VTActor.refuses c.emit_dcs.result c.execute_in.new.actor
-    (if is_dcs_header (strip x) then (hook_event (strip x) f ∷ puts d)
+    (if is_dcs_header (without_noise x) then (hook_event (without_noise x) f ∷ puts d)
     ++ (if c.args.finished then DcsUnhook ∷ [] else []) else []) c.emit_dcs.new.actor)
     c.emit_dcs.ensures.emitted)
 

@@ -1,18 +1,18 @@
 use Rattle.std.proofs.Common.{◌≡◌, true, [], ◌∷◌, ◌++◌, if◌then◌else◌, sym, ◌∙◌, subst}
 use Rattle.esc_frame.specs.Bodies.{is_dcs_header}
-use Rattle.esc_frame.specs.Classes.{strip}
+use Rattle.esc_frame.specs.Classes.{without_noise}
 use Rattle.esc_frame.specs.Events.{StopsAt, Takes}
 use Rattle.esc_frame.specs.Events.Event.{DcsUnhook}
 use Rattle.esc_frame.specs.Segments.{hook_event, puts}
-use Rattle.esc_frame.proofs.Given.{stops_more}
-use Rattle.memory.specs.Refusals.{Refused}
+use Rattle.esc_frame.proofs.Emits.EventsFold.{stops_more}
+use Rattle.fallible_alloc.specs.Refusals.{Refused}
 use Rattle.esc_segments.proofs.Emitted.{takes_by, takes_then}
-use Rattle.esc_frame.proofs.Failed.{error_of}
+use Rattle.esc_frame.proofs.Steps.FailureIsHandedOn.{error_of}
 use Rattle.esc_segments.proofs.strings.emit_dcs.Goals as goal
 
 pub returns-clause-emitted : goal.returns-clause-emitted
 returns-clause-emitted g c =
-    let x = strip c.args.x.now in
+    let x = without_noise c.args.x.now in
     let formed : true ≡ is_dcs_header x =
     sym c.if-not-is_formed.false ∙ c.is_formed.ensures x c.header_of-header.ensures in
     subst (λ b. Takes (Refused g.row.A.Denot)
@@ -31,7 +31,7 @@ returns-clause-emitted g c =
 pub returns-in_err-hook-clause-emitted : goal.returns-in_err-hook-clause-emitted
 returns-in_err-hook-clause-emitted g c =
     rw (error_of c.from_residual.result c.from_residual.ensures.0).1
-    (let x = strip c.args.x.now in
+    (let x = without_noise c.args.x.now in
     let formed : true ≡ is_dcs_header x =
     sym c.if-not-is_formed.false ∙ c.is_formed.ensures x c.header_of-header.ensures in
     subst (λ b. StopsAt (Refused g.row.A.Denot)

@@ -1,7 +1,7 @@
 use Rattle.std.proofs.Common.{take}
-use Rattle.esc_frame.specs.Classes.{strip}
+use Rattle.esc_frame.specs.Classes.{without_noise}
 use Rattle.esc_frame.specs.Machine.Keeps.{KeepsDcs}
 use Rattle.esc_segments.proofs.strings.header_of.Given as goal
 
 abbrev pub invariant-loop-b : goal.invariant-loop-b
-invariant-loop-b l = KeepsDcs l.header (strip (take l.b-index l.x))
+invariant-loop-b l = KeepsDcs l.header (without_noise (take l.b-index l.x))

@@ -6,10 +6,10 @@ use Rattle.esc_frame.specs.declared.classes.Kind.TheVariants as kind
 use Rattle.esc_frame.specs.Events.{Takes}
 use Rattle.esc_frame.specs.Events.Event.{OscDispatch}
 use Rattle.esc_frame.specs.Segments.{ending_bytes, executes, opener, opener_events, text_bytes, text_of}
-use Rattle.memory.specs.Refusals.{Refused}
+use Rattle.fallible_alloc.specs.Refusals.{Refused}
 use Rattle.esc_segments.proofs.Dispatching.{over_is, string_halts, string_stops, string_emitted}
 use Rattle.esc_segments.proofs.Executes.{executes_opener}
-use Rattle.esc_frame.proofs.Failed.{error_of}
+use Rattle.esc_frame.proofs.Steps.FailureIsHandedOn.{error_of}
 use Rattle.esc_segments.proofs.strings.osc.Goals as goal
 
 pub returns-then-not-finished-clause-emitted : goal.returns-then-not-finished-clause-emitted

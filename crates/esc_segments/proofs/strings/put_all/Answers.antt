@@ -1,6 +1,6 @@
 use Rattle.std.proofs.Common.{◌∙◌, sym, subst, map, take, ◌+◌, arith}
 use Rattle.std.specs.List.{FoldsTo}
-use Rattle.esc_frame.specs.Classes.{class_of, is_put, those}
+use Rattle.esc_frame.specs.Classes.{class_of, is_put, bytes_of_class}
 use Rattle.esc_frame.specs.Events.Event.{DcsPut}
 use Rattle.esc_segments.proofs.Emitted.{emitted_next, emitted_same, emitted_stop}
 use Rattle.esc_segments.proofs.strings.put_all.Goals as goal
@@ -20,7 +20,7 @@ loop-b-preserved g c =
     elim c.if-is_put.branch [
       | then-is_put+in-Ok w ↦ subst (λ a. g.V.VTActor.is_ready a
           × FoldsTo g.V.VTActor.takes c.args.actor.now
-          (map DcsPut (those is_put (take (i + 1) content))) a)
+          (map DcsPut (bytes_of_class is_put (take (i + 1) content))) a)
           (sym w.actor-is) (
             w.in-Ok.ensures.ready c.loop-b.invariant.0,
             emitted_next g.V.VTActor.takes g.V.VTActor.refuses DcsPut (λ b.
@@ -30,7 +30,7 @@ loop-b-preserved g c =
           )
       | else-is_put w ↦ subst (λ a. g.V.VTActor.is_ready a
           × FoldsTo g.V.VTActor.takes c.args.actor.now
-          (map DcsPut (those is_put (take (i + 1) content))) a)
+          (map DcsPut (bytes_of_class is_put (take (i + 1) content))) a)
           (sym w.actor-is) (
             c.loop-b.invariant.0,
             emitted_same g.V.VTActor.takes g.V.VTActor.refuses DcsPut (λ b.

@@ -4,9 +4,9 @@ use Rattle.std.proofs.lemmas.List.{append-nil}
 use Rattle.esc_frame.specs.Events.{Takes}
 use Rattle.esc_frame.specs.Events.Event.{DcsUnhook}
 use Rattle.esc_frame.specs.Segments.{puts}
-use Rattle.esc_frame.proofs.Given.{receives_takes, stops_more}
+use Rattle.esc_frame.proofs.Emits.EventsFold.{receives_takes, stops_more}
 use Rattle.esc_segments.proofs.Emitted.{takes_then}
-use Rattle.esc_frame.proofs.Failed.{error_of}
+use Rattle.esc_frame.proofs.Steps.FailureIsHandedOn.{error_of}
 use Rattle.esc_segments.proofs.strings.put_and_end.Goals as goal
 
 pub returns-then-finished-clause-emitted : goal.returns-then-finished-clause-emitted

@@ -1,6 +1,6 @@
 use Rattle.std.proofs.Common.{◌∙◌, ◌++◌, ap, arith, refl}
 use Rattle.std.proofs.lemmas.List.{take_all}
-use Rattle.esc_sixel.specs.Meaning.{drawn}
+use Rattle.esc_sixel.specs.Meaning.{drawn_data}
 use Rattle.esc_sixel.proofs.PixelRuns.{drawn_more, drawn_one, some_pixels}
 use Rattle.esc_sixel.proofs.pixels.fill.Goals as goal
 
@@ -63,5 +63,5 @@ put_two-requires-clause-pixels g c = some_pixels c.args.run.now c.by_two.at 2
 pub returns : goal.returns
 returns g c =
     c.loop-at.invariant.items
-    ∙ ap (λ t. c.args.vec.items ++ drawn t)
+    ∙ ap (λ t. c.args.vec.items ++ drawn_data t)
     (take_all c.loop-at.at c.args.run.now (omega (arith, c.loop-at-test.false)))

@@ -1,16 +1,16 @@
 use Rattle.std.proofs.Common.{[], Some, ap, arith, refl, subst, sym, true, false, ◌∙◌}
 use Rattle.std.proofs.KnownBytes.{Appends-nil, Consumes-nil}
 use Rattle.std.specs.Io.KnownBytes.{Appends}
-use Rattle.esc_filter.proofs.Begun.{begun, filters}
+use Rattle.esc_filter.proofs.Output.NothingWasFed.{begun, filters}
 use Rattle.esc_normal.proofs.Results.{not_failed, prefix_none}
 use Rattle.esc_filter.specs.Rules.{admits}
 use Rattle.esc_filter.specs.declared.policy.Policy.TheVariants.{Screen}
-use Rattle.esc_filter.specs.Characters.{kept}
-use Rattle.esc_html.specs.Fed.{WasFed}
+use Rattle.esc_filter.specs.Characters.{keep_all}
+use Rattle.esc_html.specs.Fed.{HasConsumed}
 use Rattle.esc_html.specs.Pages.{page_text}
-use Rattle.esc_lines.proofs.Streams.{final_after_nil}
-use Rattle.esc_lines.specs.Fed.{final_after, left_after}
-use Rattle.eschtml.specs.Piped.{after}
+use Rattle.line_collapse.proofs.Streams.{final_after_nil}
+use Rattle.line_collapse.specs.Fed.{final_after, left_after}
+use Rattle.eschtml.specs.Piped.{composed}
 use Rattle.eschtml.specs.Written.{IsHtml, ended_by, going_by, layout_by, page_of, screen_text, seen_by, shown_of, size_of, whole_screen}
 use Rattle.eschtml.proofs.Left.{html_adds, no_html, no_screen, pages_add}
 use Rattle.eschtml.proofs.Lining.{going_nothing, html_is}
@@ -25,13 +25,13 @@ returns-clause-holds g c =
     let z = size_of c.args.rows in
     let m = screen_text a l in
     let e = whole_screen a l in
-    let fresh = begun (λ p. admits {A = a} p) kept l Screen c.new-filter.result
+    let fresh = begun (λ p. admits {A = a} p) keep_all l Screen c.new-filter.result
     c.new-filter.ensures.policy c.new-filter.ensures.fed in
     let y = layout_by o.first o.layout in
-    let fed = subst (λ z. WasFed l z [] c.new-marked.result.writer) c.layout_by.ensures
+    let fed = subst (λ z. HasConsumed l z [] c.new-marked.result.writer) c.layout_by.ensures
     c.new-marked.ensures in
-    let going = after (page_text a (Some l) y) (final_after a z m) in
-    let whole = after (page_of a l y) (left_after a z e) in
+    let going = composed (page_text a (Some l) y) (final_after a z m) in
+    let whole = composed (page_of a l y) (left_after a z e) in
     let new = c.new-piped.ensures.begins (final_after a z m) (left_after a z e)
     (page_text a (Some l) y) (page_of a l y)
     (z, m, e, c.in-Ok.ensures.fed m e fresh (no_screen a l), refl, refl)
@@ -62,7 +62,7 @@ returns-in_default-clause-holds g c =
     let y = layout_by o.first o.layout in
     let z = size_of c.args.rows in
     let held = g.W.Write.contents c.args.writer.now.inner in
-    let m = after (page_text a (Some l) y) (final_after a z (screen_text a l)) in record {
+    let m = composed (page_text a (Some l) y) (final_after a z (screen_text a l)) in record {
       read_all = tt;
       written = tt;
       decided = λ k. absurd cc;
@@ -83,7 +83,8 @@ returns-in_default-clause-holds g c =
         Consumes-nil _,
         prefix_none _
             (ended_by o.first
-            (after (page_of a l y) (left_after a z (whole_screen a l)) (seen_by a o true true []))),
+            (composed (page_of a l y) (left_after a z (whole_screen a l))
+            (seen_by a o true true []))),
       );
       read_fault = not_failed _ _ _ (λ k. absurd cc);
       write_fault = not_failed _ _ _ (λ k. absurd cc);
@@ -98,14 +99,14 @@ returns-clause-refused g c =
     let z = size_of c.args.rows in
     let m = screen_text a l in
     let e = whole_screen a l in
-    let fresh = begun (λ p. admits {A = a} p) kept l Screen c.new-filter.result
+    let fresh = begun (λ p. admits {A = a} p) keep_all l Screen c.new-filter.result
     c.new-filter.ensures.policy c.new-filter.ensures.fed in
-    let fed = subst (λ z. WasFed l z [] c.new-marked.result.writer) c.layout_by.ensures
+    let fed = subst (λ z. HasConsumed l z [] c.new-marked.result.writer) c.layout_by.ensures
     c.new-marked.ensures in
     let new = c.new-piped.ensures.begins (final_after a z m) (left_after a z e)
     (page_text a (Some l) y) (page_of a l y)
     (z, m, e, c.in-Ok.ensures.fed m e fresh (no_screen a l), refl, refl)
     (final_after_nil a z m (no_screen a l)) (l, y, fed, refl, refl)
     (pages_add a l y) in
-    c.write_lined.ensures.refused (after (page_text a (Some l) y) (final_after a z m))
-    (after (page_of a l y) (left_after a z e)) new (no_html a l y z) (html_adds a l y z)
+    c.write_lined.ensures.refused (composed (page_text a (Some l) y) (final_after a z m))
+    (composed (page_of a l y) (left_after a z e)) new (no_html a l y z) (html_adds a l y z)

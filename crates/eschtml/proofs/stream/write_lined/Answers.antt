@@ -1,5 +1,5 @@
 use Rattle.std.proofs.Common.{ℕ, List, true, false, ap, sym}
-use Rattle.esc_html.specs.Lines.{lined}
+use Rattle.esc_html.specs.Lines.{lined_page}
 use Rattle.eschtml.specs.Lined.{ended_in, going_in}
 use Rattle.eschtml.specs.Written.{ended_by, going_by, seen_by}
 use Rattle.eschtml.proofs.Lining.{lines_add}
@@ -39,7 +39,7 @@ returns-in-Some-clause-holds g c = λ m e fresh none only.
     (λ s. going_by o.first (going s)) (λ s. sym (ap (λ r. ended_by r (whole s)) c.in-Some.is))
     (λ s. sym (ap (λ r. going_by r (going s)) c.in-Some.is)) _ _ _
     (c.write_seen-in-Some.ensures.holds (going_in n m) (ended_in n e) new
-    (ap (lined n false) none) (lines_add n m e only)) in
+    (ap (lined_page n false) none) (lines_add n m e only)) in
     record {
       read_all = f.read_all;
       written = f.written;
@@ -55,5 +55,5 @@ pub returns-in-Some-clause-refused : goal.returns-in-Some-clause-refused
 returns-in-Some-clause-refused g c = λ m e fresh none only.
     let n = c.in-Some.first in
     c.write_seen-in-Some.ensures.refused (going_in n m) (ended_in n e)
-    (c.new-lined.ensures.begins m e fresh none only) (ap (lined n false) none)
+    (c.new-lined.ensures.begins m e fresh none only) (ap (lined_page n false) none)
     (lines_add n m e only)

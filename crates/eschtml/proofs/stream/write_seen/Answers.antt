@@ -1,8 +1,8 @@
 use Rattle.std.proofs.Common.{◌++◌, true, false, ap, ◌∙◌}
-use Rattle.esc_decode.specs.Decodings.{decoded, through}
+use Rattle.esc_decode.specs.Decodings.{decoded_stream, through}
 use Rattle.esc_filter.specs.declared.admit.Admit.{Ghosts as Admitter}
-use Rattle.esc_reveal.proofs.Begins.{through_nothing}
-use Rattle.esc_reveal.specs.Through.{through as revealed_through, through_whole}
+use Rattle.caret_notation.proofs.Begins.{through_nothing}
+use Rattle.caret_notation.specs.Through.{through as revealed_through, through_whole}
 use Rattle.eschtml.specs.Written.{is_kept, seen_by}
 use Rattle.eschtml.specs.declared.kept.Kept.{Kept}
 use Rattle.eschtml.proofs.Same.{same_texts}
@@ -28,13 +28,14 @@ returns-then-shows-clause-holds g c = λ m e fresh none only.
     (through o.encoding (revealed_through V rule m)) (λ s. e (seen_by a o moves true s))
     (λ s. m (seen_by a o moves false s))
     (λ s. ap e (whole_shown V rule o.limit moves c.with_marking-reveal.ensures.limit
-    c.with_marking-reveal.ensures.lines admits o.shows c.if-shows.true (decoded o.encoding s)))
+    c.with_marking-reveal.ensures.lines admits o.shows c.if-shows.true
+    (decoded_stream o.encoding s)))
     (λ s. ap m (going_shown V rule o.limit moves c.with_marking-reveal.ensures.limit
     c.with_marking-reveal.ensures.lines admits o.shows c.if-shows.true
-    (decoded o.encoding s))) _ _ _
-    (c.filter_from.ensures.holds _ _ new
+    (decoded_stream o.encoding s))) _ _ _
+    (c.pump.ensures.holds _ _ new
     (ap (revealed_through V rule m) (nothing_decoded o.encoding)
-    ∙ through_nothing V rule m e none) (λ s. adds.end (decoded o.encoding s))) in
+    ∙ through_nothing V rule m e none) (λ s. adds.end (decoded_stream o.encoding s))) in
     record {
       read_all = f.read_all;
       written = f.written;
@@ -58,9 +59,9 @@ returns-then-shows-clause-refused g c = λ m e fresh none only.
     c.with_marking-reveal.ensures.fed in
     let adds = through_adds V rule m e only in
     let new = c.new-filter.ensures.begins _ _ shown adds in
-    c.filter_from.ensures.refused _ _ new
+    c.pump.ensures.refused _ _ new
     (ap (revealed_through V rule m) (nothing_decoded o.encoding)
-    ∙ through_nothing V rule m e none) (λ s. adds.end (decoded o.encoding s))
+    ∙ through_nothing V rule m e none) (λ s. adds.end (decoded_stream o.encoding s))
 
 pub returns-else-shows-clause-holds : goal.returns-else-shows-clause-holds
 returns-else-shows-clause-holds g c = λ m e fresh none only.
@@ -70,11 +71,11 @@ returns-else-shows-clause-holds g c = λ m e fresh none only.
     let new = c.new-filter-else-shows.ensures.begins m e fresh only in
     let f = same_texts (through o.encoding e) (through o.encoding m)
     (λ s. e (seen_by a o moves true s)) (λ s. m (seen_by a o moves false s))
-    (λ s. ap e (whole_same a o.shows o.limit moves c.if-shows.false (decoded o.encoding s)))
-    (λ s. ap m (going_same a o.shows o.limit moves c.if-shows.false (decoded o.encoding s)))
+    (λ s. ap e (whole_same a o.shows o.limit moves c.if-shows.false (decoded_stream o.encoding s)))
+    (λ s. ap m (going_same a o.shows o.limit moves c.if-shows.false (decoded_stream o.encoding s)))
     _ _ _
-    (c.filter_from-else-shows.ensures.holds _ _ new (ap m (nothing_decoded o.encoding) ∙ none)
-    (λ s. only.end (decoded o.encoding s))) in
+    (c.pump-else-shows.ensures.holds _ _ new (ap m (nothing_decoded o.encoding) ∙ none)
+    (λ s. only.end (decoded_stream o.encoding s))) in
     record {
       read_all = f.read_all;
       written = f.written;
@@ -90,5 +91,5 @@ pub returns-else-shows-clause-refused : goal.returns-else-shows-clause-refused
 returns-else-shows-clause-refused g c = λ m e fresh none only.
     let o = c.args.options.now in
     let new = c.new-filter-else-shows.ensures.begins m e fresh only in
-    c.filter_from-else-shows.ensures.refused _ _ new (ap m (nothing_decoded o.encoding) ∙ none)
-    (λ s. only.end (decoded o.encoding s))
+    c.pump-else-shows.ensures.refused _ _ new (ap m (nothing_decoded o.encoding) ∙ none)
+    (λ s. only.end (decoded_stream o.encoding s))

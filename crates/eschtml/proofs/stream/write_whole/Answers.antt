@@ -1,6 +1,6 @@
 use Rattle.std.proofs.Common.{[], false, true, Some, refl, subst}
-use Rattle.esc_filter.proofs.Begun.{filters}
-use Rattle.esc_html.specs.Fed.{WasFed}
+use Rattle.esc_filter.proofs.Output.NothingWasFed.{filters}
+use Rattle.esc_html.specs.Fed.{HasConsumed}
 use Rattle.esc_html.specs.Pages.{page_text}
 use Rattle.eschtml.specs.Written.{IsHtml, going_by, html_of, layout_by, page_of, seen_by}
 use Rattle.eschtml.proofs.Left.{pages_add}
@@ -15,7 +15,7 @@ returns-clause-holds g c =
     let y = layout_by o.first o.layout in
     let m = page_text a (Some o.limit) y in
     let e = page_of a o.limit y in
-    let fed = subst (λ z. WasFed o.limit z [] c.new-marked.result.writer) c.layout_by.ensures
+    let fed = subst (λ z. HasConsumed o.limit z [] c.new-marked.result.writer) c.layout_by.ensures
     c.new-marked.ensures in
     let f = filters (λ s. html_of a o (seen_by a o false true s))
     (λ s. going_by o.first (m (seen_by a o false false s)))
@@ -40,7 +40,7 @@ returns-clause-refused g c =
     let a = g.row.A.Denot in
     let o = c.args.options.now in
     let y = layout_by o.first o.layout in
-    let fed = subst (λ z. WasFed o.limit z [] c.new-marked.result.writer) c.layout_by.ensures
+    let fed = subst (λ z. HasConsumed o.limit z [] c.new-marked.result.writer) c.layout_by.ensures
     c.new-marked.ensures in
     c.write_lined.ensures.refused (page_text a (Some o.limit) y) (page_of a o.limit y)
     (o.limit, y, fed, refl, refl) (page_of_nothing a (Some o.limit) y) (pages_add a o.limit y)

@@ -5,7 +5,7 @@ use Rattle.std.specs.Str.Iter.{chars_rest}
 use Rattle.std.proofs.Output.{has_written_append}
 use Rattle.std.proofs.lemmas.Bool.{ne_eqb}
 use Rattle.std.proofs.lemmas.Str.{IsUtf8-past_char}
-use Rattle.command_line.specs.ShownWords.{shown, shown_from}
+use Rattle.command_line.specs.ShownWords.{shown_character, shown_from}
 use Rattle.command_line.proofs.ShownWords.{shown_end, shown_step}
 use Rattle.command_line.proofs.showing.ShownDisplay.fmt.Goals as goal
 
@@ -25,7 +25,7 @@ loop-c-preserved-then-c-eq0 g c =
     let step = c.in-Some.ensures.steps.0 in
     let is : (x == 0) ≡ true = eq-eqb x 0 c.if-c-eq0.true in
     let goes_on : not b ≡ ((x == 0) && not b) = rw is refl in (
-      held.0 ++ shown b x,
+      held.0 ++ shown_character b x,
       shown_step b (not b) x _ held.0 before after held.2 step goes_on held.1,
       IsUtf8-past_char before after x held.2 step,
       λ p. has_written_append _ _ _ _ _ _ (held.3 p) (search rules),
@@ -41,7 +41,7 @@ loop-c-preserved g c =
     let step = c.in-Some.ensures.steps.0 in
     let is : (x == 0) ≡ false = ne_eqb x 0 c.if-c-eq0.false in
     let goes_on : (x == 0) ≡ ((x == 0) && not b) = rw is refl in (
-      held.0 ++ shown b x,
+      held.0 ++ shown_character b x,
       shown_step b (x == 0) x _ held.0 before after held.2 step goes_on held.1,
       IsUtf8-past_char before after x held.2 step,
       λ p. has_written_append _ _ _ _ _ _ (held.3 p) (search rules),

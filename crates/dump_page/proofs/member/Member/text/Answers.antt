@@ -1,5 +1,5 @@
 use Rattle.std.proofs.Common.{◌∷◌, [], refl}
-use Rattle.dump_page.specs.Pages.Piece.{Quoted, Word}
+use Rattle.dump_page.specs.Pages.PagePart.{Quoted, Word}
 use Rattle.dump_page.proofs.member.Member.text.Goals as goal
 
 pub returns-in-File : goal.returns-in-File

@@ -1,4 +1,4 @@
-use Rattle.dump_page.specs.Pages.Piece.{Word}
+use Rattle.dump_page.specs.Pages.PagePart.{Word}
 use Rattle.dump_page.proofs.PagesMore.{page_push}
 use Rattle.dump_page.proofs.phrase.Phrase.push_word.Goals as goal
 

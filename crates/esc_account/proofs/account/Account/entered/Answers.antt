@@ -1,5 +1,5 @@
 use Rattle.std.proofs.Common.{◌≡◌, ◌++◌, IfOk, OnOk, subst}
-use Rattle.esc_account.specs.Entries.{noted}
+use Rattle.esc_account.specs.Entries.{noted_entries}
 use Rattle.esc_account.proofs.LineRuns.{entries_whole, run_whole}
 use Rattle.esc_account.proofs.account.Account.entered.Goals as goal
 
@@ -12,6 +12,7 @@ returns-clause-entered g c = λ gs cut.
 pub returns-clause-given : goal.returns-clause-given
 returns-clause-given g c = λ gs es cut old.
     let r = g.J.Judge.rule c.args.judge.now in
-    subst (λ v. OnOk c.line_run.result (g.B.Book.was_given c.line_run.new.book (es ++ noted v)))
+    subst (λ v. OnOk c.line_run.result
+    (g.B.Book.was_given c.line_run.new.book (es ++ noted_entries v)))
     (entries_whole r c.args.self gs)
     (c.line_run.ensures.given gs es cut old)

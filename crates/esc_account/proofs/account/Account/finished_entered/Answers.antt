@@ -1,5 +1,5 @@
 use Rattle.std.proofs.Common.{◌≡◌, ◌++◌, ◌-◌, length, drop, length-drop, ap, sym, ◌∙◌, subst, arith}
-use Rattle.esc_frame.specs.Segments.{joined}
+use Rattle.esc_frame.specs.Segments.{joined_bytes}
 use Rattle.esc_account.specs.Finished.{Finishes, IsLast}
 use Rattle.esc_account.proofs.Finishing.{dropped, finishes_both, takes_both}
 use Rattle.esc_account.proofs.account.Account.finished_entered.Goals as goal
@@ -45,7 +45,7 @@ returns-then-count-eq0-clause-finishes g c =
     (subst (λ v. Finishes ends r at.account t v y next.0) (sym c.after-rest.ensures) next.1) in (
       before.0 ++ next.0,
       subst (λ v. Finishes ends r c.args.self s v y (before.0 ++ next.0))
-          (sym (dropped s (joined both.shapes) u (length s - length u) both.whole
+          (sym (dropped s (joined_bytes both.shapes) u (length s - length u) both.whole
           (omega (arith, at.invariant.few, long)))) both,
       λ es old. takes_both (g.B.Book.was_given c.next_entered.new.book) es before.0 next.0
           (next.2 (es ++ before.0) (before.2 es old)),
@@ -60,6 +60,6 @@ returns-then-count-eq0-clause-last g c =
     let none : c.in_ok-longer.count ≡ 0 = omega (arith, c.if-count-eq0.true) in
     let same : u ≡ t = c.after-rest.ensures ∙ ap (λ n. drop n t) none in
     let before = at.invariant.finishes.1 in
-    let place = dropped s (joined before.shapes) t (length s - length u) before.whole
+    let place = dropped s (joined_bytes before.shapes) t (length s - length u) before.whole
     (omega (arith, at.invariant.few, ap length same)) in
     subst (IsLast c.args.ends) (sym place) (c.in_ok-longer.ensures.last none)

@@ -1,9 +1,9 @@
 use Rattle.std.proofs.Common.{◌≡◌, ◌++◌, ◌&&◌, IfOk, OnErr, OnOk, [], false, length, drop, ap, sym, ◌∙◌, subst, arith}
-use Rattle.esc_frame.specs.Segments.{joined}
+use Rattle.esc_frame.specs.Segments.{joined_bytes}
 use Rattle.esc_parse.proofs.Lists.{if_ok_more}
-use Rattle.memory.specs.Refusals.{Refused}
+use Rattle.fallible_alloc.specs.Refusals.{Refused}
 use Rattle.esc_account.specs.Accounts.{Counts, Enters}
-use Rattle.esc_account.specs.Entries.{noted}
+use Rattle.esc_account.specs.Entries.{noted_entries}
 use Rattle.esc_account.specs.LineEnds.{is_return_feed, line_entries, run_line}
 use Rattle.esc_account.proofs.Finishing.{takes_none}
 use Rattle.esc_account.proofs.LineRuns.{entries_end, noted_last, one_left, run_end, run_last}
@@ -17,7 +17,7 @@ returns-then-is_end-clause-entered g c = λ gs cut.
 
 pub returns-then-is_end-clause-given : goal.returns-then-is_end-clause-given
 returns-then-is_end-clause-given g c = λ gs es cut old.
-    subst (λ v. g.B.Book.was_given c.args.book.now (es ++ noted v))
+    subst (λ v. g.B.Book.was_given c.args.book.now (es ++ noted_entries v))
     (sym (entries_end c.args.ends (g.J.Judge.rule c.args.judge.now) c.args.self c.args.rest.now gs
     cut (sym c.is_end.ensures ∙ c.if-is_end.true)))
     (takes_none (g.B.Book.was_given c.args.book.now) es old)
@@ -30,13 +30,15 @@ returns-in-None-clause-entered g c = λ gs cut.
 pub returns-in-None-clause-counts : goal.returns-in-None-clause-counts
 returns-in-None-clause-counts g c =
     let k = c.has_cut.ensures c.args.rest.now in
-    let none : c.args.rest.now ≡ [] = k.1.whole ∙ ap joined (c.in-None.ensures.first k.0 k.1) in
+    let none : c.args.rest.now ≡ [] = k.1.whole ∙ ap joined_bytes (c.in-None.ensures.first k.0 k.1)
+    in
     ((omega (arith, ap length none), omega (arith, ap length none)), tt)
 
 pub returns-in-None-clause-given : goal.returns-in-None-clause-given
 returns-in-None-clause-given g c = λ gs es cut old.
     subst (λ v. g.B.Book.was_given c.args.book.now
-    (es ++ noted (line_entries c.args.ends (g.J.Judge.rule c.args.judge.now) c.args.self v)))
+    (es ++ noted_entries (line_entries c.args.ends (g.J.Judge.rule c.args.judge.now) c.args.self
+    v)))
     (sym (c.in-None.ensures.first gs cut))
     (takes_none (g.B.Book.was_given c.args.book.now) es old)
 

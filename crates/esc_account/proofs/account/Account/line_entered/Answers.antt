@@ -1,7 +1,7 @@
 use Rattle.std.proofs.Common.{◌≡◌, ◌++◌, IfOk, subst}
 use Rattle.esc_parse.proofs.Lists.{on_ok_more}
 use Rattle.esc_account.specs.Accounts.{line_begun}
-use Rattle.esc_account.specs.Entries.{noted}
+use Rattle.esc_account.specs.Entries.{noted_entries}
 use Rattle.esc_account.specs.LineEnds.{ends_so, line_entries, run_line}
 use Rattle.esc_account.proofs.Entering.{gives_other, line_other, line_same, never}
 use Rattle.esc_account.proofs.account.Account.line_entered.Goals as goal
@@ -27,10 +27,11 @@ returns-else-is_same-clause-given g c = λ es old.
     let k = c.has_cut.ensures line in
     on_ok_more _ _ c.line_run.result
     (λ h. (
-      noted (line_entries (ends_so c.args.written.now) r (line_begun c.args.self) k.0),
+      noted_entries (line_entries (ends_so c.args.written.now) r (line_begun c.args.self) k.0),
       gives_other c.one_cut.ensures r c.args.self line c.args.written.now k.0
           (λ e. never c.is_same.result (c.is_same.ensures.1 e) c.if-is_same.false) k.1,
       subst (λ b. g.B.Book.was_given c.line_run.new.book
-          (es ++ noted (line_entries b r (line_begun c.args.self) k.0))) c.ends_so.ensures h,
+          (es ++ noted_entries (line_entries b r (line_begun c.args.self) k.0))) c.ends_so.ensures
+          h,
     ))
     (c.line_run.ensures.given k.0 es k.1 old)

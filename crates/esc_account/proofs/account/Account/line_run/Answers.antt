@@ -1,5 +1,5 @@
 use Rattle.std.proofs.Common.{◌≡◌, ◌++◌, IfOk, OnOk, ap, sym, ◌∙◌, subst, append_assoc}
-use Rattle.esc_account.specs.Entries.{noted}
+use Rattle.esc_account.specs.Entries.{noted_entries}
 use Rattle.esc_account.specs.Finished.{Finishes}
 use Rattle.esc_account.specs.LineEnds.{line_entries, run_line}
 use Rattle.esc_account.proofs.LineRuns.{line_all}
@@ -35,7 +35,7 @@ returns-in-Ok-clause-given g c = λ gs es cut old.
     (subst (λ v. Finishes ends r x s v y f.0) (sym c.after.ensures) f.1) k.0 k.1 in
     let same = c.one_cut.ensures s all.0 gs all.1 cut in
     subst (λ v. OnOk c.last_run.result (g.B.Book.was_given c.last_run.new.book v))
-    (append_assoc es f.0 (noted (line_entries ends r y k.0))
+    (append_assoc es f.0 (noted_entries (line_entries ends r y k.0))
     ∙ ap (λ v. es ++ v) (sym all.3)
-    ∙ ap (λ v. es ++ noted (line_entries ends r x v)) same)
+    ∙ ap (λ v. es ++ noted_entries (line_entries ends r x v)) same)
     (c.last_run.ensures.given k.0 (es ++ f.0) k.1 (f.2 es old))

@@ -1,5 +1,5 @@
 use Rattle.std.proofs.Common.{Some, refl, ◌∙◌}
-use Rattle.esc_frame.specs.Segments.{bytes_of, is_finished, joined}
+use Rattle.esc_frame.specs.Segments.{bytes_of, is_finished, joined_bytes}
 use Rattle.esc_segments.specs.Items.{kind_of}
 use Rattle.esc_actions.specs.Readings.{reading_within}
 use Rattle.esc_account.proofs.Fates.{same_verdict}
@@ -12,7 +12,7 @@ returns-in-Ok-clause-given g c = λ s gs each item.
     let j = c.args.self.now in
     let b = c.args.before in
     let admits = g.P.Admit.admits j.policy in
-    let reading = reading_within (Some j.limit) s (is_finished s (joined gs)) in
+    let reading = reading_within (Some j.limit) s (is_finished s (joined_bytes gs)) in
     spelled_ok _ _ _ (c.verdict_of.ensures.given s gs each item)
     (verdict_is j.by_lines j.guard admits b c.args.segment.kind c.args.segment.bytes.now reading
     c.in-Ok.weighed (c.in-Ok.ensures.given s gs each item)

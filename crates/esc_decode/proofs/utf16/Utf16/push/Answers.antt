@@ -1,6 +1,6 @@
 use Rattle.std.proofs.Common.{◌≡◌, ◌++◌, ◌∷◌, ◌+◌, [], take, get_or, string_bytes, ap, sym, ◌∙◌, arith}
 use Rattle.std.proofs.lemmas.List.{append_assoc, take_more}
-use Rattle.esc_decode.specs.Units.{added, after}
+use Rattle.esc_decode.specs.Units.{unit_text, after}
 use Rattle.esc_decode.proofs.Units.{added_append, after_append}
 use Rattle.esc_decode.proofs.utf16.Utf16.push.Goals as goal
 
@@ -17,8 +17,8 @@ loop-byte-preserved g c =
       c.in_ok-take.ensures.state
           ∙ ap (λ v. after v y) inv.0 ∙ after_append u x y ∙ ap (λ s. after u s) (sym more),
       c.in_ok-take.ensures.text
-          ∙ ap (λ v. string_bytes c.loop-byte.text ++ added v y) inv.0
-          ∙ ap (λ z. z ++ added (after u x) y) inv.1
-          ∙ append_assoc t (added u x) (added (after u x) y)
-          ∙ ap (λ z. t ++ z) (sym (added_append u x y)) ∙ ap (λ s. t ++ added u s) (sym more),
+          ∙ ap (λ v. string_bytes c.loop-byte.text ++ unit_text v y) inv.0
+          ∙ ap (λ z. z ++ unit_text (after u x) y) inv.1
+          ∙ append_assoc t (unit_text u x) (unit_text (after u x) y)
+          ∙ ap (λ z. t ++ z) (sym (added_append u x y)) ∙ ap (λ s. t ++ unit_text u s) (sym more),
     )

@@ -1,6 +1,6 @@
 use Rattle.std.proofs.Common.{subst, sym}
 use Rattle.esc_filter.specs.Known.{IsKnown}
-use Rattle.esc_filter.proofs.Knowing.{nothing_known}
+use Rattle.esc_filter.proofs.Admission.PolicyIsKnown.{nothing_known}
 use Rattle.esc_filter.proofs.admit.Admit.known.Goals as goal
 
 pub returns : goal.returns

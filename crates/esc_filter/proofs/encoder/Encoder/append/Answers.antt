@@ -1,6 +1,6 @@
 use Rattle.std.proofs.Common.{sym, ◌∙◌}
 use Rattle.esc_actions.specs.Values.{value_of}
-use Rattle.esc_filter.proofs.Encoding.{adds_one, ends_one}
+use Rattle.esc_filter.proofs.Output.OneValueMore.{adds_one, ends_one}
 use Rattle.esc_filter.proofs.encoder.Encoder.append.Goals as goal
 
 pub returns-clause-written : goal.returns-clause-written

@@ -1,5 +1,5 @@
 use Rattle.std.proofs.Common.{Some, subst, sym}
-use Rattle.esc_filter.proofs.Characters.{of_nothing}
+use Rattle.esc_filter.proofs.Output.DeceivingCharacters.{of_nothing}
 use Rattle.esc_actions.proofs.Meanings.{meaning_nil}
 use Rattle.esc_filter.proofs.filter.Filter.begun.Goals as goal
 use Rattle.esc_filter.specs.Noted.{HasNoted}

@@ -3,7 +3,7 @@ use Rattle.std.proofs.lemmas.Result.{IfErr-at_err}
 use Rattle.esc_parse.proofs.Lists.{on_ok_at}
 use Rattle.esc_normal.proofs.HaveTexts.{handed_out_have_texts}
 use Rattle.esc_normal.proofs.Spelling.{stops_denied}
-use Rattle.esc_filter.proofs.Sinks.{fed_all}
+use Rattle.esc_filter.proofs.Output.WrittenOfPassing.{fed_all}
 use Rattle.esc_filter.specs.Noted.{HasNoted, without_text}
 use Rattle.esc_filter.specs.Passing.{in_lines, passed_as}
 use Rattle.esc_filter.proofs.filter.Filter.feed.Goals as goal

@@ -1,5 +1,5 @@
 use Rattle.std.proofs.Common.{◌++◌, Some, sym, ap, ◌∙◌}
-use Rattle.esc_filter.proofs.Closers.{closing_text, same_text}
+use Rattle.esc_filter.proofs.GivingBack.GivingBackIsWritable.{closing_text, same_text}
 use Rattle.esc_filter.specs.Closing.{keeps_cursor}
 use Rattle.esc_filter.specs.Fed.{policy_of}
 use Rattle.esc_filter.specs.GivenBack.{text_given_back}

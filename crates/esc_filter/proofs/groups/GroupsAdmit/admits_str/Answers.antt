@@ -1,7 +1,7 @@
 use Rattle.std.proofs.Common.{ap, sym, ◌∙◌}
 use Rattle.std.specs.List.{list_all}
 use Rattle.esc_filter.specs.Rules.{is_shown}
-use Rattle.esc_filter.proofs.Choices.{str_chosen}
+use Rattle.esc_filter.proofs.Admission.ChoicesAdmit.{str_chosen}
 use Rattle.esc_filter.proofs.groups.GroupsAdmit.admits_str.Goals as goal
 
 pub returns-then-has : goal.returns-then-has

@@ -1,5 +1,5 @@
 use Rattle.std.proofs.Common.{sym, ◌∙◌}
-use Rattle.esc_filter.proofs.Choices.{run_chosen}
+use Rattle.esc_filter.proofs.Admission.ChoicesAdmit.{run_chosen}
 use Rattle.esc_filter.proofs.groups.GroupsAdmit.admits_text.Goals as goal
 
 pub returns-then-has : goal.returns-then-has

@@ -1,6 +1,6 @@
 use Rattle.std.proofs.Common.{rules, ◌≡◌, [], ◌++◌, false, true, ap, sym, ◌∙◌, append-nil}
 use Rattle.esc_actions.specs.Texts.{list_text}
-use Rattle.esc_filter.proofs.Backs.{nothing_back}
+use Rattle.esc_filter.proofs.GivingBack.GivingBackRestores.{nothing_back}
 use Rattle.esc_filter.proofs.Results.{pushed}
 use Rattle.esc_filter.specs.Closing.{closing, given_back, keeps_cursor}
 use Rattle.esc_filter.specs.Lines.{added_by, passed_of_line, policy_of_lines}

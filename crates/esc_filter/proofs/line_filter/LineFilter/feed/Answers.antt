@@ -1,6 +1,6 @@
 use Rattle.std.proofs.Common.{refl}
 use Rattle.esc_filter.specs.Lines.{policy_of_lines}
-use Rattle.esc_filter.proofs.ByLines.{adds_all, fed_same}
+use Rattle.esc_filter.proofs.ByLine.LinesAreStreams.{adds_all, fed_same}
 use Rattle.esc_filter.proofs.line_filter.LineFilter.feed.Goals as goal
 
 pub returns-in-Ok-clause-given : goal.returns-in-Ok-clause-given

@@ -1,9 +1,9 @@
 use Rattle.std.proofs.Common.{◌++◌, ◌∷◌, [], OnOk, ap, subst, sym, true, ◌∙◌}
-use Rattle.esc_filter.specs.Fed.{WasFedIn}
+use Rattle.esc_filter.specs.Fed.{HasConsumedIn}
 use Rattle.esc_filter.specs.Lines.{EndsLine, FillsLine, GrowsBy, body, content, policy_of_lines}
 use Rattle.esc_parse.proofs.Lists.{on_ok_more}
-use Rattle.esc_filter.proofs.ByLines.{grows_line}
-use Rattle.esc_filter.proofs.LineBytes.{content_is}
+use Rattle.esc_filter.proofs.ByLine.LinesAreStreams.{grows_line}
+use Rattle.esc_filter.proofs.ByLine.BytesOfLines.{content_is}
 use Rattle.esc_filter.proofs.line_filter.LineFilter.feed_line.Goals as goal
 
 pub returns-in-Ok-clause-given : goal.returns-in-Ok-clause-given
@@ -21,7 +21,7 @@ returns-in-Ok-clause-given g c = λ u limit s w.
     on_ok_more _ _ c.end_line.result
     (λ ends. subst (λ b. GrowsBy u admits limit s b old new) (sym e)
     (grows_line u limit admits s old w x mid new none longer kept.1 ends k.1 k.2))
-    (subst (λ p. WasFedIn u true limit (g.P.Admit.admits p) line mid.filter
+    (subst (λ p. HasConsumedIn u true limit (g.P.Admit.admits p) line mid.filter
     → OnOk c.end_line.result (EndsLine u (g.P.Admit.admits p) limit line mid new)) kept.0
     (c.end_line.ensures.given u limit line) longer.0.0)
 

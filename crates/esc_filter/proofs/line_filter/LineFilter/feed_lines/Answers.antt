@@ -1,10 +1,10 @@
 use Rattle.std.proofs.Common.{rules, ◌≡◌, ◌+◌, ◌-◌, ◌++◌, true, OnOk, List, ℕ, length, take, drop, refl, sym, ap, ◌∙◌, subst, take-append-drop}
-use Rattle.esc_frame.proofs.CsiRuns.{run_joins}
+use Rattle.esc_frame.proofs.ByteRuns.CsiRuns.{run_joins}
 use Rattle.std.proofs.lemmas.List.{take_rest, take_all}
-use Rattle.esc_filter.specs.Lines.{GrowsBy, WasFedLines, ends_line, policy_of_lines}
+use Rattle.esc_filter.specs.Lines.{GrowsBy, HasConsumedLines, ends_line, policy_of_lines}
 use Rattle.esc_parse.proofs.Lists.{on_err_any, on_ok_more}
-use Rattle.esc_filter.proofs.ByLines.{grows_more, grows_not}
-use Rattle.esc_filter.proofs.LineBytes.{line_ended}
+use Rattle.esc_filter.proofs.ByLine.LinesAreStreams.{grows_more, grows_not}
+use Rattle.esc_filter.proofs.ByLine.BytesOfLines.{line_ended}
 use Rattle.esc_filter.proofs.line_filter.LineFilter.feed_lines.Goals as goal
 
 -- the bytes from a place on
@@ -41,7 +41,7 @@ loop-at-preserved g c =
           (run_joins bs at n)
           (grows_more u limit admits s (take at bs) piece c.args.self.now c.loop-at.self
           c.feed_line.new.self before
-          (subst (λ p. WasFedLines u limit (g.P.Admit.admits p) sx c.loop-at.self
+          (subst (λ p. HasConsumedLines u limit (g.P.Admit.admits p) sx c.loop-at.self
           → GrowsBy u (g.P.Admit.admits p) limit sx piece c.loop-at.self c.feed_line.new.self)
           inv.policy (c.in_ok-feed_line-in-Some.ensures.given u limit sx) before.1.0)) in
           let sy = s ++ take (at + n) bs in
@@ -50,7 +50,7 @@ loop-at-preserved g c =
           (run_joins bs (at + n) c.in_ok-at-in-Some.field-0)
           (grows_more u limit admits s (take (at + n) bs) more c.args.self.now
           c.feed_line.new.self c.pass_plain.new.self line
-          (subst (λ p. WasFedLines u limit (g.P.Admit.admits p) sy c.feed_line.new.self
+          (subst (λ p. HasConsumedLines u limit (g.P.Admit.admits p) sy c.feed_line.new.self
           → GrowsBy u (g.P.Admit.admits p) limit sy more c.feed_line.new.self
           c.pass_plain.new.self) (c.feed_line.ensures.policy ∙ inv.policy)
           (λ v. c.in_ok-at-in-Some.ensures.given u limit sy v ends) line.1.0));
@@ -63,7 +63,7 @@ returns-in_err-feed_line-in-Some-clause-refused g c = λ u limit s w.
     let sx = s ++ take c.loop-at.at c.args.bytes.now in
     on_err_any _ c.from_residual.result
     (c.in_err-feed_line-in-Some.ensures.refused u limit sx
-    (subst (λ p. WasFedLines u limit (g.P.Admit.admits p) sx c.loop-at.self) (sym inv.policy)
+    (subst (λ p. HasConsumedLines u limit (g.P.Admit.admits p) sx c.loop-at.self) (sym inv.policy)
     (inv.grown u limit s w).1.0))
 
 pub returns-in-None-clause-given : goal.returns-in-None-clause-given
@@ -78,7 +78,7 @@ returns-in-None-clause-given g c = λ u limit s w.
     (λ h. subst (λ x. GrowsBy u admits limit s x c.args.self.now c.feed_open.new.self) (all bs at)
     (grows_more u limit admits s (take at bs) (tail bs at) c.args.self.now c.loop-at.self
     c.feed_open.new.self before h))
-    (subst (λ p. WasFedLines u limit (g.P.Admit.admits p) sx c.loop-at.self
+    (subst (λ p. HasConsumedLines u limit (g.P.Admit.admits p) sx c.loop-at.self
     → OnOk c.feed_open.result (GrowsBy u (g.P.Admit.admits p) limit sx (tail bs at) c.loop-at.self
     c.feed_open.new.self)) inv.policy (c.feed_open.ensures.given u limit sx) before.1.0)
 
@@ -87,7 +87,7 @@ returns-in-None-clause-refused g c = λ u limit s w.
     let inv = c.loop-at.invariant in
     let sx = s ++ take c.loop-at.at c.args.bytes.now in
     c.feed_open.ensures.refused u limit sx
-    (subst (λ p. WasFedLines u limit (g.P.Admit.admits p) sx c.loop-at.self) (sym inv.policy)
+    (subst (λ p. HasConsumedLines u limit (g.P.Admit.admits p) sx c.loop-at.self) (sym inv.policy)
     (inv.grown u limit s w).1.0)
 
 pub returns-clause-given : goal.returns-clause-given

@@ -1,5 +1,5 @@
 use Rattle.std.proofs.Common.{length, take, ◌-◌, ◌≡◌, ◌≤◌, ℕ, List}
-use Rattle.esc_filter.specs.Lines.{GrowsBy, WasFedLines, policy_of_lines}
+use Rattle.esc_filter.specs.Lines.{GrowsBy, HasConsumedLines, policy_of_lines}
 use Rattle.esc_filter.specs.declared.guard.Guard.{Guard}
 use Rattle.esc_filter.proofs.line_filter.LineFilter.feed_lines.Given as goal
 
@@ -8,7 +8,7 @@ invariant-loop-at g l = record {
   within : l.at ≤ length l.bytes;
   policy : policy_of_lines l.self ≡ policy_of_lines l.fn.self;
   grown : (u : Guard) (limit : ℕ) (s : List ℕ)
-      → WasFedLines u limit (g.P.Admit.admits (policy_of_lines l.fn.self)) s l.fn.self
+      → HasConsumedLines u limit (g.P.Admit.admits (policy_of_lines l.fn.self)) s l.fn.self
       → GrowsBy u (g.P.Admit.admits (policy_of_lines l.fn.self)) limit s (take l.at l.bytes)
       l.fn.self l.self;
 }

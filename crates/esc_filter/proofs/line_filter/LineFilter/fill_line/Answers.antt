@@ -1,7 +1,7 @@
 use Rattle.std.proofs.Common.{◌≡◌, ◌-◌, ◌∙◌, OnOk, false, ap, length, rules, subst, sym, take, true}
 use Rattle.esc_filter.specs.Lines.{FillsLine, content, ends_return, policy_of_lines}
-use Rattle.esc_filter.proofs.ByLines.{fills_short, fills_whole}
-use Rattle.esc_filter.proofs.LineBytes.{before_feed, body_taken}
+use Rattle.esc_filter.proofs.ByLine.LinesAreStreams.{fills_short, fills_whole}
+use Rattle.esc_filter.proofs.ByLine.BytesOfLines.{before_feed, body_taken}
 use Rattle.esc_filter.proofs.line_filter.LineFilter.fill_line.Goals as goal
 
 pub returns-then-self-clause-given : goal.returns-then-self-clause-given

@@ -1,8 +1,8 @@
 use Rattle.std.proofs.Common.{◌++◌, ◌∷◌, [], OnOk, subst, sym, true}
-use Rattle.esc_filter.specs.Fed.{WasFedIn}
+use Rattle.esc_filter.specs.Fed.{HasConsumedIn}
 use Rattle.esc_filter.specs.Lines.{GrowsLine, body, policy_of_lines}
 use Rattle.esc_parse.proofs.Lists.{on_ok_more}
-use Rattle.esc_filter.proofs.ByLines.{fills_after}
+use Rattle.esc_filter.proofs.ByLine.LinesAreStreams.{fills_after}
 use Rattle.esc_filter.proofs.line_filter.LineFilter.fill_long.Goals as goal
 
 pub returns-in-Ok-clause-given : goal.returns-in-Ok-clause-given
@@ -16,7 +16,7 @@ returns-in-Ok-clause-given g c = λ u limit r h holds.
     let line = body (r ++ x) in
     on_ok_more _ _ c.pass.result
     (λ e. fills_after u limit admits r x old mid new rest e c.pass.ensures.kept.2)
-    (subst (λ p. WasFedIn u true limit (g.P.Admit.admits p) line mid.filter
+    (subst (λ p. HasConsumedIn u true limit (g.P.Admit.admits p) line mid.filter
     → OnOk c.pass.result
     (GrowsLine u (g.P.Admit.admits p) limit line (0x0a ∷ []) mid new)) c.in-Ok.ensures.kept.0
     (c.pass.ensures.given u limit line) rest.0.0)
@@ -27,5 +27,5 @@ returns-in-Ok-clause-refused g c = λ u limit r h holds.
     let rest = c.in-Ok.ensures.given u limit r h holds in
     let line = body (r ++ c.args.before.now) in
     c.pass.ensures.refused u limit line
-    (subst (λ p. WasFedIn u true limit (g.P.Admit.admits p) line mid.filter)
+    (subst (λ p. HasConsumedIn u true limit (g.P.Admit.admits p) line mid.filter)
     (sym c.in-Ok.ensures.kept.0) rest.0.0)

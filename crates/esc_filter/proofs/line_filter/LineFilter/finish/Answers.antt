@@ -1,6 +1,6 @@
 use Rattle.std.proofs.Common.{refl}
 use Rattle.esc_filter.specs.Lines.{policy_of_lines}
-use Rattle.esc_filter.proofs.ByLines.{ends_now, fed_same}
+use Rattle.esc_filter.proofs.ByLine.LinesAreStreams.{ends_now, fed_same}
 use Rattle.esc_filter.proofs.line_filter.LineFilter.finish.Goals as goal
 
 pub returns-in-Ok-clause-ended : goal.returns-in-Ok-clause-ended

@@ -1,6 +1,6 @@
 use Rattle.std.proofs.Common.{◌∙◌, OnOk, sym, subst, rules}
 use Rattle.esc_filter.specs.Lines.{GrowsLine, policy_of_lines}
-use Rattle.esc_filter.proofs.LineBytes.{body_taken, body_whole}
+use Rattle.esc_filter.proofs.ByLine.BytesOfLines.{body_taken, body_whole}
 use Rattle.esc_filter.proofs.line_filter.LineFilter.pass_body.Goals as goal
 
 pub returns-then-self-clause-given : goal.returns-then-self-clause-given

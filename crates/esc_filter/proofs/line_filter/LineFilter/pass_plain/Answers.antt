@@ -1,8 +1,8 @@
 use Rattle.std.proofs.Common.{◌≡◌, rules, refl, subst, true, []}
 use Rattle.esc_filter.specs.Lines.{GrowsBy, policy_of_lines}
 use Rattle.esc_filter.specs.Openings.{IsQuiet}
-use Rattle.esc_filter.proofs.ByLines.{grows_not}
-use Rattle.esc_filter.proofs.PlainLines.{plain_grows}
+use Rattle.esc_filter.proofs.ByLine.LinesAreStreams.{grows_not}
+use Rattle.esc_filter.proofs.ByLine.PlainLinesAreKept.{plain_grows}
 use Rattle.esc_filter.proofs.line_filter.LineFilter.pass_plain.Goals as goal
 
 pub returns-then-not-passes_text-clause-given : goal.returns-then-not-passes_text-clause-given

@@ -1,6 +1,6 @@
 use Rattle.std.proofs.Common.{◌≡◌, OnOk, subst, rules, true}
 use Rattle.esc_filter.specs.Lines.{GrowsLine, held, policy_of_lines}
-use Rattle.esc_filter.proofs.ByLines.{grows_none}
+use Rattle.esc_filter.proofs.ByLine.LinesAreStreams.{grows_none}
 use Rattle.esc_filter.proofs.line_filter.LineFilter.release.Goals as goal
 
 pub returns-then-not-self-clause-given : goal.returns-then-not-self-clause-given

@@ -1,5 +1,5 @@
 use Rattle.std.proofs.Common.{refl}
-use Rattle.esc_filter.proofs.ByLines.{first_fed}
+use Rattle.esc_filter.proofs.ByLine.LinesAreStreams.{first_fed}
 use Rattle.esc_filter.proofs.line_filter.LineFilter.with_guard.Goals as goal
 
 pub returns-clause-fed : goal.returns-clause-fed

@@ -1,7 +1,7 @@
 use Rattle.std.proofs.Common.{◌∙◌, inl}
 use Rattle.std.proofs.lemmas.Bool.{true≢false}
 use Rattle.esc_values.specs.Clear.{parts_of}
-use Rattle.esc_filter.proofs.Sequences.{command_passes, command_refused, command_stays, left_alone}
+use Rattle.esc_filter.proofs.Renditions.SequencesFromParameters.{command_passes, command_refused, command_stays, left_alone}
 use Rattle.esc_filter.proofs.passing.Passing.ask_command.Goals as goal
 
 pub returns-in-Some-true : goal.returns-in-Some-true

@@ -1,7 +1,7 @@
 use Rattle.std.proofs.Common.{Some, ap, false, refl}
 use Rattle.std.proofs.lemmas.Bool.{true≢false}
 use Rattle.esc_sequences.specs.Csis.{csi_of}
-use Rattle.esc_filter.proofs.Sequences.{left_alone, passes_taken, refused_taken, stays_taken}
+use Rattle.esc_filter.proofs.Renditions.SequencesFromParameters.{left_alone, passes_taken, refused_taken, stays_taken}
 use Rattle.esc_filter.proofs.passing.Passing.ask_sequence.Goals as goal
 
 pub returns-in-Some-true : goal.returns-in-Some-true

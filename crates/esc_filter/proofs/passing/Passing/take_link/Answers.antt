@@ -6,7 +6,7 @@ use Rattle.esc_osc.specs.Reading.{meaning as command_meant}
 use Rattle.esc_actions.specs.declared.action.Action.TheVariants as action
 use Rattle.esc_parse.proofs.Lists.{on_err_any}
 use Rattle.esc_filter.specs.Fed.{MayTakeCommand}
-use Rattle.esc_filter.proofs.Sequences.{command_passes, link_taken}
+use Rattle.esc_filter.proofs.Renditions.SequencesFromParameters.{command_passes, link_taken}
 use Rattle.esc_filter.proofs.passing.Passing.take_link.Goals as goal
 
 pub returns-then-branch : goal.returns-then-branch

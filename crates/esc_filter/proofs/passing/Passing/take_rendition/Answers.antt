@@ -4,9 +4,9 @@ use Rattle.std.specs.declared.alloc.AllocError.{AllocError}
 use Rattle.esc_sequences.specs.Csis.{csi_of}
 use Rattle.esc_parse.proofs.Lists.{on_err_any}
 use Rattle.esc_filter.specs.Fed.{MayTakeSequence}
-use Rattle.esc_filter.proofs.Knowing.{renditions_pass}
-use Rattle.esc_filter.proofs.Noting.{plain_denied}
-use Rattle.esc_filter.proofs.Sequences.{one_refused, one_taken, passes_taken}
+use Rattle.esc_filter.proofs.Admission.PolicyIsKnown.{renditions_pass}
+use Rattle.esc_filter.proofs.GivingBack.ChangesAreNoted.{plain_denied}
+use Rattle.esc_filter.proofs.Renditions.SequencesFromParameters.{one_refused, one_taken, passes_taken}
 use Rattle.esc_filter.proofs.passing.Passing.take_rendition.Goals as goal
 
 pub returns-then-branch : goal.returns-then-branch

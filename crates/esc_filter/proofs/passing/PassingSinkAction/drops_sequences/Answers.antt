@@ -1,7 +1,7 @@
 use Rattle.std.proofs.Common.{false, refl}
 use Rattle.std.proofs.lemmas.Bool.{ne_eqb}
-use Rattle.esc_filter.proofs.Knowing.{functions_stay}
-use Rattle.esc_filter.proofs.Sequences.{stays_taken}
+use Rattle.esc_filter.proofs.Admission.PolicyIsKnown.{functions_stay}
+use Rattle.esc_filter.proofs.Renditions.SequencesFromParameters.{stays_taken}
 use Rattle.esc_filter.proofs.passing.PassingSinkAction.drops_sequences.Goals as goal
 
 pub returns-then-control-ne109 : goal.returns-then-control-ne109

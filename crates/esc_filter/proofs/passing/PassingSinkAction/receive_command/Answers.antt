@@ -1,8 +1,8 @@
 use Rattle.std.proofs.lemmas.Bool.{true≢false}
 use Rattle.esc_values.specs.Clear.{parts_of}
 use Rattle.esc_osc.specs.Reading.{meaning as command_meant}
-use Rattle.esc_filter.proofs.Commands.{other_begins}
-use Rattle.esc_filter.proofs.Sequences.{command_stays}
+use Rattle.esc_filter.proofs.Admission.CommandsAreKnown.{other_begins}
+use Rattle.esc_filter.proofs.Renditions.SequencesFromParameters.{command_stays}
 use Rattle.esc_filter.proofs.passing.PassingSinkAction.receive_command.Goals as goal
 
 pub returns-then-known-clause-given : goal.returns-then-known-clause-given

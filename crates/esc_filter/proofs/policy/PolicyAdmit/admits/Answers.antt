@@ -1,6 +1,6 @@
 use Rattle.std.proofs.Common.{sym, ◌∙◌}
 use Rattle.esc_actions.specs.Values.{value_of}
-use Rattle.esc_filter.proofs.Runs.{text_passes}
+use Rattle.esc_filter.proofs.Output.RunsOfText.{text_passes}
 use Rattle.esc_filter.proofs.policy.PolicyAdmit.admits.Goals as goal
 
 pub returns-then-is_text : goal.returns-then-is_text

@@ -1,6 +1,6 @@
 use Rattle.std.proofs.Common.{false}
 use Rattle.esc_sequences.specs.Csis.{csi_of}
-use Rattle.esc_filter.proofs.Sequences.{all_sequences, text_sequences}
+use Rattle.esc_filter.proofs.Renditions.SequencesFromParameters.{all_sequences, text_sequences}
 use Rattle.esc_filter.proofs.policy.PolicyAdmit.admits_sequence.Goals as goal
 
 pub returns-in-Text-clause-stays : goal.returns-in-Text-clause-stays

@@ -1,7 +1,7 @@
 use Rattle.std.proofs.Common.{ap, ◌∙◌, sym}
 use Rattle.std.specs.List.{list_all}
 use Rattle.esc_filter.specs.Rules.{is_shown}
-use Rattle.esc_filter.proofs.Runs.{str_admitted}
+use Rattle.esc_filter.proofs.Output.RunsOfText.{str_admitted}
 use Rattle.esc_filter.proofs.policy.PolicyAdmit.admits_str.Goals as goal
 
 pub returns : goal.returns

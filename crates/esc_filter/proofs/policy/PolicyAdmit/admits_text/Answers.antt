@@ -1,5 +1,5 @@
 use Rattle.std.proofs.Common.{sym, ◌∙◌}
-use Rattle.esc_filter.proofs.Runs.{run_admitted}
+use Rattle.esc_filter.proofs.Output.RunsOfText.{run_admitted}
 use Rattle.esc_filter.proofs.policy.PolicyAdmit.admits_text.Goals as goal
 
 pub returns : goal.returns

@@ -1,5 +1,5 @@
 use Rattle.std.proofs.Common.{[], ◌∙◌, Some, true, refl, subst, ap, OnOk, if◌then◌else◌}
-use Rattle.esc_filter.specs.Fed.{WasFedIn}
+use Rattle.esc_filter.specs.Fed.{HasConsumedIn}
 use Rattle.esc_filter.specs.Lines.{EndsLine, policy_of_lines}
 use Rattle.esc_filter.specs.Closing.{after_values}
 use Rattle.esc_filter.specs.Openings.{opening}
@@ -26,6 +26,6 @@ returns-in-Ok-clause-given g c = λ u limit l h.
           (in_lines true (g.P.Admit.admits (policy_of_lines old.lines))) l)
           unchanged) p else []) h.1.5,
     ))
-    (subst (λ z. WasFedIn u true limit (g.P.Admit.admits (policy_of_lines z)) l z.filter
+    (subst (λ z. HasConsumedIn u true limit (g.P.Admit.admits (policy_of_lines z)) l z.filter
     → OnOk c.end_line.result (EndsLine u (g.P.Admit.admits (policy_of_lines z)) limit l z new)) same
     (c.end_line.ensures.given u limit l) h)

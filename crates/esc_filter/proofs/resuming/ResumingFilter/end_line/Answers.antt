@@ -1,10 +1,10 @@
 use Rattle.std.proofs.Common.{◌∷◌, ◌++◌, ◌∙◌, [], OnOk, ap, refl, subst, true}
-use Rattle.esc_filter.specs.Fed.{WasFedIn}
+use Rattle.esc_filter.specs.Fed.{HasConsumedIn}
 use Rattle.esc_filter.specs.Lines.{FillsLine, body, content, policy_of_lines}
 use Rattle.esc_filter.specs.Resumed.{ClosesWith}
 use Rattle.esc_parse.proofs.Lists.{on_ok_more}
-use Rattle.esc_filter.proofs.LineBytes.{content_is}
-use Rattle.esc_filter.proofs.Resumes.{ends_with}
+use Rattle.esc_filter.proofs.ByLine.BytesOfLines.{content_is}
+use Rattle.esc_filter.proofs.Renditions.RenditionsAreResumed.{ends_with}
 use Rattle.esc_filter.proofs.resuming.ResumingFilter.end_line.Goals as goal
 
 pub returns-in-Ok-clause-given : goal.returns-in-Ok-clause-given
@@ -21,7 +21,7 @@ returns-in-Ok-clause-given g c = λ u limit d w.
     on_ok_more _ _ c.close_line.result
     (λ closes. ends_with u limit admits d c.args.bytes.now old mid new w (x, none, e) fills kept.1
     refl closes)
-    (subst (λ p. WasFedIn u true limit (g.P.Admit.admits p) line mid.lines.filter
+    (subst (λ p. HasConsumedIn u true limit (g.P.Admit.admits p) line mid.lines.filter
     → OnOk c.close_line.result (ClosesWith u (g.P.Admit.admits p) limit line mid new)) kept.0
     (c.close_line.ensures.given u limit line) fills.0.0)
 

@@ -1,8 +1,8 @@
 use Rattle.std.proofs.Common.{refl}
 use Rattle.esc_filter.specs.Lines.{policy_of_lines}
 use Rattle.esc_filter.specs.Openings.{resumed}
-use Rattle.esc_filter.proofs.ByLines.{fed_same}
-use Rattle.esc_filter.proofs.Resumes.{adds_resumed, marks_same}
+use Rattle.esc_filter.proofs.ByLine.LinesAreStreams.{fed_same}
+use Rattle.esc_filter.proofs.Renditions.RenditionsAreResumed.{adds_resumed, marks_same}
 use Rattle.esc_filter.proofs.resuming.ResumingFilter.feed.Goals as goal
 
 pub returns-in-Ok-clause-given : goal.returns-in-Ok-clause-given

@@ -1,13 +1,13 @@
 use Rattle.std.proofs.Common.{rules, ◌≡◌, ◌+◌, ◌-◌, ◌++◌, true, OnErr, OnOk, List, ℕ, length, take, drop, ap, refl, ◌∙◌, subst}
-use Rattle.esc_frame.proofs.CsiRuns.{run_joins}
+use Rattle.esc_frame.proofs.ByteRuns.CsiRuns.{run_joins}
 use Rattle.std.proofs.lemmas.List.{take_rest, take_all}
 use Rattle.std.proofs.Common.{take-append-drop}
-use Rattle.esc_filter.specs.Lines.{WasFedLines, ends_line}
+use Rattle.esc_filter.specs.Lines.{HasConsumedLines, ends_line}
 use Rattle.esc_filter.specs.Resumed.{GrowsResumed, IsMarked, policy_of_resuming}
-use Rattle.memory.specs.Refusals.{Refused}
+use Rattle.fallible_alloc.specs.Refusals.{Refused}
 use Rattle.esc_parse.proofs.Lists.{on_err_any, on_ok_more}
-use Rattle.esc_filter.proofs.LineBytes.{line_ended}
-use Rattle.esc_filter.proofs.Resumes.{fed_grown, resumes_more, resumes_not}
+use Rattle.esc_filter.proofs.ByLine.BytesOfLines.{line_ended}
+use Rattle.esc_filter.proofs.Renditions.RenditionsAreResumed.{fed_grown, resumes_more, resumes_not}
 use Rattle.esc_filter.proofs.resuming.ResumingFilter.feed_lines.Goals as goal
 
 -- the bytes from a place on
@@ -49,7 +49,8 @@ loop-at-preserved g c =
           (run_joins bs at n)
           (resumes_more k u limit admits d (take at bs) piece first c.loop-at.self
           c.take_line.new.self before
-          (subst (λ p. WasFedLines u limit (g.P.Admit.admits p) (d ++ before.0) c.loop-at.self.lines
+          (subst (λ p. HasConsumedLines u limit (g.P.Admit.admits p) (d ++ before.0)
+          c.loop-at.self.lines
           → IsMarked k u limit (g.P.Admit.admits p) (d ++ before.0) c.loop-at.self
           → GrowsResumed k u (g.P.Admit.admits p) limit (d ++ before.0) piece c.loop-at.self
           c.take_line.new.self) inv.policy
@@ -62,7 +63,7 @@ loop-at-preserved g c =
           (run_joins bs (at + n) count)
           (resumes_more k u limit admits d (take (at + n) bs) more first c.take_line.new.self
           c.take_plain.new.self line
-          (subst (λ p. WasFedLines u limit (g.P.Admit.admits p) (d ++ line.0)
+          (subst (λ p. HasConsumedLines u limit (g.P.Admit.admits p) (d ++ line.0)
           c.take_line.new.self.lines
           → IsMarked k u limit (g.P.Admit.admits p) (d ++ line.0) c.take_line.new.self
           → GrowsResumed k u (g.P.Admit.admits p) limit (d ++ line.0) more c.take_line.new.self
@@ -81,7 +82,7 @@ returns-in_err-take_line-in-Some-clause-refused g c = λ k u limit d w m.
     fed_grown k u limit admits d (take c.loop-at.at c.args.bytes.now) c.args.self.now c.loop-at.self
     before in
     on_err_any _ c.from_residual.result
-    (subst (λ p. WasFedLines u limit (g.P.Admit.admits p) (d ++ before.0) c.loop-at.self.lines
+    (subst (λ p. HasConsumedLines u limit (g.P.Admit.admits p) (d ++ before.0) c.loop-at.self.lines
     → IsMarked k u limit (g.P.Admit.admits p) (d ++ before.0) c.loop-at.self
     → Refused g.row.A.Denot) inv.policy
     (c.in_err-take_line-in-Some.ensures.refused k u limit (d ++ before.0)) fed marks)
@@ -100,7 +101,7 @@ returns-in-None-clause-given g c = λ k u limit d w m.
     (λ h. subst (λ x. GrowsResumed k u admits limit d x first c.take_open.new.self) (all bs at)
     (resumes_more k u limit admits d (take at bs) (tail bs at) first c.loop-at.self
     c.take_open.new.self before h))
-    (subst (λ p. WasFedLines u limit (g.P.Admit.admits p) (d ++ before.0) c.loop-at.self.lines
+    (subst (λ p. HasConsumedLines u limit (g.P.Admit.admits p) (d ++ before.0) c.loop-at.self.lines
     → IsMarked k u limit (g.P.Admit.admits p) (d ++ before.0) c.loop-at.self
     → OnOk c.take_open.result (GrowsResumed k u (g.P.Admit.admits p) limit (d ++ before.0)
     (tail bs at) c.loop-at.self c.take_open.new.self)) inv.policy
@@ -114,7 +115,7 @@ returns-in-None-clause-refused g c = λ k u limit d w m.
     let (fed, marks, same) =
     fed_grown k u limit admits d (take c.loop-at.at c.args.bytes.now) c.args.self.now c.loop-at.self
     before in
-    subst (λ p. WasFedLines u limit (g.P.Admit.admits p) (d ++ before.0) c.loop-at.self.lines
+    subst (λ p. HasConsumedLines u limit (g.P.Admit.admits p) (d ++ before.0) c.loop-at.self.lines
     → IsMarked k u limit (g.P.Admit.admits p) (d ++ before.0) c.loop-at.self
     → OnErr c.take_open.result (Refused g.row.A.Denot)) inv.policy
     (c.take_open.ensures.refused k u limit (d ++ before.0)) fed marks

@@ -1,5 +1,5 @@
 use Rattle.std.proofs.Common.{Bool, length, take, ◌-◌, ◌≡◌, ◌≤◌, ℕ, List}
-use Rattle.esc_filter.specs.Lines.{WasFedLines}
+use Rattle.esc_filter.specs.Lines.{HasConsumedLines}
 use Rattle.esc_filter.specs.Resumed.{GrowsResumed, IsMarked, policy_of_resuming}
 use Rattle.esc_filter.specs.declared.guard.Guard.{Guard}
 use Rattle.esc_filter.proofs.resuming.ResumingFilter.feed_lines.Given as goal
@@ -9,7 +9,7 @@ invariant-loop-at g l = record {
   within : l.at ≤ length l.bytes;
   policy : policy_of_resuming l.self ≡ policy_of_resuming l.fn.self;
   grown : (k : Bool) (u : Guard) (limit : ℕ) (d : List ℕ)
-      → WasFedLines u limit (g.P.Admit.admits (policy_of_resuming l.fn.self)) d l.fn.self.lines
+      → HasConsumedLines u limit (g.P.Admit.admits (policy_of_resuming l.fn.self)) d l.fn.self.lines
       → IsMarked k u limit (g.P.Admit.admits (policy_of_resuming l.fn.self)) d l.fn.self
       → GrowsResumed k u (g.P.Admit.admits (policy_of_resuming l.fn.self)) limit d
       (take l.at l.bytes) l.fn.self l.self;

@@ -1,5 +1,5 @@
 use Rattle.std.proofs.Common.{refl, sym, ◌∙◌}
-use Rattle.esc_filter.proofs.Openings.{at_none}
+use Rattle.esc_filter.proofs.Renditions.RenditionsGoOn.{at_none}
 use Rattle.esc_filter.proofs.resuming.ResumingFilter.new.Goals as goal
 
 pub returns-clause-fed : goal.returns-clause-fed

@@ -2,8 +2,8 @@ use Rattle.std.proofs.Common.{◌≡◌, [], ◌∙◌, rules, subst, sym}
 use Rattle.std.specs.Prelude.{string_bytes}
 use Rattle.esc_filter.specs.Lines.{GrowsBy, GrowsRest, policy_of_lines}
 use Rattle.esc_parse.proofs.Lists.{on_ok_more}
-use Rattle.esc_filter.proofs.ByLines.{grows_not}
-use Rattle.esc_filter.proofs.Resumes.{nil_of, opens_with}
+use Rattle.esc_filter.proofs.ByLine.LinesAreStreams.{grows_not}
+use Rattle.esc_filter.proofs.Renditions.RenditionsAreResumed.{nil_of, opens_with}
 use Rattle.esc_filter.proofs.resuming.ResumingFilter.resume.Goals as goal
 
 pub returns-then-is_empty-clause-given : goal.returns-then-is_empty-clause-given

@@ -1,10 +1,10 @@
 use Rattle.std.proofs.Common.{◌++◌, OnErr, OnOk, refl, rules, subst}
-use Rattle.esc_filter.specs.Lines.{WasFedLines, policy_of_lines}
+use Rattle.esc_filter.specs.Lines.{HasConsumedLines, policy_of_lines}
 use Rattle.esc_filter.specs.Openings.{opening_at}
 use Rattle.esc_filter.specs.Resumed.{EndsWith}
-use Rattle.memory.specs.Refusals.{Refused}
+use Rattle.fallible_alloc.specs.Refusals.{Refused}
 use Rattle.esc_parse.proofs.Lists.{on_ok_more}
-use Rattle.esc_filter.proofs.Resumes.{begins_now, resumes_blank, resumes_end, resumes_line}
+use Rattle.esc_filter.proofs.Renditions.RenditionsAreResumed.{begins_now, resumes_blank, resumes_end, resumes_line}
 use Rattle.esc_filter.proofs.resuming.ResumingFilter.take_line.Goals as goal
 
 pub returns-then-self-clause-given : goal.returns-then-self-clause-given
@@ -40,7 +40,7 @@ returns-in-Ok-clause-given g c = λ k u limit d w m.
     (λ h. resumes_line k u limit admits d c.args.bytes.now first mid c.end_line-in-Ok.new.self m
     (search rules) c.requires (search rules) grown c.resume.ensures.kept.1 h
     c.end_line-in-Ok.ensures.kept.1)
-    (subst (λ p. WasFedLines u limit (g.P.Admit.admits p) (d ++ o) mid.lines
+    (subst (λ p. HasConsumedLines u limit (g.P.Admit.admits p) (d ++ o) mid.lines
     → OnOk c.end_line-in-Ok.result (EndsWith u (g.P.Admit.admits p) limit (d ++ o)
     c.args.bytes.now mid c.end_line-in-Ok.new.self)) c.resume.ensures.kept.0
     (c.end_line-in-Ok.ensures.given u limit (d ++ o))
@@ -54,7 +54,7 @@ returns-in-Ok-clause-refused g c = λ k u limit d w m.
     let o = opening_at {A = g.row.A.Denot} k u limit admits d in
     let grown = c.in-Ok.ensures.given k u limit d w m (begins_now k u limit admits d first m
     (search rules)) in
-    subst (λ p. WasFedLines u limit (g.P.Admit.admits p) (d ++ o) mid.lines
+    subst (λ p. HasConsumedLines u limit (g.P.Admit.admits p) (d ++ o) mid.lines
     → OnErr c.end_line-in-Ok.result (Refused g.row.A.Denot)) c.resume.ensures.kept.0
     (c.end_line-in-Ok.ensures.refused u limit (d ++ o)) grown.1.0
 

@@ -1,7 +1,7 @@
 use Rattle.std.proofs.Common.{◌∙◌, ap}
 use Rattle.esc_filter.specs.Terminal.{after_function}
-use Rattle.esc_filter.proofs.Parts.{some_params}
-use Rattle.esc_filter.proofs.Unmoved.{function_is, other_function}
+use Rattle.esc_filter.proofs.Output.PartsAreAppended.{some_params}
+use Rattle.esc_filter.proofs.GivingBack.TerminalIsUnmoved.{function_is, other_function}
 use Rattle.esc_filter.proofs.terminal.Terminal.change.Goals as goal
 
 pub returns-in-SGR : goal.returns-in-SGR

@@ -1,6 +1,6 @@
 use Rattle.std.proofs.Common.{◌∙◌}
 use Rattle.esc_filter.specs.Terminal.{after_escape_function}
-use Rattle.esc_filter.proofs.Unmoved.{escape_is, other_escape_function}
+use Rattle.esc_filter.proofs.GivingBack.TerminalIsUnmoved.{escape_is, other_escape_function}
 use Rattle.esc_filter.proofs.terminal.Terminal.change_by_escape.Goals as goal
 
 pub returns-in-DECSC : goal.returns-in-DECSC

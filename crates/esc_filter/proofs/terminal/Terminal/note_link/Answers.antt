@@ -1,5 +1,5 @@
 use Rattle.std.proofs.Common.{rules, ◌≢◌, codes}
-use Rattle.esc_filter.proofs.Lights.{ends, opens}
+use Rattle.esc_filter.proofs.GivingBack.RenditionsAfterSequence.{ends, opens}
 use Rattle.esc_filter.proofs.terminal.Terminal.note_link.Goals as goal
 
 pub returns-then-eq : goal.returns-then-eq

@@ -1,5 +1,5 @@
 use Rattle.std.proofs.Common.{◌++◌, Some, refl, false, ap, ◌∙◌}
-use Rattle.esc_filter.proofs.Characters.{writes_number}
+use Rattle.esc_filter.proofs.Output.DeceivingCharacters.{writes_number}
 use Rattle.esc_filter.proofs.written.Written.append_number.Goals as goal
 
 pub returns-in-Ok-clause-ok : goal.returns-in-Ok-clause-ok

@@ -1,8 +1,8 @@
 use Rattle.std.proofs.Common.{◌++◌, false, ap, sym, ◌∙◌}
 use Rattle.esc_sequences.specs.Csis.{csi_of}
 use Rattle.esc_normal.proofs.Spelling.{plain_given}
-use Rattle.esc_filter.proofs.Lights.{plain_sgr}
-use Rattle.esc_filter.proofs.Noting.{one_written}
+use Rattle.esc_filter.proofs.GivingBack.RenditionsAfterSequence.{plain_sgr}
+use Rattle.esc_filter.proofs.GivingBack.ChangesAreNoted.{one_written}
 use Rattle.esc_filter.proofs.written.Written.append_rendition.Goals as goal
 
 pub returns-in-Ok-clause-taken : goal.returns-in-Ok-clause-taken

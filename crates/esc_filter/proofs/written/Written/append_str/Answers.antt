@@ -1,6 +1,6 @@
 use Rattle.std.proofs.Common.{chars}
-use Rattle.esc_filter.proofs.Characters.{kept_themselves}
-use Rattle.esc_filter.proofs.Noting.{run_denied, run_written}
+use Rattle.esc_filter.proofs.Output.DeceivingCharacters.{kept_themselves}
+use Rattle.esc_filter.proofs.GivingBack.ChangesAreNoted.{run_denied, run_written}
 use Rattle.esc_filter.proofs.written.Written.append_str.Goals as goal
 
 pub returns-in-Ok : goal.returns-in-Ok

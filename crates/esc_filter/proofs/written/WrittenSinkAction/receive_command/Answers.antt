@@ -4,8 +4,8 @@ use Rattle.std.specs.declared.alloc.AllocError.{AllocError}
 use Rattle.std.proofs.lemmas.Result.{on_err_weaker}
 use Rattle.esc_values.specs.Clear.{parts_of}
 use Rattle.esc_parse.proofs.Lists.{if_ok_more}
-use Rattle.esc_filter.proofs.Noting.{command_denied, command_noted}
-use Rattle.esc_filter.proofs.Sequences.{link_denied, link_taken}
+use Rattle.esc_filter.proofs.GivingBack.ChangesAreNoted.{command_denied, command_noted}
+use Rattle.esc_filter.proofs.Renditions.SequencesFromParameters.{link_denied, link_taken}
 use Rattle.esc_filter.proofs.written.WrittenSinkAction.receive_command.Goals as goal
 
 pub receive_command-requires : goal.receive_command-requires

@@ -3,7 +3,7 @@ use Rattle.std.proofs.lemmas.Bool.{true≢false}
 use Rattle.std.specs.declared.alloc.AllocError.{AllocError}
 use Rattle.esc_sequences.specs.Csis.{csi_of}
 use Rattle.esc_normal.proofs.Spelling.{plain_given, plain_refused}
-use Rattle.esc_filter.proofs.Noting.{sequence_denied, sequence_noted}
+use Rattle.esc_filter.proofs.GivingBack.ChangesAreNoted.{sequence_denied, sequence_noted}
 use Rattle.esc_filter.proofs.written.WrittenSinkAction.receive_sequence.Goals as goal
 
 pub returns-in-Ok-clause-given : goal.returns-in-Ok-clause-given

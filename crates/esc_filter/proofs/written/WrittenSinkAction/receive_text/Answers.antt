@@ -1,5 +1,5 @@
-use Rattle.esc_filter.proofs.Characters.{text_themselves}
-use Rattle.esc_filter.proofs.Noting.{run_denied, run_written}
+use Rattle.esc_filter.proofs.Output.DeceivingCharacters.{text_themselves}
+use Rattle.esc_filter.proofs.GivingBack.ChangesAreNoted.{run_denied, run_written}
 use Rattle.esc_filter.proofs.written.WrittenSinkAction.receive_text.Goals as goal
 
 pub returns-in-Ok-clause-given : goal.returns-in-Ok-clause-given

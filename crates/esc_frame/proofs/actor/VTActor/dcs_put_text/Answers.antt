@@ -1,8 +1,8 @@
 use Rattle.std.proofs.Common.{arith}
 use Rattle.esc_frame.specs.Events.Event.{DcsPut}
-use Rattle.esc_frame.proofs.Given.{each_next, each_stop}
-use Rattle.esc_frame.proofs.May.{get_each}
-use Rattle.esc_frame.proofs.Failed.{error_of}
+use Rattle.esc_frame.proofs.Emits.EventsFold.{each_next, each_stop}
+use Rattle.esc_frame.proofs.Emits.MayAfterSome.{get_each}
+use Rattle.esc_frame.proofs.Steps.FailureIsHandedOn.{error_of}
 use Rattle.esc_frame.proofs.actor.VTActor.dcs_put_text.Goals as goal
 
 pub returns-in_err-dcs_put-clause-emitted : goal.returns-in_err-dcs_put-clause-emitted

@@ -6,8 +6,8 @@ use Rattle.esc_values.specs.Clear.{parts_of}
 use Rattle.esc_frame.specs.Events.{Event, Receives, Takes}
 use Rattle.esc_frame.specs.Events.Event.{OscDispatch}
 use Rattle.esc_frame.specs.Limits.{has_few_parts}
-use Rattle.memory.specs.Refusals.{Refused}
-use Rattle.esc_frame.proofs.Given.{receives_takes, stops_here}
+use Rattle.fallible_alloc.specs.Refusals.{Refused}
+use Rattle.esc_frame.proofs.Emits.EventsFold.{receives_takes, stops_here}
 use Rattle.esc_frame.proofs.actor.VTActor.osc_text.Goals as goal
 
 no_parts : (t : List ℕ) → (length t == 0) ≡ true → [] ≡ parts_of t

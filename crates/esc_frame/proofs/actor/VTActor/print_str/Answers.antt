@@ -2,9 +2,9 @@ use Rattle.std.proofs.Common.{map, subst, arith}
 use Rattle.std.specs.List.{FoldsTo}
 use Rattle.std.specs.Str.{chars}
 use Rattle.esc_frame.specs.Events.Event.{Print}
-use Rattle.esc_frame.proofs.FirstChars.{next_within, tail_next, tail_some, tail_clear}
-use Rattle.esc_frame.proofs.Spelled.{next_spelled, stop_given, all_spelled, may_spell}
-use Rattle.esc_frame.proofs.Failed.{error_of}
+use Rattle.esc_frame.proofs.ByteRuns.FirstCharacter.{next_within, tail_next, tail_some, tail_clear}
+use Rattle.esc_frame.proofs.Emits.TextsByCharacter.{next_spelled, stop_given, all_spelled, may_spell}
+use Rattle.esc_frame.proofs.Steps.FailureIsHandedOn.{error_of}
 use Rattle.esc_frame.proofs.actor.VTActor.print_str.Goals as goal
 
 pub loop-at-preserved : goal.loop-at-preserved

@@ -1,8 +1,8 @@
 use Rattle.std.proofs.Common.{arith}
 use Rattle.esc_frame.specs.Events.Event.{Print}
-use Rattle.esc_frame.proofs.Given.{each_next, each_stop}
-use Rattle.esc_frame.proofs.May.{get_each}
-use Rattle.esc_frame.proofs.Failed.{error_of}
+use Rattle.esc_frame.proofs.Emits.EventsFold.{each_next, each_stop}
+use Rattle.esc_frame.proofs.Emits.MayAfterSome.{get_each}
+use Rattle.esc_frame.proofs.Steps.FailureIsHandedOn.{error_of}
 use Rattle.esc_frame.proofs.actor.VTActor.print_text.Goals as goal
 
 pub returns-in_err-print-clause-emitted : goal.returns-in_err-print-clause-emitted

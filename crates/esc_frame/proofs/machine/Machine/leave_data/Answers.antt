@@ -1,16 +1,17 @@
 use Rattle.std.proofs.Common.{true, [], ◌∷◌, refl}
 use Rattle.esc_frame.specs.Events.Event.{DcsUnhook}
 use Rattle.esc_frame.specs.Machine.Moves.{ground_move}
-use Rattle.esc_frame.proofs.Given.{moves_then, refused_stops, stops_more}
+use Rattle.esc_frame.proofs.Emits.EventsFold.{moves_then, refused_stops, stops_more}
 use Rattle.esc_frame.specs.Machine.Calls.{Fails}
-use Rattle.esc_frame.proofs.Failed.{error_of}
+use Rattle.esc_frame.proofs.Steps.FailureIsHandedOn.{error_of}
 use Rattle.esc_frame.proofs.machine.Machine.leave_data.Goals as goal
 
 pub returns-clause-moved : goal.returns-clause-moved
 returns-clause-moved g c =
-    λ limit. moves_then g.K.Store.keeps (Fails g.K.Store.denied g.V.Taker.stops g.row.A.Denot)
+    λ limit. moves_then g.K.TextRoom.keeps
+    (Fails g.K.TextRoom.may_fail g.V.EventSink.stops g.row.A.Denot)
     limit true
-    g.V.Taker.takes g.V.Taker.refuses c.in_ground.result (DcsUnhook ∷ [])
+    g.V.EventSink.takes g.V.EventSink.refuses c.in_ground.result (DcsUnhook ∷ [])
     (ground_move c.args.b c.args.class)
     c.in_ground.new.self
     c.args.actor.now _ _ (_, c.in_ok-dcs_unhook.ensures.receives, refl)
@@ -19,7 +20,7 @@ returns-clause-moved g c =
 pub returns-in_err-dcs_unhook-clause-moved : goal.returns-in_err-dcs_unhook-clause-moved
 returns-in_err-dcs_unhook-clause-moved g c = λ limit.
     rw (error_of c.from_residual.result c.from_residual.ensures.0).1
-    (stops_more _ g.V.Taker.takes g.V.Taker.refuses (DcsUnhook ∷ [])
+    (stops_more _ g.V.EventSink.takes g.V.EventSink.refuses (DcsUnhook ∷ [])
     _ c.args.actor.now _
-    (refused_stops _ g.V.Taker.takes g.V.Taker.refuses c.args.actor.now _ (DcsUnhook)
+    (refused_stops _ g.V.EventSink.takes g.V.EventSink.refuses c.args.actor.now _ (DcsUnhook)
     c.in_err-dcs_unhook.ensures.receives))

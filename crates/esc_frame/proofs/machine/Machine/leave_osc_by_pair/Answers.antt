@@ -1,22 +1,23 @@
 use Rattle.std.proofs.Common.{true, inr, refl}
 use Rattle.esc_frame.specs.Segments.{osc_events}
 use Rattle.esc_frame.specs.Machine.Moves.{pair_move}
-use Rattle.esc_frame.proofs.Given.{moves_then, stops_more, stops_for}
+use Rattle.esc_frame.proofs.Emits.EventsFold.{moves_then, stops_more, stops_for}
 use Rattle.esc_frame.specs.Machine.Calls.{Fails}
-use Rattle.esc_frame.proofs.Failed.{error_of}
+use Rattle.esc_frame.proofs.Steps.FailureIsHandedOn.{error_of}
 use Rattle.esc_frame.proofs.machine.Machine.leave_osc_by_pair.Goals as goal
 
 pub returns-clause-moved : goal.returns-clause-moved
 returns-clause-moved g c = λ limit t k.
-    moves_then g.K.Store.keeps (Fails g.K.Store.denied g.V.Taker.stops g.row.A.Denot)
-    limit true g.V.Taker.takes g.V.Taker.refuses
-    c.in_pair.result (osc_events limit t) (pair_move c.args.b c.args.class)
-    c.in_pair.new.self c.args.actor.now _ _ (c.in_ok-emit_osc.ensures.emitted limit t k)
-    (c.in_pair.ensures.moved limit true)
+    moves_then g.K.TextRoom.keeps (Fails g.K.TextRoom.may_fail g.V.EventSink.stops g.row.A.Denot)
+    limit true g.V.EventSink.takes g.V.EventSink.refuses
+    c.c1_in_utf8.result (osc_events limit t) (pair_move c.args.b c.args.class)
+    c.c1_in_utf8.new.self c.args.actor.now _ _ (c.in_ok-emit_osc.ensures.emitted limit t k)
+    (c.c1_in_utf8.ensures.moved limit true)
 
 pub returns-in_err-emit_osc-clause-moved : goal.returns-in_err-emit_osc-clause-moved
 returns-in_err-emit_osc-clause-moved g c = λ limit t k.
     rw (error_of c.from_residual.result c.from_residual.ensures.0).1
-    (stops_more _ g.V.Taker.takes g.V.Taker.refuses (osc_events limit t) _ c.args.actor.now _
-    (stops_for _ _ g.V.Taker.takes g.V.Taker.refuses (osc_events limit t) c.args.actor.now _
+    (stops_more _ g.V.EventSink.takes g.V.EventSink.refuses (osc_events limit t) _ c.args.actor.now
+    _
+    (stops_for _ _ g.V.EventSink.takes g.V.EventSink.refuses (osc_events limit t) c.args.actor.now _
     (λ r. (refl, inr r)) (c.in_err-emit_osc.ensures.emitted limit t k)))

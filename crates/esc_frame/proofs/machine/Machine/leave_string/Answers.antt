@@ -1,5 +1,5 @@
 use Rattle.std.proofs.Common.{refl}
-use Rattle.esc_frame.proofs.CsiRuns.{escape_class}
+use Rattle.esc_frame.proofs.ByteRuns.CsiRuns.{escape_class}
 use Rattle.esc_frame.proofs.machine.Machine.leave_string.Goals as goal
 
 pub returns-then-b-eq27-clause-moved : goal.returns-then-b-eq27-clause-moved

@@ -5,8 +5,9 @@ use Rattle.esc_frame.specs.Machine.Calls.{Ran}
 use Rattle.esc_frame.proofs.machine.Machine.take_quick.Given as goal
 
 abbrev pub invariant-loop-at : goal.invariant-loop-at
-invariant-loop-at g l = Ran g.V.Taker.takes g.V.Taker.is_ready l.rest l.at l.initial.actor l.actor
-    × (Holds g.K.Store.keeps None l.self Ground × (l.self.limit ≡ l.initial.self.limit))
+invariant-loop-at g l = Ran g.V.EventSink.takes g.V.EventSink.is_ready l.rest l.at l.initial.actor
+    l.actor
+    × (Holds g.K.TextRoom.keeps None l.self Ground × (l.self.limit ≡ l.initial.self.limit))
 
 abbrev pub decreases-loop-at : goal.decreases-loop-at
 decreases-loop-at g l = length l.rest - l.at

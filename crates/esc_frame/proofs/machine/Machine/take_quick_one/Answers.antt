@@ -15,6 +15,6 @@ returns-else-rest-eq27 g c = record {
 
 pub returns-then-rest-eq27 : goal.returns-then-rest-eq27
 returns-then-rest-eq27 g c = record {
-  ground = c.take_quick_csi.ensures.taken.ground;
-  stays = c.take_quick_csi.ensures.taken.stays;
+  ground = c.parse_short_csi.ensures.taken.ground;
+  stays = c.parse_short_csi.ensures.taken.stays;
 }

@@ -3,7 +3,7 @@ use Rattle.esc_frame.specs.declared.machine.State.TheVariants as state
 use Rattle.esc_frame.specs.declared.utf8.sequence.Pending.TheVariants as pending
 use Rattle.esc_frame.specs.Machine.Prefixes.{prefix_of}
 use Rattle.esc_frame.specs.Segments.{text_of}
-use Rattle.esc_frame.proofs.Pushed.{sequence_pushed}
+use Rattle.esc_frame.proofs.Steps.StringsGrow.{sequence_pushed}
 use Rattle.esc_frame.proofs.machine.Machine.whole_in_osc.Goals as goal
 
 pub returns-then-pairs_with-clause-moved : goal.returns-then-pairs_with-clause-moved
@@ -13,8 +13,9 @@ returns-then-pairs_with-clause-moved g c = λ o ps k.
 
 pub returns-else-pairs_with-clause-moved : goal.returns-else-pairs_with-clause-moved
 returns-else-pairs_with-clause-moved g c = λ o ps k.
-    sequence_pushed g.K.Store.keeps g.K.Store.denied g.V.Taker.stops c.args.self.now.limit
-    g.V.Taker.takes g.V.Taker.refuses c.put.result
+    sequence_pushed g.K.TextRoom.keeps g.K.TextRoom.may_fail g.V.EventSink.stops
+    c.args.self.now.limit
+    g.V.EventSink.takes g.V.EventSink.refuses c.put.result
     (record c.args.self.now {
       state = state.Osc;
       pending = pending.Nothing;

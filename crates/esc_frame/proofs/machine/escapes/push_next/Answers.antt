@@ -1,5 +1,5 @@
 use Rattle.std.proofs.Common.{take}
-use Rattle.esc_frame.proofs.DigitRuns.{digits_in_body}
+use Rattle.esc_frame.proofs.ByteRuns.DigitRuns.{digits_in_body}
 use Rattle.esc_frame.proofs.machine.escapes.push_next.Goals as goal
 
 pub returns-then-rest-le57-clause-run : goal.returns-then-rest-le57-clause-run

@@ -1,7 +1,7 @@
 use Rattle.std.proofs.Common.{◌++◌, ◌∙◌, take, drop, length, ◌-◌, ap, subst, append_assoc, arith}
 use Rattle.esc_frame.specs.Machine.Keeps.{KeepsBody}
-use Rattle.esc_frame.proofs.CsiRuns.{run_joins, passes_more}
-use Rattle.esc_frame.proofs.ManyBytes.{tail_length}
+use Rattle.esc_frame.proofs.ByteRuns.CsiRuns.{run_joins, passes_more}
+use Rattle.esc_frame.proofs.ByteRuns.ManyBytes.{tail_length}
 use Rattle.esc_frame.proofs.machine.escapes.push_run.Goals as goal
 
 pub loop-end-preserved : goal.loop-end-preserved

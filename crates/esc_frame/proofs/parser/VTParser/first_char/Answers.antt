@@ -1,5 +1,5 @@
-use Rattle.esc_frame.proofs.AtGround.{to_ground}
-use Rattle.esc_frame.proofs.Fed.{character_fed}
+use Rattle.esc_frame.proofs.Cut.CutAtGround.{to_ground}
+use Rattle.esc_frame.proofs.Emits.StepsAdd.{character_fed}
 use Rattle.esc_frame.proofs.parser.VTParser.first_char.Goals as goal
 
 pub returns-then-is_ground-clause-given : goal.returns-then-is_ground-clause-given

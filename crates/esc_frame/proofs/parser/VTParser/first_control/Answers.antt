@@ -1,5 +1,5 @@
-use Rattle.esc_frame.proofs.AtGround.{to_ground}
-use Rattle.esc_frame.proofs.Fed.{control_fed}
+use Rattle.esc_frame.proofs.Cut.CutAtGround.{to_ground}
+use Rattle.esc_frame.proofs.Emits.StepsAdd.{control_fed}
 use Rattle.esc_frame.proofs.parser.VTParser.first_control.Goals as goal
 
 pub returns-clause-given : goal.returns-clause-given

@@ -5,14 +5,14 @@ use Rattle.esc_frame.specs.Machine.Keeps.{KeepsText}
 use Rattle.esc_frame.specs.Machine.Moves.{after_all, events_by}
 use Rattle.esc_frame.specs.Classes.{class_of}
 use Rattle.esc_frame.specs.Events.{Awaits}
-use Rattle.esc_frame.specs.Stream.{LeadsToWithin}
-use Rattle.esc_frame.proofs.Fed.{kept_one, given_one, refused_one, may_feed}
+use Rattle.esc_frame.specs.Stream.{HasConsumedWithin}
+use Rattle.esc_frame.proofs.Emits.StepsAdd.{kept_one, given_one, refused_one, may_feed}
 use Rattle.std.proofs.Math.Logic.{⊎_map}
-use Rattle.esc_frame.proofs.May.{take_prefix}
+use Rattle.esc_frame.proofs.Emits.MayAfterSome.{take_prefix}
 use Rattle.esc_frame.proofs.parser.VTParser.parse_byte.Goals as goal
 
 pub returns-in-Ok-clause-parsed : goal.returns-in-Ok-clause-parsed
-unfolding LeadsToWithin
+unfolding HasConsumedWithin
 returns-in-Ok-clause-parsed g c = λ limit s (f, i, h). record {
   given = let b = c.args.byte in
       let same = c.in-Ok.ensures.ready.0 in
@@ -33,7 +33,7 @@ returns-in-Ok-clause-parsed g c = λ limit s (f, i, h). record {
 }
 
 pub returns-in-Err-clause-parsed : goal.returns-in-Err-clause-parsed
-unfolding LeadsToWithin
+unfolding HasConsumedWithin
 returns-in-Err-clause-parsed g c = λ limit s (f, i, h). record {
   refused = let k = c.classify.ensures in (
     refl,

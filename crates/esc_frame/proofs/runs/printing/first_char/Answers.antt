@@ -1,7 +1,7 @@
 use Rattle.std.proofs.Common.{◌∙◌, sym, arith}
 use Rattle.std.proofs.lemmas.Bool.{eqb-false}
 use Rattle.std.proofs.lemmas.Bool.Decides.{nat_tests}
-use Rattle.esc_frame.proofs.ManyBytes.{one_text}
+use Rattle.esc_frame.proofs.ByteRuns.ManyBytes.{one_text}
 use Rattle.esc_frame.proofs.runs.printing.first_char.Goals as goal
 
 pub returns-then-rest-lt128-clause-prints : goal.returns-then-rest-lt128-clause-prints

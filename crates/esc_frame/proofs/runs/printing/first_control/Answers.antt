@@ -1,6 +1,6 @@
 use Rattle.std.proofs.Common.{◌∙◌, sym, arith}
 use Rattle.std.proofs.lemmas.Bool.{eqb-false}
-use Rattle.esc_frame.proofs.ManyBytes.{one_control}
+use Rattle.esc_frame.proofs.ByteRuns.ManyBytes.{one_control}
 use Rattle.esc_frame.proofs.runs.printing.first_control.Goals as goal
 
 pub returns-then-rest-ne27-clause-executes : goal.returns-then-rest-ne27-clause-executes

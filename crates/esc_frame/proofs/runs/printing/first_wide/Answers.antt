@@ -1,6 +1,6 @@
 use Rattle.std.proofs.Common.{arith}
-use Rattle.esc_frame.proofs.ManyBytes.{character_does}
-use Rattle.esc_frame.proofs.Still.{character_still}
+use Rattle.esc_frame.proofs.ByteRuns.ManyBytes.{character_does}
+use Rattle.esc_frame.proofs.Emits.StopsAtFirstEvent.{character_still}
 use Rattle.esc_frame.proofs.runs.printing.first_wide.Goals as goal
 
 pub returns-else-n-eq0-clause-prints : goal.returns-else-n-eq0-clause-prints

@@ -1,6 +1,6 @@
 use Rattle.std.proofs.Common.{arith}
-use Rattle.esc_frame.proofs.ManyBytes.{character_does, event_given, event_stops}
-use Rattle.esc_frame.proofs.MayRun.{may_one}
+use Rattle.esc_frame.proofs.ByteRuns.ManyBytes.{character_does, event_given, event_stops}
+use Rattle.esc_frame.proofs.Emits.MayInGround.{may_one}
 use Rattle.esc_frame.proofs.runs.printing.print_ahead.Goals as goal
 
 pub returns-in-Ok : goal.returns-in-Ok
@@ -8,7 +8,8 @@ returns-in-Ok g c =
     let one = character_does _ _ (c.requires.ahead (omega arith)).1 in (
       (c.requires.ahead (omega arith)).0,
       one.0,
-      event_given g.V.Taker.takes g.V.Taker.refuses c.args.rest.now c.args.n _ c.args.actor.now _
+      event_given g.V.EventSink.takes g.V.EventSink.refuses c.args.rest.now c.args.n _
+          c.args.actor.now _
           one
           c.in-Ok.ensures.receives,
       c.in-Ok.ensures.ready,
@@ -16,11 +17,12 @@ returns-in-Ok g c =
 
 pub returns-in-Err : goal.returns-in-Err
 returns-in-Err g c =
-    event_stops g.V.Taker.takes g.V.Taker.refuses c.args.rest.now c.args.n _ c.args.actor.now _
+    event_stops g.V.EventSink.takes g.V.EventSink.refuses c.args.rest.now c.args.n _
+    c.args.actor.now _
     (character_does _ _ (c.requires.ahead (omega arith)).1)
     _ c.in-Err.ensures.receives
 
 pub print-requires : goal.print-requires
 print-requires g c =
-    may_one g.V.Taker.is_ready g.V.Taker.may g.V.Taker.takes c.args.rest.now c.args.n _
+    may_one g.V.EventSink.is_ready g.V.EventSink.may g.V.EventSink.takes c.args.rest.now c.args.n _
     c.args.actor.now (character_does _ _ (c.requires.ahead (omega arith)).1) c.requires.ready

@@ -3,7 +3,7 @@ use Rattle.std.proofs.lemmas.Simd.{zip2_splat, length-chunk, zip2_of_maps}
 use Rattle.std.proofs.lemmas.List.Sums.{prefix_len-le-length}
 use lib.Lanes.{chunk}
 use Rattle.esc_frame.specs.Scans.{is_free_byte}
-use Rattle.esc_frame.proofs.Lanes.{lowest_lane}
+use Rattle.esc_frame.proofs.ByteRuns.LanesPass.{lowest_lane}
 use Rattle.esc_frame.proofs.runs.scans.free_in_wide_lanes.Goals as goal
 
 pub returns : goal.returns

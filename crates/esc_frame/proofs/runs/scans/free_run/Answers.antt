@@ -1,5 +1,5 @@
 use Rattle.std.proofs.Common.{◌+◌, refl, arith}
-use Rattle.esc_frame.proofs.ClearRuns.{free_less, free_more, free_next}
+use Rattle.esc_frame.proofs.ByteRuns.ClearRuns.{free_less, free_more, free_next}
 use Rattle.esc_frame.proofs.runs.scans.free_run.Goals as goal
 
 pub returns-then-not-is_free_at-clause-run : goal.returns-then-not-is_free_at-clause-run

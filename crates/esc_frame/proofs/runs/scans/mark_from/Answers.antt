@@ -3,7 +3,7 @@ use Rattle.std.proofs.lemmas.List.Sums.{prefix_len-le-length, prefix_len-drop_ye
 use Rattle.std.proofs.lemmas.List.Sums.{prefix_len-drop_no, prefix_len-drop_all}
 use Rattle.std.proofs.lemmas.Simd.{length-chunk}
 use Rattle.esc_frame.specs.Scans.{is_unmarked}
-use Rattle.esc_frame.proofs.Lanes.{run_block, run_within, other_is_unmarked, mark_is_marked}
+use Rattle.esc_frame.proofs.ByteRuns.LanesPass.{run_block, run_within, other_is_unmarked, mark_is_marked}
 use Rattle.esc_frame.proofs.runs.scans.mark_from.Goals as goal
 
 pub returns-then-run-lt16-clause-at : goal.returns-then-run-lt16-clause-at

@@ -1,7 +1,7 @@
 use Rattle.std.proofs.Common.{◌-◌, leb, cond, refl, arith, ◌∙◌}
 use Rattle.std.proofs.lemmas.Simd.{zip2_splat, length-chunk, zip2_of_maps, splat_is_map}
 use lib.Lanes.{chunk}
-use Rattle.esc_frame.proofs.Lanes.{lowest_to}
+use Rattle.esc_frame.proofs.ByteRuns.LanesPass.{lowest_to}
 use Rattle.esc_frame.proofs.runs.scans.run_in_lanes.Goals as goal
 
 pub returns : goal.returns

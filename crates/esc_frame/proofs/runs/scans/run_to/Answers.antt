@@ -1,7 +1,7 @@
 use Rattle.std.proofs.Common.{arith}
 use Rattle.std.proofs.lemmas.List.Sums.{prefix_len-le-length}
 use Rattle.esc_frame.specs.Sequences.{is_from}
-use Rattle.esc_frame.proofs.Lanes.{run_full, run_short}
+use Rattle.esc_frame.proofs.ByteRuns.LanesPass.{run_full, run_short}
 use Rattle.esc_frame.proofs.runs.scans.run_to.Goals as goal
 
 pub returns-then-run-lt16 : goal.returns-then-run-lt16

@@ -1,6 +1,6 @@
 use Rattle.std.proofs.Common.{◌∙◌, sym, eqb-true, arith}
-use Rattle.esc_frame.proofs.Ahead.{none_low, control_first}
-use Rattle.esc_frame.proofs.StringRuns.{prefix_is_run, ahead_is_run, no_text_first}
+use Rattle.esc_frame.proofs.ByteRuns.NoCharacterAhead.{none_low, control_first}
+use Rattle.esc_frame.proofs.ByteRuns.StringRuns.{prefix_is_run, ahead_is_run, no_text_first}
 use Rattle.esc_frame.proofs.runs.scans.units_ahead.Goals as goal
 use Rattle.esc_frame.proofs.runs.scans.units_ahead.Goals.{then-is_empty-via-then-is_empty, then-is_empty-via-else-is_empty+then-bytes-lt32}
 

@@ -1,7 +1,7 @@
 use Rattle.std.proofs.Common.{arith, rules, subst}
 use Rattle.esc_frame.specs.Machine.TextRuns.{NoUnitAhead}
-use Rattle.esc_frame.proofs.ManyBytes.{tail_is, tail_length}
-use Rattle.esc_frame.proofs.StringRuns.{run_more}
+use Rattle.esc_frame.proofs.ByteRuns.ManyBytes.{tail_is, tail_length}
+use Rattle.esc_frame.proofs.ByteRuns.StringRuns.{run_more}
 use Rattle.esc_frame.proofs.runs.scans.units_run.Goals as goal
 
 pub loop-end-preserved : goal.loop-end-preserved

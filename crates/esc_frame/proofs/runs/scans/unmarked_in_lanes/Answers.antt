@@ -2,7 +2,7 @@ use Rattle.std.proofs.Common.{eqb, cond, refl, arith, ◌∙◌}
 use Rattle.std.proofs.lemmas.Simd.{zip2_splat, length-chunk}
 use lib.Lanes.{chunk}
 use Rattle.esc_frame.specs.Scans.{is_unmarked}
-use Rattle.esc_frame.proofs.Lanes.{lowest_lane}
+use Rattle.esc_frame.proofs.ByteRuns.LanesPass.{lowest_lane}
 use Rattle.esc_frame.proofs.runs.scans.unmarked_in_lanes.Goals as goal
 
 pub returns : goal.returns

@@ -1,5 +1,5 @@
 use Rattle.std.proofs.Common.{refl, ◌∙◌, arith}
-use Rattle.esc_frame.proofs.DigitRuns.{number_next, digits_first, digits_more}
+use Rattle.esc_frame.proofs.ByteRuns.DigitRuns.{number_next, digits_first, digits_more}
 use Rattle.esc_frame.proofs.unfinished.short.read_any_number.Goals as goal
 
 pub loop-end-init : goal.loop-end-init

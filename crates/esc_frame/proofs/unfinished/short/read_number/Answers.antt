@@ -1,5 +1,5 @@
 use Rattle.std.proofs.Common.{rules, ◌∙◌, refl, arith}
-use Rattle.esc_frame.proofs.DigitRuns.{number_next, digits_first, digits_more}
+use Rattle.esc_frame.proofs.ByteRuns.DigitRuns.{number_next, digits_first, digits_more}
 use Rattle.esc_frame.proofs.unfinished.short.read_number.Goals as goal
 
 pub returns-then-rest-lt4 : goal.returns-then-rest-lt4

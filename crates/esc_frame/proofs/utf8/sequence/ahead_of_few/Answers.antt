@@ -1,5 +1,5 @@
 use Rattle.std.proofs.Common.{arith}
-use Rattle.esc_frame.proofs.Ahead.{none_of_one, none_of_two, none_of_three}
+use Rattle.esc_frame.proofs.ByteRuns.NoCharacterAhead.{none_of_one, none_of_two, none_of_three}
 use Rattle.esc_frame.proofs.utf8.sequence.ahead_of_few.Goals as goal
 
 pub returns-then-rest-lt2-clause-none : goal.returns-then-rest-lt2-clause-none

@@ -1,4 +1,4 @@
-use Rattle.esc_frame.proofs.FirstChars.{next_one}
+use Rattle.esc_frame.proofs.ByteRuns.FirstCharacter.{next_one}
 use Rattle.esc_frame.proofs.utf8.texts.first_of.Goals as goal
 
 pub returns-then-text-lt128-clause-next : goal.returns-then-text-lt128-clause-next

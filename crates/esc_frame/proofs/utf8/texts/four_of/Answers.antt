@@ -1,6 +1,6 @@
 use Rattle.std.proofs.Common.{◌<◌, length, subst, sym, arith}
 use Rattle.esc_frame.specs.Machine.Texts.{IsNext}
-use Rattle.esc_frame.proofs.FirstChars.{next_four}
+use Rattle.esc_frame.proofs.ByteRuns.FirstCharacter.{next_four}
 use Rattle.esc_frame.proofs.utf8.texts.four_of.Goals as goal
 
 pub bounds-text-1 : goal.bounds-text-1

@@ -1,6 +1,6 @@
 use Rattle.std.proofs.Common.{◌<◌, length, subst, sym, arith}
 use Rattle.esc_frame.specs.Machine.Texts.{IsNext}
-use Rattle.esc_frame.proofs.FirstChars.{next_three}
+use Rattle.esc_frame.proofs.ByteRuns.FirstCharacter.{next_three}
 use Rattle.esc_frame.proofs.utf8.texts.three_of.Goals as goal
 
 pub bounds-text-1 : goal.bounds-text-1

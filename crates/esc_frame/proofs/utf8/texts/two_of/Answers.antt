@@ -1,6 +1,6 @@
 use Rattle.std.proofs.Common.{subst, sym}
 use Rattle.esc_frame.specs.Machine.Texts.{IsNext}
-use Rattle.esc_frame.proofs.FirstChars.{next_two}
+use Rattle.esc_frame.proofs.ByteRuns.FirstCharacter.{next_two}
 use Rattle.esc_frame.proofs.utf8.texts.two_of.Goals as goal
 
 pub overflow_sub-n : goal.overflow_sub-n

@@ -1,7 +1,7 @@
 use Rattle.std.proofs.Common.{◌≡◌, ◌-◌, ◌++◌, get_or, Some, None, take, refl, ap, ◌∙◌, subst, arith}
 use Rattle.std.proofs.lemmas.Str.{IsCharBoundary-after_ascii}
 use Rattle.memchr.specs.Find.{is_byte, IsFirstByte}
-use Rattle.esc_html.specs.Lines.{lined}
+use Rattle.esc_html.specs.Lines.{lined_page}
 use Rattle.esc_html.proofs.Lining.{feed_small, last_taken, line_taken, none_stay, number_taken, on_ok_both, open_taken}
 use Rattle.esc_html.proofs.line_writer.LineWriter.feed.Goals as goal
 
@@ -17,7 +17,7 @@ pub loop-at-init : goal.loop-at-init
 loop-at-init g c =
     let v = c.args.self.now in (
       c.utf8.page,
-      ap (λ x. x ++ lined v.number v.is_open c.args.page.now) c.clear.ensures.bytes,
+      ap (λ x. x ++ lined_page v.number v.is_open c.args.page.now) c.clear.ensures.bytes,
       refl,
       refl,
     )

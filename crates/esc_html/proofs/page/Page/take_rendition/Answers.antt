@@ -2,7 +2,7 @@ use Rattle.std.proofs.Common.{OnOk, ap, subst, ◌∙◌}
 use Rattle.esc_html.proofs.Sequences.{same_rendition}
 use Rattle.esc_html.specs.Fed.{Adds, state_of}
 use Rattle.esc_html.specs.Marks.{restyles}
-use Rattle.esc_looks.specs.Looks.{look_by}
+use Rattle.esc_style.specs.Looks.{look_by}
 use Rattle.esc_html.proofs.page.Page.take_rendition.Goals as goal
 
 pub returns-clause-ok : goal.returns-clause-ok

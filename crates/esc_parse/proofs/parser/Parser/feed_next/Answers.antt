@@ -7,13 +7,13 @@ use Rattle.std.proofs.Math.Logic.{⊎_map}
 use Rattle.std.proofs.Common.{inl, inr}
 use Rattle.esc_parse.proofs.parser.Parser.feed_next.Goals as goal
 use Rattle.esc_frame.specs.Stream.{events_within}
-use Rattle.esc_parse.specs.Fed.{Hooks, WasFedWithin}
+use Rattle.esc_parse.specs.Fed.{Hooks, ParserHasConsumedWithin}
 use Rattle.esc_parse.specs.Given.{AnyAt, At}
 use Rattle.esc_actions.specs.Meaning.{mode_from}
 use Rattle.esc_actions.specs.Values.{plain, value_of}
 
 pub returns-in-Ok : goal.returns-in-Ok
-unfolding WasFedWithin
+unfolding ParserHasConsumedWithin
 returns-in-Ok g c =
     let some = c.parse_some-result in
     let bs = c.args.bytes.now in record {
@@ -32,7 +32,7 @@ returns-in-Ok g c =
     }
 
 pub returns-in-Err : goal.returns-in-Err
-unfolding WasFedWithin
+unfolding ParserHasConsumedWithin
 returns-in-Err g c =
     let some = c.parse_some-result in record {
       count = tt;
@@ -52,7 +52,7 @@ returns-in-Err g c =
     }
 
 pub parse_some-result-requires : goal.parse_some-result-requires
-unfolding WasFedWithin
+unfolding ParserHasConsumedWithin
 parse_some-result-requires g c =
     ⊎_map (λ r. r) (λ w. elim w [
       | inl broken ↦ inl broken.0

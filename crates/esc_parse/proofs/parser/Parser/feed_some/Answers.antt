@@ -8,14 +8,14 @@ use Rattle.esc_actions.specs.Values.{value_of}
 use Rattle.esc_actions.specs.Meaning.{yield_within}
 use Rattle.esc_parse.proofs.DataSkips.{data_is_silent, prefix_all, takes_whole}
 use Rattle.esc_parse.proofs.Lists.{StopsAt-here, on_ok_at}
-use Rattle.esc_parse.specs.Fed.{WasFedWithin}
+use Rattle.esc_parse.specs.Fed.{ParserHasConsumedWithin}
 use Rattle.esc_parse.specs.Given.{AnyAt, At, StopsAt}
-use Rattle.memory.specs.Refusals.{Refused}
+use Rattle.fallible_alloc.specs.Refusals.{Refused}
 use Rattle.esc_parse.proofs.parser.Parser.feed_some.Goals as goal
 
 -- the data yields nothing, so the sink awaits nothing
 pub parse_into-result-requires : goal.parse_into-result-requires
-unfolding WasFedWithin
+unfolding ParserHasConsumedWithin
 parse_into-result-requires g c =
     let some : 0 < c.data_ahead-n.result = omega (arith, c.if-n-eq0.false) in
     ⊎_map (λ r. r) (λ w. elim w [
@@ -31,7 +31,7 @@ parse_into-result-requires g c =
     ]) c.requires
 
 pub returns-in-Ok : goal.returns-in-Ok
-unfolding WasFedWithin
+unfolding ParserHasConsumedWithin
 returns-in-Ok g c =
     let n = c.data_ahead-n.result in
     let bs = c.args.bytes.now in
@@ -49,7 +49,7 @@ returns-in-Ok g c =
     }
 
 pub returns-in-Err : goal.returns-in-Err
-unfolding WasFedWithin
+unfolding ParserHasConsumedWithin
 returns-in-Err g c =
     let n = c.data_ahead-n.result in
     let bs = c.args.bytes.now in

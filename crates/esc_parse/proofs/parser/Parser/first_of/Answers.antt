@@ -6,7 +6,7 @@ use Rattle.esc_parse.proofs.Errors.{ok_is_no_error, same_error}
 use Rattle.esc_parse.proofs.FirstsGiven.{fed_more, finds_first, finds_none, first_handed, prefix_some, rest_length, takes_rest, yield_nil}
 use Rattle.esc_parse.proofs.parser.Parser.first_of.Goals as goal
 use Rattle.esc_parse.specs.Calls.{After, YieldsFirst}
-use Rattle.esc_parse.specs.Fed.{WasFedWithin}
+use Rattle.esc_parse.specs.Fed.{ParserHasConsumedWithin}
 use Rattle.esc_actions.specs.Meaning.{yield_within}
 use Rattle.esc_actions.specs.Values.{value_of}
 
@@ -14,8 +14,10 @@ pub prefixes-init : goal.prefixes-init
 prefixes-init g c = record {
   within = omega arith;
   broken = λ b. b;
-  fed = λ limit s h.
-      (subst (λ x. WasFedWithin limit x c.args.self.now) (sym (append-nil s)) h, yield_nil limit s);
+  fed = λ limit s h. (
+    subst (λ x. ParserHasConsumedWithin limit x c.args.self.now) (sym (append-nil s)) h,
+    yield_nil limit s,
+  );
 }
 
 pub prefixes-preserved : goal.prefixes-preserved
@@ -36,7 +38,7 @@ prefixes-preserved g c =
       fed = λ limit s h.
           let p = c.prefixes.invariant.fed limit s h in
           let w = IfOk-at_ok _ c.in-Ok.is (next.ensures.given limit (s ++ take at bs) p.0) in (
-            subst (λ x. WasFedWithin limit x next.new.self) (fed_more s bs at n) w.0,
+            subst (λ x. ParserHasConsumedWithin limit x next.new.self) (fed_more s bs at n) w.0,
             finds_none {A = g.row.A.Denot} limit s bs at n p.1
                 (sym (ap (option_map value_of) c.in_default.is) ∙ w.1),
           );
@@ -57,7 +59,7 @@ returns-in-Some g c =
     λ limit s h.
     let p = c.prefixes.invariant.fed limit s h in
     let w = IfOk-at_ok _ c.in-Ok.is (next.ensures.given limit (s ++ take at bs) p.0) in (
-      subst (λ x. WasFedWithin limit x next.new.self) (fed_more s bs at n) w.0,
+      subst (λ x. ParserHasConsumedWithin limit x next.new.self) (fed_more s bs at n) w.0,
       finds_first limit s bs at n (value_of action) m p.1
           (IfOk-at_ok _ c.in-Ok.is (next.ensures.quiet limit (s ++ take at bs) p.0))
           (sym (ap (option_map value_of) c.in-Some.is) ∙ w.1),
@@ -93,7 +95,7 @@ returns-then-at-bytes g c =
           let w = IfOk-at_ok _ c.in-Ok.is (next.ensures.given limit (s ++ take at bs) p.0) in
           let e = finds_none {A = g.row.A.Denot} limit s bs at n p.1
           (sym (ap (option_map value_of) c.in_default.is) ∙ w.1) in (
-            subst (λ x. WasFedWithin limit x next.new.self)
+            subst (λ x. ParserHasConsumedWithin limit x next.new.self)
                 (fed_more s bs at n ∙ ap (λ x. s ++ x) all) w.0,
             ap (yield_within limit s) (sym all) ∙ e,
           );

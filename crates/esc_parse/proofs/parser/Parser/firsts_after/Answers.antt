@@ -7,7 +7,7 @@ use Rattle.esc_parse.proofs.Errors.{ok_is_no_error, same_error}
 use Rattle.esc_parse.proofs.FirstsGiven.{adds_nothing, fed_more, fewer_left, least, more_within, no_stop_up_to, no_stop_within, no_stop_yet, none_left, prefix_some, rest_length, some_more, some_of_rest, values_more, wants_rest}
 use Rattle.esc_parse.proofs.parser.Parser.firsts_after.Goals as goal
 use Rattle.esc_parse.specs.Collected.{Adds}
-use Rattle.esc_parse.specs.Fed.{WasFedWithin}
+use Rattle.esc_parse.specs.Fed.{ParserHasConsumedWithin}
 use Rattle.esc_parse.specs.Firsts.{IsStop}
 use Rattle.esc_actions.specs.Meaning.{yield_within}
 
@@ -18,7 +18,7 @@ prefixes-init g c = record {
   broken = λ b. (b, refl);
   fed =
       λ limit s h. (
-        subst (λ x. WasFedWithin limit x c.args.self.now) (sym (append-nil s)) h,
+        subst (λ x. ParserHasConsumedWithin limit x c.args.self.now) (sym (append-nil s)) h,
         adds_nothing limit s c.args.actions.items,
         no_stop_yet g.row.A.Denot limit s c.args.bytes.now,
       );
@@ -49,7 +49,8 @@ returns-then-stops g c =
           let w = IfOk-at_ok _ c.in-Ok.is
           (more.ensures.given limit (s ++ take at bs) p.0) in
           let v = values_more limit s bs at n _ _ _ p.1 w.1 in
-          let f = subst (λ x. WasFedWithin limit x more.new.self) (fed_more s bs at n) w.0 in (
+          let f = subst (λ x. ParserHasConsumedWithin limit x more.new.self) (fed_more s bs at n)
+          w.0 in (
             f,
             record {
               within = m;
@@ -86,14 +87,15 @@ returns-then-at-bytes g c =
           let w = IfOk-at_ok _ c.in-Ok.is
           (more.ensures.given limit (s ++ take at bs) p.0) in
           let v = values_more limit s bs at n _ _ _ p.1 w.1 in
-          let f = subst (λ x. WasFedWithin limit x more.new.self) (fed_more s bs at n) w.0 in
+          let f = subst (λ x. ParserHasConsumedWithin limit x more.new.self) (fed_more s bs at n)
+          w.0 in
           let P : List ℕ → Type 0 =
           λ b. Adds c.args.actions.items (yield_within limit s b) more.result.1.items in
           let here : IsStop g.row.A.Denot limit s (take (at + n) bs) → ⊥ = λ stop.
           true≢false (sym (c.stops.ensures.no limit s (take (at + n) bs) f
           (counts_more _ _ _ _ _ c.as_slice-had.ensures.value c.as_slice.ensures.value v) stop)
           ∙ c.if-stops.false) in (
-            subst (λ x. WasFedWithin limit x more.new.self) (ap (λ x. s ++ x) all) f,
+            subst (λ x. ParserHasConsumedWithin limit x more.new.self) (ap (λ x. s ++ x) all) f,
             subst P all v,
             λ k below.
                 let within : k ≤ at + n = omega arith in
@@ -152,7 +154,8 @@ prefixes-preserved g c =
           let w = IfOk-at_ok _ c.in-Ok.is
           (more.ensures.given limit (s ++ take at bs) p.0) in
           let v = values_more limit s bs at n _ _ _ p.1 w.1 in
-          let f = subst (λ x. WasFedWithin limit x more.new.self) (fed_more s bs at n) w.0 in
+          let f = subst (λ x. ParserHasConsumedWithin limit x more.new.self) (fed_more s bs at n)
+          w.0 in
           let here : IsStop g.row.A.Denot limit s (take (at + n) bs) → ⊥ = λ stop.
           true≢false (sym (c.stops.ensures.no limit s (take (at + n) bs) f
           (counts_more _ _ _ _ _ c.as_slice-had.ensures.value c.as_slice.ensures.value v) stop)

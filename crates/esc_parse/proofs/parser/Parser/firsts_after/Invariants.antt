@@ -1,7 +1,7 @@
 use Rattle.std.proofs.Common.{Option, ◌≡◌, ◌≤◌, ◌-◌, ◌++◌, ℕ, List, length, take}
 use Rattle.esc_parse.proofs.parser.Parser.firsts_after.Given as goal
 use Rattle.esc_parse.specs.Collected.{Adds}
-use Rattle.esc_parse.specs.Fed.{IsBroken, WasFedWithin}
+use Rattle.esc_parse.specs.Fed.{IsBroken, ParserHasConsumedWithin}
 use Rattle.esc_parse.specs.Firsts.{IsStop}
 use Rattle.esc_actions.specs.Meaning.{yield_within}
 
@@ -11,8 +11,8 @@ invariant-prefixes g l = record {
   fresh : l.at ≡ 0 → l.actions.items ≡ l.initial.actions.items;
   broken : IsBroken l.initial.self
       → IsBroken l.self × (l.actions.items ≡ l.initial.actions.items);
-  fed : (limit : Option ℕ) (s : List ℕ) → WasFedWithin limit s l.initial.self
-      → WasFedWithin limit (s ++ take l.at l.bytes) l.self
+  fed : (limit : Option ℕ) (s : List ℕ) → ParserHasConsumedWithin limit s l.initial.self
+      → ParserHasConsumedWithin limit (s ++ take l.at l.bytes) l.self
       × Adds l.initial.actions.items (yield_within limit s (take l.at l.bytes)) l.actions.items
       × ((k : ℕ) → k ≤ l.at → IsStop g.row.A.Denot limit s (take k l.bytes) → ⊥);
 }

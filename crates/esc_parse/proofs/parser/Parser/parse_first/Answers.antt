@@ -1,12 +1,12 @@
 use Rattle.std.proofs.Common.{arith, take, rules}
 use Rattle.esc_actions.specs.Values.{control, print}
 use Rattle.esc_parse.specs.Calls.{After, YieldsFirst}
-use Rattle.esc_parse.specs.Fed.{WasFedWithin}
+use Rattle.esc_parse.specs.Fed.{ParserHasConsumedWithin}
 use Rattle.esc_parse.proofs.FirstsGiven.{char_yields, finds_one, first_handed}
 use Rattle.esc_parse.proofs.parser.Parser.parse_first.Goals as goal
 
 pub returns-in-Some : goal.returns-in-Some
-unfolding WasFedWithin
+unfolding ParserHasConsumedWithin
 returns-in-Some g c =
     let bs = c.args.bytes.now in
     let n = c.in-Some.n in

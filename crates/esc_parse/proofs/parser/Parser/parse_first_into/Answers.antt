@@ -1,16 +1,16 @@
 use Rattle.std.proofs.Common.{List, ◌++◌, arith, refl, rules, subst, take}
 use Rattle.esc_actions.specs.Values.{Value}
-use Rattle.esc_frame.proofs.AtGround.{to_ground}
-use Rattle.esc_frame.proofs.Fed.{character_fed}
+use Rattle.esc_frame.proofs.Cut.CutAtGround.{to_ground}
+use Rattle.esc_frame.proofs.Emits.StepsAdd.{character_fed}
 use Rattle.esc_parse.proofs.Collecting.{adds_one}
 use Rattle.esc_parse.proofs.FirstsGiven.{char_yields, stops_one}
 use Rattle.esc_parse.proofs.Lists.{if_some_at}
 use Rattle.esc_parse.specs.Collected.{Adds}
-use Rattle.esc_parse.specs.Fed.{WasFedWithin}
+use Rattle.esc_parse.specs.Fed.{ParserHasConsumedWithin}
 use Rattle.esc_parse.proofs.parser.Parser.parse_first_into.Goals as goal
 
 pub returns-in-Some : goal.returns-in-Some
-unfolding WasFedWithin
+unfolding ParserHasConsumedWithin
 returns-in-Some g c =
     let bs = c.args.bytes.now in
     let n = c.in-Some.n in
@@ -37,7 +37,7 @@ returns-in-Some g c =
     }
 
 pub returns-in-Some-first_control : goal.returns-in-Some-first_control
-unfolding WasFedWithin
+unfolding ParserHasConsumedWithin
 returns-in-Some-first_control g c =
     let bs = c.args.bytes.now in
     let had = c.args.actions.now.items in

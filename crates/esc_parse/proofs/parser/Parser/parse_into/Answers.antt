@@ -6,13 +6,13 @@ use Rattle.std.proofs.Math.Logic.{⊎_map}
 use Rattle.std.proofs.Common.{inl, inr}
 use Rattle.esc_parse.proofs.parser.Parser.parse_into.Goals as goal
 use Rattle.esc_frame.specs.Stream.{events_within}
-use Rattle.esc_parse.specs.Fed.{Hooks, WasFedWithin}
+use Rattle.esc_parse.specs.Fed.{Hooks, ParserHasConsumedWithin}
 use Rattle.esc_parse.specs.Given.{AnyAt, At}
 use Rattle.esc_actions.specs.Meaning.{mode_from}
 use Rattle.esc_actions.specs.Values.{plain, value_of}
 
 pub returns-in-Ok : goal.returns-in-Ok
-unfolding WasFedWithin
+unfolding ParserHasConsumedWithin
 returns-in-Ok g c = record {
   given = λ limit s h.
       let w = on_ok_at _ c.in-Ok.is (c.parse-result.ensures.parsed limit s h.0).given in
@@ -26,7 +26,7 @@ returns-in-Ok g c = record {
 }
 
 pub returns-in-Err : goal.returns-in-Err
-unfolding WasFedWithin
+unfolding ParserHasConsumedWithin
 returns-in-Err g c = record {
   given = λ limit s h. tt;
   refused = λ limit s h.
@@ -43,7 +43,7 @@ returns-in-Err g c = record {
 }
 
 pub parse-result-requires : goal.parse-result-requires
-unfolding WasFedWithin
+unfolding ParserHasConsumedWithin
 parse-result-requires g c =
     ⊎_map (λ r. r) (λ w. elim w [
       | inl broken ↦ inl broken.0

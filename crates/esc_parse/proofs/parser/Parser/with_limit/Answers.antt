@@ -1,10 +1,10 @@
 use Rattle.std.proofs.Common.{Some, sym, subst}
 use Rattle.esc_actions.proofs.Meanings.{mode_nil}
 use Rattle.esc_parse.proofs.parser.Parser.with_limit.Goals as goal
-use Rattle.esc_parse.specs.Fed.{Hooks, WasFedWithin}
+use Rattle.esc_parse.specs.Fed.{Hooks, ParserHasConsumedWithin}
 
 pub returns : goal.returns
-unfolding WasFedWithin
+unfolding ParserHasConsumedWithin
 returns g c = (
   c.with_limit.ensures,
   subst (λ m. Hooks (Some c.args.limit) c.new.result m)

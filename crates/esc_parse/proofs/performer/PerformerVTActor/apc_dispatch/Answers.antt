@@ -3,7 +3,7 @@ use Rattle.esc_actions.specs.Values.{value_of}
 use Rattle.esc_parse.specs.Given.{At}
 use Rattle.esc_parse.proofs.Images.{all_dropped, command_images}
 use Rattle.esc_parse.proofs.Lists.{StopsAt-here}
-use Rattle.memory.specs.Refusals.{Refused}
+use Rattle.fallible_alloc.specs.Refusals.{Refused}
 use Rattle.esc_parse.proofs.performer.PerformerVTActor.apc_dispatch.Goals as goal
 
 pub returns-then-drops_images-clause-receives : goal.returns-then-drops_images-clause-receives

@@ -10,7 +10,7 @@ loop-c-preserved g c =
     let step = c.in-Some.ensures.steps.0 in (
       (λ r. c.in-Ok.ensures.ready (at.invariant.0 r)),
       IsUtf8-past_char _ _ c.in-Some.c at.invariant.1 step,
-      char_taken g.T.FromChar.print g.Self.Sink.takes g.Self.Sink.refuses c.args.text.now _ _
+      char_taken g.T.ActionShape.print g.Self.Sink.takes g.Self.Sink.refuses c.args.text.now _ _
           c.in-Some.c c.args.self.now _ _ at.invariant.1 step at.invariant.2
           (subst (λ x. g.Self.Sink.takes at.self x c.receive.new.self) c.print.ensures
           c.in-Ok.ensures.given),
@@ -19,7 +19,7 @@ loop-c-preserved g c =
 pub returns-in-Err-clause-given : goal.returns-in-Err-clause-given
 returns-in-Err-clause-given g c =
     let at = c.loop-c in
-    char_stopped g.T.FromChar.print g.Self.Sink.takes g.Self.Sink.refuses c.args.text.now _ _
+    char_stopped g.T.ActionShape.print g.Self.Sink.takes g.Self.Sink.refuses c.args.text.now _ _
     c.in-Some.c c.args.self.now _ _ at.invariant.1
     c.in-Some.ensures.steps.0 at.invariant.2
     (subst (λ x. g.Self.Sink.refuses at.self x c.receive.new.self) c.print.ensures
@@ -27,14 +27,14 @@ returns-in-Err-clause-given g c =
 
 pub returns-clause-given : goal.returns-clause-given
 returns-clause-given g c =
-    chars_taken g.T.FromChar.print g.Self.Sink.takes c.args.text.now _ c.args.self.now _
+    chars_taken g.T.ActionShape.print g.Self.Sink.takes c.args.text.now _ c.args.self.now _
     c.in-None.ensures.steps.0.0 c.loop-c.invariant.2
 
 pub receive-requires : goal.receive-requires
 receive-requires g c =
     let at = c.loop-c in
     subst (λ x. g.Self.Sink.is_ready at.self ⊎ g.Self.Sink.may at.self x) (sym c.print.ensures)
-    (char_may g.Self.Sink.is_ready g.Self.Sink.may g.T.FromChar.print g.Self.Sink.takes
+    (char_may g.Self.Sink.is_ready g.Self.Sink.may g.T.ActionShape.print g.Self.Sink.takes
     c.args.text.now _ _ c.in-Some.c c.args.self.now
     at.self at.invariant.1 c.in-Some.ensures.steps.0 at.invariant.2 at.invariant.0
     c.requires.ready)

@@ -7,5 +7,5 @@ abbrev pub invariant-loop-c : goal.invariant-loop-c
 invariant-loop-c g l =
     (g.Self.Sink.is_ready l.initial.self → g.Self.Sink.is_ready l.self) × IsUtf8
     (chars_rest l.c-iterator)
-    × HasTaken g.T.FromChar.print g.Self.Sink.takes l.fn.text
+    × HasTaken g.T.ActionShape.print g.Self.Sink.takes l.fn.text
     (chars_rest l.c-iterator) l.initial.self l.self

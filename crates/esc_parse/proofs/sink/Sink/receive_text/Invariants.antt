@@ -6,4 +6,4 @@ abbrev pub invariant-loop-b : goal.invariant-loop-b
 invariant-loop-b g l =
     (g.Self.Sink.is_ready l.initial.self → g.Self.Sink.is_ready l.self)
     × FoldsTo g.Self.Sink.takes l.initial.self
-    (map g.T.FromChar.print (take l.b-index l.text)) l.self
+    (map g.T.ActionShape.print (take l.b-index l.text)) l.self

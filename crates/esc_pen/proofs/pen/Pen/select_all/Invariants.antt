@@ -1,6 +1,6 @@
 use Rattle.std.proofs.Common.{◌≡◌}
 use Rattle.esc_pen.specs.Pens.{pen_by_all}
-use Rattle.esc_typed.specs.Selections.{left}
+use Rattle.typed_functions.specs.Selections.{left}
 use Rattle.esc_pen.proofs.pen.Pen.select_all.Given as goal
 
 abbrev pub invariant-loop-selection : goal.invariant-loop-selection

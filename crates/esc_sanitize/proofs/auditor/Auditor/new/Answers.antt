@@ -1,5 +1,5 @@
 use Rattle.std.proofs.Common.{ap, ◌∙◌}
-use Rattle.esc_sanitize.specs.Judged.{judged}
+use Rattle.esc_sanitize.specs.Judged.{judged_rule}
 use Rattle.esc_sanitize.proofs.Auditing.{way_lines, way_none, way_whole}
 use Rattle.esc_sanitize.proofs.auditor.Auditor.new.Goals as goal
 
@@ -10,9 +10,9 @@ returns-then-not-options-clause-way g c =
 pub returns-then-by_lines-clause-way : goal.returns-then-by_lines-clause-way
 returns-then-by_lines-clause-way g c =
     way_lines g.P.Admit c.args.options _ c.if-not-options.false c.if-by_lines.true
-    (ap (judged g.P.Admit) c.new.ensures.judge ∙ c.new-judge.ensures)
+    (ap (judged_rule g.P.Admit) c.new.ensures.judge ∙ c.new-judge.ensures)
 
 pub returns-else-by_lines-clause-way : goal.returns-else-by_lines-clause-way
 returns-else-by_lines-clause-way g c =
     way_whole g.P.Admit c.args.options _ c.if-not-options.false c.if-by_lines.false
-    (ap (judged g.P.Admit) c.new-else-by_lines.ensures.judge ∙ c.new-judge.ensures)
+    (ap (judged_rule g.P.Admit) c.new-else-by_lines.ensures.judge ∙ c.new-judge.ensures)

@@ -1,6 +1,6 @@
 use Rattle.std.proofs.Common.{◌++◌, subst}
 use Rattle.std.proofs.lemmas.Result.{on_ok_weaker}
-use Rattle.esc_decode.specs.Decodings.{decoded}
+use Rattle.esc_decode.specs.Decodings.{decoded_stream}
 use Rattle.esc_sanitize.proofs.Following.{follows_end, on_err_any}
 use Rattle.esc_sanitize.specs.Audits.{HeardAll}
 use Rattle.esc_sanitize.specs.Written.{passing_of}
@@ -13,12 +13,12 @@ returns-clause-ended g c = λ s h.
     let added = c.in_ok-finish_all.ensures.ended h.going h.closed s h.decodes in
     on_ok_weaker c.hear_end.result
     (λ heard.
-    follows_end g.F.Feeding g.P.Admit g.B.Book o old.decoding old.auditor s h
-    c.finish_all.new.self c.hear_end.new.self (g.F.Feeding.added c.finish_all.new.self.filter)
+    follows_end g.F.StreamFilter g.P.Admit g.B.Book o old.decoding old.auditor s h
+    c.finish_all.new.self c.hear_end.new.self (g.F.StreamFilter.added c.finish_all.new.self.filter)
     added
-    (subst (λ t. HeardAll g.P.Admit g.B.Book c.hear_end.new.self (decoded o.encoding s)
-    (passing_of g.P.Admit o s ++ t)) c.added_text.ensures heard) c.hear_end.ensures.keeps)
-    (c.hear_end.ensures.ended (decoded o.encoding s) (passing_of g.P.Admit o s) h.heard)
+    (subst (λ t. HeardAll g.P.Admit g.B.Book c.hear_end.new.self (decoded_stream o.encoding s)
+    (passing_of g.P.Admit o s ++ t)) c.output_text.ensures heard) c.hear_end.ensures.keeps)
+    (c.hear_end.ensures.ended (decoded_stream o.encoding s) (passing_of g.P.Admit o s) h.heard)
 
 pub returns-in_err-finish_all-clause-refused : goal.returns-in_err-finish_all-clause-refused
 returns-in_err-finish_all-clause-refused g c = λ s h.

@@ -1,6 +1,6 @@
 use Rattle.std.proofs.Common.{rules, ◌≡◌, ◌++◌, OnOk, subst, sym}
 use Rattle.std.proofs.lemmas.Result.{on_ok_weaker}
-use Rattle.esc_lines.specs.Fed.{TakesIn}
+use Rattle.line_collapse.specs.Fed.{TakesIn}
 use Rattle.esc_sanitize.proofs.Texts.{all_fed, rows_fed}
 use Rattle.esc_sanitize.specs.Rows.{HasLeft, left_added}
 use Rattle.esc_sanitize.specs.Written.{final_text, size_of}

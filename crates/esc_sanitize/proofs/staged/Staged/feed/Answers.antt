@@ -15,11 +15,11 @@ returns-clause-given g c = λ s h.
     let n = c.take.new.self in
     on_ok_weaker c.take.result
     (λ z.
-    runs_more g.F.Feeding g.P.Admit g.B.Book o s c.feed.new.self n c.args.bytes.now
-    (heard_added g.F.Feeding c.feed.new.self) c.feed.ensures.options k.0 k.1
-    (subst (λ t. HasLeft o.rows (u ++ t) n) c.added_text.ensures z.0)
+    runs_more g.F.StreamFilter g.P.Admit g.B.Book o s c.feed.new.self n c.args.bytes.now
+    (heard_added g.F.StreamFilter c.feed.new.self) c.feed.ensures.options k.0 k.1
+    (subst (λ t. HasLeft o.rows (u ++ t) n) c.output_text.ensures z.0)
     (subst (λ t. final_text g.row.A.Denot o.rows (u ++ t)
-    ≡ final_text g.row.A.Denot o.rows u ++ left_added n t) c.added_text.ensures z.1))
+    ≡ final_text g.row.A.Denot o.rows u ++ left_added n t) c.output_text.ensures z.1))
     (c.take.ensures.given o.rows u h.1)
 
 pub returns-clause-refused : goal.returns-clause-refused

@@ -16,9 +16,10 @@ returns-clause-ended g c = λ s h.
     on_ok_weaker c.close.result
     (λ z. (
       k.0,
-      runs_end g.F.Feeding g.P.Admit g.B.Book o s n (heard_added g.F.Feeding c.finish.new.self)
+      runs_end g.F.StreamFilter g.P.Admit g.B.Book o s n
+          (heard_added g.F.StreamFilter c.finish.new.self)
           k.1 (subst (λ t. left_text g.row.A.Denot o.rows (u ++ t)
-          ≡ final_text g.row.A.Denot o.rows u ++ left_added n t) c.added_text.ensures z),
+          ≡ final_text g.row.A.Denot o.rows u ++ left_added n t) c.output_text.ensures z),
     )) (c.close.ensures.ended o.rows u h.1)
 
 pub returns-clause-refused : goal.returns-clause-refused

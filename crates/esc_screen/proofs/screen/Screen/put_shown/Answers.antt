@@ -1,5 +1,5 @@
 use Rattle.std.proofs.Common.{ap, ◌∙◌}
-use Rattle.esc_screen.specs.Printing.{opened, printed}
+use Rattle.esc_screen.specs.Printing.{grid_with_room, grid_with_character}
 use Rattle.esc_screen.specs.Screens.{grid_of, size_of}
 use Rattle.esc_screen.proofs.Becoming.{and_then}
 use Rattle.esc_screen.proofs.screen.Screen.put_shown.Goals as goal
@@ -7,9 +7,10 @@ use Rattle.esc_screen.proofs.screen.Screen.put_shown.Goals as goal
 pub returns : goal.returns
 returns g c =
     let s = size_of c.args.self.now in
-    let o = opened s 1 (grid_of c.args.self.now) in
-    let k = and_then (λ s. printed s c.shown-shown.result) o c.open.ensures c.put.ensures in
+    let o = grid_with_room s 1 (grid_of c.args.self.now) in
+    let k = and_then (λ s. grid_with_character s c.shown-shown.result) o c.open.ensures
+    c.put.ensures in
     record {
-      grid = k.grid ∙ ap (λ x. printed s x o) c.shown-shown.ensures;
+      grid = k.grid ∙ ap (λ x. grid_with_character s x o) c.shown-shown.ensures;
       size = k.size;
     }

@@ -3,7 +3,7 @@ use Rattle.std.specs.List.{FoldsTo}
 use Rattle.esc_sixel.specs.Lines.{fresh}
 use Rattle.esc_sixel.specs.Meaning.{percent}
 use Rattle.esc_sixel.specs.Steps.{Pushes}
-use Rattle.esc_sixel.specs.Taking.{with_piece}
+use Rattle.esc_sixel.specs.Taking.{with_slice}
 use Rattle.esc_sixel.specs.declared.sixel_data.SixelData.TheVariants.{DefineColorMapRGB}
 use Rattle.esc_sixel.specs.declared.introducer.Introducer.TheVariants as introducer
 use Rattle.esc_sixel.proofs.Defined.{defines, holding, is_color, made, number_pushed, open_at, opened, renamed, separator_pushed, two_pushed}
@@ -93,7 +93,7 @@ returns g c =
     made number red green blue c.new_8bpc-rgb.result c.channel_of.result c.channel_of-2.result
     c.channel_of-3.result c.new_8bpc-rgb.ensures
     c.channel_of.ensures c.channel_of-2.ensures c.channel_of-3.ensures in
-    let q = with_piece p d in
+    let q = with_slice p d in
     let last : FoldsTo Pushes (open_at p fresh) (take (at3 + b + 1) xs) (open_at q fresh) =
     folds_one Pushes (open_at p fresh) xs (at3 + b) (open_at p k8) (open_at q fresh)
     c.in-Some-number_before-3.ensures.within s9

@@ -1,11 +1,11 @@
 use Rattle.std.proofs.Common.{◌∙◌}
-use Rattle.esc_sixel.specs.Steps.{LeadsTo}
+use Rattle.esc_sixel.specs.Steps.{HasConsumed}
 use Rattle.esc_sixel.proofs.Steps.{on_ok, finished}
 use Rattle.esc_sixel.proofs.Wanted.{finish_wants}
 use Rattle.esc_sixel.proofs.builder.SixelBuilder.finish.Goals as goal
 
 pub returns-clause-ok : goal.returns-clause-ok
-unfolding LeadsTo
+unfolding HasConsumed
 returns-clause-ok g c =
     λ ps s h. on_ok c.push.result (λ d. (d, d.0 ∙ finished ps s)) (c.push.ensures.ok ps s h)
 

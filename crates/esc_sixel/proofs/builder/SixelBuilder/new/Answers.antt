@@ -3,7 +3,7 @@ use mir.Val.{hbits}
 use Rattle.std.proofs.lemmas.Int.{to_z_pos}
 use Rattle.std.proofs.lemmas.Bool.Decides.{nat_tests}
 use Rattle.esc_sixel.specs.Meaning.{header_pan, pan_number}
-use Rattle.esc_sixel.specs.Steps.{LeadsTo}
+use Rattle.esc_sixel.specs.Steps.{HasConsumed}
 use Rattle.esc_sixel.proofs.builder.SixelBuilder.new.Goals as goal
 
 pan_small : (n : ℕ) → pan_number n < 2 ^ hbits w64
@@ -15,7 +15,7 @@ pan_back (pos n ∷ ps) = to_z_pos w64 (pan_number n) (pan_small n)
 pan_back (negsuc n ∷ ps) = refl
 
 pub returns : goal.returns
-unfolding LeadsTo
+unfolding HasConsumed
 returns g c =
     let pan : to_z w64 (of_z w64 c.pan_of.result) ≡ header_pan c.args.params.now =
     rw c.pan_of.ensures (pan_back c.args.params.now) in

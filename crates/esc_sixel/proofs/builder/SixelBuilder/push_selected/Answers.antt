@@ -2,7 +2,7 @@ use Rattle.std.proofs.Common.{◌≤◌, ◌+◌, ◌-◌, ◌++◌, ◌∷◌, 
 use Rattle.std.proofs.lemmas.List.{length-take}
 use Rattle.std.specs.List.{FoldsTo}
 use Rattle.esc_sixel.specs.Lines.{fresh}
-use Rattle.esc_sixel.specs.Meaning.{drawn}
+use Rattle.esc_sixel.specs.Meaning.{drawn_data}
 use Rattle.esc_sixel.specs.Runs.{more_digits}
 use Rattle.esc_sixel.specs.Steps.{Pushes}
 use Rattle.esc_sixel.specs.Taking.{with_data}
@@ -62,8 +62,8 @@ returns-in-Some-count_of_pixels-clause-ok g c =
     let run = c.pixels_run-run.result in
     let bs = take run (take (length xs - (at + m + 1)) (drop (at + m + 1) xs)) in
     let drawn_after =
-    c.in_ok-push_line.ensures.ok ∙ sym (append_assoc p.sixel.content (d ∷ []) (v ∷ drawn bs))
-    ∙ sym (append_assoc (p.sixel.content ++ d ∷ []) (v ∷ []) (drawn bs)) in
+    c.in_ok-push_line.ensures.ok ∙ sym (append_assoc p.sixel.content (d ∷ []) (v ∷ drawn_data bs))
+    ∙ sym (append_assoc (p.sixel.content ++ d ∷ []) (v ∷ []) (drawn_data bs)) in
     let s6 = folds_more Pushes p xs (at + m + 1) run p5 _ s5
     (pixels_pushed bs p5 _ c.requires.outside.closed c.pixels_run-run.ensures.run
     (ap (λ t. record p { sixel = record p.sixel { content = t } }) drawn_after)) in

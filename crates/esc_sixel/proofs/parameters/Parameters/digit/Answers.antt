@@ -2,7 +2,7 @@ use Rattle.std.proofs.Common.{◌≡◌, ◌≢◌, ◌+◌, rules, ◌*◌, ◌
 use Rattle.std.proofs.Common.{min, sym, ap, arith}
 use Rattle.std.specs.Option.{unwrap_or}
 use Rattle.esc_sixel.specs.Runs.{param, separators}
-use Rattle.esc_values.specs.Params.{held}
+use Rattle.esc_values.specs.Params.{capped_at_i64}
 use Rattle.esc_sixel.proofs.Runs.{param_else, semicolons_digit, digit_is_none, keeps_digit}
 use Rattle.esc_sixel.proofs.parameters.Parameters.digit.Goals as goal
 
@@ -18,7 +18,8 @@ returns-then-self-lt5 c = λ run p.
           keeps_digit c.args.self.now.values c.args.self.now.count c.args.digit
           c.with_digit-number.result run
           (search rules) c.requires c.if-self-lt5.true p.values p.count
-          (c.with_digit-number.ensures ∙ ap (λ x. held (10 * x + c.args.digit)) same) k small;
+          (c.with_digit-number.ensures ∙ ap (λ x. capped_at_i64 (10 * x + c.args.digit)) same) k
+          small;
       count = p.count ∙ ap (λ s. min s 5) (sym (semicolons_digit run (c.args.digit + 48) n));
     }
 

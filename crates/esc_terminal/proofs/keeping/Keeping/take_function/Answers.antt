@@ -1,5 +1,5 @@
 use Rattle.std.proofs.Common.{ap, refl, sym, ◌∙◌}
-use Rattle.esc_typed.specs.Functions.{value_of as function_value}
+use Rattle.typed_functions.specs.Functions.{value_of as function_value}
 use Rattle.esc_terminal.specs.Steps.{one_step}
 use Rattle.esc_terminal.proofs.Stepping.{ok_then, steps_kept}
 use Rattle.esc_terminal.proofs.keeping.Keeping.take_function.Goals as goal

@@ -1,5 +1,5 @@
 use Rattle.std.proofs.Common.{◌≡◌}
-use Rattle.esc_typed.specs.Selections.{modes_left}
+use Rattle.typed_functions.specs.Selections.{modes_left}
 use Rattle.esc_screen.specs.Screens.{grid_of, size_of}
 use Rattle.esc_screen.specs.Steps.{grid_from}
 use Rattle.esc_terminal.specs.Fed.{looks_in, requests_in}

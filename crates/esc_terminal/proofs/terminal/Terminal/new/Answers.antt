@@ -1,4 +1,4 @@
-use Rattle.esc_terminal.specs.Fed.{sized}
+use Rattle.esc_terminal.specs.Fed.{screen_size}
 use Rattle.esc_terminal.proofs.Streams.{shows_first}
 use Rattle.esc_terminal.proofs.terminal.Terminal.new.Goals as goal
 
@@ -7,5 +7,6 @@ returns-clause-fed g c =
     let k = c.in_ok-state.ensures in
     record {
       parser = c.with_limit.ensures;
-      state = shows_first (sized c.args.columns c.args.rows) _ k.grid k.size k.looks.0 k.looks.1;
+      state = shows_first (screen_size c.args.columns c.args.rows) _ k.grid k.size k.looks.0
+          k.looks.1;
     }

@@ -9,7 +9,7 @@ returns-clause-begins g c = λ m e n d first none second adds. record {
   second_ended = d;
   adds = adds;
   first = first;
-  second = subst (λ s. g.G.Feeding.gives c.args.second n d s) (sym none) second;
+  second = subst (λ s. g.G.StreamFilter.gives c.args.second n d s) (sym none) second;
   goes_on = refl;
   ended = refl;
 }

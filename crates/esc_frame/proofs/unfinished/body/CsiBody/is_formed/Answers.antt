@@ -1,6 +1,6 @@
 use Rattle.std.proofs.Common.{◌∙◌, ap}
 use Rattle.esc_frame.specs.Machine.Keeps.{is_formed}
-use Rattle.esc_frame.proofs.Forms.{formed}
+use Rattle.esc_frame.proofs.Steps.FormsGrow.{formed}
 use Rattle.esc_frame.proofs.unfinished.body.CsiBody.is_formed.Goals as goal
 
 pub returns : goal.returns

@@ -1,7 +1,7 @@
 use Rattle.std.proofs.Common.{◌∙◌, ap, sym}
 use Rattle.esc_frame.specs.declared.unfinished.body.Form.TheVariants as form
 use Rattle.esc_frame.specs.Machine.Keeps.{next_form}
-use Rattle.esc_frame.proofs.Forms.{form_push}
+use Rattle.esc_frame.proofs.Steps.FormsGrow.{form_push}
 use Rattle.esc_frame.proofs.unfinished.body.CsiBody.push.Goals as goal
 
 pub returns : goal.returns

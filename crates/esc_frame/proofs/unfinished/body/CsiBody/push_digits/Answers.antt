@@ -1,6 +1,6 @@
 use Rattle.std.proofs.Common.{take, sym, ap, ◌∙◌}
 use Rattle.esc_frame.specs.Machine.Keeps.{next_form}
-use Rattle.esc_frame.proofs.DigitRuns.{digits_forms, taken_some}
+use Rattle.esc_frame.proofs.ByteRuns.DigitRuns.{digits_forms, taken_some}
 use Rattle.esc_frame.proofs.unfinished.body.CsiBody.push_digits.Goals as goal
 
 pub returns-clause-keeps : goal.returns-clause-keeps

@@ -1,6 +1,6 @@
 use Rattle.std.proofs.Common.{None, ◌∙◌}
 use Rattle.esc_frame.specs.Machine.Keeps.{closed_of, number_of_run}
-use Rattle.esc_frame.proofs.FirstParams.{finished_csi_params, finished_truncated}
+use Rattle.esc_frame.proofs.Steps.ParamsGrow.{finished_csi_params, finished_truncated}
 use Rattle.esc_frame.proofs.unfinished.csi_params.Params.finish.Goals as goal
 
 pub returns-clause-items : goal.returns-clause-items

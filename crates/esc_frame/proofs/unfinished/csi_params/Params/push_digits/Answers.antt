@@ -1,6 +1,6 @@
 use Rattle.std.proofs.Common.{None, take, refl, sym, ◌∙◌, subst, arith}
 use Rattle.esc_frame.specs.Machine.Keeps.{AreFirst, number_at, number_of_run}
-use Rattle.esc_frame.proofs.DigitRuns.{number_next, digits_first, digits_more, digits_csi_params, digits_value, taken_some}
+use Rattle.esc_frame.proofs.ByteRuns.DigitRuns.{number_next, digits_first, digits_more, digits_csi_params, digits_value, taken_some}
 use Rattle.esc_frame.proofs.unfinished.csi_params.Params.push_digits.Goals as goal
 
 pub loop-end-init : goal.loop-end-init

@@ -1,6 +1,6 @@
 use Rattle.std.proofs.Common.{ℕ, Option, ◌-◌, ◌≤◌, ◌≡◌, true, length, take}
 use Rattle.std.specs.List.{list_all}
-use Rattle.esc_frame.specs.Bodies.{is_digit, held, value_after}
+use Rattle.esc_frame.specs.Bodies.{is_digit, capped_at_i64, value_after}
 use Rattle.esc_frame.specs.Machine.Keeps.{IsNumber, number_at}
 use Rattle.esc_frame.proofs.unfinished.csi_params.Params.push_digits.Given as goal
 
@@ -11,7 +11,7 @@ invariant-loop-end l =
     × (l.number ≤ 0x7fff_ffff_ffff_ffff)
     × (list_all is_digit (take l.end l.bytes) ≡ true)
     × ((o : Option ℕ) → IsNumber l.self o
-    → l.number ≡ held (value_after (number_at o) (take l.end l.bytes)))
+    → l.number ≡ capped_at_i64 (value_after (number_at o) (take l.end l.bytes)))
 
 abbrev pub decreases-loop-end : goal.decreases-loop-end
 decreases-loop-end l = length l.bytes - l.end

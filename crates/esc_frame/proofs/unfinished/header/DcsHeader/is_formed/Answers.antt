@@ -1,6 +1,6 @@
 use Rattle.std.proofs.Common.{◌∙◌, ap}
 use Rattle.esc_frame.specs.Machine.Keeps.{is_formed}
-use Rattle.esc_frame.proofs.Headers.{header_formed}
+use Rattle.esc_frame.proofs.Steps.HeadersAreKept.{header_formed}
 use Rattle.esc_frame.proofs.unfinished.header.DcsHeader.is_formed.Goals as goal
 
 pub returns : goal.returns

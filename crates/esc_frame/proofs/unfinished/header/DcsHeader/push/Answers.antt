@@ -2,8 +2,8 @@ use Rattle.std.proofs.Common.{◌∙◌, ap, sym, subst}
 use Rattle.esc_frame.specs.declared.unfinished.body.Form.TheVariants as form
 use Rattle.esc_frame.specs.Bodies.{is_dcs_parameter}
 use Rattle.esc_frame.specs.Machine.Keeps.{Keeps, next_form_by, others_of}
-use Rattle.esc_frame.proofs.Forms.{push_by}
-use Rattle.esc_frame.proofs.Headers.{others_push, others_same}
+use Rattle.esc_frame.proofs.Steps.FormsGrow.{push_by}
+use Rattle.esc_frame.proofs.Steps.HeadersAreKept.{others_push, others_same}
 use Rattle.esc_frame.proofs.unfinished.header.DcsHeader.push.Goals as goal
 
 pub returns-then-not-is_parameter : goal.returns-then-not-is_parameter

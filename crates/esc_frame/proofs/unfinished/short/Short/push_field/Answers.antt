@@ -1,7 +1,7 @@
 use Rattle.std.proofs.Common.{◌++◌, take, sym, subst, arith}
 use Rattle.std.proofs.lemmas.Bool.{false≢true}
 use Rattle.esc_frame.specs.Machine.Shorts.{IsAfter}
-use Rattle.esc_frame.proofs.Shorts.{field_closed, mark_closed, none_after}
+use Rattle.esc_frame.proofs.ByteRuns.ShortBodies.{field_closed, mark_closed, none_after}
 use Rattle.esc_frame.proofs.unfinished.short.Short.push_field.Goals as goal
 
 pub returns-then-n-rest : goal.returns-then-n-rest

@@ -1,5 +1,5 @@
 use Rattle.std.proofs.Common.{◌∙◌, sym}
-use Rattle.esc_frame.proofs.Shorts.{mark_prefix}
+use Rattle.esc_frame.proofs.ByteRuns.ShortBodies.{mark_prefix}
 use Rattle.esc_frame.proofs.unfinished.short.Short.push_mark.Goals as goal
 
 pub returns-then-lies_from-clause-mark : goal.returns-then-lies_from-clause-mark

@@ -1,6 +1,6 @@
 use Rattle.std.proofs.Common.{rules}
-use Rattle.esc_frame.proofs.DigitRuns.{taken_some}
-use Rattle.esc_frame.proofs.Shorts.{number_after}
+use Rattle.esc_frame.proofs.ByteRuns.DigitRuns.{taken_some}
+use Rattle.esc_frame.proofs.ByteRuns.ShortBodies.{number_after}
 use Rattle.esc_frame.proofs.unfinished.short.Short.push_number.Goals as goal
 
 pub returns : goal.returns

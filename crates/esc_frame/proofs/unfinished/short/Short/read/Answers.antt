@@ -1,8 +1,8 @@
 use Rattle.std.proofs.Common.{◌≡◌, false, true, take, length-take, subst, arith, rules}
 use Rattle.esc_frame.specs.Machine.Shorts.{IsAfter, IsPrefix}
-use Rattle.esc_frame.proofs.CsiRuns.{run_joins}
-use Rattle.esc_frame.proofs.ManyBytes.{tail_length}
-use Rattle.esc_frame.proofs.Shorts.{ends_short}
+use Rattle.esc_frame.proofs.ByteRuns.CsiRuns.{run_joins}
+use Rattle.esc_frame.proofs.ByteRuns.ManyBytes.{tail_length}
+use Rattle.esc_frame.proofs.ByteRuns.ShortBodies.{ends_short}
 use Rattle.esc_frame.proofs.unfinished.short.Short.read.Goals as goal
 
 pub returns-then-not-goes_on-clause-keeps : goal.returns-then-not-goes_on-clause-keeps

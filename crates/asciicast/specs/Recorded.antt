@@ -1,0 +1,59 @@
+-- What a recording that is filtered has taken, and gives.
+use Rattle.std.specs.Prelude.{ℕ, ◌≡◌, ◌≢◌, Bool, true, false, List, [], ◌++◌, codes, string_bytes}
+use Rattle.json.specs.Print.{IsNumber}
+use Rattle.esc_normal.specs.declared.feeding.StreamFilter.{Ghosts as Feeder}
+use Rattle.asciicast.specs.Recordings.{IsEvent, Kind, header, other, output, wrong}
+use Rattle.asciicast.specs.declared.recording.Recording.{Recording}
+
+abbrev pub feeding_of : {F A : Type 0} → Recording F A → F
+feeding_of r = r.feeding
+
+-- the line that the last call gave
+abbrev pub text_of : {F A : Type 0} → Recording F A → List ℕ
+text_of r = r.text.items
+
+-- the time of the last event of output; empty where there was none
+abbrev pub time_of : {F A : Type 0} → Recording F A → List ℕ
+time_of r = string_bytes r.time
+
+-- whether the time of an event is counted from the event before
+abbrev pub is_relative : {F A : Type 0} → Recording F A → Bool
+is_relative r = r.is_relative
+
+-- whether it is after a line of this kind, where it was so before
+abbrev pub is_relative_after : Kind → Bool → Bool
+is_relative_after (output t d) r = r
+is_relative_after (header b) r = b
+is_relative_after other r = r
+is_relative_after wrong r = r
+
+-- q has the filter of p, its last line, the time of its last event, and counts times as it does
+pub record IsAs {F A : Type 0} (p q : Recording F A) : Type 0 where
+  pub feeding : feeding_of q ≡ feeding_of p
+  pub text : text_of q ≡ text_of p
+  pub time : time_of q ≡ time_of p
+  pub counts : is_relative q ≡ is_relative p
+
+-- The filter, which was fed s, was fed d too, and the line is that of the event at the time t, with
+-- what d adds as its text.
+abbrev pub Hears : {F A : Type 0} → Feeder F A → (List ℕ → List ℕ) → (List ℕ → List ℕ) → List ℕ
+    → List ℕ → List ℕ → Recording F A → Type 0
+Hears V m c s t d r = V.gives (feeding_of r) m c (s ++ d)
+    × ((a : List ℕ) × (m (s ++ d) ≡ m s ++ a) × IsEvent t a (text_of r))
+
+-- the time of what follows the last event of output, which has this time: the same, or 0 where
+-- times are counted from the event before, or there was none
+pub record IsEndTime (is_relative : Bool) (last t : List ℕ) : Type 0 where
+  pub since_before : is_relative ≡ true → t ≡ codes "0"
+  pub first : (IsNumber last → ⊥) → t ≡ codes "0"
+  pub after : is_relative ≡ false → IsNumber last → t ≡ last
+
+-- The line of q is an event with what the end of the stream s adds, at the time that follows the
+-- last event of p; or there is none, where it adds nothing.
+pub record Closes {F A : Type 0} (m c : List ℕ → List ℕ) (s : List ℕ) (p q : Recording F A)
+    : Type 0 where
+  pub added : List ℕ
+  pub longer : c s ≡ m s ++ added
+  pub silent : added ≡ [] → text_of q ≡ []
+  pub heard : added ≢ []
+      → (t : List ℕ) × IsEndTime (is_relative p) (time_of p) t × IsEvent t added (text_of q)

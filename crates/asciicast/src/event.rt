@@ -1,0 +1,121 @@
+//! What a line of a recording tells who reads it.
+ghost use Rattle.std.specs.Prelude.{◌≡◌, IfOk, Some};
+ghost use Rattle.json.specs.Json.{document};
+ghost use Rattle.json.specs.Value.{value_view};
+ghost use Rattle.json.specs.Lex.{tokens};
+ghost use Rattle.asciicast.specs.Events.{told, told_at, told_by, told_event, told_header};
+
+use json::{Error, Reader, Scratch, Token, Value};
+use std::alloc::{AllocError, Allocator};
+
+/// What a line of a recording tells who reads it, and writes none of it.
+#[derive(Clone, Copy)]
+pub enum Event<'a> {
+    /// At this time, as it is written, the terminal got this text.
+    Output(&'a str, &'a str),
+    /// At this time this text was typed.
+    Input(&'a str, &'a str),
+    /// At this time an event of another kind came.
+    Passed(&'a str),
+    /// The header, where times are counted from the event before: of version 3, and not of 2.
+    Header(bool),
+    /// A comment, or no text.
+    Nothing,
+    /// It is no line of a recording.
+    Wrong,
+}
+
+/// What this line, without its line feed, tells. The error says that memory was refused.
+pub fn event_in<'a, A: Allocator + Copy>(
+    alloc: A,
+    line: &'a str,
+    scratch: &'a mut Scratch<A>,
+) -> Result<Event<'a>, AllocError>
+    ensures { IfOk result (λ e. told_by e ≡ told line.now) }
+{
+    match line.as_bytes() {
+        [] => Ok(Event::Nothing),
+        [b'#', ..] => Ok(Event::Nothing),
+        [b'{', ..] => header(alloc, line, scratch),
+        [b'[', ..] => read_event(line, scratch),
+        _ => Ok(Event::Wrong),
+    }
+}
+
+// What an event is.
+fn read_event<'a, A: Allocator>(
+    line: &'a str,
+    scratch: &'a mut Scratch<A>,
+) -> Result<Event<'a>, AllocError>
+    ensures { IfOk result (λ e. told_by e ≡ told_event (tokens line.now)) }
+{
+    let mut reader = Reader::new(line, scratch)?;
+    Ok(event_of(&mut reader))
+}
+
+// What an event of these tokens is.
+fn event_of<'a>(reader: &mut Reader<'a>) -> Event<'a>
+    ensures { told_by result ≡ told_event reader.old }
+{
+    let Some(Token::BeginArray) = reader.next() else {
+        return Event::Wrong;
+    };
+    let Some(Token::Number(time)) = reader.next() else {
+        return Event::Wrong;
+    };
+    let Some(Token::String(kind)) = reader.next() else {
+        return Event::Wrong;
+    };
+    let Some(Token::String(text)) = reader.next() else {
+        return Event::Wrong;
+    };
+    let Some(Token::EndArray) = reader.next() else {
+        return Event::Wrong;
+    };
+    let None = reader.next() else {
+        return Event::Wrong;
+    };
+    event_at(time, kind, text)
+}
+
+// What an event of this kind is.
+fn event_at<'a>(time: &'a str, kind: &'a str, text: &'a str) -> Event<'a>
+    ensures { told_by result ≡ told_at time.now kind.now text.now }
+{
+    if kind == "o" {
+        Event::Output(time, text)
+    } else if kind == "i" {
+        Event::Input(time, text)
+    } else {
+        Event::Passed(time)
+    }
+}
+
+// What a header is.
+fn header<'a, A: Allocator + Copy>(
+    alloc: A,
+    line: &'a str,
+    scratch: &'a mut Scratch<A>,
+) -> Result<Event<'a>, AllocError>
+    ensures { IfOk result (λ e. told_by e ≡ told_header (document line.now)) }
+{
+    match Value::parse(alloc, line, scratch) {
+        Ok(value) => Ok(header_of(&value)),
+        Err(Error::OutOfMemory) => Err(AllocError),
+        Err(_) => Ok(Event::Wrong),
+    }
+}
+
+// What a header of this value is.
+fn header_of<'a, A: Allocator>(value: &Value<'_, A>) -> Event<'a>
+    ensures { told_by result ≡ told_header (Some (value_view value.now)) }
+{
+    let Some(version) = value.get("version") else {
+        return Event::Wrong;
+    };
+    match version.as_number() {
+        Some("2") => Event::Header(false),
+        Some("3") => Event::Header(true),
+        _ => Event::Wrong,
+    }
+}

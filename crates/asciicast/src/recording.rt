@@ -1,0 +1,172 @@
+//! A recording that is filtered line by line.
+ghost use Rattle.std.specs.Prelude.{◌≡◌, ◌≢◌, ◌++◌, ◌∷◌, ℕ, List, [], IfOk, OnOk, false};
+ghost use Rattle.json.specs.Print.{IsNumber};
+ghost use Rattle.esc_normal.specs.Streams.{Given};
+ghost use Rattle.asciicast.specs.Recorded.{IsEndTime};
+ghost use Rattle.asciicast.specs.Recordings.{IsEvent, IsUnheard, kind_of, output, wrong};
+
+use crate::cast_error::CastError;
+use crate::line::{Line, line_of};
+use esc_filter::StreamFilter;
+use json::{Scratch, Writer, is_number};
+use std::alloc::{AllocError, Allocator, Global};
+
+/// Takes a recording line by line, and gives each with what a filter makes of the text of its
+/// event, where that is one of output: the filter is fed these texts, one after another. Every
+/// other line stays as it is: the header, of version 2 or 3, an event of another kind, a comment,
+/// and an empty line. So the times of the events stay, and of an event of which nothing passes the
+/// text is empty.
+///
+/// It keeps what the filter keeps, one line, and the time of the last event.
+#[derive(Drop)]
+pub struct Recording<F, A: Allocator = Global> {
+    feeding: F,
+    alloc: A,
+    scratch: Scratch<A>,
+    // the line that the last call gave
+    text: Vec<u8, A>,
+    // the time of the last event of output
+    time: String<A>,
+    // whether the time of an event is counted from the event before
+    is_relative: bool,
+}
+
+impl<F: StreamFilter<A>, A: Allocator + Copy> Recording<F, A> {
+    ghost use Rattle.asciicast.specs.Recorded.{Closes, Hears, IsAs, feeding_of, is_relative, is_relative_after, text_of, time_of};
+
+    /// A recording of which no line was taken, for a filter that was fed nothing. Takes no memory.
+    pub fn new(alloc: A, feeding: F) -> Recording<F, A>
+        ensures feeding { feeding_of result ≡ feeding }
+        ensures empty { text_of result ≡ [] }
+        ensures time { (time_of result ≡ []) × (is_relative result ≡ false) }
+    {
+        Recording {
+            feeding,
+            alloc,
+            scratch: Scratch::new(alloc),
+            text: Vec::new(alloc),
+            time: String::new(alloc),
+            is_relative: false,
+        }
+    }
+
+    /// Takes a line, without its line feed. The line that is written for it, with a line feed, is
+    /// then the [`text`](Recording::text).
+    ///
+    /// `CastError::NoEvent` says that it is no line of a recording: no JSON of the format, or with
+    /// a control in a text that would stay as it is; nothing has changed. After `CastError::Memory`
+    /// the recording is of no use.
+    pub fn take_line(&mut self, line: &str) -> Result<(), CastError>
+        ensures output { Given F.StreamFilter (feeding_of self.old) (λ m c s. (t d : List ℕ)
+            → kind_of line.now ≡ output t d → OnOk result (Hears F.StreamFilter m c s t d self.new
+            × (time_of self.new ≡ t) × (is_relative self.new ≡ is_relative self.old))) }
+        ensures other { IsUnheard (kind_of line.now) → OnOk result
+            ((feeding_of self.new ≡ feeding_of self.old)
+            × (text_of self.new ≡ line.now ++ 0x0a ∷ []) × (time_of self.new ≡ time_of self.old)
+            × (is_relative self.new
+            ≡ is_relative_after (kind_of line.now) (is_relative self.old))) }
+        ensures right { OnOk result (kind_of line.now ≢ wrong) }
+        ensures no_event { result ≡ Err CastError.NoEvent → (kind_of line.now ≡ wrong)
+            × IsAs self.old self.new }
+    {
+        let kind = line_of(self.alloc, line, &mut self.scratch)?;
+        match kind {
+            Line::Output(time, data) => {
+                self.feeding.feed_chunk(data.as_bytes())?;
+                self.text = event(self.alloc, time, self.feeding.output_text())?;
+                self.time.clear();
+                self.time.push_str(time)?;
+                Ok(())
+            }
+            Line::Header(is_relative) => {
+                self.is_relative = is_relative;
+                self.pass(line)
+            }
+            Line::Other => self.pass(line),
+            Line::Wrong => Err(CastError::NoEvent),
+        }
+    }
+
+    /// Ends the recording. Where the end of the stream adds something, as what takes back a colour,
+    /// the [`text`](Recording::text) is an event of output with it, at the time of the last one;
+    /// else it is empty.
+    pub fn finish(&mut self) -> Result<(), CastError>
+        ensures given { Given F.StreamFilter (feeding_of self.old) (λ m c s.
+            OnOk result (Closes m c s self.old self.new)) }
+        ensures memory { result ≡ Err CastError.NoEvent → ⊥ }
+    {
+        self.text.clear();
+        self.feeding.finish_all()?;
+        let alloc = self.alloc;
+        let is_relative = self.is_relative;
+        let added = self.feeding.output_text();
+        if !added.is_empty() {
+            self.text = event(alloc, end_time(is_relative, self.time.as_str()), added)?;
+        }
+        Ok(())
+    }
+
+    /// The line that the last call gave, with its line feed; nothing where it gave none.
+    pub fn text(&self) -> &[u8]
+        ensures { result.now ≡ text_of self.now }
+    {
+        self.text.as_slice()
+    }
+
+    /// The filter.
+    pub fn into_feeding(self) -> F
+        ensures { result ≡ feeding_of self }
+    {
+        let Recording {
+            feeding,
+            alloc: _,
+            scratch: _,
+            text: _,
+            time: _,
+            is_relative: _,
+        } = self;
+        feeding
+    }
+
+    // Gives a line as it came.
+    fn pass(&mut self, line: &str) -> Result<(), CastError>
+        ensures text { OnOk result (text_of self.new ≡ line.now ++ 0x0a ∷ []) }
+        ensures kept { (feeding_of self.new ≡ feeding_of self.old)
+            × (time_of self.new ≡ time_of self.old)
+            × (is_relative self.new ≡ is_relative self.old) }
+        ensures memory { result ≡ Err CastError.NoEvent → ⊥ }
+    {
+        self.text.clear();
+        self.text.extend_from_slice(line.as_bytes())?;
+        self.text.extend_from_slice(b"\n")?;
+        Ok(())
+    }
+}
+
+// The time of what comes last, where this was that of the last event.
+fn end_time(is_relative: bool, time: &str) -> &str
+    ensures number { IsNumber result.now }
+    ensures time { IsEndTime is_relative time.now result.now }
+{
+    if is_relative || !is_number(time) {
+        "0"
+    } else {
+        time
+    }
+}
+
+// The line of an event of output at this time, of this text, with its line feed.
+fn event<A: Allocator>(alloc: A, time: &str, data: &str) -> Result<Vec<u8, A>, AllocError>
+    requires { IsNumber time.now }
+    ensures { IfOk result (λ v. IsEvent time.now data.now v.items) }
+{
+    let mut writer = Writer::new(Vec::new(alloc));
+    writer.begin_array()?;
+    writer.number(time)?;
+    writer.string("o")?;
+    writer.string(data)?;
+    writer.end_array()?;
+    let mut line = writer.into_inner();
+    line.extend_from_slice(b"\n")?;
+    Ok(line)
+}

@@ -1,0 +1,67 @@
+-- `into_inner` unwraps the block. Assumes `Logic`.
+use Rattle.std.proofs.Common.{List, [], ◌∷◌, ◌++◌, refl}
+use mir.Syntax.{Fn, Args, a_type, dcons, dnil}
+use mir.MapTy.{inst_fn}
+use mir.Val.{Val}
+use base.Logic.{SProp, emp}
+use base.Fml.{ftrue}
+use prog.Wp.{Env, WpFn}
+use contract.BorrowLft.{◌⊑◌}
+use contract.Monad.{fact, fact_i}
+use contract.Running.{tables}
+use types.Kit.{‵, raw, ◌⊛◌, prop, ◌$◌, ◌∵◌, !, qed, by, move, drop, use0, split, regoal, fsplit, fjoin}
+use types.Part.{whole, sub}
+use types.Run.{stop, fld, of_opd, returns, enter}
+use types.ByLocal.{alloc_all, pass_all, free_all, look_at, get, get_in, sets, env}
+use denote.RattleType.{RattleType, owns}
+use denote.Param.{param, bounded}
+use denote.Signature.{types_at}
+use denote.Steps.{nothing}
+use denote.Triple.Entry.{alive}
+use denote.Triple.Walked.{walk_of}
+use Rattle.core.proofs.alloc.Calls.{Goes-blank}
+use Rattle.core.proofs.cell.Inside.{round}
+use Rattle.std.proofs.raw_atomic.Walks.{proved_at, leaves}
+use Rattle.caching_alloc.proofs.Values.{and_tt}
+use Rattle.caching_alloc.proofs.Cell.{Over, contents_out}
+use Rattle.caching_alloc.proofs.Walks.{dropped_all, slot_at}
+use Rattle.caching_alloc.specs.contracts.slot.Slot.into_inner.{ended, clauses}
+use Rattle.caching_alloc.specs.contracts.slot.Slot.into_inner.Key.{name as #self}
+use Rattle.caching_alloc.proofs.slot.Slot.into_inner.Statement.{statement}
+use Rattle.caching_alloc.proofs.slot.Slot.into_inner.Code as compiled
+
+pub into_inner_spec : {M : Type 1} → statement M
+into_inner_spec 𝓤 𝓛 𝓜 𝓡 wired A L g d dd met md =
+    let H = 𝓛.H in
+    let En₀ = ended A g d dd in
+    let c₀ = clauses A g d dd 𝓛 𝓜.mem 𝓡.returns in
+    let args : Args = bounded (a_type ∷ []) (A, tt) (dcons d (dcons dd dnil)) in
+    let fn : Fn = inst_fn args compiled.function in
+    let stays = dropped_all En₀.signature.params En₀.kept in
+    let c = c₀ in
+    let C = (tables 𝓤 H 𝓜 𝓡 𝓡.env).C in
+    let Λ = (tables 𝓤 H 𝓜 𝓡 𝓡.env).Λ in
+    proved_at 𝓛 En₀ stays c 𝓜 𝓡 (
+      Goes-blank 𝓛 1 (slot_at 0 En₀.signature.params) En₀.kept.0
+          (λ κs x f. tt),
+      tt,
+    ) (#self args) fn (compiled.unfolded 𝓤 H 𝓜 𝓡 wired (A, tt) d dd) (λ z are.
+    let Post : Val → SProp 𝓤 = (walk_of 𝓛 En₀ stays c).post z in
+    let a = z.0.3 in
+    let vss = z.0.4 in
+    let Z : RattleType = param 0 A in
+    qed 𝓛 ((raw (alive 𝓛 En₀.signature z.0.0 z.0.1)
+    ⊛ ‵ (owns (types_at En₀.signature.params z.0.0) a vss)) ∷ (raw (fact 𝓤 (z.0.0.0 ⊑ A.lives))
+    ⊛ ‵ ftrue) ∷ []) ∵ move ! (1 ∷ []) $ split ! $ drop ! $ drop ! $ split ! $ move ! (1 ∷ []) $
+    fsplit ! $ move ! (1 ∷ []) $ drop ! $ fsplit ! $ drop ! $
+    contents_out A L g a.0 ! vss.0 (λ x v over typed told.
+    regoal ! (λ (us : List Val). prop (WpFn 𝓤 H C Λ fn us Post)) (λ i. told i ++ []) refl $
+    enter ! C Λ fn (round v ∷ []) Post $
+    alloc_all ! (λ l. pass_all ! refl ((and_tt _ ((typed).0), ((typed).1, tt)), tt) $
+    let En : Env 𝓤 𝓛.H = env fn.locals l in
+    sets ! (of_opd ! (get_in ! (fld ! refl (stop !)) (sub ! 0 refl (whole !)))) refl typed $
+    sets ! (of_opd ! (get ! refl)) refl typed $
+    returns ! (look_at ! 0 refl) $ free_all ! refl $
+    use0 𝓛 (raw (fact 𝓤 (Over Z g a.0 x))) (fact_i 𝓤 (Over Z g a.0 x) (emp 𝓤) over) $ nothing ! $
+    nothing ! $ fjoin ! $ move ! (3 ∷ 0 ∷ 2 ∷ 1 ∷ []) $
+    by ! (leaves 𝓛 En₀ stays c z (v) (x) (tt, tt) (tt, tt)))))

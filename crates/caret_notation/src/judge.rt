@@ -1,0 +1,282 @@
+//! Whether a piece of a stream is kept.
+ghost use Rattle.std.specs.Prelude.{◌≡◌, ◌&&◌, ◌++◌, ◌<◌, ◌≤◌, ℕ, List, [], IfOk, IfSome, OnErr, OnOk, Some, false, length, take};
+ghost use Rattle.esc_actions.specs.Values.{plain, value_of};
+ghost use Rattle.esc_frame.specs.Stream.{IsQuietWithin, HasConsumedWithin};
+ghost use Rattle.esc_parse.specs.Fed.{Hooks};
+ghost use Rattle.caret_notation.specs.Judged.{HasJudged, HasJudgedSome, begun, judged, noted_verdict};
+ghost use Rattle.caret_notation.specs.Revealed.{are_kept};
+ghost use Rattle.esc_normal.specs.Normalising.{normal_form};
+ghost use Rattle.caret_notation.specs.Spelled.{is_spelled};
+ghost use Rattle.esc_actions.specs.Meaning.{meaning_within};
+ghost use Rattle.fallible_alloc.specs.Refusals.{Refused};
+
+use crate::spelled::is_spelled;
+use esc_actions::{Action, ControlCode};
+use esc_filter::{Admit, passes};
+use esc_frame::VTParser;
+use esc_parse::Sink;
+use esc_parse::performer::Performer;
+use esc_parse::unfinished::Unfinished;
+use esc_values::CsiParam;
+use std::alloc::{AllocError, Allocator};
+
+/// What is known of the actions so far.
+#[derive(Clone, Copy)]
+pub(crate) struct Verdict {
+    /// Whether there are any.
+    pub some: bool,
+    /// Whether each goes through.
+    pub all: bool,
+    /// Whether the last one is a string.
+    pub follows: bool,
+}
+
+impl Verdict {
+    // Of no action.
+    fn begun() -> Verdict
+        ensures { result ≡ begun }
+    {
+        Verdict {
+            some: false,
+            all: true,
+            follows: false,
+        }
+    }
+
+    // Of more of them, which pass or do not, the last of which is a string or is not.
+    fn with(self, passes: bool, is_string: bool) -> Verdict
+        ensures { result ≡ noted_verdict passes is_string self }
+    {
+        Verdict {
+            some: true,
+            all: self.all && passes,
+            follows: is_string,
+        }
+    }
+
+    // Whether a piece with these actions may stay.
+    fn keeps(self) -> bool
+        ensures { result ≡ (self.some && self.all) }
+    {
+        self.some && self.all
+    }
+}
+
+/// Asks a policy of each action.
+#[derive(Drop)]
+pub(crate) struct Judge<'p, P> {
+    /// What is known so far.
+    pub verdict: Verdict,
+    /// What admits them.
+    pub policy: &'p P,
+}
+
+impl<'p, P: Admit<A>, A: Allocator> Sink<Action<A>> for Judge<'p, P> {
+    ghost is_ready = { λ _. Unit {0} };
+
+    ghost may = { λ _ _. Unit {0} };
+
+    ghost takes = { λ p a q. (q.verdict
+        ≡ judged (P.admits p.policy.now) p.verdict (value_of a))
+        × (q.policy.now ≡ p.policy.now) };
+
+    ghost refuses = { λ _ _ _. ⊥ };
+
+    fn receive(&mut self, action: Action<A>) -> Result<(), AllocError> {
+        let goes = if action.is_terminator() {
+            self.verdict.follows
+        } else {
+            passes(self.policy, &action)
+        };
+        self.verdict = Verdict {
+            some: true,
+            all: self.verdict.all && goes,
+            follows: action.is_string(),
+        };
+        Ok(())
+    }
+
+    // Each passes, or none does, so none is made.
+    fn receive_sequence(
+        &mut self,
+        params: &[CsiParam],
+        parameters_truncated: bool,
+        control: u8,
+    ) -> Result<bool, AllocError> {
+        if parameters_truncated {
+            return Ok(false);
+        }
+        let Some(passes) = self.policy.admits_sequence(params, control) else {
+            return Ok(false);
+        };
+        self.verdict = self.verdict.with(passes, false);
+        Ok(true)
+    }
+
+    // The same of a command.
+    fn receive_command(&mut self, text: &[u8]) -> Result<bool, AllocError> {
+        let Some(passes) = self.policy.admits_command(text) else {
+            return Ok(false);
+        };
+        self.verdict = self.verdict.with(passes, true);
+        Ok(true)
+    }
+
+    // What follows is as by default, and written out: at the type of an action, a method that is
+    // taken over from the trait costs a proof some seconds more.
+    #[inline]
+    fn drops_sequences(&self, _control: u8) -> bool {
+        false
+    }
+
+    #[inline]
+    fn drops_images(&self) -> bool {
+        false
+    }
+}
+
+// What asks this policy of actions, of which it was given none.
+fn unasked<P, A: Allocator + Copy>(alloc: A, policy: &P, limit: usize) -> Performer<Judge<'_, P>, A>
+    ensures hooks { Hooks (Some limit) result.unfinished plain }
+    ensures verdict { result.sink.verdict ≡ begun }
+    ensures policy { result.sink.policy.now ≡ policy.now }
+{
+    Performer {
+        sink: Judge {
+            verdict: Verdict::begun(),
+            policy,
+        },
+        alloc,
+        unfinished: Unfinished::new(Some(limit)),
+    }
+}
+
+/// Frames the bytes that come first, where no segment is unfinished, up to the end of a piece or to
+/// the last byte, and asks the policy of what they mean. It returns how many they are, and whether
+/// they mean something, all of which passes.
+pub(crate) fn judge_piece<P: Admit<A>, A: Allocator + Copy>(
+    alloc: A,
+    framer: &mut VTParser<A>,
+    policy: &P,
+    limit: usize,
+    bytes: &[u8],
+) -> Result<(usize, bool), AllocError>
+    requires { 0 < length bytes.now }
+    ensures count { IfOk result (λ x. (0 < x.0) × (x.0 ≤ length bytes.now)) }
+    ensures given { HasConsumedWithin (Some limit) [] framer.old → IfOk result
+        (HasJudgedSome P.Admit policy.now limit bytes.now framer.new) }
+    ensures refused { HasConsumedWithin (Some limit) [] framer.old → OnErr result (Refused A) }
+{
+    if let Some(passes) = judge_control(framer, policy, bytes) {
+        return Ok((1, passes));
+    }
+    let mut performer = unasked(alloc, policy, limit);
+    let mut at = 0;
+    while at < bytes.len() {
+        let n = judge_some(framer, &mut performer, &bytes[at..])?;
+        at += n;
+        if framer.is_ground() {
+            return Ok((at, performer.sink.verdict.keeps()));
+        }
+    }
+    Ok((at, performer.sink.verdict.keeps()))
+}
+
+// Whether the control that comes first passes. None where none does.
+fn judge_control<P: Admit<A>, A: Allocator>(
+    framer: &VTParser<A>,
+    policy: &P,
+    bytes: &[u8],
+) -> Option<bool>
+    ensures { (limit : ℕ) → HasConsumedWithin (Some limit) [] framer.now → IfSome result
+        (λ k. HasConsumedWithin (Some limit) (take 1 bytes.now) framer.now × (k
+        ≡ are_kept (P.admits policy.now) (meaning_within (Some limit) (take 1 bytes.now)))) }
+{
+    let code = ControlCode::from_byte(framer.first_control(bytes)?)?;
+    Some(passes(policy, &Action::Control(code)))
+}
+
+// Frames some of these bytes, one at least.
+fn judge_some<P: Admit<A>, A: Allocator + Copy>(
+    framer: &mut VTParser<A>,
+    performer: &mut Performer<Judge<'_, P>, A>,
+    bytes: &[u8],
+) -> Result<usize, AllocError>
+    requires { 0 < length bytes.now }
+    ensures count { IfOk result (λ n. (0 < n) × (n ≤ length bytes.now)) }
+    ensures given { (limit : ℕ) (s : List ℕ)
+        → HasJudged P.Admit limit s framer.old performer.old → IfOk result
+        (λ n. HasJudged P.Admit limit (s ++ take n bytes.now) framer.new performer.new
+        × (performer.new.sink.policy.now ≡ performer.old.sink.policy.now)
+        × IsQuietWithin (Some limit) s bytes.now n) }
+    ensures refused { (limit : ℕ) (s : List ℕ)
+        → HasJudged P.Admit limit s framer.old performer.old → OnErr result (Refused A) }
+{
+    match framer.parse_some(bytes, performer) {
+        Ok(n) => Ok(n),
+        Err(_) => Err(AllocError),
+    }
+}
+
+// Frames these bytes.
+fn judge_all<P: Admit<A>, A: Allocator + Copy>(
+    framer: &mut VTParser<A>,
+    performer: &mut Performer<Judge<'_, P>, A>,
+    bytes: &[u8],
+) -> Result<(), AllocError>
+    ensures given { (limit : ℕ) (s : List ℕ)
+        → HasJudged P.Admit limit s framer.old performer.old → OnOk result
+        (HasJudged P.Admit limit (s ++ bytes.now) framer.new performer.new
+        × (performer.new.sink.policy.now ≡ performer.old.sink.policy.now)) }
+    ensures refused { (limit : ℕ) (s : List ℕ)
+        → HasJudged P.Admit limit s framer.old performer.old → OnErr result (Refused A) }
+{
+    match framer.parse(bytes, performer) {
+        Ok(()) => Ok(()),
+        Err(_) => Err(AllocError),
+    }
+}
+
+/// Whether the piece, which the framer was fed, stays: each value that it means goes through, and
+/// all of its bytes are in the text of these. The framer was fed it again.
+pub(crate) fn stays_spelled<P: Admit<A>, A: Allocator + Copy>(
+    alloc: A,
+    framer: &mut VTParser<A>,
+    policy: &P,
+    limit: usize,
+    piece: &[u8],
+) -> Result<bool, AllocError>
+    ensures kept { HasConsumedWithin (Some limit) piece.now framer.old → IfOk result
+        (λ k. HasConsumedWithin (Some limit) piece.now framer.new × (k
+        ≡ (are_kept (P.admits policy.now) (meaning_within (Some limit) piece.now)
+        && is_spelled piece.now (normal_form A (Some limit) piece.now)))) }
+    ensures refused { HasConsumedWithin (Some limit) piece.now framer.old
+        → OnErr result (Refused A) }
+{
+    let keeps = stays(alloc, framer, policy, limit, piece)?;
+    if keeps {
+        is_spelled(alloc, limit, piece)
+    } else {
+        Ok(false)
+    }
+}
+
+// Whether the piece means values, and each of them goes through.
+fn stays<P: Admit<A>, A: Allocator + Copy>(
+    alloc: A,
+    framer: &mut VTParser<A>,
+    policy: &P,
+    limit: usize,
+    piece: &[u8],
+) -> Result<bool, AllocError>
+    ensures kept { HasConsumedWithin (Some limit) piece.now framer.old → IfOk result
+        (λ k. HasConsumedWithin (Some limit) piece.now framer.new
+        × (k ≡ are_kept (P.admits policy.now) (meaning_within (Some limit) piece.now))) }
+    ensures refused { HasConsumedWithin (Some limit) piece.now framer.old
+        → OnErr result (Refused A) }
+{
+    framer.restart();
+    let mut performer = unasked(alloc, policy, limit);
+    judge_all(framer, &mut performer, piece)?;
+    Ok(performer.sink.verdict.keeps())
+}

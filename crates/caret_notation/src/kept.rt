@@ -1,0 +1,142 @@
+//! What is kept of a piece that has not ended.
+ghost use Rattle.std.specs.Prelude.{◌<◌, ◌+◌, ◌≡◌, ◌++◌, ◌↔◌, ℕ, List, [], length, nat_le, true, false, IsTrue, MatchOption, OnErr, OnOk};
+ghost use Rattle.caret_notation.specs.Grown.{Grows, Keeps};
+ghost use Rattle.caret_notation.specs.Visible.{rest_text, shown_text};
+ghost use Rattle.fallible_alloc.specs.Refusals.{Refused};
+
+use crate::marking::Marking;
+use crate::shown::{push_runs, push_shown};
+use crate::visible::push_stray;
+use esc_frame::utf8::sequence::Pending;
+use std::alloc::{AllocError, Allocator, Global};
+
+/// The bytes of a piece, as long as they are within a limit. Of a longer piece, which was shown
+/// already, only the first bytes of a character that has begun.
+#[derive(Drop)]
+pub(crate) struct Kept<A: Allocator = Global> {
+    piece: Vec<u8, A>,
+    is_over: bool,
+    begun: Pending,
+}
+
+impl<A: Allocator> Kept<A> {
+    /// Nothing. Takes no memory.
+    pub fn new(alloc: A) -> Kept<A>
+        ensures { (limit : ℕ) → Keeps limit [] result }
+    {
+        Kept {
+            piece: Vec::new(alloc),
+            is_over: false,
+            begun: Pending::Nothing,
+        }
+    }
+
+    /// Whether no byte of a piece has come.
+    #[inline]
+    pub fn is_empty(&self) -> bool
+        ensures { (limit : ℕ) (r : List ℕ) → Keeps limit r self.now → IsTrue result ↔ (r ≡ []) }
+    {
+        !self.is_over && self.piece.is_empty()
+    }
+
+    /// Takes bytes more. Of a piece that is longer than the limit now they are shown at once.
+    pub fn extend(
+        &mut self,
+        marking: Marking,
+        limit: usize,
+        bytes: &[u8],
+        text: &mut Vec<u8, A>,
+    ) -> Result<(), AllocError>
+        ensures given { (r : List ℕ) → Keeps limit r self.old → OnOk result
+            (Keeps limit (r ++ bytes.now) self.new
+            × Grows text.old.items text.new.items (rest_text marking limit r)
+            (rest_text marking limit (r ++ bytes.now))) }
+        ensures refused { OnErr result (Refused A) }
+    {
+        if self.is_over {
+            self.begun = push_runs(text, self.begun, bytes)?;
+            return Ok(());
+        }
+        let length = self.piece.len() + bytes.len();
+        if length <= limit {
+            return fallible_alloc::extend(&mut self.piece, bytes);
+        }
+        self.overflow(marking, bytes, text)
+    }
+
+    // Takes bytes with which the piece is longer than the limit.
+    fn overflow(
+        &mut self,
+        marking: Marking,
+        bytes: &[u8],
+        text: &mut Vec<u8, A>,
+    ) -> Result<(), AllocError>
+        requires { self.old.is_over ≡ false }
+        ensures given { (limit : ℕ) (r : List ℕ) → Keeps limit r self.old
+            → limit < length r + length bytes.now → OnOk result
+            (Keeps limit (r ++ bytes.now) self.new
+            × Grows text.old.items text.new.items (rest_text marking limit r)
+            (rest_text marking limit (r ++ bytes.now))) }
+        ensures refused { OnErr result (Refused A) }
+    {
+        fallible_alloc::extend(text, marking.opening())?;
+        let begun = push_runs(text, Pending::Nothing, &self.piece)?;
+        self.begun = push_runs(text, begun, bytes)?;
+        self.is_over = true;
+        self.piece.clear();
+        Ok(())
+    }
+
+    /// The bytes, where the piece is within the limit.
+    pub fn piece(&self) -> Option<&[u8]>
+        ensures { (limit : ℕ) (r : List ℕ) → Keeps limit r self.now → MatchOption result
+            (nat_le (length r) limit ≡ false)
+            (λ p. (p.now ≡ r) × (nat_le (length r) limit ≡ true)) }
+    {
+        if self.is_over {
+            None
+        } else {
+            Some(&self.piece)
+        }
+    }
+
+    /// Shows what of the piece was not shown yet, in this way. Nothing is kept then.
+    pub fn show(&mut self, marking: Marking, text: &mut Vec<u8, A>) -> Result<(), AllocError>
+        ensures given { (limit : ℕ) (r : List ℕ) → Keeps limit r self.old → OnOk result
+            (Keeps limit [] self.new
+            × Grows text.old.items text.new.items (rest_text marking limit r)
+            (shown_text marking r)) }
+        ensures refused { OnErr result (Refused A) }
+    {
+        if self.is_over {
+            push_stray(text, self.begun)?;
+            fallible_alloc::extend(text, marking.closing())?;
+            self.clear();
+            return Ok(());
+        }
+        push_shown(text, marking, &self.piece)?;
+        self.clear();
+        Ok(())
+    }
+
+    /// Writes the piece, which is within the limit, as it came. Nothing is kept then.
+    pub fn write(&mut self, text: &mut Vec<u8, A>) -> Result<(), AllocError>
+        ensures given { (m : Marking) (limit : ℕ) (r : List ℕ) → Keeps limit r self.old
+            → nat_le (length r) limit ≡ true → OnOk result (Keeps limit [] self.new
+            × Grows text.old.items text.new.items (rest_text m limit r) r) }
+        ensures refused { OnErr result (Refused A) }
+    {
+        fallible_alloc::extend(text, &self.piece)?;
+        self.clear();
+        Ok(())
+    }
+
+    // Keeps nothing.
+    fn clear(&mut self)
+        ensures { (limit : ℕ) → Keeps limit [] self.new }
+    {
+        self.piece.clear();
+        self.is_over = false;
+        self.begun = Pending::Nothing;
+    }
+}

@@ -1,0 +1,409 @@
+//! A stream in which what is not admitted is shown.
+ghost use Rattle.std.specs.Prelude.{◌≡◌, ◌++◌, ◌∷◌, ◌<◌, ◌≤◌, ◌&&◌, ℕ, List, [], OnErr, OnOk, length, take, slice_index, IfOk, Some, nat_le, true, false};
+ghost use Rattle.esc_actions.specs.Meaning.{meaning_within};
+ghost use Rattle.esc_filter.specs.Lines.{is_line_feed};
+ghost use Rattle.caret_notation.specs.Revealed.{are_kept, is_kept};
+ghost use Rattle.caret_notation.specs.Runs.{IsAdmittedText, IsOpenRun, IsPart, has_line_end};
+ghost use Rattle.caret_notation.specs.Visible.{lets_stay, rest_text, shown_text};
+ghost use Rattle.caret_notation.specs.declared.reveal.TheConstants.{MOST_BYTES};
+ghost use Rattle.fallible_alloc.specs.Refusals.{Refused};
+
+use crate::judge::{judge_piece, stays_spelled};
+use crate::kept::Kept;
+use crate::marking::Marking;
+use crate::shown::push_shown;
+use crate::silent::frame_some;
+use crate::spelled::may_stay;
+use crate::text::admitted_run;
+use esc_filter::Admit;
+use esc_frame::VTParser;
+use memchr::memchr;
+use std::alloc::{AllocError, Allocator, Global};
+
+// How many bytes a character has at most.
+const MOST_BYTES: usize = 4;
+
+/// What is kept of a stream: how long a piece may be, whether a line feed ends one, and what is
+/// admitted.
+#[derive(Drop)]
+pub(crate) struct Rule<P> {
+    /// What admits actions.
+    pub policy: P,
+    /// How many bytes a piece that is kept has at most.
+    pub limit: usize,
+    /// Whether a line feed ends a piece.
+    pub by_lines: bool,
+    /// How what is shown is told from text that stays.
+    pub marking: Marking,
+}
+
+/// Takes a stream in whatever pieces it comes, and gives for each the text that it adds: the stream
+/// itself, but that what a policy does not admit of it is visible text, as
+/// [`push_visible`](crate::push_visible) writes it.
+///
+/// The stream is cut where no segment is unfinished, so a string and its terminator are one piece.
+/// A piece stays as it is where it means something, each of its actions passes a filter of the
+/// policy, and what the filter writes of them is the piece itself, or the same with `ESC \` in the
+/// place of the BEL that ends a string. A control sequence with no control in it stays also where
+/// its numbers and renditions are spelled otherwise. Any other piece is shown whole. One that is
+/// longer than the limit is shown as it comes, and so is, at the end of the stream, one that has
+/// not ended. Where `by_lines`, a line feed always ends a piece: it stays, and what was unfinished
+/// before it is shown.
+///
+/// Of the stream it keeps the piece that has not ended, at most the limit, and what a
+/// [`VTParser`](esc_frame::VTParser) of this limit keeps of a segment that has not ended.
+#[derive(Drop)]
+pub struct Reveal<P, A: Allocator = Global> {
+    rule: Rule<P>,
+    framer: VTParser<A>,
+    alloc: A,
+    kept: Kept<A>,
+    // what the last call added
+    text: Vec<u8, A>,
+    has_failed: bool,
+}
+
+impl<P: Admit<A>, A: Allocator + Copy> Reveal<P, A> {
+    ghost use Rattle.caret_notation.specs.Fed.{AddsTo, AtPieceEnd, AtRest, EndsAs, FailsForGood, GrowsTo, Holds, IsFramed, TakesSome, HasConsumed, added_by, by_lines_of, closed_text, limit_of, marking_of, policy_of};
+
+    /// One at the beginning of a stream, of which a piece of at most `limit` bytes is kept. Takes
+    /// no memory.
+    pub fn new(alloc: A, limit: usize, policy: P, by_lines: bool) -> Reveal<P, A>
+        ensures fed { HasConsumed [] result }
+        ensures limit { limit_of result ≡ limit }
+        ensures policy { policy_of result ≡ policy }
+        ensures lines { (by_lines_of result ≡ by_lines) × (marking_of result ≡ Marking.Plain) }
+    {
+        Reveal::with_marking(alloc, limit, policy, by_lines, Marking::Plain)
+    }
+
+    /// The same, where what is shown is told from text that stays in this way.
+    pub fn with_marking(
+        alloc: A,
+        limit: usize,
+        policy: P,
+        by_lines: bool,
+        marking: Marking,
+    ) -> Reveal<P, A>
+        ensures fed { HasConsumed [] result }
+        ensures limit { limit_of result ≡ limit }
+        ensures policy { policy_of result ≡ policy }
+        ensures lines { (by_lines_of result ≡ by_lines) × (marking_of result ≡ marking) }
+    {
+        Reveal {
+            rule: Rule {
+                policy,
+                limit,
+                by_lines,
+                marking,
+            },
+            framer: VTParser::with_limit(alloc, limit),
+            alloc,
+            kept: Kept::new(alloc),
+            text: Vec::new(alloc),
+            has_failed: false,
+        }
+    }
+
+    /// Takes `bytes`. What they add to the text of the stream so far is then [`added`].
+    ///
+    /// The error says that a request for memory was refused: nothing was added, and from then on
+    /// every call returns this error.
+    ///
+    /// [`added`]: Reveal::added
+    pub fn feed(&mut self, bytes: &[u8]) -> Result<(), AllocError>
+        ensures given { (s : List ℕ) → HasConsumed s self.old → OnOk result
+            (HasConsumed (s ++ bytes.now) self.new × AddsTo P.Admit s bytes.now self.old self.new) }
+        ensures rule { self.new.rule ≡ self.old.rule }
+        ensures refused { (s : List ℕ) → HasConsumed s self.old → OnErr result (Refused A) }
+        ensures fails { FailsForGood self.old result self.new }
+    {
+        self.text.clear();
+        if self.has_failed {
+            return Err(AllocError);
+        }
+        match self.take_all(bytes) {
+            Ok(()) => Ok(()),
+            Err(e) => {
+                self.has_failed = true;
+                self.text.clear();
+                Err(e)
+            }
+        }
+    }
+
+    /// Ends the stream, and begins the next. The visible text of a piece that has not ended is then
+    /// [`added`].
+    ///
+    /// The error says that a request for memory was refused: nothing was added, and from then on
+    /// every call returns this error.
+    ///
+    /// [`added`]: Reveal::added
+    pub fn finish(&mut self) -> Result<(), AllocError>
+        ensures ended { (s : List ℕ) → HasConsumed s self.old → OnOk result
+            (HasConsumed [] self.new × EndsAs P.Admit s self.old self.new) }
+        ensures rule { self.new.rule ≡ self.old.rule }
+        ensures refused { (s : List ℕ) → HasConsumed s self.old → OnErr result (Refused A) }
+        ensures fails { FailsForGood self.old result self.new }
+    {
+        self.text.clear();
+        if self.has_failed {
+            return Err(AllocError);
+        }
+        match self.show() {
+            Ok(()) => Ok(()),
+            Err(e) => {
+                self.has_failed = true;
+                self.text.clear();
+                Err(e)
+            }
+        }
+    }
+
+    /// The bytes that the last call added.
+    pub fn added(&self) -> &[u8]
+        ensures { result.now ≡ added_by self.now }
+    {
+        &self.text
+    }
+
+    // Takes these bytes. After an error nothing is said of the rest.
+    fn take_all(&mut self, bytes: &[u8]) -> Result<(), AllocError>
+        ensures given { (r : List ℕ) → AtRest r self.old → OnOk result
+            (GrowsTo P.Admit r bytes.now self.old self.new) }
+        ensures rule { self.new.rule ≡ self.old.rule }
+        ensures refused { (r : List ℕ) → AtRest r self.old → OnErr result (Refused A) }
+    {
+        let mut at = 0;
+        while at < bytes.len() {
+            let rest = &bytes[at..];
+            let n = self.take_line(rest)?;
+            at += n;
+        }
+        Ok(())
+    }
+
+    // Takes the bytes before the first line feed that ends a piece, or this line feed, where it
+    // comes first, and returns how many they are.
+    fn take_line(&mut self, bytes: &[u8]) -> Result<usize, AllocError>
+        requires { 0 < length bytes.now }
+        ensures { TakesSome P.Admit AtRest self.old bytes.now result self.new }
+    {
+        let run = self.open_run(bytes);
+        if run == 0 {
+            self.end_line(bytes[0])?;
+            return Ok(1);
+        }
+        self.take_open(&bytes[..run])?;
+        Ok(run)
+    }
+
+    // How many bytes come before the first line feed that ends a piece.
+    fn open_run(&self, bytes: &[u8]) -> usize
+        ensures few { result ≤ length bytes.now }
+        ensures lineless { has_line_end (by_lines_of self.now) (take result bytes.now) ≡ false }
+        ensures ends { result ≡ 0 → 0 < length bytes.now
+            → (by_lines_of self.now && is_line_feed (slice_index bytes.now 0)) ≡ true }
+    {
+        if !self.rule.by_lines {
+            return bytes.len();
+        }
+        match memchr(b'\n', bytes) {
+            Some(at) => at,
+            None => bytes.len(),
+        }
+    }
+
+    // Takes these bytes, none of which is a line feed that ends a piece.
+    fn take_open(&mut self, bytes: &[u8]) -> Result<(), AllocError>
+        requires { has_line_end (by_lines_of self.old) bytes.now ≡ false }
+        ensures given { (r : List ℕ) → AtRest r self.old → OnOk result
+            (GrowsTo P.Admit r bytes.now self.old self.new) }
+        ensures rule { self.new.rule ≡ self.old.rule }
+        ensures refused { (r : List ℕ) → AtRest r self.old → OnErr result (Refused A) }
+    {
+        let mut at = 0;
+        while at < bytes.len() {
+            let rest = &bytes[at..];
+            let n = self.take_some(rest)?;
+            at += n;
+        }
+        Ok(())
+    }
+
+    // Takes some of these bytes, and returns how many: a run of text that stays, or those up to the
+    // end of a piece or of an event.
+    fn take_some(&mut self, bytes: &[u8]) -> Result<usize, AllocError>
+        requires { IsOpenRun (by_lines_of self.old) bytes.now }
+        ensures { TakesSome P.Admit AtRest self.old bytes.now result self.new }
+    {
+        if !self.kept.is_empty() {
+            return self.take_more(bytes);
+        }
+        let run = self.text_run(bytes);
+        if run == 0 {
+            return self.take_first(bytes);
+        }
+        fallible_alloc::extend(&mut self.text, &bytes[..run])?;
+        Ok(run)
+    }
+
+    // The length of a run of characters that comes first and stays as it is, where no segment is
+    // unfinished; 0 where none is seen at once.
+    fn text_run(&self, bytes: &[u8]) -> usize
+        requires { 0 < length bytes.now }
+        ensures few { result ≤ length bytes.now }
+        ensures limit { 0 < result → MOST_BYTES ≤ limit_of self.now }
+        ensures text { IsAdmittedText (P.admits (policy_of self.now)) (take result bytes.now)
+            × (lets_stay (marking_of self.now) (take result bytes.now) ≡ true) }
+    {
+        if self.rule.limit < MOST_BYTES {
+            return 0;
+        }
+        admitted_run(&self.rule.policy, self.rule.marking, bytes)
+    }
+
+    // Takes bytes up to the end of a piece, or all, where no segment is unfinished, and returns how
+    // many.
+    fn take_first(&mut self, bytes: &[u8]) -> Result<usize, AllocError>
+        requires { IsOpenRun (by_lines_of self.old) bytes.now }
+        ensures { TakesSome P.Admit AtPieceEnd self.old bytes.now result self.new }
+    {
+        let (n, passes) = judge_piece(
+            self.alloc,
+            &mut self.framer,
+            &self.rule.policy,
+            self.rule.limit,
+            bytes,
+        )?;
+        self.put_first(passes, &bytes[..n])?;
+        Ok(n)
+    }
+
+    // Takes these bytes, which were framed and judged: they are a piece, or begin one.
+    fn put_first(&mut self, passes: bool, bytes: &[u8]) -> Result<(), AllocError>
+        ensures given { IsFramed [] bytes.now self.old → IsPart (by_lines_of self.old) [] bytes.now
+            → (passes ≡ are_kept (P.admits (policy_of self.old))
+            (meaning_within (Some (limit_of self.old)) bytes.now)) → OnOk result
+            (GrowsTo P.Admit [] bytes.now self.old self.new) }
+        ensures rule { self.new.rule ≡ self.old.rule }
+        ensures refused { OnErr result (Refused A) }
+    {
+        if !self.framer.is_ground() {
+            return self
+                .kept
+                .extend(self.rule.marking, self.rule.limit, bytes, &mut self.text);
+        }
+        self.framer.restart();
+        let rule = &self.rule;
+        let stays = may_stay(self.alloc, rule.marking, rule.limit, passes, bytes)?;
+        if stays {
+            fallible_alloc::extend(&mut self.text, bytes)
+        } else {
+            push_shown(&mut self.text, self.rule.marking, bytes)
+        }
+    }
+
+    // Takes bytes up to the end of a piece or of an event, and returns how many.
+    fn take_more(&mut self, bytes: &[u8]) -> Result<usize, AllocError>
+        requires { IsOpenRun (by_lines_of self.old) bytes.now }
+        ensures { TakesSome P.Admit AtRest self.old bytes.now result self.new }
+    {
+        let n = frame_some(&mut self.framer, bytes)?;
+        self.take_piece(&bytes[..n])?;
+        Ok(n)
+    }
+
+    // Takes these bytes, which were framed: they end a piece, or are a part of it.
+    fn take_piece(&mut self, bytes: &[u8]) -> Result<(), AllocError>
+        ensures given { (r : List ℕ) → IsFramed r bytes.now self.old
+            → IsPart (by_lines_of self.old) r bytes.now → OnOk result
+            (GrowsTo P.Admit r bytes.now self.old self.new) }
+        ensures rule { self.new.rule ≡ self.old.rule }
+        ensures refused { (r : List ℕ) → IsFramed r bytes.now self.old → OnErr result (Refused A) }
+    {
+        let has_ended = self.framer.is_ground();
+        self.kept
+            .extend(self.rule.marking, self.rule.limit, bytes, &mut self.text)?;
+        if has_ended { self.close() } else { Ok(()) }
+    }
+
+    // Takes a line feed that ends a piece.
+    fn end_line(&mut self, byte: u8) -> Result<(), AllocError>
+        requires { (by_lines_of self.old && is_line_feed byte) ≡ true }
+        ensures given { (r : List ℕ) → AtRest r self.old → OnOk result
+            (GrowsTo P.Admit r (byte ∷ []) self.old self.new) }
+        ensures rule { self.new.rule ≡ self.old.rule }
+        ensures refused { (r : List ℕ) → AtRest r self.old → OnErr result (Refused A) }
+    {
+        self.show()?;
+        fallible_alloc::extend(&mut self.text, &[byte])
+    }
+
+    // Ends a piece that no line feed ends.
+    fn close(&mut self) -> Result<(), AllocError>
+        ensures given { (r : List ℕ) → AtRest r self.old → OnOk result
+            (Holds [] (rest_text (marking_of self.old) (limit_of self.old) r)
+            (closed_text P.Admit self.old.rule r) self.old self.new) }
+        ensures rule { self.new.rule ≡ self.old.rule }
+        ensures refused { (r : List ℕ) → AtRest r self.old → OnErr result (Refused A) }
+    {
+        if self.is_kept()? {
+            self.write()
+        } else {
+            self.show()
+        }
+    }
+
+    // Whether the piece stays as it is.
+    fn is_kept(&mut self) -> Result<bool, AllocError>
+        ensures given { (r : List ℕ) → AtRest r self.old → IfOk result
+            (λ k. AtRest r self.new
+            × (k ≡ is_kept (marking_of self.old) (limit_of self.old)
+            (P.admits (policy_of self.old)) r)) }
+        ensures rule { self.new.rule ≡ self.old.rule }
+        ensures text { added_by self.new ≡ added_by self.old }
+        ensures refused { (r : List ℕ) → AtRest r self.old → OnErr result (Refused A) }
+    {
+        match self.kept.piece() {
+            Some(piece) => {
+                if !self.rule.marking.lets_stay(piece) {
+                    return Ok(false);
+                }
+                stays_spelled(
+                    self.alloc,
+                    &mut self.framer,
+                    &self.rule.policy,
+                    self.rule.limit,
+                    piece,
+                )
+            }
+            None => Ok(false),
+        }
+    }
+
+    // Writes the piece, which is within the limit, as it came, and begins anew.
+    fn write(&mut self) -> Result<(), AllocError>
+        ensures given { (r : List ℕ) → AtRest r self.old
+            → nat_le (length r) (limit_of self.old) ≡ true → OnOk result
+            (Holds [] (rest_text (marking_of self.old) (limit_of self.old) r) r
+            self.old self.new) }
+        ensures rule { self.new.rule ≡ self.old.rule }
+        ensures refused { OnErr result (Refused A) }
+    {
+        self.framer.restart();
+        self.kept.write(&mut self.text)
+    }
+
+    // Shows what of the piece was not shown yet, and begins anew.
+    fn show(&mut self) -> Result<(), AllocError>
+        ensures given { (r : List ℕ) → AtRest r self.old → OnOk result
+            (Holds [] (rest_text (marking_of self.old) (limit_of self.old) r)
+            (shown_text (marking_of self.old) r) self.old self.new) }
+        ensures rule { self.new.rule ≡ self.old.rule }
+        ensures refused { OnErr result (Refused A) }
+    {
+        self.framer.restart();
+        self.kept.show(self.rule.marking, &mut self.text)
+    }
+}

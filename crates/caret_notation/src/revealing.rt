@@ -1,0 +1,68 @@
+//! A filter, of what a reveal makes of a stream.
+ghost use Rattle.std.specs.Prelude.{◌≡◌, ℕ, List, [], string_bytes};
+ghost use Rattle.caret_notation.specs.Fed.{HasConsumed};
+ghost use Rattle.caret_notation.specs.Through.{GivesThrough, OnlyAdds, through, through_whole};
+
+use crate::reveal::Reveal;
+use esc_filter::{Admit, StreamFilter};
+use std::alloc::{AllocError, Allocator, Global};
+
+/// Takes a stream, and gives a filter what a [`Reveal`] makes of it. So what the filter writes is
+/// its own text of a stream, whatever the reveal does: nothing is written that it would not write.
+#[derive(Drop)]
+pub struct Revealing<F, P, A: Allocator = Global> {
+    reveal: Reveal<P, A>,
+    filter: F,
+    // what the last call added
+    text: String<A>,
+}
+
+impl<F: StreamFilter<A>, P: Admit<A>, A: Allocator + Copy> Revealing<F, P, A> {
+    /// This filter, of what this reveal makes; both are at the beginning of a stream. Takes no
+    /// memory.
+    pub fn new(alloc: A, reveal: Reveal<P, A>, filter: F) -> Revealing<F, P, A>
+        ensures reveal { result.reveal ≡ reveal }
+        ensures filter { result.filter ≡ filter }
+        ensures empty { string_bytes result.text ≡ [] }
+        ensures begins { (m c : List ℕ → List ℕ) → F.gives filter m c []
+            → OnlyAdds F.StreamFilter m c
+            → HasConsumed [] reveal → GivesThrough F.StreamFilter P.Admit result.reveal
+            result.filter
+            (through P.Admit reveal.rule m) (through_whole P.Admit reveal.rule c) [] }
+    {
+        Revealing {
+            reveal,
+            filter,
+            text: String::new(alloc),
+        }
+    }
+}
+
+impl<F: StreamFilter<A>, P: Admit<A>, A: Allocator + Copy> StreamFilter<A> for Revealing<F, P, A> {
+    ghost gives = { λ f m c s. GivesThrough F.StreamFilter P.Admit f.reveal f.filter m c s };
+
+    ghost added = { λ f. string_bytes f.text };
+
+    ghost has_ended = { λ f _ _. (c : List ℕ → List ℕ) × (s : List ℕ)
+        × F.has_ended f.filter c s };
+
+    fn feed_chunk(&mut self, bytes: &[u8]) -> Result<(), AllocError> {
+        self.text.clear();
+        self.reveal.feed(bytes)?;
+        self.filter.feed_chunk(self.reveal.added())?;
+        fallible_alloc::push_str(&mut self.text, self.filter.output_text())
+    }
+
+    fn finish_all(&mut self) -> Result<(), AllocError> {
+        self.text.clear();
+        self.reveal.finish()?;
+        self.filter.feed_chunk(self.reveal.added())?;
+        fallible_alloc::push_str(&mut self.text, self.filter.output_text())?;
+        self.filter.finish_all()?;
+        fallible_alloc::push_str(&mut self.text, self.filter.output_text())
+    }
+
+    fn output_text(&self) -> &str {
+        self.text.as_str()
+    }
+}

@@ -1,0 +1,115 @@
+//! The calls that rows name.
+use crate::codecs::{base64, bytes_image, displayed, emitted, of_parts, written};
+use crate::heap::is_exact;
+use crate::lent::{compared, noise_compared};
+use crate::lines::left;
+use crate::pages::page;
+use crate::queries::query_of;
+use crate::reused::{at_once, in_turn, is_right, lengthened};
+use crate::segments::{counted, listed};
+use crate::sixels::{count_of, drawn, written_with};
+use crate::typed::function;
+use crate::words::word;
+use esc_html::is_safe_address;
+use esc_kitty::KittyImage;
+use esc_links::Hyperlink;
+use esc_values::scalar::text_in;
+use failing_alloc::Refusing;
+use std::alloc::{AllocError, Global};
+
+/// What a call returns of this input, where its memory comes from the heap.
+///
+/// - `link` and `link-with-id`: the Debug text and the text of `Hyperlink::new`, and of
+///   `Hyperlink::new_with_id` for the address `x`.
+/// - `link-of`, `prompt-of` and `file-of`: the Debug text of what `parse` of `Hyperlink`,
+///   `FinalTermSemanticPrompt` and `ITermFileData` returns of the parts between `;`.
+/// - `base64`: the Debug texts of the bytes and of the text that base64 means.
+/// - `image`: the text of what `KittyImage::parse_apc` reads, `none` where it is no image;
+///   `image-again` says where that is the data as it came.
+/// - `image-of-bytes`: the Debug text and the text of an image that a program made of its bytes.
+/// - `sixel`: the Debug text of the data of a sixel image, its text, and its size; `sixel-count`,
+///   byte by byte, how many chunks of data that are.
+/// - `sixel-value`: whether there is a text of an image, of this value of six pixels, of the image
+///   with it last, and of the image with it amid others.
+/// - `query-again`: how many names a termcap query has, byte by byte, that is written as it came.
+/// - `segments`: the kind and the length of each; `segment-count`, of those that are of the kind of
+///   the first, how many they are, and of how many bytes.
+/// - `html` and `html-by-lines`: the HTML of a stream, with what closes it; `safe-address`: whether
+///   a link of a page may lead to it.
+/// - `left`: what is left of the lines of a stream; `left-of-2-by-4`: where 2 rows of 4 columns may
+///   be written again.
+/// - `lent`: whether the events of a stream that comes in chunks to `heapless_parser` are those of
+///   a parser; `lent-noise`: of which of the streams made of the chunks between `|` they are not.
+/// - `refusing`: whether the allocator that refuses a request refuses this alone; `reusing`:
+///   whether the one that keeps blocks passes a refusal on, and gives back what it keeps.
+/// - `held-in-turn` and `held-at-once`: how many requests reach the allocator below `caching_alloc`
+///   where blocks of these sizes, or so many of one size, are held; `lengthened`: whether a list
+///   over it grows, and shrinks.
+/// - the sequences and controls of `typed.rt`, and the words and numbers of `words.rt`, which take
+///   no memory.
+pub fn answer(
+    call: &str,
+    alloc: Global,
+    heap: &Refusing<Global>,
+    input: &[u8],
+) -> Result<String, AllocError> {
+    match call {
+        "link" => displayed(alloc, Hyperlink::new(heap, text(input))),
+        "link-with-id" => displayed(alloc, Hyperlink::new_with_id(heap, "x", text(input))),
+        "link-of" | "prompt-of" | "file-of" => of_parts(call, alloc, heap, input),
+        "base64" => base64(alloc, heap, input),
+        "image" | "image-again" => {
+            let image = KittyImage::parse_apc(heap, input);
+            written(alloc, image, if call == "image" { b"" } else { input })
+        }
+        "image-of-bytes" => displayed(alloc, bytes_image(heap, input)),
+        "query-again" => query_of(alloc, heap, input),
+        "csi" | "esc" | "c0" | "c1" => function(call, alloc, input),
+        _ => of_stream(call, alloc, heap, input),
+    }
+}
+
+// The same of streams and of sixel images.
+fn of_stream(
+    call: &str,
+    alloc: Global,
+    heap: &Refusing<Global>,
+    input: &[u8],
+) -> Result<String, AllocError> {
+    match call {
+        "sixel" => drawn(alloc, heap, input),
+        "sixel-count" => count_of(alloc, heap, input),
+        "sixel-value" => written_with(alloc, heap, input),
+        "segments" => listed(alloc, input),
+        "segment-count" => counted(alloc, input),
+        "html" | "html-by-lines" => page(alloc, heap, input, call == "html-by-lines"),
+        "left" => left(alloc, heap, input, (32, 200)),
+        "left-of-2-by-4" => left(alloc, heap, input, (2, 4)),
+        "safe-address" => emitted(alloc, is_safe_address(text(input))),
+        _ => of_allocator(call, alloc, heap, input),
+    }
+}
+
+// The same of allocators, and of the parser that is lent its memory.
+fn of_allocator(
+    call: &str,
+    alloc: Global,
+    heap: &Refusing<Global>,
+    input: &[u8],
+) -> Result<String, AllocError> {
+    match call {
+        "lent" => compared(alloc, input),
+        "lent-noise" => noise_compared(alloc, input),
+        "refusing" => emitted(alloc, is_exact(alloc)),
+        "reusing" => emitted(alloc, is_right(alloc)),
+        "held-in-turn" => in_turn(alloc, heap, text(input)),
+        "held-at-once" => at_once(alloc, heap, text(input)),
+        "lengthened" => lengthened(alloc, heap, text(input)),
+        _ => word(call, alloc, input),
+    }
+}
+
+/// The text of these bytes, empty where they are none.
+pub fn text(bytes: &[u8]) -> &str {
+    text_in(bytes).unwrap_or("")
+}

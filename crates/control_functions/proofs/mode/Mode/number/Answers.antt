@@ -1,0 +1,6 @@
+use Rattle.control_functions.proofs.Modes.{sheet}
+use Rattle.control_functions.proofs.Tables.{row_key}
+use Rattle.control_functions.proofs.mode.Mode.number.Goals as goal
+
+pub returns : goal.returns
+returns c = rw c.place.ensures.place (row_key sheet c.args.self _)

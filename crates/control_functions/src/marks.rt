@@ -1,0 +1,81 @@
+//! The private prefix and the intermediates of a control sequence, and its key.
+ghost use Rattle.std.specs.Prelude.{◌≡◌, ◌<◌, ◌≤◌, ◌^◌, ◌+◌, ◌*◌, [], IfNone, IfSome};
+ghost use Rattle.control_functions.specs.Functions.{is_long, key_with, lead, mark_of, marks, put_mark};
+ghost use Rattle.control_functions.specs.Rows.{packed};
+
+use esc_values::CsiParam;
+
+// The marks of these parameters, as digits to the base 256 after a 1. `None` where there are more
+// than two, which no function has.
+#[tactic(auto, using(crate::proofs::Packed::no_mark, crate::proofs::Packed::one_mark, crate::proofs::Packed::third_mark))]
+#[inline]
+pub(crate) fn packed_marks(csi_params: &[CsiParam]) -> Option<u32>
+    ensures same { IfSome result (λ m. m ≡ packed 1 (marks csi_params.now)) }
+    ensures few { IfSome result (λ m. m < 2 ^ 24) }
+    ensures many { IfNone result (2 ^ 24 ≤ packed 1 (marks csi_params.now)) }
+{
+    let mut packed = 1;
+    for entry in csi_params {
+        if let Some(mark) = mark_of(*entry) {
+            if packed >= 0x1_0000 {
+                return None;
+            }
+            packed = packed * 0x100 + mark as u32;
+        }
+    }
+    Some(packed)
+}
+
+// The byte of the parameter, where it is no number and separates no two.
+#[inline]
+fn mark_of(entry: CsiParam) -> Option<u8>
+    ensures { result ≡ mark_of entry }
+{
+    match entry {
+        CsiParam::P(b';') | CsiParam::P(b':') | CsiParam::Integer(_) => None,
+        CsiParam::P(byte) => Some(byte),
+    }
+}
+
+// These marks, packed.
+pub(crate) fn marks_of(private_prefix: Option<u8>, intermediate: Option<u8>) -> u32
+    ensures same { result ≡ packed 1 (put_mark private_prefix (put_mark intermediate [])) }
+    ensures few { result < 2 ^ 24 }
+{
+    match (private_prefix, intermediate) {
+        (None, None) => 1,
+        (Some(a), None) => 0x100 + a as u32,
+        (None, Some(b)) => 0x100 + b as u32,
+        (Some(a), Some(b)) => (0x100 + a as u32) * 0x100 + b as u32,
+    }
+}
+
+// The key of a sequence of these marks, with so many parameters and this final byte.
+#[inline]
+pub(crate) fn key_with(marks: u32, count: usize, last: u8) -> u32
+    requires { marks < 2 ^ 24 }
+    ensures { result ≡ key_with marks count last }
+{
+    lead(marks, count, last) * 0x100 + last as u32
+}
+
+// What that key begins with.
+#[inline]
+fn lead(marks: u32, count: usize, last: u8) -> u32
+    requires { marks < 2 ^ 24 }
+    ensures same { result ≡ lead marks count last }
+    ensures few { result < 2 ^ 24 }
+{
+    if marks != 1 {
+        return marks;
+    }
+    if is_long(last, count) { 2 } else { 1 }
+}
+
+// Whether a sequence with so many parameters has the second function of its final byte.
+#[inline]
+fn is_long(last: u8, count: usize) -> bool
+    ensures { result ≡ is_long last count }
+{
+    (last == b'T' && count >= 2) || ((last == b's' || last == b'u') && count >= 1)
+}

@@ -1,9 +1,0 @@
-use Rattle.std.proofs.Common.{ap, ◌∙◌}
-use Rattle.esc_calls.specs.InPieces.{text_in}
-use Rattle.esc_calls.specs.Kept.{normaliser_in}
-use Rattle.esc_calls.proofs.normal_pieces.normal_begin.Goals as goal
-
-pub returns-clause-begun : goal.returns-clause-begun
-returns-clause-begun c = λ done.
-    let e = c.begin.ensures.begun done in
-    ((c.new.result, ap normaliser_in e, c.new.ensures.fed), ap text_in e ∙ c.new.ensures.empty)

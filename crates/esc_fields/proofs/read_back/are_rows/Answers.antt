@@ -1,6 +1,0 @@
-use Rattle.std.proofs.lemmas.Slice.Eq.{slice_eq-Decides}
-use Rattle.esc_fields.proofs.RowsSame.{rows_decide}
-use Rattle.esc_fields.proofs.read_back.are_rows.Goals as goal
-
-pub returns : goal.returns
-returns c = slice_eq-Decides rows_decide c.args.rows.now c.args.those.now c.eq.result c.eq.ensures

@@ -1,8 +1,0 @@
-use Rattle.esc_fields.proofs.CommandsBack.{none_found}
-use Rattle.esc_fields.proofs.read_back.command_of.Goals as goal
-
-pub returns-clause-none : goal.returns-clause-none
-returns-clause-none c =
-    none_found c.args.kind (c.args.rows.now, c.args.text.now) c.in_ok-command.command
-    c.has_fields-has.result c.kept.result c.in_ok-command.ensures.ok c.has_fields-has.ensures.has
-    c.kept.ensures

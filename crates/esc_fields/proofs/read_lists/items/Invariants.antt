@@ -1,6 +1,0 @@
-use Rattle.std.proofs.Common.{◌≡◌, ◌++◌, drop, map}
-use Rattle.esc_fields.proofs.read_lists.items.Given as goal
-
-abbrev pub invariant-loop-field : goal.invariant-loop-field
-invariant-loop-field g l = map (λ s. g.T.Read.read s.1) l.fields
-    ≡ l.items ++ map (λ s. g.T.Read.read s.1) (drop l.field-index l.fields)

@@ -1,7 +1,0 @@
-use Rattle.std.proofs.Common.{◌≡◌, ◌++◌, drop, map}
-use Rattle.esc_fields.specs.Fields.{row_said}
-use Rattle.esc_fields.proofs.said.said_by.Given as goal
-
-abbrev pub invariant-loop-row : goal.invariant-loop-row
-invariant-loop-row l = map (row_said l.text) l.rows
-    ≡ l.all.items ++ map (row_said l.text) (drop l.row-index l.rows)

@@ -1,0 +1,186 @@
+-- The texts of values that the policies `Text` and `Color` admit are of pieces.
+use Rattle.std.proofs.Common.{ℕ, ◌≡◌, inl, inr, Bool, true, false, not, ◌&&◌, ◌||◌, ◌==◌, nat_le, if◌then◌else◌, List, [], ◌∷◌, ◌++◌, codes, Option, Some, None, refl, sym, ap, ◌∙◌, subst, arith, lit<, append-nil}
+use Rattle.std.specs.Char.{encode_utf8}
+use Rattle.std.specs.List.{flat_map, list_all}
+use Rattle.std.specs.Str.{encode_utf8_all}
+use Rattle.std.proofs.lemmas.Bool.{and_parts, eqb-true, true≢false}
+use Rattle.std.proofs.lemmas.Bool.Decides.{nat_tests}
+use Rattle.std.proofs.lemmas.List.Elements.{All-append, All-cons, All-nil}
+use Rattle.std.proofs.lemmas.List.Folds.{list_all-append}
+use Rattle.std.proofs.lemmas.Str.{encode_ascii}
+use lib.Utf8.{scalar}
+use Rattle.esc_values.specs.Clear.{IsClearText, framed_text, is_clear}
+use Rattle.esc_values.specs.Params.{is_from}
+use Rattle.esc_links.specs.Hyperlinks.{link_text, params_text}
+use Rattle.esc_links.specs.declared.hyperlink.Hyperlink.{Hyperlink}
+use Rattle.esc_osc.specs.Commands.{command_text}
+use Rattle.esc_osc.specs.Writable.{IsWritable as IsWritableCommand}
+use Rattle.esc_osc.specs.declared.command.OperatingSystemCommand.{OperatingSystemCommand}
+use Rattle.esc_osc.specs.declared.command.OperatingSystemCommand.TheVariants as command
+use Rattle.esc_actions.specs.ControlCodes.{code_number}
+use Rattle.esc_actions.specs.Texts.{is_string, is_terminator, text_after, texts_after, whole_text}
+use Rattle.esc_actions.specs.Values.{Value, print, string, control, esc, csi, osc, kitty, sixel, termcap, short, enter, datum, exit}
+use Rattle.esc_actions.specs.Writable.{AreWritableFrom, IsWritable, stays_within}
+use Rattle.esc_filter.specs.Closing.{joined_lists}
+use Rattle.esc_filter.specs.Tokens.{IsCharacter, IsLink, IsOfTokens, IsToken, is_plain}
+use Rattle.esc_filter.specs.Rules.{admits, is_color, is_layout, is_link, is_shown, is_text}
+use Rattle.esc_filter.specs.declared.policy.Policy.{Policy}
+use Rattle.esc_filter.specs.declared.policy.Policy.TheVariants as policy
+use Rattle.esc_filter.proofs.Renditions.NumbersHaveNoSign.{one_natural, rendition_text}
+use Rattle.esc_filter.proofs.Output.PartsAreAppended.{joined_both}
+
+-- ---- pieces, one after another
+
+pub no_pieces : (k : Bool) → IsOfTokens k []
+no_pieces k = ([], All-nil (IsToken k), refl)
+
+pub one_piece : (k : Bool) (x : List ℕ) → IsToken k x → IsOfTokens k x
+one_piece k x h = (x ∷ [], All-cons (IsToken k) x [] h (All-nil (IsToken k)), sym (append-nil x))
+
+pub more_pieces : (k : Bool) (x y : List ℕ) → IsOfTokens k x → IsOfTokens k y
+    → IsOfTokens k (x ++ y)
+more_pieces k x y (xs, a, e) (ys, b, f) = (
+  xs ++ ys,
+  All-append (IsToken k) xs ys a b,
+  ap (λ t. t ++ y) e ∙ ap (λ t. joined_lists xs ++ t) f ∙ sym (joined_both xs ys),
+)
+
+pub all_pieces : {X : Type 0} (k : Bool) (f : X → List ℕ) (xs : List X)
+    → ((x : X) → IsOfTokens k (f x)) → IsOfTokens k (flat_map f xs)
+all_pieces k f [] h = no_pieces k
+all_pieces k f (x ∷ xs) h = more_pieces k (f x) (flat_map f xs) (h x) (all_pieces k f xs h)
+
+pub as_piece : (k : Bool) (x : List ℕ) → IsCharacter x → IsToken k x
+as_piece false x h = h
+as_piece true x h = inl h
+
+pub plain_piece : (k : Bool) (c : ℕ) → is_plain c ≡ true → IsOfTokens k (encode_utf8 c)
+plain_piece k c h = one_piece k (encode_utf8 c) (as_piece k (encode_utf8 c) (c, h, refl))
+
+-- ---- characters
+
+-- a clear character but DEL
+plain_by : (s : Bool) (c : ℕ) → (s && (nat_le 0x20 c && (nat_le c 0x7f || nat_le 0xa0 c))) ≡ true
+    → not (c == 0x7f) ≡ true
+    → ((c == 0x09) || ((c == 0x0a) || ((c == 0x0d) || (is_from 0x20 0x7e c
+    || (s && nat_le 0xa0 c))))) ≡ true
+plain_by true c h k = grind (arith, nat_tests)
+plain_by false c h k = absurd (true≢false (sym h))
+
+pub clear_plain : (c : ℕ) → is_clear c ≡ true → is_shown c ≡ true → is_plain c ≡ true
+clear_plain c h k = plain_by (scalar c) c h k
+
+layout_by : (a b d r : Bool) → (a || (b || d)) ≡ true → (a || (b || (d || r))) ≡ true
+layout_by true b d r h = refl
+layout_by false true d r h = refl
+layout_by false false true r h = refl
+layout_by false false false r h = absurd (true≢false (sym h))
+
+layout_plain : (n : ℕ) → is_layout n ≡ true → is_plain n ≡ true
+layout_plain n h = layout_by (n == 0x09) (n == 0x0a) (n == 0x0d) _ h
+
+-- DEL is the one byte 7F
+shown_char : (c : ℕ) → list_all is_shown (encode_utf8 c) ≡ true → is_shown c ≡ true
+shown_char c h = by (c == 0x7f) refl
+  where
+    del : c ≡ 0x7f → list_all is_shown (encode_utf8 c) ≡ false
+    del e = ap (λ x. list_all is_shown (encode_utf8 x)) e
+        ∙ ap (list_all is_shown) (encode_ascii 0x7f (lit< tt))
+
+    by : (t : Bool) → (c == 0x7f) ≡ t → not t ≡ true
+    by true e = absurd (true≢false (sym h ∙ del (eqb-true c 0x7f e)))
+    by false e = refl
+
+chars_pieces : (k : Bool) (cs : List ℕ) → list_all is_clear cs ≡ true
+    → list_all is_shown (encode_utf8_all cs) ≡ true → IsOfTokens k (encode_utf8_all cs)
+chars_pieces k [] h s = no_pieces k
+chars_pieces k (c ∷ cs) h s =
+    let q = and_parts (is_clear c) (list_all is_clear cs) h in
+    let r = and_parts (list_all is_shown (encode_utf8 c)) (list_all is_shown (encode_utf8_all cs))
+    (sym (list_all-append is_shown (encode_utf8 c) (encode_utf8_all cs)) ∙ s) in
+    more_pieces k (encode_utf8 c) (encode_utf8_all cs)
+    (plain_piece k c (clear_plain c q.0 (shown_char c r.0)))
+    (chars_pieces k cs q.1 r.1)
+
+-- ---- values
+
+text_pieces : {A : Type 0} (k : Bool) (v : Value A) → IsWritable v → is_text v ≡ true
+    → IsOfTokens k (whole_text v)
+text_pieces k (print c) w h = plain_piece k c (clear_plain c w h)
+text_pieces k (string t) ((cs, all, e), some) h =
+    subst (IsOfTokens k) e
+    (chars_pieces k cs all (subst (λ x. list_all is_shown x ≡ true) (sym e) h))
+text_pieces k (control c) w h = plain_piece k (code_number c) (layout_plain (code_number c) h)
+text_pieces k (esc e) w h = absurd (true≢false (sym h))
+text_pieces k (csi c) w h = absurd (true≢false (sym h))
+text_pieces k (osc c) w h = absurd (true≢false (sym h))
+text_pieces k (kitty i) w h = absurd (true≢false (sym h))
+text_pieces k (sixel s) w h = absurd (true≢false (sym h))
+text_pieces k (termcap ns) w h = absurd (true≢false (sym h))
+text_pieces k (short s) w h = absurd (true≢false (sym h))
+text_pieces k (enter e) w h = absurd (true≢false (sym h))
+text_pieces k (datum b) w h = absurd (true≢false (sym h))
+text_pieces k exit w h = absurd (true≢false (sym h))
+
+link_is : {A : Type 0} (l : Option (Hyperlink A)) → IsClearText (link_text l)
+    → IsLink (framed_text (link_text l))
+link_is None h = (codes ";", h, refl)
+link_is (Some l) h = (params_text l.params ++ 0x3b ∷ l.uri, h, refl)
+
+command_piece : {A : Type 0} (c : OperatingSystemCommand A) → IsWritableCommand c
+    → is_link c ≡ true → IsLink (command_text c)
+command_piece (command.SetHyperlink l) w h = link_is l w.0
+command_piece _ w h = absurd (true≢false (sym h))
+
+colour_pieces : {A : Type 0} (v : Value A) → IsWritable v → is_color v ≡ true
+    → IsOfTokens true (whole_text v)
+colour_pieces {A} (csi c) (es, one, gives) h =
+    one_piece true (whole_text {A = A} (csi c))
+    (inr (inl (rendition_text c (one_natural A _ es c one gives) h)))
+colour_pieces {A} (osc c) w h =
+    one_piece true (whole_text {A = A} (osc c)) (inr (inr (command_piece c w h)))
+colour_pieces (print c) w h = absurd (true≢false (sym h))
+colour_pieces (string t) w h = absurd (true≢false (sym h))
+colour_pieces (control c) w h = absurd (true≢false (sym h))
+colour_pieces (esc e) w h = absurd (true≢false (sym h))
+colour_pieces (kitty i) w h = absurd (true≢false (sym h))
+colour_pieces (sixel s) w h = absurd (true≢false (sym h))
+colour_pieces (termcap ns) w h = absurd (true≢false (sym h))
+colour_pieces (short s) w h = absurd (true≢false (sym h))
+colour_pieces (enter e) w h = absurd (true≢false (sym h))
+colour_pieces (datum b) w h = absurd (true≢false (sym h))
+colour_pieces exit w h = absurd (true≢false (sym h))
+
+-- the policy of plain text, and that of colour
+abbrev pub least : Bool → Policy
+least false = policy.Text
+least true = policy.Color
+
+value_pieces : {A : Type 0} (k : Bool) (v : Value A) → IsWritable v → admits (least k) v ≡ true
+    → IsOfTokens k (whole_text v)
+value_pieces false v w h = text_pieces false v w h
+value_pieces true v w h = by (is_text v) refl h
+  where
+    by : (t : Bool) → is_text v ≡ t → (t || is_color v) ≡ true
+        → IsOfTokens true (whole_text v)
+    by true e g = text_pieces true v w e
+    by false e g = colour_pieces v w g
+
+after_pieces : {A : Type 0} (k f : Bool) (v : Value A) → IsOfTokens k (whole_text v)
+    → IsOfTokens k (text_after f v)
+after_pieces k f v h = by (is_terminator v && f)
+  where
+    by : (t : Bool) → IsOfTokens k (if t then [] else whole_text v)
+    by true = no_pieces k
+    by false = h
+
+-- the text of values that the policy admits
+pub texts_pieces : {A : Type 0} (k within f : Bool) (vs : List (Value A))
+    → AreWritableFrom within vs → list_all (admits (least k)) vs ≡ true
+    → IsOfTokens k (texts_after f vs)
+texts_pieces k within f [] w h = no_pieces k
+texts_pieces k within f (v ∷ vs) (i, w, more) h =
+    let q = and_parts (admits (least k) v) (list_all (admits (least k)) vs) h in
+    more_pieces k (text_after f v) (texts_after (is_string v) vs)
+    (after_pieces k f v (value_pieces k v w q.0))
+    (texts_pieces k (stays_within v) (is_string v) vs more q.1)

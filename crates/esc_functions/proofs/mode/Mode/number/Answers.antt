@@ -1,6 +1,0 @@
-use Rattle.esc_functions.proofs.Modes.{sheet}
-use Rattle.esc_functions.proofs.Tables.{row_key}
-use Rattle.esc_functions.proofs.mode.Mode.number.Goals as goal
-
-pub returns : goal.returns
-returns c = rw c.place.ensures.place (row_key sheet c.args.self _)

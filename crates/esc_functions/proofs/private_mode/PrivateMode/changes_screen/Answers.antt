@@ -1,7 +1,0 @@
-use Rattle.std.proofs.Common.{◌∙◌}
-use Rattle.esc_functions.proofs.PrivateModes.{sheet}
-use Rattle.esc_functions.proofs.Tables.{row_screen}
-use Rattle.esc_functions.proofs.private_mode.PrivateMode.changes_screen.Goals as goal
-
-pub returns : goal.returns
-returns c = c.is_screen.ensures ∙ rw c.place.ensures.place (row_screen sheet c.args.self _)

@@ -1,6 +1,0 @@
-use Rattle.esc_frame.proofs.StringRuns.{prefix_passes}
-use Rattle.esc_lent.proofs.commands.note_in_apc.Goals as goal
-
-pub note_text-requires-clause-text : goal.note_text-requires-clause-text
-note_text-requires-clause-text c =
-    prefix_passes c.args.bytes.now c.ascii_run-run.result c.ascii_run-run.ensures.run

@@ -1,9 +1,0 @@
-use Rattle.std.proofs.Common.{rules}
-use Rattle.esc_lent.proofs.TextRuns.{prefix_is_run}
-use Rattle.esc_lent.proofs.runs.ascii_text.Goals as goal
-
-pub returns : goal.returns
-returns c = record {
-  few = search rules;
-  run = prefix_is_run c.args.bytes.now c.ascii_run.result c.ascii_run.ensures.run;
-}

@@ -1,8 +1,0 @@
-use Rattle.std.proofs.Common.{◌≡◌}
-use Rattle.esc_looks.specs.Looks.{look_by_all}
-use Rattle.esc_typed.specs.Selections.{left}
-use Rattle.esc_looks.proofs.look.Look.select_all.Given as goal
-
-abbrev pub invariant-loop-selection : goal.invariant-loop-selection
-invariant-loop-selection l =
-    look_by_all l.self (left l.selection-iterator) ≡ look_by_all l.fn.self (left l.fn.renditions)

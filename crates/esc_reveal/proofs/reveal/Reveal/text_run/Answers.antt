@@ -1,9 +1,0 @@
-use Rattle.esc_reveal.proofs.Marks.{nothing_stays}
-use Rattle.esc_reveal.proofs.Texts.{none_admitted}
-use Rattle.esc_reveal.proofs.reveal.Reveal.text_run.Goals as goal
-
-pub returns-then-self-lt-MOST_BYTES-clause-text : goal.returns-then-self-lt-MOST_BYTES-clause-text
-returns-then-self-lt-MOST_BYTES-clause-text g c = (
-  none_admitted (g.P.Admit.admits c.args.self.now.rule.policy),
-  nothing_stays c.args.self.now.rule.marking,
-)

@@ -1,5 +1,0 @@
-use Rattle.esc_screen.proofs.Scrolling.{off_in_pieces}
-use Rattle.esc_screen.proofs.laws.goes_off_in_pieces.Goals as goal
-
-pub returns : goal.returns
-returns c = off_in_pieces

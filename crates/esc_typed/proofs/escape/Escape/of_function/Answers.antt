@@ -1,5 +1,0 @@
-use Rattle.esc_typed.proofs.Escaped.{escape_at}
-use Rattle.esc_typed.proofs.escape.Escape.of_function.Goals as goal
-
-pub returns : goal.returns
-returns c = rw c.function_place.ensures.place (escape_at c.args.function _)

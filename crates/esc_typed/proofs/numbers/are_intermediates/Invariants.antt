@@ -1,9 +1,0 @@
-use Rattle.std.proofs.Common.{◌≡◌, drop}
-use Rattle.std.specs.List.{list_all}
-use Rattle.esc_typed.specs.Arguments.{is_intermediate}
-use Rattle.esc_typed.proofs.numbers.are_intermediates.Given as goal
-
--- what is left decides
-abbrev pub invariant-loop-entry : goal.invariant-loop-entry
-invariant-loop-entry l = list_all is_intermediate l.entries
-    ≡ list_all is_intermediate (drop l.entry-index l.entries)

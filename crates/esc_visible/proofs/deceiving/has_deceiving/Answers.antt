@@ -1,9 +1,0 @@
-use Rattle.std.proofs.Common.{refl, sym, ap, ◌∙◌}
-use Rattle.esc_visible.proofs.Bytes.{none_deceives}
-use Rattle.esc_visible.specs.Signs.{has_sign}
-use Rattle.esc_visible.proofs.deceiving.has_deceiving.Goals as goal
-
-pub returns-else-may_deceive : goal.returns-else-may_deceive
-returns-else-may_deceive c =
-    sym (none_deceives c.args.text.now c.utf8.text
-    (ap has_sign (sym c.as_bytes.ensures.value) ∙ c.if-may_deceive.ensures refl))

@@ -1,7 +1,0 @@
-use Rattle.std.proofs.Common.{◌≡◌, ◌||◌, drop}
-use Rattle.esc_visible.specs.Signs.{has_hint}
-use Rattle.esc_visible.proofs.signs.block_has_hint.Given as goal
-
--- what is found so far, or in the bytes from this place on, is what the block has
-abbrev pub invariant-loop-place : goal.invariant-loop-place
-invariant-loop-place l = (l.found || has_hint (drop l.place l.fn.block)) ≡ has_hint l.fn.block

@@ -1,5 +1,0 @@
-use Rattle.escape_stream.proofs.Lent.{text_utf8}
-use Rattle.escape_stream.proofs.lending.as_str.Goals as goal
-
-pub from_utf8_unchecked-requires : goal.from_utf8_unchecked-requires
-from_utf8_unchecked-requires c = text_utf8 c.args.text.now c.requires

@@ -1,0 +1,6 @@
+-- The events of a step, and those that are noted.
+pub mod NotesFold
+pub mod EventsAreNoted
+pub mod EventsHaveRoom
+pub mod StepsEmit
+pub mod LimitAddsNoEvent

@@ -1,0 +1,3 @@
+pub mod InChunks
+pub mod EventNotes
+pub mod KeptState

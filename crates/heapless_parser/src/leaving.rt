@@ -1,0 +1,103 @@
+//! Controls that end a string and do what they do between sequences, where the string came in
+//! chunks.
+#![tactic(auto)]
+
+ghost use Rattle.std.specs.Prelude.{◌≡◌, ◌≢◌, ◌⊎◌, true, false, length};
+ghost use Rattle.esc_frame.specs.Classes.{class_of, is_breaker};
+ghost use Rattle.esc_frame.specs.Machine.Moves.{ground_move};
+ghost use Rattle.heapless_parser.specs.Asked.{AskedToLeave};
+ghost use Rattle.heapless_parser.specs.Emitted.{queued_of};
+ghost use Rattle.heapless_parser.specs.Noted.{IsSound};
+ghost use Rattle.heapless_parser.specs.Takes.{GivesByte, IsInRoom, KeepsAfter, Leaves, NotesText};
+
+use crate::breaks::take_byte;
+use crate::event::{APC, DCS_END, EscEvent, NONE, OSC};
+use crate::numbers::{APC_STATE, DATA_STATE, OSC_STATE};
+use crate::parser::EscParser;
+use crate::strings::put_text;
+use esc_frame::classes::{Class, classify};
+
+/// Whether the byte breaks off a sequence or a string.
+#[inline(always)]
+pub fn is_breaker(byte: u8) -> bool
+    ensures { result ≡ is_breaker (class_of byte) }
+{
+    matches!(classify(byte), Class::Breaks(_))
+}
+
+/// Takes a byte as between sequences. What it gives is handed out after another event.
+#[inline(always)]
+pub fn take_after(parser: &mut EscParser, byte: u8)
+    ensures kept { KeepsAfter parser.new (ground_move byte (class_of byte)) }
+    ensures queued { queued_of parser.new.queued_kind parser.new.queued_value
+        ≡ (ground_move byte (class_of byte)).1 }
+    ensures failed { parser.new.has_failed ≡ parser.old.has_failed }
+{
+    let single = take_byte(parser, byte);
+    parser.queued_kind = single.kind;
+    parser.queued_value = single.value;
+}
+
+// A command, whose text is handed out. False where it is past the limit, and then nothing changes.
+#[inline(always)]
+fn leave_text(
+    parser: &mut EscParser,
+    memory: &[u8],
+    out: &mut [u8],
+    byte: u8,
+    event: &mut EscEvent,
+    kind: u32,
+) -> bool
+    requires state { ((parser.old.state ≡ OSC_STATE) × (parser.old.pending ≡ 0) × (kind ≡ OSC))
+        ⊎ ((parser.old.state ≡ APC_STATE) × (kind ≡ APC)) }
+    requires breaks { is_breaker (class_of byte) ≡ true }
+    ensures takes { Leaves parser memory.now out event byte result }
+    ensures noted { NotesText kind (length out.old) event (result ≡ true) }
+{
+    let count = parser.text;
+    if parser.is_over || count > memory.len() || count > out.len() {
+        return false;
+    }
+    put_text(out, event, kind, &memory[..count]);
+    take_after(parser, byte);
+    true
+}
+
+// The data of a device control string, which end.
+#[inline(always)]
+fn leave_data(parser: &mut EscParser, byte: u8, event: &mut EscEvent)
+    requires state { parser.old.state ≡ DATA_STATE }
+    requires breaks { is_breaker (class_of byte) ≡ true }
+    ensures event { event.new ≡ record event.old { kind = DCS_END } }
+    ensures takes { GivesByte parser event.new byte }
+{
+    take_after(parser, byte);
+    event.kind = DCS_END;
+}
+
+/// Takes a control that ends a string or data. False where there is none, or its text is past the
+/// limit, and then nothing changes.
+#[inline(never)]
+pub fn end_string(
+    parser: &mut EscParser,
+    memory: &[u8],
+    out: &mut [u8],
+    byte: u8,
+    event: &mut EscEvent,
+) -> bool
+    requires { AskedToLeave byte event.old (IsInRoom event.old (length out.old)) }
+    ensures takes { Leaves parser memory.now out event byte result }
+    ensures some { result ≡ true → event.new.kind ≢ NONE }
+    ensures sound { IsSound event.new (length out.old) }
+{
+    if parser.state == OSC_STATE && parser.pending == 0 {
+        leave_text(parser, memory, out, byte, event, OSC)
+    } else if parser.state == APC_STATE {
+        leave_text(parser, memory, out, byte, event, APC)
+    } else if parser.state == DATA_STATE {
+        leave_data(parser, byte, event);
+        true
+    } else {
+        false
+    }
+}

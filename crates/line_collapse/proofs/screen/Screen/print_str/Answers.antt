@@ -1,0 +1,20 @@
+use Rattle.std.proofs.lemmas.Str.{IsUtf8-past_char}
+use Rattle.esc_actions.specs.declared.action.Action.TheVariants as action
+use Rattle.esc_parse.proofs.TextRuns.{char_taken, chars_taken}
+use Rattle.line_collapse.specs.Fed.{Takes}
+use Rattle.line_collapse.proofs.screen.Screen.print_str.Goals as goal
+
+pub loop-c-preserved : goal.loop-c-preserved
+loop-c-preserved g c =
+    let at = c.loop-c in
+    let step = c.in-Some.ensures.steps.0 in (
+      IsUtf8-past_char _ _ c.in-Some.c at.invariant.0 step,
+      char_taken action.Print Takes Takes c.args.text.now _ _
+          c.in-Some.c c.args.self.now _ _ at.invariant.0 step at.invariant.1
+          c.in_ok-print_visible.ensures.ok,
+    )
+
+pub returns-clause-ok : goal.returns-clause-ok
+returns-clause-ok g c =
+    chars_taken action.Print Takes c.args.text.now _ c.args.self.now _
+    c.in-None.ensures.steps.0.0 c.loop-c.invariant.1

@@ -1,0 +1,76 @@
+//! A filter, and what is left of the lines of its text.
+ghost use Rattle.std.specs.Prelude.{ℕ, ◌≡◌, List, [], IfOk, OnErr, max};
+ghost use Rattle.line_collapse.specs.Fed.{IsFed, HasConsumed, final_after, left_after};
+ghost use Rattle.line_collapse.specs.Fed.{added_by as added_by_collapse};
+ghost use Rattle.line_collapse.specs.Windows.{Size, window_size};
+ghost use Rattle.fallible_alloc.specs.Refusals.{Refused};
+
+use crate::collapse::LineCollapser;
+use esc_filter::StreamFilter;
+use std::alloc::{AllocError, Allocator, Global};
+
+/// Feeds a stream to a filter, and gives what is left of the lines of the filter's text.
+#[derive(Drop)]
+pub struct Collapsing<F, A: Allocator = Global> {
+    inner: F,
+    collapse: LineCollapser<A>,
+}
+
+impl<F: StreamFilter<A> + Drop, A: Allocator + Copy> Collapsing<F, A> {
+    /// What is left of the lines of this filter, which was fed nothing: the last `rows` rows, of
+    /// `columns` columns at most, may be written again.
+    pub fn new(
+        alloc: A,
+        inner: F,
+        rows: usize,
+        columns: usize,
+    ) -> Result<Collapsing<F, A>, AllocError>
+        ensures fed { IfOk result (λ f. (m c : List ℕ → List ℕ) → F.gives inner m c []
+            → m [] ≡ [] → IsFed F.StreamFilter (window_size (max rows 1) columns) m c [] f) }
+        ensures refused { OnErr result (Refused A) }
+    {
+        let collapse = LineCollapser::new(alloc, rows, columns)?;
+        Ok(Collapsing { inner, collapse })
+    }
+
+    /// What this collapse leaves of the lines of this filter; both were fed nothing. Takes no
+    /// memory, so that no filter is lost where there is none for a collapse.
+    pub fn over(inner: F, collapse: LineCollapser<A>) -> Collapsing<F, A>
+        ensures { (size : Size) (m c : List ℕ → List ℕ) → HasConsumed size [] collapse
+            → F.gives inner m c [] → m [] ≡ [] → IsFed F.StreamFilter size m c [] result }
+    {
+        Collapsing { inner, collapse }
+    }
+
+    /// The filter.
+    pub fn into_inner(self) -> F
+        ensures { result ≡ self.inner }
+    {
+        let Collapsing { inner, collapse: _ } = self;
+        inner
+    }
+}
+
+impl<F: StreamFilter<A> + Drop, A: Allocator + Copy> StreamFilter<A> for Collapsing<F, A> {
+    ghost gives = { λ f m c s. (size : Size) × (of_filter ended : List ℕ → List ℕ)
+        × IsFed F.StreamFilter size of_filter ended s f
+        × (m ≡ final_after A size of_filter) × (c ≡ left_after A size ended) };
+
+    ghost added = { λ f. added_by_collapse f.collapse };
+
+    ghost has_ended = { λ f _ s. (c : List ℕ → List ℕ) × F.has_ended f.inner c s };
+
+    fn feed_chunk(&mut self, bytes: &[u8]) -> Result<(), AllocError> {
+        self.inner.feed_chunk(bytes)?;
+        self.collapse.feed(self.inner.output_text().as_bytes())
+    }
+
+    fn finish_all(&mut self) -> Result<(), AllocError> {
+        self.inner.finish_all()?;
+        self.collapse.feed_last(self.inner.output_text().as_bytes())
+    }
+
+    fn output_text(&self) -> &str {
+        self.collapse.added()
+    }
+}

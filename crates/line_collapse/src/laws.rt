@@ -1,0 +1,31 @@
+//! Laws of what is left of lines. Each holds for every allocator `A`, which the type of the actions
+//! names.
+ghost use Rattle.std.specs.Prelude.{◌≡◌, ℕ, List, false};
+ghost use Rattle.std.specs.List.{list_any};
+ghost use Rattle.esc_filter.specs.Tokens.{IsColorText, IsPlainText};
+ghost use Rattle.line_collapse.specs.Steps.{selects};
+ghost use Rattle.line_collapse.specs.Streams.{final_of, left_of, values_of};
+ghost use Rattle.line_collapse.specs.Windows.{Size};
+
+use esc_actions::laws;
+use std::alloc::Allocator;
+
+/// What is left of the lines of any stream, and the rows of it that are final, are characters from
+/// U+0020 to U+007E and from U+00A0 on, line feeds and renditions: text as
+/// [`Policy::Color`](esc_filter::Policy::Color) lets it through, whatever the stream is.
+pub fn leaves_color_text<A: Allocator>()
+    ensures final_rows { (z : Size) (s : List ℕ) → IsColorText (final_of z (values_of A s)) }
+    ensures all_rows { (z : Size) (s : List ℕ) → IsColorText (left_of z (values_of A s)) }
+{
+    laws::handed_out::<A>();
+}
+
+/// Where no sequence of the stream selects a rendition, there are no renditions either.
+pub fn leaves_plain_text<A: Allocator>()
+    ensures final_rows { (z : Size) (s : List ℕ) → list_any selects (values_of A s) ≡ false
+        → IsPlainText (final_of z (values_of A s)) }
+    ensures all_rows { (z : Size) (s : List ℕ) → list_any selects (values_of A s) ≡ false
+        → IsPlainText (left_of z (values_of A s)) }
+{
+    laws::handed_out::<A>();
+}

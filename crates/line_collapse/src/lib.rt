@@ -1,0 +1,33 @@
+//! What a terminal leaves of lines that are written again, as progress bars do by carriage returns,
+//! backspaces, erasures and movements of the cursor (ECMA-48, 8.3).
+//!
+//! [`LineCollapser`] takes text in pieces, as a filter wrote it, and gives the text of the rows
+//! that are final. [`Collapsing`] is a filter and a collapse after it, and [`collapse_from`] reads
+//! a stream to its end and writes what is left of the lines of its filter.
+//!
+//! ```text
+//! let mut collapse = LineCollapser::new(alloc, 32, 4096)?;
+//! collapse.feed(b"10%\r100%\n")?;
+//! collapse.added()    // "": the row may be written again
+//! collapse.finish()?;
+//! collapse.added()    // "100%\n"
+//! ```
+#![tactic(auto)]
+
+mod ascii;
+mod cells;
+pub mod collapse;
+pub mod collapsing;
+mod filtering;
+mod glyph;
+mod laws;
+mod receiving;
+mod row;
+mod screen;
+pub mod step;
+
+pub use collapse::LineCollapser;
+pub use collapsing::Collapsing;
+pub use filtering::collapse_from;
+pub use laws::{leaves_color_text, leaves_plain_text};
+pub use step::Step;

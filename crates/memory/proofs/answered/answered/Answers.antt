@@ -1,5 +1,0 @@
-use Rattle.memory.specs.Refusals.Trusted.{library_refused}
-use Rattle.memory.proofs.answered.answered.Goals as goal
-
-pub returns-in-Err-clause-refused : goal.returns-in-Err-clause-refused
-returns-in-Err-clause-refused g c = library_refused _

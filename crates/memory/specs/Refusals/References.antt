@@ -1,7 +1,0 @@
--- What is asked through a reference to an allocator is asked of the allocator.
-use denote.Bor.{Bor}
-use Rattle.memory.specs.Refusals.{Refused}
-
-pub by_reference : (A : Type 0) → Refused (Bor A) → Refused A
-unfolding Refused
-by_reference A refused = refused

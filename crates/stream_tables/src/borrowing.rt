@@ -1,0 +1,114 @@
+//! Borrowed actions.
+ghost use Rattle.std.specs.Prelude.{◌⊎◌, MatchResult, OnOk, ⊤};
+ghost use Rattle.escape_stream.specs.Borrowed.{HasClearText};
+
+use crate::reading::Reading;
+use crate::texts::shown;
+use escape_stream::{
+    Action, ActionRef, BorrowingSink, ParseError, Parser, parse_borrowed, parse_borrowed_into,
+};
+use failing_alloc::Refusing;
+use std::alloc::{AllocError, Allocator, Global};
+use std::fmt::Write;
+
+// How many requests are refused, one in each run. No row of a table asks for more.
+const REQUESTS: u64 = 24;
+
+// Whether these are the Debug texts of the borrowed actions of a stream.
+fn is_shown(alloc: Global, bytes: &[u8], wanted: &str) -> bool {
+    let mut shown = String::new(alloc);
+    let mut is_written = true;
+    let ending = parse_borrowed(
+        &mut Parser::new(alloc),
+        bytes,
+        |action|
+            ensures { ⊤ }
+        {
+            let space = if shown.is_empty() { "" } else { " " };
+            is_written &= write!(shown, "{space}{action:?}").is_ok();
+        },
+    );
+    ending.is_ok() & is_written & (shown.as_str() == wanted)
+}
+
+// Appends what it is given to a list.
+#[derive(Drop)]
+struct Appending<A: Allocator> {
+    alloc: A,
+    actions: Vec<Action<A>, A>,
+}
+
+impl<A: Allocator + Copy> BorrowingSink<Action<A>> for Appending<A> {
+    ghost is_ready = { λ _. ⊤ };
+
+    ghost may = { λ _ _. ⊤ };
+
+    ghost takes = { λ _ _ _. ⊤ };
+
+    ghost refuses = { λ _ _ _. ⊤ };
+
+    fn receive(&mut self, action: ActionRef<'_, Action<A>>) -> Result<(), AllocError>
+        requires ready { ⊤ ⊎ ⊤ }
+        requires text { HasClearText action }
+        ensures ready { ⊤ → OnOk result ⊤ }
+        ensures given { MatchResult result (λ _. ⊤) (λ _. ⊤) }
+    {
+        action.append_to(self.alloc, &mut self.actions)
+    }
+}
+
+// That of the actions of a stream, appended where they were borrowed; and whether that ended
+// rightly: with an error only where a request was refused.
+fn appended(
+    alloc: Global,
+    heap: &Refusing<Global>,
+    bytes: &[u8],
+) -> (Result<String, AllocError>, bool) {
+    let sink = Appending {
+        alloc: heap,
+        actions: Vec::new(heap),
+    };
+    let (result, sink) = parse_borrowed_into(&mut Parser::new(heap), bytes, sink);
+    let is_right = result.is_ok() != heap.has_refused();
+    (shown(alloc, Ok::<_, ParseError>(sink.actions)), is_right)
+}
+
+// Whether the text of a list is this one, or, where it may end early, that of the first of its
+// items.
+fn is_list(text: &str, whole: &str, ends_early: bool) -> bool {
+    match text.strip_suffix("])") {
+        Some(items) if ends_early => whole.starts_with(items),
+        _ => text == whole,
+    }
+}
+
+// Whether the actions of a stream, appended where they were borrowed, are those of this text; or,
+// where a request was refused, the first of them.
+fn are_appended(alloc: Global, heap: &Refusing<Global>, bytes: &[u8], meant: &str) -> bool {
+    match &appended(alloc, heap, bytes) {
+        (Ok(text), true) => is_list(text.as_str(), meant, heap.has_refused()),
+        _ => false,
+    }
+}
+
+// The same with each request for memory refused in turn.
+fn are_always_appended(alloc: Global, bytes: &[u8], meant: &str) -> bool {
+    let heap = Refusing::new(alloc);
+    let mut is_right = true;
+    for at in 1..=REQUESTS {
+        heap.refuse_at(at);
+        is_right = is_right && are_appended(alloc, &heap, bytes, meant);
+    }
+    is_right && !heap.has_refused()
+}
+
+/// Whether a stream has borrowed actions of these texts, which are its actions where they are
+/// appended.
+pub fn are_borrowed(alloc: Global, bytes: &[u8], wanted: &str) -> bool {
+    match shown(alloc, Reading::Whole.read(alloc, bytes)) {
+        Ok(meant) => {
+            is_shown(alloc, bytes, wanted) & are_always_appended(alloc, bytes, meant.as_str())
+        }
+        Err(_) => false,
+    }
+}

@@ -1,0 +1,35 @@
+//! The parameters that were kept of a control sequence which had too many.
+ghost use Rattle.std.specs.Prelude.{◌≡◌, ◌≤◌, length};
+ghost use Rattle.std.specs.Option.{option_map};
+ghost use Rattle.typed_functions.specs.Selections.{separator_count, whole_entries};
+
+use crate::entries::is_byte;
+use crate::renditions::len_before;
+use esc_values::CsiParam;
+
+// The entries before the last `;`: those of items that are whole, where more entries came after
+// these. `None` where there is no `;`.
+pub(crate) fn whole_entries(entries: &[CsiParam]) -> Option<&[CsiParam]>
+    ensures { option_map (λ x. x.now) result ≡ whole_entries entries.now }
+{
+    let count = separator_count(entries);
+    if count == 0 {
+        None
+    } else {
+        Some(&entries[..len_before(count - 1, entries)])
+    }
+}
+
+// How many `;` there are.
+fn separator_count(entries: &[CsiParam]) -> usize
+    ensures same { result ≡ separator_count entries.now }
+    ensures few { result ≤ length entries.now }
+{
+    let mut count = 0;
+    for entry in entries {
+        if is_byte(b';', *entry) {
+            count += 1;
+        }
+    }
+    count
+}

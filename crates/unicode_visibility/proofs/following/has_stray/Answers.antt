@@ -1,0 +1,11 @@
+use Rattle.std.proofs.Common.{chars, refl, sym, ap, ◌∙◌}
+use Rattle.unicode_visibility.proofs.Bytes.{none_deceives}
+use Rattle.unicode_visibility.proofs.Strays.{none_stray}
+use Rattle.unicode_visibility.specs.Signs.{has_sign}
+use Rattle.unicode_visibility.proofs.following.has_stray.Goals as goal
+
+pub returns-else-may_deceive : goal.returns-else-may_deceive
+returns-else-may_deceive c =
+    sym (none_stray c.args.before (chars c.args.text.now)
+    (none_deceives c.args.text.now c.utf8.text
+    (ap has_sign (sym c.as_bytes.ensures.value) ∙ c.if-may_deceive.ensures refl)))
