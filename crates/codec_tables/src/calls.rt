@@ -39,7 +39,7 @@ use std::alloc::{AllocError, Global};
 /// - `left`: what is left of the lines of a stream; `left-of-2-by-4`: where 2 rows of 4 columns may
 ///   be written again.
 /// - `lent`: whether the events of a stream that comes in chunks to `heapless_parser` are those of
-///   a parser; `lent-noise`: of which of the streams made of the chunks between `|` they are not.
+///   a parser; `lent-noise`: the first stream, made of the chunks between `|`, whose events differ.
 /// - `refusing`: whether the allocator that refuses a request refuses this alone; `reusing`:
 ///   whether the one that keeps blocks passes a refusal on, and gives back what it keeps.
 /// - `held-in-turn` and `held-at-once`: how many requests reach the allocator below `caching_alloc`

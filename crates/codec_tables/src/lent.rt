@@ -15,8 +15,7 @@ pub fn compared(alloc: Global, stream: &[u8]) -> Result<String, AllocError> {
     emitted(alloc, is_same_in_input_chunks(alloc, stream))
 }
 
-/// The number of the first of these streams of noise, made of the chunks between `|`, of which they
-/// are not.
+/// The number of the first stream of noise whose events differ. Its chunks are those between `|`.
 pub fn noise_compared(alloc: Global, text: &[u8]) -> Result<String, AllocError> {
     match &parts_of(alloc, text, b'|') {
         Ok(input_chunks) => emitted(alloc, first_other(alloc, input_chunks)),

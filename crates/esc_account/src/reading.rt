@@ -98,7 +98,7 @@ fn is_csi(kind: SegmentKind) -> bool
     matches!(kind, SegmentKind::Csi)
 }
 
-/// Whether a limit leaves nothing out of what the segment means, where that is seen at once.
+/// Whether the limit takes nothing from the meaning of the segment, by a look at its length.
 pub(crate) fn is_short(limit: usize, segment: Segment<'_>) -> bool
     ensures { IsTrue result → IsShort limit segment.entry.kind segment.entry.bytes.now }
 {

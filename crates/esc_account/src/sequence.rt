@@ -1,4 +1,4 @@
-//! Control sequences of which a policy knows by their parameters what becomes of them.
+//! Control sequences that a policy judges by their parameters.
 #![tactic(auto)]
 
 ghost use Rattle.std.specs.Prelude.{◌≡◌, ◌==◌, ◌∷◌, ◌++◌, Bool, IfSome, IsTrue, List, None, false, map};

@@ -1,4 +1,4 @@
-//! What is known of the actions of a segment.
+//! Facts about the actions of a segment.
 #![tactic(auto)]
 
 ghost use Rattle.std.specs.Prelude.{◌≡◌};
