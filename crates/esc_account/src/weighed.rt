@@ -18,7 +18,7 @@ pub(crate) struct Weighed {
 }
 
 impl Weighed {
-    /// Of no action, after this character.
+    /// The facts about no action, after this character.
     pub fn unweighed(before: Option<char>) -> Weighed
         ensures { result ≡ unweighed before }
     {

@@ -1,4 +1,4 @@
-//! What is told of the actions of a segment, and keeps none of them.
+//! A sink that notes facts about the actions of a segment, and keeps none of them.
 #![tactic(auto)]
 
 ghost use Rattle.std.specs.Prelude.{◌≡◌, if◌then◌else◌, None};
@@ -25,7 +25,7 @@ pub(crate) struct Weighing<'j, P, A: Allocator = Global> {
 }
 
 impl<'j, P: Admit<A>, A: Allocator + Copy> Weighing<'j, P, A> {
-    /// Of no action yet, in a segment of this kind that comes after this character.
+    /// No action yet, in a segment of this kind that comes after this character.
     pub fn new(
         judge: &'j PolicyJudge<P, A>,
         before: Option<char>,
@@ -98,7 +98,7 @@ impl<'j, P: Admit<A>, A: Allocator + Copy> Sink<Action<A>> for Weighing<'j, P, A
         Ok(())
     }
 
-    // Weighs the command of which the policy knows by its text whether it passes.
+    // Weighs a command whose text tells the policy whether it passes.
     fn receive_command(&mut self, text: &[u8]) -> Result<bool, AllocError> {
         match self.judge.admits_command(text) {
             Some(passes) => {

@@ -1,4 +1,4 @@
-//! What the calls that take a stream in chunks have in common.
+//! The common parts of the calls that take a stream in chunks.
 ghost use Rattle.std.specs.Prelude.{◌≡◌, ◌≢◌, Some};
 ghost use Rattle.esc_calls.specs.InChunks.{IsEnded, Stays, text_of};
 ghost use Rattle.esc_calls.specs.Output.{Copies};
