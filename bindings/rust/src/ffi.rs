@@ -8,6 +8,7 @@
 //! reference. A slice's pointer is never null, also if the slice is empty. An `alloc: Global` there
 //! takes no bytes, so no parameter here stands for it. The declarations are written by hand:
 //! nothing compares them with the library's.
+use crate::vte::Place;
 #[cfg(feature = "oneshot")]
 use crate::{Error, Policy};
 
@@ -219,7 +220,39 @@ pub struct Parser {
     has_failed: bool,
 }
 
+// The numbers of some states, `GROUND` and on of `crates/heapless_parser/src/numbers.rt`.
+const GROUND: u32 = 0;
+const IN_COMMAND: u32 = 3;
+const IN_DATA: u32 = 5;
+const PASSED_OVER: u32 = 6;
+const IN_APC: u32 = 7;
+
 impl Parser {
+    /// Whether an event is due that takes no bytes. If none is, a call without bytes notes none.
+    #[inline(always)]
+    pub fn is_due(&self) -> bool {
+        self.queued_kind != kind::NONE
+    }
+
+    /// Where the next byte comes. An event that is due comes before it.
+    #[inline(always)]
+    pub fn place(&self) -> Place {
+        if self.is_due() || self.has_failed || self.pending != 0 {
+            return Place::Inside;
+        }
+        match self.state {
+            GROUND => Place::Ground,
+            IN_DATA if !self.is_over => Place::Data,
+            _ => Place::Inside,
+        }
+    }
+
+    /// Whether a string is unfinished that is handed out whole at its end, or passed over.
+    #[inline(always)]
+    pub fn is_in_text(&self) -> bool {
+        matches!(self.state, IN_COMMAND | PASSED_OVER | IN_APC)
+    }
+
     /// Whether no sequence, no string and no character is unfinished.
     pub fn is_ground(&self) -> bool {
         // SAFETY: the reference is what the type asks for, and the call reads alone.

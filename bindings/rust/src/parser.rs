@@ -1,6 +1,7 @@
 // SPDX-License-Identifier: MIT
 //! A parser that takes a stream in chunks.
 use crate::ffi::kind;
+use crate::vte::Place;
 use crate::{Error, ffi};
 use alloc::boxed::Box;
 use alloc::vec;
@@ -272,6 +273,9 @@ impl Parser {
             } else {
                 &[]
             };
+            if rest.is_empty() && !self.is_due() {
+                return Ok(count);
+            }
         }
     }
 
@@ -287,6 +291,24 @@ impl Parser {
     /// ```
     pub fn is_ground(&self) -> bool {
         self.raw.is_ground()
+    }
+
+    // Whether an event is due that takes no bytes. If none is, a step without bytes notes none.
+    #[inline(always)]
+    pub(crate) fn is_due(&self) -> bool {
+        self.raw.is_due()
+    }
+
+    // Where the next byte comes.
+    #[inline(always)]
+    pub(crate) fn place(&self) -> Place {
+        self.raw.place()
+    }
+
+    // Whether a string is unfinished that is handed out whole at its end, or passed over.
+    #[inline(always)]
+    pub(crate) fn is_in_text(&self) -> bool {
+        self.raw.is_in_text()
     }
 
     // Takes bytes up to the next event, and returns how many.

@@ -35,8 +35,12 @@
 //! assert_eq!((&screen.text[..], &screen.colors[..]), ("caf\u{e9} red", &[1, 31][..]));
 //! ```
 use crate::{Entry, Event};
+use held::{Held, Single};
 
 pub mod by_byte;
+mod held;
+
+pub(crate) use held::Place;
 
 pub use crate::params::{Params, ParamsIter};
 
@@ -106,6 +110,7 @@ pub trait Perform {
 pub struct Parser<const OSC_RAW_BUF_SIZE: usize = MOST_OSC_RAW> {
     stream: crate::Parser,
     params: Params,
+    held: Held,
     has_failed: bool,
 }
 
@@ -151,6 +156,7 @@ impl<const OSC_RAW_BUF_SIZE: usize> Parser<OSC_RAW_BUF_SIZE> {
         Parser {
             stream: crate::Parser::with_limit(limit),
             params: Params::default(),
+            held: Held::new(),
             has_failed: false,
         }
     }
@@ -194,13 +200,21 @@ impl<const OSC_RAW_BUF_SIZE: usize> Parser<OSC_RAW_BUF_SIZE> {
         bytes: &[u8],
         stops: impl Fn(&P) -> bool,
     ) -> usize {
-        let params = &mut self.params;
         let mut count = 0;
         while count < bytes.len() && !stops(performer) {
+            if let [byte] = *bytes {
+                self.take_one(performer, byte);
+                return 1;
+            }
+            if self.held.is_some() {
+                self.take_held(performer);
+            }
+            let params = &mut self.params;
             let taken = self.stream.advance_while(&bytes[count..], |event, taken| {
                 call(params, performer, event, taken);
                 !stops(performer)
             });
+            self.held.clear(false);
             let Ok(taken) = taken else {
                 self.has_failed = true;
                 return bytes.len();
@@ -208,6 +222,33 @@ impl<const OSC_RAW_BUF_SIZE: usize> Parser<OSC_RAW_BUF_SIZE> {
             count += taken;
         }
         count
+    }
+
+    // Takes a byte that comes by itself. It costs less to hold those of a sequence than to have the
+    // parser take each.
+    #[inline]
+    fn take_one<P: Perform>(&mut self, performer: &mut P, byte: u8) {
+        match self.held.take(byte, || self.stream.place()) {
+            Single::Print(c) => performer.print(c),
+            Single::Execute => performer.execute(byte),
+            Single::Put => performer.put(byte),
+            Single::Held => {}
+            Single::Due => self.take_held(performer),
+        }
+    }
+
+    // Takes the bytes that are held.
+    #[inline(never)]
+    fn take_held<P: Perform>(&mut self, performer: &mut P) {
+        let params = &mut self.params;
+        let taken = self
+            .stream
+            .advance_while(self.held.bytes(), |event, taken| {
+                call(params, performer, event, taken);
+                true
+            });
+        self.has_failed |= taken.is_err();
+        self.held.clear(self.stream.is_in_text());
     }
 }
 

@@ -1,7 +1,10 @@
 // SPDX-License-Identifier: MIT
 //! The calls of the module `vte`: those of version 0.15 of the crate of that name, but for the streams
 //! that docs/EMBEDDING.md lists, and however a stream is cut.
+mod streams;
+
 use escape_stream::vte::{Params, Parser, Perform, by_byte};
+use streams::Random;
 
 // The calls, one after another, each in a line.
 #[derive(Default)]
@@ -292,4 +295,41 @@ fn parameters() {
 
     let none = Params::default();
     assert!(none.is_empty() && none.iter().next().is_none());
+}
+
+// The calls for a stream in chunks whose lengths are drawn, many of them one byte.
+fn calls_by_chance(limit: usize, stream: &[u8], random: &mut Random) -> Vec<String> {
+    let mut log = Log::default();
+    let mut parser = Parser::with_limit(limit);
+    let mut rest = stream;
+    while !rest.is_empty() {
+        let length = match random.below(4) {
+            0 => 1 + random.below(rest.len()),
+            _ => 1,
+        };
+        let (chunk, after) = rest.split_at(length);
+        parser.advance(&mut log, chunk);
+        rest = after;
+    }
+    log.calls
+}
+
+#[test]
+fn however_a_stream_is_cut() {
+    let mut random = Random(7);
+    for round in 0..4000 {
+        let stream = random.stream();
+        let limit = if round % 2 == 0 { 8 } else { 1 << 12 };
+        let mut log = Log::default();
+        Parser::with_limit(limit).advance(&mut log, &stream);
+        let shown = stream.escape_ascii();
+        let mut by_one = Log::default();
+        let mut parser = Parser::with_limit(limit);
+        for byte in &stream {
+            parser.advance(&mut by_one, &[*byte]);
+        }
+        assert_eq!(by_one.calls, log.calls, "{shown} byte by byte");
+        let found = calls_by_chance(limit, &stream, &mut random);
+        assert_eq!(found, log.calls, "{shown}");
+    }
 }

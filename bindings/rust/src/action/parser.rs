@@ -147,6 +147,9 @@ impl Parser {
                 return;
             }
             rest = &rest[taken..];
+            if rest.is_empty() && !self.events.is_due() {
+                return;
+            }
         }
     }
 
