@@ -7,13 +7,29 @@ use crate::Error;
 /// The number of bytes that are kept of a string, if no limit is given.
 pub(crate) const DEFAULT_LIMIT: usize = 1_048_576;
 
-/// Calls `act` with a text in parts; `text_from` writes it from a byte on, as much as fits.
+/// Calls `act` with a text in parts; `text_from` writes it from a byte on, as much as fits. Most
+/// texts are those of a line, so the room for the first part is small: all of it is cleared.
 pub(crate) fn in_parts(
     mut text_from: impl FnMut(usize, &mut [u8]) -> usize,
     mut act: impl FnMut(&[u8]),
 ) {
+    let mut room = [0; 256];
+    let count = text_from(0, &mut room);
+    if count > 0 {
+        act(&room[..count]);
+    }
+    if count == room.len() {
+        more_parts(count, text_from, act);
+    }
+}
+
+#[inline(never)]
+fn more_parts(
+    mut from: usize,
+    mut text_from: impl FnMut(usize, &mut [u8]) -> usize,
+    mut act: impl FnMut(&[u8]),
+) {
     let mut room = [0; 4096];
-    let mut from = 0;
     loop {
         let count = text_from(from, &mut room);
         if count == 0 {

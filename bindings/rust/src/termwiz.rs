@@ -1,68 +1,41 @@
 // SPDX-License-Identifier: MIT
-//! The paths of the crate `termwiz`, version 0.23, for programs that are written for it.
+//! The names of the crate `termwiz`, version 0.23, for programs that are written for it.
 //!
-//! Such a program names this module in place of the crate: `use escape_stream::termwiz;`. The
-//! types and calls are those of the modules [`action`](crate::action), [`osc`](crate::osc),
-//! [`apc`](crate::apc) and [`dcs`](crate::dcs). `docs/DIFFERENCES.md` of the repository lists the
-//! differences from `termwiz`.
+//! Such a program names this module in place of the crate: `use escape_stream::termwiz;`. Commands,
+//! images and device control strings are the types of the modules [`osc`](crate::osc),
+//! [`apc`](crate::apc), [`dcs`](crate::dcs) and [`action`](crate::action). Control and escape
+//! sequences are [values](escape::csi::CSI) with the names of `termwiz`. `docs/DIFFERENCES.md` of
+//! the repository lists the differences from `termwiz`.
 //!
 //! ```
-//! use escape_stream::termwiz::escape::{Action, OperatingSystemCommand, parser::Parser};
+//! use escape_stream::termwiz;
+//!
+//! use termwiz::cell::Intensity;
+//! use termwiz::escape::csi::{CSI, Cursor, Sgr};
+//! use termwiz::escape::{Action, OperatingSystemCommand, parser::Parser};
 //!
 //! let mut parser = Parser::new();
-//! for action in parser.parse_as_vec(b"caf\xc3\xa9\x1b]2;some\x1b\\") {
-//!     match action {
-//!         Action::PrintString(text) => assert_eq!(text, "caf\u{e9}"),
-//!         Action::OperatingSystemCommand(command) => {
-//!             assert_eq!(*command, OperatingSystemCommand::SetWindowTitle("some".into()));
+//! let (mut title, mut lines, mut is_bold) = (String::new(), 0, false);
+//! parser.parse(b"\x1b]2;some\x1b\\\x1b[1;4m\x1b[3B", |action| match action {
+//!     Action::OperatingSystemCommand(command) => {
+//!         if let OperatingSystemCommand::SetWindowTitle(text) = *command {
+//!             title = text;
 //!         }
-//!         _ => {}
 //!     }
-//! }
+//!     Action::CSI(CSI::Sgr(Sgr::Intensity(intensity))) => is_bold = intensity == Intensity::Bold,
+//!     Action::CSI(CSI::Cursor(Cursor::Down(count))) => lines += count,
+//!     _ => {}
+//! });
+//! assert_eq!((&title[..], lines, is_bold), ("some", 3, true));
 //! ```
-
-/// Actions and their parser.
-pub mod escape {
-    pub use crate::action::{
-        Action, CSI, ControlCode, DeviceControlMode, EnterDeviceControlMode, Esc,
-        ShortDeviceControl,
-    };
-    pub use crate::apc::KittyImage;
-    pub use crate::dcs::{Sixel, SixelData, SixelValue};
-    pub use crate::osc::OperatingSystemCommand;
-
-    /// Application program commands: images of kitty's.
-    pub mod apc {
-        pub use crate::apc::*;
-    }
-
-    /// Control sequences.
-    pub mod csi {
-        pub use crate::action::CSI;
-    }
-
-    /// Escape sequences.
-    pub mod esc {
-        pub use crate::action::Esc;
-    }
-
-    /// Operating system commands.
-    pub mod osc {
-        pub use crate::osc::*;
-    }
-
-    /// The parser.
-    pub mod parser {
-        pub use crate::action::Parser;
-    }
-}
+pub mod cell;
+mod choices;
+pub mod color;
+pub mod escape;
+mod flags;
+pub mod input;
 
 /// Links.
 pub mod hyperlink {
     pub use crate::osc::Hyperlink;
-}
-
-/// Colours.
-pub mod color {
-    pub use crate::dcs::RgbColor;
 }

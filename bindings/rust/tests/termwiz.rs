@@ -2,11 +2,17 @@
 //! A program that is written for the crate `termwiz`, but for the first line.
 use escape_stream::termwiz;
 
+use termwiz::cell::{Intensity, Underline};
+use termwiz::color::{AnsiColor, ColorSpec};
 use termwiz::escape::apc::{KittyImageDelete, KittyImageVerbosity};
+use termwiz::escape::csi::{
+    Cursor, DecPrivateMode, DecPrivateModeCode, Edit, EraseInDisplay, Mode, Sgr,
+};
 use termwiz::escape::osc::{FinalTermSemanticPrompt, Selection};
 use termwiz::escape::parser::Parser;
 use termwiz::escape::{
-    Action, CSI, ControlCode, DeviceControlMode, Esc, KittyImage, OperatingSystemCommand, SixelData,
+    Action, CSI, ControlCode, DeviceControlMode, Esc, EscCode, KittyImage, OneBased,
+    OperatingSystemCommand, SixelData,
 };
 use termwiz::hyperlink::Hyperlink;
 
@@ -49,11 +55,11 @@ fn the_first_action() {
         verbosity: KittyImageVerbosity::Quiet,
     };
     assert_eq!(actions[0], Action::KittyImage(Box::new(image)));
-    let end = Esc {
-        intermediate: None,
-        control: b'\\',
-    };
+    let end = Esc::Code(EscCode::StringTerminator);
     assert_eq!(actions[1], Action::Esc(end));
+    let sequence = parser.parse_first(b"\x1b[1;3mx");
+    let bold = CSI::Sgr(Sgr::Intensity(Intensity::Bold));
+    assert_eq!(sequence, Some((Action::CSI(bold), 6)));
 }
 
 #[test]
@@ -97,10 +103,75 @@ fn strings_of_devices() {
         }
         other => panic!("{other:?}"),
     }
-    let sequence = Parser::new().parse_as_vec(b"\x1b[1;31m").remove(0);
-    let shown = sequence.to_string();
-    assert!(
-        matches!(sequence, Action::CSI(CSI { control: b'm', .. })),
-        "{shown:?}"
-    );
+}
+
+// A screen of a line, as a terminal over termwiz keeps one.
+#[derive(Default)]
+struct Screen {
+    cells: Vec<(char, Option<ColorSpec>)>,
+    column: usize,
+    color: Option<ColorSpec>,
+    is_underlined: bool,
+    is_cursor_hidden: bool,
+}
+
+impl Screen {
+    fn act(&mut self, action: Action) {
+        match action {
+            Action::Print(c) => {
+                self.cells
+                    .resize(self.cells.len().max(self.column + 1), (' ', None));
+                self.cells[self.column] = (c, self.color);
+                self.column += 1;
+            }
+            Action::CSI(CSI::Cursor(cursor)) => match cursor {
+                Cursor::Position { col, .. } => self.column = col.as_zero_based() as usize,
+                Cursor::Left(count) => self.column = self.column.saturating_sub(count as usize),
+                _ => {}
+            },
+            Action::CSI(CSI::Sgr(sgr)) => match sgr {
+                Sgr::Reset => self.color = None,
+                Sgr::Foreground(color) => self.color = Some(color),
+                Sgr::Underline(line) => self.is_underlined = line != Underline::None,
+                _ => {}
+            },
+            Action::CSI(CSI::Edit(Edit::EraseInDisplay(EraseInDisplay::EraseDisplay))) => {
+                self.cells.clear();
+            }
+            Action::CSI(CSI::Mode(Mode::ResetDecPrivateMode(DecPrivateMode::Code(
+                DecPrivateModeCode::ShowCursor,
+            )))) => self.is_cursor_hidden = true,
+            Action::Esc(Esc::Code(EscCode::FullReset)) => *self = Screen::default(),
+            _ => {}
+        }
+    }
+}
+
+#[test]
+fn a_screen() {
+    let mut screen = Screen::default();
+    let stream = b"x\x1bcold\x1b[2J\x1b[1;3H\x1b[31;4mred\x1b[2D\x1b[mE\x1b[?25l";
+    Parser::new().parse(stream, |action| screen.act(action));
+    let text: String = screen.cells.iter().map(|cell| cell.0).collect();
+    assert_eq!(text, "  rEd");
+    let red = ColorSpec::from(AnsiColor::Maroon);
+    assert_eq!(screen.cells[2], ('r', Some(red)));
+    assert_eq!(screen.cells[3], ('E', None));
+    assert!(screen.is_underlined && screen.is_cursor_hidden);
+}
+
+#[test]
+fn actions_are_joined() {
+    let mut joined = Vec::new();
+    for action in Parser::new().parse_as_vec(b"ab\x1b[2;5Hc") {
+        action.append_to(&mut joined);
+    }
+    let (line, col) = (OneBased::new(2), OneBased::new(5));
+    let place = CSI::Cursor(Cursor::Position { line, col });
+    let wanted = [
+        Action::PrintString("ab".into()),
+        Action::CSI(place),
+        Action::Print('c'),
+    ];
+    assert_eq!(joined, wanted);
 }

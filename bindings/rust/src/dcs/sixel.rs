@@ -80,6 +80,20 @@ pub struct RgbColor {
     pub blue: u8,
 }
 
+impl RgbColor {
+    /// The colour of these intensities.
+    #[must_use]
+    pub const fn new_8bpc(red: u8, green: u8, blue: u8) -> RgbColor {
+        RgbColor { red, green, blue }
+    }
+
+    /// The intensities of red, green and blue.
+    #[must_use]
+    pub const fn to_tuple_rgb8(self) -> (u8, u8, u8) {
+        (self.red, self.green, self.blue)
+    }
+}
+
 impl Sixel {
     /// The image of these parameters and this data: those of [`Event::Dcs`](crate::Event::Dcs) with
     /// the byte `q` and no intermediate, and the bytes up to their end. Any are such an image.

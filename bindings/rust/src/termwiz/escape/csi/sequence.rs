@@ -1,0 +1,116 @@
+// SPDX-License-Identifier: MIT
+//! The parts of a control sequence.
+use core::fmt;
+
+/// An entry of a control sequence: a number, or a byte that is no digit.
+#[derive(Clone, Copy, Debug, PartialEq, Eq, Hash)]
+#[cfg_attr(feature = "serde", derive(serde::Serialize, serde::Deserialize))]
+pub enum CsiParam {
+    /// A number.
+    Integer(i64),
+    /// A private prefix, `;`, `:` or an intermediate.
+    P(u8),
+}
+
+impl CsiParam {
+    /// Its number, if it is one.
+    #[must_use]
+    pub fn as_integer(&self) -> Option<i64> {
+        match *self {
+            CsiParam::Integer(number) => Some(number),
+            CsiParam::P(_) => None,
+        }
+    }
+}
+
+impl fmt::Display for CsiParam {
+    fn fmt(&self, f: &mut fmt::Formatter<'_>) -> fmt::Result {
+        match *self {
+            CsiParam::Integer(number) => number.fmt(f),
+            CsiParam::P(byte) => char::from(byte).fmt(f),
+        }
+    }
+}
+
+/// The private prefix, the parameters, the intermediate and the final byte of a control sequence.
+#[derive(Clone, Copy)]
+pub struct Sequence<'a> {
+    pub prefix: Option<u8>,
+    pub params: &'a [CsiParam],
+    pub intermediate: Option<u8>,
+    pub last: char,
+}
+
+impl<'a> Sequence<'a> {
+    /// The parts of these entries, if they are in order, with one intermediate at most.
+    pub fn of(entries: &'a [CsiParam], last: char) -> Option<Sequence<'a>> {
+        let (prefix, entries) = match entries {
+            [CsiParam::P(byte @ b'<'..=b'?'), rest @ ..] => (Some(*byte), rest),
+            _ => (None, entries),
+        };
+        let (intermediate, params) = match entries {
+            [rest @ .., CsiParam::P(byte @ b' '..=b'/')] => (Some(*byte), rest),
+            _ => (None, entries),
+        };
+        let is_parameter =
+            |it: &CsiParam| matches!(it, CsiParam::Integer(_) | CsiParam::P(b';' | b':'));
+        params.iter().all(is_parameter).then_some(Sequence {
+            prefix,
+            params,
+            intermediate,
+            last,
+        })
+    }
+
+    /// Its parameters, if there are at most so many, without `:`. One that is left out is `None`.
+    pub fn numbers<const N: usize>(&self) -> Option<[Option<i64>; N]> {
+        let mut parts = self.params.split(|it| *it == CsiParam::P(b';'));
+        let mut numbers = [None; N];
+        for place in &mut numbers {
+            *place = match parts.next() {
+                None | Some([]) => None,
+                Some([CsiParam::Integer(number)]) => Some(*number),
+                Some(_) => return None,
+            };
+        }
+        parts.next().is_none().then_some(numbers)
+    }
+
+    /// Its one parameter, from 1 on: 1 if it is 0 or left out.
+    pub fn count(&self) -> Option<u32> {
+        let [number] = self.numbers()?;
+        counted(number)
+    }
+
+    /// Its one parameter, 0 if it is left out.
+    pub fn choice(&self) -> Option<i64> {
+        let [number] = self.numbers()?;
+        Some(number.unwrap_or(0))
+    }
+}
+
+/// A number that counts from 1.
+pub fn counted(number: Option<i64>) -> Option<u32> {
+    match number {
+        None | Some(0) => Some(1),
+        Some(number) => u32::try_from(number).ok(),
+    }
+}
+
+/// Writes a number that counts from 1, but not 1.
+pub fn write_count(count: u32, f: &mut fmt::Formatter<'_>) -> fmt::Result {
+    if count == 1 {
+        Ok(())
+    } else {
+        write!(f, "{count}")
+    }
+}
+
+/// Writes the number of a choice, but not 0.
+pub fn write_choice(choice: u32, f: &mut fmt::Formatter<'_>) -> fmt::Result {
+    if choice == 0 {
+        Ok(())
+    } else {
+        write!(f, "{choice}")
+    }
+}

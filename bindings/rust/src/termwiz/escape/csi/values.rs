@@ -1,0 +1,126 @@
+// SPDX-License-Identifier: MIT
+//! The values of a control sequence, one after another.
+use super::mode::Change;
+use super::sequence::{CsiParam, Sequence};
+use super::{
+    CSI, Cursor, Device, Edit, Keyboard, Mode, MouseReport, Unspecified, Window, path, sgr,
+};
+use alloc::boxed::Box;
+use alloc::vec::Vec;
+use core::iter::FusedIterator;
+
+/// The values of a control sequence: the iterator of [`CSI::parse`].
+#[derive(Clone)]
+pub struct Values<'a> {
+    rest: Rest<'a>,
+    is_truncated: bool,
+    control: char,
+}
+
+// What is still to be read.
+#[derive(Clone)]
+enum Rest<'a> {
+    Nothing,
+    Whole(&'a [CsiParam], Option<Sequence<'a>>),
+    Renditions(&'a [CsiParam]),
+    Modes(Change, &'a [CsiParam]),
+}
+
+impl<'a> Values<'a> {
+    pub(super) fn of(params: &'a [CsiParam], is_truncated: bool, control: char) -> Values<'a> {
+        let sequence = Sequence::of(params, control);
+        let rest = match sequence {
+            Some(it) if control == 'm' && it.prefix.is_none() && it.intermediate.is_none() => {
+                Rest::Renditions(params)
+            }
+            // Of more entries than are kept an intermediate may be among those that are not.
+            _ if is_truncated => Rest::Whole(params, None),
+            Some(it) => match Change::of(&it) {
+                Some(change) => Rest::Modes(change, it.params),
+                None => Rest::Whole(params, sequence),
+            },
+            None => Rest::Whole(params, None),
+        };
+        Values {
+            rest,
+            is_truncated,
+            control,
+        }
+    }
+
+    // The sequence of these entries as it came.
+    fn unspecified(&self, params: Vec<CsiParam>) -> CSI {
+        CSI::Unspecified(Box::new(Unspecified {
+            params,
+            parameters_truncated: self.is_truncated,
+            control: self.control,
+        }))
+    }
+
+    // The next rendition. What is not known, or is cut off, comes with all that follows it.
+    fn rendition(&mut self, params: &'a [CsiParam]) -> CSI {
+        match sgr::first_of(params) {
+            Some((_, None)) if self.is_truncated => self.unspecified(params.into()),
+            Some((rendition, rest)) => {
+                self.rest = rest.map_or(Rest::Nothing, Rest::Renditions);
+                CSI::Sgr(rendition)
+            }
+            None => self.unspecified(params.into()),
+        }
+    }
+
+    // The next mode.
+    fn mode(&mut self, change: Change, params: &'a [CsiParam]) -> CSI {
+        let (first, rest) = sgr::split(params);
+        self.rest = rest.map_or(Rest::Nothing, |rest| Rest::Modes(change, rest));
+        match change.mode(first) {
+            Some(mode) => CSI::Mode(mode),
+            None => self.unspecified(change.prefix().iter().chain(first).copied().collect()),
+        }
+    }
+}
+
+impl Iterator for Values<'_> {
+    type Item = CSI;
+
+    fn next(&mut self) -> Option<CSI> {
+        match core::mem::replace(&mut self.rest, Rest::Nothing) {
+            Rest::Nothing => None,
+            Rest::Renditions(params) => Some(self.rendition(params)),
+            Rest::Modes(change, params) => Some(self.mode(change, params)),
+            Rest::Whole(params, sequence) => Some(
+                sequence
+                    .and_then(|it| single(&it))
+                    .unwrap_or_else(|| self.unspecified(params.into())),
+            ),
+        }
+    }
+}
+
+impl FusedIterator for Values<'_> {}
+
+// The value of a sequence that has one.
+fn single(sequence: &Sequence<'_>) -> Option<CSI> {
+    if let Some(it) = Cursor::of(sequence) {
+        return Some(CSI::Cursor(it));
+    }
+    if let Some(it) = Edit::of(sequence) {
+        return Some(CSI::Edit(it));
+    }
+    if let Some(it) = Mode::of(sequence) {
+        return Some(CSI::Mode(it));
+    }
+    if let Some(it) = MouseReport::of(sequence) {
+        return Some(CSI::Mouse(it));
+    }
+    if let Some(it) = Keyboard::of(sequence) {
+        return Some(CSI::Keyboard(it));
+    }
+    if let Some(it) = Device::of(sequence) {
+        return Some(CSI::Device(Box::new(it)));
+    }
+    if let Some((path, effect)) = path::character_path(sequence) {
+        return Some(CSI::SelectCharacterPath(path, effect));
+    }
+    Window::of(sequence).map(|it| CSI::Window(Box::new(it)))
+}
