@@ -61,7 +61,7 @@ private:
             out.append(reinterpret_cast<const char *>(room), count);
     }
 
-    escape_stream_sanitizer it = {};
+    escape_stream_sanitizer it = ESCAPE_STREAM_SANITIZER_INIT;
 };
 
 } // namespace

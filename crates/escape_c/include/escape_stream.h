@@ -211,13 +211,16 @@ uint32_t escape_stream_filter(
 /*
  * A filter of a stream that comes in chunks. It lies in the caller's memory; the part of the stream
  * that it keeps is in blocks that it takes and escape_stream_filter_end gives back. Its fields are
- * its own: read and write nothing of it, but set it to zero before the first call, as by = {0}. A
- * copy of it is the same filter, so go on with one of the two.
+ * its own: read and write nothing of it, but set it to zero before the first call, as by = {0} or =
+ * ESCAPE_STREAM_FILTER_INIT. A copy of it is the same filter, so go on with one of the two.
  */
 struct escape_stream_filter_state {
     bool is_begun;
     void *state;
 };
+
+/* One that is not begun, as one of zeros is too. */
+#define ESCAPE_STREAM_FILTER_INIT {false, NULL}
 
 /*
  * Begins a stream. The filter keeps at most `limit` bytes of a string. A filter that was begun
@@ -296,6 +299,9 @@ struct escape_stream_sanitizer {
     bool is_begun;
     void *state;
 };
+
+/* One that is not begun, as one of zeros is too. */
+#define ESCAPE_STREAM_SANITIZER_INIT {false, NULL}
 
 /*
  * The groups of actions, each a bit of `allowed` and of `denied`. The policy TEXT passes
@@ -507,6 +513,9 @@ struct escape_stream_html {
     void *state;
 };
 
+/* One that is not begun, as one of zeros is too. */
+#define ESCAPE_STREAM_HTML_INIT {false, NULL}
+
 /*
  * Begins the page of a stream. A page that was begun before is given back first.
  *
@@ -561,6 +570,9 @@ struct escape_stream_normaliser {
     bool is_begun;
     void *state;
 };
+
+/* One that is not begun, as one of zeros is too. */
+#define ESCAPE_STREAM_NORMALISER_INIT {false, NULL}
 
 /*
  * Begins a stream. The normaliser keeps at most `limit` bytes of a string; nothing is written of a
