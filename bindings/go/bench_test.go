@@ -41,6 +41,14 @@ func BenchmarkWriter(b *testing.B) {
 	})
 }
 
+func BenchmarkSanitizer(b *testing.B) {
+	bench(b, func(log []byte) {
+		w, _ := NewSanitizerWriter(io.Discard, Color, SanitizerOptions{NoAccount: true})
+		chunks(log, 32768, func(chunk []byte) { w.Write(chunk) })
+		w.Close()
+	})
+}
+
 func BenchmarkToHTML(b *testing.B) {
 	bench(b, func(log []byte) { ToHTML(log, HTMLOptions{}) })
 }

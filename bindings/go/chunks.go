@@ -10,6 +10,14 @@ import "runtime"
 // How many bytes of a text are copied at once.
 const room = 1 << 16
 
+// What takes a stream in chunks and has the text of each: a filter or a sanitizer.
+type inChunks interface {
+	feed(p []byte) error
+	finish() error
+	text(to func([]byte) error) error
+	end()
+}
+
 // A filter of a stream in chunks. The library took its block.
 type filter struct {
 	raw  C.struct_escape_stream_filter_state

@@ -10,10 +10,11 @@
 //	text, err := escapestream.Filter(escapestream.Color, stream)
 //
 // returns colours, bold and links of a stream, its characters, tabs and line ends, and nothing
-// else. [NewReader] and [NewWriter] do so as a stream comes, [ToHTML] returns a stream as HTML in
-// which nothing comes alive, [Normal] returns its normal form, [Parser] gives its events,
-// [Function] names the function of a sequence, and [ReadCommand] reads the text of an operating
-// system command.
+// else. [NewReader] and [NewWriter] do so as a stream comes. [Sanitize] is the same for logs, line
+// by line, with the options of the program escfilter and an account of every byte. [ToHTML] returns
+// a stream as HTML in which nothing comes alive, [Normal] returns its normal form, [Parser] gives
+// its events, [Function] names the function of a sequence, and [ReadCommand] reads the text of an
+// operating system command.
 //
 // The output of each call of the library is proved, for every stream. This package is not proved:
 // it is tested.

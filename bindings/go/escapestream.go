@@ -27,6 +27,8 @@ var (
 	ErrCommand = errors.New("escapestream: no command has this kind and these fields")
 	// ErrNotWritable says that a command would not read back as it is, as a title with a control.
 	ErrNotWritable = errors.New("escapestream: the text of the command would not read back as it")
+	// ErrOption says that an option of a sanitizer is none, as a group that is not there.
+	ErrOption = errors.New("escapestream: no such option")
 	// ErrLimit says that a limit is less than 0, or too large.
 	ErrLimit = errors.New("escapestream: no such limit")
 )
@@ -45,6 +47,9 @@ func errorOf(status C.uint32_t) error {
 		return ErrCommand
 	case C.ESCAPE_STREAM_NOT_WRITABLE:
 		return ErrNotWritable
+	}
+	if status >= C.ESCAPE_STREAM_UNKNOWN_SIZE && status <= C.ESCAPE_STREAM_TOO_MANY_ROWS {
+		return ErrOption
 	}
 	return fmt.Errorf("escapestream: status %d", status)
 }

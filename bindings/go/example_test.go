@@ -28,6 +28,17 @@ func ExampleNewReader() {
 	// Output: ab
 }
 
+func ExampleSanitize() {
+	log := []byte("one\x1b]0;a title\ntwo\x1b[31m three\n")
+	options := escapestream.SanitizerOptions{}
+	text, account, err := escapestream.Sanitize(log, escapestream.Text, options)
+	fmt.Printf("%q %v\n", text, err)
+	fmt.Println(account.Length, account.Passed, account.Swallowed, account.LeftOut)
+	// Output:
+	// "one\ntwo three\n" <nil>
+	// 30 13 12 5
+}
+
 func ExampleToHTML() {
 	page, _ := escapestream.ToHTML([]byte("\x1b[1m<b>\x1b[m"), escapestream.HTMLOptions{})
 	fmt.Println(string(page))

@@ -7,7 +7,7 @@ import "io"
 // A Reader reads the actions that a policy admits of the stream of another reader.
 type Reader struct {
 	from  io.Reader
-	f     *filter
+	f     inChunks
 	chunk []byte
 	text  []byte // what the last chunks added
 	due   []byte // the end of it, which is not read yet

@@ -8,7 +8,7 @@ import "io"
 // written to it.
 type Writer struct {
 	to  io.Writer
-	f   *filter
+	f   inChunks
 	err error
 }
 
