@@ -1,54 +1,67 @@
 #!/usr/bin/env python3
 # SPDX-License-Identifier: MIT
-"""Filters a folder of recordings with several workers, and counts what they hold, by Dask.
+"""Filters a folder of logs and recordings with several workers, and says what became of their
+bytes, by Dask.
 
   filter_folder.py [--policy text|color|screen|all] [--workers N] FOLDER OUT
 
-Of each file of FOLDER it writes to OUT, under the same name, what the policy admits, as `escfilter
---whole` does, and it prints for each how many bytes were written of how many, and how many controls
-and sequences of each name it had. A file is a task, in a process of its own; `--scheduler ADDRESS`
-sends the tasks to a cluster that runs, whose machines see both folders.
+Of each file of FOLDER it writes to OUT, under the same name, what `escfilter` does by the policy,
+and of a recording of asciinema, whose name ends in .cast, what `escfilter --cast` does. It prints a
+table: for each file, and for all, how many bytes had each fate. A file is a task, in a process of
+its own. If a worker dies, another does its tasks again; a file stands in OUT once it is whole.
+`--scheduler ADDRESS` sends the tasks to a cluster that runs, whose machines see both folders.
 """
 
 import argparse
+import json
+import os
 import sys
-from collections import Counter
+from dataclasses import astuple, fields
 from pathlib import Path
-from typing import Any
+from typing import IO, Any
 
 from dask.distributed import Client
 
-import escape_stream
-from escape_stream import Control, Csi, Escape, Filter, Policy
+from escape_stream import Account, Policy, Sanitizer
 
 CHUNK = 1 << 20
+FATES = [it.name for it in fields(Account)]
 
 
-def name_of(event: escape_stream.Event) -> str | None:
-    """Returns what an event is counted under: the name of its function, or else its kind; text and
-    data are not counted."""
-    if isinstance(event, Csi | Escape | Control):
-        function = escape_stream.function(event)
-        return function.name if function else type(event).__name__
-    if isinstance(event, escape_stream.Osc):
-        return f"OSC {event.parts[0].decode('ascii', 'replace')}"
-    return (
-        None if isinstance(event, escape_stream.Text | escape_stream.Data) else type(event).__name__
-    )
+def sanitize_log(read: IO[bytes], write: IO[bytes], log: Sanitizer) -> None:
+    while chunk := read.read(CHUNK):
+        write.write(log.feed(chunk))
+    write.write(log.finish())
 
 
-def filter_file(source: str, target: str, policy: int) -> tuple[int, int, Counter[str]]:
-    """Filters a file, and returns its size, how much passed, and the counts of what it holds."""
-    size = passed = 0
-    counts: Counter[str] = Counter()
-    parser = escape_stream.Parser()
-    with open(source, "rb") as read, open(target, "wb") as write, Filter(Policy(policy)) as kept:
-        while chunk := read.read(CHUNK):
-            size += len(chunk)
-            passed += write.write(kept.feed(chunk))
-            counts.update(name for event in parser.feed(chunk) if (name := name_of(event)))
-        passed += write.write(kept.finish())
-    return size, passed, counts
+def sanitize_recording(read: IO[bytes], write: IO[bytes], log: Sanitizer) -> None:
+    """Each event of output has the text that is added for it; comments and empty lines go."""
+
+    def put(value: Any) -> None:
+        write.write(json.dumps(value).encode() + b"\n")
+
+    header, last = json.loads(read.readline()), 0
+    put(header)
+    for line in read:
+        if line.strip() and not line.startswith(b"#"):
+            time, kind, text = json.loads(line)
+            if kind == "o":
+                text, last = log.feed(text.encode(errors="replace")).decode(), time
+            put([time, kind, text])
+    if end := log.finish().decode():
+        # (version 3 counts each time from the event before)
+        put([last if header["version"] == 2 else 0, "o", end])
+
+
+def sanitize_file(source: str, target: str, policy: int) -> Account:
+    """Filters a file, and returns the account of its bytes."""
+    work = sanitize_recording if source.endswith(".cast") else sanitize_log
+    part = f"{target}.{os.getpid()}.part"
+    with open(source, "rb") as read, open(part, "wb") as write, Sanitizer(Policy(policy)) as log:
+        work(read, write, log)
+        account = log.account()
+    os.replace(part, target)
+    return account
 
 
 def main() -> None:
@@ -71,14 +84,12 @@ def main() -> None:
     connect: Any = Client
     with connect(**where) as client:
         tasks = [
-            client.submit(filter_file, str(it), str(given.out / it.name), policy) for it in files
+            client.submit(sanitize_file, str(it), str(given.out / it.name), policy) for it in files
         ]
-        total: Counter[str] = Counter()
-        for file, (size, passed, counts) in zip(files, client.gather(tasks)):
-            print(f"{file.name}: {passed} of {size} bytes")
-            total += counts
-    for name, count in sorted(total.items()):
-        print(f"{count:9} {name}")
+        rows = [astuple(it) for it in client.gather(tasks)]
+    print(" ".join(f"{it:>11}" for it in FATES))
+    for name, row in zip([it.name for it in files] + ["all"], [*rows, map(sum, zip(*rows))]):
+        print(" ".join(f"{it:11}" for it in row), name)
 
 
 if __name__ == "__main__":
