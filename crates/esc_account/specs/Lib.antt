@@ -14,3 +14,4 @@ pub mod Brief
 pub mod Short
 pub mod Weighings
 pub mod Briefs
+pub mod Rows
