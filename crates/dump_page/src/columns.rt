@@ -24,8 +24,8 @@ impl Columns {
     }
 
     /// How many columns this character takes, which comes next. None is one that is not written as
-    /// itself: it is not shown, looks like a space, or belongs to no writing at all; or it is a
-    /// mark, which takes no column, after no character or too many marks.
+    /// itself: it is not shown, looks like a space, or belongs to no writing at all, as one for
+    /// private use; or it is a mark, which takes no column, after no character or too many marks.
     pub fn of(&mut self, c: char) -> Option<usize>
         ensures { IfSome result (λ _. is_shown c ≡ true) }
     {
@@ -47,11 +47,11 @@ impl Columns {
     }
 }
 
-// How many columns a character takes; none, where it looks like a space or is a noncharacter.
+// How many columns a character takes; none, where it looks like a space, or has no meaning.
 fn width_of(c: char) -> Option<usize> {
     match c as u32 {
         0x20..=0x7e => Some(1),
-        code if is_space(code) || is_noncharacter(code) => None,
+        code if is_space(code) || is_noncharacter(code) || is_private(code) => None,
         _ => c.width(),
     }
 }
@@ -70,5 +70,14 @@ pub fn is_noncharacter(code: u32) -> bool {
     match code {
         0xfdd0..=0xfdef => true,
         _ => code % 0x10000 >= 0xfffe,
+    }
+}
+
+/// Whether a character is for private use, and a font alone says what it looks like (Unicode,
+/// 23.5).
+pub fn is_private(code: u32) -> bool {
+    match code {
+        0xe000..=0xf8ff | 0xf0000..=0xffffd | 0x100000..=0x10fffd => true,
+        _ => false,
     }
 }

@@ -1,7 +1,7 @@
 //! Characters that deceive: those that have no width, break lines, change the direction of text,
-//! look like a space, or sit on nothing.
+//! look like a space, have no meaning, or sit on nothing.
 
-use crate::columns::{is_noncharacter, is_space};
+use crate::columns::{is_noncharacter, is_private, is_space};
 use crate::phrase::Phrase;
 use std::alloc::Global;
 use unicode_visibility::is_deceiving;
@@ -43,6 +43,7 @@ no-break space
 Braille pattern without dots
 space
 noncharacter
+private-use character
 mark";
 
 // How often the characters of a row came, and the first of them.
@@ -183,7 +184,8 @@ fn row_of(c: char) -> usize {
         0x2800 => 31,
         code if is_space(code) => 32,
         code if is_noncharacter(code) => 33,
+        code if is_private(code) => 34,
         _ if is_deceiving(c) => 29,
-        _ => 34,
+        _ => 35,
     }
 }
