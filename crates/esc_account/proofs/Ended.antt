@@ -63,7 +63,7 @@ same_break : (f y : List ℕ) (b : ℕ) (t u : List ℕ) → is_broken_before f 
 same_break f [] b t u h = h
 same_break f (c ∷ y) b t u h = h
 
-pieces_rung : (ps : List OscUnit) (b : ℕ) (t u : List ℕ) → AreOscUnits ps (b ∷ t)
+pub pieces_rung : (ps : List OscUnit) (b : ℕ) (t u : List ℕ) → AreOscUnits ps (b ∷ t)
     → AreOscUnits ps (b ∷ u)
 pieces_rung [] b t u h = tt
 pieces_rung (One c ∷ ps) b t u (h, r) = (h, pieces_rung ps b t u r)

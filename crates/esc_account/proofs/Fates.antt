@@ -14,7 +14,7 @@ use Rattle.esc_account.specs.declared.fate.Fate.{Fate}
 use Rattle.esc_account.specs.declared.fate.Fate.TheVariants as fates
 use Rattle.esc_account.specs.declared.verdict.Verdict.{Verdict}
 
-abbrev verdict_of : Fate → Option ℕ → Verdict
+abbrev pub verdict_of : Fate → Option ℕ → Verdict
 verdict_of f b = record { fate = f; before = b }
 
 -- of the same kind, bytes and values

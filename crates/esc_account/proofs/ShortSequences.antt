@@ -18,11 +18,11 @@ use Rattle.esc_frame.proofs.Emits.SequencesSay.{body_of, body_strip}
 use Rattle.esc_segments.specs.Items.{kind_of}
 use Rattle.esc_segments.specs.declared.kind.SegmentKind.TheVariants as kinds
 
-abbrev first_of : List ℕ → ℕ
+abbrev pub first_of : List ℕ → ℕ
 first_of [] = 0
 first_of (b ∷ s) = b
 
-abbrev rest_of : List ℕ → List ℕ
+abbrev pub rest_of : List ℕ → List ℕ
 rest_of [] = []
 rest_of (b ∷ s) = s
 
@@ -30,7 +30,7 @@ none_after : (b : ℕ) (x : List ℕ) → [] ≡ x ++ b ∷ [] → ⊥
 none_after b [] e = absurd cc
 none_after b (c ∷ x) e = absurd cc
 
-last_same : (x y : List ℕ) (a b : ℕ) → x ++ a ∷ [] ≡ y ++ b ∷ [] → (x ≡ y) × (a ≡ b)
+pub last_same : (x y : List ℕ) (a b : ℕ) → x ++ a ∷ [] ≡ y ++ b ∷ [] → (x ≡ y) × (a ≡ b)
 last_same [] [] a b e = (refl, ap first_of e)
 last_same [] (c ∷ y) a b e = absurd (none_after b y (ap rest_of e))
 last_same (c ∷ x) [] a b e = absurd (none_after a x (sym (ap rest_of e)))
@@ -51,13 +51,13 @@ quiet : (b : ℕ) → is_body_byte b ≡ true → is_c0 (class_of b) ≡ false
 unfolding class_of
 quiet b h = grind (arith, nat_tests)
 
-no_executes : (x : List ℕ) → list_all is_body_byte x ≡ true → executes x ≡ []
+pub no_executes : (x : List ℕ) → list_all is_body_byte x ≡ true → executes x ≡ []
 no_executes [] h = refl
 no_executes (b ∷ x) h =
     let q = and_parts (is_body_byte b) (list_all is_body_byte x) h in
     rw (quiet b q.0) (no_executes x q.1)
 
-one_event : (x : List ℕ) (f : ℕ) (t : Bool) → t ≡ true
+pub one_event : (x : List ℕ) (f : ℕ) (t : Bool) → t ≡ true
     → (if t then csi_event x f ∷ [] else []) ≡ csi_event x f ∷ []
 one_event x f true e = refl
 one_event x f false e = absurd cc
@@ -74,6 +74,43 @@ told items x body a f finished short (same, last) =
     event ∙ ap (λ m. CsiDispatch (kept_csi_params x) m a ∷ []) (sym own.more)
     ∙ ap (λ es. CsiDispatch es false a ∷ []) (sym own.kept)
     ∙ ap (λ c. CsiDispatch items false c ∷ []) last
+
+same_shape : (x body : List ℕ) (a f : ℕ) → (x ≡ body) × (a ≡ f)
+    → Csi (Long []) x a ≡ Csi (Long []) body f
+same_shape x body a f (same, last) =
+    ap (λ y. Csi (Long []) y a) same ∙ ap (Csi (Long []) body) last
+
+-- such bytes are no other segment
+pub shape_is : (body : List ℕ) (f : ℕ) (g : Shape) (after : List ℕ) → HasShape g after
+    → kind_of g ≡ kinds.Csi → bytes_of g ≡ 0x1b ∷ 0x5b ∷ (body ++ f ∷ [])
+    → g ≡ Csi (Long []) body f
+shape_is body f (Csi (Long []) x a) after h k e =
+    same_shape x body a f (last_same x body a f (ap (λ s. rest_of (rest_of s)) e))
+shape_is body f (Csi (Long (n ∷ ns)) x a) after h k e =
+    absurd (not_long n ns h.0 (ap (λ s. first_of (rest_of s)) e))
+shape_is body f (Csi Raw x a) after h k e = absurd (no (ap first_of e))
+  where
+    no : ◌≡◌ {A = ℕ} 0x9b 0x1b → ⊥
+    no q = omega (arith, q)
+shape_is body f (Csi Pair x a) after h k e = absurd (no (ap first_of e))
+  where
+    no : ◌≡◌ {A = ℕ} 0xc2 0x1b → ⊥
+    no q = omega (arith, q)
+shape_is body f (Character b) after h k e = absurd cc
+shape_is body f (Wide x) after h k e = absurd cc
+shape_is body f (Broken x) after h k e = absurd cc
+shape_is body f (Stray b) after h k e = absurd cc
+shape_is body f (Control b) after h k e = absurd cc
+shape_is body f (HighControl p b) after h k e = absurd cc
+shape_is body f (Terminator p b) after h k e = absurd cc
+shape_is body f (Escape x a) after h k e = absurd cc
+shape_is body f (Osc o ps end) after h k e = absurd cc
+shape_is body f (Dcs o x a d) after h k e = absurd cc
+shape_is body f (Apc o d) after h k e = absurd cc
+shape_is body f (Ignored j o d) after h k e = absurd cc
+shape_is body f (CutEscape x) after h k e = absurd cc
+shape_is body f (CutCsi o x) after h k e = absurd cc
+shape_is body f (CutDcs o x) after h k e = absurd cc
 
 pub short_events : (items : List CsiParam) (body : List ℕ) (f : ℕ) (g : Shape) (finished : Bool)
     (after : List ℕ) → HasShape g after → kind_of g ≡ kinds.Csi
@@ -110,7 +147,7 @@ short_events items body f (CutDcs o x) finished after h k e short = absurd cc
 
 -- ---- its bytes in parts
 
-all_taken : (n : ℕ) (x : List ℕ) → length x ≤ n → take n x ≡ x
+pub all_taken : (n : ℕ) (x : List ℕ) → length x ≤ n → take n x ≡ x
 all_taken zero [] h = refl
 all_taken zero (b ∷ x) h = absurd (omega (arith, h))
 all_taken (suc n) [] h = refl

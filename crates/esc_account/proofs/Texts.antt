@@ -19,6 +19,7 @@ use Rattle.esc_actions.specs.ControlCodes.{code_of}
 use Rattle.esc_actions.specs.Texts.{list_text}
 use Rattle.esc_actions.specs.Values.{Value, control, print}
 use Rattle.esc_actions.specs.declared.control_code.ControlCode.TheVariants as code
+use Rattle.esc_filter.specs.Rules.{is_shown, is_text}
 use Rattle.esc_filter.specs.declared.guard.Guard.{Guard}
 use Rattle.esc_account.specs.Accounts.{Rule}
 use Rattle.esc_account.specs.Passing.{AllPass, IsPassing, passed_as, says}
@@ -45,6 +46,19 @@ pub last_taken : (o : Option ℕ) (n : ℕ) (x : List ℕ) → n < length x
 last_taken o n [] few = absurd (omega (arith, few))
 last_taken o zero (b ∷ x) few = refl
 last_taken o (suc n) (b ∷ x) few = last_taken (Some b) n x (omega (arith, few))
+
+-- ---- what a policy is known to admit
+
+shown : (b : ℕ) → is_data_byte b ≡ true → is_shown b ≡ true
+shown b h = grind (arith, nat_tests)
+
+pub known_admits : {A : Type 0} (admits : Value A → Bool)
+    → ((v : Value A) → is_text v ≡ true → admits v ≡ true) → (x : List ℕ)
+    → list_all is_data_byte x ≡ true → list_all (λ c. admits (print c)) x ≡ true
+known_admits admits known [] h = refl
+known_admits admits known (b ∷ x) h =
+    let p = and_parts (is_data_byte b) (list_all is_data_byte x) h in
+    rw (known (print b) (shown b p.0), known_admits admits known x p.1) refl
 
 -- ---- one
 

@@ -5,6 +5,7 @@ pub mod Ways
 pub mod Ledgers
 pub mod Finished
 pub mod Passing
+pub mod AtOnce
 pub mod Wholes
 pub mod Rules
 pub mod Judges

@@ -7,11 +7,27 @@ ghost use Rattle.esc_segments.specs.Items.{IsHead};
 ghost use Rattle.esc_account.specs.Finished.{IsLast};
 ghost use Rattle.esc_account.specs.LineEnds.{ends_so, is_return_feed};
 
+use crate::at_once::segment_at_once;
 use esc_frame::laws;
 use esc_segments::{Segment, Segments};
 
 /// The first segment of the bytes, or none where there are no bytes.
 pub(crate) fn first_segment(bytes: &[u8]) -> Option<Segment<'_>>
+    ensures first { (gs : List Shape) → IsCut bytes.now gs → MatchOption result (gs ≡ [])
+        (λ x. IsHead bytes.now gs x (drop (length x.bytes.now) bytes.now)) }
+    ensures some { IfSome result (λ x. (0 < length x.bytes.now)
+        × (length x.bytes.now ≤ length bytes.now)) }
+{
+    laws::has_cut();
+    laws::one_cut();
+    match segment_at_once(bytes) {
+        Some(segment) => Some(segment),
+        None => any_segment(bytes),
+    }
+}
+
+// The same, however it is spelled.
+fn any_segment(bytes: &[u8]) -> Option<Segment<'_>>
     ensures first { (gs : List Shape) → IsCut bytes.now gs → MatchOption result (gs ≡ [])
         (λ x. IsHead bytes.now gs x (drop (length x.bytes.now) bytes.now)) }
     ensures some { IfSome result (λ x. (0 < length x.bytes.now)

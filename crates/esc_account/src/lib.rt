@@ -16,10 +16,12 @@
 #![tactic(auto)]
 
 pub mod account;
+mod at_once;
 pub mod audience;
 pub mod audited;
 pub mod book;
 mod brief;
+mod command;
 pub mod entry;
 pub mod fate;
 mod feeds;

@@ -16,6 +16,7 @@ ghost use Rattle.esc_filter.specs.Passing.{is_line_feed};
 ghost use Rattle.esc_account.specs.Rules.{before_next, drops, drops_returns, is_dropped, is_replaced, is_shown, is_written, last_instead, last_return, rule_of, shows, shows_returns, spelling_of};
 ghost use Rattle.esc_account.specs.Weighed.{fate_by, unweighed, weighed_all};
 
+use crate::command::{command_verdict, is_left_end};
 use crate::fate::Fate;
 use crate::judge::Judge;
 use crate::reading::{is_short, parse_into, segment_text, split_into};
@@ -85,7 +86,7 @@ impl<P: Admit<A>, A: Allocator + Copy> Judge<A> for PolicyJudge<P, A> {
     fn verdict(&self, before: Option<char>, segment: Segment<'_>) -> Result<Verdict, AllocError> {
         match sequence_verdict(&self.policy, self.limit, before, segment) {
             Some(verdict) => Ok(verdict),
-            None => self.any_verdict(before, segment),
+            None => self.other_verdict(before, segment),
         }
     }
 
@@ -95,6 +96,32 @@ impl<P: Admit<A>, A: Allocator + Copy> Judge<A> for PolicyJudge<P, A> {
 }
 
 impl<P: Admit<A>, A: Allocator + Copy> PolicyJudge<P, A> {
+    // The verdict on a segment that is no control sequence which the policy knows. It is out of the
+    // way of the code for these.
+    #[inline(never)]
+    fn other_verdict(
+        &self,
+        before: Option<char>,
+        segment: Segment<'_>,
+    ) -> Result<Verdict, AllocError>
+        ensures given { (g : Shape) (gs : List Shape) → AreSegments (g ∷ gs)
+            → IsItem segment.entry g (joined_bytes gs) → IfOk result (λ v. v
+            ≡ rule_of self.now.by_lines self.now.guard self.now.limit
+            (P.admits self.now.policy) before g (is_finished g (joined_bytes gs))) }
+        ensures refused { OnErr result (Refused A) }
+    {
+        if is_left_end(&self.policy, segment) {
+            return Ok(Verdict {
+                fate: Fate::LeftOut,
+                before,
+            });
+        }
+        match command_verdict(&self.policy, self.limit, before, segment) {
+            Some(verdict) => Ok(verdict),
+            None => self.any_verdict(before, segment),
+        }
+    }
+
     // The verdict on any segment, by its actions.
     fn any_verdict(&self, before: Option<char>, segment: Segment<'_>) -> Result<Verdict, AllocError>
         ensures given { (g : Shape) (gs : List Shape) → AreSegments (g ∷ gs)

@@ -55,8 +55,25 @@ pub(crate) fn split_into<A: Allocator + Copy, S: Sink<Action<A>> + Drop>(
     }
 }
 
-// Gives an actor the events of a segment: that of a short control sequence at once.
+// Gives an actor the events of a segment.
 fn give_events<A: Allocator + Copy, V: VTActor>(
+    alloc: A,
+    segment: Segment<'_>,
+    actor: &mut V,
+) -> Result<(), AllocError>
+    requires { V.is_ready actor.old }
+    ensures { (g : Shape) (after : List ℕ) → HasShape g after → IsItem segment.entry g after
+        → OnOk result (FoldsTo V.takes actor.old (events_of g segment.entry.finished) actor.new) }
+{
+    if is_csi(segment.kind) {
+        give_sequence(alloc, segment, actor)
+    } else {
+        segment_events(alloc, &segment, actor)
+    }
+}
+
+// The same of a control sequence: that of a short one at once.
+fn give_sequence<A: Allocator + Copy, V: VTActor>(
     alloc: A,
     segment: Segment<'_>,
     actor: &mut V,
@@ -92,7 +109,7 @@ pub(crate) fn short_final(params: &mut Short, segment: Segment<'_>) -> Option<u8
     }
 }
 
-fn is_csi(kind: SegmentKind) -> bool
+pub(crate) fn is_csi(kind: SegmentKind) -> bool
     ensures { IsTrue result → kind ≡ kinds.Csi }
 {
     matches!(kind, SegmentKind::Csi)

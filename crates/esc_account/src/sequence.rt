@@ -1,7 +1,7 @@
 //! Control sequences that a policy judges by their parameters.
 #![tactic(auto)]
 
-ghost use Rattle.std.specs.Prelude.{◌≡◌, ◌==◌, ◌∷◌, ◌++◌, Bool, IfSome, IsTrue, List, None, false, map};
+ghost use Rattle.std.specs.Prelude.{◌≡◌, ◌==◌, ◌∷◌, ◌++◌, Bool, IfSome, IsTrue, List, None, Option, false, map, ℕ};
 ghost use Rattle.esc_frame.specs.Segments.{AreSegments, Segment as Shape, is_finished, joined_bytes};
 ghost use Rattle.esc_sequences.specs.Csis.{csi_of, csi_text, unspecified};
 ghost use Rattle.esc_segments.specs.Items.{IsItem};
@@ -9,12 +9,15 @@ ghost use Rattle.esc_segments.specs.declared.kind.SegmentKind.TheVariants as kin
 ghost use Rattle.esc_actions.specs.Values.{csi};
 ghost use Rattle.esc_filter.specs.declared.guard.Guard.{Guard};
 ghost use Rattle.esc_write.specs.Plain.{IsPlain, indexed_text, last_text};
+ghost use Rattle.esc_account.specs.AtOnce.{IsOther};
 ghost use Rattle.esc_account.specs.Passing.{passed_as};
 ghost use Rattle.esc_account.specs.Rules.{left_as, rule_of, verdict_on};
 
 use crate::account::is_same;
+use crate::at_once::sequence_end;
 use crate::fate::Fate;
-use crate::reading::{is_short, short_final};
+use crate::first::after;
+use crate::reading::{is_csi, is_short, short_final};
 use crate::verdict::Verdict;
 use esc_filter::Admit;
 use esc_frame::unfinished::short::Short;
@@ -36,6 +39,15 @@ pub(crate) fn sequence_verdict<P: Admit<A>, A: Allocator>(
         → IsItem segment.entry g (joined_bytes gs) → IfSome result (λ v. v
         ≡ rule_of lined u limit (P.admits policy.now) before g (is_finished g (joined_bytes gs))) }
 {
+    if !is_csi(segment.kind) {
+        return None;
+    }
+    if is_left(policy, segment) {
+        return Some(Verdict {
+            fate: Fate::LeftOut,
+            before,
+        });
+    }
     if !is_short(limit, segment) {
         return None;
     }
@@ -44,6 +56,43 @@ pub(crate) fn sequence_verdict<P: Admit<A>, A: Allocator>(
         Some(last) => known_verdict(policy, before, segment.bytes, params.as_slice(), last),
         None => None,
     }
+}
+
+// Whether it is no rendition, and the policy lets none pass but renditions.
+fn is_left<P: Admit<A>, A: Allocator>(policy: &P, segment: Segment<'_>) -> bool
+    ensures { IsTrue result → (lined : Bool) (u : Guard) (limit : ℕ) (b : Option ℕ) (g : Shape)
+        (gs : List Shape) → AreSegments (g ∷ gs) → IsItem segment.entry g (joined_bytes gs)
+        → left_as b
+        ≡ rule_of lined u limit (P.admits policy.now) b g (is_finished g (joined_bytes gs)) }
+{
+    if !policy.known().no_functions {
+        return false;
+    }
+    if !is_csi(segment.kind) {
+        return false;
+    }
+    is_other(segment.bytes)
+}
+
+// Whether the bytes are `ESC [`, the body of a control sequence without noise, and another final
+// byte than `m`.
+fn is_other(bytes: &[u8]) -> bool
+    ensures { IsTrue result → IsOther bytes.now }
+{
+    if bytes.len() < 3 || bytes[0] != 0x1b || bytes[1] != b'[' {
+        return false;
+    }
+    let (end, last) = sequence_end(after(bytes, 2));
+    if is_rendition(last) {
+        return false;
+    }
+    end == bytes.len() - 2
+}
+
+fn is_rendition(last: u8) -> bool
+    ensures { result ≡ (last == 0x6d) }
+{
+    last == b'm'
 }
 
 // The same of one with these bytes, parameters and final byte.

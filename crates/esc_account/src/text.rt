@@ -1,9 +1,9 @@
 //! Text that a policy lets pass, at once.
 #![tactic(auto)]
 
-ghost use Rattle.std.specs.Prelude.{◌≡◌, ◌≤◌, ◌<◌, ◌==◌, if◌then◌else◌, ℕ, Bool, None, length, take, true};
+ghost use Rattle.std.specs.Prelude.{◌≡◌, ◌≤◌, ◌<◌, ◌==◌, if◌then◌else◌, ℕ, Bool, IsTrue, None, length, take, true};
 ghost use Rattle.std.specs.List.{list_all};
-ghost use Rattle.esc_actions.specs.Values.{control};
+ghost use Rattle.esc_actions.specs.Values.{control, print};
 ghost use Rattle.esc_frame.specs.Machine.Characters.{IsAhead};
 ghost use Rattle.esc_frame.specs.Scans.{is_data_byte};
 ghost use Rattle.esc_filter.specs.declared.guard.Guard.{Guard};
@@ -58,11 +58,23 @@ fn run_ahead<P: Admit<A>, A: Allocator>(
     if run == 0 {
         return single_ahead(policy, before, bytes);
     }
-    if policy.admits_text(&bytes[..run]) {
+    if admits_run(policy, &bytes[..run]) {
         (run, Some(bytes[run - 1] as char))
     } else {
         (0, before)
     }
+}
+
+// Whether the policy admits each of these bytes 20 to 7E.
+#[inline]
+fn admits_run<P: Admit<A>, A: Allocator>(policy: &P, text: &[u8]) -> bool
+    requires { list_all is_data_byte text.now ≡ true }
+    ensures { IsTrue result → list_all (λ c. P.admits policy.now (print c)) text.now ≡ true }
+{
+    if policy.known().text {
+        return true;
+    }
+    policy.admits_text(text)
 }
 
 // The same of a tab, a line feed or a character of more bytes.
@@ -83,6 +95,9 @@ fn single_ahead<P: Admit<A>, A: Allocator>(
     }
     if bytes[0] == 0x0a {
         return control_ahead(policy, before, ControlCode::LineFeed);
+    }
+    if bytes[0] < 0xc2 {
+        return (0, before);
     }
     wide_ahead(policy, before, bytes)
 }

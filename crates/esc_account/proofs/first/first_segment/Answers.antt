@@ -1,13 +1,10 @@
-use Rattle.std.proofs.Common.{◌<◌, ◌≤◌, IfSome, length, subst}
-use Rattle.esc_segments.specs.Items.{left_bytes}
-use Rattle.esc_account.proofs.LineRuns.{first_some}
+use Rattle.esc_account.proofs.Seen.{head_seen, seen_few}
 use Rattle.esc_account.proofs.first.first_segment.Goals as goal
 
-pub returns-clause-some : goal.returns-clause-some
-returns-clause-some c =
-    let s = left_bytes c.new-segments.result in
-    let k = c.has_cut.ensures s in
-    subst (λ v. IfSome c.next.result
-    (λ x. (0 < length x.bytes.now) × (length x.bytes.now ≤ length v))) c.new-segments.ensures
-    (first_some _ _ s (left_bytes c.next.new.self) k.0 c.next.result (c.next.ensures.steps k.0 k.1)
-    (c.next.ensures.goes.on tt))
+pub returns-in-Some-clause-first : goal.returns-in-Some-clause-first
+returns-in-Some-clause-first c = λ gs cut.
+    head_seen c.has_cut.ensures c.one_cut.ensures c.args.bytes.now c.in-Some.segment
+    c.in-Some.ensures gs cut
+
+pub returns-in-Some-clause-some : goal.returns-in-Some-clause-some
+returns-in-Some-clause-some c = seen_few c.args.bytes.now c.in-Some.segment c.in-Some.ensures

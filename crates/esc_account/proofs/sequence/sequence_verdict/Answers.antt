@@ -11,3 +11,7 @@ returns-in-Some g c = λ l u s gs each item.
     c.as_slice.result.now _ _ each item.kind item.bytes item.finished c.in-Some.ensures.csi
     (c.is_short.ensures c.if-not-is_short.false)
     (c.in-Some.ensures.told s (joined_bytes gs) (first_shape s gs each) item) c.as_slice.ensures)
+
+pub returns-then-is_left : goal.returns-then-is_left
+returns-then-is_left g c = λ l u s gs each item.
+    c.is_left.ensures c.if-is_left.true l u c.args.limit c.args.before s gs each item

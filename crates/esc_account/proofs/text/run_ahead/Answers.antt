@@ -4,8 +4,8 @@ use Rattle.esc_account.specs.Rules.{rule_of}
 use Rattle.esc_account.proofs.Texts.{data_passes, last_byte, last_taken, none_pass}
 use Rattle.esc_account.proofs.text.run_ahead.Goals as goal
 
-pub returns-then-admits_text-clause-pass : goal.returns-then-admits_text-clause-pass
-returns-then-admits_text-clause-pass g c = λ by_lines u limit.
+pub returns-then-admits_run-clause-pass : goal.returns-then-admits_run-clause-pass
+returns-then-admits_run-clause-pass g c = λ by_lines u limit.
     let admits = g.P.Admit.admits c.args.policy.now in
     let s = c.args.bytes.now in
     let b = c.args.before in
@@ -15,8 +15,8 @@ returns-then-admits_text-clause-pass g c = λ by_lines u limit.
     (subst (λ k. last_byte b (take k s) ≡ Some (get_or s (n - 1) 0)) whole
     (last_taken b (n - 1) s (omega (arith, c.if-run-eq0.false, c.data_ahead-run.ensures.few))))
     (data_passes by_lines u limit admits b (take n s) c.data_ahead-run.ensures.data
-    (c.admits_text.ensures c.if-admits_text.true))
+    (c.admits_run.ensures c.if-admits_run.true))
 
-pub returns-else-admits_text-clause-pass : goal.returns-else-admits_text-clause-pass
-returns-else-admits_text-clause-pass g c = λ by_lines u limit.
+pub returns-else-admits_run-clause-pass : goal.returns-else-admits_run-clause-pass
+returns-else-admits_run-clause-pass g c = λ by_lines u limit.
     none_pass (rule_of by_lines u limit (g.P.Admit.admits c.args.policy.now)) c.args.before

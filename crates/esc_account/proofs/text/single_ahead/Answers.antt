@@ -35,3 +35,7 @@ returns-then-bytes-eq10-clause-pass g c = λ by_lines u limit.
     (one_ahead r b n s 0x0a c.control_ahead-then-bytes-eq10.ensures.few (grind (arith, some)) first
     (λ is. feed_passes by_lines u limit admits
     (c.control_ahead-then-bytes-eq10.ensures.admits is) b))
+
+pub returns-then-bytes-lt194-clause-pass : goal.returns-then-bytes-lt194-clause-pass
+returns-then-bytes-lt194-clause-pass g c = λ by_lines u limit.
+    none_pass (rule_of by_lines u limit (g.P.Admit.admits c.args.policy.now)) c.args.before
