@@ -53,6 +53,12 @@ account_of auditors.Nobody = None
 account_of (auditors.Lines k) = Some k.account
 account_of (auditors.Whole k) = Some k.account
 
+-- the book that was given the entries of it
+abbrev pub book_of : {P B A : Type 0} → Auditor P B A → Option B
+book_of auditors.Nobody = None
+book_of (auditors.Lines k) = Some k.book
+book_of (auditors.Whole k) = Some k.book
+
 -- of no byte where it keeps none
 abbrev pub account_or_none : Option Account → Account
 account_or_none None = begun

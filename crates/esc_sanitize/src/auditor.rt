@@ -1,5 +1,5 @@
 //! Whoever keeps the account of a stream, where there is one.
-ghost use Rattle.std.specs.Prelude.{◌≡◌, MatchOption, None, Some, []};
+ghost use Rattle.std.specs.Prelude.{◌≡◌, IfSome, MatchOption, None, Some, []};
 
 use crate::judging::Judging;
 use crate::options::FilterOptions;
@@ -19,7 +19,7 @@ pub enum Auditor<P, B, A: Allocator = Global> {
 }
 
 impl<P: Admit<A> + Drop, B: Book<A> + Drop, A: Allocator + Copy> Auditor<P, B, A> {
-    ghost use Rattle.esc_sanitize.specs.Audits.{Heard, account_of, way_by, way_of};
+    ghost use Rattle.esc_sanitize.specs.Audits.{Heard, account_of, book_of, way_by, way_of};
 
     /// Of no byte yet: of a stream that is filtered by these options; what did not pass is written
     /// into this book. Takes no memory.
@@ -41,8 +41,9 @@ impl<P: Admit<A> + Drop, B: Book<A> + Drop, A: Allocator + Copy> Auditor<P, B, A
 
     /// The account, and what did not pass.
     pub fn account(&self) -> Option<(Account, &B)>
-        ensures { MatchOption result (account_of self.now ≡ None)
+        ensures account { MatchOption result (account_of self.now ≡ None)
             (λ r. account_of self.now ≡ Some r.0) }
+        ensures book { IfSome result (λ r. book_of self.now ≡ Some r.1.now) }
     {
         match self {
             Auditor::Nobody => None,

@@ -1,5 +1,7 @@
 //! What becomes of a segment by the options.
 ghost use Rattle.std.specs.Prelude.{◌≡◌, is_some};
+ghost use Rattle.esc_account.specs.Rules.{is_written};
+ghost use Rattle.esc_actions.specs.Values.{value_of};
 ghost use Rattle.esc_sanitize.specs.Fates.{as_itself, before_shown, is_seen, last_shown, shown_as, shown_by};
 
 use crate::options::FilterOptions;
@@ -19,11 +21,14 @@ pub struct Judging<P, A: Allocator = Global> {
 }
 
 impl<P: Admit<A>, A: Allocator + Copy> Judging<P, A> {
+    ghost use Rattle.esc_account.specs.Judges.{GoesBy};
     ghost use Rattle.esc_sanitize.specs.Judged.{judged_rule, rule_by};
 
     /// By these options.
     pub fn new(alloc: A, options: FilterOptions<P>) -> Judging<P, A>
-        ensures { judged_rule P.Admit result ≡ rule_by P.Admit options }
+        ensures rule { judged_rule P.Admit result ≡ rule_by P.Admit options }
+        ensures goes_by { GoesBy result.policy options.by_lines options.guard options.limit
+            options.policy }
     {
         let FilterOptions {
             policy,
@@ -43,7 +48,10 @@ impl<P: Admit<A>, A: Allocator + Copy> Judging<P, A> {
     }
 
     /// Whether something is written of the action.
-    pub fn writes(&self, action: &Action<A>) -> bool {
+    pub fn writes(&self, action: &Action<A>) -> bool
+        ensures { result ≡ is_written self.now.policy.by_lines self.now.policy.guard
+            (P.admits self.now.policy.policy) (value_of action.now) }
+    {
         self.policy.writes(action)
     }
 }

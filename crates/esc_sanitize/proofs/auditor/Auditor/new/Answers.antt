@@ -10,9 +10,9 @@ returns-then-not-options-clause-way g c =
 pub returns-then-by_lines-clause-way : goal.returns-then-by_lines-clause-way
 returns-then-by_lines-clause-way g c =
     way_lines g.P.Admit c.args.options _ c.if-not-options.false c.if-by_lines.true
-    (ap (judged_rule g.P.Admit) c.new.ensures.judge ∙ c.new-judge.ensures)
+    (ap (judged_rule g.P.Admit) c.new.ensures.judge ∙ c.new-judge.ensures.rule)
 
 pub returns-else-by_lines-clause-way : goal.returns-else-by_lines-clause-way
 returns-else-by_lines-clause-way g c =
     way_whole g.P.Admit c.args.options _ c.if-not-options.false c.if-by_lines.false
-    (ap (judged_rule g.P.Admit) c.new-else-by_lines.ensures.judge ∙ c.new-judge.ensures)
+    (ap (judged_rule g.P.Admit) c.new-else-by_lines.ensures.judge ∙ c.new-judge.ensures.rule)
