@@ -1,13 +1,12 @@
 //! Device control strings and images in words.
 
-use crate::device_table::CONTROLS;
 use crate::fields::add_fields;
-use crate::rows::{Row, headed};
 use crate::setting::add_setting;
-use crate::values::{cut, number_in};
+use crate::values::{cut, first_word, number_in};
 use dump_page::{Key, Name, Phrase};
 use esc_sixel::SixelBuilder;
 use std::alloc::AllocError;
+use string_commands::{Begin, Row, StringKind, find};
 
 // A device control string, taken apart: its parameters, its private prefix and intermediates, of
 // which two are kept, its final byte, and its data.
@@ -91,12 +90,8 @@ pub fn add_device(text: &[u8], is_whole: bool, to: &mut Phrase) -> Name {
         add_sixel(parts, to);
         return to.name();
     }
-    for line in CONTROLS.lines() {
-        if let Some(row) = headed(line, parts.key()) {
-            if let Some(rest) = data_rest(row.key, parts) {
-                return add_row(row, parts.params, rest, to);
-            }
-        }
+    if let Some(row) = row_of(parts) {
+        return add_row(row, parts.params, data_rest(row, parts.data), to);
     }
     to.begin_named(Name("DCS", "", Key::Bytes(parts.key)), "without a name");
     add_params(parts.params, to);
@@ -137,35 +132,35 @@ fn dimensions_of(parts: Parts<'_>, to: &Phrase) -> Result<(u32, u32), AllocError
     Ok(image.sixel.dimensions())
 }
 
-// What the data have after what a row asks for: their beginning, or after a `#` parameters.
-fn data_rest<'t>(asked: &'static str, parts: Parts<'t>) -> Option<&'t [u8]> {
-    if let Some(params) = asked.strip_prefix('#') {
-        return if parts.params == params.as_bytes() {
-            Some(parts.data)
-        } else {
-            None
-        };
+// The row of a device control string.
+fn row_of(parts: Parts<'_>) -> Option<Row> {
+    let mut key: u32 = 1;
+    for byte in parts.key() {
+        key = key.wrapping_mul(0x100).wrapping_add(u32::from(*byte));
     }
-    let start = asked.as_bytes();
-    if parts.data.len() < start.len() {
-        return None;
+    match number_in(parts.params) {
+        Some(number) => find(StringKind::Dcs, key, &[number], parts.data),
+        None => find(StringKind::Dcs, key, &[], parts.data),
     }
-    let (found, rest) = parts.data.split_at(start.len());
-    if found == start { Some(rest) } else { None }
+}
+
+// What the data have after what a row begins with.
+fn data_rest(row: Row, data: &[u8]) -> &[u8] {
+    if row.told.begin == Begin::Bytes {
+        &data[row.start.len().min(data.len())..]
+    } else {
+        data
+    }
 }
 
 // Adds a device control string that a row has, and returns its name.
 fn add_row(row: Row, params: &[u8], data: &[u8], to: &mut Phrase) -> Name {
-    let (name, fields) = match row.more.split_once('^') {
-        Some(halves) => halves,
-        None => (row.more, ""),
-    };
-    to.begin("DCS", name, row.words);
+    to.begin("DCS", first_word(row.name), row.said);
     let own = to.name();
-    if fields.is_empty() {
+    if row.params.is_empty() {
         add_params(params, to);
     } else if !params.is_empty() {
-        add_fields(fields, Some(params), to);
+        add_fields(row.params, Some(params), to);
     }
     if !data.is_empty() {
         match row.fields.strip_prefix("S:") {

@@ -2,10 +2,9 @@
 
 use crate::decoded::add_base64;
 use crate::fields::add_fields;
-use crate::osc_table::table_of;
-use crate::rows::find_row;
 use crate::values::{add_pairs, cut};
 use dump_page::{Key, Name, Phrase};
+use string_commands::{Begin, Row, StringKind, find};
 
 // The letter that a text begins with.
 fn letter_of(text: &[u8]) -> Key {
@@ -38,14 +37,8 @@ pub fn add_command(number: Option<u64>, text: &[u8], is_whole: bool, to: &mut Ph
 
 // Adds a command of this number. What it does without a text is said of a whole one.
 fn add_numbered(name: Name, number: u64, rest: Option<&[u8]>, is_whole: bool, to: &mut Phrase) {
-    let mut digits = to.empty();
-    digits.add_digits(number);
-    match find_row(table_of(number), digits.as_str().as_bytes(), rest) {
-        Some((row, _)) if !is_whole && row.key == "-" => to.begin_named(name, ""),
-        Some((row, after)) => {
-            to.begin_named(name, row.words);
-            add_fields(row.fields, after, to);
-        }
+    match row_of(number, rest.unwrap_or(b"")) {
+        Some(row) => add_row(name, row, rest, is_whole, to),
         None => {
             to.begin_named(name, "not known");
             if let Some(rest) = rest {
@@ -53,28 +46,70 @@ fn add_numbered(name: Name, number: u64, rest: Option<&[u8]>, is_whole: bool, to
             }
         }
     }
-    if digits.is_refused() {
-        to.refuse();
+}
+
+// The row of a command of this number.
+fn row_of(number: u64, rest: &[u8]) -> Option<Row> {
+    match u32::try_from(number) {
+        Ok(number) => find(StringKind::Osc, number, &[], rest),
+        Err(_) => None,
+    }
+}
+
+// Adds the command of a row: its words, and the fields that come after what it begins with.
+fn add_row(name: Name, row: Row, rest: Option<&[u8]>, is_whole: bool, to: &mut Phrase) {
+    let fields = fields_after(row, rest);
+    if row.alone.is_empty() || !is_empty(fields) {
+        to.begin_named(name, row.said);
+        add_fields(row.fields, fields, to);
+    } else if is_whole {
+        to.begin_named(name, row.alone);
+    } else {
+        to.begin_named(name, if row.start.is_empty() { "" } else { row.said });
+    }
+}
+
+// What a text has after what a row begins with, and the byte after that.
+fn fields_after(row: Row, rest: Option<&[u8]>) -> Option<&[u8]> {
+    match rest {
+        Some(text) if row.told.begin == Begin::Part => {
+            if row.start.len() < text.len() {
+                Some(&text[row.start.len() + 1..])
+            } else {
+                None
+            }
+        }
+        _ => rest,
+    }
+}
+
+// Whether there is no text.
+fn is_empty(text: Option<&[u8]>) -> bool {
+    match text {
+        Some(text) => text.is_empty(),
+        None => true,
     }
 }
 
 // Commands of Sun's terminals, and of the Linux console, which have no end.
 fn add_lettered(name: Name, letter: u8, text: &[u8], to: &mut Phrase) {
-    let (words, count) = match letter {
-        b'l' => ("window title", 1),
-        b'L' => ("icon name", 1),
-        b'I' => ("icon file", 1),
-        b'P' => (
-            "a colour of the Linux console's palette, seven digits without an end",
-            1,
-        ),
-        b'R' => ("reset the Linux console's palette, without an end", 1),
-        _ => ("without a number", 0),
+    let rest = match text {
+        [_, rest @ ..] => rest,
+        _ => text,
     };
-    to.begin_named(name, words);
-    let rest = &text[text.len().min(count)..];
-    if !rest.is_empty() {
-        to.add_quoted(" ", rest);
+    match find(StringKind::Letter, u32::from(letter), &[], rest) {
+        Some(row) => {
+            to.begin_named(name, row.said);
+            if !rest.is_empty() {
+                add_fields(row.fields, Some(rest), to);
+            }
+        }
+        None => {
+            to.begin_named(name, "without a number");
+            if !text.is_empty() {
+                to.add_quoted(" ", text);
+            }
+        }
     }
 }
 

@@ -15,8 +15,8 @@ pub struct Row {
     pub more: &'static str,
 }
 
-/// The row of these parts after the first.
-pub fn row_of(line: &'static str) -> Option<Row> {
+// The row of these parts after the first.
+fn row_of(line: &'static str) -> Option<Row> {
     let (key, rest) = line.split_once('^')?;
     let (words, rest) = rest.split_once('^')?;
     let (fields, more) = match rest.split_once('^') {
@@ -48,8 +48,8 @@ pub fn find_row<'t>(
     None
 }
 
-/// The row of a line, where it begins with this.
-pub fn headed(line: &'static str, head: &[u8]) -> Option<Row> {
+// The row of a line, where it begins with this.
+fn headed(line: &'static str, head: &[u8]) -> Option<Row> {
     match line.split_once('^') {
         Some((found, rest)) if found.as_bytes() == head => row_of(rest),
         _ => None,

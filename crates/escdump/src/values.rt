@@ -15,6 +15,14 @@ pub fn cut(text: &[u8], byte: u8) -> (&[u8], Option<&[u8]>) {
     (text, None)
 }
 
+/// The first word of a name.
+pub fn first_word(name: &'static str) -> &'static str {
+    match name.split_once(' ') {
+        Some((first, _)) => first,
+        None => name,
+    }
+}
+
 /// The number that a text is in decimal, of at most 18 digits.
 pub fn number_in(text: &[u8]) -> Option<i64> {
     match text {

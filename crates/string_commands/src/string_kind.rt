@@ -1,0 +1,14 @@
+//! Kinds of control strings.
+
+/// What a control string is told apart by.
+#[derive(Clone, Copy, PartialEq, Eq)]
+pub enum StringKind {
+    /// An operating system command that begins with a number.
+    Osc,
+    /// An operating system command that begins with a letter.
+    Letter,
+    /// A device control string, by its private prefix, its intermediates and its final byte.
+    Dcs,
+    /// An application program command, by its first byte.
+    Apc,
+}
