@@ -53,9 +53,16 @@ from escape_stream._sanitizer import (
     Sanitizer,
     Show,
 )
+from escape_stream._strings import (
+    CONTROL_STRINGS,
+    ControlString,
+    control_string,
+    control_string_named,
+)
 from escape_stream._whole import DEFAULT_LIMIT, Policy, filter, is_normal, normal
 
 __all__ = [
+    "CONTROL_STRINGS",
     "DEFAULT_LIMIT",
     "MOST_ROWS",
     "Account",
@@ -65,6 +72,7 @@ __all__ = [
     "Command",
     "CommandKind",
     "Control",
+    "ControlString",
     "Csi",
     "Data",
     "Dcs",
@@ -99,6 +107,8 @@ __all__ = [
     "__version__",
     "actions",
     "command",
+    "control_string",
+    "control_string_named",
     "events",
     "filter",
     "function",

@@ -48,6 +48,7 @@ pub mod apc;
 pub mod borrowed;
 #[cfg(feature = "oneshot")]
 mod chunks;
+mod control_string;
 #[cfg(feature = "oneshot")]
 pub mod dcs;
 #[allow(unsafe_code)]
@@ -81,6 +82,7 @@ mod sanitizer_options;
 #[cfg(feature = "serde")]
 mod serial;
 mod string_end;
+mod string_rows;
 #[cfg(feature = "oneshot")]
 pub mod termwiz;
 pub mod vte;
@@ -89,6 +91,7 @@ mod writer;
 #[cfg(feature = "oneshot")]
 mod written;
 
+pub use control_string::ControlString;
 #[cfg(feature = "oneshot")]
 pub use filter::ChunkFilter;
 pub use function::Effect;
