@@ -18,11 +18,13 @@ pub enum Member {
     Finished,
     /// Whether it is cut.
     Cut,
+    /// The name of what is finished and is not cut, after both.
+    WholeName,
     /// The name.
     Name,
     /// The words.
     Words,
-    /// The fields.
+    /// The fields, of which the list begins.
     Fields,
     /// The bytes, escaped.
     Bytes,
@@ -44,9 +46,10 @@ impl Member {
             Member::Kind => ",\"kind\":",
             Member::Finished => ",\"finished\":",
             Member::Cut => ",\"cut\":",
+            Member::WholeName => ",\"finished\":true,\"cut\":false,\"name\":",
             Member::Name => ",\"name\":",
             Member::Words => ",\"words\":",
-            Member::Fields => ",\"fields\":",
+            Member::Fields => ",\"fields\":[",
             Member::Bytes => ",\"bytes\":",
             Member::Base64 => ",\"base64\":",
         }

@@ -28,6 +28,8 @@ pub struct Phrase {
     name: Name,
     hidden: Hidden,
     columns: usize,
+    // Where the name that was given last begins and ends.
+    begun: usize,
     named: usize,
     room: Room,
     is_refused: bool,
@@ -44,6 +46,7 @@ impl Phrase {
             name: Name("", "", Key::Nothing),
             hidden: Hidden::new(alloc),
             columns: 0,
+            begun: 0,
             named: 0,
             room: Room::ANY,
             is_refused: false,
@@ -52,18 +55,26 @@ impl Phrase {
 
     /// Drops the words, and keeps the memory that they had; from now on no words are added after so
     /// many bytes, and of a text of the stream its first bytes alone.
-    #[tactic(auto, using(crate::proofs::PagesMore::no_page))]
     pub fn restart(&mut self, room: usize) {
+        if !self.text.is_empty() {
+            self.drop_text();
+        }
+        self.name = Name("", "", Key::Nothing);
+        self.hidden.clear();
+        self.columns = 0;
+        self.begun = 0;
+        self.named = 0;
+        self.room = Room::of(room);
+        self.is_refused = false;
+    }
+
+    // Drops the words, and keeps the memory that they had.
+    #[tactic(auto, using(crate::proofs::PagesMore::no_page))]
+    fn drop_text(&mut self) {
         let text = mem::replace(&mut self.text, Text::new(self.alloc));
         let mut string = text.into_string();
         string.clear();
         self.text = Text::from_string(string);
-        self.name = Name("", "", Key::Nothing);
-        self.hidden.clear();
-        self.columns = 0;
-        self.named = 0;
-        self.room = Room::of(room);
-        self.is_refused = false;
     }
 
     /// Says how many bytes of texts of the stream were left out, where any were, or that words
@@ -92,6 +103,12 @@ impl Phrase {
         self.name
     }
 
+    /// The same, as words have it.
+    pub fn name_bytes(&self) -> &[u8] {
+        let bytes = self.text.as_bytes();
+        bytes.get(self.begun..self.named).unwrap_or(b"")
+    }
+
     /// Whether memory was refused, and words are left out.
     pub fn is_refused(&self) -> bool {
         self.is_refused
@@ -113,6 +130,7 @@ impl Phrase {
             self.add("; ");
         }
         self.name = name;
+        self.begun = self.text.len();
         self.add_name(name);
         self.named = self.text.len();
         self.add_word(words);
@@ -305,6 +323,18 @@ impl Phrase {
         }
         if self.room.has_more(self.text.len()) {
             self.append_string(value);
+        }
+    }
+
+    /// Adds a string of JSON that is these bytes, where they are ASCII that comes as it is, and
+    /// returns whether they are.
+    pub fn add_plain_string(&mut self, bytes: &[u8]) -> bool {
+        match plain_text(bytes) {
+            Some(text) => {
+                self.push_quote(text);
+                true
+            }
+            None => false,
         }
     }
 

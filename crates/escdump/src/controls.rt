@@ -25,14 +25,15 @@ pub fn add_controls(counts: &[Count], to: &mut Phrase) {
     }
 }
 
-/// The words of the commonest controls, with their names; nothing of any other.
-pub fn known_words(bytes: &[u8]) -> &'static str {
+/// The bytes and the words of the commonest controls, as a line without colours has them after the
+/// place; nothing of any other.
+pub fn known_columns(bytes: &[u8]) -> &'static str {
     match bytes {
-        b"\n" => "control LF line feed",
-        b"\r" => "control CR carriage return",
-        b"\x08" => "control BS backspace",
-        b"\t" => "control HT tab",
-        b"\x07" => "control BEL bell",
+        b"\n" => "\\x0a                    control LF line feed",
+        b"\r" => "\\x0d                    control CR carriage return",
+        b"\x08" => "\\x08                    control BS backspace",
+        b"\t" => "\\x09                    control HT tab",
+        b"\x07" => "\\x07                    control BEL bell",
         _ => "",
     }
 }

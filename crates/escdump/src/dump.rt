@@ -139,11 +139,22 @@ impl<'n> Dump<'n> {
         }
     }
 
-    // Takes the characters of one byte that come first, and returns what is after them.
+    // Takes the characters of one byte that come first, and the ends of lines between them, and
+    // returns what is after them. What a terminal sends has keys in the place of these ends.
     fn take_shown<'b>(&mut self, bytes: &'b [u8]) -> &'b [u8] {
-        let (shown, rest) = bytes.split_at(shown_run(bytes));
-        if !shown.is_empty() {
-            self.take_piece(SegmentKind::Character, shown);
+        let mut rest = bytes;
+        for _ in 0..u64::MAX {
+            let (shown, after) = rest.split_at(shown_run(rest));
+            if !shown.is_empty() {
+                self.take_piece(SegmentKind::Character, shown);
+            }
+            match after {
+                [end @ (b'\n' | b'\r'), more @ ..] if !self.options.is_input => {
+                    self.take_last(SegmentKind::Control, &[*end]);
+                    rest = more;
+                }
+                _ => return after,
+            }
         }
         rest
     }

@@ -1,7 +1,7 @@
 //! Lines of a run of text or a segment.
 
 use crate::apc_words::add_application;
-use crate::controls::{add_control, known_words};
+use crate::controls::{add_control, known_columns};
 use crate::device_words::add_device;
 use crate::escapes::add_escape;
 use crate::item::Item;
@@ -17,6 +17,9 @@ use dump_page::{Color, Page, Phrase};
 const BYTES: usize = 10;
 
 const WORDS: usize = 34;
+
+// The first place that has more digits than its column.
+const PLACES: u64 = 100_000_000;
 
 const KIND: usize = 17;
 
@@ -116,19 +119,33 @@ fn push_bytes(item: &Item, width: usize, page: &mut Page) {
 // The place, the first bytes, and the words.
 fn add_words(item: &Item, words: &mut Words, is_finished: bool, page: &mut Page) {
     add_place(item, page);
+    let known = columns_of(item, words, page);
+    if !known.is_empty() {
+        return page.words().add(known);
+    }
     add_first(item, page);
     if item.is_text() {
         return add_text(item, words, page);
-    }
-    let known = known_words(item.bytes());
-    if !known.is_empty() && item.kind() == Kind::Control && !words.is_carried {
-        return page.words().add(known);
     }
     add_said(item, words);
     words.phrase.add_left_out();
     words.phrase.add_hidden_names();
     add_state(item, is_finished, &mut words.phrase);
     page.push(&words.phrase);
+}
+
+// The bytes and the words of a common control, where nothing else is in its line, and its place
+// has not more digits than its column.
+fn columns_of(item: &Item, words: &Words, page: &Page) -> &'static str {
+    if item.kind() == Kind::Control
+        && !words.is_carried
+        && !page.is_colored()
+        && item.place < PLACES
+    {
+        known_columns(item.bytes())
+    } else {
+        ""
+    }
 }
 
 // Says whether tmux passes an item on.

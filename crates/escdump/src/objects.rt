@@ -2,10 +2,11 @@
 
 use crate::item::Item;
 use crate::kind::Kind;
+use crate::selection::without_prefix;
 use crate::times::add_seconds;
 use crate::values::cut;
 use crate::words::Words;
-use dump_page::{Member, Name, Page, Phrase};
+use dump_page::{Member, Page, Phrase};
 use std::str;
 
 /// Adds the object of an item with these words, of the file of this name, where it is named.
@@ -27,11 +28,10 @@ pub fn add_object(
         None => object.add_member(Member::Place),
     }
     add_head(item, kind, is_finished, object);
-    add_name(words.name(), &mut words.scratch, object);
+    add_name(words, object);
     if kind != Kind::Text {
         object.add_member(Member::Words);
-        object.add_string("", words.phrase.as_str());
-        add_values(words.phrase.as_str().as_bytes(), object);
+        add_said(words.phrase.as_str(), object);
     }
     if kind == Kind::Csi || kind.is_string() {
         add_fields(kind, item.body(), &mut words.scratch, object);
@@ -40,7 +40,8 @@ pub fn add_object(
     object.add("}");
 }
 
-// Adds the place, the time, the length, the kind, whether it is finished, and whether it is cut.
+// Adds the place, the time, the length, the kind, whether it is finished, whether it is cut, and
+// what comes before the name.
 fn add_head(item: &Item, kind: Kind, is_finished: bool, object: &mut Phrase) {
     object.add_digits(item.place);
     if let Some(time) = item.time {
@@ -52,10 +53,14 @@ fn add_head(item: &Item, kind: Kind, is_finished: bool, object: &mut Phrase) {
     object.add_digits(item.length);
     object.add_member(Member::Kind);
     object.add_string("", kind.word());
+    if is_finished && !item.is_cut() {
+        return object.add_member(Member::WholeName);
+    }
     object.add_member(Member::Finished);
     object.add(bool_words(is_finished));
     object.add_member(Member::Cut);
     object.add(bool_words(item.is_cut()));
+    object.add_member(Member::Name);
 }
 
 // Whether something is so, in JSON.
@@ -63,12 +68,23 @@ fn bool_words(is_so: bool) -> &'static str {
     if is_so { "true" } else { "false" }
 }
 
-// Adds the name.
-fn add_name(name: Name, scratch: &mut Phrase, object: &mut Phrase) {
-    scratch.restart(usize::MAX);
-    scratch.add_name(name);
-    object.add_member(Member::Name);
-    add_text(scratch, object);
+// Adds the name: as the words have it, where that is it.
+fn add_name(words: &mut Words, object: &mut Phrase) {
+    if words.string.is_none() && object.add_plain_string(words.phrase.name_bytes()) {
+        return;
+    }
+    let name = words.name();
+    words.scratch.restart(usize::MAX);
+    words.scratch.add_name(name);
+    add_text(&words.scratch, object);
+}
+
+// Adds the words, and the texts that they have between quotes.
+fn add_said(words: &str, object: &mut Phrase) {
+    if !object.add_plain_string(words.as_bytes()) {
+        object.add_string("", words);
+        add_values(words.as_bytes(), object);
+    }
 }
 
 // Adds the text of a phrase as a string.
@@ -123,6 +139,13 @@ fn quoted_length(bytes: &[u8]) -> usize {
 // Adds the fields of a control sequence, of which they have digits and colons alone, or of a
 // string: what has `;` between.
 fn add_fields(kind: Kind, body: &[u8], phrase: &mut Phrase, object: &mut Phrase) {
+    object.add_member(Member::Fields);
+    if kind == Kind::Csi {
+        let numbers = without_prefix(body);
+        if digit_run(numbers) == numbers.len() {
+            return add_numbers(numbers, object);
+        }
+    }
     phrase.restart(usize::MAX);
     if kind == Kind::Csi {
         add_digits(body, phrase);
@@ -132,11 +155,29 @@ fn add_fields(kind: Kind, body: &[u8], phrase: &mut Phrase, object: &mut Phrase)
     if phrase.is_refused() {
         object.refuse();
     }
-    object.add_member(Member::Fields);
     let mut is_next = false;
     for field in phrase.as_str().split(';') {
-        object.add_string(if is_next { "," } else { "[" }, field);
+        object.add_string(if is_next { "," } else { "" }, field);
         is_next = true;
+    }
+    object.add("]");
+}
+
+// Adds the fields of these bytes, which are digits, `:` and `;`.
+fn add_numbers(numbers: &[u8], object: &mut Phrase) {
+    let mut rest = Some(numbers);
+    let mut is_next = false;
+    for _ in 0..u64::MAX {
+        let Some(text) = rest else {
+            break;
+        };
+        let (field, more) = cut(text, b';');
+        if is_next {
+            object.add(",");
+        }
+        let _ = object.add_plain_string(field);
+        is_next = true;
+        rest = more;
     }
     object.add("]");
 }
@@ -169,10 +210,12 @@ fn digit_run(bytes: &[u8]) -> usize {
 
 // Adds the bytes that are kept, escaped and in base64.
 fn add_bytes(item: &Item, scratch: &mut Phrase, object: &mut Phrase) {
-    scratch.restart(usize::MAX);
-    scratch.add_bytes(item.bytes(), usize::MAX);
     object.add_member(Member::Bytes);
-    add_text(scratch, object);
+    if !object.add_plain_string(item.bytes()) {
+        scratch.restart(usize::MAX);
+        scratch.add_bytes(item.bytes(), usize::MAX);
+        add_text(scratch, object);
+    }
     object.add_member(Member::Base64);
     object.add_base64(item.bytes());
 }

@@ -202,8 +202,13 @@ fn has_parameter(item: &Item, word: &str) -> bool {
 /// The parameters of a control sequence, without the private prefix before them, and with what
 /// comes after them.
 pub fn numbers_of(item: &Item) -> &[u8] {
-    match item.body() {
+    without_prefix(item.body())
+}
+
+/// The parameters of a control sequence without the private prefix before them.
+pub fn without_prefix(body: &[u8]) -> &[u8] {
+    match body {
         [0x3c..=0x3f, rest @ ..] => rest,
-        body => body,
+        _ => body,
     }
 }

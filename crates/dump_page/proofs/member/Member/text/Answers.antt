@@ -58,6 +58,18 @@ returns-in-Cut c = ∣ (
   refl,
 ) ∣₁
 
+pub returns-in-WholeName : goal.returns-in-WholeName
+unfolding lib.Utf8.encode
+returns-in-WholeName c = ∣ (
+  Word 0x2c ∷ Quoted (0x66 ∷ 0x69 ∷ 0x6e ∷ 0x69 ∷ 0x73 ∷ 0x68 ∷ 0x65 ∷ 0x64 ∷ []) ∷ Word 0x3a ∷
+      Word 0x74 ∷ Word 0x72 ∷ Word 0x75 ∷ Word 0x65 ∷ Word 0x2c ∷
+      Quoted (0x63 ∷ 0x75 ∷ 0x74 ∷ []) ∷ Word 0x3a ∷
+      Word 0x66 ∷ Word 0x61 ∷ Word 0x6c ∷ Word 0x73 ∷ Word 0x65 ∷ Word 0x2c ∷
+      Quoted (0x6e ∷ 0x61 ∷ 0x6d ∷ 0x65 ∷ []) ∷ Word 0x3a ∷ [],
+  refl,
+  refl,
+) ∣₁
+
 pub returns-in-Name : goal.returns-in-Name
 unfolding lib.Utf8.encode
 returns-in-Name c = ∣ (
@@ -77,7 +89,7 @@ returns-in-Words c = ∣ (
 pub returns-in-Fields : goal.returns-in-Fields
 unfolding lib.Utf8.encode
 returns-in-Fields c = ∣ (
-  Word 0x2c ∷ Quoted (0x66 ∷ 0x69 ∷ 0x65 ∷ 0x6c ∷ 0x64 ∷ 0x73 ∷ []) ∷ Word 0x3a ∷ [],
+  Word 0x2c ∷ Quoted (0x66 ∷ 0x69 ∷ 0x65 ∷ 0x6c ∷ 0x64 ∷ 0x73 ∷ []) ∷ Word 0x3a ∷ Word 0x5b ∷ [],
   refl,
   refl,
 ) ∣₁
