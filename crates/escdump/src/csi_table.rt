@@ -25,6 +25,9 @@ pub fn table_of(last: u8) -> &'static str {
         b'~' => STATUS_LINE,
         b'}' => STATUS,
         b'x' => LOWER_X,
+        b'y' => LOWER_Y,
+        b's' => LOWER_S,
+        b'T' => UPPER_T,
         b'w' => LOWER_W,
         b'u' => LOWER_U,
         b'z' => LOWER_Z,
@@ -41,6 +44,7 @@ pub fn table_of(last: u8) -> &'static str {
         b'F' => UPPER_F,
         b'P' => UPPER_P,
         b'Q' => UPPER_Q,
+        b'R' => UPPER_R,
         b'I' => UPPER_I,
         b'O' => UPPER_O,
         b'M' => UPPER_M,
@@ -52,6 +56,7 @@ pub fn table_of(last: u8) -> &'static str {
 }
 
 static LOWER_M: &str = "\
+<^-^report of the mouse without its parameters^^
 >^-^reset all modifier keys^^
 >^4+^set modifyOtherKeys^n: to^
 >^4^reset modifyOtherKeys^^
@@ -96,6 +101,10 @@ static UPPER_W: &str = "\
 ^6^clear all line tab stops^*v:,^";
 
 static LOWER_P: &str = "\
+>^^^v:,?0~never/1~while the mouse is not reported/2~always, but for where it leaves the window/\
+3~always^
+#^^^*v:,?1~bold/2~faint/3~italic/4~underlined/5~blinking/7~reversed/8~hidden/9~crossed out/\
+21~doubly underlined/30~foreground/31~background^
 \\x22^61^conformance level of the VT100^n:,^
 \\x22^62^conformance level of the VT200^v:, controls?\
 0~of eight bits/1~of seven bits/2~of eight bits^
@@ -157,8 +166,9 @@ static LOWER_C: &str = "\
 32~VT382/41~VT420/61~VT510/64~VT520/65~VT525|n:, version|n:, cartridge^";
 
 static UPPER_S: &str = "\
-?^^^v:,?1~colour registers/2~sixel geometry/3~ReGIS geometry|v:,?0~report/1~ask/2~reset/3~set/\
-4~ask for the most|n:,|n:,^
+?^^^v:,?1~colour registers/2~sixel geometry/3~ReGIS geometry|v:,?0~report/\
+1~ask, or report of an error in the item/2~reset, or report of an error in the action/\
+3~set, or report of a failure/4~ask for the most|n:,|n:,^
 ^1+^key F4^m:^";
 
 static STATUS_LINE: &str = "\
@@ -167,20 +177,43 @@ $^^^v:,?0~none/1~indicator/2~written by the host^";
 static STATUS: &str = "\
 $^^^v:,?0~main display/1~status line^";
 
+static UPPER_T: &str = "\
+>^^^*v:,?0~labels are not set in hexadecimal/1~labels are not reported in hexadecimal/\
+2~labels are not set in UTF-8/3~labels are not reported in UTF-8^";
+
+static LOWER_S: &str = "\
+>^^^v:,?0~it overrides the mouse's reports/1~it may be a modifier of the mouse's reports^";
+
+static LOWER_Y: &str = "\
+#^^^f:,?1~not negated/2~without renditions/4~with blanks/8~without cells that are not set/\
+16~of all bits/32~of eight bits^";
+
 static LOWER_X: &str = "\
+^2+^report of terminal parameters^v:,?1~no parity|v:,?1~eight bits|v:, sent at?128~38400 baud|\
+v:, received at?128~38400 baud|n:, clock multiplier|n:, flags^
+^3+^report of terminal parameters^v:,?1~no parity|v:,?1~eight bits|v:, sent at?128~38400 baud|\
+v:, received at?128~38400 baud|n:, clock multiplier|n:, flags^
 *^^^v:,?0~from position to position/1~from position to position/2~of rectangles^";
 
 static LOWER_W: &str = "\
+&^^^v:,?0~there is none/1~it was asked for/2~left button pressed/3~left button released/\
+4~middle button pressed/5~middle button released/6~right button pressed/\
+7~right button released/8~fourth button pressed/9~fourth button released/\
+10~outside of the rectangle|f:, buttons?1~right/2~middle/4~left/8~fourth|n:, line|n:, column|\
+n:, page^
 $^^^v:,?1~of the cursor/2~of tab stops^
 ,^^ask for the definition of a key^n:^DECRQKD";
 
 static LOWER_U: &str = "\
+\x20^^^v:,?0~high/1~off/2~low/3~low/4~low/5~high/6~high/7~high/8~high^
 $^^^v:,?1~all/2~the colour table|n:,^";
 
 static LOWER_Z: &str = "\
 '^^^v:,?0~off/1~on/2~one|v:,?0~in characters/1~in pixels/2~in characters^";
 
 static LEFT_BRACE: &str = "\
+#^^^*v:,?1~bold/2~faint/3~italic/4~underlined/5~blinking/7~reversed/8~hidden/9~crossed out/\
+21~doubly underlined/30~foreground/31~background^
 '^^^*v:,?0~requests alone/1~button presses/2~no button presses/3~button releases/\
 4~no button releases^";
 
@@ -205,6 +238,9 @@ static CONSOLE: &str = "\
 ^16+^blinking of the Linux console's cursor, in milliseconds^n:^";
 
 static LOWER_T: &str = "\
+>^^^*v:,?0~labels are set in hexadecimal/1~labels are reported in hexadecimal/\
+2~labels are set in UTF-8/3~labels are reported in UTF-8^
+\x20^^^v:,?0~off/1~off/2~low/3~low/4~low/5~high/6~high/7~high/8~high^
 ^1.^window 1 (de-iconify, or a report that it is open)^^
 ^2.^window 2 (iconify, or a report that it is iconified)^^
 ^3+^window 3 (move, or report of the position)^n:, x|n:, y^
@@ -241,7 +277,7 @@ static UPPER_B: &str = "\
 
 static UPPER_C: &str = "\
 ^1+^key Right^m:^
-=^^size of the cursor^n:, first line|n:, last line^SCO";
+=^^size of the cursor^n:, first line|n:, last line^SCOCURSOR";
 
 static UPPER_D: &str = "\
 ^1+^key Left^m:^";
@@ -251,13 +287,22 @@ static UPPER_E: &str = "\
 
 static UPPER_F: &str = "\
 ^1+^key End^m:^
-=^^foreground colour^n:^SCO";
+=^^foreground colour^n:^SCOFOREGROUND";
 
 static UPPER_P: &str = "\
 ^1+^key F1^m:^";
 
 static UPPER_Q: &str = "\
 ^1+^key F2^m:^";
+
+static UPPER_R: &str = "\
+^1;2.^report of the cursor position line 1, column 2, or key F3 with Shift^^
+^1;3.^report of the cursor position line 1, column 3, or key F3 with Alt^^
+^1;4.^report of the cursor position line 1, column 4, or key F3 with Shift and Alt^^
+^1;5.^report of the cursor position line 1, column 5, or key F3 with Control^^
+^1;6.^report of the cursor position line 1, column 6, or key F3 with Shift and Control^^
+^1;7.^report of the cursor position line 1, column 7, or key F3 with Alt and Control^^
+^1;8.^report of the cursor position line 1, column 8, or key F3 with Shift and Alt and Control^^";
 
 static UPPER_I: &str = "\
 ^-^cursor to tab stop 1, or a report that the terminal has the focus^^";
@@ -266,6 +311,7 @@ static UPPER_O: &str = "\
 ^-^erase in area (to the end), or a report that the focus is lost^^";
 
 static UPPER_M: &str = "\
+<^-^report of the mouse without its parameters^^
 ^++^report of urxvt's mouse^n:, button|n:, column|n:, line^";
 
 static WIN32: &str = "\
@@ -274,7 +320,7 @@ f:, state?1~right Alt/2~left Alt/4~right Control/8~left Control/16~Shift/32~Num 
 64~Scroll Lock/128~Caps Lock/256~enhanced|n:, repeated^win32";
 
 static UPPER_G: &str = "\
-=^^background colour^n:^SCO";
+=^^background colour^n:^SCOBACKGROUND";
 
 static LINUX: &str = "\
 ^^key of the Linux console, whose letter comes next^r:^Linux";

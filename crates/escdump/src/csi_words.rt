@@ -378,7 +378,8 @@ fn add_parameter(
     match number.or(first_of(parameter)) {
         Some(number) => {
             let what = label_of(parameter);
-            to.add(separator);
+            let is_named = separator == ";" && !what.is_empty();
+            to.add(if is_named { ", " } else { separator });
             to.add_integer(what, number);
             if what.is_empty() { ";" } else { ", " }
         }

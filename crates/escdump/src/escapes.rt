@@ -1,6 +1,6 @@
 //! Escape sequences in words.
 
-use crate::charsets::{SETS_94, SETS_96, SETS_MULTIPLE, SETS_OTHER, SETS_TWO};
+use crate::charsets::{SETS_94, SETS_96, SETS_C0, SETS_C1, SETS_MULTIPLE, SETS_OTHER, SETS_TWO};
 use control_functions::EscapeFunction;
 use dump_page::Phrase;
 use esc_sequences::Esc;
@@ -68,10 +68,12 @@ fn add_function(intermediate: Option<u8>, last: u8, to: &mut Phrase) {
     match EscapeFunction::of(Esc::parse(intermediate, last)) {
         Some(function) => {
             to.begin("ESC", function.name(), escape_words(function));
-            if let Some(sets) = sets_of(function) {
-                to.add_note(set_in(sets, &[last]));
+            if let Some((sets, other)) = sets_of(function) {
+                to.add_note(set_in(sets, &[last], other));
             }
         }
+        // (ECMA-35, 15.4.2)
+        None if intermediate == Some(b'%') => to.begin("ESC", "DOCS", "another coding system"),
         None => to.begin("ESC", "", "without a name"),
     }
 }
@@ -86,15 +88,24 @@ fn escape_words(function: EscapeFunction) -> &'static str {
     }
 }
 
-// The sets of which a function designates one as one of G0 to G3.
-fn sets_of(function: EscapeFunction) -> Option<&'static str> {
-    match function {
+// What a set of characters is that no table has.
+const OTHER: &str = "another character set";
+
+// The same of controls.
+const OTHER_CONTROLS: &str = "another set of controls";
+
+// The sets of which a function designates one, and what any other is.
+fn sets_of(function: EscapeFunction) -> Option<(&'static str, &'static str)> {
+    let sets = match function {
         EscapeFunction::GZD4 | EscapeFunction::G1D4 | EscapeFunction::G2D4 | EscapeFunction::G3D4 =>
-            Some(SETS_94),
-        EscapeFunction::G1D6 | EscapeFunction::G2D6 | EscapeFunction::G3D6 => Some(SETS_96),
-        EscapeFunction::GZDM4 => Some(SETS_MULTIPLE),
-        _ => None,
-    }
+            SETS_94,
+        EscapeFunction::G1D6 | EscapeFunction::G2D6 | EscapeFunction::G3D6 => SETS_96,
+        EscapeFunction::GZDM4 => SETS_MULTIPLE,
+        EscapeFunction::CZD => return Some((SETS_C0, OTHER_CONTROLS)),
+        EscapeFunction::C1D => return Some((SETS_C1, OTHER_CONTROLS)),
+        _ => return None,
+    };
+    Some((sets, OTHER))
 }
 
 // Sequences of two intermediates by both or by the first (ECMA-35, 14.3.2 and 15.4): a line each,
@@ -128,10 +139,10 @@ fn add_double(parts: Parts, to: &mut Phrase) {
     };
     to.begin("ESC", name, words);
     to.add_note(match both {
-        [b'$', b'('..=b'+'] => set_in(SETS_MULTIPLE, &[parts.last]),
-        [b'%', _] => set_in(SETS_OTHER, &[parts.last]),
-        [b'('..=b'+', second] => set_in(SETS_TWO, &[second, parts.last]),
-        _ => "another character set",
+        [b'$', b'('..=b'+'] => set_in(SETS_MULTIPLE, &[parts.last], OTHER),
+        [b'%', _] => set_in(SETS_OTHER, &[parts.last], OTHER),
+        [b'('..=b'+', second] => set_in(SETS_TWO, &[second, parts.last], OTHER),
+        _ => OTHER,
     });
 }
 
@@ -147,8 +158,8 @@ fn double_in(bytes: &[u8]) -> Option<(&'static str, &'static str)> {
     None
 }
 
-// The name of the set of these bytes.
-fn set_in(sets: &'static str, bytes: &[u8]) -> &'static str {
+// The name of the set of these bytes, or these words, where none has them.
+fn set_in(sets: &'static str, bytes: &[u8], other: &'static str) -> &'static str {
     for line in sets.lines() {
         if let Some((key, name)) = line.split_once(' ') {
             if key.as_bytes() == bytes {
@@ -156,5 +167,5 @@ fn set_in(sets: &'static str, bytes: &[u8]) -> &'static str {
             }
         }
     }
-    "another character set"
+    other
 }

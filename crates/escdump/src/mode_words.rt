@@ -136,8 +136,8 @@ static PHRASES: [Phrases; 46] = [
     ),
     Phrases(
         2030,
-        "report changes of the clipboard",
-        "do not report changes of the clipboard",
+        "report the selection by cells",
+        "do not report the selection by cells",
     ),
     Phrases(
         2031,
@@ -189,9 +189,26 @@ fn add_mode(function: ControlFunction, number: i64, to: &mut Phrase) {
         )),
         (_, Some(mode)) => {
             to.add_word(mode.name());
-            to.add_word(mode.words());
+            to.add_word(effect_of(function, number, mode.words()));
         }
         (_, None) => to.add_word("(not known)"),
+    }
+}
+
+// What happens where a mode is set or reset, of those that terminals have (xterm's list, "Set Mode"
+// and "Reset Mode"), or these words, of another mode or function.
+fn effect_of(function: ControlFunction, number: i64, words: &'static str) -> &'static str {
+    match number {
+        2 => chosen(function, "lock the keyboard", "unlock the keyboard", words),
+        4 => chosen(function, "insert characters", "replace characters", words),
+        12 => chosen(function, "no local echo", "local echo", words),
+        20 => chosen(
+            function,
+            "line feed begins a line",
+            "line feed keeps the column",
+            words,
+        ),
+        _ => words,
     }
 }
 
@@ -271,9 +288,13 @@ pub fn add_state(function: ControlFunction, params: &[CsiParam], to: &mut Phrase
     } else {
         add_mode(function, number, to);
     }
-    let state = number_at(params, 1).unwrap_or(0);
-    to.add(":");
-    to.add_word(words_of(STATES, state, "not known"));
+    match number_at(params, 1) {
+        Some(state) => {
+            to.add(":");
+            to.add_word(words_of(STATES, state, "not known"));
+        }
+        None => to.add(", with no state given"),
+    }
 }
 
 // The number of a mode; one that no mode has, where it is longer than any.

@@ -64,6 +64,9 @@ pub fn words_in(values: &'static str, value: &[u8]) -> Option<&'static str> {
 
 /// Adds a number, or any other text between quotes.
 pub fn add_number(part: &[u8], to: &mut Phrase) {
+    if part.is_empty() {
+        return to.add(" left out");
+    }
     match number_in(part) {
         Some(number) => to.add_integer(" ", number),
         None => to.add_quoted(" ", part),
