@@ -56,9 +56,9 @@ use std::process::ExitCode;
 use whole::Whole;
 
 const USAGE: &str = "\
-usage: escdump [-e|--explain text] [--segments] [--escape] [--json] [--stats] [--input] \
-[--cast] [--timing file] [--only kind,..] [--skip kind,..] [--limit size] [--width size] \
-[--color auto|always|never] [-h|--help] [-V|--version] [--] [FILE..]";
+usage: escdump [-e|--explain text] [--segments] [--escape] [--json] [--stats] [--input]
+               [--cast] [--timing file] [--only kind,..] [--skip kind,..] [--limit size]
+               [--width size] [--color auto|always|never] [-h|--help] [-V|--version] [--] [FILE..]";
 
 const HELP: &str = "\n\
 Prints each FILE, or standard input, as a readable line for each sequence and run of text.
@@ -84,7 +84,8 @@ Prints each FILE, or standard input, as a readable line for each sequence and ru
   --width size    the most bytes of the words of a line, or of its bytes, after which it says how
                   many more there are; on a terminal 4K where none are named
   --color time    prints the place and the bytes in colours: always, never, or auto, which
-                  is on a terminal where NO_COLOR is not set; --colour is the same
+                  is on a terminal where NO_COLOR is not set and TERM is not dumb;
+                  --colour is the same
   -h, --help      prints this
   -V, --version   prints the version
   --              the words after it are files
@@ -117,7 +118,7 @@ fn is_colored(rt: &HostRuntime, colors: When) -> bool {
     match colors {
         When::Always => true,
         When::Never => false,
-        When::Auto => rt.stdout().is_terminal() && !has_no_color(rt),
+        When::Auto => rt.stdout().is_terminal() && !has_no_color(rt) && !is_dumb(rt),
     }
 }
 
@@ -127,6 +128,14 @@ fn has_no_color(rt: &HostRuntime) -> bool {
         Ok(value) => !value.is_empty(),
         Err(VarError::NotPresent) => false,
         Err(_) => true,
+    }
+}
+
+// Whether the terminal knows no sequences, by its name in the environment.
+fn is_dumb(rt: &HostRuntime) -> bool {
+    match env::var(rt, "TERM") {
+        Ok(value) => value.as_str() == "dumb",
+        Err(_) => false,
     }
 }
 

@@ -33,7 +33,8 @@ pub enum Recorded {
 /// When lines have colours.
 #[derive(Clone, Copy)]
 pub enum When {
-    /// On a terminal, unless the environment has a `NO_COLOR` that is not empty.
+    /// On a terminal, unless the environment has a `NO_COLOR` that is not empty, or names the
+    /// terminal `dumb`.
     Auto,
     /// Always.
     Always,
