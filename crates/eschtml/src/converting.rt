@@ -6,6 +6,7 @@ use crate::options::Options;
 use crate::page::{AFTER, Side, before, counted, ending, group, heading, lost_note};
 use crate::stream::{PROGRAM, write_html};
 use crate::strings::Lost;
+use crate::timing::Timing;
 use command_line::{
     Ended, ErrorCapture, Place, Reason, Shown, Work, ended_by, tell, unread, unwritten,
 };
@@ -176,17 +177,28 @@ impl<'a, W: Write, E: Write> Converting<'a, W, E> {
     fn write<R: Read + Drop>(&mut self, name: &str, input: R) -> Ended {
         let options = self.numbered();
         let mut reader = Watched::new(ErrorCapture::new(input));
-        let mut writer = Watched::new(ErrorCapture::new(Counting::new(&mut *self.output)));
+        let timing = Timing::new(
+            self.alloc,
+            options.times,
+            options.layout.inline,
+            &mut *self.output,
+        );
+        let mut writer = Watched::new(ErrorCapture::new(Counting::new(timing)));
         let outcome = write_html(self.alloc, &options, &mut reader, &mut writer);
         let writer = writer.into_inner();
         let reason = reader.into_inner().reason().or(writer.reason());
-        let lines = writer.into_inner().lines();
+        let (lines, timing) = writer.into_inner().end();
+        let flushed = timing.end();
         let place = match outcome {
             Err(FilterError::Write) => Place::Output(self.output_name),
             _ => Place::Input(name),
         };
         self.line = self.line.saturating_add(lines.count());
-        ended_by(PROGRAM, outcome, place, reason, &mut self.faults)
+        let ended = ended_by(PROGRAM, outcome, place, reason, &mut self.faults);
+        match flushed {
+            Ok(()) => ended,
+            Err(error) => self.unflushed(ended, error),
+        }
     }
 
     // How it ends after this text.
@@ -300,6 +312,16 @@ impl<'a, W: Write, E: Write> Converting<'a, W, E> {
         let reason = Reason::of(&error);
         unwritten(PROGRAM, self.output_name, reason, &mut self.faults)
     }
+
+    // How it ends that the last of a stream that ended so could not be written.
+    fn unflushed(&mut self, ended: Ended, error: io::Error) -> Ended {
+        if is_last(ended) {
+            ended
+        } else {
+            self.unwritten(error)
+        }
+    }
+
     // How it ends that no more can be read of the stream of this name.
     fn unread(&mut self, name: &str, error: io::Error) -> Ended {
         unread(PROGRAM, name, Reason::of(&error), &mut self.faults)

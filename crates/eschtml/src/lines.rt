@@ -76,9 +76,10 @@ impl<W> Counting<W> {
         }
     }
 
-    /// The lines.
-    pub fn lines(&self) -> Lines {
-        self.lines
+    /// The lines, and the other writer.
+    pub fn end(self) -> (Lines, W) {
+        let Counting { inner, lines } = self;
+        (lines, inner)
     }
 }
 

@@ -12,9 +12,11 @@ mod options;
 mod page;
 mod palettes;
 mod piped;
+mod stamp;
 mod stream;
 mod strings;
 mod style;
+mod timing;
 
 use atomic_file::{NewFile, Output};
 use command_line::{
@@ -36,7 +38,7 @@ const USAGE: &str = "\
 usage: eschtml [--page] [--title text] [--css address] [--lang language] \
 [--theme auto|light|dark] [--palette xterm|vga|solarized|tango|one-half] [--numbers] [--wrap] \
 [--lines] [--inline] [--show] [--lost] [--final-lines[=rows]] [--head lines] [--tail lines] \
-[--linkify] [--fold] [--style] \
+[--linkify] [--fold] [--times] [--style] \
 [--encoding utf-8|utf-16|utf-16le|utf-16be|latin1|windows-1250|windows-1251|windows-1252|\
 windows-1253|windows-1254|windows-1255|windows-1256|windows-1257|windows-1258] \
 [--c1 replace|obey] [--limit size] [-o|--output file] [-h|--help] [-V|--version] [--] [FILE..]";
@@ -70,6 +72,7 @@ renditions as spans, and links to http, https and mailto. Nothing of it becomes 
   --tail lines    writes so many that come last; of the first ones, with --head
   --linkify       makes links of addresses in text that begin with http:// or https://
   --fold          folds the groups of lines of GitHub and GitLab on a page
+  --times         puts the time that a line begins with into an element that is not copied
   --style         prints the style sheet, for a page around a fragment
   --encoding name reads utf-8 (the default), utf-16, utf-16le, utf-16be, latin1, or windows-1250
                   to windows-1258

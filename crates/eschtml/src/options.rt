@@ -40,6 +40,8 @@ pub struct Options<'a> {
     pub links: bool,
     /// Whether groups of lines are folded.
     pub folds: bool,
+    /// Whether the times that lines begin with are elements.
+    pub times: bool,
     /// Which byte of a unit comes first, where a stream is in UTF-16; then it is read as UTF-8.
     pub order: Option<ByteOrder>,
     /// How the bytes of a stream are read.
@@ -73,6 +75,7 @@ impl<'a> Options<'a> {
             },
             links: false,
             folds: false,
+            times: false,
             order: None,
             encoding: Encoding::Utf8,
             limit: DEFAULT_LIMIT,
@@ -101,6 +104,7 @@ impl<'a> Options<'a> {
             "--tail" => self.cut.tail = lines_of(given.word),
             "--linkify" => self.links = true,
             "--fold" => self.folds = true,
+            "--times" => self.times = true,
             "--limit" => self.limit = given.size,
             _ => {}
         }
@@ -249,6 +253,11 @@ const KNOWN: &[Known] = &[
     },
     Known {
         name: "--fold",
+        letter: "",
+        takes: Takes::Nothing,
+    },
+    Known {
+        name: "--times",
         letter: "",
         takes: Takes::Nothing,
     },
