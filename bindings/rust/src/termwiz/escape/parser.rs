@@ -6,7 +6,7 @@ use crate::{Error, action, borrowed};
 use alloc::vec::Vec;
 
 /// A parser of a stream that comes in chunks, and is given as actions: an
-/// [`action::Parser`](crate::action::Parser) whose actions have the values of `termwiz`.
+/// [`action::Parser`] whose actions have the values of `termwiz`.
 ///
 /// ```
 /// use escape_stream::termwiz::escape::csi::{CSI, Cursor};
@@ -26,7 +26,7 @@ pub struct Parser {
 
 impl Parser {
     /// A parser at the beginning of a stream, with the limits of
-    /// [`action::Parser::new`](crate::action::Parser::new).
+    /// [`action::Parser::new`].
     #[must_use]
     pub fn new() -> Parser {
         Parser::default()

@@ -52,8 +52,6 @@ impl<'a> Sequence<'a> {
             [rest @ .., CsiParam::P(byte @ b' '..=b'/')] => (Some(*byte), rest),
             _ => (None, entries),
         };
-        let is_parameter =
-            |it: &CsiParam| matches!(it, CsiParam::Integer(_) | CsiParam::P(b';' | b':'));
         params.iter().all(is_parameter).then_some(Sequence {
             prefix,
             params,
@@ -63,33 +61,51 @@ impl<'a> Sequence<'a> {
     }
 
     /// Its parameters, if there are at most so many, without `:`. One that is left out is `None`.
+    #[inline]
     pub fn numbers<const N: usize>(&self) -> Option<[Option<i64>; N]> {
-        let mut parts = self.params.split(|it| *it == CsiParam::P(b';'));
         let mut numbers = [None; N];
-        for place in &mut numbers {
-            *place = match parts.next() {
-                None | Some([]) => None,
-                Some([CsiParam::Integer(number)]) => Some(*number),
-                Some(_) => return None,
-            };
+        let mut at = 0;
+        for entry in self.params {
+            match *entry {
+                CsiParam::Integer(number) => *numbers.get_mut(at)? = Some(number),
+                CsiParam::P(b';') if at + 1 < N => at += 1,
+                CsiParam::P(_) => return None,
+            }
         }
-        parts.next().is_none().then_some(numbers)
+        Some(numbers)
+    }
+
+    // Its one parameter, if it has no more: `None` if it is left out.
+    #[inline]
+    fn number(&self) -> Option<Option<i64>> {
+        match *self.params {
+            [] => Some(None),
+            [CsiParam::Integer(number)] => Some(Some(number)),
+            _ => None,
+        }
     }
 
     /// Its one parameter, from 1 on: 1 if it is 0 or left out.
+    #[inline]
     pub fn count(&self) -> Option<u32> {
-        let [number] = self.numbers()?;
-        counted(number)
+        self.number().and_then(counted)
     }
 
     /// Its one parameter, 0 if it is left out.
+    #[inline]
     pub fn choice(&self) -> Option<i64> {
-        let [number] = self.numbers()?;
-        Some(number.unwrap_or(0))
+        self.number().map(|it| it.unwrap_or(0))
     }
 }
 
+/// Whether an entry belongs to the parameters.
+#[inline]
+pub fn is_parameter(entry: &CsiParam) -> bool {
+    matches!(entry, CsiParam::Integer(_) | CsiParam::P(b';' | b':'))
+}
+
 /// A number that counts from 1.
+#[inline]
 pub fn counted(number: Option<i64>) -> Option<u32> {
     match number {
         None | Some(0) => Some(1),

@@ -77,6 +77,7 @@ pub fn first_of(params: Params<'_>) -> Option<(Sgr, Option<Params<'_>>)> {
 }
 
 /// The parameters up to the first `;`, and those after it.
+#[inline]
 pub fn split(params: Params<'_>) -> (Params<'_>, Option<Params<'_>>) {
     match params.iter().position(|it| *it == CsiParam::P(b';')) {
         Some(place) => (&params[..place], Some(&params[place + 1..])),

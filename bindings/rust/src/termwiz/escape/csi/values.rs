@@ -1,7 +1,7 @@
 // SPDX-License-Identifier: MIT
 //! The values of a control sequence, one after another.
 use super::mode::Change;
-use super::sequence::{CsiParam, Sequence};
+use super::sequence::{CsiParam, Sequence, is_parameter};
 use super::{
     CSI, Cursor, Device, Edit, Keyboard, Mode, MouseReport, Unspecified, Window, path, sgr,
 };
@@ -12,37 +12,46 @@ use core::iter::FusedIterator;
 /// The values of a control sequence: the iterator of [`CSI::parse`].
 #[derive(Clone)]
 pub struct Values<'a> {
-    rest: Rest<'a>,
+    // What comes most often has a place of its own.
+    renditions: Option<&'a [CsiParam]>,
+    others: Others<'a>,
     is_truncated: bool,
     control: char,
 }
 
-// What is still to be read.
+// What is still to be read that is no rendition.
 #[derive(Clone)]
-enum Rest<'a> {
+enum Others<'a> {
     Nothing,
     Whole(&'a [CsiParam], Option<Sequence<'a>>),
-    Renditions(&'a [CsiParam]),
     Modes(Change, &'a [CsiParam]),
 }
 
-impl<'a> Values<'a> {
-    pub(super) fn of(params: &'a [CsiParam], is_truncated: bool, control: char) -> Values<'a> {
+impl<'a> Others<'a> {
+    fn of(params: &'a [CsiParam], is_truncated: bool, control: char) -> Others<'a> {
+        // Of more entries than are kept an intermediate may be among those that are not.
+        if is_truncated {
+            return Others::Whole(params, None);
+        }
         let sequence = Sequence::of(params, control);
-        let rest = match sequence {
-            Some(it) if control == 'm' && it.prefix.is_none() && it.intermediate.is_none() => {
-                Rest::Renditions(params)
-            }
-            // Of more entries than are kept an intermediate may be among those that are not.
-            _ if is_truncated => Rest::Whole(params, None),
-            Some(it) => match Change::of(&it) {
-                Some(change) => Rest::Modes(change, it.params),
-                None => Rest::Whole(params, sequence),
-            },
-            None => Rest::Whole(params, None),
-        };
+        match sequence.and_then(|it| Some((Change::of(&it)?, it.params))) {
+            Some((change, modes)) => Others::Modes(change, modes),
+            None => Others::Whole(params, sequence),
+        }
+    }
+}
+
+impl<'a> Values<'a> {
+    #[inline]
+    pub(super) fn of(params: &'a [CsiParam], is_truncated: bool, control: char) -> Values<'a> {
+        let are_renditions = control == 'm' && params.iter().all(is_parameter);
         Values {
-            rest,
+            renditions: are_renditions.then_some(params),
+            others: if are_renditions {
+                Others::Nothing
+            } else {
+                Others::of(params, is_truncated, control)
+            },
             is_truncated,
             control,
         }
@@ -62,17 +71,30 @@ impl<'a> Values<'a> {
         match sgr::first_of(params) {
             Some((_, None)) if self.is_truncated => self.unspecified(params.into()),
             Some((rendition, rest)) => {
-                self.rest = rest.map_or(Rest::Nothing, Rest::Renditions);
+                self.renditions = rest;
                 CSI::Sgr(rendition)
             }
             None => self.unspecified(params.into()),
         }
     }
 
+    // The next value that is no rendition.
+    fn other(&mut self) -> Option<CSI> {
+        match core::mem::replace(&mut self.others, Others::Nothing) {
+            Others::Nothing => None,
+            Others::Modes(change, params) => Some(self.mode(change, params)),
+            Others::Whole(params, sequence) => Some(
+                sequence
+                    .and_then(|it| single(&it))
+                    .unwrap_or_else(|| self.unspecified(params.into())),
+            ),
+        }
+    }
+
     // The next mode.
     fn mode(&mut self, change: Change, params: &'a [CsiParam]) -> CSI {
         let (first, rest) = sgr::split(params);
-        self.rest = rest.map_or(Rest::Nothing, |rest| Rest::Modes(change, rest));
+        self.others = rest.map_or(Others::Nothing, |rest| Others::Modes(change, rest));
         match change.mode(first) {
             Some(mode) => CSI::Mode(mode),
             None => self.unspecified(change.prefix().iter().chain(first).copied().collect()),
@@ -83,16 +105,11 @@ impl<'a> Values<'a> {
 impl Iterator for Values<'_> {
     type Item = CSI;
 
+    #[inline]
     fn next(&mut self) -> Option<CSI> {
-        match core::mem::replace(&mut self.rest, Rest::Nothing) {
-            Rest::Nothing => None,
-            Rest::Renditions(params) => Some(self.rendition(params)),
-            Rest::Modes(change, params) => Some(self.mode(change, params)),
-            Rest::Whole(params, sequence) => Some(
-                sequence
-                    .and_then(|it| single(&it))
-                    .unwrap_or_else(|| self.unspecified(params.into())),
-            ),
+        match self.renditions.take() {
+            Some(params) => Some(self.rendition(params)),
+            None => self.other(),
         }
     }
 }
