@@ -93,6 +93,7 @@ int main(int count, char **words) {
     begin();
     if (count == 2 && strcmp(words[1], "functions") == 0) {
         check_functions();
+        check_strings();
         printf("%llu calls of functions by name\n", at_hand.calls);
         return 0;
     }

@@ -70,6 +70,7 @@ void check_chunks(const struct text_call *call, struct bytes text);
 void begin_logs(void);
 void check_logs(struct bytes stream);
 void check_functions(void);
+void check_strings(void);
 void begin_commands(void);
 enum reading { COMMANDS, IMAGES, QUERIES };
 struct escape_stream_field;

@@ -19,6 +19,7 @@ pub mod SanitizerOptions
 pub mod SanitizerChunks
 pub mod Sanitizers
 pub mod SixelValues
+pub mod StringRows
 pub mod Written
 pub mod WrittenImages
 pub mod WrittenOscs

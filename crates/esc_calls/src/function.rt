@@ -65,7 +65,7 @@ pub fn control_function(code: u8, out: &mut FunctionRow) -> bool
 }
 
 // The byte, where it is not 0.
-fn byte_of(byte: u8) -> Option<u8>
+pub(crate) fn byte_of(byte: u8) -> Option<u8>
     ensures { result ≡ byte_of byte }
 {
     if byte == 0 { None } else { Some(byte) }

@@ -36,6 +36,8 @@ mod shown;
 pub mod sixel;
 pub mod sixel_value;
 mod sixel_writable;
+pub mod string_name;
+pub mod string_row;
 pub mod tcap;
 pub mod write_kitty;
 pub mod write_osc;

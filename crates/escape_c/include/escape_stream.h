@@ -679,6 +679,69 @@ bool escape_stream_escape_function(
 bool escape_stream_control_function(uint8_t code, struct escape_stream_function_info *out);
 
 /*
+ * A control string that has a name: a row of the tables of strings in docs/FUNCTIONS.md. If there
+ * is none, all of it is 0.
+ */
+struct escape_stream_string_info {
+    char name[40];   /* as "OSC 52", "OSC 133;A" or "DECRQSS", no other row's; a 0 ends it */
+    char phrase[80]; /* its effect, in words, as "clipboard"; a 0 ends it */
+    /* what it is told apart by, to switch on: the number of an operating system command, or its
+     * letter; the first byte of an application program command; of a device control string its
+     * prefix, its intermediate and its final byte, as digits to the base 256 after a 1: 0x12471
+     * of ESC P $ q */
+    size_t key;
+    size_t row;      /* the place of its row, counted from 0; another version may have another */
+};
+
+/*
+ * Says whether an operating system command has a name, and writes its row to `out`.
+ *
+ *   text, length   the text between ESC ] and its end, as an event ESCAPE_STREAM_OSC has it
+ *   out            receives the row
+ *
+ * The number that the text begins with finds the row, and where a number has several the part after
+ * it. Zeros before the number do not matter.
+ *
+ * Example: what a stream does to the clipboard.
+ *
+ *     struct escape_stream_string_info string;
+ *     if (escape_stream_osc_function(text, length, &string) && string.key == 52)
+ *         refuse(string.phrase);
+ */
+bool escape_stream_osc_function(
+    const uint8_t *text, size_t length, struct escape_stream_string_info *out);
+
+/*
+ * The same of a device control string.
+ *
+ *   prefix, intermediate, final   as for escape_stream_function
+ *   params, count                 its parameters, and how many there are
+ *   data, length                  its data, or their beginning: a few strings are told apart by
+ *                                 their first 9 bytes, and have no name without these
+ */
+bool escape_stream_dcs_function(
+    uint8_t prefix, uint8_t intermediate, uint8_t final, const int64_t *params, size_t count,
+    const uint8_t *data, size_t length, struct escape_stream_string_info *out);
+
+/*
+ * The same of an application program command: the text between ESC _ and its end.
+ */
+bool escape_stream_apc_function(
+    const uint8_t *text, size_t length, struct escape_stream_string_info *out);
+
+/*
+ * The same of the row in a place, counted from 0: for each row, go on up to the first place that
+ * has none.
+ */
+bool escape_stream_string_row(size_t row, struct escape_stream_string_info *out);
+
+/*
+ * The same of a name: `length` bytes, without the 0 after them.
+ */
+bool escape_stream_string_named(
+    const uint8_t *name, size_t length, struct escape_stream_string_info *out);
+
+/*
  * The kinds of operating system commands, and which fields each has, in order. One between [ and ]
  * may be absent; `..` says that the fields before it come once for each item. A colour is RED,
  * GREEN and BLUE, or QUERY in place of the three. The 3 flags of a file are PRESERVE_ASPECT_RATIO,

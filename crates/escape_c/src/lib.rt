@@ -4,8 +4,8 @@
 //! A call that takes a stream whole returns a status: `DONE`, or why nothing was written. A text
 //! goes into the caller's buffer, as much of it as fits, and its whole length into `needed`.
 //! The filter, the sanitizer, the HTML and the normal form of a stream in chunks are each an
-//! `InChunks` of the caller's. Other calls name a function, or read and write commands, images and
-//! queries. The crate `esc_calls` does what each call says.
+//! `InChunks` of the caller's. Other calls name a function or a string, or read and write commands,
+//! images and queries. The crate `esc_calls` does what each call says.
 //!
 //! ```text
 //! const uint8_t stream[] = "a\x1b]0;a title\x07 \x1b[1;31mred";
@@ -20,6 +20,7 @@ mod html;
 mod normal;
 mod read;
 mod sanitizer;
+mod string;
 mod write_kitty;
 mod write_osc;
 mod write_sixel;
@@ -33,6 +34,7 @@ pub use esc_calls::osc_value::OscValue;
 pub use esc_calls::query_value::QueryValue;
 pub use esc_calls::sanitizer_options::SanitizerOptions;
 pub use esc_calls::sixel_value::SixelValue;
+pub use esc_calls::string_row::StringRow;
 pub use esc_calls::{
     DONE, NO_COMMAND, NO_MEMORY, NOT_BEGUN, NOT_WRITABLE, TOO_MANY_ROWS, UNKNOWN_CHARACTERS,
     UNKNOWN_ENCODING, UNKNOWN_FRAMING, UNKNOWN_GROUP, UNKNOWN_LINKS, UNKNOWN_POLICY,
@@ -61,6 +63,10 @@ pub use read::{
 pub use sanitizer::{
     escape_stream_sanitizer_account, escape_stream_sanitizer_begin, escape_stream_sanitizer_end,
     escape_stream_sanitizer_feed, escape_stream_sanitizer_finish, escape_stream_sanitizer_text,
+};
+pub use string::{
+    escape_stream_apc_function, escape_stream_dcs_function, escape_stream_osc_function,
+    escape_stream_string_named, escape_stream_string_row,
 };
 pub use write_kitty::escape_stream_write_kitty;
 pub use write_osc::escape_stream_write_osc;
