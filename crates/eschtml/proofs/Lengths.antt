@@ -1,5 +1,5 @@
 -- What is revealed of a stream, and the page of it, are no longer than the stream allows.
-use Rattle.std.proofs.Common.{ℕ, suc, ◌≡◌, ◌≤◌, ◌<◌, ◌+◌, ◌*◌, ◌-◌, ◌==◌, ◌||◌, Bool, true, false, nat_lt, if◌then◌else◌, List, [], ◌∷◌, ◌++◌, length, map, Option, None, Some, Result, Ok, Err, OnOk, refl, ap, sym, subst, arith}
+use Rattle.std.proofs.Common.{ℕ, zero, suc, ◌≡◌, ◌≤◌, ◌<◌, ◌+◌, ◌*◌, ◌-◌, ◌==◌, ◌||◌, ◌&&◌, Bool, true, false, nat_lt, if◌then◌else◌, List, [], ◌∷◌, ◌++◌, length, map, Option, None, Some, Result, Ok, Err, OnOk, refl, ap, sym, subst, ◌∙◌, arith}
 use Rattle.std.specs.Char.{encode_utf8}
 use Rattle.std.specs.List.{flat_map}
 use Rattle.std.specs.Str.{encode_utf8_all}
@@ -26,9 +26,11 @@ use Rattle.esc_normal.specs.Streams.{Filters, HasFiltered}
 use Rattle.esc_normal.specs.declared.filter_error.FilterError.{FilterError}
 use Rattle.caret_notation.specs.Pieces.{is_piece, pieces_after, rest_after}
 use Rattle.caret_notation.specs.Revealed.{is_kept, piece_text, revealed_whole_as}
-use Rattle.caret_notation.specs.Visible.{begun_after, character_text, first_begun, first_text, hex_byte, next_begun, next_text, settled_text, shown_text, single_text, stray_text, visible_text}
+use Rattle.caret_notation.specs.Visible.{begun_after, closing, opening, character_text, first_begun, first_text, hex_byte, next_begun, next_text, settled_text, shown_text, single_text, stray_text, visible_text}
 use Rattle.caret_notation.specs.declared.marking.Marking.TheVariants.{Reversed}
 use Rattle.unicode_visibility.specs.Characters.{digit_at, four_digits, is_shown, leading, number_text}
+use Rattle.eschtml.proofs.Joined.{held_append, joined_append, joined_most}
+use Rattle.eschtml.specs.Joined.{held_after, joined, joined_after}
 use Rattle.eschtml.specs.Lengths.{IsShort, IsShortBy, most_content, most_decoded, most_seen}
 use Rattle.eschtml.specs.Written.{IsHtml, IsPageBy, html_of, layout_by, seen_by, whole_in}
 use Rattle.eschtml.specs.Written.{is_kept as is_kept_value}
@@ -139,66 +141,176 @@ visible_most s =
       settled_most [] s,
     )
 
--- ---- what is revealed in reverse video: at most 13 bytes for each
+-- ---- what is revealed in reverse video, which goes on over neighbours: at most 7 bytes for each
 
-shown_most : (p : List ℕ) → length (shown_text Reversed p) ≤ 13 * length p
-shown_most [] = omega arith
-shown_most (b ∷ p) =
-    let v = visible_text (b ∷ p) in
+-- so many bytes are written of a text after these that are held back, or are held back then
+abbrev total : ℕ → List ℕ → ℕ
+total k t = length (joined_after k t) + held_after k t
+
+-- what is put by for SGR 7 and 27 of what is shown next: nothing after SGR 27
+abbrev left_by : ℕ → ℕ
+left_by k = if k == 5 then 0 else 6
+
+left_most : (k : ℕ) → left_by k ≤ 6
+left_most k = by (k == 5)
+  where
+    by : (b : Bool) → (if b then 0 else 6) ≤ 6
+    by true = omega arith
+    by false = omega arith
+
+total_append : (k : ℕ) (x y : List ℕ)
+    → total k (x ++ y) ≡ length (joined_after k x) + total (held_after k x) y
+total_append k x y = omega (
+  arith,
+  ap length (joined_append k x y),
+  length-append (joined_after k x) (joined_after (held_after k x) y),
+  held_append k x y,
+)
+
+-- after SGR 27 it is held back, whatever came before
+closing_held : (k : ℕ) → held_after k (closing Reversed) ≡ 5
+closing_held zero = refl
+closing_held (suc zero) = refl
+closing_held (suc (suc zero)) = refl
+closing_held (suc (suc (suc zero))) = refl
+closing_held (suc (suc (suc (suc zero)))) = refl
+closing_held (suc (suc (suc (suc (suc zero))))) = refl
+closing_held (suc (suc (suc (suc (suc (suc zero)))))) = refl
+closing_held (suc (suc (suc (suc (suc (suc (suc zero))))))) = refl
+closing_held (suc (suc (suc (suc (suc (suc (suc (suc zero)))))))) = refl
+closing_held (suc (suc (suc (suc (suc (suc (suc (suc (suc k))))))))) =
+    by (suc (suc (suc (suc (suc (suc (suc (suc (suc k)))))))) == 7)
+  where
+    by : (x : Bool)
+        → held_after (if x && false then 3 else 1) (0x5b ∷ 0x32 ∷ 0x37 ∷ 0x6d ∷ []) ≡ 5
+    by true = refl
+    by false = refl
+
+-- and SGR 7 goes on after it
+open_again : (t : List ℕ) → total 5 (opening Reversed ++ t) ≡ total 0 t
+open_again t = refl
+
+-- bytes that stay, and bytes that are shown
+stay_most : (k : ℕ) (p : List ℕ) → 0 < length p
+    → total k p + left_by (held_after k p) ≤ k + left_by k + 7 * length p
+stay_most k p h = omega (arith, h, joined_most k p, left_most (held_after k p))
+
+show_by : (k : ℕ) (v : List ℕ) (n : ℕ) → 0 < n → length v ≤ 4 * n → (b : Bool) → (k == 5) ≡ b
+    → total k (opening Reversed ++ (v ++ closing Reversed)) ≤ k + (if b then 0 else 6) + 7 * n
+show_by k v n h l true e =
+    let is : k ≡ 5 = grind (arith, nat_tests) in
+    let t = v ++ closing Reversed in
     omega (
       arith,
-      visible_most (b ∷ p),
-      length-append v (0x1b ∷ 0x5b ∷ 0x32 ∷ 0x37 ∷ 0x6d ∷ []),
+      is,
+      h,
+      l,
+      ap (λ i. total i (opening Reversed ++ t)) is,
+      open_again t,
+      joined_most 0 t,
+      length-append v (closing Reversed),
+    )
+show_by k v n h l false e =
+    let t = v ++ closing Reversed in
+    omega (
+      arith,
+      h,
+      l,
+      joined_most k (opening Reversed ++ t),
+      length-append (opening Reversed) t,
+      length-append v (closing Reversed),
+    )
+
+show_most : (k : ℕ) (p : List ℕ) → 0 < length p
+    → total k (shown_text Reversed p) + left_by (held_after k (shown_text Reversed p))
+    ≤ k + left_by k + 7 * length p
+show_most k [] h = absurd (omega (arith, h))
+show_most k (b ∷ p) h =
+    let v = visible_text (b ∷ p) in
+    let held : held_after k (opening Reversed ++ (v ++ closing Reversed)) ≡ 5 =
+    held_append k (opening Reversed) (v ++ closing Reversed)
+    ∙ held_append (held_after k (opening Reversed)) v (closing Reversed)
+    ∙ closing_held (held_after (held_after k (opening Reversed)) v) in
+    omega (
+      arith,
+      ap left_by held,
+      show_by k v (length (b ∷ p)) h (visible_most (b ∷ p)) (k == 5) refl,
     )
 
 module _ {A : Type 0} (limit : ℕ) (admits : Value A → Bool) where
   abbrev text : List ℕ → List ℕ
   text p = piece_text {A = A} Reversed false limit admits p
 
-  text_most : (p : List ℕ) → length (text p) ≤ 13 * length p
-  text_most p = by (is_kept Reversed limit admits p)
+  text_most : (k : ℕ) (p : List ℕ) → 0 < length p
+      → total k (text p) + left_by (held_after k (text p)) ≤ k + left_by k + 7 * length p
+  text_most k p h = by (is_kept Reversed limit admits p)
     where
-      by : (k : Bool) → length (if k then p else shown_text Reversed p) ≤ 13 * length p
-      by true = omega arith
-      by false = shown_most p
+      by : (b : Bool) → total k (if b then p else shown_text Reversed p)
+          + left_by (held_after k (if b then p else shown_text Reversed p))
+          ≤ k + left_by k + 7 * length p
+      by true = stay_most k p h
+      by false = show_most k p h
 
-  all_most : (r s : List ℕ) → length (flat_map text (pieces_after false r s))
-      + 13 * length (rest_after false r s) ≤ 13 * length r + 13 * length s
-  all_most r [] = omega arith
-  all_most r (b ∷ s) =
-      by (is_piece false (r ++ b ∷ [])) (all_most [] s) (all_most (r ++ b ∷ []) s)
+  abbrev texts : List ℕ → List ℕ → List ℕ
+  texts r s = flat_map text (pieces_after false r s)
+
+  abbrev Most : ℕ → List ℕ → List ℕ → ℕ → Type 0
+  Most k t r n = total k t + left_by (held_after k t) + 7 * length r ≤ k + left_by k + 7 * n
+
+  one_more : (k : ℕ) (p t r : List ℕ) (n : ℕ) → 0 < length p
+      → Most (held_after k (text p)) t r n → Most k (text p ++ t) r (length p + n)
+  one_more k p t r n h more = omega (
+    arith,
+    more,
+    text_most k p h,
+    total_append k (text p) t,
+    ap left_by (held_append k (text p) t),
+  )
+
+  all_most : (k : ℕ) (r s : List ℕ)
+      → Most k (texts r s) (rest_after false r s) (length r + length s)
+  all_most k r [] = omega arith
+  all_most k r (b ∷ s) =
+      by (is_piece false (r ++ b ∷ [])) (all_most (held_after k (text (r ++ b ∷ []))) [] s)
+      (all_most k (r ++ b ∷ []) s)
     where
       p : List ℕ
       p = r ++ b ∷ []
 
+      size : length p ≡ length r + 1
+      size = length-append r (b ∷ [])
+
       by : (t : Bool)
-          → length (flat_map text (pieces_after false [] s)) + 13 * length (rest_after false [] s)
-          ≤ 13 * 0 + 13 * length s
-          → length (flat_map text (pieces_after false p s)) + 13 * length (rest_after false p s)
-          ≤ 13 * length p + 13 * length s
-          → length (flat_map text (if t then p ∷ pieces_after false [] s
+          → Most (held_after k (text p)) (texts [] s) (rest_after false [] s) (0 + length s)
+          → Most k (texts p s) (rest_after false p s) (length p + length s)
+          → Most k (flat_map text (if t then p ∷ pieces_after false [] s
           else pieces_after false p s))
-          + 13 * length (if t then rest_after false [] s else rest_after false p s)
-          ≤ 13 * length r + 13 * suc (length s)
-      by true h k =
+          (if t then rest_after false [] s else rest_after false p s) (length r + suc (length s))
+      by true h m =
           omega (
             arith,
-            h,
-            text_most p,
-            length-append r (b ∷ []),
-            length-append (text p) (flat_map text (pieces_after false [] s)),
+            size,
+            one_more k p (texts [] s) (rest_after false [] s) (length s) (omega (arith, size))
+                (omega (arith, h)),
           )
-      by false h k = omega (arith, k, length-append r (b ∷ []))
+      by false h m = omega (arith, size, m)
+
+  last_most : (k : ℕ) (r : List ℕ) → total k (shown_text Reversed r) ≤ k + left_by k + 7 * length r
+  last_most k [] = omega arith
+  last_most k (b ∷ r) = omega (arith, show_most k (b ∷ r) (omega arith))
 
   pub revealed_most : (s : List ℕ)
-      → length (revealed_whole_as {A = A} Reversed false limit admits s) ≤ 13 * length s
+      → length (joined (revealed_whole_as {A = A} Reversed false limit admits s))
+      ≤ 7 * length s + 6
   revealed_most s =
       let r = rest_after false [] s in
+      let t = texts [] s in
+      let k = held_after 0 t in
       omega (
         arith,
-        length-append (flat_map text (pieces_after false [] s)) (shown_text Reversed r),
-        all_most [] s,
-        shown_most r,
+        total_append 0 t (shown_text Reversed r),
+        all_most 0 [] s,
+        last_most k r,
       )
 
 -- ---- the stream in its encoding

@@ -5,3 +5,4 @@ mod Same
 mod Seen
 mod Lining
 mod Lengths
+mod Joined

@@ -16,6 +16,7 @@ use Rattle.caret_notation.specs.Revealed.{revealed_as, revealed_whole_as}
 use Rattle.caret_notation.specs.Through.{through, through_whole}
 use Rattle.caret_notation.specs.declared.marking.Marking.TheVariants as marking
 use Rattle.caret_notation.specs.declared.reveal.Rule.{Rule}
+use Rattle.eschtml.specs.Joined.{joined}
 use Rattle.eschtml.specs.Written.{going_in, is_kept, whole_in}
 
 -- where nothing is shown
@@ -34,22 +35,30 @@ module _ {P A : Type 0} (V : Admitter P A) (rule : Rule P) (limit : ℕ) (moves 
     (kept : rule.limit ≡ limit)
     (lines : (rule.by_lines ≡ false) × (rule.marking ≡ marking.Reversed))
     (admits : V.admits rule.policy ≡ is_kept moves) where
-  pub whole_shown : (b : Bool) → b ≡ true → (s : List ℕ)
-      → whole_by {A = A} V rule s ≡ whole_in A b limit moves s
-  whole_shown true e s =
+  whole_is : (s : List ℕ) → whole_by {A = A} V rule s
+      ≡ revealed_whole_as {A = A} marking.Reversed false limit (is_kept moves) s
+  whole_is s =
       ap (λ m. revealed_whole_as m rule.by_lines rule.limit (V.admits rule.policy) s) lines.1
       ∙ ap (λ l. revealed_whole_as marking.Reversed rule.by_lines l (V.admits rule.policy) s) kept
       ∙ ap (λ b. revealed_whole_as marking.Reversed b limit (V.admits rule.policy) s) lines.0
       ∙ ap (λ a. revealed_whole_as marking.Reversed false limit a s) admits
+
+  pub whole_shown : (b : Bool) → b ≡ true → (s : List ℕ)
+      → joined (whole_by {A = A} V rule s) ≡ whole_in A b limit moves s
+  whole_shown true e s = ap joined (whole_is s)
   whole_shown false e s = absurd cc
 
-  pub going_shown : (b : Bool) → b ≡ true → (s : List ℕ)
-      → text_by {A = A} V rule s ≡ going_in A b limit moves s
-  going_shown true e s =
+  going_is : (s : List ℕ) → text_by {A = A} V rule s
+      ≡ revealed_as {A = A} marking.Reversed false limit (is_kept moves) s
+  going_is s =
       ap (λ m. revealed_as m rule.by_lines rule.limit (V.admits rule.policy) s) lines.1
       ∙ ap (λ l. revealed_as marking.Reversed rule.by_lines l (V.admits rule.policy) s) kept
       ∙ ap (λ b. revealed_as marking.Reversed b limit (V.admits rule.policy) s) lines.0
       ∙ ap (λ a. revealed_as marking.Reversed false limit a s) admits
+
+  pub going_shown : (b : Bool) → b ≡ true → (s : List ℕ)
+      → joined (text_by {A = A} V rule s) ≡ going_in A b limit moves s
+  going_shown true e s = ap joined (going_is s)
   going_shown false e s = absurd cc
 
 -- what is revealed of a stream, and then becomes HTML
@@ -85,7 +94,7 @@ nothing_decoded (CodePage p) = refl
 -- what has no text of nothing has none of what is seen of it
 no_sight_of : (m : List ℕ → List ℕ) (A : Type 0) (shows : Bool) (limit : ℕ) (moves : Bool)
     → m [] ≡ [] → m (going_in A shows limit moves []) ≡ []
-no_sight_of m A true limit moves h = ap m (rest_none marking.Reversed limit) ∙ h
+no_sight_of m A true limit moves h = ap (λ s. m (joined s)) (rest_none marking.Reversed limit) ∙ h
 no_sight_of m A false limit moves h = h
 
 pub no_sight : (m : List ℕ → List ℕ) (A : Type 0) (e : Encoding) (shows : Bool) (limit : ℕ)

@@ -11,10 +11,10 @@ most_decoded Utf8 n = n
 most_decoded EightBit n = n
 most_decoded (CodePage p) n = 4 * n
 
--- And where what is left out is shown, each of these at most 13: its number, as `<FF>`, between
--- SGR 7 and SGR 27.
+-- And where what is left out is shown, each of these at most 7: of two, one may be a character that
+-- stays, and the other its number, as `<FF>`, between SGR 7 and SGR 27.
 abbrev pub most_seen : Bool → ℕ → ℕ
-most_seen true n = 13 * n
+most_seen true n = 7 * n + 6
 most_seen false n = n
 
 abbrev pub most_content : Options → List ℕ → ℕ

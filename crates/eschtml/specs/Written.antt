@@ -17,6 +17,7 @@ use Rattle.esc_style.specs.Looks.{look_after, plain_look}
 use Rattle.esc_style.specs.declared.look.Look.{Look}
 use Rattle.caret_notation.specs.Revealed.{revealed_as, revealed_whole_as}
 use Rattle.caret_notation.specs.declared.marking.Marking.TheVariants.{Reversed}
+use Rattle.eschtml.specs.Joined.{joined}
 use Rattle.eschtml.specs.declared.options.Options.{Options}
 use Rattle.eschtml.specs.declared.stream.TheConstants.{COLUMNS}
 
@@ -58,12 +59,22 @@ IsHtml A o false s t =
 
 -- ---- what is shown of what is left out
 
--- a control sequence after which plain text is in reverse video, as what is shown is, or concealed
+-- a look that text has which is shown, or which is not seen
 abbrev pub has_disguise : Look → Bool
 has_disguise l = l.inverse || l.concealed
 
+-- a look that has both, and one of which reverse video was ended, but not by a reset
+abbrev pub disguised_look : Look
+disguised_look = record plain_look { inverse = true; concealed = true }
+
+abbrev pub is_uncovered : Look → Bool
+is_uncovered l = l.concealed && not l.inverse
+
+-- a control sequence after which plain text is in reverse video, as what is shown is, or concealed;
+-- or one that ends reverse video, as what comes after text that is shown does
 abbrev pub disguises : {A : Type 0} → Value A → Bool
-disguises (csi c) = has_disguise (look_after plain_look c)
+disguises (csi c) =
+    has_disguise (look_after plain_look c) || is_uncovered (look_after disguised_look c)
 disguises _ = false
 
 -- what stays as it is: what a page shows, and where what is left of lines is shown, what changes
@@ -72,15 +83,15 @@ abbrev pub is_kept : {A : Type 0} → Bool → Value A → Bool
 is_kept moves v = not (disguises v) && (is_shown v || (moves && admits Screen v))
 
 -- a stream that goes on; or, where what is left out is shown, what is revealed of it, in reverse
--- video
+-- video, which goes on over neighbours
 abbrev pub going_in : Type 0 → Bool → ℕ → Bool → List ℕ → List ℕ
 going_in A shows limit moves s =
-    if shows then revealed_as {A = A} Reversed false limit (is_kept moves) s else s
+    if shows then joined (revealed_as {A = A} Reversed false limit (is_kept moves) s) else s
 
 -- the same of one that has ended
 abbrev pub whole_in : Type 0 → Bool → ℕ → Bool → List ℕ → List ℕ
 whole_in A shows limit moves s =
-    if shows then revealed_whole_as {A = A} Reversed false limit (is_kept moves) s else s
+    if shows then joined (revealed_whole_as {A = A} Reversed false limit (is_kept moves) s) else s
 
 -- of what the stream becomes by its encoding
 abbrev pub seen_by : Type 0 → Options → Bool → Bool → List ℕ → List ℕ

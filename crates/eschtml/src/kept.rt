@@ -1,17 +1,20 @@
 //! What of a stream stays where what a page leaves out is shown.
 ghost use Rattle.std.specs.Prelude.{◌≡◌};
 ghost use Rattle.esc_actions.specs.Values.{value_of};
-ghost use Rattle.eschtml.specs.Written.{disguises};
+ghost use Rattle.esc_sequences.specs.Csis.{csi_value};
+ghost use Rattle.esc_style.specs.Looks.{look_after};
+ghost use Rattle.eschtml.specs.Written.{disguised_look, disguises, is_uncovered};
 
 use esc_actions::Action;
 use esc_filter::{Admit, Policy};
 use esc_html::{Look, is_shown};
+use esc_sequences::CSI;
 use memchr::memchr;
 use std::alloc::Allocator;
 
 /// Admits what a page shows, but for renditions after which text looks as what is shown or is not
-/// seen; and where what is left of lines is shown, what changes the screen, since it decides what
-/// is left.
+/// seen, and for those that end reverse video, as what comes after text that is shown does; and
+/// where what is left of lines is shown, what changes the screen, since it decides what is left.
 #[derive(Clone, Copy)]
 pub struct Kept {
     /// Whether what changes the screen stays.
@@ -36,7 +39,8 @@ impl<A: Allocator> Admit<A> for Kept {
     }
 }
 
-// Whether plain text is in reverse video after an action, as what is shown is, or concealed.
+// Whether plain text is in reverse video after an action, as what is shown is, or concealed; or the
+// action ends reverse video, and is no reset.
 fn disguises<A: Allocator>(action: &Action<A>) -> bool
     ensures { result ≡ disguises (value_of action.now) }
 {
@@ -44,7 +48,7 @@ fn disguises<A: Allocator>(action: &Action<A>) -> bool
         Action::CSI(csi) => {
             let mut look = Look::plain();
             look.apply(csi);
-            look.inverse || look.concealed
+            look.inverse || look.concealed || uncovers(csi)
         }
         Action::Print(_)
         | Action::PrintString(_)
@@ -56,4 +60,15 @@ fn disguises<A: Allocator>(action: &Action<A>) -> bool
         | Action::XtGetTcap(_)
         | Action::DeviceControl(_) => false,
     }
+}
+
+// Whether a control sequence ends reverse video, but not the rendition that conceals.
+fn uncovers<A: Allocator>(csi: &CSI<A>) -> bool
+    ensures { result ≡ is_uncovered (look_after disguised_look (csi_value csi.now)) }
+{
+    let mut look = Look::plain();
+    look.inverse = true;
+    look.concealed = true;
+    look.apply(csi);
+    look.concealed && !look.inverse
 }

@@ -5,6 +5,7 @@
 
 mod converting;
 mod heeding;
+mod joining;
 mod kept;
 mod lined;
 mod lines;

@@ -9,6 +9,7 @@ ghost use Rattle.eschtml.specs.Lengths.{IsShort};
 ghost use Rattle.eschtml.specs.Piped.{NewAdding};
 ghost use Rattle.eschtml.specs.Written.{IsHtml, IsHtmlBy, ended_by, going_by, html_by, html_of, layout_by, page_of, seen_by, shown_of};
 
+use crate::joining::Joining;
 use crate::kept::Kept;
 use crate::lined::Lined;
 use crate::options::Options;
@@ -216,7 +217,8 @@ fn write_seen<A: Allocator + Copy, R: Read, W: Write, F: StreamFilter<A> + Drop>
             false,
             Marking::Reversed,
         );
-        let shown = Revealing::new(alloc, reveal, filter);
+        let joining = Joining::new(alloc, filter);
+        let shown = Revealing::new(alloc, reveal, joining);
         let mut filter = Decoding::new(alloc, options.encoding, shown);
         pump(alloc, &mut filter, reader, writer)
     } else {
