@@ -9,8 +9,8 @@ use Rattle.esc_style.specs.declared.look.Look.{Look}
 use Rattle.esc_sgr.specs.Sgr.{change_text, look_text, same_look}
 use Rattle.unicode_visibility.specs.Characters.{is_among, is_shown}
 use Rattle.unicode_visibility.specs.Following.{joins_emoji, joins_letters, may_follow}
-use Rattle.esc_sheet.specs.Sheets.{IsSheet, Piece, is_character, is_fit, is_joiner, piece_text}
-use Rattle.esc_sheet.specs.Sheets.Piece.{Change, Number}
+use Rattle.esc_sheet.specs.Sheets.{IsSheet, Piece, is_character, is_fit, is_joiner, lead_text, piece_text}
+use Rattle.esc_sheet.specs.Sheets.Piece.{Change, Lead, Number}
 
 sheet_piece : (s : List ℕ) (p : Piece) → is_fit p ≡ true → IsSheet s
     → IsSheet (s ++ piece_text p)
@@ -49,6 +49,13 @@ sheet_change (Ok u) s t a b h ok err = change (same_look a b) ok
     change true f = subst (λ x. ∥ IsSheet x ∥₁) (sym (f ∙ append-nil s)) h
     change false f = sheet_push true s t (Change b) refl h f
 sheet_change (Err e) s t a b h ok err = sheet_cleared t err
+
+-- and of what begins a link
+pub sheet_lead : {U E : Type 0} (r : Result U E) (s t : List ℕ) (i : Option (List ℕ)) (a : List ℕ)
+    → is_fit (Lead i a) ≡ true → ∥ IsSheet s ∥₁ → OnOk r (t ≡ s ++ lead_text i a)
+    → OnErr r (t ≡ []) → ∥ IsSheet t ∥₁
+sheet_lead (Ok u) s t i a fit h ok err = sheet_push true s t (Lead i a) fit h ok
+sheet_lead (Err e) s t i a fit h ok err = sheet_cleared t err
 
 -- a character that shows
 pub shown_fits : (c : ℕ) → is_shown c ≡ true → is_character c ≡ true

@@ -1,5 +1,6 @@
--- Text with nothing live in it: characters that show, ends of lines, and sequences that make looks.
-use Rattle.std.specs.Prelude.{ℕ, ◌≡◌, ◌==◌, ◌||◌, Bool, true, List, [], ◌∷◌, Option}
+-- Text with nothing live in it: characters that show, ends of lines, sequences that make looks, and
+-- links.
+use Rattle.std.specs.Prelude.{ℕ, ◌≡◌, ◌==◌, nat_lt, ◌||◌, ◌&&◌, Bool, true, List, [], ◌∷◌, ◌++◌, codes, Option, Some, None}
 use Rattle.std.specs.List.{list_all, flat_map}
 use Rattle.std.specs.Char.{encode_utf8}
 use Rattle.std.specs.Fmt.{decimal}
@@ -17,24 +18,44 @@ is_joiner c = is_among 0xfe0e 0xfe0f c || ((c == 0x200d) || (c == 0x200c))
 abbrev pub is_character : ℕ → Bool
 is_character c = is_shown c || is_joiner c
 
--- A piece of the text: a character, a number in decimal, the end of a line, or what makes a look.
+-- a character of an address and of an id: one of ASCII that shows
+abbrev pub is_address_char : ℕ → Bool
+is_address_char c = nat_lt 0x20 c && nat_lt c 0x7f
+
+abbrev pub is_id : Option (List ℕ) → Bool
+is_id None = true
+is_id (Some i) = list_all is_address_char i
+
+abbrev pub id_text : Option (List ℕ) → List ℕ
+id_text None = []
+id_text (Some i) = codes "id=" ++ i
+
+-- what begins a link with an id, or without one, and an address; with neither, it ends one (OSC 8)
+abbrev pub lead_text : Option (List ℕ) → List ℕ → List ℕ
+lead_text i a = 0x1b ∷ codes "]8;" ++ (id_text i ++ (0x3b ∷ a ++ 0x1b ∷ 0x5c ∷ []))
+
+-- A piece of the text: a character, a number in decimal, the end of a line, what makes a look, or
+-- what begins a link or ends one.
 pub data Piece : Type 0 where
   Character : ℕ → Piece
   Number : ℕ → Piece
   LineEnd : Piece
   Change : Look → Piece
+  Lead : Option (List ℕ) → List ℕ → Piece
 
 abbrev pub piece_text : Piece → List ℕ
 piece_text (Character c) = encode_utf8 c
 piece_text (Number n) = decimal n
 piece_text LineEnd = 0x0a ∷ []
 piece_text (Change l) = look_text l
+piece_text (Lead i a) = lead_text i a
 
 abbrev pub is_fit : Piece → Bool
 is_fit (Character c) = is_character c
 is_fit (Number n) = true
 is_fit LineEnd = true
 is_fit (Change l) = true
+is_fit (Lead i a) = is_id i && list_all is_address_char a
 
 -- a text that is made of such pieces
 abbrev pub IsSheet : List ℕ → Type 0

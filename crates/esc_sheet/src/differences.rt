@@ -3,6 +3,7 @@
 use crate::rows::push_content;
 use crate::sheet::Sheet;
 use crate::view::View;
+use esc_links::Hyperlink;
 use esc_screen::{Cell, Content, Marks, Screen};
 use esc_sgr::is_same;
 use std::alloc::AllocError;
@@ -66,8 +67,18 @@ fn is_same_at(cells: (&[Cell], &[Cell]), views: (View<'_>, View<'_>), at: usize)
         (Some(one), Some(other)) => {
             is_same_content(one.content, other.content)
                 && is_same(&views.0.look_of(one), &views.1.look_of(other))
+                && is_same_link(views.0.link_of(one), views.1.link_of(other))
         }
         _ => true,
+    }
+}
+
+// Whether two links are the same.
+fn is_same_link(one: Option<&Hyperlink>, other: Option<&Hyperlink>) -> bool {
+    match (one, other) {
+        (Some(one), Some(other)) => one.uri == other.uri && one.params == other.params,
+        (None, None) => true,
+        (Some(_), None) | (None, Some(_)) => false,
     }
 }
 

@@ -2,6 +2,7 @@
 
 use crate::sheet::Sheet;
 use crate::view::View;
+use esc_links::Hyperlink;
 use esc_screen::{Cell, Content, Cursor, Marks};
 use esc_sequences::Underline;
 use esc_sgr::is_first;
@@ -42,6 +43,7 @@ pub fn push_object(sheet: &mut Sheet, view: View<'_>) -> Result<(), AllocError> 
         Some(title) => push_string(sheet, title)?,
         None => sheet.push_text("null")?,
     }
+    push_links(sheet, view.styles.links())?;
     sheet.push_text(",\"cells\":[")?;
     for at in 0..screen.height() {
         if at > 0 {
@@ -74,6 +76,27 @@ fn push_flag(sheet: &mut Sheet, name: &str, is_on: bool) -> Result<(), AllocErro
     sheet.push_text(if is_on { "true" } else { "false" })
 }
 
+// Adds the links, where there are any, in the order of their numbers.
+fn push_links(sheet: &mut Sheet, links: &[Hyperlink]) -> Result<(), AllocError> {
+    if links.is_empty() {
+        return Ok(());
+    }
+    sheet.push_text(",\"links\":[")?;
+    let mut comma = "";
+    for link in links {
+        sheet.push_text(comma)?;
+        sheet.push_text("{\"address\":")?;
+        push_string(sheet, link.uri.as_str())?;
+        if let Some(id) = link.params.get("id") {
+            sheet.push_text(",\"id\":")?;
+            push_string(sheet, id)?;
+        }
+        sheet.push_text("}")?;
+        comma = ",";
+    }
+    sheet.push_text("]")
+}
+
 // Adds the cells of a row of which something is seen.
 fn push_row(sheet: &mut Sheet, cells: &[Cell], view: View<'_>) -> Result<(), AllocError> {
     sheet.push_text("[")?;
@@ -82,7 +105,7 @@ fn push_row(sheet: &mut Sheet, cells: &[Cell], view: View<'_>) -> Result<(), All
     for cell in cells {
         if !cell.content.is_rest() && !view.hides(cell) {
             sheet.push_text(comma)?;
-            push_cell(sheet, column, cell.content, &view.look_of(cell))?;
+            push_cell(sheet, column, cell, view)?;
             comma = ",";
         }
         column = column.saturating_add(1);
@@ -94,17 +117,20 @@ fn push_row(sheet: &mut Sheet, cells: &[Cell], view: View<'_>) -> Result<(), All
 fn push_cell(
     sheet: &mut Sheet,
     column: u16,
-    content: Content,
-    look: &Look,
+    cell: &Cell,
+    view: View<'_>,
 ) -> Result<(), AllocError> {
     push_number(sheet, "{\"column\":", column)?;
     sheet.push_text(",\"text\":\"")?;
-    push_content(sheet, content)?;
+    push_content(sheet, cell.content)?;
     sheet.push_text("\"")?;
-    if let Content::Wide(_, _) = content {
+    if let Content::Wide(_, _) = cell.content {
         sheet.push_text(",\"width\":2")?;
     }
-    push_look(sheet, look)?;
+    push_look(sheet, &view.look_of(cell))?;
+    if let Some(number) = view.seen().link_number(cell.look) {
+        push_number(sheet, ",\"link\":", number)?;
+    }
     sheet.push_text("}")
 }
 

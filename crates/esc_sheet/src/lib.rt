@@ -2,8 +2,8 @@
 //! object of JSON; in which cells two screens differ; and the lines that a terminal leaves.
 //!
 //! A [`Sheet`] is such a text. Each of its characters shows as itself, or belongs to the character
-//! before it, as in emoji, or ends a line, or is of a sequence that makes a look (SGR). A character
-//! that hides or reorders text is spelled.
+//! before it, as in emoji, or ends a line, or is of a sequence that makes a look (SGR) or a link
+//! (OSC 8). A character that hides or reorders text is spelled.
 //!
 //! ```text
 //! let mut sheet = Sheet::new(alloc);
@@ -14,6 +14,7 @@
 
 mod differences;
 mod json;
+mod leading;
 mod log;
 mod rows;
 mod sheet;

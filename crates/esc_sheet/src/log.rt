@@ -4,9 +4,8 @@ use crate::rows::{end_lines, push_row};
 use crate::sheet::Sheet;
 use crate::view::Seen;
 use esc_screen::{Cell, Screen, is_joined};
-use esc_style::Look;
-use esc_terminal::Rows;
-use std::alloc::{AllocError, Global};
+use esc_terminal::{Rows, Styles};
+use std::alloc::{AllocError, Allocator, Global};
 
 /// The lines that a terminal leaves: the rows that are scrolled off its screen, which it takes as
 /// [`Rows`], and then those of the screen. A row that goes on in the next one, by a wrap, is one
@@ -34,10 +33,10 @@ impl Log {
         &self.sheet
     }
 
-    /// Adds the rows of a screen, of which the cells have the numbers of these looks, without the
-    /// last ones of which nothing is seen; and ends the line.
-    pub fn push_screen(&mut self, screen: &Screen, looks: &[Look]) -> Result<(), AllocError> {
-        let seen = self.seen(looks);
+    /// Adds the rows of a screen, of which the cells have the numbers of these looks and links,
+    /// without the last ones of which nothing is seen; and ends the line.
+    pub fn push_screen(&mut self, screen: &Screen, styles: &Styles) -> Result<(), AllocError> {
+        let seen = self.seen(styles);
         let mut missing: u16 = 0;
         for at in 0..screen.height() {
             let cells = screen.row(at as usize);
@@ -70,7 +69,11 @@ impl Log {
     }
 
     // Adds a row, and ends the line where the row does not go on.
-    fn push_row(&mut self, cells: &[Cell], seen: Seen<'_>) -> Result<(), AllocError> {
+    fn push_row<A: Allocator + Copy>(
+        &mut self,
+        cells: &[Cell],
+        seen: Seen<'_, A>,
+    ) -> Result<(), AllocError> {
         push_row(&mut self.sheet, cells, seen)?;
         self.is_open = is_joined(cells);
         if self.is_open {
@@ -80,10 +83,10 @@ impl Log {
         }
     }
 
-    // How cells look that have the numbers of these looks.
-    fn seen<'a>(&self, looks: &'a [Look]) -> Seen<'a> {
+    // How cells look that have the numbers of these looks and links.
+    fn seen<'a, A: Allocator + Copy>(&self, styles: &'a Styles<A>) -> Seen<'a, A> {
         Seen {
-            looks,
+            styles,
             has_looks: self.has_looks,
             is_reversed: false,
         }
@@ -96,7 +99,11 @@ impl Rows for Log {
 
     ghost fails = { Unit {0} };
 
-    fn take_row(&mut self, cells: &[Cell], looks: &[Look]) -> Result<(), AllocError> {
-        self.push_row(cells, self.seen(looks))
+    fn take_row<A: Allocator + Copy>(
+        &mut self,
+        cells: &[Cell],
+        styles: &Styles<A>,
+    ) -> Result<(), AllocError> {
+        self.push_row(cells, self.seen(styles))
     }
 }

@@ -4,7 +4,7 @@ use crate::sheet::Sheet;
 use crate::view::{Seen, View};
 use esc_screen::{Cell, Content, Marks};
 use esc_style::Look;
-use std::alloc::AllocError;
+use std::alloc::{AllocError, Allocator};
 
 /// Adds the rows of a screen, a line each, without the last ones of which nothing is seen.
 pub fn push_rows(sheet: &mut Sheet, view: View<'_>) -> Result<(), AllocError> {
@@ -33,11 +33,11 @@ pub(crate) fn end_lines(sheet: &mut Sheet, count: u16) -> Result<(), AllocError>
 }
 
 /// Adds a row, without the last cells of which nothing is seen, from the plain look to the plain
-/// look.
-pub(crate) fn push_row(
+/// look, with no link open before and after it.
+pub(crate) fn push_row<A: Allocator + Copy>(
     sheet: &mut Sheet,
     cells: &[Cell],
-    seen: Seen<'_>,
+    seen: Seen<'_, A>,
 ) -> Result<(), AllocError> {
     let mut held: Option<u16> = None;
     let mut blanks: u16 = 0;
@@ -54,38 +54,61 @@ pub(crate) fn push_row(
             held = Some(cell.look);
         }
     }
-    sheet.push_change(&held_look(seen, held), &Look::plain())
+    push_plain(sheet, seen, held)
 }
 
 // The look that holds, where it has this number: the plain one, where it has none.
-fn held_look(seen: Seen<'_>, held: Option<u16>) -> Look {
+fn held_look<A: Allocator + Copy>(seen: Seen<'_, A>, held: Option<u16>) -> Look {
     match held {
         Some(number) => seen.look_at(number),
         None => Look::plain(),
     }
 }
 
-// Adds so many blank cells after characters of a look.
-fn push_blanks(
+// The number of the link that is open.
+fn held_link<A: Allocator + Copy>(seen: Seen<'_, A>, held: Option<u16>) -> Option<u16> {
+    match held {
+        Some(number) => seen.link_number(number),
+        None => None,
+    }
+}
+
+// Makes the plain look, and ends a link, after characters of this number.
+fn push_plain<A: Allocator + Copy>(
     sheet: &mut Sheet,
-    seen: Seen<'_>,
+    seen: Seen<'_, A>,
+    held: Option<u16>,
+) -> Result<(), AllocError> {
+    if held_link(seen, held).is_some() {
+        sheet.end_link()?;
+    }
+    sheet.push_change(&held_look(seen, held), &Look::plain())
+}
+
+// Adds so many blank cells after characters of this number.
+fn push_blanks<A: Allocator + Copy>(
+    sheet: &mut Sheet,
+    seen: Seen<'_, A>,
     held: Option<u16>,
     count: u16,
 ) -> Result<(), AllocError> {
-    sheet.push_change(&held_look(seen, held), &Look::plain())?;
+    push_plain(sheet, seen, held)?;
     for _ in 0..count {
         sheet.push(' ')?;
     }
     Ok(())
 }
 
-// Adds a cell after characters of a look.
-fn push_seen(
+// Adds a cell after characters of this number.
+fn push_seen<A: Allocator + Copy>(
     sheet: &mut Sheet,
-    seen: Seen<'_>,
+    seen: Seen<'_, A>,
     held: Option<u16>,
     cell: &Cell,
 ) -> Result<(), AllocError> {
+    if held_link(seen, held) != seen.link_number(cell.look) {
+        sheet.push_link(seen.link_at(cell.look))?;
+    }
     sheet.push_change(&held_look(seen, held), &seen.look_of(cell))?;
     push_content(sheet, cell.content)
 }

@@ -1,22 +1,36 @@
-//! Text that is made of characters that show, ends of lines, and sequences that make looks.
+//! Text that is made of characters that show, ends of lines, sequences that make looks, and links.
+ghost use Rattle.std.specs.Option.{option_map};
 ghost use Rattle.std.specs.Prelude.{◌≡◌, ◌++◌, [], IsTrue, OnErr, OnOk, string_bytes, true};
 ghost use Rattle.std.specs.Fmt.{decimal};
 ghost use Rattle.esc_sgr.specs.Sgr.{change_text};
-ghost use Rattle.esc_sheet.specs.Sheets.{IsSheet, is_character};
+ghost use Rattle.esc_sheet.specs.Sheets.{IsSheet, is_character, is_fit, lead_text};
+ghost use Rattle.esc_sheet.specs.Sheets.Piece.{Lead};
 
+use crate::leading::{append_lead, is_writable};
+use esc_links::Hyperlink;
 use esc_sgr::{is_same, push_change};
 use esc_style::Look;
-use std::alloc::{AllocError, Global};
+use std::alloc::{AllocError, Allocator, Global};
 use unicode_visibility::{is_shown, may_follow, number_text};
 
+// How many bytes links take at most before any character, and for each character more: so a text
+// with links is no longer than a multiple of what it shows.
+const FIRST_ROOM: usize = 1 << 20;
+
+const MORE_ROOM: usize = 64;
+
 /// A text of which each character shows as itself, or belongs to the character before it, as in
-/// emoji; or ends a line; or is of a sequence that makes a look. Any other is spelled. Once a
-/// request for memory is refused, some of it may be missing.
+/// emoji; or ends a line; or is of a sequence that makes a look, or of a link. Others are spelled.
+/// Once a request for memory is refused, some of it may be missing.
 #[derive(Drop)]
 pub struct Sheet {
     text: String,
     // the last character, where it may have one that belongs to it
     last: Option<char>,
+    // whether a link is open
+    leads: bool,
+    // how many bytes the next links may take
+    room: usize,
     ghost safe: { ∥ IsSheet (string_bytes text) ∥₁ },
 }
 
@@ -27,6 +41,8 @@ impl Sheet {
         Sheet {
             text: String::new(alloc),
             last: None,
+            leads: false,
+            room: FIRST_ROOM,
         }
     }
 
@@ -79,6 +95,46 @@ impl Sheet {
         append_change(&mut self.text, from, to)
     }
 
+    /// Begins a link, or ends one. A link of which the id or the address has a character other than
+    /// those of ASCII that show is left out, and so is one where too much of the text is links.
+    pub fn push_link<A: Allocator>(
+        &mut self,
+        link: Option<&Hyperlink<A>>,
+    ) -> Result<(), AllocError> {
+        match link {
+            Some(link) => self.begin_link(link.params.get("id"), link.uri.as_str()),
+            None => self.end_link(),
+        }
+    }
+
+    // Begins a link.
+    fn begin_link(&mut self, id: Option<&str>, address: &str) -> Result<(), AllocError> {
+        let length = length_of(id, address);
+        if self.room < length || !is_writable(id, address) {
+            return self.end_link();
+        }
+        self.room -= length;
+        self.leads = true;
+        self.push_lead(id, address)
+    }
+
+    /// Ends a link, where one is open.
+    pub fn end_link(&mut self) -> Result<(), AllocError> {
+        if !self.leads {
+            return Ok(());
+        }
+        self.leads = false;
+        self.push_lead(None, "")
+    }
+
+    // Adds what begins a link, or ends one.
+    fn push_lead(&mut self, id: Option<&str>, address: &str) -> Result<(), AllocError>
+        requires { is_fit (Lead (option_map (λ i. i.now) id) address.now) ≡ true }
+    {
+        self.last = None;
+        append_lead(&mut self.text, id, address)
+    }
+
     // Whether a character shows as itself, or belongs to the last one.
     #[tactic(auto, using(crate::proofs::Sheets::shows_fits))]
     fn shows(&self, c: char) -> bool
@@ -92,8 +148,18 @@ impl Sheet {
         requires { is_character c ≡ true }
     {
         self.last = Some(c);
+        self.room = self.room.saturating_add(MORE_ROOM);
         fallible_alloc::push_char(&mut self.text, c)
     }
+}
+
+// How many bytes a link takes at most, with its end.
+fn length_of(id: Option<&str>, address: &str) -> usize {
+    let length = match id {
+        Some(id) => id.len(),
+        None => 0,
+    };
+    length.saturating_add(address.len()).saturating_add(0x20)
 }
 
 // Appends a number in decimal; the error leaves nothing of the text.

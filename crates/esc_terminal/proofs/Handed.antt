@@ -16,7 +16,7 @@ use Rattle.typed_functions.specs.declared.tab_change.TabChange.{TabChange}
 use Rattle.typed_functions.specs.declared.tab_change.TabChange.TheVariants as tab_changes
 use Rattle.typed_functions.specs.declared.tabulation_clear.TabulationClear.{TabulationClear}
 use Rattle.typed_functions.specs.declared.tabulation_clear.TabulationClear.TheVariants as clear
-use Rattle.esc_style.specs.declared.look.Look.{Look}
+use Rattle.esc_terminal.specs.Links.{Known, Target}
 use Rattle.esc_screen.specs.Grids.{Grid, Size}
 use Rattle.esc_screen.specs.Scrolled.{gone_by, joined_by, off_by, off_each, off_from}
 use Rattle.esc_screen.specs.Steps.{grid_by, grid_from}
@@ -24,8 +24,8 @@ use Rattle.esc_screen.specs.declared.cell.Cell.{Cell}
 use Rattle.esc_screen.specs.declared.cursor.Cursor.{Cursor as Place}
 use Rattle.esc_screen.specs.declared.step.Step.{Step}
 use Rattle.esc_screen.specs.declared.step.Step.TheVariants as step
-use Rattle.esc_terminal.specs.Scrolled.{Row, with_looks}
-use Rattle.esc_terminal.specs.Steps.{choice_step, choice_steps, function_looks, function_steps, if_clear, if_tab, mode_step, mode_steps, numbered_choice, numbered_step, one_step, private_step, standard_step}
+use Rattle.esc_terminal.specs.Scrolled.{Row, with_known}
+use Rattle.esc_terminal.specs.Steps.{choice_step, choice_steps, function_known, function_steps, if_clear, if_tab, lead_steps, mode_step, mode_steps, numbered_choice, numbered_step, one_step, private_step, standard_step}
 
 -- ---- steps that scroll nothing off
 
@@ -120,7 +120,7 @@ choices_off s g c (n ∷ ns) =
 -- ---- functions
 
 -- the steps of one that is more than one step scroll nothing off
-pub function_off : (s : Size) (g : Grid) (ls : List Look) (k : Place) (f : Function)
+pub function_off : (s : Size) (g : Grid) (ls : Known) (k : Place) (f : Function)
     → None ≡ one_step k f → off_from s g (function_steps ls k f) ≡ []
 function_off s g ls k (cursor c) h = absurd (none-some _ h)
 function_off s g ls k (edit e) h = absurd (none-some _ h)
@@ -140,9 +140,9 @@ abbrev as_list : Option Step → List Step
 as_list None = []
 as_list (Some x) = x ∷ []
 
--- of one that is a step this is the only one, and it changes no looks
-pub one_is : (ls : List Look) (k : Place) (f : Function) (x : Step) → one_step k f ≡ Some x
-    → (function_steps ls k f ≡ x ∷ []) × (function_looks ls k f ≡ ls)
+-- of one that is a step this is the only one, and it changes nothing that is known
+pub one_is : (ls : Known) (k : Place) (f : Function) (x : Step) → one_step k f ≡ Some x
+    → (function_steps ls k f ≡ x ∷ []) × (function_known ls k f ≡ ls)
 one_is ls k (cursor c) x h = (ap as_list h, refl)
 one_is ls k (edit e) x h = (ap as_list h, refl)
 one_is ls k (device d) x h = (ap as_list h, refl)
@@ -157,16 +157,23 @@ one_is ls k (tabs c ns) x h = absurd (none-some x h)
 one_is ls k (renditions rs) x h = absurd (none-some x h)
 one_is ls k (other d) x h = absurd (none-some x h)
 
+-- what begins a link or ends one scrolls nothing off
+pub lead_rows : {R : Type 0} (takes : R → Row → R → Type 0) (s : Size) (g : Grid) (c : Place)
+    (k : Known) (o : Option (Option Target)) (r : R)
+    → FoldsTo takes r (with_known k (off_from s g (lead_steps c k o))) r
+lead_rows takes s g c k None r = refl
+lead_rows takes s g c k (Some t) r = refl
+
 -- ---- rows, one after another
 
 -- a row more
-pub row_more : {R : Type 0} (takes : R → Row → R → Type 0) (ls : List Look)
+pub row_more : {R : Type 0} (takes : R → Row → R → Type 0) (ls : Known)
     (rs : List (List Cell)) (i : ℕ) (p j q : R) → i < length rs
-    → FoldsTo takes p (with_looks ls (take i rs)) j → takes j (get_or rs i [], ls) q
-    → FoldsTo takes p (with_looks ls (take (i + 1) rs)) q
+    → FoldsTo takes p (with_known ls (take i rs)) j → takes j (get_or rs i [], ls) q
+    → FoldsTo takes p (with_known ls (take (i + 1) rs)) q
 row_more {R} takes ls rs i p j q less so next =
     subst (λ z. FoldsTo takes p z q) (sym (map_more (λ r. (r, ls)) rs i [] less))
-    (FoldsTo-push takes p (with_looks ls (take i rs)) j (get_or rs i [], ls) q so next)
+    (FoldsTo-push takes p (with_known ls (take i rs)) j (get_or rs i [], ls) q so next)
 
 off_push : (s : Size) (g : Grid) (xs : List Step) (x : Step)
     → off_each s g (xs ++ x ∷ [])
@@ -181,14 +188,14 @@ off_push s g (y ∷ ys) x =
     (take (gone_by s (grid_from s h ys) x) (joined_by s (grid_from s h ys) x).rows))
 
 -- what one step more scrolls off
-pub part_more : (s : Size) (g : Grid) (x : Step) (n : ℕ) (ls : List Look)
+pub part_more : (s : Size) (g : Grid) (x : Step) (n : ℕ) (ls : Known)
     → let h = grid_from s g (replicate n x) in
-    with_looks ls (off_each s g (replicate n x))
-    ++ with_looks ls (take (gone_by s h x) (joined_by s h x).rows)
-    ≡ with_looks ls (off_each s g (replicate (n + 1) x))
+    with_known ls (off_each s g (replicate n x))
+    ++ with_known ls (take (gone_by s h x) (joined_by s h x).rows)
+    ≡ with_known ls (off_each s g (replicate (n + 1) x))
 part_more s g x n ls =
     let h = grid_from s g (replicate n x) in
     let rest = take (gone_by s h x) (joined_by s h x).rows in
     sym (map-append (λ r. (r, ls)) (off_each s g (replicate n x)) rest)
-    ∙ ap (with_looks ls) (sym (off_push s g (replicate n x) x)
+    ∙ ap (with_known ls) (sym (off_push s g (replicate n x) x)
     ∙ ap (off_each s g) (replicate_more n x))

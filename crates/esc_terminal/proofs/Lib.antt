@@ -1,3 +1,4 @@
+pub mod LinksKept
 pub mod Kept
 pub mod Runs
 pub mod Streams

@@ -10,7 +10,7 @@ use Rattle.esc_actions.specs.Meaning.{yield_within}
 use Rattle.esc_actions.specs.Values.{Value, value_of, print, string, control, esc, csi, osc, kitty, sixel, termcap, short, enter, datum, exit}
 use Rattle.esc_actions.specs.declared.action.Action.{Action}
 use Rattle.typed_functions.specs.Functions.{Value as Function}
-use Rattle.esc_style.specs.declared.look.Look.{Look}
+use Rattle.esc_terminal.specs.Links.{Known}
 use Rattle.esc_screen.specs.Grids.{Grid, Size}
 use Rattle.esc_screen.specs.Screens.{Becomes, grid_of, size_of}
 use Rattle.esc_screen.specs.Scrolled.{gone_by, joined_by, off_by, off_each, off_from, parts_of}
@@ -20,10 +20,10 @@ use Rattle.esc_screen.specs.declared.step.Step.{Step}
 use Rattle.esc_screen.proofs.Joined.{gone_joined, joins_once}
 use Rattle.esc_screen.proofs.Runs.{in_chunks}
 use Rattle.esc_screen.proofs.Scrolling.{in_parts}
-use Rattle.esc_terminal.specs.Fed.{Does, Shows, Takes, TakesAll, TakesValue, looks_in, requests_in, shown_in}
+use Rattle.esc_terminal.specs.Fed.{Does, Shows, Takes, TakesAll, TakesValue, known_in, requests_in, shown_in}
 use Rattle.esc_terminal.specs.Kept.{HandsOut, KeepsAction, KeepsFunction, KeepsStep}
 use Rattle.esc_terminal.specs.Requests.{function_request, request_list}
-use Rattle.esc_terminal.specs.Scrolled.{GoesOffOn, Row, off_after, off_by_value, with_looks}
+use Rattle.esc_terminal.specs.Scrolled.{GoesOffOn, Row, off_after, off_by_value, with_known}
 use Rattle.esc_terminal.specs.Steps.{one_step}
 use Rattle.esc_terminal.specs.Streams.{Shown, first_shown, shown_after, shown_by, shown_of, values_of}
 use Rattle.esc_terminal.specs.declared.keeping.Keeping.{Keeping}
@@ -38,10 +38,10 @@ pub record Stepped {R A : Type 0} (takes : R → Row → R → Type 0) (p : Keep
     (n : ℕ) (q : Keeping R A) : Type 0 where
   pub screen : Becomes p.state.screen
       (grid_from (size_of p.state.screen) (grid_of p.state.screen) (replicate n x)) q.state.screen
-  pub looks : looks_in q.state ≡ looks_in p.state
+  pub known : known_in q.state ≡ known_in p.state
   pub title : q.state.title ≡ p.state.title
   pub requests : requests_in q.state ≡ requests_in p.state
-  pub rows : FoldsTo takes p.rows (with_looks (looks_in p.state)
+  pub rows : FoldsTo takes p.rows (with_known (known_in p.state)
       (off_each (size_of p.state.screen) (grid_of p.state.screen) (replicate n x))) q.rows
 
 pub stepped_none : {R A : Type 0} (takes : R → Row → R → Type 0) (p : Keeping R A) (x : Step)
@@ -51,7 +51,7 @@ stepped_none takes p x = record {
     grid = refl;
     size = refl;
   };
-  looks = refl;
+  known = refl;
   title = refl;
   requests = refl;
   rows = refl;
@@ -63,18 +63,18 @@ with_screen p u = record p { state = record (p.state) { screen = u } }
 
 -- what is handed out of it
 joined_rows : {R A : Type 0} (takes : R → Row → R → Type 0) (j k : Keeping R A) (x : Step)
-    (u : Screen A) (s : Size) (h : Grid) (ls : List Look) → size_of u ≡ s
-    → grid_of u ≡ joined_by s h x → looks_in j.state ≡ ls
+    (u : Screen A) (s : Size) (h : Grid) (ls : Known) → size_of u ≡ s
+    → grid_of u ≡ joined_by s h x → known_in j.state ≡ ls
     → HandsOut takes (with_screen j u) (take (gone_by (size_of u) (grid_of u) x) u.rows.items) k
-    → FoldsTo takes j.rows (with_looks ls (take (gone_by s h x) (joined_by s h x).rows)) k.rows
-joined_rows takes j k x u s h ls size grid looks out =
-    subst (λ n. FoldsTo takes j.rows (with_looks ls (take n (joined_by s h x).rows)) k.rows)
+    → FoldsTo takes j.rows (with_known ls (take (gone_by s h x) (joined_by s h x).rows)) k.rows
+joined_rows takes j k x u s h ls size grid known out =
+    subst (λ n. FoldsTo takes j.rows (with_known ls (take n (joined_by s h x).rows)) k.rows)
     (gone_joined s h x)
-    (subst (λ z. FoldsTo takes j.rows (with_looks ls (take (gone_by s z x) z.rows)) k.rows) grid
-    (subst (λ z. FoldsTo takes j.rows (with_looks ls (take (gone_by z (grid_of u) x)
+    (subst (λ z. FoldsTo takes j.rows (with_known ls (take (gone_by s z x) z.rows)) k.rows) grid
+    (subst (λ z. FoldsTo takes j.rows (with_known ls (take (gone_by z (grid_of u) x)
     (grid_of u).rows)) k.rows) size
-    (subst (λ z. FoldsTo takes j.rows (with_looks z (take (gone_by (size_of u) (grid_of u) x)
-    (grid_of u).rows)) k.rows) looks out.1)))
+    (subst (λ z. FoldsTo takes j.rows (with_known z (take (gone_by (size_of u) (grid_of u) x)
+    (grid_of u).rows)) k.rows) known out.1)))
 
 pub stepped_more : {R A : Type 0} (takes : R → Row → R → Type 0) (p j k : Keeping R A) (x : Step)
     (n : ℕ) (u t : Screen A) → Stepped takes p x n j
@@ -85,7 +85,7 @@ pub stepped_more : {R A : Type 0} (takes : R → Row → R → Type 0) (p j k : 
 stepped_more takes p j k x n u t so on out b =
     let s = size_of p.state.screen in
     let g = grid_of p.state.screen in
-    let ls = looks_in p.state in
+    let ls = known_in p.state in
     let h = grid_from s g (replicate n x) in
     let same = out.0 in
     let size = on.size ∙ so.screen.size in
@@ -93,7 +93,7 @@ stepped_more takes p j k x n u t so on out b =
     ∙ ap (λ z. joined_by s z x) so.screen.grid in
     let more : grid_by s h x ≡ grid_from s g (replicate (n + 1) x) =
     sym (in_chunks s g (replicate n x) (x ∷ [])) ∙ ap (grid_from s g) (replicate_more n x) in
-    let last = joined_rows takes j k x u s h ls size grid so.looks out in
+    let last = joined_rows takes j k x u s h ls size grid so.known out in
     record {
       screen = record {
         grid = b.grid
@@ -102,12 +102,12 @@ stepped_more takes p j k x n u t so on out b =
             ∙ ap (λ z. grid_by s z x) grid ∙ joins_once s h x ∙ more;
         size = b.size ∙ ap (λ z. size_of z.screen) same ∙ size;
       };
-      looks = ap looks_in same ∙ so.looks;
+      known = ap known_in same ∙ so.known;
       title = ap (λ z. z.title) same ∙ so.title;
       requests = ap requests_in same ∙ so.requests;
       rows = subst (λ z. FoldsTo takes p.rows z k.rows) (part_more s g x n ls)
-          (FoldsTo-append takes p.rows (with_looks ls (off_each s g (replicate n x))) j.rows
-          (with_looks ls (take (gone_by s h x) (joined_by s h x).rows)) k.rows so.rows last);
+          (FoldsTo-append takes p.rows (with_known ls (off_each s g (replicate n x))) j.rows
+          (with_known ls (take (gone_by s h x) (joined_by s h x).rows)) k.rows so.rows last);
     }
 
 pub stepped_all : {R A : Type 0} (takes : R → Row → R → Type 0) (p q : Keeping R A) (x y : Step)
@@ -122,11 +122,11 @@ stepped_all takes p q x y n is so =
           grid = so.screen.grid ∙ ap (grid_from s g) is ∙ sym (in_parts s g x);
           size = so.screen.size;
         };
-        looks = so.looks;
+        known = so.known;
         title = so.title;
         requests = so.requests ∙ sym (append-nil (requests_in p.state));
       },
-      subst (λ z. FoldsTo takes p.rows (with_looks (looks_in p.state) z) q.rows)
+      subst (λ z. FoldsTo takes p.rows (with_known (known_in p.state) z) q.rows)
           (ap (off_each s g) is ∙ sym (append-nil (off_by s g x))) so.rows,
     )
 
@@ -134,10 +134,10 @@ stepped_all takes p q x y n is so =
 
 pub step_kept : {R A : Type 0} (takes : R → Row → R → Type 0) (p j q : Keeping R A) (x : Step)
     (f : Function) → one_step p.state.screen.cursor f ≡ Some x → KeepsStep takes p x j
-    → Does j.state [] (looks_in j.state) j.state.title (request_list (function_request f)) q.state
+    → Does j.state [] (known_in j.state) j.state.title (request_list (function_request f)) q.state
     → q.rows ≡ j.rows → KeepsFunction takes p f q
 step_kept takes p j q x f is (h, out) k rows =
-    let ls = looks_in p.state in
+    let ls = known_in p.state in
     let rs = request_list (function_request f) in
     let one = one_is ls p.state.screen.cursor f x is in
     let s = size_of p.state.screen in
@@ -147,13 +147,13 @@ step_kept takes p j q x f is (h, out) k rows =
           grid = k.screen.grid ∙ h.screen.grid ∙ ap (grid_from s g) (sym one.0);
           size = k.screen.size ∙ h.screen.size;
         };
-        looks = k.looks ∙ h.looks ∙ sym one.1;
+        known = k.known ∙ h.known ∙ sym one.1;
         title = k.title ∙ h.title;
         requests = k.requests
             ∙ ap (λ z. z ++ rs) (h.requests ∙ append-nil (requests_in p.state));
       },
-      subst (λ z. FoldsTo takes p.rows (with_looks ls (off_from s g z)) q.rows) (sym one.0)
-          (subst (λ z. FoldsTo takes p.rows (with_looks ls (off_from s g (x ∷ []))) z) (sym rows)
+      subst (λ z. FoldsTo takes p.rows (with_known ls (off_from s g z)) q.rows) (sym one.0)
+          (subst (λ z. FoldsTo takes p.rows (with_known ls (off_from s g (x ∷ []))) z) (sym rows)
           out),
     )
 
@@ -162,8 +162,8 @@ pub steps_kept : {R A : Type 0} (takes : R → Row → R → Type 0) (p q : Keep
     → KeepsFunction takes p f q
 steps_kept takes p q f is h rows = (
   h,
-  subst (λ z. FoldsTo takes p.rows (with_looks (looks_in p.state) z) q.rows)
-      (sym (function_off (size_of p.state.screen) (grid_of p.state.screen) (looks_in p.state)
+  subst (λ z. FoldsTo takes p.rows (with_known (known_in p.state) z) q.rows)
+      (sym (function_off (size_of p.state.screen) (grid_of p.state.screen) (known_in p.state)
       p.state.screen.cursor f is)) (sym rows),
 )
 

@@ -7,15 +7,15 @@ use Rattle.esc_actions.specs.Values.{Value, value_of, print, string, control, es
 use Rattle.esc_actions.specs.declared.action.Action.{Action}
 use Rattle.esc_parse.specs.Given.{At, StopsAt}
 use Rattle.esc_parse.specs.Images.{is_image}
-use Rattle.esc_style.specs.Looks.{plain_look}
 use Rattle.esc_screen.specs.Grids.{Size, first_grid}
 use Rattle.esc_screen.specs.Screens.{grid_of, size_of}
 use Rattle.esc_screen.specs.Halves.{HasWholeRows}
 use Rattle.esc_screen.specs.Sound.{IsSound}
 use Rattle.esc_screen.proofs.StaysSound.{stays_sound}
 use Rattle.esc_screen.proofs.StaysWhole.{stays_whole}
-use Rattle.esc_terminal.specs.Fed.{Shows, Takes, TakesSteps, TakesValue, looks_in, requests_in, shown_in}
+use Rattle.esc_terminal.specs.Fed.{Shows, Takes, TakesSteps, TakesValue, known_in, requests_in, shown_in}
 use Rattle.esc_terminal.specs.Laws.{GoesOn}
+use Rattle.esc_terminal.specs.Links.{first_known}
 use Rattle.esc_terminal.specs.Requests.{requests_of}
 use Rattle.esc_terminal.specs.Steps.{steps_of}
 use Rattle.esc_terminal.specs.Streams.{Shown, asked_by, first_shown, shown_after, shown_by, values_of}
@@ -38,7 +38,7 @@ pub one_shown : {A : Type 0} (p : State A) (v : Value A) (q : State A) → Takes
 one_shown p v q k =
     let t = shown_by (size_of p.screen) (shown_in p) v in
     ap (λ x. record (shown_in q) { grid = x }) k.screen.grid
-    ∙ ap (λ x. record t { looks = x; title = q.title }) k.looks
+    ∙ ap (λ x. record t { known = x; title = q.title }) k.known
     ∙ ap (λ x. record t { title = x }) k.title
 
 all_did : {A : Type 0} (p : State A) (vs : List (Value A)) (q : State A)
@@ -61,10 +61,10 @@ all_did p (v ∷ vs) q (j, (a, is, w), rest) =
     }
 
 pub shows_first : {A : Type 0} (z : Size) (p : State A) → grid_of p.screen ≡ first_grid z
-    → size_of p.screen ≡ z → looks_in p ≡ plain_look ∷ [] → p.title ≡ None → Shows z [] p
-shows_first {A} z p grid size looks title = record {
+    → size_of p.screen ≡ z → known_in p ≡ first_known → p.title ≡ None → Shows z [] p
+shows_first {A} z p grid size known title = record {
   shown = ap (λ x. record (shown_in p) { grid = x }) grid
-      ∙ ap (λ x. record (first_shown z) { looks = x; title = p.title }) looks
+      ∙ ap (λ x. record (first_shown z) { known = x; title = p.title }) known
       ∙ ap (λ x. record (first_shown z) { title = x }) title
       ∙ ap (shown_after z (first_shown z)) (sym (meaning_nil {A = A} (Some 0x1000)));
   size = size;
@@ -72,10 +72,10 @@ shows_first {A} z p grid size looks title = record {
 
 -- the same with no requests
 pub shows_cleared : {A : Type 0} (z : Size) (s : List ℕ) (p q : State A) → q.screen ≡ p.screen
-    → looks_in q ≡ looks_in p → q.title ≡ p.title → Shows z s p → Shows z s q
-shows_cleared z s p q screen looks title h = record {
+    → known_in q ≡ known_in p → q.title ≡ p.title → Shows z s p → Shows z s q
+shows_cleared z s p q screen known title h = record {
   shown = ap (λ x. record (shown_in q) { grid = grid_of x }) screen
-      ∙ ap (λ x. record (shown_in p) { looks = x; title = q.title }) looks
+      ∙ ap (λ x. record (shown_in p) { known = x; title = q.title }) known
       ∙ ap (λ x. record (shown_in p) { title = x }) title ∙ h.shown;
   size = ap size_of screen ∙ h.size;
 }
@@ -104,13 +104,13 @@ pub stays_sound_after : {A : Type 0} (z : Size) (t : Shown) (vs : List (Value A)
 stays_sound_after z t [] h = h
 stays_sound_after z t (v ∷ vs) h =
     stays_sound_after z (shown_by z t v) vs
-    (stays_sound z t.grid (steps_of t.looks t.grid.cursor v) h)
+    (stays_sound z t.grid (steps_of t.known t.grid.cursor v) h)
 
 pub stays_whole_after : {A : Type 0} (z : Size) (t : Shown) (vs : List (Value A))
     → IsSound z t.grid → HasWholeRows t.grid → HasWholeRows (shown_after z t vs).grid
 stays_whole_after z t [] o h = h
 stays_whole_after z t (v ∷ vs) o h =
-    let xs = steps_of t.looks t.grid.cursor v in
+    let xs = steps_of t.known t.grid.cursor v in
     stays_whole_after z (shown_by z t v) vs (stays_sound z t.grid xs o)
     (stays_whole z t.grid xs o h)
 
@@ -139,7 +139,7 @@ does_nothing p = record {
     grid = refl;
     size = refl;
   };
-  looks = refl;
+  known = refl;
   title = refl;
   requests = sym (append-nil (requests_in p));
 }

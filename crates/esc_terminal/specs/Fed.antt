@@ -3,7 +3,7 @@ use Rattle.std.specs.Prelude.{ℕ, ◌≡◌, false, true, List, [], ◌++◌, I
 use Rattle.esc_actions.specs.Meaning.{yield_within}
 use Rattle.esc_actions.specs.Values.{Value, value_of}
 use Rattle.esc_actions.specs.declared.action.Action.{Action}
-use Rattle.esc_style.specs.declared.look.Look.{Look}
+use Rattle.esc_terminal.specs.Links.{Known, known_of}
 use Rattle.esc_parse.specs.Fed.{ParserHasConsumedWithin}
 use Rattle.typed_functions.specs.Functions.{Value as Function}
 use Rattle.esc_screen.specs.Grids.{Size}
@@ -11,15 +11,15 @@ use Rattle.esc_screen.specs.Screens.{Becomes, grid_of, size_of}
 use Rattle.esc_screen.specs.Steps.{grid_from}
 use Rattle.esc_screen.specs.declared.step.Step.{Step}
 use Rattle.esc_terminal.specs.Requests.{function_request, request_list, requests_of}
-use Rattle.esc_terminal.specs.Steps.{function_looks, function_steps, looks_by, steps_of}
+use Rattle.esc_terminal.specs.Steps.{function_known, function_steps, known_by, steps_of}
 use Rattle.esc_terminal.specs.Streams.{Shown, asked_by, shown_of, title_by}
 use Rattle.esc_terminal.specs.declared.request.Request.{Request}
 use Rattle.esc_terminal.specs.declared.state.State.{State}
 use Rattle.esc_terminal.specs.declared.terminal.Terminal.{Terminal}
 
--- its looks, and what it was asked for since it was cleared
-abbrev pub looks_in : {A : Type 0} → State A → List Look
-looks_in p = p.looks.items
+-- what is known of looks and links, and what it was asked for since it was cleared
+abbrev pub known_in : {A : Type 0} → State A → Known
+known_in p = known_of p.styles
 
 abbrev pub requests_in : {A : Type 0} → State A → List Request
 requests_in p = p.requests.items
@@ -27,36 +27,36 @@ requests_in p = p.requests.items
 abbrev pub shown_in : {A : Type 0} → State A → Shown
 shown_in p = record {
   grid = grid_of p.screen;
-  looks = looks_in p;
+  known = known_in p;
   title = p.title;
 }
 
--- The screen takes these steps, the looks and the title are these, and these requests are added.
-pub record Does {A : Type 0} (p : State A) (xs : List Step) (ls : List Look)
+-- The screen takes these steps, so much is known, the title is this, and these requests are added.
+pub record Does {A : Type 0} (p : State A) (xs : List Step) (ks : Known)
     (t : Option (List ℕ)) (rs : List Request) (q : State A) : Type 0 where
   pub screen : Becomes p.screen (grid_from (size_of p.screen) (grid_of p.screen) xs) q.screen
-  pub looks : looks_in q ≡ ls
+  pub known : known_in q ≡ ks
   pub title : q.title ≡ t
   pub requests : requests_in q ≡ requests_in p ++ rs
 
 -- it takes steps alone
 abbrev pub TakesSteps : {A : Type 0} → State A → List Step → State A → Type 0
-TakesSteps p xs q = Does p xs (looks_in p) p.title [] q
+TakesSteps p xs q = Does p xs (known_in p) p.title [] q
 
 -- it takes what a function does to the screen
 abbrev pub TakesFunction : {A : Type 0} → State A → Function → State A → Type 0
-TakesFunction p f q = Does p (function_steps (looks_in p) p.screen.cursor f)
-    (function_looks (looks_in p) p.screen.cursor f) p.title [] q
+TakesFunction p f q = Does p (function_steps (known_in p) p.screen.cursor f)
+    (function_known (known_in p) p.screen.cursor f) p.title [] q
 
 -- and what it asks for too
 abbrev pub TakesAll : {A : Type 0} → State A → Function → State A → Type 0
-TakesAll p f q = Does p (function_steps (looks_in p) p.screen.cursor f)
-    (function_looks (looks_in p) p.screen.cursor f) p.title (request_list (function_request f)) q
+TakesAll p f q = Does p (function_steps (known_in p) p.screen.cursor f)
+    (function_known (known_in p) p.screen.cursor f) p.title (request_list (function_request f)) q
 
 -- a value does what its steps do
 abbrev pub TakesValue : {A : Type 0} → State A → Value A → State A → Type 0
-TakesValue p v q = Does p (steps_of (looks_in p) p.screen.cursor v)
-    (looks_by (looks_in p) p.screen.cursor v) (title_by p.title v) (requests_of v) q
+TakesValue p v q = Does p (steps_of (known_in p) p.screen.cursor v)
+    (known_by (known_in p) p.screen.cursor v) (title_by p.title v) (requests_of v) q
 
 -- and so does an action
 abbrev pub Takes : {A : Type 0} → State A → Action A → State A → Type 0
@@ -96,11 +96,7 @@ asked_in (Some p) = requests_in p
 abbrev pub requests_now : {A : Type 0} → Terminal A → List Request
 requests_now t = asked_in t.state
 
--- its looks, and its title
-abbrev pub looks_at : {A : Type 0} → Option (State A) → List Look
-looks_at None = []
-looks_at (Some p) = looks_in p
-
+-- its title
 abbrev pub title_in : {A : Type 0} → Option (State A) → Option (List ℕ)
 title_in None = None
 title_in (Some p) = p.title

@@ -10,8 +10,8 @@ use Rattle.esc_screen.specs.Screens.{grid_of, size_of}
 use Rattle.esc_screen.specs.Scrolled.{off_from}
 use Rattle.esc_screen.specs.declared.cell.Cell.{Cell}
 use Rattle.esc_screen.specs.declared.step.Step.{Step}
-use Rattle.esc_terminal.specs.Fed.{Takes, TakesAll, TakesIn, TakesSteps, looks_in, shown_in}
-use Rattle.esc_terminal.specs.Scrolled.{Row, off_after, off_by_value, with_looks}
+use Rattle.esc_terminal.specs.Fed.{Takes, TakesAll, TakesIn, TakesSteps, known_in, shown_in}
+use Rattle.esc_terminal.specs.Scrolled.{Row, off_after, off_by_value, with_known}
 use Rattle.esc_terminal.specs.Steps.{function_steps}
 use Rattle.esc_terminal.specs.Streams.{shown_of}
 use Rattle.esc_terminal.specs.declared.keeping.Keeping.{Keeping}
@@ -21,22 +21,22 @@ use Rattle.esc_terminal.specs.declared.terminal.Terminal.{Terminal}
 abbrev pub HandsOut : {R A : Type 0} → (R → Row → R → Type 0) → Keeping R A → List (List Cell)
     → Keeping R A → Type 0
 HandsOut takes p rs q =
-    (q.state ≡ p.state) × FoldsTo takes p.rows (with_looks (looks_in p.state) rs) q.rows
+    (q.state ≡ p.state) × FoldsTo takes p.rows (with_known (known_in p.state) rs) q.rows
 
 -- it takes a step, and hands out what that scrolls off
 abbrev pub KeepsStep : {R A : Type 0} → (R → Row → R → Type 0) → Keeping R A → Step
     → Keeping R A → Type 0
 KeepsStep takes p x q = TakesSteps p.state (x ∷ []) q.state
-    × FoldsTo takes p.rows (with_looks (looks_in p.state)
+    × FoldsTo takes p.rows (with_known (known_in p.state)
     (off_from (size_of p.state.screen) (grid_of p.state.screen) (x ∷ []))) q.rows
 
 -- the same of a function
 abbrev pub KeepsFunction : {R A : Type 0} → (R → Row → R → Type 0) → Keeping R A → Function
     → Keeping R A → Type 0
 KeepsFunction takes p f q = TakesAll p.state f q.state
-    × FoldsTo takes p.rows (with_looks (looks_in p.state)
+    × FoldsTo takes p.rows (with_known (known_in p.state)
     (off_from (size_of p.state.screen) (grid_of p.state.screen)
-    (function_steps (looks_in p.state) p.state.screen.cursor f))) q.rows
+    (function_steps (known_in p.state) p.state.screen.cursor f))) q.rows
 
 -- and of an action
 abbrev pub KeepsAction : {R A : Type 0} → (R → Row → R → Type 0) → Keeping R A → Action A

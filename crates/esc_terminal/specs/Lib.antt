@@ -1,4 +1,5 @@
 pub mod Looks
+pub mod Links
 pub mod Steps
 pub mod Requests
 pub mod Streams

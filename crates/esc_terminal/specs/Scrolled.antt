@@ -2,23 +2,23 @@
 use Rattle.std.specs.Prelude.{ℕ, ◌≡◌, List, [], ◌∷◌, ◌++◌, Some, map}
 use Rattle.esc_actions.specs.Meaning.{yield_within}
 use Rattle.esc_actions.specs.Values.{Value}
-use Rattle.esc_style.specs.declared.look.Look.{Look}
+use Rattle.esc_terminal.specs.Links.{Known}
 use Rattle.esc_screen.specs.Grids.{Size}
 use Rattle.esc_screen.specs.Scrolled.{off_from}
 use Rattle.esc_screen.specs.declared.cell.Cell.{Cell}
 use Rattle.esc_terminal.specs.Steps.{steps_of}
 use Rattle.esc_terminal.specs.Streams.{Shown, first_shown, shown_by, shown_of, values_of}
 
--- the cells of a row, and the looks that they have the numbers of
+-- the cells of a row, and the looks and links that they have the numbers of
 abbrev pub Row : Type 0
-Row = List Cell × List Look
+Row = List Cell × Known
 
-abbrev pub with_looks : List Look → List (List Cell) → List Row
-with_looks ls rs = map (λ r. (r, ls)) rs
+abbrev pub with_known : Known → List (List Cell) → List Row
+with_known ks rs = map (λ r. (r, ks)) rs
 
 -- what a value scrolls off
 abbrev pub off_by_value : {A : Type 0} → Size → Shown → Value A → List Row
-off_by_value z t v = with_looks t.looks (off_from z t.grid (steps_of t.looks t.grid.cursor v))
+off_by_value z t v = with_known t.known (off_from z t.grid (steps_of t.known t.grid.cursor v))
 
 -- and values, one after another
 abbrev pub off_after : {A : Type 0} → Size → Shown → List (Value A) → List Row

@@ -3,7 +3,7 @@ use Rattle.std.specs.Prelude.{ℕ, ◌+◌, ◌-◌, ◌==◌, nat_lt, min, Bool
 use Rattle.unicode_width.specs.Width.{char_width}
 use Rattle.esc_values.specs.Params.{is_from}
 use Rattle.esc_values.specs.declared.csi_param.CsiParam.{CsiParam}
-use Rattle.esc_actions.specs.Values.{Value, print, control, esc, csi}
+use Rattle.esc_actions.specs.Values.{Value, print, control, esc, csi, osc}
 use Rattle.esc_actions.specs.declared.control_code.ControlCode.{ControlCode}
 use Rattle.esc_actions.specs.declared.control_code.ControlCode.TheVariants as code
 use Rattle.typed_functions.specs.Choices.{cursor_tabulation_control_at, tabulation_clear_at}
@@ -45,7 +45,7 @@ use Rattle.esc_screen.specs.declared.setting.Setting.{Setting}
 use Rattle.esc_screen.specs.declared.setting.Setting.TheVariants as setting
 use Rattle.esc_screen.specs.declared.step.Step.{Step}
 use Rattle.esc_screen.specs.declared.step.Step.TheVariants.{Edit as Edited, Mark, Move, Nothing, Print, PrintWide, Repeat, Set}
-use Rattle.esc_terminal.specs.Looks.{erased_look, look_at, number_in, with_look}
+use Rattle.esc_terminal.specs.Links.{Known, Target, erased_by_look, known_by_lead, known_by_look, known_look, lead_in, number_by_lead, number_by_look}
 
 -- ---- characters
 
@@ -270,27 +270,32 @@ choice_steps c (n ∷ ns) = choice_step c n.0 ∷ choice_steps c ns
 
 -- ---- values
 
--- SGR: how the characters look that come, from these looks on, and these with those that are new
-abbrev pub selected_steps : Look → List Look → List Step
-selected_steps l ls = Set (setting.Select (number_in l ls)
-    (number_in (erased_look l) (with_look l ls)))
-    ∷ []
+-- SGR: how the characters look that come, which lead where those before them do
+abbrev pub selected_steps : Look → ℕ → Known → List Step
+selected_steps l n k = Set (setting.Select (number_by_look l n k) (erased_by_look l k)) ∷ []
 
-abbrev pub selected_looks : Look → List Look → List Look
-selected_looks l ls = with_look (erased_look l) (with_look l ls)
+-- OSC 8: where the characters lead that come, if a command says that
+abbrev pub lead_steps : Place → Known → Option (Option Target) → List Step
+lead_steps c k None = []
+lead_steps c k (Some t) = Set (setting.Select (number_by_lead t c.look k) c.erased) ∷ []
 
--- the steps of what a function asks for, of a screen with these looks and this cursor; of any other
--- there are none
-abbrev pub function_steps : List Look → Place → Function → List Step
-function_steps ls k (cursor c) = cursor_step k c ∷ []
-function_steps ls k (edit e) = edit_step e ∷ []
-function_steps ls k (device d) = device_step d ∷ []
-function_steps ls k (charset c) = charset_step c ∷ []
-function_steps ls k (escape e) = escape_step e ∷ []
-function_steps ls k (modes c ms) = mode_steps c ms
-function_steps ls k (tabs c ns) = choice_steps c ns
-function_steps ls k (renditions rs) = selected_steps (look_by_all (look_at k.look ls) rs) ls
-function_steps ls k _ = []
+abbrev pub lead_known : Place → Known → Option (Option Target) → Known
+lead_known c k None = k
+lead_known c k (Some t) = known_by_lead t c.look k
+
+-- the steps of what a function asks for, of a screen of which so much is known, with this cursor;
+-- of any other there are none
+abbrev pub function_steps : Known → Place → Function → List Step
+function_steps ks k (cursor c) = cursor_step k c ∷ []
+function_steps ks k (edit e) = edit_step e ∷ []
+function_steps ks k (device d) = device_step d ∷ []
+function_steps ks k (charset c) = charset_step c ∷ []
+function_steps ks k (escape e) = escape_step e ∷ []
+function_steps ks k (modes c ms) = mode_steps c ms
+function_steps ks k (tabs c ns) = choice_steps c ns
+function_steps ks k (renditions rs) =
+    selected_steps (look_by_all (known_look k.look ks) rs) k.look ks
+function_steps ks k _ = []
 
 -- the step that a function is, where it is one and asks for no look
 abbrev pub one_step : Place → Function → Option Step
@@ -301,20 +306,23 @@ one_step k (charset c) = Some (charset_step c)
 one_step k (escape e) = Some (escape_step e)
 one_step k _ = None
 
--- and the looks after it
-abbrev pub function_looks : List Look → Place → Function → List Look
-function_looks ls k (renditions rs) = selected_looks (look_by_all (look_at k.look ls) rs) ls
-function_looks ls k _ = ls
+-- and what is known after it
+abbrev pub function_known : Known → Place → Function → Known
+function_known ks k (renditions rs) =
+    known_by_look (look_by_all (known_look k.look ks) rs) k.look ks
+function_known ks k _ = ks
 
 -- the steps of a value
-abbrev pub steps_of : {A : Type 0} → List Look → Place → Value A → List Step
-steps_of ls k (print c) = print_step c ∷ []
-steps_of ls k (control c) = control_step c ∷ []
-steps_of ls k (esc e) = function_steps ls k (of_escape e)
-steps_of ls k (csi c) = function_steps ls k (of_csi c)
-steps_of ls k _ = []
+abbrev pub steps_of : {A : Type 0} → Known → Place → Value A → List Step
+steps_of ks k (print c) = print_step c ∷ []
+steps_of ks k (control c) = control_step c ∷ []
+steps_of ks k (esc e) = function_steps ks k (of_escape e)
+steps_of ks k (csi c) = function_steps ks k (of_csi c)
+steps_of ks k (osc c) = lead_steps k ks (lead_in c)
+steps_of ks k _ = []
 
-abbrev pub looks_by : {A : Type 0} → List Look → Place → Value A → List Look
-looks_by ls k (esc e) = function_looks ls k (of_escape e)
-looks_by ls k (csi c) = function_looks ls k (of_csi c)
-looks_by ls k _ = ls
+abbrev pub known_by : {A : Type 0} → Known → Place → Value A → Known
+known_by ks k (esc e) = function_known ks k (of_escape e)
+known_by ks k (csi c) = function_known ks k (of_csi c)
+known_by ks k (osc c) = lead_known k ks (lead_in c)
+known_by ks k _ = ks

@@ -4,26 +4,25 @@ use Rattle.esc_actions.specs.Meaning.{meaning_within}
 use Rattle.esc_actions.specs.Values.{Value, osc}
 use Rattle.esc_osc.specs.declared.command.OperatingSystemCommand.{OperatingSystemCommand}
 use Rattle.esc_osc.specs.declared.command.OperatingSystemCommand.TheVariants as command
-use Rattle.esc_style.specs.Looks.{plain_look}
-use Rattle.esc_style.specs.declared.look.Look.{Look}
+use Rattle.esc_terminal.specs.Links.{Known, first_known}
 use Rattle.esc_screen.specs.Grids.{Grid, Size, first_grid}
 use Rattle.esc_screen.specs.Steps.{grid_from}
 use Rattle.esc_terminal.specs.Requests.{requests_of}
-use Rattle.esc_terminal.specs.Steps.{looks_by, steps_of}
+use Rattle.esc_terminal.specs.Steps.{known_by, steps_of}
 use Rattle.esc_terminal.specs.declared.request.Request.{Request}
 
--- the grid of a screen, the looks of its cells, which have the numbers of these, and the title of
--- its window
+-- the grid of a screen, the looks and links of its cells, which have the numbers of these, and the
+-- title of its window
 pub record Shown : Type 0 where
   pub grid : Grid
-  pub looks : List Look
+  pub known : Known
   pub title : Option (List ℕ)
 
 -- at first
 abbrev pub first_shown : Size → Shown
 first_shown z = record {
   grid = first_grid z;
-  looks = plain_look ∷ [];
+  known = first_known;
   title = None;
 }
 
@@ -44,8 +43,8 @@ title_by t _ = t
 -- the grid is that after its steps
 abbrev pub shown_by : {A : Type 0} → Size → Shown → Value A → Shown
 shown_by z t v = record {
-  grid = grid_from z t.grid (steps_of t.looks t.grid.cursor v);
-  looks = looks_by t.looks t.grid.cursor v;
+  grid = grid_from z t.grid (steps_of t.known t.grid.cursor v);
+  known = known_by t.known t.grid.cursor v;
   title = title_by t.title v;
 }
 

@@ -35,7 +35,7 @@ impl<R: Rows, A: Allocator + Copy> Keeping<R, A> {
     {
         for at in 0..self.state.screen.leaving(step) {
             self.rows
-                .take_row(self.state.screen.row(at), &self.state.looks)?;
+                .take_row(self.state.screen.row(at), &self.state.styles)?;
         }
         Ok(())
     }
@@ -80,12 +80,16 @@ impl<R: Rows, A: Allocator + Copy> Sink<Action<A>> for Keeping<R, A> {
 
     ghost refuses = { λ p a q. Refused A ⊎ R.fails };
 
+    #[tactic(auto, using(crate::proofs::Handed::lead_rows))]
     fn receive(&mut self, action: Action<A>) -> Result<(), AllocError> {
         match action {
             Action::Print(c) => self.take_step(print_step(c)),
             Action::Control(code) => self.take_step(control_step(code)),
             Action::Esc(esc) => self.take_function(Function::of_escape(esc)),
             Action::CSI(csi) => self.take_function(Function::of(&csi)),
+            Action::OperatingSystemCommand(command) => {
+                self.state.take(Action::OperatingSystemCommand(command))
+            }
             other => self.state.take(other),
         }
     }

@@ -13,6 +13,7 @@
 mod counts;
 mod keeping;
 pub mod laws;
+mod links;
 mod looks;
 mod receiving;
 pub mod request;
@@ -20,9 +21,11 @@ pub mod row_text;
 pub mod rows;
 mod state;
 pub mod steps;
+pub mod styles;
 pub mod terminal;
 
 pub use request::Request;
 pub use row_text::push_row;
 pub use rows::Rows;
+pub use styles::Styles;
 pub use terminal::Terminal;

@@ -8,8 +8,8 @@ use esc_sgr::is_same;
 use esc_style::{Color, Look};
 use std::alloc::{AllocError, Allocator};
 
-// How many looks are kept.
-const MOST: usize = 0x1000;
+/// How many looks are kept.
+pub(crate) const MOST_LOOKS: usize = 0x1000;
 
 /// The look of a number.
 pub(crate) fn look_at(looks: &[Look], number: u16) -> Look
@@ -31,7 +31,7 @@ pub(crate) fn keep_look<A: Allocator>(
     ensures refused { OnErr result (Refused A) }
 {
     let place = place_of(looks, look);
-    if place >= MOST {
+    if place >= MOST_LOOKS {
         return Ok(0);
     }
     if place == looks.len() {

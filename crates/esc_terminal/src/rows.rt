@@ -1,27 +1,31 @@
 //! What takes the rows that are scrolled off a screen.
 ghost use Rattle.std.specs.Prelude.{◌≡◌, [], ◌∷◌, ◌++◌, List, OnErr, OnOk, string_bytes};
-ghost use Rattle.esc_style.specs.declared.look.Look.{Look as TheLook};
 ghost use Rattle.esc_screen.specs.declared.cell.Cell.{Cell as TheCell};
+ghost use Rattle.esc_terminal.specs.Links.{Known, known_of};
 ghost use Rattle.esc_terminal.specs.Rows.{row_text};
 ghost use Rattle.fallible_alloc.specs.Refusals.{Refused};
 
 use crate::row_text::push_row;
+use crate::styles::Styles;
 use esc_screen::Cell;
-use esc_style::Look;
 use fallible_alloc::push_char;
 use std::alloc::{AllocError, Allocator};
 
 /// Takes the rows that are scrolled off a screen, one after another: a text or a list of them.
 pub trait Rows {
     // what it becomes with a row
-    ghost takes: { Self → List TheCell × List TheLook → Self → Type 0 };
+    ghost takes: { Self → List TheCell × Known → Self → Type 0 };
 
     // what an error of it says
     ghost fails: { Type 0 };
 
-    /// Takes a row: its cells, which have the numbers of these looks.
-    fn take_row(&mut self, cells: &[Cell], looks: &[Look]) -> Result<(), AllocError>
-        ensures given { OnOk result (takes self.old (cells.now, looks.now) self.new) }
+    /// Takes a row: its cells, which have the numbers of these looks and links.
+    fn take_row<A: Allocator + Copy>(
+        &mut self,
+        cells: &[Cell],
+        styles: &Styles<A>,
+    ) -> Result<(), AllocError>
+        ensures given { OnOk result (takes self.old (cells.now, known_of styles.now) self.new) }
         ensures failed { OnErr result fails };
 }
 
@@ -31,8 +35,12 @@ impl<R: Rows> Rows for &mut R {
 
     ghost fails = { R.fails };
 
-    fn take_row(&mut self, cells: &[Cell], looks: &[Look]) -> Result<(), AllocError> {
-        (**self).take_row(cells, looks)
+    fn take_row<A: Allocator + Copy>(
+        &mut self,
+        cells: &[Cell],
+        styles: &Styles<A>,
+    ) -> Result<(), AllocError> {
+        (**self).take_row(cells, styles)
     }
 }
 
@@ -42,7 +50,11 @@ impl<A: Allocator> Rows for String<A> {
 
     ghost fails = { Refused A };
 
-    fn take_row(&mut self, cells: &[Cell], _looks: &[Look]) -> Result<(), AllocError> {
+    fn take_row<B: Allocator + Copy>(
+        &mut self,
+        cells: &[Cell],
+        _styles: &Styles<B>,
+    ) -> Result<(), AllocError> {
         push_row(self, cells)?;
         push_char(self, '\n')
     }

@@ -4,27 +4,28 @@ ghost use Rattle.std.specs.List.{FoldsTo};
 ghost use Rattle.std.specs.Str.{chars};
 ghost use Rattle.esc_actions.specs.declared.action.Action.TheVariants as action;
 ghost use Rattle.esc_frame.specs.Scans.{IsRun, is_text_byte};
-ghost use Rattle.esc_style.specs.Looks.{look_by_all, plain_look};
+ghost use Rattle.esc_style.specs.Looks.{look_by_all};
 ghost use Rattle.esc_screen.specs.Grids.{first_grid};
 ghost use Rattle.esc_screen.specs.Screens.{grid_of, size_of};
-ghost use Rattle.esc_terminal.specs.Fed.{Does, Takes, TakesAll, TakesFunction, TakesSteps, looks_in, requests_in, screen_size};
-ghost use Rattle.esc_terminal.specs.Looks.{look_at};
+ghost use Rattle.esc_terminal.specs.Fed.{Does, Takes, TakesAll, TakesFunction, TakesSteps, known_in, requests_in, screen_size};
+ghost use Rattle.esc_terminal.specs.Links.{first_known, known_by_lead, known_by_look, known_look, lead_in, lead_of};
 ghost use Rattle.esc_terminal.specs.Requests.{request_list};
-ghost use Rattle.esc_terminal.specs.Steps.{choice_steps, mode_steps, selected_steps, selected_looks};
+ghost use Rattle.esc_terminal.specs.Steps.{choice_steps, lead_known, lead_steps, mode_steps, selected_steps};
 ghost use Rattle.esc_terminal.specs.Streams.{title_by_command};
 ghost use Rattle.typed_functions.specs.Functions.{value_of as function_value};
 ghost use Rattle.typed_functions.specs.Selections.{left, modes_left};
 ghost use Rattle.fallible_alloc.specs.Refusals.{Refused};
 
-use crate::looks::{erased_look, keep_look, look_at};
+use crate::looks::erased_look;
 use crate::request::{Request, request_of};
 use crate::steps::{
     charset_step, choice_step, control_step, cursor_step, device_step, edit_step, escape_step,
     mode_step, print_step,
 };
+use crate::styles::Styles;
 use esc_actions::Action;
-use esc_osc::OperatingSystemCommand;
-use esc_screen::{Screen, Setting, Step};
+use esc_osc::{Hyperlink, OperatingSystemCommand};
+use esc_screen::{Cursor, Screen, Setting, Step};
 use esc_style::Look;
 use esc_values::Text;
 use memchr::memchr;
@@ -36,8 +37,8 @@ use typed_functions::{Function, ModeChange, Modes, Renditions, TabChange};
 pub(crate) struct State<A: Allocator = Global> {
     /// The screen.
     pub screen: Screen<A>,
-    /// The looks of its cells, which have the numbers of these.
-    pub looks: Vec<Look, A>,
+    /// How its cells look and where they lead, by the numbers that they have.
+    pub styles: Styles<A>,
     /// The title of its window, where it has one.
     pub title: Option<Text<A>>,
     /// What it was asked for.
@@ -49,15 +50,14 @@ impl<A: Allocator + Copy> State<A> {
     pub fn new(alloc: A, columns: u16, rows: u16) -> Result<State<A>, AllocError>
         ensures grid { IfOk result (λ p. grid_of p.screen ≡ first_grid (screen_size columns rows)) }
         ensures size { IfOk result (λ p. size_of p.screen ≡ screen_size columns rows) }
-        ensures looks { IfOk result (λ p. (looks_in p ≡ plain_look ∷ []) × (p.title ≡ None)) }
+        ensures known { IfOk result (λ p. (known_in p ≡ first_known) × (p.title ≡ None)) }
         ensures requests { IfOk result (λ p. requests_in p ≡ []) }
     {
         let screen = Screen::new(alloc, rows, columns)?;
-        let mut looks = Vec::new(alloc);
-        looks.push(Look::plain())?;
+        let styles = Styles::new(alloc)?;
         Ok(State {
             screen,
-            looks,
+            styles,
             title: None,
             requests: Vec::new(alloc),
         })
@@ -69,18 +69,18 @@ impl<A: Allocator> State<A> {
     pub fn returning(self) -> State<A>
         ensures grid { grid_of result.screen ≡ grid_of self.screen }
         ensures size { size_of result.screen ≡ record (size_of self.screen) { returns = true } }
-        ensures looks { (looks_in result ≡ looks_in self) × (result.title ≡ self.title) }
+        ensures known { (known_in result ≡ known_in self) × (result.title ≡ self.title) }
         ensures requests { requests_in result ≡ requests_in self }
     {
         let State {
             screen,
-            looks,
+            styles,
             title,
             requests,
         } = self;
         State {
             screen: screen.returning(),
-            looks,
+            styles,
             title,
             requests,
         }
@@ -89,7 +89,7 @@ impl<A: Allocator> State<A> {
     /// The same, with no requests.
     pub fn cleared(mut self) -> State<A>
         ensures screen { result.screen ≡ self.screen }
-        ensures looks { looks_in result ≡ looks_in self }
+        ensures known { known_in result ≡ known_in self }
         ensures title { result.title ≡ self.title }
         ensures requests { requests_in result ≡ [] }
     {
@@ -154,22 +154,42 @@ impl<A: Allocator> State<A> {
 
     // Takes how the characters look that come.
     fn select(&mut self, look: &Look) -> Result<(), AllocError>
-        ensures ok { OnOk result (Does self.old (selected_steps look.now (looks_in self.old))
-            (selected_looks look.now (looks_in self.old)) self.old.title [] self.new) }
+        ensures ok { OnOk result (Does self.old
+            (selected_steps look.now self.old.screen.cursor.look (known_in self.old))
+            (known_by_look look.now self.old.screen.cursor.look (known_in self.old))
+            self.old.title [] self.new) }
         ensures refused { OnErr result (Refused A) }
     {
-        let number = keep_look(&mut self.looks, look)?;
-        let erased = keep_look(&mut self.looks, &erased_look(look))?;
-        self.screen.take(Step::Set(Setting::Select(number, erased)));
+        let link = self.styles.link_number(self.screen.cursor().look);
+        let number = self.styles.keep_look(look)?;
+        let erased = self.styles.keep_look(&erased_look(look))?;
+        let style = self.styles.keep_linked(number, link)?;
+        self.screen.take(Step::Set(Setting::Select(style, erased)));
+        Ok(())
+    }
+
+    // Takes where the characters lead that come.
+    fn lead(&mut self, link: Option<Hyperlink<A>>) -> Result<(), AllocError>
+        ensures ok { OnOk result (Does self.old
+            (lead_steps self.old.screen.cursor (known_in self.old) (Some (lead_of link)))
+            (known_by_lead (lead_of link) self.old.screen.cursor.look (known_in self.old))
+            self.old.title [] self.new) }
+        ensures refused { OnErr result (Refused A) }
+    {
+        let Cursor { look, erased, .. } = self.screen.cursor();
+        let number = self.styles.look_number(look);
+        let link = self.styles.keep_link(link)?;
+        let style = self.styles.keep_linked(number, link)?;
+        self.screen.take(Step::Set(Setting::Select(style, erased)));
         Ok(())
     }
 
     // How the characters look that come, after renditions, one after another.
     fn look_after(&self, renditions: Renditions<'_>) -> Look
-        ensures { result ≡ look_by_all (look_at self.now.screen.cursor.look (looks_in self.now))
+        ensures { result ≡ look_by_all (known_look self.now.screen.cursor.look (known_in self.now))
             (left renditions.entry) }
     {
-        let mut look = look_at(&self.looks, self.screen.cursor().look);
+        let mut look = self.styles.look_at(self.screen.cursor().look);
         look.select_all(renditions);
         look
     }
@@ -202,7 +222,7 @@ impl<A: Allocator> State<A> {
 
     /// Notes what is asked for, where something is.
     pub fn ask(&mut self, request: Option<Request>) -> Result<(), AllocError>
-        ensures ok { OnOk result (Does self.old [] (looks_in self.old) self.old.title
+        ensures ok { OnOk result (Does self.old [] (known_in self.old) self.old.title
             (request_list request) self.new) }
         ensures refused { OnErr result (Refused A) }
     {
@@ -225,8 +245,8 @@ impl<A: Allocator> State<A> {
     }
 
     // Takes a command for the title.
-    fn take_command(&mut self, command: OperatingSystemCommand<A>)
-        ensures { Does self.old [] (looks_in self.old) (title_by_command self.old.title command)
+    fn take_title(&mut self, command: OperatingSystemCommand<A>)
+        ensures { Does self.old [] (known_in self.old) (title_by_command self.old.title command)
             [] self.new }
     {
         match command {
@@ -234,6 +254,23 @@ impl<A: Allocator> State<A> {
             | OperatingSystemCommand::SetWindowTitle(title)
             | OperatingSystemCommand::SetWindowTitleSun(title) => self.title = Some(title),
             _ => {}
+        }
+    }
+
+    // Takes a command for a link, or for the title.
+    fn take_command(&mut self, command: OperatingSystemCommand<A>) -> Result<(), AllocError>
+        ensures ok { OnOk result (Does self.old
+            (lead_steps self.old.screen.cursor (known_in self.old) (lead_in command))
+            (lead_known self.old.screen.cursor (known_in self.old) (lead_in command))
+            (title_by_command self.old.title command) [] self.new) }
+        ensures refused { OnErr result (Refused A) }
+    {
+        match command {
+            OperatingSystemCommand::SetHyperlink(link) => self.lead(link),
+            other => {
+                self.take_title(other);
+                Ok(())
+            }
         }
     }
 
@@ -253,10 +290,7 @@ impl<A: Allocator> State<A> {
             }
             Action::Esc(esc) => self.take_function(Function::of_escape(esc)),
             Action::CSI(csi) => self.take_function(Function::of(&csi)),
-            Action::OperatingSystemCommand(command) => {
-                self.take_command(command.into_inner());
-                Ok(())
-            }
+            Action::OperatingSystemCommand(command) => self.take_command(command.into_inner()),
             _ => Ok(()),
         }
     }

@@ -1,16 +1,16 @@
 //! A terminal.
 ghost use Rattle.std.specs.Prelude.{◌≡◌, ◌⊎◌, [], IfOk, IfSome, IsErr, IsSomeAnd, OnErr, OnOk};
 ghost use Rattle.std.specs.Option.{option_map};
-ghost use Rattle.esc_terminal.specs.Fed.{asked_in, looks_at, title_in};
+ghost use Rattle.esc_terminal.specs.Fed.{asked_in, title_in};
 ghost use Rattle.fallible_alloc.specs.Refusals.{Refused};
 
 use crate::keeping::Keeping;
 use crate::request::Request;
 use crate::rows::Rows;
 use crate::state::State;
+use crate::styles::Styles;
 use esc_parse::Parser;
 use esc_screen::{Cell, Screen};
-use esc_style::Look;
 use std::alloc::{AllocError, Allocator, Global};
 
 // How many bytes of a title are kept.
@@ -18,8 +18,8 @@ const MOST: usize = 0x1000;
 
 /// Takes a stream in whatever chunks it comes, and has the screen that a terminal shows then.
 ///
-/// It keeps a screen of its size, which is made at once, at most 4,096 looks, a title of at most
-/// 4,096 bytes, and what the last chunk asked for.
+/// It keeps a screen of its size, which is made at once, at most 4,096 looks and 1,024 links of at
+/// most 4,096 bytes, a title of at most as many, and what the last chunk asked for.
 #[derive(Drop)]
 pub struct Terminal<A: Allocator = Global> {
     parser: Parser<A>,
@@ -132,14 +132,13 @@ impl<A: Allocator> Terminal<A> {
         }
     }
 
-    /// The looks of its cells, which have the numbers of these: 4,096 at most, of which the first
-    /// is the plain one, which also those have that came when there was no room for theirs.
-    pub fn looks(&self) -> &[Look]
-        ensures { result.now ≡ looks_at self.now.state }
+    /// How its cells look and where they lead, by the numbers that they have; none after an error.
+    pub fn styles(&self) -> Option<&Styles<A>>
+        ensures { IfSome result (λ s. IsSomeAnd self.now.state (λ q. q.styles ≡ s.now)) }
     {
         match &self.state {
-            Some(state) => &state.looks,
-            None => &[],
+            Some(state) => Some(&state.styles),
+            None => None,
         }
     }
 

@@ -52,9 +52,9 @@ impl Display {
             return Ok(());
         };
         self.terminal.feed(TO_MAIN)?;
-        match self.terminal.screen() {
-            Some(screen) => log.push_screen(screen, self.terminal.looks()),
-            None => Err(AllocError),
+        match (self.terminal.screen(), self.terminal.styles()) {
+            (Some(screen), Some(styles)) => log.push_screen(screen, styles),
+            _ => Err(AllocError),
         }
     }
 }

@@ -14,7 +14,7 @@ const LAYOUT: Layout = Layout {
     inline: true,
 };
 
-// How many bytes of a sequence are kept: more than one that makes a look has.
+// How many bytes of a sequence are kept: as many as a terminal keeps of a link.
 const LIMIT: usize = 4096;
 
 /// The HTML of a text: a `pre` of the page that `esc_html` makes of it. The error is that memory

@@ -37,9 +37,9 @@ text.
   --log           prints all lines that the terminal leaves: the rows that were scrolled off, and
                   then those of the screen
   --newline       takes a line feed to the first column too, as in a file of text (the mode LNM)
-  --color         writes the looks of characters too, as control sequences (SGR)
+  --color         writes the looks of characters too, and links, as control sequences
   --html          writes a page of HTML in which nothing comes alive, with their looks
-  --json          writes an object of JSON: the cells with their looks, the cursor, the title
+  --json          writes an object of JSON: the cells with their looks, the cursor, the title, links
   --cast          takes each FILE as a recording of asciinema, version 2 or 3
   --at seconds    shows the screen of a recording at this time, as 12.5, and not at its end
   --diff          compares the screens of two FILEs, and says in which cells they differ

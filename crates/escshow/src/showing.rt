@@ -64,14 +64,14 @@ impl<'a, W: Write, E: Write> Showing<'a, W, E> {
 
 /// What is seen of a terminal's screen, with looks or without.
 pub fn view_of(terminal: &Terminal, has_looks: bool) -> Result<View<'_>, AllocError> {
-    match terminal.screen() {
-        Some(screen) => Ok(View {
+    match (terminal.screen(), terminal.styles()) {
+        (Some(screen), Some(styles)) => Ok(View {
             screen,
-            looks: terminal.looks(),
+            styles,
             title: terminal.title(),
             has_looks,
         }),
-        None => Err(AllocError),
+        _ => Err(AllocError),
     }
 }
 

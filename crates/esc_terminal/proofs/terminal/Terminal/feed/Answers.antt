@@ -11,7 +11,7 @@ returns-in-Ok-clause-given g c = λ z s h.
     let at = subst (λ x. IsSomeAnd x (Shows z s))
     (sym c.take.ensures.value ∙ c.in-Some.is) h.state in
     let m = shows_more z s c.args.bytes.now c.cleared.result _ c.cleared.ensures.requests
-    (shows_cleared z s _ c.cleared.result c.cleared.ensures.screen c.cleared.ensures.looks
+    (shows_cleared z s _ c.cleared.result c.cleared.ensures.screen c.cleared.ensures.known
     c.cleared.ensures.title at)
     k.1 in (
       record {

@@ -14,6 +14,6 @@ returns-clause-fed g c =
     record {
       parser = c.with_limit.ensures;
       state = shows_first (for_log c.args.columns c.args.rows) _ (r.grid ∙ k.grid)
-          (r.size ∙ ap as_log k.size) (r.looks.0 ∙ k.looks.0)
-          (r.looks.1 ∙ k.looks.1);
+          (r.size ∙ ap as_log k.size) (r.known.0 ∙ k.known.0)
+          (r.known.1 ∙ k.known.1);
     }

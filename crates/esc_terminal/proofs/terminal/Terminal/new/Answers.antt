@@ -7,6 +7,6 @@ returns-clause-fed g c =
     let k = c.in_ok-state.ensures in
     record {
       parser = c.with_limit.ensures;
-      state = shows_first (screen_size c.args.columns c.args.rows) _ k.grid k.size k.looks.0
-          k.looks.1;
+      state = shows_first (screen_size c.args.columns c.args.rows) _ k.grid k.size k.known.0
+          k.known.1;
     }
