@@ -22,8 +22,9 @@ HEADERS = [HERE, HERE / "../../crates/stream_c/include", HERE / "../../include"]
 EXPORTS = "{ global: escape_stream_*; local: *; };\n"
 
 
-def link(folder: Path, made: Path) -> None:
-    """Links the archive in a folder into a shared object."""
+def link(folder: Path, made: Path, alone: bool = False) -> None:
+    """Links the archive in a folder into a shared object. One that is alone names no library, so
+    that glibc of any version loads it, and musl."""
     archive = folder / ARCHIVE
     if not archive.is_file():
         raise FileNotFoundError(f"{archive} is not there: build it, or set ESCAPE_STREAM_LIB")
@@ -32,7 +33,8 @@ def link(folder: Path, made: Path) -> None:
         exports.write(EXPORTS)
         exports.flush()
         words = [os.environ.get("CC") or "cc", "-shared", "-o", str(made)]
-        words += [f"-Wl,--version-script={exports.name}", "-Wl,--gc-sections", "-Wl,-z,defs"]
+        words += [f"-Wl,--version-script={exports.name}", "-Wl,--gc-sections"]
+        words += ["-nostdlib", "-s", "-Wl,--build-id=sha1"] if alone else ["-Wl,-z,defs"]
         words += ["-std=c11", "-O2", "-fPIC", str(HERE / "events.c")]
         words += [f"-I{it}" for it in (*HEADERS, folder / "../include")]
         words += ["-Wl,--whole-archive", str(archive), "-Wl,--no-whole-archive"]
