@@ -1,3 +1,4 @@
 mod Chosen
 mod Within
 mod Failures
+pub mod Names

@@ -2,4 +2,5 @@ pub mod Choices
 pub mod Settings
 pub mod Fates
 pub mod Failures
+pub mod Names
 pub mod Rows
