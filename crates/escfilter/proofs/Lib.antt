@@ -2,3 +2,4 @@ mod Chosen
 mod Within
 mod Failures
 pub mod Names
+pub mod Reported

@@ -1,9 +1,16 @@
 //! What did not pass of a stream, by name.
-ghost use Rattle.std.specs.Prelude.{◌≡◌, ◌++◌, ◌∷◌, List, [], OnErr, OnOk, false, is_some, true};
+ghost use Rattle.std.specs.Prelude.{◌≡◌, ◌≤◌, ◌++◌, ◌∷◌, IfOk, List, [], OnErr, OnOk, Some, ◌&&◌, false, is_some, map, nat_le, not, true};
 ghost use Rattle.std.specs.Global.{Global};
+ghost use Rattle.esc_account.specs.Brief.{brief};
 ghost use Rattle.esc_account.specs.Entries.{Entry as Told, as_entry};
+ghost use Rattle.esc_account.specs.Rows.{has_row, under};
 ghost use Rattle.esc_account.specs.Tables.{HasAllRows};
-ghost use Rattle.escfilter.specs.Rows.{HasRows, is_respelled, told};
+ghost use Rattle.esc_actions.specs.Readings.{reading_within};
+ghost use Rattle.esc_actions.specs.Values.{value_of};
+ghost use Rattle.esc_frame.specs.Segments.{AreSegments, Segment as Shape, is_finished, joined_bytes};
+ghost use Rattle.esc_segments.specs.Items.{IsItem};
+ghost use Rattle.escfilter.specs.Names.{title_of};
+ghost use Rattle.escfilter.specs.Rows.{AreRowsOf, HasRows, IsCalled, IsJudge, are_one_name, first_out, is_meant, is_respelled, kept_name, keyed, title_by, title_or, told, writes};
 ghost use Rattle.fallible_alloc.specs.Refusals.{Refused};
 
 use crate::events::Events;
@@ -48,21 +55,29 @@ impl<'a> Rows<'a> {
     pub fn new(alloc: Global, options: Options<'a>, events: Option<Events>) -> Rows<'a>
         ensures { HasRows result [] }
     {
+        let judge = Judging::new(alloc, options.filter);
+        let table = Table::new(alloc);
         Rows {
             alloc,
             options,
             events,
-            judge: Judging::new(alloc, options.filter),
-            table: Table::new(alloc),
+            judge,
+            table,
             open: None,
         }
     }
 
     /// The rows: where a report is asked for, they have all that the entries have of each fate, but
-    /// for what is respelled.
+    /// for what is respelled; one for each fate and name, in the order of the first of each, under
+    /// the names that the segments tell.
     pub fn rows(&self) -> &[Row<Name>]
-        ensures { (es : List Told) → HasRows self.now es → is_some self.now.options.report ≡ true
-            → HasAllRows result.now (told es) }
+        ensures all { (es : List Told) → HasRows self.now es
+            → is_some self.now.options.report ≡ true → HasAllRows result.now (told es) }
+        ensures names { (es : List Told) → HasRows self.now es
+            → is_some self.now.options.report ≡ true
+            → AreRowsOf self.now.options.filter result.now (told es) }
+        ensures few { (es : List Told) → HasRows self.now es
+            → is_some self.now.options.report ≡ true → keyed result.now ≤ 64 }
     {
         self.table.rows()
     }
@@ -84,6 +99,7 @@ impl<'a> Rows<'a> {
     fn begin(&mut self, made: Entry<'_>, name: Name) -> Result<(), AllocError>
         requires { is_respelled made.fate ≡ false }
         ensures noted { (es : List Told) → HasRows self.old es
+            → IsCalled self.old.options.filter (under name (as_entry made.entry))
             → OnOk result (HasRows self.new (es ++ as_entry made.entry ∷ [])) }
         ensures refused { OnErr result (Refused Global) }
     {
@@ -101,7 +117,8 @@ impl<'a> Rows<'a> {
 
     // Notes and tells the terminator of the string that came last.
     fn end(&mut self, made: Entry<'_>) -> Result<(), AllocError>
-        requires { is_respelled made.fate ≡ false }
+        requires fate { is_respelled made.fate ≡ false }
+        requires end { made.is_end ≡ true }
         ensures noted { (es : List Told) → HasRows self.old es
             → OnOk result (HasRows self.new (es ++ as_entry made.entry ∷ [])) }
         ensures refused { OnErr result (Refused Global) }
@@ -117,11 +134,12 @@ impl<'a> Rows<'a> {
     fn note(&mut self, made: Entry<'_>, name: Name) -> Result<(), AllocError>
         requires { is_respelled made.fate ≡ false }
         ensures noted { (es : List Told) → HasRows self.old es
+            → IsCalled self.old.options.filter (under name (as_entry made.entry))
             → OnOk result (HasRows self.new (es ++ as_entry made.entry ∷ [])) }
         ensures refused { OnErr result (Refused Global) }
     {
         if self.options.report.is_some() {
-            let name = kept_name(self.table.rows(), made.fate, name);
+            let name = kept_name(&self.table, made.fate, name);
             self.table.add(name, made)
         } else {
             Ok(())
@@ -147,45 +165,93 @@ impl<'a> Rows<'a> {
     // The name of what did not pass of a segment: of the first action of which nothing is written,
     // and else of what the segment is.
     fn name(&self, segment: Segment<'_>, fate: Fate) -> Result<Name, AllocError>
-        ensures { OnErr result (Refused Global) }
+        ensures given { (g : Shape) (gs : List Shape) → AreSegments (g ∷ gs)
+            → IsItem segment.entry g (joined_bytes gs)
+            → IsJudge self.now.options.filter self.now.judge
+            → IfOk result (λ n. title_of n ≡ title_by (writes self.now.options.filter) fate
+            segment.entry.kind segment.entry.bytes.now
+            (brief (reading_within (Some self.now.options.filter.limit) g
+            (is_finished g (joined_bytes gs))))) }
+        ensures refused { OnErr result (Refused Global) }
     {
-        if fate == Fate::LeftOut || fate == Fate::Shown {
+        let name = kind_name(segment.kind, segment.bytes);
+        if is_meant(fate) {
             let actions = read(self.alloc, self.options.filter.limit, segment)?;
-            for action in &actions {
-                if !self.judge.writes(action) {
-                    return Ok(name_of(action));
-                }
-            }
+            Ok(self.name_among(&actions, name))
+        } else {
+            Ok(name)
         }
-        Ok(kind_name(segment.kind, segment.bytes))
+    }
+
+    // The name of the first of these actions of which nothing is written; else this one.
+    fn name_among(&self, actions: &[Action], otherwise: Name) -> Name
+        ensures { IsJudge self.now.options.filter self.now.judge → title_of result
+            ≡ title_or (title_of otherwise)
+            (first_out (writes self.now.options.filter) (map value_of actions.now)) }
+    {
+        let mut at = 0;
+        while at < actions.len() {
+            let action = &actions[at];
+            if !self.judge.writes(action) {
+                return name_of(action);
+            }
+            at += 1;
+        }
+        otherwise
+    }
+}
+
+// Whether it means something that is not in the output as itself.
+fn is_meant(fate: Fate) -> bool
+    ensures { result ≡ is_meant fate }
+{
+    match fate {
+        Fate::LeftOut | Fate::Shown => true,
+        _ => false,
     }
 }
 
 // The name of the row for this fate and name: without its key, where no row has it and there are
 // enough rows with keys.
-fn kept_name(rows: &[Row<Name>], fate: Fate, name: Name) -> Name {
-    if !name.has_key() {
-        return name;
-    }
-    let mut count: usize = 0;
-    for row in rows {
-        if row.fate == fate && row.name == name {
-            return name;
-        }
-        if row.name.has_key() {
-            count = count.saturating_add(1);
-        }
-    }
-    if count < KEYS {
-        name
-    } else {
+fn kept_name(table: &Table<Name>, fate: Fate, name: Name) -> Name
+    ensures { result ≡ kept_name table.now.rows.items fate name }
+{
+    if name.has_key() && is_past(table, fate, name) {
         name.without_key()
+    } else {
+        name
     }
+}
+
+// Whether no row has this fate and name, and there are enough rows with keys.
+fn is_past(table: &Table<Name>, fate: Fate, name: Name) -> bool
+    ensures { result ≡ (not (has_row are_one_name table.now.rows.items fate name)
+        && nat_le 64 (keyed table.now.rows.items)) }
+{
+    !table.has_row(fate, name) && KEYS <= keyed(table.rows())
+}
+
+// How many rows have a key.
+fn keyed(rows: &[Row<Name>]) -> usize
+    ensures { result ≡ keyed rows.now }
+{
+    let mut count: usize = 0;
+    let mut at = rows.len();
+    while at > 0 {
+        at -= 1;
+        if rows[at].name.has_key() {
+            count += 1;
+        }
+    }
+    count
 }
 
 // The actions of a segment, by splitting its bytes where that can be.
 fn read(alloc: Global, limit: usize, segment: Segment<'_>) -> Result<Vec<Action>, AllocError>
-    ensures { OnErr result (Refused Global) }
+    ensures given { (g : Shape) (gs : List Shape) → AreSegments (g ∷ gs)
+        → IsItem segment.entry g (joined_bytes gs) → IfOk result (λ v. map value_of v.items
+        ≡ brief (reading_within (Some limit) g (is_finished g (joined_bytes gs)))) }
+    ensures refused { OnErr result (Refused Global) }
 {
     match read_short(alloc, limit, segment) {
         Some(actions) => Ok(actions),
