@@ -1,6 +1,7 @@
 //! Streams that are written as HTML to one output, one after another.
 
 use crate::heeding::Heeding;
+use crate::images::image;
 use crate::lines::Counting;
 use crate::options::Options;
 use crate::page::{AFTER, Side, before, counted, ending, group, heading, lost_note};
@@ -13,7 +14,7 @@ use command_line::{
 use esc_decode::Input;
 use esc_filter::FilterError;
 use esc_normal::Watched;
-use page_input::{Linking, Mark, Sections, Window};
+use page_input::{Linking, Mark, Pictures, Sections, Window};
 use std::alloc::{AllocError, Global};
 use std::io;
 use std::io::{Read, Write};
@@ -163,8 +164,52 @@ impl<'a, W: Write, E: Write> Converting<'a, W, E> {
         self.push(ended, text)
     }
 
-    // Writes the HTML of text of a stream of this name.
+    // Writes the HTML of text of a stream of this name, and its images.
     fn take_text<R: Read + Drop>(&mut self, name: &str, input: &mut R) -> Ended {
+        if self.options.images {
+            let mut pictures = Pictures::new(self.alloc, self.options.limit, input);
+            self.take_pictures(name, &mut pictures)
+        } else {
+            self.take_plain(name, input)
+        }
+    }
+
+    // Writes text and images, one after another.
+    fn take_pictures<R: Read + Drop>(&mut self, name: &str, pictures: &mut Pictures<R>) -> Ended {
+        for _ in 0..u64::MAX {
+            match self.take_next(name, pictures) {
+                Some(Ended::Whole) => {}
+                Some(other) => return other,
+                None => return Ended::Whole,
+            }
+        }
+        Ended::Whole
+    }
+
+    // Writes what comes next: an image, or text. None at the end.
+    fn take_next<R: Read + Drop>(
+        &mut self,
+        name: &str,
+        pictures: &mut Pictures<R>,
+    ) -> Option<Ended> {
+        match pictures.picture() {
+            Ok(Some(picture)) => {
+                let text = image(self.alloc, &picture, self.options.layout.inline);
+                let ended = self.push(Ended::Whole, text);
+                return Some(self.flush(ended));
+            }
+            Ok(None) => {}
+            Err(error) => return Some(self.unread(name, error)),
+        }
+        match pictures.has_text() {
+            Ok(true) => Some(self.take_plain(name, pictures)),
+            Ok(false) => None,
+            Err(error) => Some(self.unread(name, error)),
+        }
+    }
+
+    // Writes the HTML of text without images.
+    fn take_plain<R: Read + Drop>(&mut self, name: &str, input: &mut R) -> Ended {
         if self.options.links {
             let linking = Linking::new(self.alloc, input);
             self.write(name, linking)

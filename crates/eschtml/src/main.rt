@@ -5,6 +5,7 @@
 
 mod converting;
 mod heeding;
+mod images;
 mod joining;
 mod kept;
 mod lined;
@@ -39,7 +40,7 @@ const USAGE: &str = "\
 usage: eschtml [--page] [--title text] [--css address] [--lang language] \
 [--theme auto|light|dark] [--palette xterm|vga|solarized|tango|one-half] [--numbers] [--wrap] \
 [--lines] [--inline] [--show] [--lost] [--final-lines[=rows]] [--head lines] [--tail lines] \
-[--linkify] [--fold] [--times] [--style] \
+[--linkify] [--fold] [--times] [--images] [--style] \
 [--encoding utf-8|utf-16|utf-16le|utf-16be|latin1|windows-1250|windows-1251|windows-1252|\
 windows-1253|windows-1254|windows-1255|windows-1256|windows-1257|windows-1258] \
 [--c1 replace|obey] [--limit size] [-o|--output file] [-h|--help] [-V|--version] [--] [FILE..]";
@@ -74,6 +75,7 @@ renditions as spans, and links to http, https and mailto. Nothing of it becomes 
   --linkify       makes links of addresses in text that begin with http:// or https://
   --fold          folds the groups of lines of GitHub and GitLab on a page
   --times         puts the time that a line begins with into an element that is not copied
+  --images        writes images as data: PNG, JPEG and GIF of iTerm2 and kitty
   --style         prints the style sheet, for a page around a fragment
   --encoding name reads utf-8 (the default), utf-16, utf-16le, utf-16be, latin1, or windows-1250
                   to windows-1258

@@ -42,6 +42,8 @@ pub struct Options<'a> {
     pub folds: bool,
     /// Whether the times that lines begin with are elements.
     pub times: bool,
+    /// Whether images are written.
+    pub images: bool,
     /// Which byte of a unit comes first, where a stream is in UTF-16; then it is read as UTF-8.
     pub order: Option<ByteOrder>,
     /// How the bytes of a stream are read.
@@ -76,6 +78,7 @@ impl<'a> Options<'a> {
             links: false,
             folds: false,
             times: false,
+            images: false,
             order: None,
             encoding: Encoding::Utf8,
             limit: DEFAULT_LIMIT,
@@ -105,6 +108,7 @@ impl<'a> Options<'a> {
             "--linkify" => self.links = true,
             "--fold" => self.folds = true,
             "--times" => self.times = true,
+            "--images" => self.images = true,
             "--limit" => self.limit = given.size,
             _ => {}
         }
@@ -258,6 +262,11 @@ const KNOWN: &[Known] = &[
     },
     Known {
         name: "--times",
+        letter: "",
+        takes: Takes::Nothing,
+    },
+    Known {
+        name: "--images",
         letter: "",
         takes: Takes::Nothing,
     },

@@ -16,6 +16,9 @@ const OWN_STYLES: &str = "default-src 'none'; style-src 'unsafe-inline'; base-ur
 const ANY_STYLES: &str = "default-src 'none'; style-src 'unsafe-inline' 'self' file: http: https:; \
                           base-uri 'none'; form-action 'none'";
 
+// And images that are in the page.
+const IMAGES: &str = "; img-src data:";
+
 // A text that was made, where it was made whole.
 fn whole(text: String, made: Result<(), AllocError>) -> Result<String, AllocError> {
     match made {
@@ -41,6 +44,7 @@ fn push_head(text: &mut String, title: &str, options: &Options<'_>) -> Result<()
          <meta http-equiv=\"Content-Security-Policy\" content=\"",
     )?;
     fallible_alloc::push_str(text, allowed(options.css))?;
+    fallible_alloc::push_str(text, if options.images { IMAGES } else { "" })?;
     fallible_alloc::push_str(
         text,
         "\">\n<meta name=\"viewport\" content=\"width=device-width, initial-scale=1\">\n<title>",
@@ -119,6 +123,13 @@ fn push_sheet(text: &mut String, options: &Options<'_>) -> Result<(), AllocError
             fallible_alloc::push_str(text, "</style>\n")
         }
     }
+}
+
+/// Appends the value of an attribute between double quotes, with U+FFFD in the place of controls
+/// and noncharacters.
+pub fn push_text_value(text: &mut String, value: &str) -> Result<(), AllocError> {
+    let shown = as_characters(*text.allocator(), value)?;
+    push_value(text, shown.as_str())
 }
 
 // Appends the value of an attribute between double quotes.
@@ -211,8 +222,7 @@ fn push_before(
     options: &Options<'_>,
 ) -> Result<(), AllocError> {
     push_opening(text, lines, options)?;
-    let name = as_characters(*text.allocator(), name)?;
-    push_value(text, name.as_str())?;
+    push_text_value(text, name)?;
     fallible_alloc::push_str(text, "\">\n")
 }
 

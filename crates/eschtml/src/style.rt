@@ -77,6 +77,7 @@ const RULES: &str = "\
 .es-stream pre span { text-decoration-line: var(--es-under,) var(--es-through,) var(--es-over,);
   text-decoration-style: var(--es-kind, solid); text-underline-offset: auto; }
 .es-stream .es-time { color: var(--es-dim); user-select: none; -webkit-user-select: none; }
+.es-stream .es-image { display: block; max-width: 100%; height: auto; }
 .es-stream .es-bold { font-weight: bold; }
 .es-stream .es-faint { opacity: 0.8; }
 .es-stream .es-italic { font-style: italic; }
