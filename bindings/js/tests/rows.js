@@ -38,10 +38,15 @@ export function* rows() {
   }
 }
 
-/** The chunks of a stream, each of so many bytes. */
+// Into how many chunks a stream is cut at most: those of the tables that are held whole have up to
+// ten million bytes.
+const MOST_CHUNKS = 4096;
+
+/** The chunks of a stream, each of so many bytes, or of more where it is long. */
 export function chunks(stream, size) {
+  const step = Math.max(size, Math.ceil(stream.length / MOST_CHUNKS));
   const found = [];
-  for (let at = 0; at < stream.length; at += size) found.push(stream.subarray(at, at + size));
+  for (let at = 0; at < stream.length; at += step) found.push(stream.subarray(at, at + step));
   return found;
 }
 
