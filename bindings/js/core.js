@@ -4,12 +4,14 @@ export { command } from "./src/commands.js";
 export { functionOf } from "./src/functions.js";
 export { image, sixel, termcapQuery } from "./src/images.js";
 export { Parser, actions, events } from "./src/parser.js";
+export { Sanitizer, sanitize } from "./src/sanitizer.js";
 export {
   actionStream,
   eventStream,
   filterStream,
   htmlStream,
   normalStream,
+  sanitizerStream,
   stripStream,
 } from "./src/streams.js";
 export { Filter, HtmlWriter, Normaliser, filter, normal, strip, toHtml } from "./src/texts.js";

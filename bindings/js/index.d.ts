@@ -40,6 +40,101 @@ export interface ParserOptions extends Limit {
   dataLimit?: number;
 }
 
+/**
+ * A group of actions. `text` passes the first two, `color` the first five, `screen` all up to
+ * `palette`, and `all` all.
+ */
+export type Group =
+  | "characters"
+  /** Tab, line feed and carriage return. */
+  | "layout"
+  /** Renditions, but those of `hidden`. */
+  | "sgr"
+  /** Renditions with one that conceals text (SGR 8). */
+  | "hidden"
+  | "links"
+  /** Bell, backspace, line tabulation and form feed. */
+  | "controls"
+  | "cursor"
+  | "erase"
+  | "scroll"
+  | "modes"
+  | "charsets"
+  | "palette"
+  | "titles"
+  | "clipboard"
+  | "images"
+  /** Anything else, queries too. */
+  | "other";
+/** How bytes are read. One of 80 to 9F alone is replaced by U+FFFD, and with `-c1` a control. */
+export type Encoding =
+  | "utf-8"
+  | "utf-8-c1"
+  | "latin-1"
+  | "latin-1-c1"
+  | `windows-125${0 | 1 | 2 | 3 | 4 | 5 | 6 | 7 | 8}`;
+
+/** How a log is sanitized, as the options of `escfilter` say it: if one is left out, as there. */
+export interface SanitizerOptions extends Limit {
+  /** Groups that pass besides those of the policy. */
+  allow?: readonly Group[];
+  /** Groups that do not pass, whatever the others say. */
+  deny?: readonly Group[];
+  /** The schemes of the links that pass; any if none is named. The text of other links stays. */
+  links?: readonly ("http" | "https" | "mailto")[];
+  /**
+   * The extent of a stream of its own: each line, as by `text` and `color`, or the whole, as by
+   * `screen` and `all`. A string that nobody ends takes the rest of it. By `lines-reset` no
+   * rendition goes on over a line feed.
+   */
+  framing?: "lines" | "whole" | "lines-reset";
+  /**
+   * The output for characters that hide or reorder text: themselves, themselves if they belong to
+   * the character before them and else their number as `<U+202E>`, their number, or nothing. By
+   * `text` and `color` it is `join`, with `rows` `show`, and else `keep`.
+   */
+  characters?: "keep" | "join" | "show" | "drop";
+  /**
+   * The output for carriage returns within a line: themselves, `^M`, or nothing. By `text` and
+   * `color` without `rows` it is `show`, and else, and always by `whole`, `keep`.
+   */
+  returns?: "keep" | "show" | "drop";
+  /** `utf-8` if it is left out; strings have no other but `utf-8-c1`. */
+  encoding?: Encoding;
+  /**
+   * Shows sequences that do not pass in their place, as `^[]0;title^G`: as other text, with its `^`
+   * and `<` shown too, so that all can be read back, or in reverse video, if that passes.
+   */
+  show?: "plain" | "escaped" | "reversed";
+  /**
+   * Writes text that is written again, as of a progress bar, as a terminal has it at the end: how
+   * many rows may be written again, up to 4096.
+   */
+  rows?: number;
+  /** Whether an account is kept, which costs time and memory: it is if this is left out. */
+  account?: boolean;
+}
+
+/** The fates of the bytes of a stream: how many had each, in UTF-8 if its encoding is another. */
+export interface Account {
+  /** They are in the text as they came. */
+  readonly passed: number;
+  /** They are in the text in another spelling. */
+  readonly respelled: number;
+  /** They are in the text as visible characters. */
+  readonly shown: number;
+  /** U+FFFD is in the text for them. */
+  readonly replaced: number;
+  /** They mean something that does not pass. */
+  readonly leftOut: number;
+  /** They mean nothing, as those of a string that nobody ended. */
+  readonly swallowed: number;
+  /** Other text took their place. */
+  readonly overwritten: number;
+  /** How many there are: the sum of these. */
+  readonly length: number;
+}
+
 /** The number of bytes that are kept of a string, if no limit is given. */
 export const DEFAULT_LIMIT: number;
 
@@ -50,6 +145,18 @@ export function filter(stream: Bytes, policy?: Policy, options?: Limit): Uint8Ar
 /** Returns the characters, tabs and line ends of a stream. */
 export function strip(stream: string, options?: Limit): string;
 export function strip(stream: Bytes, options?: Limit): Uint8Array;
+
+/** Returns the output of `escfilter` for a log, and its account; the policy is `color` else. */
+export function sanitize(
+  stream: string,
+  policy?: Policy,
+  options?: SanitizerOptions,
+): { text: string; account: Account };
+export function sanitize(
+  stream: Bytes,
+  policy?: Policy,
+  options?: SanitizerOptions,
+): { text: Uint8Array; account: Account };
 
 /** Returns the normal form of a stream. It is no protection: for that there is `filter`. */
 export function normal(stream: string, options?: Limit): string;
@@ -80,6 +187,30 @@ export class Filter extends Kept {
    * stream left at a terminal, as a colour: a string, if the last chunk was one.
    */
   finish(): string | Uint8Array;
+}
+
+/**
+ * The filter of a log that comes in chunks: the output of the program `escfilter`, and the account
+ * of every byte. If each line is a stream of its own, as by `text` and `color`, a string that
+ * nobody ends takes the rest of its line, and no line after it.
+ */
+export class Sanitizer extends Kept {
+  constructor(policy?: Policy, options?: SanitizerOptions);
+  /** Takes the next chunk of the log, and returns the text that it adds. */
+  feed(chunk: string): string;
+  feed(chunk: Bytes): Uint8Array;
+  feed(chunk: Chunk): string | Uint8Array;
+  /**
+   * Ends the log, and returns the text that its end adds: a string, if the last chunk was one. No
+   * chunk follows.
+   */
+  finish(): string | Uint8Array;
+  /**
+   * The fates of the bytes of the lines that have ended, or of the parts of a stream that is one;
+   * and of all, once the log has ended. The sums then add up to its length. Zeros if no account is
+   * kept.
+   */
+  account(): Account;
 }
 
 /** The normal form of a stream that comes in chunks. */
@@ -208,6 +339,13 @@ type Out<P> = P extends string ? string : Uint8Array;
 export function filterStream<P extends Chunk = Uint8Array>(
   policy?: Policy,
   options?: Limit,
+): TransformStream<P, Out<P>>;
+export function sanitizerStream<P extends Chunk = Uint8Array>(
+  policy?: Policy,
+  options?: Omit<SanitizerOptions, "account"> & {
+    /** Is called with the account of the log, once it has ended. It is kept for this alone. */
+    onAccount?: (account: Account) => void;
+  },
 ): TransformStream<P, Out<P>>;
 export function stripStream<P extends Chunk = Uint8Array>(
   options?: Limit,

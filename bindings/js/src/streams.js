@@ -1,6 +1,7 @@
 // SPDX-License-Identifier: MIT
 // The same as transformers of streams, for `pipeThrough`.
 import { Parser } from "./parser.js";
+import { Sanitizer } from "./sanitizer.js";
 import { Filter, HtmlWriter, Normaliser } from "./texts.js";
 
 /*
@@ -34,6 +35,16 @@ const texts = (make) => {
 };
 
 export const filterStream = (policy, options) => texts(() => new Filter(policy, options));
+
+export const sanitizerStream = (policy, { onAccount, ...options } = {}) => {
+  const make = () => new Sanitizer(policy, { ...options, account: onAccount !== undefined });
+  const end = (it) => {
+    const added = some(it.finish());
+    onAccount?.(it.account());
+    return added;
+  };
+  return over(make, (it, chunk) => some(it.feed(chunk)), end);
+};
 
 export const stripStream = (options) => filterStream("text", options);
 

@@ -1,5 +1,6 @@
 // SPDX-License-Identifier: MIT
-// What takes a stream in chunks and gives a text for each: a filter, a page, the normal form.
+// What takes a stream in chunks and gives a text for each: a filter, a page, the normal form; a
+// sanitizer is in sanitizer.js.
 import { Bytes, CHUNK, Chunks, Text, rooms } from "./chunks.js";
 import { Kept, calls, done, give, limitOf, memory, take } from "./wasm.js";
 
@@ -7,12 +8,12 @@ import { Kept, calls, done, give, limitOf, memory, take } from "./wasm.js";
 const STRUCT = 16;
 const POLICIES = { text: 0, color: 1, screen: 2, all: 3 };
 
-function policyOf(policy) {
+export function policyOf(policy) {
   if (Object.hasOwn(POLICIES, policy)) return POLICIES[policy];
   throw new TypeError(`escape-stream: no such policy: ${policy}`);
 }
 
-/* What the three have in common. */
+/* What those have in common that give text. */
 class InChunks extends Kept {
   #name;
   #what;
@@ -38,19 +39,35 @@ class InChunks extends Kept {
     }
   }
 
+  /* Where its struct lies. */
+  get place() {
+    this.check();
+    return this.#at;
+  }
+
   /* Takes a chunk, and puts the text that it adds into `to`. */
-  fed(chunk, to) {
+  put(chunk, to) {
     this.check();
     this.#chunks.put(chunk, (length) => this.#feed(length, to));
-    return to.all();
   }
 
   /* Ends the stream, and puts the text that its end adds into `to`. */
-  finished(to) {
+  putEnd(to) {
     this.check();
     this.#chunks.end((length) => this.#feed(length, to));
     done(calls[`${this.#name}_finish`](this.#at), this.#what);
     this.#push(to);
+  }
+
+  /* Takes a chunk, and returns the text that it adds, as `to` gathers it. */
+  fed(chunk, to) {
+    this.put(chunk, to);
+    return to.all();
+  }
+
+  /* The same of the end. */
+  finished(to) {
+    this.putEnd(to);
     return to.all();
   }
 
@@ -72,10 +89,10 @@ class InChunks extends Kept {
   }
 }
 
-const sinkOf = (chunk) => (typeof chunk === "string" ? new Text() : new Bytes());
+export const sinkOf = (chunk) => (typeof chunk === "string" ? new Text() : new Bytes());
 
 /* One that gives strings for strings, and bytes for bytes. */
-class AsGiven extends InChunks {
+export class AsGiven extends InChunks {
   #isText = false;
 
   feed(chunk) {
@@ -83,7 +100,7 @@ class AsGiven extends InChunks {
     return this.fed(chunk, sinkOf(chunk));
   }
 
-  /** Ends the stream, and begins the next: what its end adds, as a string after a string. */
+  /** Ends the stream: what its end adds, as a string after a string. */
   finish() {
     return this.finished(this.#isText ? new Text() : new Bytes());
   }

@@ -2,14 +2,18 @@
 // What is taken is given back, and a refusal of memory leaves the module as it was.
 import assert from "node:assert/strict";
 import test from "node:test";
-import { Filter, HtmlWriter, Normaliser, Parser, actions, strip, toHtml } from "../index.js";
+import {
+  Filter, HtmlWriter, Normaliser, Parser, Sanitizer, actions, sanitize, strip, toHtml,
+} from "../index.js";
 import { calls } from "../src/wasm.js";
 
 const size = () => calls.memory.buffer.byteLength;
 
 test("objects that were disposed of keep nothing", () => {
   const round = () => {
-    for (const it of [new Filter("all"), new Normaliser(), new HtmlWriter(), new Parser()]) {
+    const sanitizer = new Sanitizer("text", { rows: 4, show: "escaped" });
+    const others = [new Filter("all"), new Normaliser(), new HtmlWriter(), new Parser()];
+    for (const it of [sanitizer, ...others]) {
       if (it instanceof Parser) it.actions("\x1b]2;" + "x".repeat(10_000));
       else it.feed("\x1b]2;" + "x".repeat(10_000));
       it.dispose();
@@ -27,6 +31,7 @@ test("streams that were given whole keep nothing", () => {
   const round = () => {
     assert.equal(strip(long), "y");
     assert.equal(toHtml(long), "y");
+    assert.equal(sanitize(long).account.leftOut, 900_005);
     assert.equal([...actions(sixel)][0].data.length, 200_000);
   };
   round();

@@ -2,9 +2,10 @@
 /*
  * Writes what the native archives give of each stream of standard input: its length in four bytes,
  * the lowest first, and its bytes. Each text that is written has its length in front so, too:
- * the filter by four policies, whole and in chunks of 7 bytes with the end; the normal form, whole
- * and in chunks of 3; the page, and the page by lines with styles in chunks of 5; and the events in
- * chunks of 11, in the words of native.test.js.
+ * the filter by four policies, whole and in chunks of 7 bytes with the end; the sanitizer by four
+ * policies in chunks of 6, as usual and with two rows and what does not pass shown, each with its
+ * account; the normal form, whole and in chunks of 3; the page, and the page by lines with styles
+ * in chunks of 5; and the events in chunks of 11, in the words of native.test.js.
  */
 #include "escape_stream.h"
 #include "escape_stream_parser.h"
@@ -74,7 +75,7 @@ static void check(uint32_t status)
             put(room, count);                                                                    \
     } while (0)
 
-#define IN_CHUNKS(name, it, bytes, length, size)                                               \
+#define PUT_CHUNKS(name, it, bytes, length, size)                                              \
     do {                                                                                       \
         for (size_t at = 0; at < (length); at += (size)) {                                     \
             size_t part = (length) - at < (size) ? (length) - at : (size);                     \
@@ -83,6 +84,11 @@ static void check(uint32_t status)
         }                                                                                      \
         check(escape_stream_##name##_finish(it));                                              \
         PUT_TEXT(name, it);                                                                    \
+    } while (0)
+
+#define IN_CHUNKS(name, it, bytes, length, size)                                               \
+    do {                                                                                       \
+        PUT_CHUNKS(name, it, bytes, length, size);                                             \
         escape_stream_##name##_end(it);                                                        \
         write_text();                                                                          \
     } while (0)
@@ -101,6 +107,36 @@ static void write_filters(const uint8_t *bytes, size_t length)
         write_text();
         check(escape_stream_filter_begin(&it, policy, LIMIT));
         IN_CHUNKS(filter, &it, bytes, length, 7);
+    }
+}
+
+/* A log by these options, with the numbers of its account. */
+static void write_sanitized(
+    const struct escape_stream_sanitizer_options *options, const uint8_t *bytes, size_t length)
+{
+    struct escape_stream_sanitizer it = {0};
+    struct escape_stream_account account = {0};
+    check(escape_stream_sanitizer_begin(&it, options));
+    PUT_CHUNKS(sanitizer, &it, bytes, length, 6);
+    check(escape_stream_sanitizer_account(&it, &account));
+    const uint64_t fates[] = {account.passed,   account.respelled, account.shown,
+                              account.replaced, account.left_out,  account.swallowed,
+                              account.overwritten, account.length};
+    for (size_t i = 0; i < sizeof fates / sizeof *fates; i++)
+        put_number((int64_t)fates[i]);
+    escape_stream_sanitizer_end(&it);
+    write_text();
+}
+
+static void write_logs(const uint8_t *bytes, size_t length)
+{
+    for (uint32_t policy = 0; policy < 4; policy++) {
+        struct escape_stream_sanitizer_options options = ESCAPE_STREAM_SANITIZER_OPTIONS_INIT;
+        options.policy = policy;
+        write_sanitized(&options, bytes, length);
+        options.rows = 2;
+        options.show = ESCAPE_STREAM_SHOW_ESCAPED;
+        write_sanitized(&options, bytes, length);
     }
 }
 
@@ -197,6 +233,7 @@ int main(void)
         if (fread(bytes, 1, length, stdin) != length)
             return 5;
         write_filters(bytes, length);
+        write_logs(bytes, length);
         write_normals(bytes, length);
         write_pages(bytes, length);
         write_events(bytes, length);

@@ -4,7 +4,9 @@
 import assert from "node:assert/strict";
 import { spawnSync } from "node:child_process";
 import test from "node:test";
-import { Filter, HtmlWriter, Normaliser, Parser, filter, normal, toHtml } from "../index.js";
+import {
+  Filter, HtmlWriter, Normaliser, Parser, Sanitizer, filter, normal, toHtml,
+} from "../index.js";
 import { chunks, streams } from "./rows.js";
 
 const POLICIES = ["text", "color", "screen", "all"];
@@ -14,6 +16,16 @@ function inChunks(taker, stream, size) {
   const found = chunks(stream, size).map((it) => Buffer.from(taker.feed(it)));
   found.push(Buffer.from(taker.finish()));
   taker.dispose();
+  return Buffer.concat(found);
+}
+
+/* A log in chunks, with the numbers of its account. */
+function sanitized(stream, policy, options) {
+  const it = new Sanitizer(policy, options);
+  const found = chunks(stream, 6).map((chunk) => Buffer.from(it.feed(chunk)));
+  found.push(Buffer.from(it.finish()));
+  found.push(Buffer.from(Object.values(it.account()).map((count) => ` ${count}`).join("")));
+  it.dispose();
   return Buffer.concat(found);
 }
 
@@ -63,6 +75,10 @@ function* textsOf(stream) {
     yield [`filter ${policy}`, filter(stream, policy)];
     yield [`filter ${policy} in chunks`, inChunks(new Filter(policy), stream, 7)];
   }
+  for (const policy of POLICIES) {
+    yield [`log ${policy}`, sanitized(stream, policy)];
+    yield [`log ${policy} shown`, sanitized(stream, policy, { rows: 2, show: "escaped" })];
+  }
   yield ["normal", normal(stream, { limit: stream.length })];
   yield ["normal in chunks", inChunks(new Normaliser(), stream, 3)];
   yield ["html", toHtml(stream)];
@@ -94,6 +110,6 @@ test("as the native archives", { skip: program ? false : "NATIVE names no progra
     }
   }
   assert.equal(at, stdout.length);
-  assert.ok(count > 9000, `${count} comparisons`);
+  assert.ok(count > 15000, `${count} comparisons`);
   console.log(`${count} comparisons with the native archives`);
 });

@@ -3,7 +3,7 @@
 // `node tests/speed.js FILE..`.
 import { readFileSync } from "node:fs";
 import { stripVTControlCharacters } from "node:util";
-import { actions, events, filter, normal, strip, toHtml } from "../index.js";
+import { actions, events, filter, normal, sanitize, strip, toHtml } from "../index.js";
 
 function seconds(work) {
   let best = Infinity;
@@ -31,6 +31,8 @@ for (const name of process.argv.slice(2)) {
     "strip, of bytes": () => strip(bytes),
     "the same by node:util": () => Buffer.from(stripVTControlCharacters(bytes.toString())),
     "filter color, of bytes": () => filter(bytes, "color"),
+    "sanitize color, of bytes": () => sanitize(bytes, "color", { account: false }),
+    "the same with an account": () => sanitize(bytes),
     "toHtml, of bytes": () => toHtml(bytes),
     "normal, of bytes": () => normal(bytes),
     "events": () => count(events(bytes)),

@@ -1,10 +1,10 @@
 // SPDX-License-Identifier: MIT
 // What a program in TypeScript may write: it is compiled, and not run.
 import {
-  Filter, HtmlWriter, Parser, actions, command, events, filter, filterStream, functionOf,
-  htmlStream, image, normal, sixel, strip, termcapQuery, toHtml,
+  Filter, HtmlWriter, Parser, Sanitizer, actions, command, events, filter, filterStream, functionOf,
+  htmlStream, image, normal, sanitize, sanitizerStream, sixel, strip, termcapQuery, toHtml,
 } from "../index.js";
-import type { Action, Event, Policy } from "../index.js";
+import type { Account, Action, Event, Policy, SanitizerOptions } from "../index.js";
 
 const policies: Policy[] = ["text", "color", "screen", "all"];
 const text: string = strip("a") + filter("a", policies[1]) + normal("a", { limit: 10 });
@@ -13,6 +13,12 @@ const page: string = toHtml(bytes, { perLine: true, inline: true });
 
 // @ts-expect-error There is no such policy.
 filter("a", "none");
+const options: SanitizerOptions = { allow: ["titles"], encoding: "windows-1252", rows: 4 };
+const log: string = sanitize("a", "text", options).text;
+const safe: Uint8Array = sanitize(bytes, "color").text;
+const account: Account = sanitize(safe).account;
+// @ts-expect-error There is no such group.
+sanitize("a", "text", { deny: ["colour"] });
 // @ts-expect-error Bytes give bytes.
 const wrong: string = strip(bytes);
 
@@ -41,7 +47,9 @@ export function titles(stream: Iterable<Uint8Array>): string[] {
 }
 
 export async function streams(response: Response): Promise<void> {
-  const page = response.body!.pipeThrough(filterStream("color")).pipeThrough(htmlStream());
+  const onAccount = (it: Account) => console.log(it.leftOut);
+  const kept = response.body!.pipeThrough(sanitizerStream("color", { onAccount }));
+  const page = kept.pipeThrough(filterStream("color")).pipeThrough(htmlStream());
   await page.pipeTo(new WritableStream<string>());
 }
 
@@ -52,5 +60,8 @@ const keep = new Filter("color");
 const more: string | Uint8Array = keep.feed("a") + keep.feed("b") + String(keep.finish());
 keep[Symbol.dispose]();
 new HtmlWriter().dispose();
+const sanitizer = new Sanitizer("screen", options);
+const part: string = sanitizer.feed("a") + String(sanitizer.finish());
 const read = [command(bytes), image(bytes)?.type, sixel([1, null], bytes).data];
 export const values = [all, more, read, termcapQuery(bytes)[0]];
+export const logs = [log, account.passed + sanitizer.account().leftOut, part];

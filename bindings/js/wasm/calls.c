@@ -20,6 +20,16 @@
 
 /* What JavaScript reads and writes by its place. */
 _Static_assert(sizeof(struct escape_stream_filter_state) == 16, "a filter");
+_Static_assert(sizeof(struct escape_stream_sanitizer) == 16, "a sanitizer");
+_Static_assert(sizeof(struct escape_stream_sanitizer_options) == 56, "its options");
+_Static_assert(offsetof(struct escape_stream_sanitizer_options, limit) == 8, "their limit");
+_Static_assert(offsetof(struct escape_stream_sanitizer_options, allowed) == 16, "their groups");
+_Static_assert(offsetof(struct escape_stream_sanitizer_options, framing) == 28, "their framing");
+_Static_assert(offsetof(struct escape_stream_sanitizer_options, encoding) == 40, "their encoding");
+_Static_assert(offsetof(struct escape_stream_sanitizer_options, account) == 52, "the last");
+_Static_assert(sizeof(struct escape_stream_account) == 64, "an account");
+_Static_assert(offsetof(struct escape_stream_account, left_out) == 32, "what did not pass");
+_Static_assert(offsetof(struct escape_stream_account, length) == 56, "the length");
 _Static_assert(sizeof(struct escape_stream_html) == 16, "a page");
 _Static_assert(sizeof(struct escape_stream_normaliser) == 16, "a normaliser");
 _Static_assert(sizeof(struct escape_stream_function_info) == 98, "a function");
@@ -61,7 +71,7 @@ EXPORTED(give, "(i32) -> ()");
 NUMBER host_take(NUMBER length) { return (NUMBER)(size_t)heap_take(length); }
 void host_give(NUMBER at) { heap_give(BYTES(at)); }
 
-/* The four calls that a filter, a page and a normaliser have in common. */
+/* The four calls that a filter, a sanitizer, a page and a normaliser have in common. */
 #define IN_CHUNKS(name, type)                                                              \
     EXPORTED(name##_feed, "(i32, i32, i32) -> (i32)");                                     \
     EXPORTED(name##_finish, "(i32) -> (i32)");                                             \
@@ -82,6 +92,7 @@ void host_give(NUMBER at) { heap_give(BYTES(at)); }
     void host_##name##_end(NUMBER it) { escape_stream_##name##_end(AT(type, it)); }
 
 IN_CHUNKS(filter, struct escape_stream_filter_state)
+IN_CHUNKS(sanitizer, struct escape_stream_sanitizer)
 IN_CHUNKS(html, struct escape_stream_html)
 IN_CHUNKS(normal, struct escape_stream_normaliser)
 
@@ -89,6 +100,20 @@ EXPORTED(filter_begin, "(i32, i32, i32) -> (i32)");
 NUMBER host_filter_begin(NUMBER it, NUMBER policy, NUMBER limit)
 {
     return escape_stream_filter_begin(AT(struct escape_stream_filter_state, it), policy, limit);
+}
+
+EXPORTED(sanitizer_begin, "(i32, i32) -> (i32)");
+NUMBER host_sanitizer_begin(NUMBER it, NUMBER options)
+{
+    return escape_stream_sanitizer_begin(AT(struct escape_stream_sanitizer, it),
+                                         AT(struct escape_stream_sanitizer_options, options));
+}
+
+EXPORTED(sanitizer_account, "(i32, i32) -> (i32)");
+NUMBER host_sanitizer_account(NUMBER it, NUMBER account)
+{
+    return escape_stream_sanitizer_account(AT(struct escape_stream_sanitizer, it),
+                                           AT(struct escape_stream_account, account));
 }
 
 EXPORTED(html_begin, "(i32, i32, i32, i32) -> (i32)");
