@@ -13,8 +13,8 @@
 // else. [NewReader] and [NewWriter] do so as a stream comes. [Sanitize] is the same for logs, line
 // by line, with the options of the program escfilter and an account of every byte. [ToHTML] returns
 // a stream as HTML in which nothing comes alive, [Normal] returns its normal form, [Parser] gives
-// its events, [Function] names the function of a sequence, and [ReadCommand] reads the text of an
-// operating system command.
+// its events, [Function] names the function of a sequence and [ControlString] a string, and
+// [ReadCommand] reads the text of an operating system command.
 //
 // The output of each call of the library is proved, for every stream. This package is not proved:
 // it is tested.
