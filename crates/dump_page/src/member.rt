@@ -18,13 +18,13 @@ pub enum Member {
     Finished,
     /// Whether it is cut.
     Cut,
-    /// The name of what is finished and is not cut, after both.
+    /// That it is finished and is not cut, and the name.
     WholeName,
     /// The name.
     Name,
     /// The words.
     Words,
-    /// The fields, of which the list begins.
+    /// The beginning of the list of fields.
     Fields,
     /// The bytes, escaped.
     Bytes,

@@ -22,6 +22,9 @@ pub mod Short
 pub mod ShortSequences
 pub mod Sequences
 pub mod Commands
+pub mod Rows
+pub mod TableRows
+pub mod NewRows
 pub mod Looks
 pub mod Seen
 pub mod LeftCommands

@@ -1,4 +1,4 @@
--- What is noted of a control string.
+-- The row of a control string, as a call writes it.
 use Rattle.std.specs.Prelude.{ℕ, ◌≡◌, Bool, true, false, List, [], get_or, Option, None, Some}
 use Rattle.string_commands.specs.Rows.{entry_at, names, words}
 use Rattle.esc_calls.specs.FunctionRows.{padded_bytes}

@@ -1,4 +1,4 @@
-//! What is noted of a control string.
+//! A control string, as a call writes it for its caller.
 ghost use Rattle.std.specs.Prelude.{Option, ℕ};
 ghost use Rattle.string_commands.specs.Rows.{Finds};
 ghost use Rattle.esc_calls.specs.StringRows.{IsStringRow, SaysString};
@@ -6,7 +6,7 @@ ghost use Rattle.esc_calls.specs.StringRows.{IsStringRow, SaysString};
 use crate::output::put;
 use string_commands::Row;
 
-/// What a control string is, for its caller: a row of the table of `string_commands`, or zeros.
+/// A control string, for its caller: a row of the table of `string_commands`, or zeros.
 #[repr(C)]
 #[derive(Clone, Copy)]
 pub struct StringRow {
