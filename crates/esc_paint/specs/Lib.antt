@@ -1,0 +1,4 @@
+pub mod Pieces
+pub mod Painting
+pub mod Drawn
+pub mod Laws

@@ -1,0 +1,126 @@
+-- How a screen is painted: row by row, and in a row cell by cell.
+use Rattle.std.specs.Prelude.{ℕ, zero, suc, ◌+◌, ◌-◌, ◌==◌, Bool, true, false, not, ◌&&◌, if◌then◌else◌, List, [], ◌∷◌, ◌++◌, length, get_or, Option, None, Some}
+use Rattle.esc_sgr.specs.Sgr.{same_look}
+use Rattle.esc_style.specs.Looks.{plain_look}
+use Rattle.esc_style.specs.declared.look.Look.{Look}
+use Rattle.esc_screen.specs.Cells.{blank}
+use Rattle.esc_screen.specs.Grids.{Grid, Size, row_of_cursor}
+use Rattle.esc_screen.specs.declared.cell.Cell.{Cell}
+use Rattle.esc_screen.specs.declared.content.Content.{Content}
+use Rattle.esc_screen.specs.declared.content.Content.TheVariants as content
+use Rattle.esc_screen.specs.declared.marks.Marks.{Marks}
+use Rattle.esc_terminal.specs.Looks.{erased_look}
+use Rattle.esc_paint.specs.declared.pen.Pen.{Pen}
+use Rattle.esc_paint.specs.Pieces.{Piece, character, erase_all, erase_right, look, pieces_text, place, soft_reset}
+
+-- at the beginning of a row
+abbrev pub first_pen : Pen
+first_pen = record {
+  here = false;
+  look = plain_look;
+  back = plain_look;
+}
+
+-- ---- cells
+
+-- the cursor goes to a row and a column, where it is not there
+abbrev pub placed : Bool → ℕ → ℕ → List Piece
+placed here r n = if here then [] else place r n ∷ []
+
+-- the look of characters that come becomes another
+abbrev pub looked : Look → Look → List Piece
+looked a b = if same_look a b then [] else look b ∷ []
+
+abbrev pub mark_pieces : Option ℕ → List Piece
+mark_pieces None = []
+mark_pieces (Some c) = character c ∷ []
+
+-- of three marks or more two are known: the first stands for the others
+abbrev pub marks_pieces : Marks → List Piece
+marks_pieces m = mark_pieces m.first
+    ++ (mark_pieces m.second ++ (if m.others then mark_pieces m.first else []))
+
+-- a character in a row and a column, with its marks and its look
+abbrev pub drawn_pieces : ℕ → ℕ → Pen → ℕ → Marks → Look → List Piece
+drawn_pieces r n p c m l =
+    placed p.here r n ++ (looked p.look l ++ (character c ∷ marks_pieces m))
+
+abbrev pub pen_drawn : Look → Pen → Pen
+pen_drawn l p = record p { here = true; look = l }
+
+-- a blank cell: what is left of the row is erased, where it looks otherwise
+abbrev pub blank_pieces : ℕ → ℕ → Pen → Look → List Piece
+blank_pieces r n p b = if same_look p.back b then []
+    else placed p.here r n ++ (looked p.look b ++ (erase_right ∷ []))
+
+abbrev pub pen_blank : Look → Pen → Pen
+pen_blank b p = if same_look p.back b then record p { here = false }
+    else record {
+      here = false;
+      look = b;
+      back = b;
+    }
+
+-- what stands in a cell; the second column of a character came with the first
+abbrev pub content_pieces : ℕ → ℕ → Pen → Look → Content → List Piece
+content_pieces r n p l content.Blank = blank_pieces r n p (erased_look l)
+content_pieces r n p l (content.Narrow c m) = drawn_pieces r n p c m l
+content_pieces r n p l (content.Wide c m) = drawn_pieces r n p c m l
+content_pieces r n p l content.Rest = []
+
+abbrev pub pen_by : Pen → Look → Content → Pen
+pen_by p l content.Blank = pen_blank (erased_look l) p
+pen_by p l (content.Narrow c m) = pen_drawn l p
+pen_by p l (content.Wide c m) = pen_drawn l p
+pen_by p l content.Rest = p
+
+-- ---- rows
+
+-- cells from a column on, of which each looks as its number says; then characters look plain
+abbrev pub cells_pieces : (ℕ → Look) → ℕ → ℕ → Pen → List Cell → List Piece
+cells_pieces f r n p [] = looked p.look plain_look
+cells_pieces f r n p (x ∷ xs) = content_pieces r n p (f x.look) x.content
+    ++ cells_pieces f r (n + 1) (pen_by p (f x.look) x.content) xs
+
+-- in a row that is blank
+abbrev pub row_pieces : (ℕ → Look) → ℕ → List Cell → List Piece
+row_pieces f r xs = cells_pieces f r 0 first_pen xs
+
+-- so many rows from this one on
+abbrev pub rows_pieces : (ℕ → Look) → List (List Cell) → ℕ → ℕ → List Piece
+rows_pieces f xss r zero = []
+rows_pieces f xss r (suc n) = row_pieces f r (get_or xss r []) ++ rows_pieces f xss (r + 1) n
+
+-- a row, whatever is there
+abbrev pub row_again : (ℕ → Look) → ℕ → List Cell → List Piece
+row_again f r xs = place r 0 ∷ erase_right ∷ row_pieces f r xs
+
+-- ---- the cursor
+
+abbrev pub is_blank_content : Content → Bool
+is_blank_content content.Blank = true
+is_blank_content _ = false
+
+-- whether a character stands in the last column of its row
+abbrev pub ends_drawn : List Cell → Bool
+ends_drawn xs = not (is_blank_content (get_or xs (length xs - 1) (blank 0)).content)
+
+-- a wrap that is pending after a character in the last column
+abbrev pub is_waiting : Size → Grid → Bool
+is_waiting s g = g.cursor.pending && (g.cursor.column + 1 == s.columns)
+    && ends_drawn (row_of_cursor g)
+
+-- the cursor goes to its place; where a wrap is pending, the row is painted again
+abbrev pub cursor_pieces : (ℕ → Look) → Size → Grid → List Piece
+cursor_pieces f s g = if is_waiting s g then row_again f g.cursor.row (row_of_cursor g)
+    else place g.cursor.row g.cursor.column ∷ []
+
+-- ---- a screen
+
+abbrev pub paint_pieces : (ℕ → Look) → Size → Grid → List Piece
+paint_pieces f s g =
+    soft_reset ∷ erase_all ∷ (rows_pieces f g.rows 0 s.rows ++ cursor_pieces f s g)
+
+-- the text that paints a grid of this size, of which the numbers of cells stand for these looks
+abbrev pub painted : (ℕ → Look) → Size → Grid → List ℕ
+painted f s g = pieces_text (paint_pieces f s g)

@@ -1,0 +1,29 @@
+//! What holds between two cells of a row.
+ghost use Rattle.std.specs.Prelude.{◌≡◌};
+ghost use Rattle.esc_paint.specs.Painting.{first_pen};
+
+use esc_style::Look;
+
+/// What holds between two cells of a row.
+#[derive(Clone, Copy)]
+pub struct Pen {
+    /// Whether the cursor is where the next one comes.
+    pub here: bool,
+    /// How characters look that come.
+    pub look: Look,
+    /// How the blank cells look that are all that is left of the row.
+    pub back: Look,
+}
+
+impl Pen {
+    /// At the beginning of a row.
+    pub(crate) fn first() -> Pen
+        ensures { result ≡ first_pen }
+    {
+        Pen {
+            here: false,
+            look: Look::plain(),
+            back: Look::plain(),
+        }
+    }
+}
