@@ -74,6 +74,8 @@ static void check_stream(uint64_t seed) {
     check_texts(at_hand.stream, check_events(at_hand.stream));
     if (one_in(4))
         check_logs(at_hand.stream);
+    if (one_in(4))
+        check_screens(at_hand.stream);
 }
 
 static void begin(void) {
@@ -83,6 +85,7 @@ static void begin(void) {
     begin_texts();
     begin_chunks();
     begin_logs();
+    begin_screens();
     begin_commands();
     begin_writes();
 }

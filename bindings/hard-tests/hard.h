@@ -69,6 +69,8 @@ void begin_chunks(void);
 void check_chunks(const struct text_call *call, struct bytes text);
 void begin_logs(void);
 void check_logs(struct bytes stream);
+void begin_screens(void);
+void check_screens(struct bytes stream);
 void check_functions(void);
 void check_strings(void);
 void begin_commands(void);

@@ -1,5 +1,6 @@
 # SPDX-License-Identifier: MIT
-"""The calls of the proved library, as escape_stream.h and escape_stream_parser.h declare them.
+"""The calls of the proved library, as escape_stream.h, escape_stream_screen.h and
+escape_stream_parser.h declare them.
 
 The declarations are written by hand. Each text that a caller gives is `bytes`, which nobody writes
 during a call, and whose pointer is never null; an object that a call writes is of this package
@@ -96,6 +97,65 @@ class RawNormaliser(Structure):
     """`struct escape_stream_normaliser`."""
 
     _fields_ = [("is_begun", c_bool), ("state", c_void_p)]
+
+
+class RawScreen(Structure):
+    """`struct escape_stream_screen`."""
+
+    _fields_ = [("is_begun", c_bool), ("state", c_void_p)]
+
+
+class RawScreenState(Structure):
+    """`struct escape_stream_screen_state`."""
+
+    _fields_ = [
+        ("scrolled", c_uint64),
+        ("kept", c_size_t),
+        ("requests", c_size_t),
+        ("links", c_size_t),
+        ("columns", c_uint16),
+        ("rows", c_uint16),
+        ("cursor_row", c_uint16),
+        ("cursor_column", c_uint16),
+        ("pending", c_bool),
+        ("shown", c_bool),
+        ("alternate", c_bool),
+        ("reversed", c_bool),
+        ("synchronized", c_bool),
+        ("has_title", c_bool),
+    ]
+
+
+class RawCell(Structure):
+    """`struct escape_stream_cell`."""
+
+    _fields_ = [
+        ("character", c_uint32),
+        ("first_mark", c_uint32),
+        ("second_mark", c_uint32),
+        ("foreground", c_uint32),
+        ("background", c_uint32),
+        ("underline_color", c_uint32),
+        ("link", c_uint32),
+        ("width", c_ubyte),
+        ("underline", c_ubyte),
+        ("bold", c_bool),
+        ("faint", c_bool),
+        ("italic", c_bool),
+        ("blink", c_bool),
+        ("inverse", c_bool),
+        ("concealed", c_bool),
+        ("strikethrough", c_bool),
+        ("overline", c_bool),
+        ("more_marks", c_bool),
+        ("joined", c_bool),
+    ]
+
+
+class RawRequest(Structure):
+    """`struct escape_stream_request`."""
+
+    _fields_ = [("kind", c_uint32), ("mode", c_uint32)]
 
 
 class RawFunction(Structure):
@@ -293,6 +353,53 @@ normal_text.restype = c_size_t
 normal_end = _short.escape_stream_normal_end
 normal_end.argtypes = (POINTER(RawNormaliser),)
 normal_end.restype = None
+
+_screen = POINTER(RawScreen)
+_cells = (POINTER(RawCell), c_size_t, POINTER(c_size_t))
+
+screen_begin = _short.escape_stream_screen_begin
+screen_begin.argtypes = (_screen, c_uint16, c_uint16, c_size_t)
+screen_begin.restype = c_uint32
+
+screen_feed = _long.escape_stream_screen_feed
+screen_feed.argtypes = (_screen, *_length)
+screen_feed.restype = c_uint32
+
+screen_state = _short.escape_stream_screen_state_of
+screen_state.argtypes = (_screen, POINTER(RawScreenState))
+screen_state.restype = c_uint32
+
+screen_cells = _short.escape_stream_screen_cells
+screen_cells.argtypes = (_screen, c_size_t, *_cells)
+screen_cells.restype = c_uint32
+
+screen_scrolled = _short.escape_stream_screen_scrolled
+screen_scrolled.argtypes = (_screen, c_size_t, *_cells)
+screen_scrolled.restype = c_uint32
+
+screen_title = _short.escape_stream_screen_title
+screen_title.argtypes = (_screen, *_room, POINTER(c_size_t))
+screen_title.restype = c_uint32
+
+screen_link = _short.escape_stream_screen_link
+screen_link.argtypes = (_screen, c_size_t, *_room, POINTER(c_size_t))
+screen_link.restype = c_uint32
+
+screen_link_id = _short.escape_stream_screen_link_id
+screen_link_id.argtypes = (_screen, c_size_t, *_room, POINTER(c_size_t))
+screen_link_id.restype = c_uint32
+
+screen_requests = _short.escape_stream_screen_requests
+screen_requests.argtypes = (_screen, POINTER(RawRequest), c_size_t, POINTER(c_size_t))
+screen_requests.restype = c_uint32
+
+screen_changed = _long.escape_stream_screen_changed
+screen_changed.argtypes = (_screen, *_room)
+screen_changed.restype = c_uint32
+
+screen_end = _short.escape_stream_screen_end
+screen_end.argtypes = (_screen,)
+screen_end.restype = None
 
 # Many events at one call: the calls and the struct `many` of events.c. It begins with how many bytes
 # were taken, how many words of records, bytes of text and bytes of strings follow, whether it is

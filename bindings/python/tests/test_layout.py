@@ -23,9 +23,11 @@ from escape_stream import (
     Links,
     Medium,
     Policy,
+    RequestKind,
     Returns,
     Show,
     SixelKind,
+    Underline,
     _library,
 )
 
@@ -36,6 +38,10 @@ STRUCTS: dict[str, type[ctypes.Structure]] = {
     "escape_stream_account": _library.RawAccount,
     "escape_stream_html": _library.RawPage,
     "escape_stream_normaliser": _library.RawNormaliser,
+    "escape_stream_screen": _library.RawScreen,
+    "escape_stream_screen_state": _library.RawScreenState,
+    "escape_stream_cell": _library.RawCell,
+    "escape_stream_request": _library.RawRequest,
     "escape_stream_function_info": _library.RawFunction,
     "escape_stream_field": _library.RawField,
     "escape_stream_osc": _library.RawOsc,
@@ -67,6 +73,8 @@ ENUMS: dict[str, type[IntEnum] | type[IntFlag]] = {
     "MEDIUM": Medium,
     "SIXEL": SixelKind,
     "FIELD": FieldName,
+    "REQUEST": RequestKind,
+    "UNDERLINE": Underline,
 }
 HEADERS = [TOP / "crates/escape_c/include", TOP / "crates/stream_c/include"]
 
@@ -93,7 +101,8 @@ def test_layout(tmp_path: Path) -> None:
         pytest.skip("no C compiler")
     wanted = declared()
     lines = [f'printf("%zu\\n", (size_t){it});' for it in wanted]
-    includes = '#include "escape_stream.h"\n#include "escape_stream_parser.h"\n#include <stdio.h>\n'
+    names = ("escape_stream.h", "escape_stream_parser.h", "escape_stream_screen.h", "stdio.h")
+    includes = "".join(f"#include <{name}>\n" for name in names)
     (tmp_path / "layout.c").write_text(
         f"{includes}int main(void) {{ {' '.join(lines)} return 0; }}\n"
     )

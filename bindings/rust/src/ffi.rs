@@ -15,9 +15,13 @@ use crate::{Error, Policy};
 #[cfg(feature = "oneshot")]
 mod chunks;
 #[cfg(feature = "oneshot")]
+mod screen;
+#[cfg(feature = "oneshot")]
 mod texts;
 #[cfg(feature = "oneshot")]
 pub use chunks::{Filter, Normaliser, Page, Sanitizer, SanitizerOptions};
+#[cfg(feature = "oneshot")]
+pub use screen::{RawCell, RawRequest, Screen, ScreenState};
 #[cfg(feature = "oneshot")]
 pub use texts::{
     Field, NO_FIELD, NO_ITEM, Said, Sixel, SixelItem, read_kitty, read_osc, read_sixel, read_tcap,

@@ -5,7 +5,8 @@
 //! A stream is bytes as a program writes them to a terminal. Any bytes are a stream. A call takes
 //! one whole; these take it in chunks: a [`Sanitizer`], which is for logs, with its writer and
 //! reader; a [`Filter`], a writer, and a [`FilterReader`]; a [`NormalWriter`] and a
-//! [`NormalReader`]; an [`html::ChunkPage`], which gives HTML; and a [`Parser`]. The module [`vte`]
+//! [`NormalReader`]; an [`html::ChunkPage`], which gives HTML; a
+//! [`screen::Parser`], which has a terminal's screen; and a [`Parser`]. The module [`vte`]
 //! has that parser with the calls of the crate `vte`. [`ControlFunction`] and [`EscapeFunction`]
 //! name the functions of sequences, by tables that are made from those of the library.
 //! [`osc::OperatingSystemCommand`] is the value of a command, [`apc::KittyImage`] and
@@ -79,6 +80,8 @@ mod sanitizer;
 mod sanitizer_io;
 #[cfg(feature = "oneshot")]
 mod sanitizer_options;
+#[cfg(feature = "oneshot")]
+pub mod screen;
 #[cfg(feature = "serde")]
 mod serial;
 mod string_end;

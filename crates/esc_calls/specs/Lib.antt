@@ -1,4 +1,5 @@
 pub mod AccountRows
+pub mod CellRows
 pub mod FilterChunks
 pub mod Filtered
 pub mod FunctionRows
@@ -18,6 +19,7 @@ pub mod SanitizerGroups
 pub mod SanitizerOptions
 pub mod SanitizerChunks
 pub mod Sanitizers
+pub mod Screens
 pub mod SixelValues
 pub mod StringRows
 pub mod Written

@@ -3,6 +3,7 @@ ghost use Rattle.std.specs.Prelude.{◌≡◌};
 ghost use Rattle.esc_calls.specs.Kept.{kept_text};
 
 use crate::page_state::PageState;
+use crate::screen_state::ScreenState;
 use esc_filter::{Filter, Groups, Policy};
 use esc_normal::Normaliser;
 use esc_sanitize::Sanitizer;
@@ -18,6 +19,8 @@ pub enum Kept {
     Normal(Normaliser),
     /// A sanitizer.
     Sanitizer(Sanitizer<Groups<'static>>),
+    /// A screen.
+    Screen(ScreenState),
 }
 
 impl Kept {
@@ -30,6 +33,7 @@ impl Kept {
             Kept::Page(page) => page.text(),
             Kept::Normal(normaliser) => normaliser.text(),
             Kept::Sanitizer(sanitizer) => sanitizer.text(),
+            Kept::Screen(_) => "",
         }
     }
 }

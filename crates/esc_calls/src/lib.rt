@@ -3,6 +3,7 @@
 #![tactic(auto)]
 
 pub mod account_row;
+pub mod cell_row;
 mod change_kept;
 mod clear;
 mod common;
@@ -17,6 +18,7 @@ pub mod in_chunks;
 pub mod is_normal;
 mod kept;
 pub mod kitty;
+mod looked;
 pub mod normal;
 pub mod normal_chunks;
 pub mod osc;
@@ -27,11 +29,16 @@ mod page_state;
 mod parts;
 pub mod query_value;
 mod refusal;
+pub mod request_row;
 mod said;
 mod said_groups;
 mod said_guard;
 pub mod sanitizer_chunks;
 pub mod sanitizer_options;
+pub mod screen_chunks;
+pub mod screen_row;
+mod screen_state;
+mod scrollback;
 mod shown;
 pub mod sixel;
 pub mod sixel_value;

@@ -3,9 +3,9 @@
 //!
 //! A call that takes a stream whole returns a status: `DONE`, or why nothing was written. A text
 //! goes into the caller's buffer, as much of it as fits, and its whole length into `needed`.
-//! The filter, the sanitizer, the HTML and the normal form of a stream in chunks are each an
-//! `InChunks` of the caller's. Other calls name a function or a string, or read and write commands,
-//! images and queries. The crate `esc_calls` does what each call says.
+//! The filter, the sanitizer, the HTML, the normal form and the screen of a stream in chunks are
+//! each an `InChunks` of the caller's. Other calls name a function or a string, or read and write
+//! commands, images and queries. The crate `esc_calls` does what each call says.
 //!
 //! ```text
 //! const uint8_t stream[] = "a\x1b]0;a title\x07 \x1b[1;31mred";
@@ -20,6 +20,7 @@ mod html;
 mod normal;
 mod read;
 mod sanitizer;
+mod screen;
 mod string;
 mod write_kitty;
 mod write_osc;
@@ -27,12 +28,15 @@ mod write_sixel;
 mod write_tcap;
 
 pub use esc_calls::account_row::AccountRow;
+pub use esc_calls::cell_row::CellRow;
 pub use esc_calls::function_row::FunctionRow;
 pub use esc_calls::image_value::ImageValue;
 pub use esc_calls::in_chunks::InChunks;
 pub use esc_calls::osc_value::OscValue;
 pub use esc_calls::query_value::QueryValue;
+pub use esc_calls::request_row::RequestRow;
 pub use esc_calls::sanitizer_options::SanitizerOptions;
+pub use esc_calls::screen_row::ScreenRow;
 pub use esc_calls::sixel_value::SixelValue;
 pub use esc_calls::string_row::StringRow;
 pub use esc_calls::{
@@ -63,6 +67,12 @@ pub use read::{
 pub use sanitizer::{
     escape_stream_sanitizer_account, escape_stream_sanitizer_begin, escape_stream_sanitizer_end,
     escape_stream_sanitizer_feed, escape_stream_sanitizer_finish, escape_stream_sanitizer_text,
+};
+pub use screen::{
+    escape_stream_screen_begin, escape_stream_screen_cells, escape_stream_screen_changed,
+    escape_stream_screen_end, escape_stream_screen_feed, escape_stream_screen_link,
+    escape_stream_screen_link_id, escape_stream_screen_requests, escape_stream_screen_scrolled,
+    escape_stream_screen_state_of, escape_stream_screen_text, escape_stream_screen_title,
 };
 pub use string::{
     escape_stream_apc_function, escape_stream_dcs_function, escape_stream_osc_function,
