@@ -234,6 +234,29 @@ static inline size_t escape_stream_utf8(uint32_t character, uint8_t out[4])
 }
 
 /*
+ * Reads the first character of a text in UTF-8, as the text of an event ESCAPE_STREAM_TEXT is, to
+ * `character`, and returns how many bytes it has: 1 to 4, or 0 if `length` is 0. Bytes that are no
+ * UTF-8, as in a text that is cut, are U+FFFD one by one.
+ */
+static inline size_t escape_stream_character(
+    const uint8_t *text, size_t length, uint32_t *character)
+{
+    static const uint32_t least[4] = {0, 0x80, 0x800, 0x10000};
+    uint8_t lead = length > 0 ? text[0] : 0;
+    size_t more = lead < 0xc2 ? 0 : lead < 0xe0 ? 1 : lead < 0xf0 ? 2 : lead < 0xf5 ? 3 : 0;
+    uint32_t c = more == 0 ? lead : lead & (0x3fu >> more);
+    bool is_whole = more < length && (more > 0 || lead < 0x80);
+
+    for (size_t i = 1; is_whole && i <= more; i++) {
+        is_whole = (text[i] & 0xc0) == 0x80;
+        c = c << 6 | (text[i] & 0x3fu);
+    }
+    is_whole = is_whole && c >= least[more] && c <= 0x10ffff && (c < 0xd800 || c >= 0xe000);
+    *character = is_whole ? c : 0xfffd;
+    return length == 0 ? 0 : is_whole ? more + 1 : 1;
+}
+
+/*
  * The parameters of an event ESCAPE_STREAM_CSI, by its entries: `;` separates parameters, and `:`
  * the numbers of one.
  *
