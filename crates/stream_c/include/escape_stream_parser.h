@@ -16,7 +16,8 @@
  * every stream, in any chunks; docs/EMBEDDING.md gives the extent of the proof and its assumptions.
  * Nothing checks the caller, who owes this:
  *
- *   - No pointer is NULL, also if its length is 0, and no two objects that a call is given overlap.
+ *   - No pointer is NULL, but `buffer` or `bytes` of a length of 0, and no two objects that a call
+ *     is given overlap.
  *   - A parser and an event are initialized before their first use, for example by = {0}; a parser
  *     is then begun. The caller reads and writes nothing of a parser.
  *   - The buffer has the same length and the same lower half at each call of a parser: the first
