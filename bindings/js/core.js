@@ -5,6 +5,7 @@ export { functionOf } from "./src/functions.js";
 export { image, sixel, termcapQuery } from "./src/images.js";
 export { Parser, actions, events } from "./src/parser.js";
 export { Sanitizer, sanitize } from "./src/sanitizer.js";
+export { controlStringOf, controlStrings } from "./src/strings.js";
 export {
   actionStream,
   eventStream,

@@ -373,6 +373,22 @@ export interface FunctionRow {
 /** Returns the function of a sequence or a control, or null if it has no name. */
 export function functionOf(it: Event | Action): FunctionRow | null;
 
+/** A row of the tables of strings in docs/FUNCTIONS.md. */
+export interface StringRow {
+  /** Its name, which no other has, such as `OSC 52`, `OSC 133;A` or `DECRQSS`. */
+  readonly name: string;
+  /** Its effect in words, such as `clipboard`. */
+  readonly phrase: string;
+}
+/** Each string that has a name, in the order of the page. */
+export const controlStrings: readonly StringRow[];
+/**
+ * Returns the row of an operating system command, a device control string or an application program
+ * command, or null if it has no name. The data of a device control string come in later events; a
+ * few are told apart by their first 9 bytes, `data`, and have no name without these.
+ */
+export function controlStringOf(it: Event, data?: Uint8Array): StringRow | null;
+
 /** The request of a part of a stream, under the names of termwiz. */
 export type Action =
   | { type: "PrintString"; text: string }

@@ -47,16 +47,12 @@ static void put(uint32_t character)
     screen[line][column++] = look;
 }
 
-/* A run of text is well-formed UTF-8. */
 static void put_run(const uint8_t *text, size_t length)
 {
-    for (size_t i = 0; i < length;) {
-        uint8_t lead = text[i];
-        size_t more = lead < 0x80 ? 0 : lead < 0xe0 ? 1 : lead < 0xf0 ? 2 : 3;
-        uint32_t character = more == 0 ? lead : lead & (0x3fu >> more);
+    uint32_t character = 0;
 
-        for (i++; more > 0; more--, i++)
-            character = character << 6 | (text[i] & 0x3f);
+    for (size_t at = 0, bytes; at < length; at += bytes) {
+        bytes = escape_stream_character(text + at, length - at, &character);
         put(character);
     }
 }
@@ -66,11 +62,10 @@ static int within(int64_t number, int last)
     return number < 0 ? 0 : number > last ? last : (int)number;
 }
 
-/* The number of a parameter that counts from 1. */
-static int64_t count(const struct escape_stream_event *event, size_t index)
+/* A parameter, or what stands for it, held at what no screen has. */
+static int value(const struct escape_stream_event *event, uint32_t function, size_t index)
 {
-    int64_t number = escape_stream_parameter(event, index, 0, 1);
-    return number == 0 ? 1 : number;
+    return within(escape_stream_value(event, function, index), 9999);
 }
 
 static void render(const struct escape_stream_event *event)
@@ -98,33 +93,34 @@ static void render(const struct escape_stream_event *event)
 static void act(const struct escape_stream_event *event)
 {
     int at = line * COLUMNS + within(column, COLUMNS - 1);
+    uint32_t function = escape_stream_function_number(event);
 
-    switch (escape_stream_function_number(event)) {
+    switch (function) {
     case ESCAPE_STREAM_FUNCTION_CUP:
     case ESCAPE_STREAM_FUNCTION_HVP:
-        line = within(count(event, 0) - 1, LINES - 1);
-        column = within(count(event, 1) - 1, COLUMNS - 1);
+        line = within(value(event, function, 0) - 1, LINES - 1);
+        column = within(value(event, function, 1) - 1, COLUMNS - 1);
         break;
     case ESCAPE_STREAM_FUNCTION_CHA:
-        column = within(count(event, 0) - 1, COLUMNS - 1);
+        column = within(value(event, function, 0) - 1, COLUMNS - 1);
         break;
     case ESCAPE_STREAM_FUNCTION_CUU:
-        line = within(line - count(event, 0), LINES - 1);
+        line = within(line - value(event, function, 0), LINES - 1);
         break;
     case ESCAPE_STREAM_FUNCTION_CUD:
-        line = within(line + count(event, 0), LINES - 1);
+        line = within(line + value(event, function, 0), LINES - 1);
         break;
     case ESCAPE_STREAM_FUNCTION_CUF:
-        column = within(column + count(event, 0), COLUMNS - 1);
+        column = within(column + value(event, function, 0), COLUMNS - 1);
         break;
     case ESCAPE_STREAM_FUNCTION_CUB:
-        column = within(column - count(event, 0), COLUMNS - 1);
+        column = within(column - value(event, function, 0), COLUMNS - 1);
         break;
     case ESCAPE_STREAM_FUNCTION_ED:
-        erase(escape_stream_parameter(event, 0, 0, 0) == 0 ? at : 0, LINES * COLUMNS);
+        erase(value(event, function, 0) == 0 ? at : 0, LINES * COLUMNS);
         break;
     case ESCAPE_STREAM_FUNCTION_EL:
-        erase(escape_stream_parameter(event, 0, 0, 0) == 0 ? at : line * COLUMNS,
+        erase(value(event, function, 0) == 0 ? at : line * COLUMNS,
               (line + 1) * COLUMNS);
         break;
     case ESCAPE_STREAM_FUNCTION_SGR:

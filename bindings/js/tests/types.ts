@@ -1,8 +1,9 @@
 // SPDX-License-Identifier: MIT
 // What a program in TypeScript may write: it is compiled, and not run.
 import {
-  Filter, HtmlWriter, Parser, Sanitizer, actions, command, events, filter, filterStream, functionOf,
-  htmlStream, image, normal, sanitize, sanitizerStream, sixel, strip, termcapQuery, toHtml,
+  Filter, HtmlWriter, Parser, Sanitizer, actions, command, controlStringOf, events, filter,
+  filterStream, functionOf, htmlStream, image, normal, sanitize, sanitizerStream, sixel, strip,
+  termcapQuery, toHtml,
 } from "../index.js";
 import type { Account, Action, Event, Policy, SanitizerOptions } from "../index.js";
 
@@ -26,7 +27,7 @@ export function names(stream: string | Uint8Array): string[] {
   const found: string[] = [text, page, wrong];
   for (const event of events(stream)) {
     if (event.type === "Csi") found.push(event.final, String(event.parameters[0]?.[0] ?? 1));
-    const row = functionOf(event);
+    const row = functionOf(event) ?? controlStringOf(event);
     if (row !== null) found.push(row.name, row.phrase);
   }
   return found;

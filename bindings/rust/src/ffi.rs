@@ -227,6 +227,7 @@ pub struct Parser {
 // The numbers of some states, `GROUND` and on of `crates/heapless_parser/src/numbers.rt`.
 const GROUND: u32 = 0;
 const IN_COMMAND: u32 = 3;
+const IN_HEADER: u32 = 4;
 const IN_DATA: u32 = 5;
 const PASSED_OVER: u32 = 6;
 const IN_APC: u32 = 7;
@@ -255,6 +256,15 @@ impl Parser {
     #[inline(always)]
     pub fn is_in_text(&self) -> bool {
         matches!(self.state, IN_COMMAND | PASSED_OVER | IN_APC)
+    }
+
+    /// How many bytes of an unfinished string are kept, or of its header.
+    #[inline(always)]
+    pub fn kept(&self) -> usize {
+        match self.state {
+            IN_COMMAND | IN_HEADER | IN_APC => self.text,
+            _ => 0,
+        }
     }
 
     /// Whether no sequence, no string and no character is unfinished.

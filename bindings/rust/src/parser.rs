@@ -8,7 +8,12 @@ use alloc::vec;
 use alloc::vec::Vec;
 use core::fmt;
 
-/// A parser of a stream that comes in chunks. It takes memory when it is made, and none after that.
+// The limit of a parser whose buffer grows, at first, and the bytes of U+FFFD.
+const FIRST_LIMIT: usize = 1 << 14;
+const MOST_ADDED: usize = 3;
+
+/// A parser of a stream that comes in chunks. It takes memory when it is made, and none after that,
+/// but for one that is [`growing`](Parser::growing).
 ///
 /// ```
 /// use escape_stream::{Event, Parser};
@@ -32,7 +37,10 @@ use core::fmt;
 pub struct Parser {
     raw: Box<ffi::Parser>,
     event: Box<ffi::Event>,
+    // Its lower half keeps an unfinished string, and its upper half has one that is handed out.
     buffer: Vec<u8>,
+    // How long a half may become.
+    limit: usize,
     // The last byte of data that came by itself.
     byte: u8,
 }
@@ -177,7 +185,7 @@ impl Default for Parser {
 impl fmt::Debug for Parser {
     fn fmt(&self, f: &mut fmt::Formatter<'_>) -> fmt::Result {
         f.debug_struct("Parser")
-            .field("limit", &(self.buffer.len() / 2))
+            .field("limit", &self.limit)
             .field("is_ground", &self.is_ground())
             .finish_non_exhaustive()
     }
@@ -225,10 +233,35 @@ impl Parser {
         Ok(Parser::over(buffer))
     }
 
+    /// The same, in memory that grows with a string up to the limit: two bytes for each, and 40 KiB
+    /// for short ones. If there cannot be as much memory, longer strings are passed over.
+    ///
+    /// ```
+    /// use escape_stream::{Event, Parser};
+    ///
+    /// let mut lengths = Vec::new();
+    /// let mut parser = Parser::growing(1 << 24);
+    /// let stream = [&b"\x1b]52;c;"[..], &vec![b'A'; 1_000_000], b"\x07"].concat();
+    /// for chunk in stream.chunks(1000) {
+    ///     parser.advance(chunk, |event| match event {
+    ///         Event::Osc(text) => lengths.push(text.len()),
+    ///         _ => {}
+    ///     })?;
+    /// }
+    /// assert_eq!(lengths, [1_000_005]);
+    /// # Ok::<(), escape_stream::Error>(())
+    /// ```
+    pub fn growing(limit: usize) -> Parser {
+        let mut parser = Parser::with_limit(limit.min(FIRST_LIMIT));
+        parser.limit = limit;
+        parser
+    }
+
     fn over(buffer: Vec<u8>) -> Parser {
         Parser {
             raw: Box::new(ffi::begun()),
             event: Box::new(ffi::no_event()),
+            limit: buffer.len() / 2,
             buffer,
             byte: 0,
         }
@@ -314,7 +347,59 @@ impl Parser {
     // Takes bytes up to the next event, and returns how many.
     #[inline(always)]
     pub(crate) fn step(&mut self, bytes: &[u8]) -> usize {
-        ffi::next(&mut self.raw, &mut self.buffer, bytes, &mut self.event)
+        if self.buffer.len() / 2 < self.limit {
+            self.step_growing(bytes)
+        } else {
+            ffi::next(&mut self.raw, &mut self.buffer, bytes, &mut self.event)
+        }
+    }
+
+    // The same over a buffer that may grow: no call takes bytes by which a string could become
+    // longer than its half, so none is passed over before it is as long as the limit. A larger
+    // buffer begins with the smaller one, as the library wants it.
+    fn step_growing(&mut self, bytes: &[u8]) -> usize {
+        let mut count = 0;
+        loop {
+            let rest = &bytes[count..];
+            let part = &rest[..self.room().min(rest.len())];
+            let taken = ffi::next(&mut self.raw, &mut self.buffer, part, &mut self.event);
+            if matches!(self.event.kind, kind::TEXT | kind::DATA) {
+                self.event.start += count;
+            }
+            count += taken;
+            if self.event.kind != kind::NONE || count == bytes.len() {
+                return count;
+            }
+        }
+    }
+
+    // How many bytes fit for sure, and some: each adds at most U+FFFD to a string, and so do those
+    // of a character that is unfinished. Where few would fit the buffer grows.
+    #[inline]
+    fn room(&mut self) -> usize {
+        let half = self.buffer.len() / 2;
+        let kept = self.raw.kept();
+        if kept > half / 2 && half < self.limit {
+            self.grow(half.saturating_mul(2).min(self.limit));
+            return self.room();
+        }
+        if half == self.limit {
+            return usize::MAX;
+        }
+        ((half - kept) / MOST_ADDED)
+            .saturating_sub(MOST_ADDED)
+            .max(1)
+    }
+
+    #[cold]
+    fn grow(&mut self, half: usize) {
+        let length = half.saturating_mul(2);
+        let more = length - self.buffer.len();
+        if self.buffer.try_reserve_exact(more).is_ok() {
+            self.buffer.resize(length, 0);
+        } else {
+            self.limit = self.buffer.len() / 2;
+        }
     }
 
     // What the last call noted.

@@ -49,6 +49,10 @@ const MOST_PARTS: usize = 16;
 const MOST_OSC_RAW: usize = 1024;
 const DEFAULT_LIMIT: usize = 1 << 20;
 const BELL: u8 = 0x07;
+const ESCAPE: u8 = 0x1b;
+// A chunk of so many bytes is short: often it ends in a sequence, which costs less to hold than to
+// have the parser take in two chunks.
+const MOST_SHORT: usize = 32;
 
 /// The calls for the parts of a stream. By default a call does nothing.
 pub trait Perform {
@@ -102,7 +106,8 @@ pub trait Perform {
     }
 }
 
-/// A parser of a stream that comes in chunks. It takes memory when it is made, and none after that.
+/// A parser of a stream that comes in chunks. It takes some 40 KiB of memory when it is made, and
+/// more when a string grows past 8 KiB.
 ///
 /// The number is the limit of a parser that [`Parser::new_with_size`] makes, and says nothing of
 /// any other: in `vte` too it has no meaning with the feature `std`.
@@ -123,9 +128,8 @@ impl<const OSC_RAW_BUF_SIZE: usize> Default for Parser<OSC_RAW_BUF_SIZE> {
 impl Parser {
     /// A parser at the beginning of a stream that hands out strings of up to 1,048,576 bytes.
     ///
-    /// `vte` hands out longer ones too, in memory that it takes as they grow. The memory here is
-    /// taken at once, two bytes for each byte of the limit: most systems give a page of it only
-    /// when a string is so long that it is written. [`Parser::with_limit`] takes less.
+    /// `vte` hands out longer ones too. The memory grows with a string, as in `vte`, up to two bytes
+    /// for each byte of the limit; it stays for the next string.
     pub fn new() -> Parser {
         Parser::default()
     }
@@ -154,7 +158,7 @@ impl<const OSC_RAW_BUF_SIZE: usize> Parser<OSC_RAW_BUF_SIZE> {
 
     fn of_limit(limit: usize) -> Self {
         Parser {
-            stream: crate::Parser::with_limit(limit),
+            stream: crate::Parser::growing(limit),
             params: Params::default(),
             held: Held::new(),
             has_failed: false,
@@ -202,18 +206,22 @@ impl<const OSC_RAW_BUF_SIZE: usize> Parser<OSC_RAW_BUF_SIZE> {
     ) -> usize {
         let mut count = 0;
         while count < bytes.len() && !stops(performer) {
-            if let [byte] = *bytes {
-                self.take_one(performer, byte);
-                return 1;
+            let rest = &bytes[count..];
+            if self.comes_alone(rest) {
+                self.take_one(performer, rest[0]);
+                count += 1;
+                continue;
             }
             if self.held.is_some() {
                 self.take_held(performer);
             }
             let params = &mut self.params;
-            let taken = self.stream.advance_while(&bytes[count..], |event, taken| {
-                call(params, performer, event, taken);
-                !stops(performer)
-            });
+            let taken = self
+                .stream
+                .advance_while(before_tail(rest), |event, taken| {
+                    call(params, performer, event, taken);
+                    !stops(performer)
+                });
             self.held.clear(false);
             let Ok(taken) = taken else {
                 self.has_failed = true;
@@ -224,7 +232,21 @@ impl<const OSC_RAW_BUF_SIZE: usize> Parser<OSC_RAW_BUF_SIZE> {
         count
     }
 
-    // Takes a byte that comes by itself. It costs less to hold those of a sequence than to have the
+    // Whether the first of these bytes comes by itself, or in a short chunk after bytes that are
+    // held, or at the beginning of bytes to hold.
+    #[inline]
+    fn comes_alone(&self, bytes: &[u8]) -> bool {
+        match *bytes {
+            [_] => true,
+            _ if bytes.len() > MOST_SHORT => false,
+            [ESCAPE, ..] if tail(bytes) == bytes.len() => {
+                self.held.is_some() || self.stream.place() == Place::Ground
+            }
+            _ => self.held.is_some(),
+        }
+    }
+
+    // Takes such a byte. It costs less to hold those of a sequence than to have the
     // parser take each.
     #[inline]
     fn take_one<P: Perform>(&mut self, performer: &mut P, byte: u8) {
@@ -250,6 +272,36 @@ impl<const OSC_RAW_BUF_SIZE: usize> Parser<OSC_RAW_BUF_SIZE> {
         self.has_failed |= taken.is_err();
         self.held.clear(self.stream.is_in_text());
     }
+}
+
+// The bytes of a short chunk before its tail, or all, where the tail is the chunk.
+#[inline]
+fn before_tail(bytes: &[u8]) -> &[u8] {
+    if bytes.len() > MOST_SHORT {
+        return bytes;
+    }
+    match bytes.len() - tail(bytes) {
+        0 => bytes,
+        before => &bytes[..before],
+    }
+}
+
+// How many bytes at the end of a chunk are the beginning of a sequence or of a string, which makes
+// no call if nothing is unfinished before it.
+#[inline]
+fn tail(bytes: &[u8]) -> usize {
+    let Some(start) = bytes.iter().rposition(|byte| *byte == ESCAPE) else {
+        return 0;
+    };
+    let goes_on = match bytes[start + 1..] {
+        [] => true,
+        [b'[', ref rest @ ..] => rest.iter().all(|byte| matches!(byte, 0x30..=0x3f)),
+        [b']' | b'X' | b'^' | b'_', ref rest @ ..] => {
+            rest.iter().all(|byte| matches!(byte, 0x20..=0x7e))
+        }
+        _ => false,
+    };
+    if goes_on { bytes.len() - start } else { 0 }
 }
 
 // Makes the call for an event, or one for each character or byte of a run. The bytes are those that

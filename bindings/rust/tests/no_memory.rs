@@ -1,25 +1,30 @@
 // SPDX-License-Identifier: MIT
-//! Borrowed actions take no memory of the crate's, once there is room for the longest.
+//! Borrowed actions take no memory of the crate's, once there is room for the longest, and a parser
+//! with the calls of vte takes little at first.
 use escape_stream::action::Parser;
 use escape_stream::borrowed::Action;
+use escape_stream::vte;
 use std::alloc::{GlobalAlloc, Layout, System};
 use std::cell::Cell;
+use std::mem::size_of_val;
 
 thread_local! {
     static REQUESTS: Cell<u64> = const { Cell::new(0) };
+    static BYTES: Cell<usize> = const { Cell::new(0) };
 }
 
 // The system's memory. It counts what each thread asks for.
 struct Counted;
 
-fn count() {
+fn count(size: usize) {
     let _ = REQUESTS.try_with(|requests| requests.set(requests.get() + 1));
+    let _ = BYTES.try_with(|bytes| bytes.set(bytes.get() + size));
 }
 
 // SAFETY: each call is that of `System` with the same arguments.
 unsafe impl GlobalAlloc for Counted {
     unsafe fn alloc(&self, layout: Layout) -> *mut u8 {
-        count();
+        count(layout.size());
         unsafe { System.alloc(layout) }
     }
 
@@ -28,7 +33,7 @@ unsafe impl GlobalAlloc for Counted {
     }
 
     unsafe fn realloc(&self, pointer: *mut u8, layout: Layout, size: usize) -> *mut u8 {
-        count();
+        count(size);
         unsafe { System.realloc(pointer, layout, size) }
     }
 }
@@ -65,4 +70,12 @@ fn borrowed_actions_take_none() {
     assert_eq!(counts[0], counts[1]);
     assert!(counts[0] > 20, "{counts:?}");
     assert!(requests[0] > 0 && requests[1] == 0, "{requests:?}");
+}
+
+#[test]
+fn a_parser_of_vte_begins_small() {
+    let before = BYTES.with(Cell::get);
+    let parser = vte::Parser::new();
+    let taken = size_of_val(&parser) + BYTES.with(Cell::get) - before;
+    assert!(taken < 1 << 16, "{taken} bytes");
 }

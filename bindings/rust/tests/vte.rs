@@ -270,6 +270,32 @@ fn long_strings() {
     }
 }
 
+// Memory grows with a string, and none is lost while it does: U+FFFD is longer than its bytes.
+#[test]
+fn strings_that_grow() {
+    let broken = b"\xe2\x82;".repeat(40_000);
+    let strings = [
+        &vec![b'a'; 20_000][..],
+        &vec![b'b'; 300_000],
+        b"short",
+        &broken,
+    ];
+    let stream = strings
+        .map(|it| [b"x\x1b]52;c;", it, b"\x07\x1bP1q", it, b"\x1b\\"].concat())
+        .concat();
+    let whole = calls([&stream[..]]);
+    assert_eq!(
+        whole
+            .iter()
+            .filter(|it| it.starts_with("osc 52|c|"))
+            .count(),
+        4
+    );
+    for size in [1, 7, 33, 1000, 65_536] {
+        assert!(calls(stream.chunks(size)) == whole, "in chunks of {size}");
+    }
+}
+
 #[test]
 fn parameters() {
     struct Seen(Vec<Vec<u16>>);
@@ -297,14 +323,15 @@ fn parameters() {
     assert!(none.is_empty() && none.iter().next().is_none());
 }
 
-// The calls for a stream in chunks whose lengths are drawn, many of them one byte.
+// The calls for a stream in chunks whose lengths are drawn, many of them one byte or few.
 fn calls_by_chance(limit: usize, stream: &[u8], random: &mut Random) -> Vec<String> {
     let mut log = Log::default();
     let mut parser = Parser::with_limit(limit);
     let mut rest = stream;
     while !rest.is_empty() {
-        let length = match random.below(4) {
+        let length = match random.below(6) {
             0 => 1 + random.below(rest.len()),
+            1 | 2 => (2 + random.below(40)).min(rest.len()),
             _ => 1,
         };
         let (chunk, after) = rest.split_at(length);

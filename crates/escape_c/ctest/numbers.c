@@ -2,7 +2,8 @@
 /*
  * Checks the numbers of escape_stream_functions.h. Its argument is a file of lines, a name and its
  * number each: of every number the bytes are parsed, and give this number again, and the library
- * gives them this name. Prints what is wrong, and ends with 1 where something is.
+ * gives them this name. And checks values of parameters that are left out, by ECMA-48, VT510 and
+ * xterm. Prints what is wrong, and ends with 1 where something is.
  */
 #include "escape_stream.h"
 #include "escape_stream_functions.h"
@@ -101,6 +102,48 @@ static void check_escape(const char *name, uint32_t number)
                 &info);
 }
 
+static void check_value(const char *bytes, size_t index, int64_t wanted)
+{
+    struct escape_stream_event event = parsed((const uint8_t *)bytes, strlen(bytes));
+    uint32_t function = escape_stream_function_number(&event);
+
+    if (escape_stream_value(&event, function, index) != wanted)
+        fail(bytes + 1, "another value");
+}
+
+static void check_values(void)
+{
+    const int64_t none = ESCAPE_STREAM_VALUE_NONE, last = ESCAPE_STREAM_VALUE_LAST;
+
+    check_value("\x1b[H", 0, 1);
+    check_value("\x1b[;7H", 0, 1);
+    check_value("\x1b[;7H", 1, 7);
+    check_value("\x1b[0;0H", 1, 1);
+    check_value("\x1b[H", 2, none);
+    check_value("\x1b[0A", 0, 1);
+    check_value("\x1b[99999999999999999999A", 0, INT64_MAX);
+    check_value("\x1b[J", 0, 0);
+    check_value("\x1b[?2J", 0, 2);
+    check_value("\x1b[m", 0, 0);
+    check_value("\x1b[1;;4m", 1, 0);
+    check_value("\x1b[4:3m", 0, 4);
+    check_value("\x1b[m", 300, 0);
+    check_value("\x1b[ B", 1, 100);
+    check_value("\x1b[r", 0, 1);
+    check_value("\x1b[;0r", 1, last);
+    check_value("\x1b[5;9r", 1, 9);
+    check_value("\x1b[$v", 3, last);
+    check_value("\x1b[$v", 4, 1);
+    check_value("\x1b[$v", 8, none);
+    check_value("\x1b[65$x", 0, 65);
+    check_value("\x1b[$x", 0, none);
+    check_value("\x1b[65$x", 2, 1);
+    check_value("\x1b[65$x", 4, last);
+    check_value("\x1b[h", 0, none);
+    check_value("\x1b[>n", 0, 2);
+    check_value("\x1b" "c", 0, none);
+}
+
 int main(int argc, char **argv)
 {
     char name[64];
@@ -117,6 +160,7 @@ int main(int argc, char **argv)
             check_control(name, number);
     }
     fclose(rows);
+    check_values();
     if (count < 300)
         fail("rows", "too few");
     return failed;

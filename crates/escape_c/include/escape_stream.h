@@ -21,7 +21,7 @@
  * the extent of the proof and its assumptions. Nothing checks the caller, who owes this at every
  * call:
  *
- *   - No pointer is NULL, also if its length is 0.
+ *   - No pointer is NULL, but one to an array of a length, a capacity, a room or a count of 0.
  *   - `bytes` or `text` is `length` initialized bytes that can be read, and nobody writes them
  *     during the call; of the calls escape_stream_write_.. so are the `text_length` bytes of
  *     `text`, the `count` fields or items, and `sixel`.

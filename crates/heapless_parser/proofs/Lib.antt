@@ -1,3 +1,4 @@
 pub mod InChunks
 pub mod EventNotes
 pub mod KeptState
+pub mod Growing

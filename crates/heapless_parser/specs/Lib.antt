@@ -11,5 +11,6 @@ pub mod Puts
 pub mod Ahead
 pub mod Next
 pub mod Limited
+pub mod Growing
 pub mod Strings
 pub mod Steps

@@ -25,6 +25,7 @@ pub mod escapes;
 pub mod event;
 pub mod fields;
 pub mod headers;
+pub mod laws;
 pub mod leaving;
 pub mod limited;
 pub mod load;

@@ -1,7 +1,7 @@
 /* SPDX-License-Identifier: MIT */
 /*
- * Checks what escape_stream_parser.h says of the parameters of control sequences, and of the ends
- * of strings. Prints what is wrong, and ends with 1 where something is.
+ * Checks what escape_stream_parser.h says of the parameters of control sequences, of the ends of
+ * strings, and of characters. Prints what is wrong, and ends with 1 where something is.
  */
 #include "escape_stream_parser.h"
 #include <inttypes.h>
@@ -94,9 +94,37 @@ static const struct escape_stream_event *event_of(const char *bytes, size_t *tak
     return &event;
 }
 
+/* Each character is written and read back, and bytes that are none are U+FFFD one by one. */
+static void check_characters(void)
+{
+    static const char *const broken[] = {
+        "\x80", "\xc1\xbf", "\xe0\x9f\xbf", "\xed\xa0\x80", "\xf0\x8f\xbf\xbf",
+        "\xf4\x90\x80\x80", "\xf5\x80\x80\x80", "\xff", "\xc3", "\xe2\x82",
+        "\xf0\x9f\x98", "\xc3(", "\xe2\x82(",
+    };
+    uint8_t out[4];
+    uint32_t found = 0;
+
+    for (uint32_t c = 0; c <= 0x10ffff; c++) {
+        size_t length = escape_stream_utf8(c, out);
+        bool is_none = c >= 0xd800 && c < 0xe000;
+        if (escape_stream_character(out, length, &found) != length ||
+            found != (is_none ? 0xfffd : c))
+            expect(false, "\x1b a character");
+    }
+    for (size_t i = 0; i < sizeof broken / sizeof *broken; i++) {
+        const uint8_t *bytes = (const uint8_t *)broken[i];
+        expect(escape_stream_character(bytes, strlen(broken[i]), &found) == 1 && found == 0xfffd,
+               "\x1b broken characters");
+    }
+    expect(escape_stream_character(out, 0, &found) == 0, "\x1b no bytes");
+}
+
 int main(void)
 {
     size_t taken;
+
+    check_characters();
 
     for (size_t i = 0; i < sizeof SHAPES / sizeof *SHAPES; i++) {
         const struct shape *it = &SHAPES[i];

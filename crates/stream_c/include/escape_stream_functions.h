@@ -8,9 +8,11 @@
  * The names are those of escape_stream_function and escape_stream_escape_function; a test compares
  * them.
  *
- *     switch (escape_stream_function_number(&event)) {
- *     case ESCAPE_STREAM_FUNCTION_CUU:
- *         line -= escape_stream_parameter(&event, 0, 0, 1);
+ *     uint32_t function = escape_stream_function_number(&event);
+ *     switch (function) {
+ *     case ESCAPE_STREAM_FUNCTION_CUP:
+ *         line = escape_stream_value(&event, function, 0);
+ *         column = escape_stream_value(&event, function, 1);
  *         break;
  *     case ESCAPE_STREAM_ESCAPE_FUNCTION_RIS:
  *         reset();
@@ -393,6 +395,211 @@ static inline uint32_t escape_stream_function_number(const struct escape_stream_
     if (event->kind == ESCAPE_STREAM_ESCAPE)
         return escape_stream_escape_number(event);
     return ESCAPE_STREAM_FUNCTION_NONE;
+}
+
+/*
+ * What stands for a parameter that is left out, where no number does: nothing is said of it, or it
+ * is the last line or the last column of the screen.
+ */
+#define ESCAPE_STREAM_VALUE_NONE (-1)
+#define ESCAPE_STREAM_VALUE_LAST (-2)
+
+/* The same for the calls below: 1 for a count, a line, a column or a page. */
+static inline int64_t escape_stream_default_kind(uint32_t function, size_t index)
+{
+    const int64_t NONE = ESCAPE_STREAM_VALUE_NONE, LAST = ESCAPE_STREAM_VALUE_LAST, FIRST = -3;
+
+    switch (function) {
+    case ESCAPE_STREAM_FUNCTION_ICH:
+    case ESCAPE_STREAM_FUNCTION_SL:
+    case ESCAPE_STREAM_FUNCTION_CUU:
+    case ESCAPE_STREAM_FUNCTION_SR:
+    case ESCAPE_STREAM_FUNCTION_CUD:
+    case ESCAPE_STREAM_FUNCTION_CUF:
+    case ESCAPE_STREAM_FUNCTION_CUB:
+    case ESCAPE_STREAM_FUNCTION_CNL:
+    case ESCAPE_STREAM_FUNCTION_CPL:
+    case ESCAPE_STREAM_FUNCTION_CHA:
+    case ESCAPE_STREAM_FUNCTION_CHT:
+    case ESCAPE_STREAM_FUNCTION_IL:
+    case ESCAPE_STREAM_FUNCTION_DL:
+    case ESCAPE_STREAM_FUNCTION_DCH:
+    case ESCAPE_STREAM_FUNCTION_PPA:
+    case ESCAPE_STREAM_FUNCTION_PPR:
+    case ESCAPE_STREAM_FUNCTION_PPB:
+    case ESCAPE_STREAM_FUNCTION_SU:
+    case ESCAPE_STREAM_FUNCTION_SD:
+    case ESCAPE_STREAM_FUNCTION_KITTYUNSCROLL:
+    case ESCAPE_STREAM_FUNCTION_NP:
+    case ESCAPE_STREAM_FUNCTION_PP:
+    case ESCAPE_STREAM_FUNCTION_ECH:
+    case ESCAPE_STREAM_FUNCTION_CVT:
+    case ESCAPE_STREAM_FUNCTION_CBT:
+    case ESCAPE_STREAM_FUNCTION_HPA:
+    case ESCAPE_STREAM_FUNCTION_HPR:
+    case ESCAPE_STREAM_FUNCTION_REP:
+    case ESCAPE_STREAM_FUNCTION_VPA:
+    case ESCAPE_STREAM_FUNCTION_VPR:
+    case ESCAPE_STREAM_FUNCTION_HPB:
+    case ESCAPE_STREAM_FUNCTION_VPB:
+    case ESCAPE_STREAM_FUNCTION_KITTYPOP:
+    case ESCAPE_STREAM_FUNCTION_DECIC:
+    case ESCAPE_STREAM_FUNCTION_DECDC:
+        return index == 0 ? FIRST : NONE;
+    case ESCAPE_STREAM_FUNCTION_GSM:
+        return index < 2 ? 100 : NONE;
+    case ESCAPE_STREAM_FUNCTION_FNT:
+    case ESCAPE_STREAM_FUNCTION_SPD:
+    case ESCAPE_STREAM_FUNCTION_SEF:
+    case ESCAPE_STREAM_FUNCTION_DECSCS:
+    case ESCAPE_STREAM_FUNCTION_DECRQTSR:
+    case ESCAPE_STREAM_FUNCTION_DECELR:
+    case ESCAPE_STREAM_FUNCTION_DECKBD:
+        return index < 2 ? 0 : NONE;
+    case ESCAPE_STREAM_FUNCTION_JFY:
+    case ESCAPE_STREAM_FUNCTION_QUAD:
+    case ESCAPE_STREAM_FUNCTION_XTPUSHCOLORS:
+    case ESCAPE_STREAM_FUNCTION_XTPOPCOLORS:
+    case ESCAPE_STREAM_FUNCTION_CTC:
+    case ESCAPE_STREAM_FUNCTION_SAPV:
+    case ESCAPE_STREAM_FUNCTION_SGR:
+    case ESCAPE_STREAM_FUNCTION_DAQ:
+    case ESCAPE_STREAM_FUNCTION_DECLL:
+    case ESCAPE_STREAM_FUNCTION_DECELF:
+    case ESCAPE_STREAM_FUNCTION_DECSMKR:
+    case ESCAPE_STREAM_FUNCTION_DECSPP:
+    case ESCAPE_STREAM_FUNCTION_DECTST:
+    case ESCAPE_STREAM_FUNCTION_DECPKA:
+    case ESCAPE_STREAM_FUNCTION_DECSLE:
+    case ESCAPE_STREAM_FUNCTION_DECLFKC:
+        return 0;
+    case ESCAPE_STREAM_FUNCTION_CUP:
+    case ESCAPE_STREAM_FUNCTION_CPR:
+    case ESCAPE_STREAM_FUNCTION_HVP:
+        return index < 2 ? FIRST : NONE;
+    case ESCAPE_STREAM_FUNCTION_SSU:
+    case ESCAPE_STREAM_FUNCTION_ED:
+    case ESCAPE_STREAM_FUNCTION_PFS:
+    case ESCAPE_STREAM_FUNCTION_DECSED:
+    case ESCAPE_STREAM_FUNCTION_EL:
+    case ESCAPE_STREAM_FUNCTION_SHS:
+    case ESCAPE_STREAM_FUNCTION_DECSEL:
+    case ESCAPE_STREAM_FUNCTION_SVS:
+    case ESCAPE_STREAM_FUNCTION_EF:
+    case ESCAPE_STREAM_FUNCTION_EA:
+    case ESCAPE_STREAM_FUNCTION_SEE:
+    case ESCAPE_STREAM_FUNCTION_SPQR:
+    case ESCAPE_STREAM_FUNCTION_PEC:
+    case ESCAPE_STREAM_FUNCTION_SRS:
+    case ESCAPE_STREAM_FUNCTION_PTX:
+    case ESCAPE_STREAM_FUNCTION_SACS:
+    case ESCAPE_STREAM_FUNCTION_SDS:
+    case ESCAPE_STREAM_FUNCTION_SIMD:
+    case ESCAPE_STREAM_FUNCTION_GCC:
+    case ESCAPE_STREAM_FUNCTION_DA1:
+    case ESCAPE_STREAM_FUNCTION_DA3:
+    case ESCAPE_STREAM_FUNCTION_DA2:
+    case ESCAPE_STREAM_FUNCTION_SCO:
+    case ESCAPE_STREAM_FUNCTION_SRCS:
+    case ESCAPE_STREAM_FUNCTION_TBC:
+    case ESCAPE_STREAM_FUNCTION_MC:
+    case ESCAPE_STREAM_FUNCTION_DSR:
+    case ESCAPE_STREAM_FUNCTION_DECSSL:
+    case ESCAPE_STREAM_FUNCTION_DECSSCLS:
+    case ESCAPE_STREAM_FUNCTION_DECSDPT:
+    case ESCAPE_STREAM_FUNCTION_DECSPPCS:
+    case ESCAPE_STREAM_FUNCTION_DECARR:
+    case ESCAPE_STREAM_FUNCTION_DECSCUSR:
+    case ESCAPE_STREAM_FUNCTION_DECSCA:
+    case ESCAPE_STREAM_FUNCTION_DECSDDT:
+    case ESCAPE_STREAM_FUNCTION_DECTID:
+    case ESCAPE_STREAM_FUNCTION_DECCRTST:
+    case ESCAPE_STREAM_FUNCTION_DECSKCV:
+    case ESCAPE_STREAM_FUNCTION_DECSEST:
+    case ESCAPE_STREAM_FUNCTION_DECSPRTT:
+    case ESCAPE_STREAM_FUNCTION_XTSHIFTESCAPE:
+    case ESCAPE_STREAM_FUNCTION_DECSWBV:
+    case ESCAPE_STREAM_FUNCTION_DECSRFR:
+    case ESCAPE_STREAM_FUNCTION_DECSMBV:
+    case ESCAPE_STREAM_FUNCTION_DECSTRL:
+    case ESCAPE_STREAM_FUNCTION_DECSCP:
+    case ESCAPE_STREAM_FUNCTION_KITTYPUSH:
+    case ESCAPE_STREAM_FUNCTION_DECSLCK:
+    case ESCAPE_STREAM_FUNCTION_DECRQPSR:
+    case ESCAPE_STREAM_FUNCTION_DECREQTPARM:
+    case ESCAPE_STREAM_FUNCTION_DECSACE:
+    case ESCAPE_STREAM_FUNCTION_DECUS:
+    case ESCAPE_STREAM_FUNCTION_DECDLDA:
+    case ESCAPE_STREAM_FUNCTION_DECSTGLT:
+    case ESCAPE_STREAM_FUNCTION_DECSZS:
+    case ESCAPE_STREAM_FUNCTION_DECTTC:
+    case ESCAPE_STREAM_FUNCTION_DECSCPP:
+    case ESCAPE_STREAM_FUNCTION_DECRQLP:
+    case ESCAPE_STREAM_FUNCTION_DECSASD:
+    case ESCAPE_STREAM_FUNCTION_DECTME:
+    case ESCAPE_STREAM_FUNCTION_DECSSDT:
+        return index == 0 ? 0 : NONE;
+    case ESCAPE_STREAM_FUNCTION_WIN32KEY:
+        return index < 5 ? 0 : index == 5 ? 1 : NONE;
+    case ESCAPE_STREAM_FUNCTION_TCC:
+        return index == 1 ? 32 : NONE;
+    case ESCAPE_STREAM_FUNCTION_XTDISMODKEYS:
+        return index == 0 ? 2 : NONE;
+    case ESCAPE_STREAM_FUNCTION_DECSCL:
+        return index == 1 ? 0 : NONE;
+    case ESCAPE_STREAM_FUNCTION_XTSMPOINTER:
+        return index == 0 ? 1 : NONE;
+    case ESCAPE_STREAM_FUNCTION_DECSTBM:
+    case ESCAPE_STREAM_FUNCTION_DECSLRM:
+        return index == 0 ? FIRST : index == 1 ? LAST : NONE;
+    case ESCAPE_STREAM_FUNCTION_DECCARA:
+    case ESCAPE_STREAM_FUNCTION_DECRARA:
+        return index < 2 ? FIRST : index < 4 ? LAST : 0;
+    case ESCAPE_STREAM_FUNCTION_DECSFC:
+        return index < 3 ? 0 : NONE;
+    case ESCAPE_STREAM_FUNCTION_KITTYKEY:
+    case ESCAPE_STREAM_FUNCTION_KITTYSET:
+    case ESCAPE_STREAM_FUNCTION_DECFNK:
+        return index == 1 ? 1 : NONE;
+    case ESCAPE_STREAM_FUNCTION_DECCRA:
+        return index < 2 ? FIRST : index < 4 ? LAST : index < 8 ? FIRST : NONE;
+    case ESCAPE_STREAM_FUNCTION_DECFRA:
+        return index == 0 ? NONE : index < 3 ? FIRST : index < 5 ? LAST : NONE;
+    case ESCAPE_STREAM_FUNCTION_DECRQCRA:
+        return index < 2 ? NONE : index < 4 ? FIRST : index < 6 ? LAST : NONE;
+    case ESCAPE_STREAM_FUNCTION_DECERA:
+    case ESCAPE_STREAM_FUNCTION_DECSERA:
+        return index < 2 ? FIRST : index < 4 ? LAST : NONE;
+    }
+    return NONE;
+}
+
+/*
+ * What stands for the parameter at `index`, counted from 0, of a function, where it is left out, by
+ * the column Parameters of docs/FUNCTIONS.md: a number, or one of the two above.
+ */
+static inline int64_t escape_stream_default(uint32_t function, size_t index)
+{
+    int64_t kind = escape_stream_default_kind(function, index);
+
+    return kind < ESCAPE_STREAM_VALUE_LAST ? 1 : kind;
+}
+
+/*
+ * The parameter at `index` of a control sequence, of which this is the function: the number that is
+ * given, held at INT64_MAX, or escape_stream_default where it is left out. A count, a line, a
+ * column and a page are counted from 1: terminals take a 0 for one that is left out, and so does
+ * this call. escape_stream_parameter gives a parameter as it came, and its parts between colons.
+ */
+static inline int64_t escape_stream_value(
+    const struct escape_stream_event *event, uint32_t function, size_t index)
+{
+    int64_t number = escape_stream_parameter(event, index, 0, ESCAPE_STREAM_VALUE_NONE);
+    bool is_counted =
+        escape_stream_default_kind(function, index) <= ESCAPE_STREAM_VALUE_LAST;
+
+    return number > 0 || (number == 0 && !is_counted) ? number
+                                                      : escape_stream_default(function, index);
 }
 
 #ifdef __cplusplus

@@ -16,12 +16,15 @@
  * every stream, in any chunks; docs/EMBEDDING.md gives the extent of the proof and its assumptions.
  * Nothing checks the caller, who owes this:
  *
- *   - No pointer is NULL, also if its length is 0, and no two objects that a call is given overlap.
+ *   - No pointer is NULL, but `buffer` or `bytes` of a length of 0, and no two objects that a call
+ *     is given overlap.
  *   - A parser and an event are initialized before their first use, for example by = {0}; a parser
  *     is then begun. The caller reads and writes nothing of a parser.
  *   - The buffer has the same length and the same lower half at each call of a parser: the first
  *     length / 2 bytes are the parser's. It is initialized, too. A copy of a parser, with a copy of
- *     its buffer, is another parser at the same place of the stream.
+ *     its buffer, is another parser at the same place of the stream. The buffer may also become
+ *     larger, if its beginning is the lower half that it had and no string so far was longer than
+ *     that: escape_stream_room says in time when it has to.
  *   - `bytes` is `length` initialized bytes that can be read, and nobody writes them during the
  *     call.
  *   - Two calls of one parser do not run at the same time.
@@ -70,9 +73,9 @@ const char *escape_stream_version(void);
  * DATA_BYTE  a byte of its data, `byte`
  * DCS_END    it ends
  * APC        an application program command: `text`
- * FAILED     something else wrote the parser or the lower half of the buffer, or the buffer is not
- *            that of the calls before; from then on no call of the parser gives anything else.
- *            If the caller keeps to the rules above it never comes, as is proved
+ * FAILED     something else wrote the parser or the lower half of the buffer, or the buffer is
+ *            another one than the rules above have; from then on no call of the parser gives
+ *            anything else. If the caller keeps to these rules it never comes, as is proved
  * LIMIT      a string, or the header of a device control string, ended of which there was more than
  *            half the buffer: its event is not handed out, nor are the data of the device control
  *            string
@@ -151,6 +154,34 @@ size_t escape_stream_next(
     const uint8_t *bytes, size_t length, struct escape_stream_event *event);
 
 /*
+ * How many bytes the next calls may take, one after another, so that no string in them becomes
+ * longer than half the buffer, whatever the bytes are: each adds at most the three of U+FFFD. So a
+ * program that takes strings of any length, as files of OSC 1337 and OSC 52, needs no room for the
+ * longest from the start:
+ *
+ *     while (escape_stream_room(&parser, size) < length) {
+ *         uint8_t *larger = realloc(buffer, 2 * size);
+ *         if (larger == NULL)
+ *             break; // longer strings are passed over from now on: grow no more
+ *         memset(larger + size, 0, size);
+ *         buffer = larger;
+ *         size *= 2;
+ *     }
+ *
+ * before the calls for a chunk of `length` bytes. A text in the buffer is read before that.
+ */
+static inline size_t escape_stream_room(
+    const struct escape_stream_parser *parser, size_t buffer_length)
+{
+    /* the numbers of an operating system command, a header and an application program command */
+    bool has_text = parser->state == 3 || parser->state == 4 || parser->state == 7;
+    size_t kept = has_text && !parser->is_over ? parser->text : 0;
+    size_t left = buffer_length / 2 > kept ? buffer_length / 2 - kept : 0;
+
+    return left / 3 > 3 ? left / 3 - 3 : 0;
+}
+
+/*
  * Whether no character, sequence or string of the stream so far is unfinished: the events of the
  * next bytes are then those of a stream of its own. After ESCAPE_STREAM_FAILED it is false.
  */
@@ -201,6 +232,29 @@ static inline size_t escape_stream_utf8(uint32_t character, uint8_t out[4])
         out[i] = (uint8_t)(0x80 | (c & 0x3f));
     out[0] = (uint8_t)(marks[more] | c);
     return more + 1;
+}
+
+/*
+ * Reads the first character of a text in UTF-8, as the text of an event ESCAPE_STREAM_TEXT is, to
+ * `character`, and returns how many bytes it has: 1 to 4, or 0 if `length` is 0. Bytes that are no
+ * UTF-8, as in a text that is cut, are U+FFFD one by one.
+ */
+static inline size_t escape_stream_character(
+    const uint8_t *text, size_t length, uint32_t *character)
+{
+    static const uint32_t least[4] = {0, 0x80, 0x800, 0x10000};
+    uint8_t lead = length > 0 ? text[0] : 0;
+    size_t more = lead < 0xc2 ? 0 : lead < 0xe0 ? 1 : lead < 0xf0 ? 2 : lead < 0xf5 ? 3 : 0;
+    uint32_t c = more == 0 ? lead : lead & (0x3fu >> more);
+    bool is_whole = more < length && (more > 0 || lead < 0x80);
+
+    for (size_t i = 1; is_whole && i <= more; i++) {
+        is_whole = (text[i] & 0xc0) == 0x80;
+        c = c << 6 | (text[i] & 0x3fu);
+    }
+    is_whole = is_whole && c >= least[more] && c <= 0x10ffff && (c < 0xd800 || c >= 0xe000);
+    *character = is_whole ? c : 0xfffd;
+    return length == 0 ? 0 : is_whole ? more + 1 : 1;
 }
 
 /*

@@ -7,6 +7,7 @@ use Rattle.string_commands.specs.declared.entry.Entry.{Entry}
 use Rattle.string_commands.specs.declared.row.Row.{Row}
 use Rattle.string_commands.specs.declared.string_kind.StringKind.{StringKind}
 use Rattle.string_commands.specs.Rows.{Finds, IsRow, first_fit, first_named, fits, has_key, is_key, place_below}
+use Rattle.string_commands.specs.declared.table.TheConstants.{COUNT}
 
 -- what a mapped list has left
 cut : {X Y : Type 0} (f : X → Y) (xs : List X) (at : ℕ) (d : X) → at < length xs
@@ -67,10 +68,10 @@ key_here key text at here r lt begins is same left =
     ∙ rw there refl)
 
 -- the row in a place
-pub row_below : (i : ℕ) (r : Row) → i < 210 → r.place ≡ i → IsRow r
+pub row_below : (i : ℕ) (r : Row) → i < COUNT → r.place ≡ i → IsRow r
     → Finds (place_below i) (Some r)
 row_below i r lt same row =
-    (rw (lt-ltb i 210 lt) (ap (λ j. Some j) (sym same)), row)
+    (rw (lt-ltb i COUNT lt) (ap (λ j. Some j) (sym same)), row)
 
-pub no_row : (i : ℕ) → 210 ≤ i → Finds (place_below i) None
-no_row i past = rw (le-ltb i 210 past) refl
+pub no_row : (i : ℕ) → COUNT ≤ i → Finds (place_below i) None
+no_row i past = rw (le-ltb i COUNT past) refl

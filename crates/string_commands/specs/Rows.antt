@@ -10,6 +10,7 @@ use Rattle.string_commands.specs.declared.row.Row.{Row}
 use Rattle.string_commands.specs.declared.string_kind.StringKind.{StringKind}
 use Rattle.string_commands.specs.declared.string_kind.StringKind.TheVariants.{Osc, Letter, Dcs, Apc}
 use Rattle.string_commands.specs.declared.table.TheConstants.{ENTRIES, NAMES, STARTS, WORDS}
+use Rattle.string_commands.specs.declared.table.TheConstants.{COUNT}
 
 -- a text begins with these bytes
 abbrev pub begins : List ℕ → List ℕ → Bool
@@ -101,7 +102,7 @@ place_named name = first_named name names 0
 
 -- the place, where the table has one
 abbrev pub place_below : ℕ → Option ℕ
-place_below i = if nat_lt i 210 then Some i else None
+place_below i = if nat_lt i COUNT then Some i else None
 
 -- the entry in this place
 unfoldable pub entry_at : ℕ → Entry

@@ -366,27 +366,30 @@ macro_rules! strings {
     };
 }
 
-static ENTRIES: [Entry; 210] = strings!(entry);
+/// How many rows there are.
+pub const COUNT: usize = 210;
 
-static STARTS: [&str; 210] = strings!(start);
+static ENTRIES: [Entry; COUNT] = strings!(entry);
 
-static NAMES: [&str; 210] = strings!(name);
+static STARTS: [&str; COUNT] = strings!(start);
 
-static WORDS: [&str; 210] = strings!(words);
+static NAMES: [&str; COUNT] = strings!(name);
 
-static SAID: [&str; 210] = strings!(said);
+static WORDS: [&str; COUNT] = strings!(words);
 
-static ALONE: [&str; 210] = strings!(alone);
+static SAID: [&str; COUNT] = strings!(said);
 
-static PARAMS: [&str; 210] = strings!(params);
+static ALONE: [&str; COUNT] = strings!(alone);
 
-static FIELDS: [&str; 210] = strings!(fields);
+static PARAMS: [&str; COUNT] = strings!(params);
+
+static FIELDS: [&str; COUNT] = strings!(fields);
 
 // The place of the row of a string.
 #[tactic(auto, unfolding(crate::specs::Rows::place_of, crate::specs::Rows::starts))]
 pub(crate) fn search(kind: StringKind, key: u32, params: &[i64], text: &[u8]) -> Option<usize>
     ensures place { result ≡ place_of kind key params.now text.now }
-    ensures below { IfSome result (λ i. i < 210) }
+    ensures below { IfSome result (λ i. i < COUNT) }
 {
     first_fit(&ENTRIES, &STARTS, kind, key, params, text)
 }
@@ -395,7 +398,7 @@ pub(crate) fn search(kind: StringKind, key: u32, params: &[i64], text: &[u8]) ->
 #[tactic(auto, unfolding(crate::specs::Rows::place_named, crate::specs::Rows::names))]
 pub(crate) fn search_names(name: &[u8]) -> Option<usize>
     ensures place { result ≡ place_named name.now }
-    ensures below { IfSome result (λ i. i < 210) }
+    ensures below { IfSome result (λ i. i < COUNT) }
 {
     first_named(&NAMES, name)
 }
@@ -403,7 +406,7 @@ pub(crate) fn search_names(name: &[u8]) -> Option<usize>
 // The row in a place.
 #[tactic(auto, unfolding(crate::specs::Rows::names, crate::specs::Rows::words, crate::specs::Rows::starts, crate::specs::Rows::entry_at))]
 pub(crate) fn row_in(place: usize) -> Row
-    requires { place < 210 }
+    requires { place < COUNT }
     ensures place { result.place ≡ place }
     ensures row { IsRow result }
 {
@@ -433,7 +436,7 @@ fn text_in(texts: &[&'static str], index: usize) -> &'static str
 pub fn row_at(place: usize) -> Option<Row>
     ensures { Finds (place_below place) result }
 {
-    if place < 210 {
+    if place < COUNT {
         Some(row_in(place))
     } else {
         None
