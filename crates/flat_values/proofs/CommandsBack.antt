@@ -35,15 +35,11 @@ use Rattle.flat_values.specs.declared.kinds.Form.{Form}
 -- clicks and kinds of prompts
 click_back : (c : FinalTermClick) → click_of (click_number c) ≡ c
 click_back click.Line = refl
-click_back click.MultipleLine = refl
-click_back click.ConservativeVertical = refl
-click_back click.SmartVertical = refl
+click_back c = refl
 
 prompt_kind_back : (k : FinalTermPromptKind) → prompt_kind_of (prompt_number k) ≡ k
 prompt_kind_back prompt_kind.Initial = refl
-prompt_kind_back prompt_kind.RightSide = refl
-prompt_kind_back prompt_kind.Continuation = refl
-prompt_kind_back prompt_kind.Secondary = refl
+prompt_kind_back k = refl
 
 -- a click that may be absent after the name of the application, which may be absent too
 click_after : (a : Option (List ℕ)) (c : Option FinalTermClick)

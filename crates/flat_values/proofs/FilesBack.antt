@@ -1,7 +1,7 @@
 -- Files are read back from what their rows say.
 use Rattle.std.proofs.Common.{ℕ, ◌≡◌, List, ◌++◌, Option, Some, None, refl, map, ◌∙◌}
 use Rattle.esc_iterm.specs.declared.dimension.ITermDimension.{ITermDimension}
-use Rattle.esc_iterm.specs.declared.dimension.ITermDimension.TheVariants.{Automatic, Cells, Percent, Pixels}
+use Rattle.esc_iterm.specs.declared.dimension.ITermDimension.TheVariants.{Automatic}
 use Rattle.esc_iterm.specs.declared.file_data.ITermFileData.{ITermFileData}
 use Rattle.flat_values.proofs.ValuesBack.{Fits, flag_back, optional_is}
 use Rattle.flat_values.specs.Fields.{Field, named_values}
@@ -24,21 +24,9 @@ module _ {A : Type 0} where
       × (named_value name.Size (map named_values (dimensions w h f)) ≡ None)
       × (past name.Size (map named_values (dimensions w h f)) ≡ map named_values (dimensions w h f))
   others Automatic Automatic f = (refl, refl, refl, refl)
-  others Automatic (Cells y) f = (refl, refl, refl, refl)
-  others Automatic (Pixels y) f = (refl, refl, refl, refl)
-  others Automatic (Percent y) f = (refl, refl, refl, refl)
-  others (Cells z) Automatic f = (refl, refl, refl, refl)
-  others (Cells z) (Cells y) f = (refl, refl, refl, refl)
-  others (Cells z) (Pixels y) f = (refl, refl, refl, refl)
-  others (Cells z) (Percent y) f = (refl, refl, refl, refl)
-  others (Pixels z) Automatic f = (refl, refl, refl, refl)
-  others (Pixels z) (Cells y) f = (refl, refl, refl, refl)
-  others (Pixels z) (Pixels y) f = (refl, refl, refl, refl)
-  others (Pixels z) (Percent y) f = (refl, refl, refl, refl)
-  others (Percent z) Automatic f = (refl, refl, refl, refl)
-  others (Percent z) (Cells y) f = (refl, refl, refl, refl)
-  others (Percent z) (Pixels y) f = (refl, refl, refl, refl)
-  others (Percent z) (Percent y) f = (refl, refl, refl, refl)
+  others Automatic h f = (refl, refl, refl, refl)
+  others w Automatic f = (refl, refl, refl, refl)
+  others w h f = (refl, refl, refl, refl)
 
   -- dimensions are read
   abbrev wide_in : Option (List ℕ) → Option ℕ → List NamedValue → ITermFileData A
@@ -48,21 +36,9 @@ module _ {A : Type 0} where
       → wide_in n k (map named_values (dimensions w h f))
       ≡ file_with n k w h (map named_values (shown_fields f))
   wide_back n k Automatic Automatic f = refl
-  wide_back n k Automatic (Cells y) f = refl
-  wide_back n k Automatic (Pixels y) f = refl
-  wide_back n k Automatic (Percent y) f = refl
-  wide_back n k (Cells z) Automatic f = refl
-  wide_back n k (Cells z) (Cells y) f = refl
-  wide_back n k (Cells z) (Pixels y) f = refl
-  wide_back n k (Cells z) (Percent y) f = refl
-  wide_back n k (Pixels z) Automatic f = refl
-  wide_back n k (Pixels z) (Cells y) f = refl
-  wide_back n k (Pixels z) (Pixels y) f = refl
-  wide_back n k (Pixels z) (Percent y) f = refl
-  wide_back n k (Percent z) Automatic f = refl
-  wide_back n k (Percent z) (Cells y) f = refl
-  wide_back n k (Percent z) (Pixels y) f = refl
-  wide_back n k (Percent z) (Percent y) f = refl
+  wide_back n k Automatic h f = refl
+  wide_back n k w Automatic f = refl
+  wide_back n k w h f = refl
 
   -- a size is read, and a name
   sized_back : (n : Option (List ℕ)) (k : Option ℕ) (w h : ITermDimension) (f : ITermFileData A)

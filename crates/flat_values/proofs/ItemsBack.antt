@@ -23,15 +23,7 @@ use Rattle.std.specs.Prelude.{pos}
 
 pub dynamic_back : (c : DynamicColorNumber) → dynamic_of (Number (pos (color_number c))) ≡ c
 dynamic_back dynamic.TextForegroundColor = refl
-dynamic_back dynamic.TextBackgroundColor = refl
-dynamic_back dynamic.TextCursorColor = refl
-dynamic_back dynamic.MouseForegroundColor = refl
-dynamic_back dynamic.MouseBackgroundColor = refl
-dynamic_back dynamic.TektronixForegroundColor = refl
-dynamic_back dynamic.TektronixBackgroundColor = refl
-dynamic_back dynamic.HighlightBackgroundColor = refl
-dynamic_back dynamic.TektronixCursorColor = refl
-dynamic_back dynamic.HighlightForegroundColor = refl
+dynamic_back c = refl
 
 module _ (r : Reading) (b : Bounds) (f : Fits r b) where
   -- colours of the palette: an item first, where the rest is read whatever is known before it

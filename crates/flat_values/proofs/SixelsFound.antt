@@ -1,7 +1,7 @@
 -- Sixel data is read from its rows, and the names of a query from its fields.
 use Rattle.std.proofs.Common.{ℕ, zero, suc, arith, ◌≡◌, ◌<◌, List, [], ◌∷◌, get_or, length, map, refl, sym, subst, ap, ◌∙◌}
 use Rattle.esc_sixel.specs.declared.sixel_data.SixelData.{SixelData}
-use Rattle.esc_sixel.specs.declared.sixel_data.SixelData.TheVariants.{CarriageReturn, Data, DefineColorMapHSL, DefineColorMapRGB, NewLine, Repeat, SelectColorMapEntry}
+use Rattle.esc_sixel.specs.declared.sixel_data.SixelData.TheVariants.{Data}
 use Rattle.flat_values.proofs.Tables.{rows_say}
 use Rattle.flat_values.specs.Fields.{named_values, table_values, table_of, text_of}
 use Rattle.flat_values.specs.FoundSixels.{item_in}
@@ -11,12 +11,7 @@ use Rattle.flat_values.specs.declared.sixel_row.SixelRow.{SixelRow}
 
 item_back : (d : SixelData) → item_in (sixel_row d) ≡ d
 item_back (Data p) = refl
-item_back (Repeat p n) = refl
-item_back (DefineColorMapRGB n c) = refl
-item_back (DefineColorMapHSL n h l s) = refl
-item_back (SelectColorMapEntry n) = refl
-item_back CarriageReturn = refl
-item_back NewLine = refl
+item_back d = refl
 
 pub sixels_whole : (d e : SixelData) → sixel_row d ≡ sixel_row e → d ≡ e
 sixels_whole d e is = sym (item_back d) ∙ ap item_in is ∙ item_back e
