@@ -3,3 +3,4 @@ mod Within
 mod Failures
 pub mod Names
 pub mod Reported
+pub mod AtOnce
