@@ -4,3 +4,4 @@ mod Failures
 pub mod Names
 pub mod Reported
 pub mod AtOnce
+pub mod Telling
