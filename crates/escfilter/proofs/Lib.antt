@@ -3,3 +3,5 @@ mod Within
 mod Failures
 pub mod Names
 pub mod Reported
+pub mod AtOnce
+pub mod Telling

@@ -4,3 +4,4 @@ pub mod Fates
 pub mod Failures
 pub mod Names
 pub mod Rows
+pub mod Reports

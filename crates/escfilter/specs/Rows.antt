@@ -1,7 +1,8 @@
 -- What the rows of a report have of what a stream lost, and what they are called.
-use Rattle.std.specs.Prelude.{ℕ, ◌≡◌, ◌+◌, ◌≤◌, ◌&&◌, nat_le, Bool, true, false, not, if◌then◌else◌, List, [], ◌∷◌, ◌++◌, map, is_some, Option, Some, None}
+use Rattle.std.specs.Prelude.{ℕ, ◌≡◌, ◌+◌, ◌≤◌, ◌==◌, ◌&&◌, nat_le, Bool, true, false, not, if◌then◌else◌, List, [], ◌∷◌, ◌++◌, map, is_some, Option, Some, None}
 use Rattle.std.specs.Global.{Global}
-use Rattle.std.specs.List.{All, filter}
+use Rattle.std.specs.List.{All, filter, list_any}
+use Rattle.control_functions.specs.Functions.{function_of_csi}
 use Rattle.esc_account.specs.Brief.{brief}
 use Rattle.esc_account.specs.Entries.{Entry}
 use Rattle.esc_account.specs.Judges.{GoesBy}
@@ -13,14 +14,17 @@ use Rattle.esc_account.specs.declared.fate.Fate.TheVariants as fates
 use Rattle.esc_account.specs.declared.row.Row.{Row}
 use Rattle.esc_account.specs.declared.table.Table.{Table}
 use Rattle.esc_actions.specs.Readings.{reading_within}
-use Rattle.esc_actions.specs.Values.{Value}
+use Rattle.esc_actions.specs.Values.{Value, csi}
 use Rattle.esc_frame.specs.Segments.{AreSegments, Segment as Shape, bytes_of, is_finished, joined_bytes}
 use Rattle.esc_sanitize.specs.declared.judging.Judging.{Judging}
 use Rattle.esc_sanitize.specs.declared.options.FilterOptions.{FilterOptions}
-use Rattle.esc_segments.specs.Items.{kind_of}
+use Rattle.esc_segments.specs.declared.item.Segment.{Segment as Item}
+use Rattle.esc_segments.specs.Items.{IsItem, kind_of}
 use Rattle.esc_segments.specs.declared.kind.SegmentKind.{SegmentKind}
+use Rattle.esc_sequences.specs.Csis.{csi_of, unspecified}
+use Rattle.esc_values.specs.declared.csi_param.CsiParam.{CsiParam}
 use Rattle.escfilter.specs.Choices.{admits_choice}
-use Rattle.escfilter.specs.Names.{Title, bare, has_key, kind_title, title_of, value_title}
+use Rattle.escfilter.specs.Names.{Title, bare, has_key, kind_title, sequence_title, title_of, value_title}
 use Rattle.escfilter.specs.contracts.name.NamePartialEq.TheImpl as name_test
 use Rattle.escfilter.specs.declared.name.Name.{Name}
 use Rattle.escfilter.specs.declared.named_groups.Choice.{Choice}
@@ -73,6 +77,20 @@ abbrev pub title_by : {A : Type 0} → (Value A → Bool) → Fate → SegmentKi
 title_by written f k bytes vs =
     if is_meant f then title_or (kind_title k bytes) (first_out written vs)
     else kind_title k bytes
+
+-- it is the name of the first value of the segment of which nothing is written, and there is one
+abbrev pub IsOutFirst : FilterOptions Choice → Item → Name → Type 0
+IsOutFirst o x n = (g : Shape) (gs : List Shape) (t : Title) → AreSegments (g ∷ gs)
+    → IsItem x g (joined_bytes gs) → title_of n ≡ title_or t (first_out (writes o)
+    (brief (reading_within (Some o.limit) g (is_finished g (joined_bytes gs)))))
+
+-- It is the name of a control sequence of these parameters and this final byte, which are of one
+-- function, and which does not pass.
+pub record IsLeftName (c : Choice) (es : List CsiParam) (last : ℕ) (n : Name) : Type 0 where
+  pub title : title_of n ≡ sequence_title (function_of_csi (unspecified es false last))
+  pub one : (last == 0x6d) ≡ false
+  pub stays : list_any (λ v. admits_choice {A = Global} c (csi v))
+      (csi_of es false last) ≡ false
 
 -- the entry is of this segment, which these follow
 pub record IsOf (e : Entry) (g : Shape) (gs : List Shape) : Type 0 where

@@ -32,7 +32,7 @@ impl Display for CastFault {
 
 /// How a recording was filtered.
 #[derive(Drop)]
-pub struct Filtered<'a> {
+pub struct Recorded<'a> {
     /// Whether that failed.
     pub outcome: Result<(), CastFault>,
     /// The account of the texts of its events of output.
@@ -118,13 +118,13 @@ pub fn filter_recording<'a, R: Read, W: Write>(
     rows: Rows<'a>,
     reader: &mut Watched<R>,
     writer: &mut Watched<W>,
-) -> Filtered<'a> {
+) -> Recorded<'a> {
     let mut lines = Lines::new(alloc, sanitizing(alloc, options, rows));
     let outcome = match fallible_alloc::read_buffer(alloc) {
         Ok(mut chunk) => filter_lines(&mut lines, reader, writer, chunk.as_mut_slice()),
         Err(_) => Err(CastFault::Stream(FilterError::Memory)),
     };
-    Filtered {
+    Recorded {
         outcome,
         auditor: lines.into_auditor(),
     }

@@ -1,7 +1,12 @@
 //! Streams that are filtered to one output, each with its report.
+ghost use Rattle.std.specs.Prelude.{◌≡◌, ℕ, List, OnOk, false, true};
+ghost use Rattle.esc_account.specs.Ledgers.{IsCounted};
+ghost use Rattle.esc_decode.specs.Decodings.{decoded_stream};
+ghost use Rattle.escfilter.specs.Fates.{IsComplete};
+ghost use Rattle.escfilter.specs.Reports.{HasAudited, IsReported, IsReportedOf, is_json};
 
 use crate::PROGRAM;
-use crate::cast::{CastFault, Filtered, filter_recording};
+use crate::cast::{CastFault, Recorded, filter_recording};
 use crate::events::Events;
 use crate::json::tell_json;
 use crate::laws::choices_admit_less;
@@ -36,6 +41,19 @@ pub struct Filtering<'a, W, E> {
     pub told: &'a mut Told,
 }
 
+// How a stream was filtered.
+#[derive(Drop)]
+struct Filtered {
+    // whether that failed
+    outcome: Result<(), FilterError>,
+    // why the output was not written, where it was not
+    refusal: Option<Reason>,
+    // whether some byte had a fate that is a failure
+    is_failure: bool,
+    // where what did not pass is told
+    events: Option<Events>,
+}
+
 impl<'a, W: Write, E: Write> Work for Filtering<'a, W, E> {
     fn take<R: Read + Drop>(&mut self, name: &str, input: R) -> Ended {
         let events = started(self.told.events.take(), name);
@@ -62,10 +80,37 @@ impl<'a, W: Write, E: Write> Filtering<'a, W, E> {
         input: R,
         events: Option<Events>,
     ) -> (Ended, bool, Option<Events>) {
-        choices_admit_less::<Global>();
-        let rows = Rows::new(self.alloc, self.options, events);
         let input = Input::new(self.alloc, self.options.order, input);
         let mut reader = Watched::new(ErrorCapture::new(input));
+        let Filtered {
+            outcome,
+            refusal,
+            is_failure,
+            events,
+        } = self.filter_stream(name, events, &mut reader);
+        let reason = reader.into_inner().reason().or(refusal);
+        let place = match outcome {
+            Err(FilterError::Write) => Place::Output(self.output_name),
+            _ => Place::Input(name),
+        };
+        let ended = ended_by(PROGRAM, outcome, place, reason, &mut self.faults);
+        (ended, is_failure, events)
+    }
+
+    // Filters what this reader gives, and reports what did not pass of it.
+    fn filter_stream<R: Read>(
+        &mut self,
+        name: &str,
+        events: Option<Events>,
+        reader: &mut Watched<R>,
+    ) -> Filtered
+        ensures told { OnOk result.outcome (IsReportedOf R.Read self.old.options
+            self.old.told.now.gate result.is_failure self.new.told.now.gate
+            ((self.new.faults ≡ self.old.faults)
+            × (self.new.told.now.report ≡ self.old.told.now.report)) reader) }
+    {
+        choices_admit_less::<Global>();
+        let rows = Rows::new(self.alloc, self.options, events);
         let mut writer = Watched::new(ErrorCapture::new(Passage {
             output: &mut *self.output,
             is_open: !self.options.is_list,
@@ -75,20 +120,17 @@ impl<'a, W: Write, E: Write> Filtering<'a, W, E> {
             self.alloc,
             options,
             rows,
-            &mut reader,
+            reader,
             &mut writer,
         );
-        let reason = reader
-            .into_inner()
-            .reason()
-            .or(writer.into_inner().reason());
+        let refusal = writer.into_inner().reason();
         let is_failure = self.report(name, &auditor, outcome.is_ok());
-        let place = match outcome {
-            Err(FilterError::Write) => Place::Output(self.output_name),
-            _ => Place::Input(name),
-        };
-        let ended = ended_by(PROGRAM, outcome, place, reason, &mut self.faults);
-        (ended, is_failure, events_of(auditor))
+        Filtered {
+            outcome,
+            refusal,
+            is_failure,
+            events: events_of(auditor),
+        }
     }
 
     // The same of a recording.
@@ -106,7 +148,7 @@ impl<'a, W: Write, E: Write> Filtering<'a, W, E> {
             is_open: !self.options.is_list,
         }));
         let options = self.options.filter;
-        let Filtered { outcome, auditor } = filter_recording(
+        let Recorded { outcome, auditor } = filter_recording(
             self.alloc,
             options,
             rows,
@@ -144,7 +186,14 @@ impl<'a, W: Write, E: Write> Filtering<'a, W, E> {
         name: &str,
         auditor: &Auditor<Choice<'_>, Rows<'_>>,
         is_complete: bool,
-    ) -> bool {
+    ) -> bool
+        ensures told { (s : List ℕ) → HasAudited self.old.options auditor.now s
+            → IsCounted (decoded_stream self.old.options.filter.encoding s)
+            → self.old.options.filter.audits ≡ true → IsReported self.old.options
+            self.old.told.now.gate s result self.new.told.now.gate
+            ((self.new.faults ≡ self.old.faults)
+            × (self.new.told.now.report ≡ self.old.told.now.report)) }
+    {
         let Some((account, rows)) = auditor.account() else {
             return false;
         };
@@ -167,13 +216,17 @@ fn tell<E: Write>(
     name: &str,
     is_complete: bool,
     writer: &mut E,
-) {
+)
+    ensures silent { IsComplete account.sums → is_json form ≡ false → writer.new ≡ writer.old }
+{
     match form {
         Some(Form::Text) => tell_text(account, rows, name, writer),
-        Some(Form::Json) => tell_json(account, rows, name, is_complete, writer),
-        None => return,
+        Some(Form::Json) => {
+            tell_json(account, rows, name, is_complete, writer);
+            let _ = writer.flush();
+        }
+        None => {}
     }
-    let _ = writer.flush();
 }
 
 // Where what does not pass is told, at the beginning of the stream of this name.

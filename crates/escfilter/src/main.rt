@@ -4,6 +4,7 @@
 #![tactic(auto)]
 
 mod aside;
+mod at_once;
 mod cast;
 mod events;
 mod failing;

@@ -30,10 +30,11 @@ pub enum Key {
 /// there are not many.
 #[derive(Clone, Copy, PartialEq, Eq)]
 pub struct Name {
+    /// Its name, as `DSR`; empty where it has none. It comes first, since names are compared by it
+    /// first.
+    pub name: &'static str,
     /// Its kind, as `CSI`.
     pub kind: &'static str,
-    /// Its name, as `DSR`; empty where it has none.
-    pub name: &'static str,
     /// Its name in words, as `device status report`.
     pub words: &'static str,
     /// What it has in place of its name and of these words, where no table has it.
@@ -220,8 +221,8 @@ fn character_name(c: char) -> Name
     }
 }
 
-// The name of a control sequence.
-fn sequence_name(function: Option<ControlFunction>) -> Name
+/// The name of a control sequence.
+pub fn sequence_name(function: Option<ControlFunction>) -> Name
     ensures { title_of result ≡ sequence_title function }
 {
     match function {

@@ -15,7 +15,9 @@ use std::io::Write;
 /// Writes lines on `faults` that name the stream: how many of its bytes had each fate; each kind of
 /// what did not pass by its name, with the place in the input where the first of it was; and what
 /// the end of the stream leaves open. Where all of it passed, or was respelled, it writes nothing.
-pub fn tell_text<E: Write>(account: Account, rows: &Rows, name: &str, faults: &mut E) {
+pub fn tell_text<E: Write>(account: Account, rows: &Rows, name: &str, faults: &mut E)
+    ensures silent { IsComplete account.sums → faults.new ≡ faults.old }
+{
     if !has_omissions(account.sums) {
         return;
     }
@@ -26,6 +28,7 @@ pub fn tell_text<E: Write>(account: Account, rows: &Rows, name: &str, faults: &m
     if let Some(open) = rows.open(account) {
         tell_open(open, name, faults);
     }
+    let _ = faults.flush();
 }
 
 /// Whether some bytes are not in the output, in any spelling.

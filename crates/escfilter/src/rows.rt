@@ -9,10 +9,11 @@ ghost use Rattle.esc_actions.specs.Readings.{reading_within};
 ghost use Rattle.esc_actions.specs.Values.{value_of};
 ghost use Rattle.esc_frame.specs.Segments.{AreSegments, Segment as Shape, is_finished, joined_bytes};
 ghost use Rattle.esc_segments.specs.Items.{IsItem};
-ghost use Rattle.escfilter.specs.Names.{title_of};
+ghost use Rattle.escfilter.specs.Names.{kind_title, title_of};
 ghost use Rattle.escfilter.specs.Rows.{AreRowsOf, HasRows, IsCalled, IsJudge, are_one_name, first_out, is_meant, is_respelled, kept_name, keyed, title_by, title_or, told, writes};
 ghost use Rattle.fallible_alloc.specs.Refusals.{Refused};
 
+use crate::at_once::name_at_once;
 use crate::events::Events;
 use crate::name::{Name, kind_name, name_of};
 use crate::named_groups::Choice;
@@ -174,13 +175,29 @@ impl<'a> Rows<'a> {
             (is_finished g (joined_bytes gs))))) }
         ensures refused { OnErr result (Refused Global) }
     {
-        let name = kind_name(segment.kind, segment.bytes);
-        if is_meant(fate) {
-            let actions = read(self.alloc, self.options.filter.limit, segment)?;
-            Ok(self.name_among(&actions, name))
-        } else {
-            Ok(name)
+        if !is_meant(fate) {
+            return Ok(kind_name(segment.kind, segment.bytes));
         }
+        match name_at_once(&self.options.filter, segment) {
+            Some(name) => Ok(name),
+            None => self.name_by_actions(segment),
+        }
+    }
+
+    // The name of the first action of the segment of which nothing is written, and else of what the
+    // segment is.
+    fn name_by_actions(&self, segment: Segment<'_>) -> Result<Name, AllocError>
+        ensures given { (g : Shape) (gs : List Shape) → AreSegments (g ∷ gs)
+            → IsItem segment.entry g (joined_bytes gs)
+            → IsJudge self.now.options.filter self.now.judge → IfOk result (λ n. title_of n
+            ≡ title_or (kind_title segment.entry.kind segment.entry.bytes.now)
+            (first_out (writes self.now.options.filter)
+            (brief (reading_within (Some self.now.options.filter.limit) g
+            (is_finished g (joined_bytes gs)))))) }
+        ensures refused { OnErr result (Refused Global) }
+    {
+        let actions = read(self.alloc, self.options.filter.limit, segment)?;
+        Ok(self.name_among(&actions, kind_name(segment.kind, segment.bytes)))
     }
 
     // The name of the first of these actions of which nothing is written; else this one.
