@@ -26,7 +26,7 @@ pub(crate) enum Lead {
 pub(crate) fn lead_of(bytes: &[u8], encoding: Encoding) -> Lead {
     match bytes {
         [] | [ESC] => Lead::More,
-        [ESC, letter, ..] if letter.is_ascii() && *letter != ESC => Lead::Control(*letter, 2),
+        [ESC, letter, ..] if *letter != ESC => Lead::Control(*letter, 2),
         [ESC, ..] => Lead::Text(1),
         _ => match first_candidate(bytes, encoding) {
             Some(0) => lead_past_ascii(bytes, encoding),
