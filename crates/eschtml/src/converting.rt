@@ -4,7 +4,7 @@ use crate::heeding::Heeding;
 use crate::images::image;
 use crate::lines::Counting;
 use crate::options::Options;
-use crate::page::{AFTER, Side, before, counted, ending, group, heading, lost_note};
+use crate::page::{AFTER, Side, before, counted, ending, group, heading, left_out_note, lost_note};
 use crate::stream::{PROGRAM, write_html};
 use crate::strings::Lost;
 use crate::timing::Timing;
@@ -14,7 +14,7 @@ use command_line::{
 use esc_decode::Input;
 use esc_filter::FilterError;
 use esc_normal::Watched;
-use page_input::{Linking, Mark, Pictures, Sections, Window};
+use page_input::{Casting, LeftOut, Linking, Mark, Pictures, Recorded, Sections, Window};
 use std::alloc::{AllocError, Global};
 use std::io;
 use std::io::{Read, Write};
@@ -35,30 +35,51 @@ pub struct Converting<'a, W, E> {
     pub streams: u64,
     /// How many lines of the page come before the next stream.
     pub line: u64,
+    /// How many images of the stream were left out.
+    pub left_out: LeftOut,
 }
 
 impl<'a, W: Write, E: Write> Work for Converting<'a, W, E> {
     fn take<R: Read + Drop>(&mut self, name: &str, input: R) -> Ended {
         self.streams = self.streams.saturating_add(1);
+        self.left_out = LeftOut::new();
         let input = Input::new(self.alloc, self.options.order, input);
-        let mut window = Window::new(self.alloc, self.options.cut, input);
+        let input = Casting::new(self.alloc, self.recorded(), input);
+        let mut window = Window::new(self.alloc, self.options.encoding, self.options.cut, input);
         window.prepare();
         let before = window.before();
         self.tell_left_out(name, before, Side::Before);
         self.line = self.line.saturating_add(before);
-        if self.options.is_page {
+        let (ended, window) = if self.options.is_page {
             self.take_on_page(name, window)
         } else {
             let (ended, mut window) = self.take_window(name, window);
             let (ended, _) = self.end_window(name, ended, &mut window);
-            ended
+            (ended, window)
+        };
+        match window.inner().wrong() {
+            Some(number) if ended == Ended::Whole => self.tell_wrong(name, number),
+            _ => ended,
         }
     }
 }
 
 impl<'a, W: Write, E: Write> Converting<'a, W, E> {
+    // What is read of a stream, where it is a recording.
+    fn recorded(&self) -> Recorded {
+        Recorded {
+            is_on: self.options.is_cast,
+            has_times: self.options.times && self.options.rows.is_none(),
+            is_plain: !self.options.shows,
+        }
+    }
+
     // Writes these lines of a stream of this name, with what comes before and after them.
-    fn take_on_page<R: Read + Drop>(&mut self, name: &str, window: Window<R>) -> Ended {
+    fn take_on_page<R: Read + Drop>(
+        &mut self,
+        name: &str,
+        window: Window<R>,
+    ) -> (Ended, Window<R>) {
         let number = if self.is_headed {
             Some(self.streams)
         } else {
@@ -67,16 +88,16 @@ impl<'a, W: Write, E: Write> Converting<'a, W, E> {
         let text = heading(self.alloc, name, number, window.before());
         let ended = self.push(Ended::Whole, text);
         if ended != Ended::Whole {
-            return ended;
+            return (ended, window);
         }
         let (ended, mut window) = self.take_window(name, window);
         if is_last(ended) {
-            return ended;
+            return (ended, window);
         }
         let (ended, left_out) = self.end_window(name, ended, &mut window);
         let text = ending(self.alloc, left_out);
         let ended = self.push(ended, text);
-        self.flush(ended)
+        (self.flush(ended), window)
     }
 
     // Writes these lines of a stream of this name, and says what a string took of them.
@@ -91,7 +112,8 @@ impl<'a, W: Write, E: Write> Converting<'a, W, E> {
             self.take_block(name, &mut input)
         };
         let (lost, window) = input.end();
-        (self.note_lost(name, ended, before, lost), window)
+        let ended = self.note_lost(name, ended, before, lost);
+        (self.note_images(name, ended), window)
     }
 
     // Writes a stream of this name, group after group.
@@ -167,8 +189,11 @@ impl<'a, W: Write, E: Write> Converting<'a, W, E> {
     // Writes the HTML of text of a stream of this name, and its images.
     fn take_text<R: Read + Drop>(&mut self, name: &str, input: &mut R) -> Ended {
         if self.options.images {
-            let mut pictures = Pictures::new(self.alloc, self.options.limit, input);
-            self.take_pictures(name, &mut pictures)
+            let encoding = self.options.encoding;
+            let mut pictures = Pictures::new(self.alloc, encoding, self.options.limit, input);
+            let ended = self.take_pictures(name, &mut pictures);
+            self.left_out = self.left_out.and(pictures.left_out());
+            ended
         } else {
             self.take_plain(name, input)
         }
@@ -211,7 +236,7 @@ impl<'a, W: Write, E: Write> Converting<'a, W, E> {
     // Writes the HTML of text without images.
     fn take_plain<R: Read + Drop>(&mut self, name: &str, input: &mut R) -> Ended {
         if self.options.links {
-            let linking = Linking::new(self.alloc, input);
+            let linking = Linking::new(self.alloc, self.options.encoding, input);
             self.write(name, linking)
         } else {
             self.write(name, input)
@@ -334,6 +359,44 @@ impl<'a, W: Write, E: Write> Converting<'a, W, E> {
             "{PROGRAM}: {name}: line {line}: an unended string swallowed {bytes} bytes"
         );
         let _ = self.faults.flush();
+    }
+
+    // Says how many images of the stream of this name are left out, unless they are shown.
+    fn note_images(&mut self, name: &str, ended: Ended) -> Ended {
+        let LeftOut { large, others } = self.left_out;
+        let ended = self.note_kind(name, ended, large, "larger than --limit");
+        self.note_kind(name, ended, others, "of another kind or size")
+    }
+
+    // The same of so many images of this kind.
+    fn note_kind(&mut self, name: &str, ended: Ended, count: u64, kind: &'static str) -> Ended {
+        if count == 0 || ended != Ended::Whole || self.options.shows {
+            return ended;
+        }
+        let name = Shown(name);
+        let images = if count == 1 { "image" } else { "images" };
+        let _ = writeln!(
+            self.faults,
+            "{PROGRAM}: {name}: {count} {images} left out, {kind}"
+        );
+        let _ = self.faults.flush();
+        if !self.options.marks_lost {
+            return ended;
+        }
+        let text = left_out_note(self.alloc, self.options.is_page, count, images, kind);
+        let ended = self.push(ended, text);
+        self.flush(ended)
+    }
+
+    // Says that the line of this number is no line of a recording.
+    fn tell_wrong(&mut self, name: &str, number: u64) -> Ended {
+        let name = Shown(name);
+        let _ = writeln!(
+            self.faults,
+            "{PROGRAM}: {name}: line {number} is no line of a recording"
+        );
+        let _ = self.faults.flush();
+        Ended::Unread
     }
 
     // Says how many lines of the stream of this name are left out, on this side of those that are

@@ -29,6 +29,7 @@ use converting::Converting;
 use esc_filter::FilterError;
 use options::{Kind, Options, Task};
 use page::{END, head};
+use page_input::LeftOut;
 use std::alloc::{AllocError, Global};
 use std::io;
 use std::io::Write;
@@ -40,7 +41,7 @@ const USAGE: &str = "\
 usage: eschtml [--page] [--title text] [--css address] [--lang language] \
 [--theme auto|light|dark] [--palette xterm|vga|solarized|tango|one-half] [--numbers] [--wrap] \
 [--lines] [--inline] [--show] [--lost] [--final-lines[=rows]] [--head lines] [--tail lines] \
-[--linkify] [--fold] [--times] [--images] [--style] \
+[--linkify] [--fold] [--times] [--images] [--cast] [--style] \
 [--encoding utf-8|utf-16|utf-16le|utf-16be|latin1|windows-1250|windows-1251|windows-1252|\
 windows-1253|windows-1254|windows-1255|windows-1256|windows-1257|windows-1258] \
 [--c1 replace|obey] [--limit size] [-o|--output file] [-h|--help] [-V|--version] [--] [FILE..]";
@@ -67,7 +68,8 @@ renditions as spans, and links to http, https and mailto. Nothing of it becomes 
                   fragment needs no style sheet
   --show          writes what is left out in its place, as text in reverse video:
                   ^[]0;title^G
-  --lost          writes after a stream how many bytes a string took that nothing ends
+  --lost          writes after a stream how many bytes a string took that nothing ends, and how
+                  many images are left out
   --final-lines   writes what a terminal leaves of lines that are written again, as by
                   progress bars; --final-lines=rows where these go back over more rows than 32
   --head lines    writes so many lines that come first, and says how many are left out
@@ -75,7 +77,9 @@ renditions as spans, and links to http, https and mailto. Nothing of it becomes 
   --linkify       makes links of addresses in text that begin with http:// or https://
   --fold          folds the groups of lines of GitHub and GitLab on a page
   --times         puts the time that a line begins with into an element that is not copied
-  --images        writes images as data: PNG, JPEG and GIF of iTerm2 and kitty
+  --images        writes images as data: PNG, JPEG and GIF of iTerm2 and kitty, and sixels
+  --cast          reads a recording of asciinema, version 2 or 3; with --times each line begins
+                  with the time at which it came
   --style         prints the style sheet, for a page around a fragment
   --encoding name reads utf-8 (the default), utf-16, utf-16le, utf-16be, latin1, or windows-1250
                   to windows-1258
@@ -231,6 +235,7 @@ fn convert_all<W: Write>(
         is_headed: files.len() > 1,
         streams: 0,
         line: 0,
+        left_out: LeftOut::new(),
     };
     work_through(rt, PROGRAM, files, &mut converting, &mut rt.stderr())
 }

@@ -44,6 +44,8 @@ pub struct Options<'a> {
     pub times: bool,
     /// Whether images are written.
     pub images: bool,
+    /// Whether a stream is a recording of asciinema.
+    pub is_cast: bool,
     /// Which byte of a unit comes first, where a stream is in UTF-16; then it is read as UTF-8.
     pub order: Option<ByteOrder>,
     /// How the bytes of a stream are read.
@@ -79,6 +81,7 @@ impl<'a> Options<'a> {
             folds: false,
             times: false,
             images: false,
+            is_cast: false,
             order: None,
             encoding: Encoding::Utf8,
             limit: DEFAULT_LIMIT,
@@ -109,6 +112,7 @@ impl<'a> Options<'a> {
             "--fold" => self.folds = true,
             "--times" => self.times = true,
             "--images" => self.images = true,
+            "--cast" => self.is_cast = true,
             "--limit" => self.limit = given.size,
             _ => {}
         }
@@ -271,6 +275,11 @@ const KNOWN: &[Known] = &[
         takes: Takes::Nothing,
     },
     Known {
+        name: "--cast",
+        letter: "",
+        takes: Takes::Nothing,
+    },
+    Known {
         name: "--style",
         letter: "",
         takes: Takes::Nothing,
@@ -319,6 +328,10 @@ impl<'a> Task<'a> {
         }
         let mut options = choices.options;
         options.encoding = encoding_of(choices.page, choices.obeys);
+        if options.is_cast {
+            options.encoding = Encoding::Utf8;
+            options.order = None;
+        }
         Task {
             kind: choices.kind,
             options,

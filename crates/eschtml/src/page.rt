@@ -283,19 +283,48 @@ pub fn lost_note(alloc: Global, is_page: bool, lost: Lost) -> Result<String, All
 }
 
 fn push_lost(text: &mut String, is_page: bool, lost: Lost) -> Result<(), AllocError> {
-    fallible_alloc::push_str(text, if is_page { "<p class=\"es-note\">" } else { "" })?;
-    fallible_alloc::push_str(text, "<span class=\"es-lost\">line ")?;
+    fallible_alloc::push_str(text, note_begin(is_page))?;
+    fallible_alloc::push_str(text, "line ")?;
     fallible_alloc::push_display(text, &lost.line)?;
     fallible_alloc::push_str(text, ": an unended string swallowed ")?;
     fallible_alloc::push_display(text, &lost.bytes)?;
-    fallible_alloc::push_str(
-        text,
-        if is_page {
-            " bytes</span></p>\n"
-        } else {
-            " bytes</span>\n"
-        },
-    )
+    fallible_alloc::push_str(text, " bytes")?;
+    fallible_alloc::push_str(text, note_end(is_page))
+}
+
+/// What says that so many images of a kind were left out, in the same way.
+pub fn left_out_note(
+    alloc: Global,
+    is_page: bool,
+    count: u64,
+    images: &'static str,
+    kind: &'static str,
+) -> Result<String, AllocError> {
+    let mut text = fallible_alloc::text(alloc, note_begin(is_page))?;
+    fallible_alloc::push_display(&mut text, &count)?;
+    fallible_alloc::push_str(&mut text, " ")?;
+    fallible_alloc::push_str(&mut text, images)?;
+    fallible_alloc::push_str(&mut text, " left out, ")?;
+    fallible_alloc::push_str(&mut text, kind)?;
+    fallible_alloc::push_str(&mut text, note_end(is_page))?;
+    Ok(text)
+}
+
+// What is around such a note.
+fn note_begin(is_page: bool) -> &'static str {
+    if is_page {
+        "<p class=\"es-note\"><span class=\"es-lost\">"
+    } else {
+        "<span class=\"es-lost\">"
+    }
+}
+
+fn note_end(is_page: bool) -> &'static str {
+    if is_page {
+        "</span></p>\n"
+    } else {
+        "</span>\n"
+    }
 }
 
 // What begins a group, up to its title.

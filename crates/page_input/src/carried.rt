@@ -1,38 +1,39 @@
 //! Renditions that go on where a stream is cut.
 
+use crate::leads::{Lead, Sieve, lead_of};
+use esc_decode::Encoding;
 use esc_frame::{VTActor, VTParser};
 use esc_pen::Pen;
 use esc_values::CsiParam;
-use memchr::memchr;
 use std::alloc::{AllocError, Global};
 use typed_functions::Function;
-
-const ESC: u8 = 0x1b;
-
-// What neither ends a sequence nor is a part of it, as a byte past ASCII.
-const DEL: u8 = 0x7f;
 
 /// The renditions that hold after some of a stream.
 #[derive(Drop)]
 pub(crate) struct Carried {
+    encoding: Encoding,
+    sieve: Sieve,
     framer: VTParser,
     hold: Hold,
 }
 
 impl Carried {
-    /// At the beginning of a stream. Takes no memory.
-    pub fn new(alloc: Global) -> Carried {
+    /// At the beginning of a stream in this encoding. Takes no memory.
+    pub fn new(alloc: Global, encoding: Encoding) -> Carried {
         Carried {
+            encoding,
+            sieve: Sieve::new(encoding),
             framer: VTParser::with_limit(alloc, 0),
             hold: Hold { pen: Pen::plain() },
         }
     }
 
-    /// Takes bytes more. A byte past ASCII is taken for text.
+    /// Takes bytes more.
     pub fn take(&mut self, bytes: &[u8]) {
         let mut rest = bytes;
         while !rest.is_empty() {
             let start = self.text_length(rest).min(rest.len());
+            self.sieve.pass(&rest[..start]);
             let n = start.saturating_add(self.follow(&rest[start..]));
             rest = &rest[n.max(1).min(rest.len())..];
         }
@@ -43,7 +44,15 @@ impl Carried {
         if !self.framer.is_ground() {
             return 0;
         }
-        memchr(ESC, bytes).unwrap_or(bytes.len())
+        match lead_of(bytes, self.encoding) {
+            Lead::Text(length) => length,
+            Lead::Control(_, _) | Lead::More => 0,
+        }
+    }
+
+    /// Whether no sequence and no string is unfinished.
+    pub fn is_ground(&self) -> bool {
+        self.framer.is_ground()
     }
 
     /// The control sequences that make them. The error is that memory was refused.
@@ -58,7 +67,7 @@ impl Carried {
         let mut n = 0usize;
         for byte in bytes {
             n = n.saturating_add(1);
-            let byte = if byte.is_ascii() { *byte } else { DEL };
+            let byte = self.sieve.take(*byte);
             if self.framer.parse(&[byte], &mut self.hold).is_err() {
                 return bytes.len();
             }

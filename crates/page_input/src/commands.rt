@@ -2,6 +2,7 @@
 
 use crate::picture::Picture;
 use crate::png::png_of;
+use crate::sixels::sixel_png;
 use esc_iterm::ITermFileData;
 use esc_kitty::{
     KittyImage, KittyImageCompression, KittyImageData, KittyImageFormat, KittyImageTransmit,
@@ -10,14 +11,20 @@ use esc_values::base64_text::read_base64;
 use memchr::memchr;
 use std::alloc::{AllocError, Global};
 
-/// What a command of iTerm2 begins with.
-pub(crate) const PROPRIETARY: &[u8] = b"\x1b]1337;";
+/// What a command of iTerm2 begins with, after what opens it.
+pub(crate) const PROPRIETARY: &[u8] = b"1337;";
 
 /// What one with a file begins with.
-pub(crate) const FILE: &[u8] = b"\x1b]1337;File=";
+pub(crate) const FILE: &[u8] = b"1337;File=";
 
-/// And one with an image of kitty.
-pub(crate) const IMAGE: &[u8] = b"\x1b_G";
+/// Why an image is left out that a command shows.
+#[derive(Clone, Copy)]
+pub(crate) enum Loss {
+    /// It has more bytes than the limit.
+    Large,
+    /// It is none that a page may have, or has too many pixels.
+    Other,
+}
 
 /// What a command is.
 #[derive(Drop)]
@@ -26,6 +33,8 @@ pub(crate) enum Command {
     Shows(Picture),
     /// A part of an image, of which more follows.
     Part,
+    /// It shows an image that is left out.
+    Lost(Loss),
     /// Another.
     Other,
 }
@@ -39,7 +48,7 @@ pub(crate) struct Unfinished {
     bytes: Vec<u8>,
 }
 
-/// What a command of iTerm2 is, of which this comes after its code, without what ends it.
+/// What a command of iTerm2 is, of which this comes after its number, without what ends it.
 pub(crate) fn file_command(alloc: Global, text: &[u8]) -> Result<Command, AllocError> {
     if !is_plain(text) {
         return Ok(Command::Other);
@@ -69,11 +78,68 @@ pub(crate) fn file_command(alloc: Global, text: &[u8]) -> Result<Command, AllocE
 fn shown(picture: Option<Picture>) -> Command {
     match picture {
         Some(picture) => Command::Shows(picture),
-        None => Command::Other,
+        None => Command::Lost(Loss::Other),
     }
 }
 
-/// What a command of kitty is, of which this comes after `ESC _`, where this image is unfinished.
+/// What a command of sixels is, of which this comes after what opens it, without what ends it.
+pub(crate) fn sixel_command(alloc: Global, text: &[u8]) -> Result<Command, AllocError> {
+    let length = header_length(text).min(text.len());
+    let (header, data) = text.split_at(length);
+    match sixel_png(alloc, header, data.get(1..).unwrap_or(b""))? {
+        Some(png) => Ok(shown(Picture::unnamed(alloc, png))),
+        None => Ok(Command::Lost(Loss::Other)),
+    }
+}
+
+/// How many bytes the parameters of a device control string have.
+pub(crate) fn header_length(text: &[u8]) -> usize {
+    let mut length = 0usize;
+    for byte in text {
+        if !byte.is_ascii_digit() && *byte != b';' {
+            return length;
+        }
+        length = length.saturating_add(1);
+    }
+    length
+}
+
+/// Whether a command of iTerm2 shows a file, and is none to save: of this much of it the keys are
+/// before the first `:`.
+pub(crate) fn shows_file(text: &[u8]) -> bool {
+    has_key(
+        text.get(FILE.len()..).unwrap_or(b""),
+        b':',
+        b';',
+        b"inline=1",
+    )
+}
+
+/// Whether a command of kitty shows an image, or is a part of one that does: of this much of it the
+/// keys are before the first `;`.
+pub(crate) fn shows_image(text: &[u8], is_part: bool) -> bool {
+    is_part || has_key(text.get(1..).unwrap_or(b""), b';', b',', b"a=T")
+}
+
+// Whether a text has a key with this value before its end, in a list.
+fn has_key(text: &[u8], end: u8, comma: u8, key: &'static [u8]) -> bool {
+    let mut rest = text
+        .get(..memchr(end, text).unwrap_or(text.len()))
+        .unwrap_or(text);
+    for _ in 0..text.len() {
+        let Some(at) = memchr(comma, rest) else {
+            break;
+        };
+        if rest.get(..at).unwrap_or(b"") == key {
+            return true;
+        }
+        rest = rest.get(at.saturating_add(1)..).unwrap_or(b"");
+    }
+    rest == key
+}
+
+/// What a command of kitty is, of which this comes after what opens it, where this image is
+/// unfinished.
 /// Parts of it come in more commands, up to one that says no more follow.
 pub(crate) fn image_command(
     alloc: Global,
@@ -88,7 +154,7 @@ pub(crate) fn image_command(
     match (KittyImage::parse_apc(alloc, text)?, before) {
         (Some(KittyImage::TransmitDataAndDisplay { transmit, .. }), _) => {
             let Some(image) = begun(alloc, &transmit) else {
-                return Ok(Command::Other);
+                return Ok(Command::Lost(Loss::Other));
             };
             take_part(alloc, unfinished, limit, image, &transmit)
         }
@@ -121,13 +187,13 @@ fn take_part(
     transmit: &KittyImageTransmit,
 ) -> Result<Command, AllocError> {
     let KittyImageData::Direct(text) = &transmit.content else {
-        return Ok(Command::Other);
+        return Ok(Command::Lost(Loss::Other));
     };
     let Some(bytes) = read_base64(alloc, text.as_str().as_bytes())? else {
-        return Ok(Command::Other);
+        return Ok(Command::Lost(Loss::Other));
     };
     if limit.saturating_sub(image.bytes.len()) < bytes.len() {
-        return Ok(Command::Other);
+        return Ok(Command::Lost(Loss::Large));
     }
     fallible_alloc::extend(&mut image.bytes, &bytes)?;
     if transmit.more_data_follows {
@@ -152,7 +218,7 @@ fn finished(alloc: Global, image: Unfinished) -> Result<Command, AllocError> {
     };
     match png_of(alloc, width, height, is_opaque, &bytes)? {
         Some(png) => Ok(shown(Picture::unnamed(alloc, png))),
-        None => Ok(Command::Other),
+        None => Ok(Command::Lost(Loss::Other)),
     }
 }
 

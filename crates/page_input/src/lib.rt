@@ -1,24 +1,32 @@
 // SPDX-License-Identifier: MIT
 //! Readers that stand before a page of a log: of its first or last lines ([`Window`]), with links
-//! where addresses are in its text ([`Linking`]), group after group ([`Sections`]), and up to each
-//! image in it ([`Pictures`]).
+//! where addresses are in its text ([`Linking`]), group after group ([`Sections`]), up to each
+//! image in it ([`Pictures`]), and of the text of a recording ([`Casting`]).
 #![tactic(auto)]
 
 mod address;
+mod canvas;
 mod carried;
+mod casting;
+mod colors;
 mod commands;
+mod deflate;
+mod found;
+mod leads;
 mod linking;
 mod marks;
 mod picture;
 mod pictures;
 mod png;
 mod sections;
+mod sixels;
 mod titles;
 mod window;
 
+pub use casting::{Casting, Recorded};
 pub use linking::Linking;
 pub use marks::Mark;
 pub use picture::{Kind, MOST_PIXELS, Picture};
-pub use pictures::Pictures;
+pub use pictures::{LeftOut, Pictures};
 pub use sections::{MOST_DEPTH, Sections};
 pub use window::{Cut, Window};

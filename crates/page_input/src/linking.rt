@@ -2,20 +2,13 @@
 ghost use Rattle.std.specs.Prelude.{◌≤◌, length};
 
 use crate::address::{Place, address_run, first_address, is_address_byte};
+use crate::leads::{Lead, Sieve, lead_of};
+use esc_decode::Encoding;
 use esc_frame::{VTActor, VTParser};
 use esc_values::CsiParam;
-use memchr::memchr2;
 use std::alloc::{AllocError, Global};
 use std::io::{ErrorKind, Read};
 use std::{io, mem};
-
-const ESC: u8 = 0x1b;
-
-// The first byte of the controls of C1 in UTF-8.
-const LEAD: u8 = 0xc2;
-
-// What neither ends a sequence nor is a part of it, as a byte past ASCII.
-const DEL: u8 = 0x7f;
 
 // How many bytes are read at once.
 const BYTES: usize = 8192;
@@ -37,13 +30,13 @@ const LIMIT: usize = 4096;
 pub struct Linking<R> {
     inner: R,
     alloc: Global,
+    encoding: Encoding,
+    sieve: Sieve,
     framer: VTParser,
     links: Links,
     // the end of the text, which may be in an address, and the byte before it
     held: Vec<u8>,
     previous: u8,
-    // the byte before in a sequence or a string
-    follows: u8,
     // what was made, and how much of it was handed out
     made: Vec<u8>,
     at: usize,
@@ -51,16 +44,17 @@ pub struct Linking<R> {
 }
 
 impl<R: Read> Linking<R> {
-    /// A reader of what this one reads, from its beginning. Takes no memory.
-    pub fn new(alloc: Global, inner: R) -> Linking<R> {
+    /// A reader of what this one reads, in this encoding, from its beginning. Takes no memory.
+    pub fn new(alloc: Global, encoding: Encoding, inner: R) -> Linking<R> {
         Linking {
             inner,
             alloc,
+            encoding,
+            sieve: Sieve::new(encoding),
             framer: VTParser::with_limit(alloc, LIMIT),
             links: Links { is_on: false },
             held: Vec::new(alloc),
             previous: b' ',
-            follows: 0,
             made: Vec::new(alloc),
             at: 0,
             has_ended: false,
@@ -102,31 +96,26 @@ impl<R: Read> Linking<R> {
 
     // Takes text up to what may begin a sequence or a string, or that; how many bytes that are.
     fn take_text(&mut self, bytes: &[u8]) -> Result<usize, AllocError> {
-        match memchr2(ESC, LEAD, bytes) {
-            Some(0) => {
+        match lead_of(bytes, self.encoding) {
+            Lead::Control(_, _) | Lead::More => {
                 self.settle()?;
                 self.follow(bytes)
             }
-            Some(at) => {
-                self.take_run(bytes.get(..at).unwrap_or(bytes))?;
-                Ok(at)
-            }
-            None => {
-                self.take_run(bytes)?;
-                Ok(bytes.len())
+            Lead::Text(length) => {
+                let run = bytes.get(..length).unwrap_or(bytes);
+                self.sieve.pass(run);
+                self.take_run(run)?;
+                Ok(run.len())
             }
         }
     }
 
-    // Follows a segment to its end, as far as it is there; how many bytes that are. A byte past
-    // ASCII is text there, which ends no sequence, but for a control of C1 in UTF-8.
+    // Follows a segment to its end, as far as it is there; how many bytes that are.
     fn follow(&mut self, bytes: &[u8]) -> Result<usize, AllocError> {
         let mut n = 0usize;
         for byte in bytes {
             n = n.saturating_add(1);
-            let is_text = !byte.is_ascii() && *byte != LEAD && self.follows != LEAD;
-            let seen = if is_text { DEL } else { *byte };
-            self.follows = *byte;
+            let seen = self.sieve.take(*byte);
             if self.framer.parse(&[seen], &mut self.links).is_err() {
                 return Err(AllocError);
             }

@@ -1,10 +1,13 @@
 //! A log, up to each image in it.
 
 use crate::carried::Carried;
-use crate::commands::{Command, FILE, IMAGE, PROPRIETARY, Unfinished, file_command, image_command};
+use crate::commands::{
+    Command, Loss, PROPRIETARY, Unfinished, file_command, image_command, sixel_command,
+};
+use crate::found::{Found, Kind, found_in, shows};
 use crate::linking::copied;
 use crate::picture::Picture;
-use memchr::{memchr, memchr2};
+use esc_decode::Encoding;
 use std::alloc::{AllocError, Global};
 use std::io;
 use std::io::Read;
@@ -12,25 +15,35 @@ use std::io::Read;
 // How many bytes are read at once.
 const BYTES: usize = 8192;
 
-const ESC: u8 = 0x1b;
-
-const BEL: u8 = 0x07;
-
-// What bytes begin with.
+/// How many images of a stream are left out.
 #[derive(Clone, Copy)]
-enum Found {
-    // so many bytes of text
-    Text(usize),
-    // a file of iTerm2, with so many bytes before what ends it, and with that
-    File(usize, usize),
-    // an image of kitty, in the same way
-    Image(usize, usize),
-    // it is not known yet
-    More,
+pub struct LeftOut {
+    /// Those with more bytes than the limit.
+    pub large: u64,
+    /// Those that are no PNG, JPEG or GIF, and no pixels, or of too many pixels.
+    pub others: u64,
+}
+
+impl LeftOut {
+    /// None.
+    pub fn new() -> LeftOut {
+        LeftOut {
+            large: 0,
+            others: 0,
+        }
+    }
+
+    /// These, and those of another part of the stream.
+    pub fn and(self, more: LeftOut) -> LeftOut {
+        LeftOut {
+            large: self.large.saturating_add(more.large),
+            others: self.others.saturating_add(more.others),
+        }
+    }
 }
 
 /// Reads what another reader does, up to a command with an image: a file of iTerm2 that is shown,
-/// or an image of kitty that is transmitted and displayed, in one command or in more.
+/// an image of kitty that is transmitted and displayed, in one command or in more, or sixels.
 /// [`picture`](Pictures::picture) has it then, and what is read next comes after it, in the
 /// renditions that hold there.
 ///
@@ -40,6 +53,7 @@ enum Found {
 pub struct Pictures<R> {
     inner: R,
     alloc: Global,
+    encoding: Encoding,
     limit: usize,
     // what was read, and how much of it was handed out
     kept: Vec<u8>,
@@ -51,15 +65,17 @@ pub struct Pictures<R> {
     seen: usize,
     ready: Option<Picture>,
     unfinished: Option<Unfinished>,
+    left_out: LeftOut,
     carried: Carried,
 }
 
 impl<R: Read> Pictures<R> {
-    /// A reader of what this one reads, from its beginning. Takes no memory.
-    pub fn new(alloc: Global, limit: usize, inner: R) -> Pictures<R> {
+    /// A reader of what this one reads, in this encoding, from its beginning. Takes no memory.
+    pub fn new(alloc: Global, encoding: Encoding, limit: usize, inner: R) -> Pictures<R> {
         Pictures {
             inner,
             alloc,
+            encoding,
             limit,
             kept: Vec::new(alloc),
             at: 0,
@@ -68,7 +84,8 @@ impl<R: Read> Pictures<R> {
             seen: 0,
             ready: None,
             unfinished: None,
-            carried: Carried::new(alloc),
+            left_out: LeftOut::new(),
+            carried: Carried::new(alloc, encoding),
         }
     }
 
@@ -86,6 +103,11 @@ impl<R: Read> Pictures<R> {
     pub fn has_text(&mut self) -> io::Result<bool> {
         self.prepare()?;
         Ok(self.ready.is_none() && 0 < self.plain)
+    }
+
+    /// How many images were left out so far.
+    pub fn left_out(&self) -> LeftOut {
+        self.left_out
     }
 
     // What comes next begins with the renditions that hold.
@@ -115,67 +137,77 @@ impl<R: Read> Pictures<R> {
 
     // Looks at what comes next, and reads more where that is not known.
     fn look(&mut self) -> io::Result<()> {
-        match self.found() {
+        let (found, seen) = found_in(
+            self.rest(),
+            self.encoding,
+            self.limit,
+            self.seen,
+            self.has_ended,
+        );
+        self.seen = seen;
+        match found {
             Found::Text(length) => self.plain = length,
-            Found::File(length, whole) => {
-                let command = file_command(self.alloc, self.between(PROPRIETARY.len(), length))?;
-                self.take(command, whole);
+            Found::Large(kind, from, length) => {
+                if shows(kind, self.between(from, length), self.unfinished.is_some()) {
+                    self.lose(Loss::Large);
+                }
+                self.unfinished = None;
+                self.plain = length;
             }
-            Found::Image(length, whole) => {
-                let mut unfinished = self.unfinished.take();
-                let text = self.between(IMAGE.len() - 1, length);
-                let command = image_command(self.alloc, &mut unfinished, self.limit, text)?;
-                self.unfinished = unfinished;
-                self.take(command, whole);
+            Found::Command {
+                kind,
+                from,
+                to,
+                length,
+            } => {
+                let command = self.command(kind, from, to)?;
+                self.take(command, length);
             }
             Found::More => self.refill()?,
         }
         Ok(())
     }
 
+    // The command of this kind that lies from one place to another.
+    fn command(&mut self, kind: Kind, from: usize, to: usize) -> Result<Command, AllocError> {
+        match kind {
+            Kind::File => {
+                let start = from.saturating_add(PROPRIETARY.len());
+                file_command(self.alloc, self.between(start, to))
+            }
+            Kind::Image => {
+                let mut unfinished = self.unfinished.take();
+                let text = self.between(from, to);
+                let command = image_command(self.alloc, &mut unfinished, self.limit, text)?;
+                self.unfinished = unfinished;
+                Ok(command)
+            }
+            Kind::Sixels => sixel_command(self.alloc, self.between(from, to)),
+        }
+    }
+
     // Takes a command of this length.
     fn take(&mut self, command: Command, length: usize) {
-        self.seen = 0;
         match command {
             Command::Shows(picture) => {
                 self.ready = Some(picture);
                 self.at = self.at.saturating_add(length);
             }
             Command::Part => self.at = self.at.saturating_add(length),
+            Command::Lost(loss) => {
+                self.lose(loss);
+                self.plain = length;
+            }
             Command::Other => self.plain = length,
         }
     }
 
-    // What comes next begins with.
-    fn found(&mut self) -> Found {
-        let rest = self.rest();
-        match rest.first() {
-            None => return Found::More,
-            Some(byte) if *byte != ESC => {
-                return Found::Text(memchr(ESC, rest).unwrap_or(rest.len()));
-            }
-            Some(_) => {}
+    // Counts an image that is left out.
+    fn lose(&mut self, loss: Loss) {
+        match loss {
+            Loss::Large => self.left_out.large = self.left_out.large.saturating_add(1),
+            Loss::Other => self.left_out.others = self.left_out.others.saturating_add(1),
         }
-        if rest.starts_with(FILE) {
-            return self.ended(true);
-        }
-        if rest.starts_with(IMAGE) {
-            return self.ended(false);
-        }
-        if !self.has_ended && (FILE.starts_with(rest) || IMAGE.starts_with(rest)) {
-            return Found::More;
-        }
-        Found::Text(plain_length(rest))
-    }
-
-    // A command, where what ends it is there.
-    fn ended(&mut self, is_file: bool) -> Found {
-        let from = self.seen.max(1);
-        let limit = self.limit;
-        let has_ended = self.has_ended;
-        let (found, seen) = command_in(self.rest(), is_file, from, limit, has_ended);
-        self.seen = seen;
-        found
     }
 
     // What was read and not handed out.
@@ -223,51 +255,5 @@ impl<R: Read> Read for Pictures<R> {
         self.plain = self.plain.saturating_sub(count);
         self.at = self.at.saturating_add(count);
         Ok(count)
-    }
-}
-
-// How many bytes come before the next ESC but the first.
-fn plain_length(bytes: &[u8]) -> usize {
-    match memchr(ESC, bytes.get(1..).unwrap_or(b"")) {
-        Some(at) => at.saturating_add(1),
-        None => bytes.len(),
-    }
-}
-
-// What a command is that bytes begin with, whose end comes at this place or later, with so many
-// bytes before it at most; and the place before which its end is not, where it is not there yet.
-fn command_in(
-    bytes: &[u8],
-    is_file: bool,
-    from: usize,
-    limit: usize,
-    has_ended: bool,
-) -> (Found, usize) {
-    let at = end_of(bytes, is_file, from);
-    if limit < at {
-        return (Found::Text(at), 0);
-    }
-    match bytes.get(at..) {
-        Some([BEL, ..]) => (Found::File(at, at.saturating_add(1)), 0),
-        Some([_, b'\\', ..]) if is_file => (Found::File(at, at.saturating_add(2)), 0),
-        Some([_, b'\\', ..]) => (Found::Image(at, at.saturating_add(2)), 0),
-        Some([_, _, ..]) => (Found::Text(at), 0),
-        _ if has_ended => (Found::Text(at), 0),
-        _ => (Found::More, at),
-    }
-}
-
-// How many bytes of a command come before what ends it, which none of the first ones does.
-fn end_of(bytes: &[u8], is_file: bool, from: usize) -> usize {
-    let from = from.min(bytes.len());
-    let more = &bytes[from..];
-    let end = if is_file {
-        memchr2(ESC, BEL, more)
-    } else {
-        memchr(ESC, more)
-    };
-    match end {
-        Some(at) => from.saturating_add(at),
-        None => bytes.len(),
     }
 }

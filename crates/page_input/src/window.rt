@@ -5,6 +5,7 @@ ghost use Rattle.std.specs.Io.KnownBytes.{ReadConsumes};
 ghost use Rattle.page_input.specs.Lines.{feeds, first_lines, first_of, open_after, window_of};
 
 use crate::carried::Carried;
+use esc_decode::Encoding;
 use memchr::{memchr, memrchr};
 use std::alloc::{AllocError, Global};
 use std::io::{ErrorKind, Read};
@@ -90,8 +91,8 @@ pub struct Window<R> {
 }
 
 impl<R: Read> Window<R> {
-    /// A reader of these lines of what `inner` reads. Takes no memory.
-    pub fn new(alloc: Global, cut: Cut, inner: R) -> Window<R> {
+    /// A reader of these lines of what `inner` reads, in this encoding. Takes no memory.
+    pub fn new(alloc: Global, encoding: Encoding, cut: Cut, inner: R) -> Window<R> {
         Window {
             inner,
             alloc,
@@ -99,7 +100,7 @@ impl<R: Read> Window<R> {
             tail: cut.tail,
             before: Count::new(),
             after: Count::new(),
-            carried: Carried::new(alloc),
+            carried: Carried::new(alloc, encoding),
             kept: Vec::new(alloc),
             most: ROOM,
             at: 0,
@@ -119,6 +120,11 @@ impl<R: Read> Window<R> {
         if let Err(error) = self.begin(tail) {
             self.fault = Some(error.into());
         }
+    }
+
+    /// The other reader.
+    pub fn inner(&self) -> &R {
+        &self.inner
     }
 
     /// How many lines were left out before those that are read.

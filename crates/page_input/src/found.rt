@@ -1,0 +1,193 @@
+//! Where images are in a stream.
+
+use crate::commands::{FILE, header_length, shows_file, shows_image};
+use crate::leads::{ESC, Lead, lead_of, terminator_length};
+use esc_decode::Encoding;
+
+const BEL: u8 = 0x07;
+
+const CAN: u8 = 0x18;
+
+const SUB: u8 = 0x1a;
+
+// How many bytes the parameters of a device control string have at most, where it is an image.
+const MOST_HEADER: usize = 64;
+
+/// What a command may have: a file of iTerm2, an image of kitty, or sixels.
+#[derive(Clone, Copy, PartialEq, Eq)]
+pub(crate) enum Kind {
+    File,
+    Image,
+    Sixels,
+}
+
+/// What bytes begin with.
+#[derive(Clone, Copy)]
+pub(crate) enum Found {
+    /// So many bytes of text.
+    Text(usize),
+    /// A command of so many bytes, of which one place and another are after what opens it and
+    /// before what ends it.
+    Command {
+        kind: Kind,
+        from: usize,
+        to: usize,
+        length: usize,
+    },
+    /// A command that is larger than the limit, from this place on: so many bytes of it.
+    Large(Kind, usize, usize),
+    /// It is not known yet.
+    More,
+}
+
+// What comes after what opens a string.
+#[derive(Clone, Copy)]
+enum Begun {
+    // the beginning of a command of this kind
+    Command(Kind),
+    // something else
+    Other,
+    // it is not known yet
+    More,
+}
+
+/// What bytes of a stream in this encoding begin with, of which nothing may follow; and so many
+/// bytes of a command were looked through for its end then. Before these bytes it does not end.
+pub(crate) fn found_in(
+    bytes: &[u8],
+    encoding: Encoding,
+    limit: usize,
+    seen: usize,
+    has_ended: bool,
+) -> (Found, usize) {
+    let mut at = 0usize;
+    for _ in 0..=bytes.len() {
+        let rest = bytes.get(at..).unwrap_or(b"");
+        if rest.is_empty() {
+            break;
+        }
+        let (length, kind) = match lead_of(rest, encoding) {
+            Lead::Text(length) => (length, None),
+            Lead::Control(letter, length) => {
+                match begun_by(letter, rest.get(length..).unwrap_or(b"")) {
+                    Begun::Command(kind) => (length, Some(kind)),
+                    Begun::More if !has_ended => return (text_or(at, Found::More), 0),
+                    Begun::More | Begun::Other => (length, None),
+                }
+            }
+            Lead::More if !has_ended => return (text_or(at, Found::More), 0),
+            Lead::More => (rest.len(), None),
+        };
+        match kind {
+            Some(_) if 0 < at => return (Found::Text(at), 0),
+            Some(kind) => return command_in(bytes, kind, length, encoding, limit, seen, has_ended),
+            None => at = at.saturating_add(length.max(1)),
+        }
+    }
+    (text_or(bytes.len(), Found::More), 0)
+}
+
+// So many bytes of text, or where there are none, this.
+fn text_or(length: usize, other: Found) -> Found {
+    if length == 0 {
+        other
+    } else {
+        Found::Text(length)
+    }
+}
+
+// What comes after ESC and this letter.
+fn begun_by(letter: u8, text: &[u8]) -> Begun {
+    match letter {
+        b']' if text.starts_with(FILE) => Begun::Command(Kind::File),
+        b']' if FILE.starts_with(text) => Begun::More,
+        b'_' => match text.first() {
+            Some(b'G') => Begun::Command(Kind::Image),
+            Some(_) => Begun::Other,
+            None => Begun::More,
+        },
+        b'P' => {
+            let length = header_length(text);
+            match text.get(length) {
+                Some(b'q') if length <= MOST_HEADER => Begun::Command(Kind::Sixels),
+                None if length <= MOST_HEADER => Begun::More,
+                _ => Begun::Other,
+            }
+        }
+        _ => Begun::Other,
+    }
+}
+
+// A command of this kind, from this place on, where what ends it is there.
+fn command_in(
+    bytes: &[u8],
+    kind: Kind,
+    from: usize,
+    encoding: Encoding,
+    limit: usize,
+    seen: usize,
+    has_ended: bool,
+) -> (Found, usize) {
+    let to = end_of(bytes, kind, seen.max(from));
+    if limit < to {
+        return (Found::Large(kind, from, to), 0);
+    }
+    let rest = bytes.get(to..).unwrap_or(b"");
+    let end = end_length(rest, kind, encoding);
+    if 0 < end {
+        let length = to.saturating_add(end);
+        let found = Found::Command {
+            kind,
+            from,
+            to,
+            length,
+        };
+        return (found, 0);
+    }
+    let is_cut = rest.is_empty() || (rest.len() == 1 && terminator_length(rest, encoding) == 0);
+    let may_end = match rest.first() {
+        Some(byte) => *byte == ESC || 0x80 <= *byte,
+        None => true,
+    };
+    if is_cut && may_end && !has_ended {
+        (Found::More, to)
+    } else {
+        (Found::Text(to.max(1)), 0)
+    }
+}
+
+// How long what ends a command is, which comes first; or 0.
+fn end_length(bytes: &[u8], kind: Kind, encoding: Encoding) -> usize {
+    match bytes.first() {
+        Some(byte) if *byte == BEL && kind == Kind::File => 1,
+        _ => terminator_length(bytes, encoding),
+    }
+}
+
+// The first place, from this one on, of a byte that is no part of a command of this kind: of a
+// control or a byte past ASCII; sixels may have controls that break nothing off.
+fn end_of(bytes: &[u8], kind: Kind, from: usize) -> usize {
+    let from = from.min(bytes.len());
+    let mut at = from;
+    for byte in &bytes[from..] {
+        let is_part = match kind {
+            Kind::File | Kind::Image => b' ' <= *byte && *byte <= b'~',
+            Kind::Sixels => byte.is_ascii() && *byte != CAN && *byte != SUB && *byte != ESC,
+        };
+        if !is_part {
+            return at;
+        }
+        at = at.saturating_add(1);
+    }
+    at
+}
+
+/// Whether a command of this kind shows an image, of which this is the beginning, where an image of
+/// kitty is unfinished or not.
+pub(crate) fn shows(kind: Kind, text: &[u8], is_unfinished: bool) -> bool {
+    match kind {
+        Kind::File => shows_file(text),
+        Kind::Image => shows_image(text, is_unfinished),
+        Kind::Sixels => true,
+    }
+}
