@@ -1,5 +1,5 @@
 -- The names of control sequences that are left out, by a look at them.
-use Rattle.std.proofs.Common.{ℕ, ◌≡◌, ◌==◌, ◌||◌, Bool, true, false, if◌then◌else◌, List, [], ◌∷◌, map, IfOk, IfSome, Option, Some, None, Result, Ok, Err, refl, sym, ap, ◌∙◌, subst, append-nil}
+use Rattle.std.proofs.Common.{ℕ, ◌≡◌, ◌||◌, Bool, true, false, if◌then◌else◌, List, [], ◌∷◌, map, IfOk, IfSome, Option, Some, None, Result, Ok, Err, refl, sym, ap, ◌∙◌, subst, append-nil}
 use Rattle.std.specs.Global.{Global}
 use Rattle.std.specs.List.{list_any}
 use Rattle.esc_account.specs.Brief.{brief}
@@ -22,7 +22,7 @@ use Rattle.esc_segments.specs.Items.{IsItem, kind_of}
 use Rattle.esc_sequences.specs.Csis.{CsiValue, csi_of, unspecified}
 use Rattle.esc_values.specs.declared.csi_param.CsiParam.{CsiParam}
 use Rattle.escfilter.specs.Choices.{admits_choice}
-use Rattle.escfilter.specs.Names.{Title, kind_title, title_of, value_title}
+use Rattle.escfilter.specs.Names.{Title, kind_title, value_title}
 use Rattle.escfilter.specs.Rows.{IsLeftName, IsOutFirst, first_out, is_meant, title_by, title_or, writes}
 use Rattle.escfilter.specs.declared.name.Name.{Name}
 use Rattle.escfilter.specs.declared.named_groups.Choice.{Choice}

@@ -4,4 +4,3 @@ mod Failures
 pub mod Names
 pub mod Reported
 pub mod AtOnce
-pub mod Telling

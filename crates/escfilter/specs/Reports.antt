@@ -1,5 +1,5 @@
 -- What is told of a stream, by its account.
-use Rattle.std.specs.Prelude.{ℕ, ◌≡◌, ◌++◌, Bool, true, false, List, [], ◌∷◌, Option, Some, None}
+use Rattle.std.specs.Prelude.{ℕ, ◌≡◌, ◌++◌, Bool, true, false, List, [], ◌∷◌, Option, Some}
 use Rattle.std.specs.Global.{Global}
 use Rattle.std.specs.declared.io.traits.Read.{Ghosts as Reader}
 use Rattle.esc_account.specs.Ledgers.{IsCounted}
@@ -12,7 +12,6 @@ use Rattle.esc_normal.specs.Io.{Borrowed, Reads}
 use Rattle.esc_sanitize.specs.Audits.{IsAudited, Told, way_by}
 use Rattle.esc_sanitize.specs.Written.{passed_of}
 use Rattle.esc_sanitize.specs.declared.auditor.Auditor.{Auditor}
-use Rattle.esc_sanitize.specs.declared.options.FilterOptions.{FilterOptions}
 use Rattle.escfilter.specs.Choices.{admits_choice}
 use Rattle.escfilter.specs.Failures.{WasTold, has_failure}
 use Rattle.escfilter.specs.Fates.{IsComplete}

@@ -1,4 +1,4 @@
-use Rattle.std.proofs.Common.{IfSome, None, Option, Some}
+use Rattle.std.proofs.Common.{Some}
 use Rattle.escfilter.proofs.AtOnce.{sequence_named}
 use Rattle.escfilter.proofs.at_once.name_at_once.Goals as goal
 
