@@ -1,11 +1,11 @@
 -- The cells of a row that is painted.
-use Rattle.std.proofs.Common.{ℕ, zero, suc, ◌≡◌, ◌+◌, ◌-◌, ◌<◌, ◌≤◌, Bool, true, false, List, [], ◌∷◌, ◌++◌, length, map, replicate, get_or, Option, None, Some, if◌then◌else◌, refl, ap, sym, subst, ◌∙◌, append_assoc, length-append, arith}
-use Rattle.std.proofs.lemmas.Bool.{cases_Bool, true≢false}
+use Rattle.std.proofs.Common.{ℕ, zero, suc, ◌≡◌, ◌+◌, ◌-◌, ◌<◌, Bool, true, false, List, [], ◌∷◌, ◌++◌, length, map, replicate, get_or, Option, None, Some, if◌then◌else◌, refl, ap, sym, subst, ◌∙◌, append_assoc, arith}
+use Rattle.std.proofs.lemmas.Bool.{true≢false}
 use Rattle.std.proofs.lemmas.List.{get_or-append-add, length-replicate, length_push, map-append}
 use Rattle.esc_style.specs.Looks.{plain_look}
 use Rattle.esc_style.specs.declared.look.Look.{Look}
 use Rattle.esc_sgr.specs.Sgr.{same_look}
-use Rattle.esc_screen.specs.Cells.{blank, cell, drawn_cell, is_rest, is_rest_content, marked_content, more_marks, no_marks, start_of}
+use Rattle.esc_screen.specs.Cells.{blank, cell, drawn_cell, is_rest, marked_content, more_marks, no_marks, start_of}
 use Rattle.esc_screen.specs.Grids.{Grid, Size}
 use Rattle.esc_screen.specs.Halves.{GoOn}
 use Rattle.esc_screen.specs.Steps.{grid_by, grid_from}
@@ -17,9 +17,9 @@ use Rattle.esc_screen.specs.declared.step.Step.TheVariants as step
 use Rattle.esc_screen.proofs.Runs.{in_chunks}
 use Rattle.esc_terminal.specs.Looks.{erased_look}
 use Rattle.esc_terminal.specs.Steps.{print_step}
-use Rattle.esc_paint.specs.Pieces.{Piece, character, erase_right, look, piece_step, place}
+use Rattle.esc_paint.specs.Pieces.{Piece, character, erase_right, look, piece_step}
 use Rattle.esc_paint.specs.declared.pen.Pen.{Pen}
-use Rattle.esc_paint.specs.Painting.{blank_pieces, cells_pieces, drawn_pieces, content_pieces, looked, mark_pieces, marks_pieces, pen_blank, pen_by, pen_drawn, placed}
+use Rattle.esc_paint.specs.Painting.{blank_pieces, cells_pieces, drawn_pieces, content_pieces, looked, marks_pieces, pen_blank, pen_by, pen_drawn, placed}
 use Rattle.esc_paint.specs.Drawn.{AreDrawn, AreMarks, IsDrawn, IsMarked}
 use Rattle.esc_paint.proofs.Rows.{Has, begins_free, has_at, has_erased, has_mark, has_narrow, has_selected, has_wide}
 

@@ -1,18 +1,15 @@
 -- What the text of a piece means, and what that does to a terminal.
-use Rattle.std.proofs.Common.{ℕ, suc, ◌≡◌, ◌+◌, ◌-◌, ◌<◌, ◌≤◌, ◌^◌, ◌==◌, min, nat_le, nat_lt, Bool, true, false, if◌then◌else◌, List, [], ◌∷◌, ◌++◌, length, map, Some, refl, ap, sym, ◌∙◌, append_assoc, append-nil, arith, le-leb}
+use Rattle.std.proofs.Common.{ℕ, suc, ◌≡◌, ◌+◌, ◌-◌, ◌<◌, ◌^◌, ◌==◌, true, false, if◌then◌else◌, List, [], ◌∷◌, ◌++◌, map, Some, refl, ap, sym, ◌∙◌, append_assoc, append-nil, arith, le-leb}
 use Rattle.std.specs.Prelude.{pos}
-use Rattle.std.specs.Char.{encode_utf8}
 use Rattle.std.specs.Fmt.{decimal}
 use Rattle.std.specs.List.{list_all, prefix_len}
 use Rattle.std.proofs.lemmas.Bool.{and_parts, ne_eqb}
 use Rattle.std.proofs.lemmas.Bool.Decides.{nat_tests}
-use Rattle.std.proofs.lemmas.Fmt.{decimal_nonempty}
 use Rattle.std.proofs.lemmas.List.Folds.{list_all-append}
 use Rattle.control_functions.specs.declared.control_function.ControlFunction.TheVariants as control
 use Rattle.control_functions.specs.Functions.{function_of, rows_of, sequence_key}
 use Rattle.esc_values.specs.Clear.{is_clear}
 use Rattle.esc_values.specs.Params.{after_private_prefix, capped_at_i64, csi_params, drop_while, is_body_byte, is_csi_body, is_csi_parameter, is_digit, is_intermediate_byte, is_private_prefix}
-use Rattle.esc_values.specs.Scalars.{some_if}
 use Rattle.esc_values.specs.declared.csi_param.CsiParam.{CsiParam}
 use Rattle.esc_values.specs.declared.csi_param.CsiParam.TheVariants.{Integer, P}
 use Rattle.esc_frame.specs.Classes.{class_of, ends_csi}

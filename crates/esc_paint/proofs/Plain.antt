@@ -1,5 +1,5 @@
 -- The text of a screen that looks plain is read as what it is.
-use Rattle.std.proofs.Common.{ℕ, zero, suc, ◌≡◌, ◌+◌, ◌<◌, ◌≤◌, Bool, true, false, List, [], ◌∷◌, ◌++◌, length, get_or, Option, None, Some, if◌then◌else◌, refl, ap, sym, subst, ◌∙◌, arith}
+use Rattle.std.proofs.Common.{ℕ, zero, suc, ◌≡◌, ◌+◌, ◌<◌, ◌≤◌, Bool, true, false, List, [], ◌∷◌, ◌++◌, length, get_or, Option, None, Some, if◌then◌else◌, sym, subst, arith}
 use Rattle.esc_values.specs.Clear.{is_clear}
 use Rattle.esc_style.specs.Looks.{plain_look}
 use Rattle.esc_style.specs.declared.look.Look.{Look}
@@ -10,7 +10,7 @@ use Rattle.esc_screen.specs.declared.content.Content.{Content}
 use Rattle.esc_screen.specs.declared.content.Content.TheVariants as content
 use Rattle.esc_screen.specs.declared.marks.Marks.{Marks}
 use Rattle.esc_paint.specs.declared.pen.Pen.{Pen}
-use Rattle.esc_paint.specs.Pieces.{Piece, character, erase_right, place}
+use Rattle.esc_paint.specs.Pieces.{Piece, character, place}
 use Rattle.esc_paint.specs.Painting.{cells_pieces, content_pieces, cursor_pieces, drawn_pieces, is_waiting, marks_pieces, paint_pieces, pen_by, placed, row_again, row_pieces, rows_pieces}
 use Rattle.esc_paint.specs.Drawn.{AllDrawn, AreDrawn, AreMarks, IsDrawn, IsMarked}
 use Rattle.esc_paint.specs.Laws.{AllLookPlain, LookPlain}

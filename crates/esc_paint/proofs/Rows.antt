@@ -1,23 +1,21 @@
 -- What steps do to one row of a screen, where the others stay.
-use Rattle.std.proofs.Common.{ℕ, zero, suc, ◌≡◌, ◌+◌, ◌-◌, ◌<◌, ◌≤◌, min, nat_lt, Bool, true, false, not, ◌&&◌, ◌||◌, inl, inr, List, [], ◌∷◌, ◌++◌, length, take, drop, set, get_or, replicate, if◌then◌else◌, refl, ap, sym, subst, ◌∙◌, append_assoc, append-nil, length-append, arith}
-use Rattle.std.proofs.lemmas.Bool.{and_parts, cases_Bool, true≢false}
+use Rattle.std.proofs.Common.{ℕ, ◌≡◌, ◌+◌, ◌-◌, ◌<◌, ◌≤◌, min, nat_lt, Bool, true, false, not, ◌&&◌, ◌||◌, inl, inr, List, [], ◌∷◌, ◌++◌, length, take, drop, set, get_or, replicate, if◌then◌else◌, refl, ap, sym, subst, ◌∙◌, append_assoc, append-nil, length-append, arith}
+use Rattle.std.proofs.lemmas.Bool.{cases_Bool}
 use Rattle.std.proofs.lemmas.Bool.Decides.{nat_tests}
 use Rattle.std.proofs.lemmas.List.{drop-append-le, drop_all, get_or_at, get_or-append-add, get_or_past, length_push, set_at, take-append-le, take_all}
 use Rattle.esc_screen.specs.Cells.{blank, cell, cleared_cells, cut_row, drawn_cell, erased_cells, inserted_cells, is_rest, mark_at, marked_cell, marked_cells, no_marks, put, put_wide, start_of}
-use Rattle.esc_screen.specs.Changes.{cells_erased}
 use Rattle.esc_screen.specs.Cursors.{draws}
-use Rattle.esc_screen.specs.Grids.{Grid, Size, grid_at, in_row, next_line, row_of_cursor, settled_grid, with_cursor}
+use Rattle.esc_screen.specs.Grids.{Grid, Size, grid_at, in_row, next_line, settled_grid, with_cursor}
 use Rattle.esc_screen.specs.Lists.{in_part}
 use Rattle.esc_screen.specs.Motions.{row_by}
-use Rattle.esc_screen.specs.Printing.{column_before, grid_past, grid_with_room, has_before, has_room, is_direct, joined, mark_printed, printed_wide, wide_put, wrapped_grid, wrapped_past, wrapped_wide}
-use Rattle.esc_screen.specs.Steps.{grid_by, grid_from}
+use Rattle.esc_screen.specs.Printing.{column_before, grid_past, grid_with_room, has_before, has_room, is_direct, joined, printed_wide, wide_put, wrapped_grid, wrapped_wide}
+use Rattle.esc_screen.specs.Steps.{grid_by}
 use Rattle.esc_screen.specs.declared.cell.Cell.{Cell}
 use Rattle.esc_screen.specs.declared.content.Content.TheVariants as content
 use Rattle.esc_screen.specs.declared.change.Change.TheVariants as change
 use Rattle.esc_screen.specs.declared.cursor.Cursor.{Cursor}
 use Rattle.esc_screen.specs.declared.motion.Motion.TheVariants as motion
 use Rattle.esc_screen.specs.declared.setting.Setting.TheVariants as setting
-use Rattle.esc_screen.specs.declared.step.Step.{Step}
 use Rattle.esc_screen.specs.declared.step.Step.TheVariants as step
 use Rattle.esc_screen.proofs.Free.{cut_same}
 use Rattle.esc_screen.proofs.Runs.{not_wrapped, run_is}

@@ -1,17 +1,17 @@
 -- A screen that is painted: its rows, and its cursor.
 use Rattle.std.proofs.Common.{ℕ, zero, suc, ◌≡◌, ◌+◌, ◌-◌, ◌==◌, ◌<◌, ◌≤◌, min, nat_lt, Bool, true, false, not, ◌&&◌, List, [], ◌∷◌, ◌++◌, length, map, take, drop, replicate, get_or, if◌then◌else◌, refl, ap, sym, subst, ◌∙◌, append_assoc, append-nil, take-append-drop, arith}
-use Rattle.std.proofs.lemmas.Bool.{and_parts, cases_Bool, true≢false}
+use Rattle.std.proofs.lemmas.Bool.{true≢false}
 use Rattle.std.proofs.lemmas.Bool.Decides.{nat_tests}
-use Rattle.std.proofs.lemmas.List.{drop_all, drop_more, length-drop, length-map, length-replicate, length-take-le, length_push, map-append, take_all}
+use Rattle.std.proofs.lemmas.List.{drop_all, drop_more, length-drop, length-map, length-take-le, length_push, map-append, take_all}
 use Rattle.esc_style.specs.Looks.{plain_look}
 use Rattle.esc_style.specs.declared.look.Look.{Look}
 use Rattle.esc_sgr.specs.Sgr.{same_look}
-use Rattle.esc_screen.specs.Cells.{blank, blank_row, cell, cleared_cells, is_rest, is_rest_content}
-use Rattle.esc_screen.specs.Grids.{Grid, Size, grid_at, row_of_cursor}
+use Rattle.esc_screen.specs.Cells.{blank, blank_row, cleared_cells, is_rest, is_rest_content}
+use Rattle.esc_screen.specs.Grids.{Grid, Size, row_of_cursor}
 use Rattle.esc_screen.specs.Halves.{AreWhole, GoOn, IsWhole, is_wide, is_wide_content}
 use Rattle.esc_screen.specs.Lists.{in_part}
 use Rattle.esc_screen.specs.Sound.{AreWide, IsFull, IsOn}
-use Rattle.esc_screen.specs.Steps.{grid_by, grid_from}
+use Rattle.esc_screen.specs.Steps.{grid_by}
 use Rattle.esc_screen.specs.declared.cell.Cell.{Cell}
 use Rattle.esc_screen.specs.declared.content.Content.{Content}
 use Rattle.esc_screen.specs.declared.content.Content.TheVariants as content
@@ -20,11 +20,11 @@ use Rattle.esc_screen.specs.declared.motion.Motion.TheVariants as motion
 use Rattle.esc_screen.specs.declared.setting.Setting.TheVariants as setting
 use Rattle.esc_screen.specs.declared.step.Step.TheVariants as step
 use Rattle.esc_terminal.specs.Looks.{erased_look}
-use Rattle.esc_paint.specs.Pieces.{Piece, erase_all, erase_right, piece_step, place, soft_reset}
+use Rattle.esc_paint.specs.Pieces.{Piece, place}
 use Rattle.esc_paint.specs.declared.pen.Pen.{Pen}
 use Rattle.esc_paint.specs.Painting.{cursor_pieces, ends_drawn, first_pen, is_blank_content, is_waiting, paint_pieces, pen_by, row_again, row_pieces, rows_pieces}
 use Rattle.esc_paint.specs.Drawn.{AllDrawn, AreDrawn}
-use Rattle.esc_paint.proofs.Rows.{Draws, Has, IsPast, begins_free, has_at, has_erased, positioned}
+use Rattle.esc_paint.proofs.Rows.{Draws, Has, begins_free, has_at, has_erased, positioned}
 use Rattle.esc_paint.proofs.Painted.{cells_painted, painted_cell, painted_cells, pen_after, run, run_two}
 
 -- ---- cells that are erased

@@ -1,14 +1,13 @@
 -- What paints a screen makes a terminal show it.
-use Rattle.std.proofs.Common.{ℕ, ◌≡◌, ◌<◌, ◌≤◌, true, List, [], ◌∷◌, ◌++◌, map, Option, Some, refl, ap, sym, subst, ◌∙◌, append-nil, arith}
+use Rattle.std.proofs.Common.{ℕ, ◌≡◌, ◌<◌, true, List, [], ◌∷◌, ◌++◌, map, Option, Some, refl, ap, sym, subst, ◌∙◌, append-nil, arith}
 use Rattle.esc_frame.specs.Segments.{joined_bytes}
-use Rattle.esc_frame.specs.Stream.{IsAfterFinished, IsAtGround}
+use Rattle.esc_frame.specs.Stream.{IsAfterFinished}
 use Rattle.esc_actions.specs.Meaning.{meaning_within, yield_within}
 use Rattle.esc_actions.specs.Readings.{MeansItsSegments}
 use Rattle.esc_actions.proofs.Meanings.{yield_whole}
 use Rattle.esc_sgr.specs.Sgr.{same_look}
 use Rattle.esc_style.specs.declared.look.Look.{Look}
 use Rattle.esc_screen.specs.Grids.{Size}
-use Rattle.esc_screen.specs.Sound.{IsSound}
 use Rattle.esc_screen.proofs.StaysSound.{begins_sound}
 use Rattle.esc_screen.specs.Steps.{grid_from}
 use Rattle.esc_screen.specs.declared.cell.Cell.{Cell}
@@ -16,15 +15,15 @@ use Rattle.esc_screen.specs.declared.content.Content.{Content}
 use Rattle.esc_screen.specs.declared.content.Content.TheVariants as content
 use Rattle.esc_terminal.specs.Laws.{GoesOn, IsAlwaysSound}
 use Rattle.esc_terminal.specs.Looks.{erased_look}
-use Rattle.esc_terminal.specs.Streams.{Shown, first_shown, shown_after, shown_of, values_of}
+use Rattle.esc_terminal.specs.Streams.{first_shown, shown_after, shown_of, values_of}
 use Rattle.esc_paint.specs.declared.pen.Pen.{Pen}
 use Rattle.esc_paint.specs.Pieces.{piece_step}
-use Rattle.esc_paint.specs.Painting.{first_pen, is_waiting, paint_pieces, painted, pen_by}
-use Rattle.esc_paint.specs.Laws.{IsPaintable, Paints, PaintsNew, PaintsOver, ShowsSame, contents_of}
+use Rattle.esc_paint.specs.Painting.{first_pen, paint_pieces, painted, pen_by}
+use Rattle.esc_paint.specs.Laws.{Paints, PaintsNew, PaintsOver, ShowsSame, contents_of}
 use Rattle.esc_paint.proofs.Painted.{painted_cell, painted_cells}
 use Rattle.esc_paint.proofs.Pieces.{all_read, all_shown, readings, text_is}
 use Rattle.esc_paint.proofs.Plain.{paint_fits}
-use Rattle.esc_paint.proofs.Screens.{Ends, painted_row, paints}
+use Rattle.esc_paint.proofs.Screens.{painted_row, paints}
 use Rattle.esc_paint.proofs.Texts.{all_values, texts_mean}
 
 -- ---- looks that are all plain

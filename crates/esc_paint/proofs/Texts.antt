@@ -1,5 +1,5 @@
 -- What texts mean that are segments, one after another.
-use Rattle.std.proofs.Common.{ℕ, ◌≡◌, ◌+◌, ◌<◌, ◌≤◌, nat_lt, Bool, true, false, not, if◌then◌else◌, List, [], ◌∷◌, ◌++◌, length, map, take, Option, inl, inr, refl, ap, sym, ◌∙◌, append-nil, arith}
+use Rattle.std.proofs.Common.{ℕ, ◌≡◌, ◌+◌, ◌≤◌, nat_lt, Bool, true, false, if◌then◌else◌, List, [], ◌∷◌, ◌++◌, length, map, take, Option, inl, inr, refl, ap, sym, ◌∙◌, append-nil, arith}
 use Rattle.std.specs.Char.{encode_utf8}
 use Rattle.std.specs.List.{list_all}
 use Rattle.std.proofs.lemmas.Bool.{and_parts}
@@ -14,7 +14,7 @@ use Rattle.esc_frame.specs.declared.classes.Class.{Class}
 use Rattle.esc_frame.specs.declared.classes.Class.TheVariants.{Intermediate, Parameter}
 use Rattle.esc_frame.specs.Bodies.{has_more_csi_params, kept_csi_params}
 use Rattle.esc_frame.specs.Classes.{AllOf, class_of, ends_csi, in_body, is_c0, without_noise}
-use Rattle.esc_frame.specs.Segments.{AreSegments, HasShape, IsCut, Segment, bytes_of, csi_event, csi_events, executes, is_finished, joined_bytes}
+use Rattle.esc_frame.specs.Segments.{AreSegments, HasShape, Segment, bytes_of, csi_event, csi_events, executes, is_finished, joined_bytes}
 use Rattle.esc_frame.specs.Segments.Opener.{Long}
 use Rattle.esc_frame.specs.Segments.Segment.{Character, Csi, Wide}
 use Rattle.esc_frame.proofs.Cut.WellFormedIsUtf8.{clear_cases, spells_clear}
