@@ -57,7 +57,7 @@ static uint32_t read_row(
     return status;
 }
 
-/* The calls that write a text or requests, of which no more is checked than where they write. */
+/* The calls that write a text or requests: this checks only where they write. */
 static uint32_t read_texts(struct escape_stream_screen *it) {
     size_t needed = 0, room = below(200);
     uint32_t status =

@@ -48,8 +48,8 @@ class Char(NamedTuple):
     """A cell of a screen: what stands in it, how it looks, and where it leads."""
 
     data: str
-    """The character and its marks, of which two are kept; a space where the cell is blank, and
-    nothing in the second cell of a character of two columns."""
+    """The character and at most two marks; a space where the cell is blank, and nothing in the
+    second cell of a character of two columns."""
     fg: str = "default"
     """Its colour: `default`, a name, or six hexadecimal digits of red, green and blue."""
     bg: str = "default"
@@ -153,8 +153,8 @@ class Screen:
     """
 
     def __init__(self, columns: int, lines: int, *, scrollback: int = 0) -> None:
-        """Begins a blank screen of so many columns and lines. Of the lines that are scrolled off
-        the top of the main screen the last `scrollback` are kept.
+        """Begins a blank screen of so many columns and lines. It keeps the last `scrollback` lines
+        that are scrolled off the top of the main screen.
 
         Raises ValueError if there are no columns or no lines, or more than 65,535.
         """
@@ -230,7 +230,7 @@ class Screen:
 
     @property
     def links(self) -> list[Link]:
-        """The links to which cells led, of which the first has the number 1."""
+        """The links of cells; the first has the number 1."""
         numbers = range(1, self._state().links + 1)
         link, link_id = _library.screen_link, _library.screen_link_id
         return [Link(self._text(link, at), self._text(link_id, at) or None) for at in numbers]
@@ -245,7 +245,7 @@ class Screen:
 
     @property
     def dirty(self) -> set[int]:
-        """The lines of which cells are changed since this was last asked; at first all."""
+        """The lines with cells that changed since the last look; at first all."""
         changed = (c_ubyte * self._lines)()
         self._do(_library.screen_changed, changed, self._lines)
         return {at for at in self._range if changed[at]}

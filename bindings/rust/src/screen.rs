@@ -21,7 +21,7 @@
 //! # Ok::<(), escape_stream::Error>(())
 //! ```
 //!
-//! What differs from `vt100`: a call that takes memory says when it is refused, so
+//! Differences from `vt100`: a call that takes memory says when it is refused, so
 //! [`Parser::new`] and [`Parser::process`] return a [`Result`]; the rows that were scrolled off are
 //! [`Parser::scrolled`], and no view of the screen moves over them; and which functions are
 //! followed: `docs/DIFFERENCES.md` of the repository has the last.
@@ -48,8 +48,8 @@ pub struct Parser {
 }
 
 impl Parser {
-    /// A blank screen of so many rows and columns, where 0 is as 1. Of the rows that are scrolled
-    /// off the top of the main screen the last `scrollback` are kept.
+    /// A blank screen of so many rows and columns, where 0 is as 1. It keeps the last `scrollback`
+    /// rows that are scrolled off the top of the main screen.
     ///
     /// # Errors
     ///
@@ -76,12 +76,12 @@ impl Parser {
         self.refresh()
     }
 
-    /// What a terminal shows now.
+    /// The screen as it is now.
     pub fn screen(&self) -> &Screen {
         &self.screen
     }
 
-    /// What the last chunk asked a terminal for, in order.
+    /// The requests of the last chunk to the terminal, in order.
     pub fn requests(&self) -> &[Request] {
         &self.requests
     }

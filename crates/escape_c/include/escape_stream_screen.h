@@ -11,8 +11,8 @@
  *
  * After any stream the cells, the text of a row, the title and the cursor are proved to be those of
  * the definition of crates/esc_terminal, which is in the terms of ECMA-48, of DEC's manual of the
- * VT510 and of xterm's "Control Sequences". Its page says which functions it follows. What is owed
- * at a call is at the head of escape_stream.h; `cells`, `requests` and `state` are as `out` there.
+ * VT510 and of xterm's "Control Sequences". Its page says which functions it follows. The head of
+ * escape_stream.h says what a caller owes; `cells`, `requests` and `state` are as `out` there.
  * The calls of one screen are made one after another, in whatever threads, as those of a filter.
  *
  * The statuses are those of escape_stream.h. After ESCAPE_STREAM_NO_MEMORY, which says that a
@@ -57,9 +57,9 @@ struct escape_stream_screen {
 #define ESCAPE_STREAM_SCREEN_INIT {false, NULL}
 
 /*
- * Begins a blank screen of so many columns and rows, where 0 is as 1. Of the rows that are scrolled
- * off the top of the main screen the last `scrollback` are kept. A screen that was begun before is
- * ended first. It takes memory for two screens, the main and the alternate one, and for the rows
+ * Begins a blank screen of so many columns and rows, where 0 is as 1. It keeps the last `scrollback`
+ * rows that are scrolled off the top of the main screen. A screen that was begun before is ended
+ * first. It takes memory for two screens, the main and the alternate one, and for the rows
  * that it keeps as they come.
  *
  * ESCAPE_STREAM_DONE or ESCAPE_STREAM_NO_MEMORY.
@@ -98,9 +98,8 @@ uint32_t escape_stream_screen_state_of(
     struct escape_stream_screen *screen, struct escape_stream_screen_state *state);
 
 /*
- * A colour is 0, the terminal's own; COLOR_PALETTE and an entry of the palette of 256, of which the
- * first 16 are those of SGR 30 to 37 and 90 to 97; or COLOR_DIRECT and red, green and blue, as
- * 0x2rrggbb.
+ * A colour is 0, the terminal's own; COLOR_PALETTE and an entry of the palette of 256, whose first
+ * 16 are those of SGR 30 to 37 and 90 to 97; or COLOR_DIRECT and red, green and blue, as 0x2rrggbb.
  */
 #define ESCAPE_STREAM_COLOR_PALETTE 0x1000000
 #define ESCAPE_STREAM_COLOR_DIRECT 0x2000000
@@ -115,7 +114,7 @@ uint32_t escape_stream_screen_state_of(
 
 /*
  * A cell: the character in it, how it looks, and where it leads. A character of two columns has two
- * cells, of which the second has a width of 0 and no character.
+ * cells, and the second has a width of 0 and no character.
  */
 struct escape_stream_cell {
     uint32_t character;       /* its code point, or 0 where the cell is blank */
@@ -149,7 +148,7 @@ uint32_t escape_stream_screen_cells(
     size_t *needed);
 
 /*
- * The same of a row that was scrolled off, of which the first that is kept is 0. Rows of the
+ * The same of a row that was scrolled off; the first that is kept is 0. Rows of the
  * alternate screen, and those that a part of the screen scrolls by itself below its top, are gone.
  */
 uint32_t escape_stream_screen_scrolled(
@@ -172,8 +171,8 @@ uint32_t escape_stream_screen_title(
     struct escape_stream_screen *screen, uint8_t *out, size_t capacity, size_t *needed);
 
 /*
- * Writes the address of a link (OSC 8), of which the first is 1, as much as fits, and its length: 0
- * where there is no such link. A link that came again has the same number.
+ * Writes the address of a link (OSC 8), as much as fits, and its length: 0 where there is no such
+ * link. Links are counted from 1, and one that came again has the same number.
  */
 uint32_t escape_stream_screen_link(
     struct escape_stream_screen *screen, size_t number, uint8_t *out, size_t capacity,
@@ -210,8 +209,8 @@ uint32_t escape_stream_screen_requests(
 
 /*
  * Writes for each row of the screen, as many as fit, 1 where its cells are not those that they were
- * at the last call that wrote that row's, and 0 elsewhere; at the first call 1. What is to be drawn
- * again is those rows, the cursor, and all if `reversed` changed. The first call takes memory for
+ * at the last call that wrote that row's, and 0 elsewhere; at the first call 1. A caller draws
+ * those rows and the cursor again, and all rows if `reversed` changed. The first call takes memory for
  * the cells of those rows.
  */
 uint32_t escape_stream_screen_changed(

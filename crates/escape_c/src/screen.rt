@@ -16,9 +16,9 @@ use esc_calls::screen_row::ScreenRow;
 use esc_calls::{DONE, NO_MEMORY, NOT_BEGUN, screen_chunks};
 use std::alloc::Global;
 
-/// Begins a blank screen of so many columns and rows, where 0 is as 1. Of the rows that are
-/// scrolled off, `most` are kept. A screen that was begun before is ended first. After `NO_MEMORY`
-/// it is not begun.
+/// Begins a blank screen of so many columns and rows, where 0 is as 1. It keeps the last `most`
+/// rows that are scrolled off. A screen that was begun before is ended first. After `NO_MEMORY` it
+/// is not begun.
 #[unsafe(no_mangle)]
 pub extern "C" fn escape_stream_screen_begin(
     alloc: Global,
@@ -89,7 +89,7 @@ pub extern "C" fn escape_stream_screen_cells(
     screen_chunks::screen_cells(alloc, screen, row, out, needed)
 }
 
-/// The same of a row that was scrolled off, of which the first that is kept is 0.
+/// The same of a row that was scrolled off; the first that is kept is 0.
 #[unsafe(no_mangle)]
 pub extern "C" fn escape_stream_screen_scrolled(
     alloc: Global,
@@ -157,8 +157,8 @@ pub extern "C" fn escape_stream_screen_requests(
     screen_chunks::screen_requests(alloc, screen, out, needed)
 }
 
-/// Writes the address of a link, of which the first is 1, as much of it as fits, and its length: 0
-/// where there is no such link.
+/// Writes the address of a link, as much of it as fits, and its length: 0 where there is no such
+/// link. Links are counted from 1.
 #[unsafe(no_mangle)]
 pub extern "C" fn escape_stream_screen_link(
     alloc: Global,

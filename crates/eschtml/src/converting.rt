@@ -65,7 +65,7 @@ impl<'a, W: Write, E: Write> Work for Converting<'a, W, E> {
 }
 
 impl<'a, W: Write, E: Write> Converting<'a, W, E> {
-    // What is read of a stream, where it is a recording.
+    // Whether a stream is a recording, and how it is read.
     fn recorded(&self) -> Recorded {
         Recorded {
             is_on: self.options.is_cast,

@@ -292,7 +292,7 @@ fn push_lost(text: &mut String, is_page: bool, lost: Lost) -> Result<(), AllocEr
     fallible_alloc::push_str(text, note_end(is_page))
 }
 
-/// What says that so many images of a kind were left out, in the same way.
+/// A note that so many images of a kind were left out, in the same way.
 pub fn left_out_note(
     alloc: Global,
     is_page: bool,
@@ -310,7 +310,7 @@ pub fn left_out_note(
     Ok(text)
 }
 
-// What is around such a note.
+// The tag before such a note.
 fn note_begin(is_page: bool) -> &'static str {
     if is_page {
         "<p class=\"es-note\"><span class=\"es-lost\">"

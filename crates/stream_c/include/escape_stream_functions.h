@@ -398,8 +398,8 @@ static inline uint32_t escape_stream_function_number(const struct escape_stream_
 }
 
 /*
- * What stands for a parameter that is left out, where no number does: nothing is said of it, or it
- * is the last line or the last column of the screen.
+ * A default that is no number: a parameter that is left out stands for nothing, or for the last
+ * line or the last column of the screen.
  */
 #define ESCAPE_STREAM_VALUE_NONE (-1)
 #define ESCAPE_STREAM_VALUE_LAST (-2)
@@ -575,8 +575,8 @@ static inline int64_t escape_stream_default_kind(uint32_t function, size_t index
 }
 
 /*
- * What stands for the parameter at `index`, counted from 0, of a function, where it is left out, by
- * the column Parameters of docs/FUNCTIONS.md: a number, or one of the two above.
+ * The default of the parameter at `index`, counted from 0, of a function, by the column Parameters
+ * of docs/FUNCTIONS.md: a number, or one of the two above.
  */
 static inline int64_t escape_stream_default(uint32_t function, size_t index)
 {
@@ -586,10 +586,10 @@ static inline int64_t escape_stream_default(uint32_t function, size_t index)
 }
 
 /*
- * The parameter at `index` of a control sequence, of which this is the function: the number that is
- * given, held at INT64_MAX, or escape_stream_default where it is left out. A count, a line, a
- * column and a page are counted from 1: terminals take a 0 for one that is left out, and so does
- * this call. escape_stream_parameter gives a parameter as it came, and its parts between colons.
+ * The parameter at `index` of a control sequence with this function: the number that is given, held
+ * at INT64_MAX, or escape_stream_default where it is left out. A count, a line, a column and a page
+ * are counted from 1: terminals take a 0 for one that is left out, and so does this call.
+ * escape_stream_parameter gives a parameter as it came, and its parts between colons.
  */
 static inline int64_t escape_stream_value(
     const struct escape_stream_event *event, uint32_t function, size_t index)

@@ -56,7 +56,7 @@ extern "C" {
     fn escape_stream_screen_end(screen: *mut Screen);
 }
 
-/// A screen. Its fields are the library's. What it points to is in use by it alone, since it is
+/// A screen. Its fields are the library's. It alone uses the memory that they point to, since it is
 /// never copied.
 #[repr(C)]
 #[derive(Debug)]
@@ -72,7 +72,7 @@ unsafe impl Send for Screen {}
 // SAFETY: no call takes a shared reference.
 unsafe impl Sync for Screen {}
 
-/// What is known of a screen, but for its cells.
+/// The state of a screen, but for its cells.
 #[repr(C)]
 #[derive(Clone, Copy, Debug, Default)]
 pub struct ScreenState {
@@ -117,7 +117,7 @@ pub struct RawCell {
     pub joined: bool,
 }
 
-/// What a stream asks a terminal for.
+/// A request of the stream to the terminal.
 #[repr(C)]
 #[derive(Clone, Copy, Debug, Default)]
 pub struct RawRequest {
@@ -161,7 +161,7 @@ impl Screen {
         )
     }
 
-    /// What is known of it, but for its cells.
+    /// Its state, but for its cells.
     pub fn state(&mut self) -> Result<ScreenState, Error> {
         let mut state = ScreenState::default();
         // SAFETY: as in `feed`. Clause `told` says which values `state` has after `DONE`.

@@ -15,8 +15,8 @@ pub enum Color {
     /// The terminal's own.
     #[default]
     Default,
-    /// An entry of the palette of 256 colours, of which the first 16 are those of SGR 30 to 37 and
-    /// 90 to 97.
+    /// An entry of the palette of 256 colours, whose first 16 are those of SGR 30 to 37 and 90 to
+    /// 97.
     Idx(u8),
     /// Red, green and blue.
     Rgb(u8, u8, u8),
@@ -53,7 +53,7 @@ pub enum Underline {
 }
 
 /// A cell of a screen: what stands in it, how it looks, and where it leads. A character of two
-/// columns has two cells, of which the second has no contents.
+/// columns has two cells, and the second has no contents.
 #[derive(Clone, Copy, Default, PartialEq, Eq)]
 pub struct Cell {
     text: [u8; 12],
@@ -84,8 +84,8 @@ impl Cell {
         }
     }
 
-    /// The character in it and the marks on it, of which two are kept; nothing where it is blank,
-    /// or the second cell of a character.
+    /// The character in it and at most two marks on it; nothing where it is blank, or the second
+    /// cell of a character.
     pub fn contents(&self) -> &str {
         let text = self.text.get(..usize::from(self.length));
         text.and_then(|text| core::str::from_utf8(text).ok())

@@ -1,17 +1,17 @@
 // SPDX-License-Identifier: MIT
-//! What a stream asks a terminal for.
+//! Requests of a stream to the terminal.
 use crate::Error;
 use crate::ffi::{self, RawRequest};
 use alloc::vec;
 use alloc::vec::Vec;
 
-/// What a stream asks a terminal for, which a real one answers.
+/// A request of the stream, which a real terminal answers.
 #[derive(Clone, Copy, Debug, PartialEq, Eq, Hash)]
 #[non_exhaustive]
 pub enum Request {
-    /// What it is, in its primary attributes: DA1, DECID.
+    /// For its primary attributes: DA1, DECID.
     PrimaryAttributes,
-    /// The same, in its secondary attributes: DA2.
+    /// For its secondary attributes: DA2.
     SecondaryAttributes,
     /// The same, in its tertiary attributes: DA3.
     TertiaryAttributes,
@@ -43,7 +43,7 @@ impl Request {
     }
 }
 
-/// What the last chunk asked for.
+/// The requests of the last chunk.
 pub(super) fn read(count: usize, raw: &mut ffi::Screen) -> Result<Vec<Request>, Error> {
     if count == 0 {
         return Ok(Vec::new());

@@ -1,5 +1,5 @@
 // SPDX-License-Identifier: MIT
-//! What a terminal shows.
+//! The screen of a terminal.
 use super::cell::{self, Cell};
 use crate::Error;
 use crate::ffi::{self, ScreenState};
@@ -16,7 +16,7 @@ pub struct Link {
     pub id: Option<String>,
 }
 
-/// What a terminal shows: its cells, its cursor, its title and its links.
+/// The screen of a terminal: its cells, its cursor, its title and its links.
 #[derive(Clone, Debug, Default)]
 pub struct Screen {
     pub(super) state: ScreenState,
