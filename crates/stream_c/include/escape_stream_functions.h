@@ -401,8 +401,7 @@ static inline uint32_t escape_stream_function_number(const struct escape_stream_
  * A default that is no number: a parameter that is left out stands for nothing, or for the last
  * line or the last column of the screen.
  */
-#define ESCAPE_STREAM_VALUE_NONE (-1)
-#define ESCAPE_STREAM_VALUE_LAST (-2)
+enum { ESCAPE_STREAM_VALUE_NONE = -1, ESCAPE_STREAM_VALUE_LAST = -2 };
 
 /* The same for the calls below: 1 for a count, a line, a column or a page. */
 static inline int64_t escape_stream_default_kind(uint32_t function, size_t index)
