@@ -179,7 +179,7 @@ static const uint32_t *note_marks(const uint32_t *word)
     return word + 1;
 }
 
-/* Where the strings of a call lie that are not in the buffer. */
+/* The strings of a call that are not in the buffer. */
 static const uint8_t *strings;
 
 /* Notes a string, which lies in the buffer, or among those that were kept. */

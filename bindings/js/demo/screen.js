@@ -103,7 +103,7 @@ export class Screen {
     return `${runs.join("")}\x1b[0m\x1b]8;;\x1b\\`;
   }
 
-  /* What begins the look of a cell, and its link. */
+  /* The sequences that begin the look of a cell and its link. */
   #look(view, at, isInverse) {
     const parameters = LOOKS.filter((sgr, i) => {
       const is = view.getUint8(at + 30 + i) !== 0;

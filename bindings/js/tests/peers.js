@@ -1,7 +1,7 @@
 // SPDX-License-Identifier: MIT
 // Prints of how many streams what others leave holds a control: of their patterns, as they are
-// remembered, and of Node's own function. What ansi_up and ansi-to-html write is HTML: here it is
-// the text in it. `node tests/peers.js`.
+// remembered, and of Node's own function. ansi_up and ansi-to-html write HTML: theirs are of the
+// text in it. `node tests/peers.js`.
 import { stripVTControlCharacters } from "node:util";
 import { strip } from "../index.js";
 import { streams } from "./rows.js";

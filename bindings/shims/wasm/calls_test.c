@@ -24,7 +24,7 @@ static void fail(int line, const char *what)
     exit(1);
 }
 
-/* What is exported. */
+/* The exported calls. */
 NUMBER host_take(NUMBER length);
 void host_give(NUMBER at);
 #define CHUNKS(name)                                                           \

@@ -6,7 +6,7 @@
 #include "escape_stream_screen.h"
 #include "exports.h"
 
-/* What JavaScript reads by its place. */
+/* JavaScript reads these by their places. */
 _Static_assert(sizeof(struct escape_stream_screen) == 16, "a screen");
 _Static_assert(sizeof(struct escape_stream_cell) == 40, "a cell");
 _Static_assert(offsetof(struct escape_stream_cell, foreground) == 12, "its first colour");
