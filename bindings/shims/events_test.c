@@ -50,19 +50,23 @@ static uint32_t some(uint32_t below)
     return (uint32_t)(state >> 33) % below;
 }
 
+/* The last part is a string that becomes three times as long. */
+#define TEN "\xe2\xe2\xe2\xe2\xe2\xe2\xe2\xe2\xe2\xe2"
 static const char *const parts[] = {
     "\x1b[", "\x1b]", "\x1bP", "\x1b_", "\x1b\\", "\a", "\xc2\x9b", ";", ":", "?", "0;title", "m",
     "1", "31", "99999999999999999999", "1073741823", "1073741824", "text", "\xe2\x82\xac", "\xff",
     "\n", "\r", "q#0;2;0;0;0~", "+q544e", "\x18", "\x1b(B", "\xf0\x9f\x98\x80", "a longer text ",
+    "\x1b]0;" TEN TEN TEN TEN TEN TEN TEN TEN "\a",
 };
+enum { PARTS = sizeof parts / sizeof *parts };
 
 /* A random stream, now and then of one part alone, and its length. */
-static size_t fill(uint8_t *bytes)
+static size_t fill(uint8_t *bytes, bool is_first)
 {
-    size_t length = 0, most = some(8) ? some(4000) : LONGEST - 64;
-    uint32_t only = some(4) ? 0 : 1 + some(sizeof parts / sizeof *parts);
+    size_t length = 0, most = some(8) && !is_first ? some(4000) : LONGEST - 128;
+    uint32_t only = is_first ? PARTS : some(4) ? 0 : 1 + some(PARTS);
     while (length < most) {
-        const char *part = parts[only ? only - 1 : some(sizeof parts / sizeof *parts)];
+        const char *part = parts[only ? only - 1 : some(PARTS)];
         memcpy(bytes + length, part, strlen(part));
         length += strlen(part);
     }
@@ -280,7 +284,7 @@ int main(void)
     static struct escape_stream_parser parser;
     static uint8_t stream[LONGEST];
     for (int i = 0; i < 600; i++) {
-        size_t length = fill(stream);
+        size_t length = fill(stream, i == 0);
         found.length = wanted.length = 0;
         escape_stream_begin(&events.parser);
         cut(stream, length, &events, 0);
