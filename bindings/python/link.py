@@ -15,11 +15,21 @@ from pathlib import Path
 
 ARCHIVE = "libescape_stream.a"
 HERE = Path(__file__).resolve().parent
-# Where the header lies: beside this file, in the repository, in a release. Else it is looked for
-# beside the folder with the archive.
+# Where the header lies, and events.c: beside this file, in the repository, in a release. Else they
+# are looked for beside the folder with the archive.
 HEADERS = [HERE, HERE / "../../crates/stream_c/include", HERE / "../../include"]
+EVENTS = [HERE, HERE / "../shims/python"]
 # Only the calls of the headers are seen from outside.
 EXPORTS = "{ global: escape_stream_*; local: *; };\n"
+
+
+def events_beside(folder: Path) -> Path:
+    """Returns the place of events.c."""
+    places = [it / "events.c" for it in (*EVENTS, folder / "../bindings/shims/python")]
+    for it in places:
+        if it.is_file():
+            return it
+    raise FileNotFoundError(f"events.c is in none of {', '.join(map(str, places))}")
 
 
 def link(folder: Path, made: Path, alone: bool = False) -> None:
@@ -35,7 +45,7 @@ def link(folder: Path, made: Path, alone: bool = False) -> None:
         words = [os.environ.get("CC") or "cc", "-shared", "-o", str(made)]
         words += [f"-Wl,--version-script={exports.name}", "-Wl,--gc-sections"]
         words += ["-nostdlib", "-s", "-Wl,--build-id=sha1"] if alone else ["-Wl,-z,defs"]
-        words += ["-std=c11", "-O2", "-fPIC", str(HERE / "events.c")]
+        words += ["-std=c11", "-O2", "-fPIC", str(events_beside(folder))]
         words += [f"-I{it}" for it in (*HEADERS, folder / "../include")]
         words += ["-Wl,--whole-archive", str(archive), "-Wl,--no-whole-archive"]
         subprocess.run(words, check=True)

@@ -1,7 +1,9 @@
 // SPDX-License-Identifier: MIT
 import { HtmlWriter, Parser, strip, toHtml } from "../index.js";
 import { Account } from "./account.js";
+import { Player } from "./player.js";
 import { streamOf } from "./recording.js";
+import { callsAt } from "./screen.js";
 
 const CHUNK = 262_144;
 // What a page begins with that is saved: nothing in it is loaded or run.
@@ -22,6 +24,9 @@ let run = 0;
 const rules = { createHTML: (html) => html };
 const policy = globalThis.trustedTypes?.createPolicy("escape-stream", rules);
 const trusted = (html) => (policy ? policy.createHTML(html) : html);
+// A page without the module of the screen shows a recording as the log of what it wrote.
+const calls = await callsAt(new URL("../screen.wasm", import.meta.url));
+const player = calls && new Player(calls, trusted);
 
 /* Appends lines of HTML, each an element of its own. */
 class Lines {
@@ -115,12 +120,14 @@ async function showChunks(bytes, name, mine) {
 
 async function show(file, name) {
   const mine = ++run;
-  const { bytes, isRecording } = streamOf(file);
+  const { bytes, recording } = streamOf(file);
+  player?.open(undefined);
   const account = await showChunks(bytes, name, mine);
   if (account === undefined) return;
   listRows(account.rows());
+  player?.open(recording);
   at("plain").checked = false;
-  const what = isRecording ? "a recording" : "a log";
+  const what = recording ? "a recording" : "a log";
   const [size, count] = [bytes.length, account.line].map((it) => it.toLocaleString("en"));
   say(`${name}: ${what} of ${size} bytes in ${count} lines`);
   document.documentElement.dataset.done = String(mine);

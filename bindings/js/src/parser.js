@@ -4,7 +4,7 @@ import { ActionTaker } from "./actions.js";
 import { CHUNK, Chunks, bytesOf, rooms, textOf } from "./chunks.js";
 import { Kept, calls, give, limitOf, memory, take } from "./wasm.js";
 
-// The kinds of events, as wasm/events.h lists them with what goes with each.
+// The kinds of events, as shims/wasm/events.h lists them with what goes with each.
 const TEXT = 1;
 const CONTROL = 3;
 const ESCAPE = 4;

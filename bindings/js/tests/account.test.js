@@ -48,7 +48,21 @@ test("recordings, and what is none", () => {
   assert.equal(text(`${head}\n${events}`), "a\x1b[1mc");
   assert.equal(text(head), "");
   for (const file of ["", "a log", "{", '{"version": 1}\n', '{"a": 1}\n[0, "o", "x"]\n']) {
-    assert.equal(streamOf(bytes(file)).isRecording, false);
+    assert.equal(streamOf(bytes(file)).recording, undefined);
     assert.equal(text(file), file);
+  }
+});
+
+test("the times and the size of a recording", () => {
+  const of = (text) => streamOf(new TextEncoder().encode(text)).recording;
+  const two = of('{"version": 2, "width": 80, "height": 24}\n[0.5, "o", "a"]\n[9, "o", "b"]\n');
+  assert.deepEqual(two.size, { columns: 80, rows: 24 });
+  assert.deepEqual(two.outputs, [{ time: 0.5, text: "a" }, { time: 2.5, text: "b" }]);
+  const events = '[0.5, "o", "a"]\n[1, "i", "x"]\n[1, "o", "b"]\n[-1, "o", "c"]\n["x", "o", "d"]\n';
+  const three = of(`{"version": 3, "term": {"cols": 9, "rows": 2}}\n${events}`);
+  assert.deepEqual(three.size, { columns: 9, rows: 2 });
+  assert.deepEqual(three.outputs.map((it) => it.time), [0.5, 2.5, 2.5, 2.5]);
+  for (const head of ['"width": 80', '"width": 0, "height": 1', '"width": 1001, "height": 9']) {
+    assert.equal(of(`{"version": 2, ${head}}\n`).size, undefined, head);
   }
 });

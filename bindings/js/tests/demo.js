@@ -1,7 +1,8 @@
 // SPDX-License-Identifier: MIT
-// Tries the demo in a headless Chromium: `node --experimental-websocket tests/demo.js [PICTURE]`.
+// Tries the demo in a headless Chromium, and the screen of a recording where screen.wasm is there:
+// `node --experimental-websocket tests/demo.js [PICTURE]`.
 import assert from "node:assert/strict";
-import { writeFileSync } from "node:fs";
+import { existsSync, writeFileSync } from "node:fs";
 import { fileURLToPath } from "node:url";
 import { browser, serve } from "./browser.js";
 
@@ -16,10 +17,18 @@ const ATTACK = Buffer.from(
 );
 const HEAD = '{"version": 2, "width": 80, "height": 24}';
 const CAST = Buffer.from(`${HEAD}\n[0.1, "o", "\\u001b[1mbold"]\n[0.2, "i", "x"]\n`);
+// A screen that is written again and again, by version 3, whose times are pauses.
+const PLAYED = Buffer.from(`{"version": 3, "term": {"cols": 10, "rows": 3}}
+[0.1, "o", "50%"]
+[0.1, "o", "\\rdone\\u001b]0;t\\u0007"]
+[0.1, "i", "x"]
+[0.1, "o", "\\u001b[2;3H\\u001b[1;38;5;1mred<b>\\u001b[m\\u001b]8;;https://a.org\\u0007a\\u001b]8;;\\u0007"]
+`);
 
 const top = fileURLToPath(new URL("..", import.meta.url));
 const server = await serve(top);
 const it = await browser();
+const hasScreen = existsSync(new URL("../screen.wasm", import.meta.url));
 let drops = 0;
 
 /* Drops a file on the page, and waits until it is shown. */
@@ -45,6 +54,35 @@ async function drop(name, bytes) {
   })`);
 }
 
+/* The screen as it stands. */
+const screen = () => it.run(`({
+  isHidden: document.getElementById("player").hidden,
+  text: document.getElementById("screen").textContent,
+  tags: [...new Set([...document.querySelectorAll("#screen *")].map((e) => e.tagName))].sort(),
+  bold: document.querySelector("#screen .es-bold")?.textContent,
+  time: document.getElementById("time").textContent,
+})`);
+
+/* Drops a recording, whose end is shown; goes back to a time, and plays it from there on. */
+async function tryScreen() {
+  await drop("played.cast", PLAYED);
+  const end = "done      \n  red<b>a \n          \n";
+  const found = await screen();
+  assert.deepEqual([found.isHidden, found.text, found.time], [false, end, "0.4 of 0.4 s"]);
+  assert.deepEqual(found.tags, ["A", "SPAN"]);
+  assert.equal(found.bold, "red<b>");
+  await it.run(`{
+    document.getElementById("at").value = "0.15";
+    document.getElementById("at").dispatchEvent(new Event("input"));
+  }`);
+  assert.equal((await screen()).text, "50%       \n          \n          \n");
+  await it.run('document.getElementById("play").click()');
+  await it.until(`document.getElementById("screen").textContent === ${JSON.stringify(end)}`);
+  await it.until('document.getElementById("play").textContent === "Play"');
+  await drop("attack.log", ATTACK);
+  assert.equal((await screen()).isHidden, true);
+}
+
 try {
   await it.open(`http://127.0.0.1:${server.port}/demo/index.html`);
   await it.until('document.documentElement.dataset.ready === "true"');
@@ -64,10 +102,12 @@ try {
   const recording = await drop("a.cast", CAST);
   assert.equal(recording.text, "bold");
   assert.match(recording.state, /a recording of 8 bytes/);
+  if (hasScreen) await tryScreen();
   const lines = "\x1b[90m1\x1b[0m line of a log\n".repeat(40_000);
   const long = await drop("long.log", Buffer.from(lines));
   assert.equal(long.lines, 40_000);
-  assert.deepEqual(it.said, []);
+  // (a browser notes that a file is not there)
+  assert.deepEqual(it.said.filter((text) => hasScreen || !text.includes("screen.wasm")), []);
   const [picture] = process.argv.slice(2);
   if (picture) {
     await drop("attack.log", ATTACK);

@@ -1,6 +1,7 @@
 // SPDX-License-Identifier: MIT
 // Prints of how many streams what others leave holds a control: of their patterns, as they are
-// remembered, and of Node's own function. `node tests/peers.js`.
+// remembered, and of Node's own function. ansi_up and ansi-to-html write HTML: theirs are of the
+// text in it. `node tests/peers.js`.
 import { stripVTControlCharacters } from "node:util";
 import { strip } from "../index.js";
 import { streams } from "./rows.js";
@@ -21,6 +22,16 @@ export const PEERS = {
     "g",
   ),
   "/\\x1b\\[[0-9;]*m/": /\x1b\[[0-9;]*m/g,
+  "ansi_up 6": new RegExp(
+    "\\x1b\\[[<-?]?[\\d;]*[ -/]?[@-~]|\\x1b\\[[ -~]*[\\0-\\x1f:]"
+      + "|\\x1b\\]8;[^\\x07\\x1b]*(?:\\x07|\\x1b\\\\)|\\x1b",
+    "g",
+  ),
+  "ansi-to-html 0.7": new RegExp(
+    "\\x08+|\\x1b\\[[012]?K|\\x1b\\[\\(B|\\x1b\\[(?:\\d+(?:;\\d+)*;?)?m|\\x1b\\[\\d?J"
+      + "|\\x1b\\[\\d{0,3};\\d{0,3}f|\\x1b\\[?[\\d;]{0,3}",
+    "g",
+  ),
 };
 
 // A control of C0 or C1, or DEL, but for tab, line feed and carriage return.

@@ -1,9 +1,16 @@
 /* SPDX-License-Identifier: MIT */
 /*
- * Tests events.c over random streams in random chunks: what it notes is what escape_stream_next
- * gives, event by event. Each chunk lies in a block of its own.
+ * Tests wasm/events.c, or if PYTHON is defined python/events.c, over random streams in random
+ * chunks: what it notes is what escape_stream_next gives, event by event. Each chunk lies in a
+ * block of its own.
  */
-#include "events.h"
+#ifdef PYTHON
+#include "python/events.c"
+#define events many
+#define next_events escape_stream_many_next
+#else
+#include "wasm/events.h"
+#endif
 
 #include <stdio.h>
 #include <stdlib.h>
@@ -43,19 +50,23 @@ static uint32_t some(uint32_t below)
     return (uint32_t)(state >> 33) % below;
 }
 
+/* The last part is a string that becomes three times as long. */
+#define TEN "\xe2\xe2\xe2\xe2\xe2\xe2\xe2\xe2\xe2\xe2"
 static const char *const parts[] = {
     "\x1b[", "\x1b]", "\x1bP", "\x1b_", "\x1b\\", "\a", "\xc2\x9b", ";", ":", "?", "0;title", "m",
     "1", "31", "99999999999999999999", "1073741823", "1073741824", "text", "\xe2\x82\xac", "\xff",
     "\n", "\r", "q#0;2;0;0;0~", "+q544e", "\x18", "\x1b(B", "\xf0\x9f\x98\x80", "a longer text ",
+    "\x1b]0;" TEN TEN TEN TEN TEN TEN TEN TEN "\a",
 };
+enum { PARTS = sizeof parts / sizeof *parts };
 
 /* A random stream, now and then of one part alone, and its length. */
-static size_t fill(uint8_t *bytes)
+static size_t fill(uint8_t *bytes, bool is_first)
 {
-    size_t length = 0, most = some(8) ? some(4000) : LONGEST - 64;
-    uint32_t only = some(4) ? 0 : 1 + some(sizeof parts / sizeof *parts);
+    size_t length = 0, most = some(8) && !is_first ? some(4000) : LONGEST - 128;
+    uint32_t only = is_first ? PARTS : some(4) ? 0 : 1 + some(PARTS);
     while (length < most) {
-        const char *part = parts[only ? only - 1 : some(sizeof parts / sizeof *parts)];
+        const char *part = parts[only ? only - 1 : some(PARTS)];
         memcpy(bytes + length, part, strlen(part));
         length += strlen(part);
     }
@@ -110,7 +121,7 @@ static void note_directly(struct escape_stream_parser *parser, const uint8_t *by
     }
 }
 
-/* How many bytes so many units of UTF-16 have in UTF-8. */
+/* How many bytes the characters of a run have, which is counted in characters or in UTF-16. */
 static size_t bytes_of(const uint8_t *text, uint32_t units)
 {
     size_t length = 0;
@@ -119,26 +130,48 @@ static size_t bytes_of(const uint8_t *text, uint32_t units)
                      : text[length] < 0xe0 ? 2
                      : text[length] < 0xf0 ? 3
                                            : 4;
-        check(units >= one / 4 + 1u, "a run ends within a character");
-        units -= (uint32_t)(one / 4 + 1);
+#ifdef PYTHON
+        uint32_t counted = 1;
+#else
+        uint32_t counted = one == 4 ? 2 : 1;
+#endif
+        check(units >= counted, "a run ends within a character");
+        units -= counted;
         length += one;
     }
     return length;
 }
 
-static const uint32_t *note_entries(const uint32_t *word)
+/* Notes an entry, and returns the next one. */
+static const uint32_t *note_entry(const uint32_t *word)
 {
-    for (uint32_t left = *word++; left > 0; left--) {
-        uint32_t entry = *word++;
-        if (entry & 0x80000000u) {
-            note_number(&found, entry & 0xff);
-        } else if (entry == 0x40000000u) {
-            note_number(&found, ~(word[0] | (uint64_t)word[1] << 32));
-            word += 2;
-        } else {
-            note_number(&found, ~(uint64_t)entry);
-        }
+    uint32_t entry = *word++;
+    if (entry & 0x80000000u) {
+        note_number(&found, entry & 0xff);
+    } else if (entry == 0x40000000u) {
+        note_number(&found, ~(word[0] | (uint64_t)word[1] << 32));
+        word += 2;
+    } else {
+        note_number(&found, ~(uint64_t)entry);
     }
+    return word;
+}
+
+/* Notes the final byte and the entries of a control sequence, and returns what follows. */
+static const uint32_t *note_sequence(const uint32_t *word)
+{
+#ifdef PYTHON
+    const uint32_t *end = word + 1 + word[0];
+    note_number(&found, word[1]);
+    for (word += 3; word < end;)
+        word = note_entry(word);
+    check(word == end, "a sequence has other words than it says");
+#else
+    uint32_t left = word[2];
+    note_number(&found, word[0]);
+    for (word += 3; left > 0; left--)
+        word = note_entry(word);
+#endif
     return word;
 }
 
@@ -150,8 +183,29 @@ static const uint32_t *note_marks(const uint32_t *word)
     return word + 1;
 }
 
+/* The strings of a call that are not in the buffer. */
+static const uint8_t *strings;
+
+/* Notes a string, which lies in the buffer, or among those that were kept. */
+static void note_string(size_t length, bool is_lent)
+{
+    note(&found, is_lent ? buffer + SIZE / 2 : strings, length);
+    if (!is_lent)
+        strings += length;
+}
+
+static bool is_lent(const struct events *it, const uint32_t *next)
+{
+#ifdef PYTHON
+    return it->is_lent && next == it->records + it->words;
+#else
+    return it && next;
+#endif
+}
+
 /* Notes the record at a place, and returns the next one. */
-static const uint32_t *note_record(const uint32_t *word, const uint8_t **text, const uint8_t *bytes)
+static const uint32_t *note_record(
+    const struct events *it, const uint32_t *word, const uint8_t **text, const uint8_t *bytes)
 {
     uint32_t kind = *word++;
     uint8_t byte;
@@ -171,15 +225,16 @@ static const uint32_t *note_record(const uint32_t *word, const uint8_t **text, c
         return word;
     }
     note_number(&found, kind);
-    if (kind == ESCAPE_STREAM_CONTROL || kind == ESCAPE_STREAM_ESCAPE ||
-        kind == ESCAPE_STREAM_CSI || kind == ESCAPE_STREAM_DCS)
+    if (kind == ESCAPE_STREAM_CSI)
+        return note_sequence(word);
+    if (kind == ESCAPE_STREAM_CONTROL || kind == ESCAPE_STREAM_ESCAPE || kind == ESCAPE_STREAM_DCS)
         note_number(&found, *word++);
     if (kind == ESCAPE_STREAM_ESCAPE || kind == ESCAPE_STREAM_DCS)
         word = note_marks(word);
-    if (kind == ESCAPE_STREAM_CSI)
-        word = note_entries(word + 1);
-    if (has_string(kind))
-        note(&found, buffer + SIZE / 2, *word++);
+    if (has_string(kind)) {
+        length = *word++;
+        note_string(length, is_lent(it, word));
+    }
     return word;
 }
 
@@ -190,8 +245,11 @@ static void note_batches(struct events *it, const uint8_t *bytes, size_t length)
         const uint8_t *text = it->text;
         next_events(it, buffer, SIZE, bytes, length);
         check(it->words <= WORDS && it->text_length <= TEXT, "too many events were noted");
+#ifdef PYTHON
+        strings = it->strings;
+#endif
         for (const uint32_t *word = it->records; word < it->records + it->words;)
-            word = note_record(word, &text, bytes);
+            word = note_record(it, word, &text, bytes);
         check(text == it->text + it->text_length, "text is left of the runs");
         bytes += it->taken;
         length -= it->taken;
@@ -226,7 +284,7 @@ int main(void)
     static struct escape_stream_parser parser;
     static uint8_t stream[LONGEST];
     for (int i = 0; i < 600; i++) {
-        size_t length = fill(stream);
+        size_t length = fill(stream, i == 0);
         found.length = wanted.length = 0;
         escape_stream_begin(&events.parser);
         cut(stream, length, &events, 0);

@@ -5,18 +5,8 @@
  */
 #include "escape_stream.h"
 #include "events.h"
+#include "exports.h"
 #include "heap.h"
-
-/*
- * The attribute export_name would want a table of functions of 64 bits, which engines of 2023 do
- * not read.
- */
-#define EXPORTED(name, type) \
-    __asm__(".functype host_" #name " " type "\n.export_name host_" #name ", " #name)
-
-#define NUMBER uint32_t
-#define AT(type, place) ((type *)(size_t)(place))
-#define BYTES(place) AT(uint8_t, place)
 
 /* What JavaScript reads and writes by its place. */
 _Static_assert(sizeof(struct escape_stream_filter_state) == 16, "a filter");
