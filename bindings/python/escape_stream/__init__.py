@@ -18,7 +18,7 @@ every stream. This package is not proved.
 """
 
 from escape_stream._actions import Action, DeviceControl, actions
-from escape_stream._commands import Command, CommandKind, command
+from escape_stream._commands import Command, CommandKind, command, prompt_value
 from escape_stream._devices import Sixel, SixelItem, SixelKind, TermcapQuery, sixel, termcap_query
 from escape_stream._events import (
     Apc,
@@ -133,6 +133,7 @@ __all__ = [
     "is_normal",
     "joined",
     "normal",
+    "prompt_value",
     "sixel",
     "termcap_query",
 ]
