@@ -35,7 +35,7 @@ from escape_stream._events import (
 )
 from escape_stream._fields import FieldName
 from escape_stream._filter import Filter
-from escape_stream._functions import Function, function
+from escape_stream._functions import Function, function, value
 from escape_stream._html import Page, html
 from escape_stream._images import Image, ImageKind, Medium, image
 from escape_stream._library import VERSION as __version__
@@ -136,4 +136,5 @@ __all__ = [
     "prompt_value",
     "sixel",
     "termcap_query",
+    "value",
 ]
