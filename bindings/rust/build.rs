@@ -11,8 +11,6 @@ const ARCHIVE: &str = "libescape_stream.a";
 
 fn main() {
     println!("cargo:rerun-if-env-changed=ESCAPE_STREAM_LIB");
-    // Only the manifest of ../rust-serde has this feature.
-    println!("cargo:rustc-check-cfg=cfg(feature, values(\"serde\"))");
     if !is_built_for(
         &variable("CARGO_CFG_TARGET_OS"),
         &variable("CARGO_CFG_TARGET_ARCH"),

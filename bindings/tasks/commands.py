@@ -1,11 +1,13 @@
 # SPDX-License-Identifier: MIT
 """Prints the commands of a recording, by the marks that shells put around prompts (OSC 133): each
-with its output and its status."""
+with its output and its status, None if the shell gave none. A shell that writes the line beside the
+prompt (`cmdline_url`) is believed."""
 
 import sys
+from urllib.parse import unquote_to_bytes
 
 import escape_stream
-from escape_stream import CommandKind, Control, FieldName, Osc, Parser, Text
+from escape_stream import CommandKind, Control, FieldName, Osc, Parser, Text, prompt_value
 
 
 def commands(chunks):
@@ -27,8 +29,11 @@ def commands(chunks):
                             place, line = "line", ""
                         case CommandKind.PROMPT_START_OF_OUTPUT:
                             place, output = "output", ""
+                            if url := prompt_value(text, "cmdline_url"):
+                                line = unquote_to_bytes(url).decode(errors="replace")
                         case CommandKind.PROMPT_COMMAND_STATUS:
-                            yield line.strip(), output, mark.get(FieldName.STATUS)
+                            status = mark.get(FieldName.STATUS) if prompt_value(text, "") else None
+                            yield line.strip(), output, status
                             place = None
 
 

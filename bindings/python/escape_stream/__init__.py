@@ -18,7 +18,7 @@ every stream. This package is not proved.
 """
 
 from escape_stream._actions import Action, DeviceControl, actions
-from escape_stream._commands import Command, CommandKind, command
+from escape_stream._commands import Command, CommandKind, command, prompt_value
 from escape_stream._devices import Sixel, SixelItem, SixelKind, TermcapQuery, sixel, termcap_query
 from escape_stream._events import (
     Apc,
@@ -35,7 +35,7 @@ from escape_stream._events import (
 )
 from escape_stream._fields import FieldName
 from escape_stream._filter import Filter
-from escape_stream._functions import Function, function
+from escape_stream._functions import Function, function, value
 from escape_stream._html import Page, html
 from escape_stream._images import Image, ImageKind, Medium, image
 from escape_stream._library import VERSION as __version__
@@ -133,6 +133,8 @@ __all__ = [
     "is_normal",
     "joined",
     "normal",
+    "prompt_value",
     "sixel",
     "termcap_query",
+    "value",
 ]

@@ -104,3 +104,25 @@ def command(text: _library.Bytes) -> Command:
     """
     kind, fields = read(_library.read_osc, _library.RawOsc(), text, _BYTES)
     return Command(CommandKind(kind), fields)
+
+
+def prompt_value(text: _library.Bytes, key: str) -> bytes | None:
+    """Returns the value of a key in the text of a prompt's mark, `133;..`, or None if it is not
+    given. So keys can be read that a `Command` has no field for, as `err` and kitty's
+    `cmdline_url`. The key `""` is the part without `=`, the status of `133;D;1`: None for `133;D`,
+    where a `Command` has 0. Of two parts of one key the later one counts.
+
+    >>> from escape_stream import prompt_value
+    >>> prompt_value(b"133;C;cmdline_url=ls%20-l", "cmdline_url")
+    b'ls%20-l'
+    >>> prompt_value(b"133;D;1", ""), prompt_value(b"133;D", "")
+    (b'1', None)
+    """
+    found = None
+    for part in _library.bytes_of(text).split(b";")[2:]:
+        name, equals, value = part.partition(b"=")
+        if equals and key and name == key.encode():
+            found = value
+        elif not equals and not key and part:
+            found = part
+    return found

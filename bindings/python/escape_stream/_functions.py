@@ -6,6 +6,7 @@ from dataclasses import dataclass
 
 from escape_stream import _library
 from escape_stream._events import Control, Csi, Escape
+from escape_stream._value_rows import FIRST, LAST, ROWS
 
 
 @dataclass(frozen=True, slots=True)
@@ -51,6 +52,25 @@ def function(event: Csi | Escape | Control) -> Function | None:
     if not found:
         return None
     return Function(row.name.decode(), row.phrase.decode(), row.changes_screen, row.is_answered)
+
+
+def value(event: Csi, index: int) -> int | None:
+    """Returns the parameter of this index, counted from 0, or its default where it is left out, by
+    the function of the sequence: None if nothing stands for it, or the last line or column of the
+    screen. A count, a line, a column and a page are counted from 1: terminals take a 0 for one that
+    is left out, and so does this.
+
+    >>> from escape_stream import Csi, value
+    >>> value(Csi("", ((2,), (None,)), "", "H"), 0), value(Csi("", ((2,), (None,)), "", "H"), 1)
+    (2, 1)
+    """
+    it = function(event)
+    values, repeats = ROWS.get(it.name if it else "", ((None,), True))
+    default = values[min(index, len(values) - 1)] if repeats or index < len(values) else None
+    number = event.number(index, -1)
+    if number > 0 or number == 0 and default not in (FIRST, LAST):
+        return number
+    return {FIRST: 1, LAST: None}.get(default, default) if default is not None else None
 
 
 def _byte(mark: str) -> int:

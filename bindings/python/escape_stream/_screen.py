@@ -2,7 +2,7 @@
 """A terminal's screen, with the names of the package `pyte` where that has them."""
 
 import threading
-from collections.abc import Callable, Sequence
+from collections.abc import Callable, Iterable
 from ctypes import byref, c_size_t, c_ubyte
 from enum import IntEnum
 from types import TracebackType
@@ -298,7 +298,7 @@ class Screen:
         self._do(_library.screen_state, byref(state))
         return state
 
-    def _cells(self, call: Callable[..., int], at: int) -> Sequence[RawCell]:
+    def _cells(self, call: Callable[..., int], at: int) -> Iterable[RawCell]:
         cells = (RawCell * self._columns)()
         self._do(call, at, cells, self._columns, byref(c_size_t()))
         return cells

@@ -3,7 +3,7 @@
 
 import pytest
 
-from escape_stream import Command, CommandKind, FieldName, Osc, command, events
+from escape_stream import Command, CommandKind, FieldName, Osc, command, events, prompt_value
 
 COMMANDS = [
     (b"2;caf\xc3\xa9", CommandKind.SET_WINDOW_TITLE, [("TEXT", "café")]),
@@ -53,3 +53,31 @@ def test_an_event() -> None:
     (title,) = (it for it in events(b"a\x1b]2;b;c\x07") if isinstance(it, Osc))
     assert command(title.text).get(FieldName.TEXT) == "b;c"
     assert command(title.text).get(FieldName.URI) is None
+
+
+VALUES = [
+    ("133;C;cmdline_url=ls%20-l", "cmdline_url", "ls%20-l"),
+    ("133;C;cmdline_url=ls%20-l", "cmdline", None),
+    ("133;C;cmdline_url=ls%20-l", "", None),
+    ("133;A;redraw=0;click_events=1", "redraw", "0"),
+    ("133;A;redraw=0;click_events=1", "click_events", "1"),
+    ("133;A;redraw=0;click_events=1", "click_event", None),
+    ("133;D", "", None),
+    ("133;D;", "", None),
+    ("133;D;1", "", "1"),
+    ("133;D;0;err=CANCEL;aid=7", "", "0"),
+    ("133;D;0;err=CANCEL;aid=7", "err", "CANCEL"),
+    ("133;D;err=CANCEL", "", None),
+    ("133;D;1;err=", "err", ""),
+    ("133;D;1;err", "err", None),
+    ("133;D;aid=1;aid=a=b", "aid", "a=b"),
+    ("aid=1;aid=2", "aid", None),
+    ("133", "", None),
+    ("", "", None),
+]
+
+
+@pytest.mark.parametrize(("text", "key", "wanted"), VALUES)
+def test_keys_of_prompts(text: str, key: str, wanted: str | None) -> None:
+    value = prompt_value(text.encode(), key)
+    assert value == (None if wanted is None else wanted.encode())

@@ -5,7 +5,7 @@ import re
 
 from rows import TOP
 
-from escape_stream import Control, Csi, Escape, events, function
+from escape_stream import Control, Csi, Escape, events, function, value
 
 EFFECTS = {
     "screen": (True, False),
@@ -89,3 +89,31 @@ def test_controls() -> None:
         assert said is not None and said.name == name
     assert function(Control(0x84)) == function(Escape("", "D"))
     assert [function(Control(it)) for it in (0x61, 0xA0, 0xFF)] == [None] * 3
+
+
+# What a terminal takes for the first three parameters, by ECMA-48, DEC and xterm.
+VALUES = [
+    (b"\x1b[H", (1, 1, None)),
+    (b"\x1b[;5H", (1, 5, None)),
+    (b"\x1b[0;0H", (1, 1, None)),
+    (b"\x1b[0A", (1, None, None)),
+    (b"\x1b[7A", (7, None, None)),
+    (b"\x1b[J", (0, None, None)),
+    (b"\x1b[2J", (2, None, None)),
+    (b"\x1b[m", (0, 0, 0)),
+    (b"\x1b[1;;4m", (1, 0, 4)),
+    (b"\x1b[r", (1, None, None)),
+    (b"\x1b[3;0r", (3, None, None)),
+    (b"\x1b[3;20r", (3, 20, None)),
+    (b"\x1b[5 q", (5, None, None)),
+    (b"\x1b[?25h", (25, None, None)),
+    (b"\x1b[99999999999999999999A", (2**63 - 1, None, None)),
+    (b"\x1b[3;4~", (3, 4, None)),
+]
+
+
+def test_values() -> None:
+    for sequence, wanted in VALUES:
+        (event,) = events(sequence)
+        assert isinstance(event, Csi)
+        assert tuple(value(event, it) for it in range(3)) == wanted, sequence

@@ -103,7 +103,7 @@ pub use function_rows::{C0, ControlFunction, EscapeFunction};
 pub use normaliser::Normaliser;
 #[cfg(feature = "oneshot")]
 pub use oneshot::{Policy, filter, filter_into, is_normal, normal, normal_into};
-pub use parameters::{Parameters, dcs_numbers, osc_number, osc_parts};
+pub use parameters::{Parameters, dcs_numbers, osc_number, osc_parts, prompt_value};
 pub use parser::{Entry, Event, Parser};
 #[cfg(all(feature = "oneshot", feature = "std"))]
 pub use reader::{FilterReader, NormalReader};

@@ -123,3 +123,24 @@ pub fn osc_number(text: &[u8]) -> Option<u32> {
     };
     (!digits.is_empty()).then(|| digits.iter().try_fold(0, of_digits))?
 }
+
+/// The value of a key in the text of a prompt's mark, `133;..`, if it is given. So keys can be read
+/// that a command's value has no place for, as `err` and kitty's `cmdline_url`. The key `""` is the
+/// part without `=`, the status of `133;D;1`, which `133;D` has not; a `CommandStatus` has 0 there. Of
+/// two parts of one key the later one counts.
+///
+/// ```
+/// use escape_stream::prompt_value;
+///
+/// let value = prompt_value(b"133;C;cmdline_url=ls%20-l", "cmdline_url");
+/// assert_eq!(value, Some(&b"ls%20-l"[..]));
+/// assert_eq!(prompt_value(b"133;D;1", ""), Some(&b"1"[..]));
+/// assert_eq!(prompt_value(b"133;D", ""), None);
+/// ```
+pub fn prompt_value<'a>(text: &'a [u8], key: &str) -> Option<&'a [u8]> {
+    let value = |part: &'a [u8]| match part.iter().position(|byte| *byte == b'=') {
+        Some(at) => (!key.is_empty() && part[..at] == *key.as_bytes()).then(|| &part[at + 1..]),
+        None => (key.is_empty() && !part.is_empty()).then_some(part),
+    };
+    osc_parts(text).skip(2).filter_map(value).last()
+}

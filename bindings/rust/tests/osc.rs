@@ -175,3 +175,33 @@ fn texts_of_words() {
         );
     }
 }
+
+#[rustfmt::skip]
+const VALUES: [(&str, &str, Option<&str>); 18] = [
+    ("133;C;cmdline_url=ls%20-l", "cmdline_url", Some("ls%20-l")),
+    ("133;C;cmdline_url=ls%20-l", "cmdline", None),
+    ("133;C;cmdline_url=ls%20-l", "", None),
+    ("133;A;redraw=0;click_events=1", "redraw", Some("0")),
+    ("133;A;redraw=0;click_events=1", "click_events", Some("1")),
+    ("133;A;redraw=0;click_events=1", "click_event", None),
+    ("133;D", "", None),
+    ("133;D;", "", None),
+    ("133;D;1", "", Some("1")),
+    ("133;D;0;err=CANCEL;aid=7", "", Some("0")),
+    ("133;D;0;err=CANCEL;aid=7", "err", Some("CANCEL")),
+    ("133;D;err=CANCEL", "", None),
+    ("133;D;1;err=", "err", Some("")),
+    ("133;D;1;err", "err", None),
+    ("133;D;aid=1;aid=a=b", "aid", Some("a=b")),
+    ("aid=1;aid=2", "aid", None),
+    ("133", "", None),
+    ("", "", None),
+];
+
+#[test]
+fn keys_of_prompts() {
+    for (text, key, wanted) in VALUES {
+        let value = escape_stream::prompt_value(text.as_bytes(), key);
+        assert_eq!(value, wanted.map(str::as_bytes), "{text} {key}");
+    }
+}

@@ -3,7 +3,7 @@
 use escape_stream::html::ChunkPage;
 use escape_stream::{
     ChunkFilter, Error, Event, Filter, FilterReader, NormalReader, NormalWriter, Normaliser,
-    Parser, Policy, action, vte,
+    Parser, Policy, Sanitizer, SanitizerReader, SanitizerWriter, action, screen, termwiz, vte,
 };
 use std::fmt::Debug;
 use std::io::{self, ErrorKind, Write};
@@ -26,6 +26,11 @@ fn types() {
     is_free::<NormalWriter<Vec<u8>>>();
     is_free::<FilterReader<&'static [u8]>>();
     is_free::<NormalReader<&'static [u8]>>();
+    is_free::<Sanitizer>();
+    is_free::<SanitizerWriter<Vec<u8>>>();
+    is_free::<SanitizerReader<&'static [u8]>>();
+    is_free::<screen::Parser>();
+    is_free::<termwiz::escape::parser::Parser>();
     is_copied::<action::Parser>();
     is_copied::<vte::by_byte::Parser>();
 }

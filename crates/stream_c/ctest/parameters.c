@@ -71,12 +71,36 @@ static const struct end {
     {"a", 0},
 };
 
+/* The text of a prompt's mark, a key, and its value. */
+static const struct value {
+    const char *text, *key, *wanted;
+} VALUES[] = {
+    {"133;C;cmdline_url=ls%20-l", "cmdline_url", "ls%20-l"},
+    {"133;C;cmdline_url=ls%20-l", "cmdline", NULL},
+    {"133;C;cmdline_url=ls%20-l", "", NULL},
+    {"133;A;redraw=0;click_events=1", "redraw", "0"},
+    {"133;A;redraw=0;click_events=1", "click_events", "1"},
+    {"133;A;redraw=0;click_events=1", "click_event", NULL},
+    {"133;D", "", NULL},
+    {"133;D;", "", NULL},
+    {"133;D;1", "", "1"},
+    {"133;D;0;err=CANCEL;aid=7", "", "0"},
+    {"133;D;0;err=CANCEL;aid=7", "err", "CANCEL"},
+    {"133;D;err=CANCEL", "", NULL},
+    {"133;D;1;err=", "err", ""},
+    {"133;D;1;err", "err", NULL},
+    {"133;D;aid=1;aid=a=b", "aid", "a=b"},
+    {"aid=1;aid=2", "aid", NULL},
+    {"133", "", NULL},
+    {"", "", NULL},
+};
+
 static int status = 0;
 
 static void expect(bool is_so, const char *bytes)
 {
     if (!is_so) {
-        printf("what is said of ESC %s differs\n", bytes + 1);
+        printf("what is said of %s differs\n", bytes[0] == 0x1b ? bytes + 1 : bytes);
         status = 1;
     }
 }
@@ -147,6 +171,18 @@ int main(void)
         const uint8_t *bytes = (const uint8_t *)ENDS[i].bytes;
         uint8_t end = escape_stream_string_end(event, bytes, taken);
         expect(end == ENDS[i].wanted, ENDS[i].bytes);
+    }
+    for (size_t i = 0; i < sizeof VALUES / sizeof *VALUES; i++) {
+        const struct value *it = &VALUES[i];
+        const uint8_t *found;
+        size_t length = 0;
+
+        found = escape_stream_prompt_value(
+            (const uint8_t *)it->text, strlen(it->text), it->key, &length);
+        expect((found == NULL) == (it->wanted == NULL), it->text);
+        if (found != NULL && it->wanted != NULL)
+            expect(length == strlen(it->wanted) && memcmp(found, it->wanted, length) == 0,
+                   it->text);
     }
     return status;
 }

@@ -323,6 +323,39 @@ static inline uint8_t escape_stream_intermediate(
     return 0;
 }
 
+/*
+ * The value of a key in the text of a prompt's mark, `133;..`: a place in the text, of
+ * `*value_length` bytes, or NULL if the key is not given. So keys can be read for which
+ * escape_stream_read_osc has no field, as `err` and kitty's `cmdline_url`. The key "" is the part
+ * without `=`, the status of `133;D;1`: NULL for `133;D`, where escape_stream_read_osc has 0. Of two
+ * parts of one key the later one counts.
+ */
+static inline const uint8_t *escape_stream_prompt_value(
+    const uint8_t *text, size_t length, const char *key, size_t *value_length)
+{
+    const uint8_t *found = NULL;
+
+    for (size_t part = 0, start = 0; start <= length; part++) {
+        size_t end = start, equals = start, same = 0;
+
+        while (end < length && text[end] != ';')
+            end++;
+        while (equals < end && text[equals] != '=')
+            equals++;
+        while (key[same] != 0 && start + same < equals && text[start + same] == (uint8_t)key[same])
+            same++;
+        /* the parts before are the number and the letter */
+        if (part >= 2 && key[same] == 0 && equals == (same == 0 ? end : start + same) &&
+            (same == 0 ? end > start : equals < end)) {
+            size_t at = same == 0 ? start : equals + 1;
+            found = text + at;
+            *value_length = end - at;
+        }
+        start = end + 1;
+    }
+    return found;
+}
+
 #ifdef __cplusplus
 }
 #endif

@@ -37,3 +37,20 @@ fn what_is_written() {
     );
     assert!(serde_json::from_str::<Action>(r#"{"CSI":{"params":[{"Number":""}]}}"#).is_err());
 }
+
+// The crate `vte` over it is in the same program.
+#[test]
+fn beside_vte() {
+    #[derive(Default)]
+    struct Text(String);
+
+    impl vte::Perform for Text {
+        fn print(&mut self, c: char) {
+            self.0.push(c);
+        }
+    }
+
+    let mut text = Text::default();
+    vte::Parser::new().advance(&mut text, b"a\x1b[1mb");
+    assert_eq!(text.0, "ab");
+}

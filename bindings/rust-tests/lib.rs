@@ -1,0 +1,2 @@
+// SPDX-License-Identifier: MIT
+//! Nothing: the tests are those of the crate that this package depends on.
