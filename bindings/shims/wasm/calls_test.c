@@ -133,9 +133,10 @@ static void test_sanitizer(void)
     struct escape_stream_sanitizer_options init = ESCAPE_STREAM_SANITIZER_OPTIONS_INIT;
     struct escape_stream_account *account;
     NUMBER it = zeros(16), options = zeros(sizeof init), out = zeros(sizeof *account);
+    NUMBER at = text("a\x1b]0;t\ab\n");
     memcpy(AT(char, options), &init, sizeof init);
     CHECK(host_sanitizer_begin(it, options) == 0);
-    CHECK(host_sanitizer_feed(it, text("a\x1b]0;t\ab\n"), length) == 0);
+    CHECK(host_sanitizer_feed(it, at, length) == 0);
     CHECK(host_sanitizer_account(it, out) == 0);
     account = AT(struct escape_stream_account, out);
     CHECK(account->passed == 3 && account->left_out == 6 && account->length == 9);
@@ -190,7 +191,8 @@ static void test_events(void)
     CHECK(events->is_done && events->taken == 3 && !host_is_ground(it));
     CHECK(events->words == 2 && events->records[0] == ESCAPE_STREAM_TEXT);
     CHECK(is_text(it + (NUMBER)offsetof(struct events, text), events->text_length, "a"));
-    host_next(it, buffer, 128, text("1m"), length);
+    at = text("1m");
+    host_next(it, buffer, 128, at, length);
     CHECK(events->words == 5 && events->records[0] == ESCAPE_STREAM_CSI);
     CHECK(events->records[1] == 'm' && events->records[4] == 1);
 }
@@ -199,9 +201,10 @@ static void test_screen(void)
 {
     struct escape_stream_screen_state *state;
     NUMBER it = zeros(16), out = zeros(sizeof *state), cells;
+    NUMBER at = text("\x1b]8;;http://e\x1b\\\x1b[1mab\x1b[2;3Hc");
     struct escape_stream_cell *cell;
     CHECK(host_screen_begin(it, 4, 2) == 0);
-    CHECK(host_screen_feed(it, text("\x1b]8;;http://e\x1b\\\x1b[1mab\x1b[2;3Hc"), length) == 0);
+    CHECK(host_screen_feed(it, at, length) == 0);
     CHECK(host_screen_state(it, out) == 0);
     state = AT(struct escape_stream_screen_state, out);
     CHECK(state->columns == 4 && state->rows == 2 && state->cursor_row == 1);
