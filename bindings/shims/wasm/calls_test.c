@@ -137,12 +137,12 @@ static void test_sanitizer(void)
     memcpy(AT(char, options), &init, sizeof init);
     CHECK(host_sanitizer_begin(it, options) == 0);
     CHECK(host_sanitizer_feed(it, at, length) == 0);
+    at = zeros(16);
+    CHECK(is_text(at, host_sanitizer_text(it, 0, at, 16), "ab\n"));
+    CHECK(host_sanitizer_finish(it) == 0);
     CHECK(host_sanitizer_account(it, out) == 0);
     account = AT(struct escape_stream_account, out);
     CHECK(account->passed == 3 && account->left_out == 6 && account->length == 9);
-    out = zeros(16);
-    CHECK(is_text(out, host_sanitizer_text(it, 0, out, 16), "ab\n"));
-    CHECK(host_sanitizer_finish(it) == 0);
     host_sanitizer_end(it);
 }
 
@@ -176,7 +176,6 @@ static void test_reads(void)
     at = text("~-~");
     CHECK(host_read_sixel(zeros(8), 0, at, length, value, out, 8) == 0);
     CHECK(AT(struct escape_stream_sixel, value)->item_count == 3);
-    CHECK(AT(struct escape_stream_sixel, value)->height == 12);
     CHECK(AT(struct escape_stream_sixel_item, out)[1].kind == ESCAPE_STREAM_SIXEL_NEW_LINE);
 }
 
