@@ -110,7 +110,7 @@ def prompt_value(text: _library.Bytes, key: str) -> bytes | None:
     """Returns the value of a key in the text of a prompt's mark, `133;..`, or None if it is not
     given. So keys can be read that a `Command` has no field for, as `err` and kitty's
     `cmdline_url`. The key `""` is the part without `=`, the status of `133;D;1`: None for `133;D`,
-    where a `Command` has 0. Of two parts of one key the later one counts.
+    where a `Command` has 0. The later one of two parts with one key counts.
 
     >>> from escape_stream import prompt_value
     >>> prompt_value(b"133;C;cmdline_url=ls%20-l", "cmdline_url")

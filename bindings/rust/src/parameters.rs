@@ -126,8 +126,8 @@ pub fn osc_number(text: &[u8]) -> Option<u32> {
 
 /// The value of a key in the text of a prompt's mark, `133;..`, if it is given. So keys can be read
 /// that a command's value has no place for, as `err` and kitty's `cmdline_url`. The key `""` is the
-/// part without `=`, the status of `133;D;1`, which `133;D` has not; a `CommandStatus` has 0 there. Of
-/// two parts of one key the later one counts.
+/// part without `=`, the status of `133;D;1`, which `133;D` has not; a `CommandStatus` has 0 there.
+/// The later one of two parts with one key counts.
 ///
 /// ```
 /// use escape_stream::prompt_value;

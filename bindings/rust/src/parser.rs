@@ -11,6 +11,8 @@ use core::fmt;
 // The limit of a parser whose buffer grows, at first, and the bytes of U+FFFD.
 const FIRST_LIMIT: usize = 1 << 14;
 const MOST_ADDED: usize = 3;
+// So many bytes fit into a half that may grow, if none is kept there.
+const SURE: usize = FIRST_LIMIT / MOST_ADDED - MOST_ADDED;
 
 /// A parser of a stream that comes in chunks. It takes memory when it is made, and none after that,
 /// but for one that is [`growing`](Parser::growing).
@@ -347,10 +349,11 @@ impl Parser {
     // Takes bytes up to the next event, and returns how many.
     #[inline(always)]
     pub(crate) fn step(&mut self, bytes: &[u8]) -> usize {
-        if self.buffer.len() / 2 < self.limit {
-            self.step_growing(bytes)
-        } else {
+        let is_grown = self.buffer.len() / 2 >= self.limit;
+        if is_grown || bytes.len() <= SURE && self.raw.kept() == 0 {
             ffi::next(&mut self.raw, &mut self.buffer, bytes, &mut self.event)
+        } else {
+            self.step_growing(bytes)
         }
     }
 

@@ -207,23 +207,12 @@ impl<const OSC_RAW_BUF_SIZE: usize> Parser<OSC_RAW_BUF_SIZE> {
         let mut count = 0;
         while count < bytes.len() && !stops(performer) {
             let rest = &bytes[count..];
-            if self.comes_alone(rest) {
-                self.take_one(performer, rest[0]);
-                count += 1;
-                continue;
-            }
-            if self.held.is_some() {
-                self.take_held(performer);
-            }
-            let params = &mut self.params;
-            let taken = self
-                .stream
-                .advance_while(before_tail(rest), |event, taken| {
-                    call(params, performer, event, taken);
-                    !stops(performer)
-                });
-            self.held.clear(false);
-            let Ok(taken) = taken else {
+            let taken = if rest.len() > MOST_SHORT {
+                self.take_events(performer, rest, |it| !stops(it))
+            } else {
+                self.take_short(performer, rest)
+            };
+            let Some(taken) = taken else {
                 self.has_failed = true;
                 return bytes.len();
             };
@@ -232,25 +221,70 @@ impl<const OSC_RAW_BUF_SIZE: usize> Parser<OSC_RAW_BUF_SIZE> {
         count
     }
 
-    // Whether the first of these bytes comes by itself, or in a short chunk after bytes that are
-    // held, or at the beginning of bytes to hold.
+    // Takes bytes event by event while `goes_on` is true, or all, and says how many; nothing if the
+    // parser failed.
     #[inline]
-    fn comes_alone(&self, bytes: &[u8]) -> bool {
-        match *bytes {
-            [_] => true,
-            _ if bytes.len() > MOST_SHORT => false,
-            [ESCAPE, ..] if tail(bytes) == bytes.len() => {
-                self.held.is_some() || self.stream.place() == Place::Ground
-            }
-            _ => self.held.is_some(),
+    fn take_events<P: Perform>(
+        &mut self,
+        performer: &mut P,
+        bytes: &[u8],
+        goes_on: impl Fn(&P) -> bool,
+    ) -> Option<usize> {
+        if self.held.is_some() {
+            self.take_held(performer);
         }
+        let params = &mut self.params;
+        let taken = self.stream.advance_while(bytes, |event, taken| {
+            call(params, performer, event, taken);
+            goes_on(performer)
+        });
+        self.held.clear(self.stream.is_in_text());
+        taken.ok()
     }
 
-    // Takes such a byte. It costs less to hold those of a sequence than to have the
-    // parser take each.
+    // Takes some bytes of a short chunk: a run of characters or of data, a control, bytes to hold,
+    // or those of a sequence. A call of the parser costs more than so few bytes.
     #[inline]
-    fn take_one<P: Perform>(&mut self, performer: &mut P, byte: u8) {
-        match self.held.take(byte, || self.stream.place()) {
+    fn take_short<P: Perform>(&mut self, performer: &mut P, bytes: &[u8]) -> Option<usize> {
+        if let [byte] = *bytes {
+            let single = self.held.take(byte, || self.stream.place());
+            self.act(performer, byte, single);
+            return Some(1);
+        }
+        if self.held.is_open() {
+            let (count, single) = self.held.take_run(bytes);
+            self.act(performer, bytes[0], single);
+            return Some(count);
+        }
+        let place = self.stream.place();
+        let count = take_plain(performer, bytes, place);
+        if count > 0 {
+            return Some(count);
+        }
+        if let (Place::Ground, Some(sequence)) = (place, plain_sequence(bytes)) {
+            call_plain(&mut self.params, performer, sequence);
+            return Some(2 + sequence.len());
+        }
+        match *bytes {
+            [ESCAPE, ..] if place == Place::Ground && tail(bytes) == bytes.len() => {
+                self.held.begin(bytes);
+                return Some(bytes.len());
+            }
+            // The beginning of a character.
+            [first @ 0xc2..=0xf4, ..] if place == Place::Ground && bytes.len() < 4 => {
+                let single = self.held.take(first, || place);
+                self.act(performer, first, single);
+                return Some(1);
+            }
+            _ => {}
+        }
+        self.take_events(performer, before_tail(bytes), |_| false)
+    }
+
+    // Makes the call for a byte by itself, or those for the bytes that are held.
+    #[inline]
+    fn act<P: Perform>(&mut self, performer: &mut P, byte: u8, single: Single) {
+        match single {
             Single::Print(c) => performer.print(c),
             Single::Execute => performer.execute(byte),
             Single::Put => performer.put(byte),
@@ -263,6 +297,11 @@ impl<const OSC_RAW_BUF_SIZE: usize> Parser<OSC_RAW_BUF_SIZE> {
     #[inline(never)]
     fn take_held<P: Perform>(&mut self, performer: &mut P) {
         let params = &mut self.params;
+        if let Some(sequence) = plain_sequence(self.held.bytes()) {
+            call_plain(params, performer, sequence);
+            self.held.clear(false);
+            return;
+        }
         let taken = self
             .stream
             .advance_while(self.held.bytes(), |event, taken| {
@@ -274,12 +313,59 @@ impl<const OSC_RAW_BUF_SIZE: usize> Parser<OSC_RAW_BUF_SIZE> {
     }
 }
 
+// Takes a run of characters or a control at the beginning of bytes where nothing is unfinished, or
+// a run in the data of a device control string, and says how many bytes these are.
+#[inline]
+fn take_plain<P: Perform>(performer: &mut P, bytes: &[u8], place: Place) -> usize {
+    let run = bytes.iter().take_while(|it| matches!(it, 0x20..=0x7e));
+    match (place, bytes) {
+        (Place::Ground, [byte @ (0x00..=0x1a | 0x1c..=0x1f), ..]) => {
+            performer.execute(*byte);
+            1
+        }
+        (Place::Ground, [0xc2..=0xf4, ..]) => print_characters(performer, bytes),
+        (Place::Ground, _) => run.map(|it| performer.print(char::from(*it))).count(),
+        (Place::Data, _) => run.map(|it| performer.put(*it)).count(),
+        (Place::Inside, _) => 0,
+    }
+}
+
+// Prints the characters at the beginning of bytes, and says how many bytes they have.
+#[inline]
+fn print_characters<P: Perform>(performer: &mut P, bytes: &[u8]) -> usize {
+    let mut rest = bytes;
+    while let Some(c) = first_character(rest) {
+        performer.print(c);
+        rest = &rest[c.len_utf8()..];
+    }
+    bytes.len() - rest.len()
+}
+
+// The character at the beginning of bytes, if all of it is there and it is no control.
+#[inline]
+fn first_character(bytes: &[u8]) -> Option<char> {
+    let add = |number: u32, byte: u8| number << 6 | u32::from(byte & 0x3f);
+    let (least, number) = match *bytes {
+        [a @ 0x20..=0x7e, ..] => return Some(a.into()),
+        [a @ 0xc2..=0xdf, b @ 0x80..=0xbf, ..] => (0xa0, add(u32::from(a & 0x1f), b)),
+        [a @ 0xe0..=0xef, b @ 0x80..=0xbf, c @ 0x80..=0xbf, ..] => {
+            (0x800, add(add(u32::from(a & 0xf), b), c))
+        }
+        [
+            a @ 0xf0..=0xf4,
+            b @ 0x80..=0xbf,
+            c @ 0x80..=0xbf,
+            d @ 0x80..=0xbf,
+            ..,
+        ] => (0x10000, add(add(add(u32::from(a & 7), b), c), d)),
+        _ => return None,
+    };
+    char::from_u32(number).filter(|_| number >= least)
+}
+
 // The bytes of a short chunk before its tail, or all, where the tail is the chunk.
 #[inline]
 fn before_tail(bytes: &[u8]) -> &[u8] {
-    if bytes.len() > MOST_SHORT {
-        return bytes;
-    }
     match bytes.len() - tail(bytes) {
         0 => bytes,
         before => &bytes[..before],
@@ -348,6 +434,39 @@ fn print_all<P: Perform>(performer: &mut P, run: &str) {
     } else {
         run.chars().for_each(|c| performer.print(c));
     }
+}
+
+// The part of a control sequence after its opener, if it is at the beginning of bytes and has but a
+// prefix, numbers and separators.
+#[inline]
+fn plain_sequence(bytes: &[u8]) -> Option<&[u8]> {
+    let inner = bytes.strip_prefix(b"\x1b[")?;
+    let prefix = usize::from(matches!(inner, [0x3c..=0x3f, ..]));
+    let numbers = inner.get(prefix..)?.iter();
+    let last = prefix + numbers.take_while(|it| matches!(it, 0x30..=0x3b)).count();
+    matches!(inner.get(last), Some(0x40..=0x7e)).then(|| &inner[..=last])
+}
+
+// Such a sequence. To have the parser read so few bytes costs more than they do.
+#[inline]
+fn call_plain<P: Perform>(params: &mut Params, performer: &mut P, sequence: &[u8]) {
+    let is_prefix = |byte: &u8| matches!(byte, 0x3c..=0x3f);
+    let (prefix, rest) = sequence.split_at(sequence.iter().take_while(|it| is_prefix(it)).count());
+    let Some((last, numbers)) = rest.split_last() else {
+        return;
+    };
+    let (mut number, mut ignore) = (0, false);
+    params.clear();
+    for byte in numbers {
+        if let b';' | b':' = byte {
+            ignore |= !params.push(number, *byte == b':');
+            number = 0;
+        } else {
+            number = with_digit(number, byte);
+        }
+    }
+    ignore |= !params.push(number, false);
+    performer.csi_dispatch(params, prefix, ignore, char::from(*last));
 }
 
 // A control sequence. Its entries are a marker, numbers with separators, and intermediates.

@@ -90,11 +90,13 @@ fn calls_by_byte(stream: &[u8]) -> Vec<String> {
     log.calls
 }
 
-// Whole, byte by byte, in chunks of one byte, and cut once at each place.
+// Whole, byte by byte, in short chunks, and cut once at each place.
 fn check(stream: &[u8], told: &[&str]) {
     assert_eq!(calls([stream]), told, "{}", bytes(stream));
     assert_eq!(calls_by_byte(stream), told, "{}", bytes(stream));
-    assert_eq!(calls(stream.chunks(1)), told, "{}", bytes(stream));
+    for size in 1..=16 {
+        assert_eq!(calls(stream.chunks(size)), told, "{}", bytes(stream));
+    }
     for cut in 0..=stream.len() {
         let (front, back) = stream.split_at(cut);
         let cut = [front, back];
@@ -356,6 +358,13 @@ fn however_a_stream_is_cut() {
             parser.advance(&mut by_one, &[*byte]);
         }
         assert_eq!(by_one.calls, log.calls, "{shown} byte by byte");
+        let size = 2 + round % 31;
+        let mut by_few = Log::default();
+        let mut parser = Parser::with_limit(limit);
+        for chunk in stream.chunks(size) {
+            parser.advance(&mut by_few, chunk);
+        }
+        assert_eq!(by_few.calls, log.calls, "{shown} by {size}");
         let found = calls_by_chance(limit, &stream, &mut random);
         assert_eq!(found, log.calls, "{shown}");
     }

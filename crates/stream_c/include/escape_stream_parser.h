@@ -327,8 +327,8 @@ static inline uint8_t escape_stream_intermediate(
  * The value of a key in the text of a prompt's mark, `133;..`: a place in the text, of
  * `*value_length` bytes, or NULL if the key is not given. So keys can be read for which
  * escape_stream_read_osc has no field, as `err` and kitty's `cmdline_url`. The key "" is the part
- * without `=`, the status of `133;D;1`: NULL for `133;D`, where escape_stream_read_osc has 0. Of two
- * parts of one key the later one counts.
+ * without `=`, the status of `133;D;1`: NULL for `133;D`, where escape_stream_read_osc has 0. The
+ * later one of two parts with one key counts.
  */
 static inline const uint8_t *escape_stream_prompt_value(
     const uint8_t *text, size_t length, const char *key, size_t *value_length)

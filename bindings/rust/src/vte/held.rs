@@ -84,6 +84,44 @@ impl Held {
         }
     }
 
+    /// Takes the beginning of a sequence or of a string, where no byte is held and nothing is
+    /// unfinished.
+    #[inline]
+    pub fn begin(&mut self, bytes: &[u8]) {
+        for (place, byte) in self.bytes.iter_mut().zip(bytes) {
+            *place = *byte;
+        }
+        self.count = bytes.len().min(ROOM);
+        self.kind = match bytes.get(1) {
+            None => Kind::Escape,
+            Some(b'[') => Kind::Parameters,
+            Some(_) => Kind::Text,
+        };
+    }
+
+    /// Takes bytes after some that are held, up to the one that ends what they are, and says how
+    /// many.
+    #[inline]
+    pub fn take_run(&mut self, bytes: &[u8]) -> (usize, Single) {
+        let run = match self.kind {
+            Kind::Parameters => count_while(bytes, |byte| matches!(byte, 0x30..=0x3f)),
+            Kind::Text => count_while(bytes, |byte| matches!(byte, 0x20..=0x7e)),
+            _ => 0,
+        };
+        let room = self.bytes.get_mut(self.count..).unwrap_or_default();
+        let kept = run.min(room.len());
+        room[..kept].copy_from_slice(&bytes[..kept]);
+        self.count += kept;
+        match bytes.get(kept) {
+            _ if self.count == ROOM => (kept, Single::Due),
+            None => (kept, Single::Held),
+            Some(byte) => {
+                let is_due = !self.goes_on(*byte);
+                (kept + 1, self.keep(*byte, is_due))
+            }
+        }
+    }
+
     // Whether this byte makes no call after those that are held.
     #[inline]
     fn goes_on(&mut self, byte: u8) -> bool {
@@ -137,6 +175,12 @@ impl Held {
         self.count > 0
     }
 
+    /// Whether there are some, or the next ones may be held beside a text that the parser has.
+    #[inline]
+    pub fn is_open(&self) -> bool {
+        self.kind != Kind::Nothing
+    }
+
     /// The bytes.
     #[inline]
     pub fn bytes(&self) -> &[u8] {
@@ -154,6 +198,11 @@ impl Held {
             Kind::Nothing
         };
     }
+}
+
+#[inline]
+fn count_while(bytes: &[u8], is_so: impl Fn(u8) -> bool) -> usize {
+    bytes.iter().take_while(|byte| is_so(**byte)).count()
 }
 
 // What a byte begins that is neither a character by itself nor a control of C0. After some first
