@@ -8,7 +8,7 @@ use Rattle.esc_screen.specs.Cursors.{before_stop, landed_cursor, shown, stop_aft
 use Rattle.esc_screen.specs.Grids.{Grid, Size, blank_rows, first_grid, in_row, line_fed, line_fed_back, grid_at, next_line, settled_grid, with_cursor, with_margins, with_rows}
 use Rattle.esc_screen.specs.Printing.{before, column_before, has_before, has_room, joined, mark_printed, narrow_printed, grid_with_room, grid_past, grid_with_character, printed_wide, repeated_content, wide_printed, wrapped_grid, wrapped_wide}
 use Rattle.esc_screen.specs.Motions.{grid_by_motion, positioned_grid, row_by, row_down, row_up, tab_before}
-use Rattle.esc_screen.specs.Changes.{alignment_grid, cells_erased, grid_by_change, is_within}
+use Rattle.esc_screen.specs.Changes.{alignment_grid, cells_erased, columns_within, grid_by_change, is_within}
 use Rattle.esc_screen.specs.Settings.{alternate_cleared, exchanged_screens, grid_by_setting, saving, scrolling, to_alternate, to_main}
 use Rattle.esc_screen.specs.Steps.{grid_by}
 use Rattle.esc_screen.specs.Sound.{AreWide, BeginsSound, IsFull, IsOn, IsSound, StaysSound}
@@ -227,6 +227,11 @@ sound_aligned s g h =
     sound_moved s (with_margins 0 s.rows rs) 0 0 (with_scrolling s rs 0 s.rows k some all)
     some one
 
+sound_columns_within : (s : Size) (g : Grid) (more : Bool) (n c : ℕ) → IsSound s g
+    → IsSound s (columns_within s more n c g)
+sound_columns_within s g more n c h =
+    sound_if s (is_within g) _ _ (sound_columns s g more n c h) h
+
 sound_change : (s : Size) (g : Grid) (x : Change) → IsSound s g
     → IsSound s (grid_by_change s g x)
 sound_change s g change.Index h = sound_fed s g h
@@ -261,12 +266,18 @@ sound_change s g (change.DeleteRows n) h = sound_if s (is_within g) _ _
     (sound_up s (grid_at g.cursor.row 0 g) n g.cursor.row g.bottom (sound_start s g h)) h
 sound_change s g (change.ScrollUp n) h = sound_up s g n g.top g.bottom h
 sound_change s g (change.ScrollDown n) h = sound_down s g n g.top g.bottom h
-sound_change s g (change.ScrollLeft n) h = sound_columns s g false n 0 h
-sound_change s g (change.ScrollRight n) h = sound_columns s g true n 0 h
+sound_change s g (change.ScrollLeft n) h = sound_columns_within s g false n 0 h
+sound_change s g (change.ScrollRight n) h = sound_columns_within s g true n 0 h
 sound_change s g (change.InsertColumns n) h =
-    sound_if s (is_within g) _ _ (sound_columns s g true n g.cursor.column h) h
+    sound_columns_within s g true n g.cursor.column h
 sound_change s g (change.DeleteColumns n) h =
-    sound_if s (is_within g) _ _ (sound_columns s g false n g.cursor.column h) h
+    sound_columns_within s g false n g.cursor.column h
+sound_change s g change.BackIndex h =
+    sound_if s (g.cursor.column == 0) _ _ (sound_columns_within s g true 1 0 h)
+    (sound_motion s g (motion.Left 1) h)
+sound_change s g change.ForwardIndex h =
+    sound_if s (g.cursor.column + 1 == s.columns) _ _ (sound_columns_within s g false 1 0 h)
+    (sound_motion s g (motion.Right 1) h)
 sound_change s g change.Align h = sound_aligned s g h
 
 -- ---- settings

@@ -4,7 +4,7 @@ use Rattle.std.proofs.lemmas.Bool.{and_parts}
 use Rattle.std.proofs.lemmas.Bool.Decides.{nat_tests}
 use Rattle.esc_screen.specs.Lists.{in_part, moved_down, moved_up, times}
 use Rattle.esc_screen.specs.Cells.{blank, blank_row, cleared_cells, deleted_cells, drawn_cell, erased_cells, filled_cells, inserted_cells, is_rest, joined_at, marked_cells, put, put_wide, shifted_cells}
-use Rattle.esc_screen.specs.Changes.{alignment_grid, cells_erased, columns_moved, fed, grid_by_change, is_within}
+use Rattle.esc_screen.specs.Changes.{alignment_grid, cells_erased, columns_moved, columns_within, fed, grid_by_change, is_within}
 use Rattle.esc_screen.specs.Cursors.{shown}
 use Rattle.esc_screen.specs.Grids.{Grid, Size, in_row, line_fed, line_fed_back, grid_at, next_line, rows_down, rows_erased, rows_up, settled_grid, with_rows}
 use Rattle.esc_screen.specs.Halves.{AreWhole, BeginsWhole, HasWholeRows, IsWhole, StaysWhole, is_wide}
@@ -328,6 +328,11 @@ whole_columns s g more n c o within h =
     (rows_take k ys v))
     (rows_drop k ys v)))
 
+whole_columns_within : (s : Size) (g : Grid) (more : Bool) (n c : ℕ) → IsSound s g
+    → c ≤ s.columns → HasWholeRows g → HasWholeRows (columns_within s more n c g)
+whole_columns_within s g more n c o within h =
+    whole_if (is_within g) _ _ (whole_columns s g more n c o within h) h
+
 whole_aligned : (s : Size) (g : Grid) → HasWholeRows g → HasWholeRows (alignment_grid s g)
 whole_aligned s g h = record {
   rows = rows_filled (drawn_cell 0 0x45) g.rows refl refl;
@@ -379,15 +384,23 @@ whole_change s g (change.DeleteRows n) o h = whole_if (is_within g) _ _
 whole_change s g (change.ScrollUp n) o h = whole_up n g.top g.bottom g h
 whole_change s g (change.ScrollDown n) o h = whole_down n g.top g.bottom g h
 whole_change s g (change.ScrollLeft n) o h =
-    whole_columns s g false n 0 o (none_within s.columns) h
+    whole_columns_within s g false n 0 o (none_within s.columns) h
 whole_change s g (change.ScrollRight n) o h =
-    whole_columns s g true n 0 o (none_within s.columns) h
-whole_change s g (change.InsertColumns n) o h = whole_if (is_within g) _ _
-    (whole_columns s g true n g.cursor.column o
-    (below g.cursor.column s.columns o.cursor.column) h) h
-whole_change s g (change.DeleteColumns n) o h = whole_if (is_within g) _ _
-    (whole_columns s g false n g.cursor.column o
-    (below g.cursor.column s.columns o.cursor.column) h) h
+    whole_columns_within s g true n 0 o (none_within s.columns) h
+whole_change s g (change.InsertColumns n) o h =
+    whole_columns_within s g true n g.cursor.column o
+    (below g.cursor.column s.columns o.cursor.column) h
+whole_change s g (change.DeleteColumns n) o h =
+    whole_columns_within s g false n g.cursor.column o
+    (below g.cursor.column s.columns o.cursor.column) h
+whole_change s g change.BackIndex o h =
+    whole_if (g.cursor.column == 0) _ _
+    (whole_columns_within s g true 1 0 o (none_within s.columns) h)
+    (whole_motion s g (motion.Left 1) h)
+whole_change s g change.ForwardIndex o h =
+    whole_if (g.cursor.column + 1 == s.columns) _ _
+    (whole_columns_within s g false 1 0 o (none_within s.columns) h)
+    (whole_motion s g (motion.Right 1) h)
 whole_change s g change.Align o h = whole_aligned s g h
 
 -- ---- settings

@@ -1,9 +1,11 @@
 -- What changes cells, other than printing.
-use Rattle.std.specs.Prelude.{ℕ, ◌+◌, nat_lt, Bool, true, false, ◌||◌, if◌then◌else◌, map}
+use Rattle.std.specs.Prelude.{ℕ, ◌+◌, ◌==◌, nat_lt, Bool, true, false, ◌||◌, if◌then◌else◌, map}
 use Rattle.esc_screen.specs.Cells.{deleted_cells, drawn_cell, erased_cells, filled_cells, inserted_cells, shifted_cells}
 use Rattle.esc_screen.specs.Grids.{Grid, Size, in_row, in_rows, line_fed, line_fed_back, grid_at, next_line, rows_down, rows_erased, rows_up, settled_grid, with_margins, with_rows}
+use Rattle.esc_screen.specs.Motions.{grid_by_motion}
 use Rattle.esc_screen.specs.declared.change.Change.{Change}
 use Rattle.esc_screen.specs.declared.change.Change.TheVariants as change
+use Rattle.esc_screen.specs.declared.motion.Motion.TheVariants as motion
 
 -- changes of the row of the cursor: no wrap is pending after them
 abbrev pub cells_erased : ℕ → ℕ → Grid → Grid
@@ -37,9 +39,21 @@ abbrev pub columns_moved : Size → Bool → ℕ → ℕ → Grid → Grid
 columns_moved s more n c g =
     in_rows g.top g.bottom (map (shifted_cells more g.cursor.erased n c s.columns)) g
 
--- from the column of the cursor on, where it is within the margins
-abbrev pub columns_here : Size → Bool → ℕ → Grid → Grid
-columns_here s more n g = if is_within g then columns_moved s more n g.cursor.column g else g
+-- where the cursor is within the margins
+abbrev pub columns_within : Size → Bool → ℕ → ℕ → Grid → Grid
+columns_within s more n c g = if is_within g then columns_moved s more n c g else g
+
+-- a column back: in the first one, a blank one comes in there
+abbrev pub indexed_back : Size → Grid → Grid
+indexed_back s g = if g.cursor.column == 0
+    then columns_within s true 1 0 g
+    else grid_by_motion s g (motion.Left 1)
+
+-- a column on: in the last one, the first one goes
+abbrev pub indexed_on : Size → Grid → Grid
+indexed_on s g = if g.cursor.column + 1 == s.columns
+    then columns_within s false 1 0 g
+    else grid_by_motion s g (motion.Right 1)
 
 -- a picture of the letter E
 abbrev pub alignment_grid : Size → Grid → Grid
@@ -72,8 +86,10 @@ grid_by_change s g (change.InsertRows n) = rows_inserted n g
 grid_by_change s g (change.DeleteRows n) = rows_deleted n g
 grid_by_change s g (change.ScrollUp n) = rows_up n g.top g.bottom g
 grid_by_change s g (change.ScrollDown n) = rows_down n g.top g.bottom g
-grid_by_change s g (change.ScrollLeft n) = columns_moved s false n 0 g
-grid_by_change s g (change.ScrollRight n) = columns_moved s true n 0 g
-grid_by_change s g (change.InsertColumns n) = columns_here s true n g
-grid_by_change s g (change.DeleteColumns n) = columns_here s false n g
+grid_by_change s g (change.ScrollLeft n) = columns_within s false n 0 g
+grid_by_change s g (change.ScrollRight n) = columns_within s true n 0 g
+grid_by_change s g (change.InsertColumns n) = columns_within s true n g.cursor.column g
+grid_by_change s g (change.DeleteColumns n) = columns_within s false n g.cursor.column g
+grid_by_change s g change.BackIndex = indexed_back s g
+grid_by_change s g change.ForwardIndex = indexed_on s g
 grid_by_change s g change.Align = alignment_grid s g

@@ -53,9 +53,9 @@ landed_cursor columns wraps n c = if nat_lt n columns then record c { column = n
 abbrev pub draws : Cursor → Bool
 draws c = if c.shifted then c.g1_draws else c.g0_draws
 
--- the character of a table of those from 60 on, and any other as it is
+-- the character of a table of those from 5F on, and any other as it is
 abbrev pub character_in : List ℕ → ℕ → ℕ
-character_in t c = if nat_lt c 0x60 then c else get_or t (c - 0x60) c
+character_in t c = if nat_lt c 0x5f then c else get_or t (c - 0x5f) c
 
 -- a character of the set of line drawing
 abbrev pub line_drawing : ℕ → ℕ

@@ -41,14 +41,20 @@ pub enum Change {
     ScrollUp(u16),
     /// The rows within the margins move down by so many: SD.
     ScrollDown(u16),
-    /// The cells of the rows within the margins move so many columns back: SL.
+    /// The cells of the rows within the margins, where the cursor is within them, move so many
+    /// columns back: SL.
     ScrollLeft(u16),
-    /// The cells of the rows within the margins move so many columns on: SR.
+    /// The cells of the rows within the margins, where the cursor is within them, move so many
+    /// columns on: SR.
     ScrollRight(u16),
     /// So many blank columns are put in at the cursor, within the margins: DECIC.
     InsertColumns(u16),
     /// So many columns from the cursor on go, within the margins: DECDC.
     DeleteColumns(u16),
+    /// A column back; in the first one, a blank column is put in there, within the margins: DECBI.
+    BackIndex,
+    /// A column on; in the last one, the first column goes, within the margins: DECFI.
+    ForwardIndex,
     /// An `E` in every cell, no margins, and the cursor at home: DECALN.
     Align,
 }

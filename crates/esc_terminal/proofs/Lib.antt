@@ -1,3 +1,4 @@
+pub mod Once
 pub mod LinksKept
 pub mod Kept
 pub mod Runs

@@ -131,7 +131,7 @@ pub record Known : Type 0 where
 
 abbrev pub known_of : {A : Type 0} → Styles A → Known
 known_of p = record {
-  looks = p.looks.items;
+  looks = p.looks;
   links = map target p.links.items;
   linked = p.linked.items;
 }

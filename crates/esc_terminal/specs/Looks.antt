@@ -1,5 +1,5 @@
 -- The looks of a screen, which its cells have the numbers of.
-use Rattle.std.specs.Prelude.{ℕ, ◌+◌, ◌==◌, nat_lt, false, if◌then◌else◌, List, [], ◌∷◌, ◌++◌, length, get_or}
+use Rattle.std.specs.Prelude.{ℕ, ◌≡◌, ◌≤◌, ◌+◌, ◌==◌, nat_lt, false, if◌then◌else◌, List, [], ◌∷◌, ◌++◌, length, get_or}
 use Rattle.esc_sequences.specs.declared.underline.Underline.TheVariants as underline
 use Rattle.esc_style.specs.Looks.{plain_look}
 use Rattle.esc_style.specs.declared.color.Color.TheVariants as color
@@ -26,6 +26,16 @@ with_look l ks = if nat_lt (place_of l ks) most_looks
 -- its number: its place, or that of the plain one where there is no room for it
 abbrev pub number_in : Look → List Look → ℕ
 number_in l ks = if nat_lt (place_of l ks) most_looks then place_of l ks else 0
+
+-- none of these is this look
+abbrev pub IsNew : Look → List Look → Type 0
+IsNew k [] = 0 ≤ 0
+IsNew k (l ∷ ls) = (same_look k l ≡ false) × IsNew k ls
+
+-- each of these is there once
+abbrev pub IsOnce : List Look → Type 0
+IsOnce [] = 0 ≤ 0
+IsOnce (k ∷ ks) = IsNew k ks × IsOnce ks
 
 -- the look of a number
 abbrev pub look_at : ℕ → List Look → Look

@@ -189,6 +189,8 @@ escape_step escapes.NextLine = Edited change.NextLine
 escape_step escapes.HorizontalTabSet = Set setting.SetTab
 escape_step escapes.ReverseIndex = Edited change.ReverseIndex
 escape_step escapes.FullReset = Set setting.Reset
+escape_step escapes.DecBackIndex = Edited change.BackIndex
+escape_step escapes.DecForwardIndex = Edited change.ForwardIndex
 escape_step _ = Nothing
 
 -- SCS: of a set other than that of line drawing each character is itself

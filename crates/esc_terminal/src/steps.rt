@@ -238,6 +238,8 @@ pub fn escape_step(escape: Escape) -> Step
         Escape::HorizontalTabSet => Step::Set(Setting::SetTab),
         Escape::ReverseIndex => Step::Edit(Change::ReverseIndex),
         Escape::FullReset => Step::Set(Setting::Reset),
+        Escape::DecBackIndex => Step::Edit(Change::BackIndex),
+        Escape::DecForwardIndex => Step::Edit(Change::ForwardIndex),
         _ => Step::Nothing,
     }
 }

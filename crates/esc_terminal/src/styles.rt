@@ -6,7 +6,7 @@ ghost use Rattle.esc_terminal.specs.Looks.{number_in, with_look};
 ghost use Rattle.fallible_alloc.specs.Refusals.{Refused};
 
 use crate::links::{keep_link, keep_linked, leads};
-use crate::looks::{MOST_LOOKS, keep_look, look_at};
+use crate::looks::{Looks, MOST_LOOKS};
 use esc_osc::Hyperlink;
 use esc_style::Look;
 use std::alloc::{AllocError, Allocator, Global};
@@ -26,7 +26,7 @@ pub struct Linked {
 /// lead somewhere 4,096: characters of a further one lead nowhere. Each link is kept once.
 #[derive(Drop)]
 pub struct Styles<A: Allocator = Global> {
-    pub(crate) looks: Vec<Look, A>,
+    pub(crate) looks: Looks<A>,
     pub(crate) links: Vec<Hyperlink<A>, A>,
     pub(crate) linked: Vec<Linked, A>,
 }
@@ -34,12 +34,11 @@ pub struct Styles<A: Allocator = Global> {
 impl<A: Allocator + Copy> Styles<A> {
     /// The plain look alone.
     pub(crate) fn new(alloc: A) -> Result<Styles<A>, AllocError>
-        ensures { IfOk result (λ p. known_of p ≡ first_known) }
+        ensures known { IfOk result (λ p. known_of p ≡ first_known) }
+        ensures refused { OnErr result (Refused A) }
     {
-        let mut looks = Vec::new(alloc);
-        looks.push(Look::plain())?;
         Ok(Styles {
-            looks,
+            looks: Looks::new(alloc)?,
             links: Vec::new(alloc),
             linked: Vec::new(alloc),
         })
@@ -51,7 +50,7 @@ impl<A: Allocator> Styles<A> {
     pub fn look_at(&self, number: u16) -> Look
         ensures { result ≡ known_look number (known_of self.now) }
     {
-        look_at(&self.looks, self.look_number(number))
+        self.looks.at(self.look_number(number))
     }
 
     /// Where cells of a number lead, if they do.
@@ -114,7 +113,7 @@ impl<A: Allocator> Styles<A> {
         }) }
         ensures refused { OnErr result (Refused A) }
     {
-        keep_look(&mut self.looks, look)
+        self.looks.keep(look)
     }
 
     /// The number of a link, which is kept, where it leads somewhere.

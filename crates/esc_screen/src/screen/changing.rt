@@ -1,11 +1,12 @@
 //! Changes of cells.
 ghost use Rattle.std.specs.Prelude.{◌≡◌};
 ghost use Rattle.esc_screen.specs.Screens.{Becomes, grid_of, size_of};
-ghost use Rattle.esc_screen.specs.Changes.{alignment_grid, cells_deleted, cells_erased, cells_inserted, columns_here, columns_moved, fed, grid_by_change, is_within, rows_deleted, rows_inserted};
+ghost use Rattle.esc_screen.specs.Changes.{alignment_grid, cells_deleted, cells_erased, cells_inserted, columns_moved, columns_within, fed, grid_by_change, indexed_back, indexed_on, is_within, rows_deleted, rows_inserted};
 
 use crate::cell::Cell;
 use crate::change::Change;
 use crate::cursor::Cursor;
+use crate::motion::Motion;
 use crate::rows;
 use crate::screen::Screen;
 use crate::shift::Shift;
@@ -100,12 +101,32 @@ impl<A: Allocator> Screen<A> {
         rows::shift_part(&mut self.rows, from, self.bottom as usize, columns);
     }
 
-    fn move_columns_here(&mut self, more: bool, count: u16)
-        ensures { Becomes self.old (columns_here (size_of self.old) more count (grid_of self.old))
-            self.new }
+    fn move_within(&mut self, more: bool, count: u16, column: u16)
+        ensures { Becomes self.old (columns_within (size_of self.old) more count column
+            (grid_of self.old)) self.new }
     {
         if self.is_within() {
-            self.move_columns(more, count, self.cursor.column);
+            self.move_columns(more, count, column);
+        }
+    }
+
+    fn index_back(&mut self)
+        ensures { Becomes self.old (indexed_back (size_of self.old) (grid_of self.old)) self.new }
+    {
+        if self.cursor.column == 0 {
+            self.move_within(true, 1, 0);
+        } else {
+            self.take_motion(Motion::Left(1));
+        }
+    }
+
+    fn index_on(&mut self)
+        ensures { Becomes self.old (indexed_on (size_of self.old) (grid_of self.old)) self.new }
+    {
+        if self.cursor.column as usize + 1 == self.max_columns as usize {
+            self.move_within(false, 1, 0);
+        } else {
+            self.take_motion(Motion::Right(1));
         }
     }
 
@@ -189,10 +210,12 @@ impl<A: Allocator> Screen<A> {
             Change::DeleteRows(n) => self.delete_rows(n),
             Change::ScrollUp(n) => self.rows_up(n as usize, self.top, self.bottom),
             Change::ScrollDown(n) => self.rows_down(n as usize, self.top, self.bottom),
-            Change::ScrollLeft(n) => self.move_columns(false, n, 0),
-            Change::ScrollRight(n) => self.move_columns(true, n, 0),
-            Change::InsertColumns(n) => self.move_columns_here(true, n),
-            Change::DeleteColumns(n) => self.move_columns_here(false, n),
+            Change::ScrollLeft(n) => self.move_within(false, n, 0),
+            Change::ScrollRight(n) => self.move_within(true, n, 0),
+            Change::InsertColumns(n) => self.move_within(true, n, self.cursor.column),
+            Change::DeleteColumns(n) => self.move_within(false, n, self.cursor.column),
+            Change::BackIndex => self.index_back(),
+            Change::ForwardIndex => self.index_on(),
             Change::Align => self.align(),
         }
     }
