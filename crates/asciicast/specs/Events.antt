@@ -5,7 +5,7 @@ use Rattle.json.specs.Json.{Json, document}
 use Rattle.json.specs.Lex.{tokens}
 use Rattle.json.specs.Token.{Token}
 use Rattle.json.specs.Token.Token.{begin_array, end_array, number, string}
-use Rattle.asciicast.specs.Recordings.{is_output, member_of, number_of}
+use Rattle.asciicast.specs.Recordings.{first_byte, is_input, is_output, member_of, number_of}
 use Rattle.asciicast.specs.declared.event.Event.{Event}
 use Rattle.asciicast.specs.declared.event.Event.TheVariants as seen
 
@@ -19,9 +19,6 @@ pub data Told : Type 0 where
   begun : Bool → Told
   nothing : Told
   unread : Told
-
-abbrev pub is_input : List ℕ → Bool
-is_input k = bytes_eq k (codes "i")
 
 -- an event of this time, kind and text
 abbrev pub told_at : List ℕ → List ℕ → List ℕ → Told
@@ -43,14 +40,17 @@ told_version (Some v) =
 abbrev pub told_header : Option Json → Told
 told_header j = told_version (number_of (member_of j))
 
--- a line, by its first byte
-abbrev pub told : List ℕ → Told
-told [] = nothing
-told (b ∷ l) =
+-- a line, by its first byte that is no white space
+abbrev pub told_from : Option ℕ → List ℕ → Told
+told_from None l = nothing
+told_from (Some b) l =
     if b == 0x23 then nothing
-    else if b == 0x7b then told_header (document (b ∷ l))
-    else if b == 0x5b then told_event (tokens (b ∷ l))
+    else if b == 0x7b then told_header (document l)
+    else if b == 0x5b then told_event (tokens l)
     else unread
+
+abbrev pub told : List ℕ → Told
+told l = told_from (first_byte l) l
 
 -- what was seen is this
 abbrev pub told_by : Event → Told

@@ -2,7 +2,7 @@
 use Rattle.std.specs.Prelude.{ℕ, ◌≡◌, ◌≢◌, Bool, true, false, List, [], ◌++◌, codes, string_bytes}
 use Rattle.json.specs.Print.{IsNumber}
 use Rattle.esc_normal.specs.declared.feeding.StreamFilter.{Ghosts as Feeder}
-use Rattle.asciicast.specs.Recordings.{IsEvent, Kind, header, other, output, wrong}
+use Rattle.asciicast.specs.Recordings.{IsEvent, Kind, header, input, other, output, wrong}
 use Rattle.asciicast.specs.declared.recording.Recording.{Recording}
 
 abbrev pub feeding_of : {F A : Type 0} → Recording F A → F
@@ -20,19 +20,26 @@ time_of r = string_bytes r.time
 abbrev pub is_relative : {F A : Type 0} → Recording F A → Bool
 is_relative r = r.is_relative
 
+-- whether events of input lose their texts
+abbrev pub drops_input : {F A : Type 0} → Recording F A → Bool
+drops_input r = r.drops_input
+
 -- whether it is after a line of this kind, where it was so before
 abbrev pub is_relative_after : Kind → Bool → Bool
 is_relative_after (output t d) r = r
+is_relative_after (input t) r = r
 is_relative_after (header b) r = b
 is_relative_after other r = r
 is_relative_after wrong r = r
 
--- q has the filter of p, its last line, the time of its last event, and counts times as it does
+-- q has the filter of p, its last line, the time of its last event, counts times as it does, and
+-- keeps the same of events of input
 pub record IsAs {F A : Type 0} (p q : Recording F A) : Type 0 where
   pub feeding : feeding_of q ≡ feeding_of p
   pub text : text_of q ≡ text_of p
   pub time : time_of q ≡ time_of p
   pub counts : is_relative q ≡ is_relative p
+  pub drops : drops_input q ≡ drops_input p
 
 -- The filter, which was fed s, was fed d too, and the line is that of the event at the time t, with
 -- what d adds as its text.

@@ -5,6 +5,7 @@ ghost use Rattle.json.specs.Value.{value_view};
 ghost use Rattle.json.specs.Lex.{tokens};
 ghost use Rattle.asciicast.specs.Events.{told, told_at, told_by, told_event, told_header};
 
+use crate::line::first_of;
 use json::{Error, Reader, Scratch, Token, Value};
 use std::alloc::{AllocError, Allocator};
 
@@ -33,12 +34,11 @@ pub fn event_in<'a, A: Allocator + Copy>(
 ) -> Result<Event<'a>, AllocError>
     ensures { IfOk result (λ e. told_by e ≡ told line.now) }
 {
-    match line.as_bytes() {
-        [] => Ok(Event::Nothing),
-        [b'#', ..] => Ok(Event::Nothing),
-        [b'{', ..] => header(alloc, line, scratch),
-        [b'[', ..] => read_event(line, scratch),
-        _ => Ok(Event::Wrong),
+    match first_of(line) {
+        None | Some(b'#') => Ok(Event::Nothing),
+        Some(b'{') => header(alloc, line, scratch),
+        Some(b'[') => read_event(line, scratch),
+        Some(_) => Ok(Event::Wrong),
     }
 }
 

@@ -22,6 +22,7 @@ mod cast_error;
 mod event;
 mod line;
 mod recording;
+mod spelled;
 
 pub use cast_error::CastError;
 pub use event::{Event, event_in};

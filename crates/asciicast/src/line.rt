@@ -1,9 +1,10 @@
 //! What a line of a recording is.
-ghost use Rattle.std.specs.Prelude.{◌≡◌, IfOk, Some, chars};
+ghost use Rattle.std.specs.Prelude.{◌≡◌, IfOk, Some};
 ghost use Rattle.json.specs.Json.{document};
 ghost use Rattle.json.specs.Value.{value_view};
 ghost use Rattle.json.specs.Lex.{tokens};
-ghost use Rattle.asciicast.specs.Recordings.{event_kind, header_kind, is_shown, is_shown_line, kind_of, kind_seen, shown_kind, HasNumber};
+ghost use Rattle.json.specs.Print.{IsNumber};
+ghost use Rattle.asciicast.specs.Recordings.{event_kind, first_byte, header_kind, is_space, kind_at, kind_of, kind_seen, HasNumber};
 
 use json::{Error, Reader, Scratch, Token, Value};
 use std::alloc::{AllocError, Allocator};
@@ -13,9 +14,11 @@ use std::alloc::{AllocError, Allocator};
 pub enum Line<'a> {
     /// An event of output: its time, as it is written, and its text.
     Output(&'a str, &'a str),
+    /// An event of input: its time, as it is written.
+    Input(&'a str),
     /// The header, where times are counted from the event before: of version 3, and not of 2.
     Header(bool),
-    /// An event of another kind, a comment, or no text.
+    /// An event of another kind, a comment, or white space alone.
     Other,
     /// Something else.
     Wrong,
@@ -30,13 +33,38 @@ pub fn line_of<'a, A: Allocator + Copy>(
     ensures kind { IfOk result (λ l. kind_seen l ≡ kind_of line.now) }
     ensures number { IfOk result HasNumber }
 {
-    match line.as_bytes() {
-        [] => Ok(Line::Other),
-        [b'#', ..] => Ok(shown(line, Line::Other)),
-        [b'{', ..] => header(alloc, line, scratch),
-        [b'[', ..] => event(line, scratch),
-        _ => Ok(Line::Wrong),
+    match first_of(line) {
+        None | Some(b'#') => Ok(Line::Other),
+        Some(b'{') => header(alloc, line, scratch),
+        Some(b'[') => event(line, scratch),
+        Some(_) => Ok(Line::Wrong),
     }
+}
+
+/// The first byte of a line that is no white space.
+pub fn first_of(line: &str) -> Option<u8>
+    ensures { result ≡ first_byte line.now }
+{
+    first_in(line.as_bytes())
+}
+
+// The first of these bytes that is none.
+fn first_in(bytes: &[u8]) -> Option<u8>
+    ensures { result ≡ first_byte bytes.now }
+{
+    for byte in bytes {
+        if !is_space(*byte) {
+            return Some(*byte);
+        }
+    }
+    None
+}
+
+// Whether a byte is white space of JSON, and no line feed.
+fn is_space(byte: u8) -> bool
+    ensures { result ≡ is_space byte }
+{
+    byte == b' ' || byte == b'\t' || byte == b'\r'
 }
 
 // What an event is.
@@ -44,16 +72,16 @@ fn event<'a, A: Allocator>(
     line: &'a str,
     scratch: &'a mut Scratch<A>,
 ) -> Result<Line<'a>, AllocError>
-    ensures kind { IfOk result (λ l. kind_seen l ≡ event_kind line.now (tokens line.now)) }
+    ensures kind { IfOk result (λ l. kind_seen l ≡ event_kind (tokens line.now)) }
     ensures number { IfOk result HasNumber }
 {
     let mut reader = Reader::new(line, scratch)?;
-    Ok(event_of(line, &mut reader))
+    Ok(event_of(&mut reader))
 }
 
 // What an event of these tokens is.
-fn event_of<'a>(line: &str, reader: &mut Reader<'a>) -> Line<'a>
-    ensures kind { kind_seen result ≡ event_kind line.now reader.old }
+fn event_of<'a>(reader: &mut Reader<'a>) -> Line<'a>
+    ensures kind { kind_seen result ≡ event_kind reader.old }
     ensures number { HasNumber result }
 {
     let Some(Token::BeginArray) = reader.next() else {
@@ -74,10 +102,21 @@ fn event_of<'a>(line: &str, reader: &mut Reader<'a>) -> Line<'a>
     let None = reader.next() else {
         return Line::Wrong;
     };
+    event_at(time, kind, text)
+}
+
+// What an event of this kind is.
+fn event_at<'a>(time: &'a str, kind: &str, text: &'a str) -> Line<'a>
+    requires { IsNumber time.now }
+    ensures kind { kind_seen result ≡ kind_at time.now kind.now text.now }
+    ensures number { HasNumber result }
+{
     if kind == "o" {
         Line::Output(time, text)
+    } else if kind == "i" {
+        Line::Input(time)
     } else {
-        shown(line, Line::Other)
+        Line::Other
     }
 }
 
@@ -87,57 +126,27 @@ fn header<'a, A: Allocator + Copy>(
     line: &'a str,
     scratch: &'a mut Scratch<A>,
 ) -> Result<Line<'a>, AllocError>
-    ensures kind { IfOk result (λ l. kind_seen l ≡ header_kind line.now (document line.now)) }
+    ensures kind { IfOk result (λ l. kind_seen l ≡ header_kind (document line.now)) }
     ensures number { IfOk result HasNumber }
 {
     match Value::parse(alloc, line, scratch) {
-        Ok(value) => Ok(header_of(line, &value)),
+        Ok(value) => Ok(header_of(&value)),
         Err(Error::OutOfMemory) => Err(AllocError),
         Err(_) => Ok(Line::Wrong),
     }
 }
 
 // What a header of this value is.
-fn header_of<'a, A: Allocator>(line: &str, value: &Value<'_, A>) -> Line<'a>
-    ensures kind { kind_seen result ≡ header_kind line.now (Some (value_view value.now)) }
+fn header_of<'a, A: Allocator>(value: &Value<'_, A>) -> Line<'a>
+    ensures kind { kind_seen result ≡ header_kind (Some (value_view value.now)) }
     ensures number { HasNumber result }
 {
     let Some(version) = value.get("version") else {
         return Line::Wrong;
     };
     match version.as_number() {
-        Some("2") => shown(line, Line::Header(false)),
-        Some("3") => shown(line, Line::Header(true)),
+        Some("2") => Line::Header(false),
+        Some("3") => Line::Header(true),
         _ => Line::Wrong,
     }
-}
-
-// The line is this, where it is shown, and wrong where a character of it is a control.
-fn shown<'a>(line: &str, kind: Line<'a>) -> Line<'a>
-    ensures { kind_seen result ≡ shown_kind line.now (kind_seen kind.entry) }
-{
-    if is_shown_line(line) {
-        kind
-    } else {
-        Line::Wrong
-    }
-}
-
-// Whether no character of a line is a control.
-fn is_shown_line(line: &str) -> bool
-    ensures { result ≡ is_shown_line line.now }
-{
-    for c in line.chars() {
-        if !is_shown(c) {
-            return false;
-        }
-    }
-    true
-}
-
-// Whether a character is no control.
-fn is_shown(c: char) -> bool
-    ensures { result ≡ is_shown c }
-{
-    c >= ' ' && (c < '\u{7f}' || c > '\u{9f}')
 }

@@ -1,21 +1,23 @@
 //! A recording that is filtered line by line.
-ghost use Rattle.std.specs.Prelude.{◌≡◌, ◌≢◌, ◌++◌, ◌∷◌, ℕ, List, [], IfOk, OnOk, false};
+ghost use Rattle.std.specs.Prelude.{◌≡◌, ◌≢◌, ◌++◌, ◌∷◌, ℕ, List, [], IfOk, OnOk, codes, false, true};
 ghost use Rattle.json.specs.Print.{IsNumber};
 ghost use Rattle.esc_normal.specs.Streams.{Given};
 ghost use Rattle.asciicast.specs.Recorded.{IsEndTime};
-ghost use Rattle.asciicast.specs.Recordings.{IsEvent, IsUnheard, kind_of, output, wrong};
+ghost use Rattle.asciicast.specs.Recordings.{IsEventOf, IsUnheard, StaysAs, kind_of, output, spelled_line, wrong};
 
 use crate::cast_error::CastError;
 use crate::line::{Line, line_of};
+use crate::spelled::{is_shown_line, spelled};
 use esc_filter::StreamFilter;
 use json::{Scratch, Writer, is_number};
 use std::alloc::{AllocError, Allocator, Global};
 
 /// Takes a recording line by line, and gives each with what a filter makes of the text of its
 /// event, where that is one of output: the filter is fed these texts, one after another. Every
-/// other line stays as it is: the header, of version 2 or 3, an event of another kind, a comment,
-/// and an empty line. So the times of the events stay, and of an event of which nothing passes the
-/// text is empty.
+/// other line stays: the header, of version 2 or 3, an event of another kind, a comment, and an
+/// empty line. So the times of the events stay, and of an event of which nothing passes the text is
+/// empty. A line that stays says what it said, and has no control: a carriage return is left out, a
+/// tab is a space, and any other is spelled as JSON does, as `\u007f`.
 ///
 /// It keeps what the filter keeps, one line, and the time of the last event.
 #[derive(Drop)]
@@ -29,16 +31,19 @@ pub struct Recording<F, A: Allocator = Global> {
     time: String<A>,
     // whether the time of an event is counted from the event before
     is_relative: bool,
+    // whether events of input lose their texts
+    drops_input: bool,
 }
 
 impl<F: StreamFilter<A>, A: Allocator + Copy> Recording<F, A> {
-    ghost use Rattle.asciicast.specs.Recorded.{Closes, Hears, IsAs, feeding_of, is_relative, is_relative_after, text_of, time_of};
+    ghost use Rattle.asciicast.specs.Recorded.{Closes, Hears, IsAs, drops_input, feeding_of, is_relative, is_relative_after, text_of, time_of};
 
     /// A recording of which no line was taken, for a filter that was fed nothing. Takes no memory.
     pub fn new(alloc: A, feeding: F) -> Recording<F, A>
         ensures feeding { feeding_of result ≡ feeding }
         ensures empty { text_of result ≡ [] }
         ensures time { (time_of result ≡ []) × (is_relative result ≡ false) }
+        ensures keeps { drops_input result ≡ false }
     {
         Recording {
             feeding,
@@ -47,25 +52,36 @@ impl<F: StreamFilter<A>, A: Allocator + Copy> Recording<F, A> {
             text: Vec::new(alloc),
             time: String::new(alloc),
             is_relative: false,
+            drops_input: false,
         }
+    }
+
+    /// The same, where events of input lose their texts, or keep them. They keep their times.
+    pub fn dropping_input(mut self, drops: bool) -> Recording<F, A>
+        ensures drops { drops_input result ≡ drops }
+        ensures same { (feeding_of result ≡ feeding_of self) × (text_of result ≡ text_of self)
+            × (time_of result ≡ time_of self) × (is_relative result ≡ is_relative self) }
+    {
+        self.drops_input = drops;
+        self
     }
 
     /// Takes a line, without its line feed. The line that is written for it, with a line feed, is
     /// then the [`text`](Recording::text).
     ///
-    /// `CastError::NoEvent` says that it is no line of a recording: no JSON of the format, or with
-    /// a control in a text that would stay as it is; nothing has changed. After `CastError::Memory`
-    /// the recording is of no use.
+    /// `CastError::NoEvent` says that it is no line of a recording: no JSON of the format; nothing
+    /// has changed. After `CastError::Memory` the recording is of no use.
     pub fn take_line(&mut self, line: &str) -> Result<(), CastError>
         ensures output { Given F.StreamFilter (feeding_of self.old) (λ m c s. (t d : List ℕ)
             → kind_of line.now ≡ output t d → OnOk result (Hears F.StreamFilter m c s t d self.new
             × (time_of self.new ≡ t) × (is_relative self.new ≡ is_relative self.old))) }
         ensures other { IsUnheard (kind_of line.now) → OnOk result
             ((feeding_of self.new ≡ feeding_of self.old)
-            × (text_of self.new ≡ line.now ++ 0x0a ∷ []) × (time_of self.new ≡ time_of self.old)
-            × (is_relative self.new
+            × StaysAs (kind_of line.now) (drops_input self.old) line.now (text_of self.new)
+            × (time_of self.new ≡ time_of self.old) × (is_relative self.new
             ≡ is_relative_after (kind_of line.now) (is_relative self.old))) }
-        ensures right { OnOk result (kind_of line.now ≢ wrong) }
+        ensures right { OnOk result ((kind_of line.now ≢ wrong)
+            × (drops_input self.new ≡ drops_input self.old)) }
         ensures no_event { result ≡ Err CastError.NoEvent → (kind_of line.now ≡ wrong)
             × IsAs self.old self.new }
     {
@@ -73,16 +89,20 @@ impl<F: StreamFilter<A>, A: Allocator + Copy> Recording<F, A> {
         match kind {
             Line::Output(time, data) => {
                 self.feeding.feed_chunk(data.as_bytes())?;
-                self.text = event(self.alloc, time, self.feeding.output_text())?;
+                self.text = event(self.alloc, time, "o", self.feeding.output_text())?;
                 self.time.clear();
                 self.time.push_str(time)?;
+                Ok(())
+            }
+            Line::Input(time) if self.drops_input => {
+                self.text = event(self.alloc, time, "i", "")?;
                 Ok(())
             }
             Line::Header(is_relative) => {
                 self.is_relative = is_relative;
                 self.pass(line)
             }
-            Line::Other => self.pass(line),
+            Line::Input(_) | Line::Other => self.pass(line),
             Line::Wrong => Err(CastError::NoEvent),
         }
     }
@@ -101,7 +121,8 @@ impl<F: StreamFilter<A>, A: Allocator + Copy> Recording<F, A> {
         let is_relative = self.is_relative;
         let added = self.feeding.output_text();
         if !added.is_empty() {
-            self.text = event(alloc, end_time(is_relative, self.time.as_str()), added)?;
+            let time = end_time(is_relative, self.time.as_str());
+            self.text = event(alloc, time, "o", added)?;
         }
         Ok(())
     }
@@ -124,20 +145,27 @@ impl<F: StreamFilter<A>, A: Allocator + Copy> Recording<F, A> {
             text: _,
             time: _,
             is_relative: _,
+            drops_input: _,
         } = self;
         feeding
     }
 
-    // Gives a line as it came.
+    // Gives a line that stays.
     fn pass(&mut self, line: &str) -> Result<(), CastError>
-        ensures text { OnOk result (text_of self.new ≡ line.now ++ 0x0a ∷ []) }
+        ensures text { OnOk result (text_of self.new ≡ spelled_line line.now ++ 0x0a ∷ []) }
         ensures kept { (feeding_of self.new ≡ feeding_of self.old)
             × (time_of self.new ≡ time_of self.old)
-            × (is_relative self.new ≡ is_relative self.old) }
+            × (is_relative self.new ≡ is_relative self.old)
+            × (drops_input self.new ≡ drops_input self.old) }
         ensures memory { result ≡ Err CastError.NoEvent → ⊥ }
     {
         self.text.clear();
-        self.text.extend_from_slice(line.as_bytes())?;
+        if is_shown_line(line) {
+            self.text.extend_from_slice(line.as_bytes())?;
+        } else {
+            let text = spelled(self.alloc, line)?;
+            self.text.extend_from_slice(text.as_bytes())?;
+        }
         self.text.extend_from_slice(b"\n")?;
         Ok(())
     }
@@ -155,15 +183,20 @@ fn end_time(is_relative: bool, time: &str) -> &str
     }
 }
 
-// The line of an event of output at this time, of this text, with its line feed.
-fn event<A: Allocator>(alloc: A, time: &str, data: &str) -> Result<Vec<u8, A>, AllocError>
+// The line of an event at this time, of this kind and text, with its line feed.
+fn event<A: Allocator>(
+    alloc: A,
+    time: &str,
+    kind: &str,
+    data: &str,
+) -> Result<Vec<u8, A>, AllocError>
     requires { IsNumber time.now }
-    ensures { IfOk result (λ v. IsEvent time.now data.now v.items) }
+    ensures { IfOk result (λ v. IsEventOf time.now kind.now data.now v.items) }
 {
     let mut writer = Writer::new(Vec::new(alloc));
     writer.begin_array()?;
     writer.number(time)?;
-    writer.string("o")?;
+    writer.string(kind)?;
     writer.string(data)?;
     writer.end_array()?;
     let mut line = writer.into_inner();

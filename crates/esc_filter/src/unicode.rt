@@ -10,9 +10,10 @@ use unicode_visibility::is_deceiving;
 pub enum Unicode {
     /// The character itself.
     Keep,
-    /// The character itself where it belongs to the character that was written before it
+    /// The character itself where it may follow the character that was written before it
     /// ([`may_follow`](unicode_visibility::may_follow)), as variation selectors and joiners in
-    /// emoji and within words do; and where it does not, its number, as by `Show`.
+    /// emoji and within words do, or, where none was, is a byte order mark; and where it may not,
+    /// its number, as by `Show`.
     Join,
     /// Its number, as `<U+202E>`: in hexadecimal, upper case, with at least four digits.
     Show,

@@ -8,7 +8,7 @@ use Rattle.std.proofs.Math.Logic.{∥∥₁_map}
 use Rattle.esc_style.specs.declared.look.Look.{Look}
 use Rattle.esc_sgr.specs.Sgr.{change_text, look_text, same_look}
 use Rattle.unicode_visibility.specs.Characters.{is_among, is_shown}
-use Rattle.unicode_visibility.specs.Following.{joins_emoji, joins_letters, may_follow}
+use Rattle.unicode_visibility.specs.Following.{belongs, joins_emoji, joins_letters}
 use Rattle.esc_sheet.specs.Sheets.{IsSheet, Piece, is_character, is_fit, is_joiner, lead_text, piece_text}
 use Rattle.esc_sheet.specs.Sheets.Piece.{Change, Lead, Number}
 
@@ -68,15 +68,15 @@ joins false true r x y z h = refl
 joins false false true x y z h = refl
 joins false false false x y z h = h
 
-follows_fits : (b : Option ℕ) (c : ℕ) → may_follow b c ≡ true → is_joiner c ≡ true
+follows_fits : (b : Option ℕ) (c : ℕ) → belongs b c ≡ true → is_joiner c ≡ true
 follows_fits None c h = absurd cc
 follows_fits (Some b) c h = joins (is_among 0xfe0e 0xfe0f c) (c == 0x200d) (c == 0x200c)
     _ (joins_emoji b || joins_letters b) (joins_letters b) h
 
 -- one that shows, or belongs to the one before it
-pub shows_fits : (b : Option ℕ) (c : ℕ) → (is_shown c || may_follow b c) ≡ true
+pub shows_fits : (b : Option ℕ) (c : ℕ) → (is_shown c || belongs b c) ≡ true
     → is_character c ≡ true
-shows_fits b c h = by (is_shown c) (may_follow b c) h (follows_fits b c)
+shows_fits b c h = by (is_shown c) (belongs b c) h (follows_fits b c)
   where
     by : (p q : Bool) → (p || q) ≡ true → (q ≡ true → is_joiner c ≡ true)
         → (p || is_joiner c) ≡ true

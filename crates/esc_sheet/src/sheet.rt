@@ -11,7 +11,7 @@ use esc_links::Hyperlink;
 use esc_sgr::{is_same, push_change};
 use esc_style::Look;
 use std::alloc::{AllocError, Allocator, Global};
-use unicode_visibility::{is_shown, may_follow, number_text};
+use unicode_visibility::{belongs, is_shown, number_text};
 
 // How many bytes links take at most before any character, and for each character more: so a text
 // with links is no longer than a multiple of what it shows.
@@ -140,7 +140,7 @@ impl Sheet {
     fn shows(&self, c: char) -> bool
         ensures { IsTrue result → is_character c ≡ true }
     {
-        is_shown(c) || may_follow(self.last, c)
+        is_shown(c) || belongs(self.last, c)
     }
 
     // Adds a character as it is.

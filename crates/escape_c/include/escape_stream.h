@@ -341,8 +341,8 @@ struct escape_stream_sanitizer {
 
 /*
  * The output for characters that hide or reorder text: themselves, themselves if they belong to the
- * character before them and else their number as <U+202E>, their number, or nothing; 0: JOIN by
- * TEXT and COLOR, but SHOW with `rows`, and else KEEP.
+ * character before them or are a byte order mark where none is, and else their number as <U+202E>,
+ * their number, or nothing; 0: JOIN by TEXT and COLOR, but SHOW with `rows`, and else KEEP.
  */
 #define ESCAPE_STREAM_CHARACTERS_KEEP 1
 #define ESCAPE_STREAM_CHARACTERS_JOIN 2

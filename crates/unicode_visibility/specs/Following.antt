@@ -42,13 +42,19 @@ joins_emoji c = is_extended_pictographic c || (is_emoji_modifier c || (c == 0xfe
 -- This character belongs to the one before it, where there is one: a variation selector 15 or 16,
 -- which chooses how a character is shown (emoji-variation-sequences.txt), a joiner, or a
 -- non-joiner.
-abbrev pub may_follow : Option ℕ → ℕ → Bool
-may_follow None c = false
-may_follow (Some b) c =
+abbrev pub belongs : Option ℕ → ℕ → Bool
+belongs None c = false
+belongs (Some b) c =
     if is_among 0xfe0e 0xfe0f c then is_emoji_variation_base b
     else if c == 0x200d then joins_emoji b || joins_letters b
     else if c == 0x200c then joins_letters b
     else false
+
+-- it may come after this character: it belongs to that; or no character comes directly before it,
+-- and it is a mark of byte order, with which a text may begin
+abbrev pub may_follow : Option ℕ → ℕ → Bool
+may_follow None c = c == 0xfeff
+may_follow (Some b) c = belongs (Some b) c
 
 -- it deceives, and does not belong there
 abbrev pub is_stray : Option ℕ → ℕ → Bool

@@ -1,7 +1,7 @@
 //! Characters that deceive elsewhere, and belong to the character before them.
 ghost use Rattle.std.specs.Prelude.{◌≡◌, Some};
 ghost use Rattle.std.specs.Str.{chars};
-ghost use Rattle.unicode_visibility.specs.Following.{has_stray, is_arabic_mark, is_cursive, is_stray, joins_emoji, joins_letters, last_of, may_follow};
+ghost use Rattle.unicode_visibility.specs.Following.{belongs, has_stray, is_arabic_mark, is_cursive, is_stray, joins_emoji, joins_letters, last_of, may_follow};
 
 use crate::deceiving::is_deceiving;
 use crate::signs::may_deceive;
@@ -22,18 +22,30 @@ use ucd_script::Script;
 /// No other character does: none that changes the direction of a text, and no tag (U+E0020 to
 /// U+E007F), not those in a flag either. It is false for whatever comes where no character is
 /// before it.
+pub fn belongs(before: Option<char>, c: char) -> bool
+    ensures { result ≡ belongs before c }
+{
+    match before {
+        None => false,
+        Some(before) => belongs_to(before, c),
+    }
+}
+
+/// Whether a character that deceives may come there: it [`belongs`] to the character before it, or
+/// no character comes directly before it and it is a mark of byte order, U+FEFF, with which a text
+/// may begin.
 pub fn may_follow(before: Option<char>, c: char) -> bool
     ensures { result ≡ may_follow before c }
 {
     match before {
-        None => false,
-        Some(before) => belongs(before, c),
+        None => c == '\u{feff}',
+        Some(before) => belongs_to(before, c),
     }
 }
 
 // Whether the character belongs to the one before it.
-fn belongs(before: char, c: char) -> bool
-    ensures { result ≡ may_follow (Some before) c }
+fn belongs_to(before: char, c: char) -> bool
+    ensures { result ≡ belongs (Some before) c }
 {
     if '\u{fe0e}' <= c && c <= '\u{fe0f}' {
         is_emoji_variation_base(before)
@@ -93,7 +105,7 @@ fn is_cursive(script: Script) -> bool
     )
 }
 
-/// Whether a character deceives and does not belong to the one before it.
+/// Whether a character deceives and may not come after this one, or first.
 #[inline]
 pub fn is_stray(before: Option<char>, c: char) -> bool
     ensures { result ≡ is_stray before c }

@@ -3,8 +3,9 @@
 //! `command_line`.
 //!
 //! [`is_shown`] says which characters show as themselves, [`is_deceiving`] which hide or reorder
-//! text (Unicode 18.0), and [`number_text`] is the text of any other. [`may_follow`] says which of
-//! those that hide belong to the character before them, as in emoji. Nothing here asks for memory.
+//! text (Unicode 18.0), and [`number_text`] is the text of any other. [`belongs`] says which of
+//! those that hide belong to the character before them, as in emoji, and [`may_follow`] which may
+//! come after a character or first. Nothing here asks for memory.
 //!
 //! ```text
 //! is_deceiving('\u{202e}')     // true: U+202E changes the direction of the text after it
@@ -20,6 +21,6 @@ mod shown;
 mod signs;
 
 pub use deceiving::{has_deceiving, is_deceiving};
-pub use following::{has_stray, is_stray, last_char, may_follow};
+pub use following::{belongs, has_stray, is_stray, last_char, may_follow};
 pub use number::{hex_digit, number_text};
 pub use shown::is_shown;

@@ -2,7 +2,7 @@ use Rattle.std.proofs.Common.{List, [], ◌∷◌, ◌≡◌, ℕ, length, chars
 use Rattle.std.specs.List.{list_all}
 use Rattle.std.proofs.lemmas.Str.{IsUtf8-past_char, chars-nil, chars_past_char}
 use Rattle.asciicast.specs.Recordings.{is_shown}
-use Rattle.asciicast.proofs.line.is_shown_line.Goals as goal
+use Rattle.asciicast.proofs.spelled.is_shown_line.Goals as goal
 
 pub returns-then-not-is_shown : goal.returns-then-not-is_shown
 returns-then-not-is_shown c =

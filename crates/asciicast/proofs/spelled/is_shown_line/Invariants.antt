@@ -2,7 +2,7 @@ use Rattle.std.proofs.Common.{◌≡◌, IsUtf8, chars}
 use Rattle.std.specs.List.{list_all}
 use Rattle.std.specs.Str.Iter.{chars_rest}
 use Rattle.asciicast.specs.Recordings.{is_shown}
-use Rattle.asciicast.proofs.line.is_shown_line.Given as goal
+use Rattle.asciicast.proofs.spelled.is_shown_line.Given as goal
 
 abbrev pub invariant-loop-c : goal.invariant-loop-c
 invariant-loop-c l =
