@@ -363,8 +363,13 @@ impl<'a, W: Write, E: Write> Converting<'a, W, E> {
 
     // Says how many images of the stream of this name are left out, unless they are shown.
     fn note_images(&mut self, name: &str, ended: Ended) -> Ended {
-        let LeftOut { large, others } = self.left_out;
+        let LeftOut {
+            large,
+            unfinished,
+            others,
+        } = self.left_out;
         let ended = self.note_kind(name, ended, large, "larger than --limit");
+        let ended = self.note_kind(name, ended, unfinished, "unfinished");
         self.note_kind(name, ended, others, "of another kind or size")
     }
 

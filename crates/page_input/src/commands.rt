@@ -3,19 +3,12 @@
 use crate::picture::Picture;
 use crate::png::png_of;
 use crate::sixels::sixel_png;
-use esc_iterm::ITermFileData;
 use esc_kitty::{
     KittyImage, KittyImageCompression, KittyImageData, KittyImageFormat, KittyImageTransmit,
 };
 use esc_values::base64_text::read_base64;
 use memchr::memchr;
 use std::alloc::{AllocError, Global};
-
-/// What a command of iTerm2 begins with, after what opens it.
-pub(crate) const PROPRIETARY: &[u8] = b"1337;";
-
-/// What one with a file begins with.
-pub(crate) const FILE: &[u8] = b"1337;File=";
 
 /// Why an image is left out that a command shows.
 #[derive(Clone, Copy)]
@@ -48,34 +41,8 @@ pub(crate) struct Unfinished {
     bytes: Vec<u8>,
 }
 
-/// What a command of iTerm2 is, of which this comes after its number, without what ends it.
-pub(crate) fn file_command(alloc: Global, text: &[u8]) -> Result<Command, AllocError> {
-    if !is_plain(text) {
-        return Ok(Command::Other);
-    }
-    let mut parts = Vec::new(alloc);
-    let mut rest = text;
-    while let Some(at) = memchr(b';', rest) {
-        fallible_alloc::extend(&mut parts, &[&rest[..at]])?;
-        rest = &rest[at + 1..];
-    }
-    fallible_alloc::extend(&mut parts, &[rest])?;
-    let Some(file) = ITermFileData::parse(alloc, &parts)? else {
-        return Ok(Command::Other);
-    };
-    if !file.inline {
-        return Ok(Command::Other);
-    }
-    let name = match &file.name {
-        Some(name) => fallible_alloc::text(alloc, name.as_str())?,
-        None => String::new(alloc),
-    };
-    let bytes = fallible_alloc::copied(alloc, file.content.as_slice())?;
-    Ok(shown(Picture::of(bytes, name)))
-}
-
-// The command that shows an image, where there is one.
-fn shown(picture: Option<Picture>) -> Command {
+/// The command that shows an image, where there is one.
+pub(crate) fn shown(picture: Option<Picture>) -> Command {
     match picture {
         Some(picture) => Command::Shows(picture),
         None => Command::Lost(Loss::Other),
@@ -104,25 +71,14 @@ pub(crate) fn header_length(text: &[u8]) -> usize {
     length
 }
 
-/// Whether a command of iTerm2 shows a file, and is none to save: of this much of it the keys are
-/// before the first `:`.
-pub(crate) fn shows_file(text: &[u8]) -> bool {
-    has_key(
-        text.get(FILE.len()..).unwrap_or(b""),
-        b':',
-        b';',
-        b"inline=1",
-    )
-}
-
 /// Whether a command of kitty shows an image, or is a part of one that does: of this much of it the
 /// keys are before the first `;`.
 pub(crate) fn shows_image(text: &[u8], is_part: bool) -> bool {
     is_part || has_key(text.get(1..).unwrap_or(b""), b';', b',', b"a=T")
 }
 
-// Whether a text has a key with this value before its end, in a list.
-fn has_key(text: &[u8], end: u8, comma: u8, key: &'static [u8]) -> bool {
+/// Whether a text has a key with this value before its end, in a list.
+pub(crate) fn has_key(text: &[u8], end: u8, comma: u8, key: &'static [u8]) -> bool {
     let mut rest = text
         .get(..memchr(end, text).unwrap_or(text.len()))
         .unwrap_or(text);
@@ -222,8 +178,8 @@ fn finished(alloc: Global, image: Unfinished) -> Result<Command, AllocError> {
     }
 }
 
-// Whether a command has no control, as CAN, which ends it, and no byte past ASCII.
-fn is_plain(text: &[u8]) -> bool {
+/// Whether a command has no control, as CAN, which ends it, and no byte past ASCII.
+pub(crate) fn is_plain(text: &[u8]) -> bool {
     for byte in text {
         if *byte < b' ' || b'~' < *byte {
             return false;

@@ -1,6 +1,7 @@
 //! Where images are in a stream.
 
-use crate::commands::{FILE, header_length, shows_file, shows_image};
+use crate::commands::{header_length, shows_image};
+use crate::files::{begins_file, may_begin_file, shows_file};
 use crate::leads::{ESC, Lead, lead_of, terminator_length};
 use esc_decode::Encoding;
 
@@ -13,7 +14,7 @@ const SUB: u8 = 0x1a;
 // How many bytes the parameters of a device control string have at most, where it is an image.
 const MOST_HEADER: usize = 64;
 
-/// What a command may have: a file of iTerm2, an image of kitty, or sixels.
+/// What a command may have: a file of iTerm2 or a part of one, an image of kitty, or sixels.
 #[derive(Clone, Copy, PartialEq, Eq)]
 pub(crate) enum Kind {
     File,
@@ -99,8 +100,8 @@ fn text_or(length: usize, other: Found) -> Found {
 // What comes after ESC and this letter.
 fn begun_by(letter: u8, text: &[u8]) -> Begun {
     match letter {
-        b']' if text.starts_with(FILE) => Begun::Command(Kind::File),
-        b']' if FILE.starts_with(text) => Begun::More,
+        b']' if begins_file(text) => Begun::Command(Kind::File),
+        b']' if may_begin_file(text) => Begun::More,
         b'_' => match text.first() {
             Some(b'G') => Begun::Command(Kind::Image),
             Some(_) => Begun::Other,
@@ -182,11 +183,11 @@ fn end_of(bytes: &[u8], kind: Kind, from: usize) -> usize {
     at
 }
 
-/// Whether a command of this kind shows an image, of which this is the beginning, where an image of
-/// kitty is unfinished or not.
+/// Whether a command of this kind shows an image, of which this is the beginning, where one of this
+/// kind is unfinished or not.
 pub(crate) fn shows(kind: Kind, text: &[u8], is_unfinished: bool) -> bool {
     match kind {
-        Kind::File => shows_file(text),
+        Kind::File => shows_file(text, is_unfinished),
         Kind::Image => shows_image(text, is_unfinished),
         Kind::Sixels => true,
     }

@@ -11,6 +11,7 @@ mod casting;
 mod colors;
 mod commands;
 mod deflate;
+mod files;
 mod found;
 mod leads;
 mod linking;

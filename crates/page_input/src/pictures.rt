@@ -1,9 +1,8 @@
 //! A log, up to each image in it.
 
 use crate::carried::Carried;
-use crate::commands::{
-    Command, Loss, PROPRIETARY, Unfinished, file_command, image_command, sixel_command,
-};
+use crate::commands::{Command, Loss, Unfinished, image_command, sixel_command};
+use crate::files::{PROPRIETARY, Parts, file_command};
 use crate::found::{Found, Kind, found_in, shows};
 use crate::linking::copied;
 use crate::picture::Picture;
@@ -20,6 +19,8 @@ const BYTES: usize = 8192;
 pub struct LeftOut {
     /// Those with more bytes than the limit.
     pub large: u64,
+    /// Those whose last part did not come.
+    pub unfinished: u64,
     /// Those that are no PNG, JPEG or GIF, and no pixels, or of too many pixels.
     pub others: u64,
 }
@@ -29,6 +30,7 @@ impl LeftOut {
     pub fn new() -> LeftOut {
         LeftOut {
             large: 0,
+            unfinished: 0,
             others: 0,
         }
     }
@@ -37,12 +39,13 @@ impl LeftOut {
     pub fn and(self, more: LeftOut) -> LeftOut {
         LeftOut {
             large: self.large.saturating_add(more.large),
+            unfinished: self.unfinished.saturating_add(more.unfinished),
             others: self.others.saturating_add(more.others),
         }
     }
 }
 
-/// Reads what another reader does, up to a command with an image: a file of iTerm2 that is shown,
+/// Reads what another reader does, up to a command with an image: a file of iTerm2 that is shown or
 /// an image of kitty that is transmitted and displayed, in one command or in more, or sixels.
 /// [`picture`](Pictures::picture) has it then, and what is read next comes after it, in the
 /// renditions that hold there.
@@ -64,6 +67,8 @@ pub struct Pictures<R> {
     // so many were looked through for the end of a command
     seen: usize,
     ready: Option<Picture>,
+    // the file and the image that are unfinished
+    parts: Option<Parts>,
     unfinished: Option<Unfinished>,
     left_out: LeftOut,
     carried: Carried,
@@ -83,6 +88,7 @@ impl<R: Read> Pictures<R> {
             plain: 0,
             seen: 0,
             ready: None,
+            parts: None,
             unfinished: None,
             left_out: LeftOut::new(),
             carried: Carried::new(alloc, encoding),
@@ -148,10 +154,10 @@ impl<R: Read> Pictures<R> {
         match found {
             Found::Text(length) => self.plain = length,
             Found::Large(kind, from, length) => {
-                if shows(kind, self.between(from, length), self.unfinished.is_some()) {
+                let is_unfinished = self.give_up(kind);
+                if shows(kind, self.between(from, length), is_unfinished) {
                     self.lose(Loss::Large);
                 }
-                self.unfinished = None;
                 self.plain = length;
             }
             Found::Command {
@@ -172,8 +178,11 @@ impl<R: Read> Pictures<R> {
     fn command(&mut self, kind: Kind, from: usize, to: usize) -> Result<Command, AllocError> {
         match kind {
             Kind::File => {
-                let start = from.saturating_add(PROPRIETARY.len());
-                file_command(self.alloc, self.between(start, to))
+                let mut parts = self.parts.take();
+                let text = self.between(from.saturating_add(PROPRIETARY.len()), to);
+                let command = file_command(self.alloc, &mut parts, self.limit, text)?;
+                self.parts = parts;
+                Ok(command)
             }
             Kind::Image => {
                 let mut unfinished = self.unfinished.take();
@@ -199,6 +208,15 @@ impl<R: Read> Pictures<R> {
                 self.plain = length;
             }
             Command::Other => self.plain = length,
+        }
+    }
+
+    // Gives up the image of this kind that is unfinished; whether there was one.
+    fn give_up(&mut self, kind: Kind) -> bool {
+        match kind {
+            Kind::File => self.parts.take().is_some(),
+            Kind::Image => self.unfinished.take().is_some(),
+            Kind::Sixels => false,
         }
     }
 
@@ -228,8 +246,18 @@ impl<R: Read> Pictures<R> {
         match bytes.get(..count) {
             Some(read) if count > 0 => Ok(self.keep(read)?),
             _ => {
-                self.has_ended = true;
+                self.end();
                 Ok(())
+            }
+        }
+    }
+
+    // Takes the end of the stream, at which an image that is unfinished is lost.
+    fn end(&mut self) {
+        self.has_ended = true;
+        for kind in [Kind::File, Kind::Image] {
+            if self.give_up(kind) {
+                self.left_out.unfinished = self.left_out.unfinished.saturating_add(1);
             }
         }
     }

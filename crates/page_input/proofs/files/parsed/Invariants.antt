@@ -1,5 +1,5 @@
 use Rattle.std.proofs.Common.{◌≤◌, length}
-use Rattle.page_input.proofs.commands.file_command.Given as goal
+use Rattle.page_input.proofs.files.parsed.Given as goal
 
 abbrev pub invariant-loop-at : goal.invariant-loop-at
 invariant-loop-at l = length l.rest ≤ length l.fn.text
