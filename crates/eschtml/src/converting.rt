@@ -103,23 +103,23 @@ impl<'a, W: Write, E: Write> Converting<'a, W, E> {
     // Writes these lines of a stream of this name, and says what a string took of them.
     fn take_window<R: Read + Drop>(&mut self, name: &str, window: Window<R>) -> (Ended, Window<R>) {
         let before = window.before();
-        let mut input = Heeding::new(self.alloc, self.options.encoding, window);
+        let input = Heeding::new(self.alloc, self.options.encoding, window);
+        let mut sections = Sections::new(self.alloc, self.options.folds, input);
         let ended = if !self.options.is_page {
-            self.take_text(name, &mut input)
+            self.take_text(name, &mut sections)
         } else if self.options.folds {
-            self.take_groups(name, &mut input)
+            self.take_groups(name, &mut sections)
         } else {
-            self.take_block(name, &mut input)
+            self.take_block(name, &mut sections)
         };
-        let (lost, window) = input.end();
+        let (lost, window) = sections.into_inner().end();
         let ended = self.note_lost(name, ended, before, lost);
         (self.note_images(name, ended), window)
     }
 
     // Writes a stream of this name, group after group.
-    fn take_groups<R: Read + Drop>(&mut self, name: &str, input: &mut R) -> Ended {
-        let mut sections = Sections::new(self.alloc, &mut *input);
-        let ended = self.take_parts(name, &mut sections);
+    fn take_groups<R: Read + Drop>(&mut self, name: &str, sections: &mut Sections<R>) -> Ended {
+        let ended = self.take_parts(name, sections);
         self.end_groups(ended, sections.depth())
     }
 
@@ -188,15 +188,21 @@ impl<'a, W: Write, E: Write> Converting<'a, W, E> {
 
     // Writes the HTML of text of a stream of this name, and its images.
     fn take_text<R: Read + Drop>(&mut self, name: &str, input: &mut R) -> Ended {
-        if self.options.images {
-            let encoding = self.options.encoding;
-            let mut pictures = Pictures::new(self.alloc, encoding, self.options.limit, input);
-            let ended = self.take_pictures(name, &mut pictures);
-            self.left_out = self.left_out.and(pictures.left_out());
-            ended
+        let options = self.options;
+        let mut pictures = Pictures::new(
+            self.alloc,
+            options.encoding,
+            options.limit,
+            options.images,
+            input,
+        );
+        let ended = if options.images {
+            self.take_pictures(name, &mut pictures)
         } else {
-            self.take_plain(name, input)
-        }
+            self.take_plain(name, &mut pictures)
+        };
+        self.left_out = self.left_out.and(pictures.left_out());
+        ended
     }
 
     // Writes text and images, one after another.
@@ -235,12 +241,11 @@ impl<'a, W: Write, E: Write> Converting<'a, W, E> {
 
     // Writes the HTML of text without images.
     fn take_plain<R: Read + Drop>(&mut self, name: &str, input: &mut R) -> Ended {
-        if self.options.links {
-            let linking = Linking::new(self.alloc, self.options.encoding, input);
-            self.write(name, linking)
-        } else {
-            self.write(name, input)
-        }
+        let options = self.options;
+        self.write(
+            name,
+            Linking::new(self.alloc, options.encoding, options.links, input),
+        )
     }
 
     // Writes the HTML of what this reads, of a stream of this name.

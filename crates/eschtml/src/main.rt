@@ -20,7 +20,7 @@ mod strings;
 mod style;
 mod timing;
 
-use atomic_file::{NewFile, Output};
+use atomic_file::{FileFault, Output, Stream};
 use command_line::{
     DONE, FAULT, INPUT, OUTPUT, is_text, open_closed, program_words, refused, status_of_text, tell,
     unwritable, work_through, wrong_apart,
@@ -147,45 +147,37 @@ fn said(rt: &HostRuntime, output_name: &str, written: io::Result<()>) -> u8 {
     status_of_text(PROGRAM, output_name, written, &mut rt.stderr())
 }
 
-// Writes the files to standard output, or to the file of this name.
+// Writes the files to standard output; or to the stream of this name, or the file, which takes its
+// place whole or not at all.
 fn convert_to(rt: &HostRuntime, output: Option<&str>, options: Options<'_>, files: &[&str]) -> u8 {
-    match output {
-        Some(name) => convert_to_file(rt, options, files, name),
-        None => convert(rt, options, files, OUTPUT, &mut rt.stdout()),
-    }
-}
-
-// Writes the files to that of this name, or to the stream of this name.
-fn convert_to_file(rt: &HostRuntime, options: Options<'_>, files: &[&str], name: &str) -> u8 {
-    match Output::of(rt, name, NEW) {
-        Ok(Output::New(new)) => convert_to_new(rt, options, files, name, new),
-        Ok(Output::Stream(mut stream)) => convert(rt, options, files, name, &mut stream),
+    let name = output.unwrap_or(OUTPUT);
+    match output_of(rt, output) {
+        Ok(mut output) => {
+            let status = convert(rt, options, files, name, &mut output);
+            match output.end(rt, status == DONE) {
+                Ok(()) => status,
+                Err(fault) => unwritable(PROGRAM, name, fault, &mut rt.stderr()),
+            }
+        }
         Err(fault) => unwritable(PROGRAM, name, fault, &mut rt.stderr()),
     }
 }
 
-// Writes the files to this one, which takes the place of that name whole or not at all.
-fn convert_to_new(
-    rt: &HostRuntime,
-    options: Options<'_>,
-    files: &[&str],
-    name: &str,
-    mut new: NewFile<HostRuntime>,
-) -> u8 {
-    let status = convert(rt, options, files, name, &mut new.file);
-    match new.end(rt, "", status == DONE) {
-        Ok(()) => status,
-        Err(fault) => unwritable(PROGRAM, name, fault, &mut rt.stderr()),
+// Standard output, or that of this name.
+fn output_of(rt: &HostRuntime, name: Option<&str>) -> Result<Output, FileFault<'static>> {
+    match name {
+        Some(name) => Output::of(rt, name, NEW),
+        None => Ok(Output::Stream(Stream::Output(rt.stdout()))),
     }
 }
 
 // Writes the files to an output of this name, as a page where one is asked for.
-fn convert<W: Write>(
+fn convert(
     rt: &HostRuntime,
     options: Options<'_>,
     files: &[&str],
     output_name: &str,
-    output: &mut W,
+    output: &mut Output,
 ) -> u8 {
     if !options.is_page {
         return convert_all(rt, options, files, output_name, output);
@@ -219,12 +211,12 @@ fn title_of<'a>(options: Options<'a>, files: &[&'a str]) -> &'a str {
 }
 
 // Writes one file after another.
-fn convert_all<W: Write>(
+fn convert_all(
     rt: &HostRuntime,
     options: Options<'_>,
     files: &[&str],
     output_name: &str,
-    output: &mut W,
+    output: &mut Output,
 ) -> u8 {
     let mut converting = Converting {
         alloc: rt.alloc(),

@@ -25,10 +25,12 @@ const LIMIT: usize = 4096;
 /// and of brackets that it does not open, none is the end of it. It has at most 2,083 bytes, and
 /// stands in no link of the stream.
 ///
-/// It keeps a word that may be an address up to its end, but at most 4 KiB.
+/// It keeps a word that may be an address up to its end, but at most 4 KiB. Where no links are
+/// asked for, it reads what the other reader does.
 #[derive(Drop)]
 pub struct Linking<R> {
     inner: R,
+    is_on: bool,
     alloc: Global,
     encoding: Encoding,
     sieve: Sieve,
@@ -44,10 +46,12 @@ pub struct Linking<R> {
 }
 
 impl<R: Read> Linking<R> {
-    /// A reader of what this one reads, in this encoding, from its beginning. Takes no memory.
-    pub fn new(alloc: Global, encoding: Encoding, inner: R) -> Linking<R> {
+    /// A reader of what this one reads, in this encoding, from its beginning; with links, or not.
+    /// Takes no memory.
+    pub fn new(alloc: Global, encoding: Encoding, is_on: bool, inner: R) -> Linking<R> {
         Linking {
             inner,
+            is_on,
             alloc,
             encoding,
             sieve: Sieve::new(encoding),
@@ -205,6 +209,9 @@ impl<R: Read> Linking<R> {
 
 impl<R: Read> Read for Linking<R> {
     fn read(&mut self, buf: &mut [u8]) -> io::Result<usize> {
+        if !self.is_on {
+            return self.inner.read(buf);
+        }
         for _ in 0..u64::MAX {
             if buf.is_empty() || self.at < self.made.len() || self.has_ended {
                 return Ok(self.hand_out(buf));

@@ -51,10 +51,12 @@ impl LeftOut {
 /// renditions that hold there.
 ///
 /// It keeps a command, but at most the limit and what is read at once, and an image whose parts
-/// come one after another, at most the limit.
+/// come one after another, at most the limit. Where no images are asked for, it reads what the
+/// other reader does.
 #[derive(Drop)]
 pub struct Pictures<R> {
     inner: R,
+    is_on: bool,
     alloc: Global,
     encoding: Encoding,
     limit: usize,
@@ -75,10 +77,18 @@ pub struct Pictures<R> {
 }
 
 impl<R: Read> Pictures<R> {
-    /// A reader of what this one reads, in this encoding, from its beginning. Takes no memory.
-    pub fn new(alloc: Global, encoding: Encoding, limit: usize, inner: R) -> Pictures<R> {
+    /// A reader of what this one reads, in this encoding, from its beginning; up to each image, or
+    /// not. Takes no memory.
+    pub fn new(
+        alloc: Global,
+        encoding: Encoding,
+        limit: usize,
+        is_on: bool,
+        inner: R,
+    ) -> Pictures<R> {
         Pictures {
             inner,
+            is_on,
             alloc,
             encoding,
             limit,
@@ -273,6 +283,9 @@ impl<R: Read> Pictures<R> {
 
 impl<R: Read> Read for Pictures<R> {
     fn read(&mut self, buf: &mut [u8]) -> io::Result<usize> {
+        if !self.is_on {
+            return self.inner.read(buf);
+        }
         if buf.is_empty() || !self.has_text()? {
             return Ok(0);
         }

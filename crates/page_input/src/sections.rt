@@ -32,10 +32,12 @@ enum Next {
 /// or `section_start:TIME:NAME` and `section_end:TIME:NAME`, a carriage return and `ESC [0K`, as
 /// GitLab. [`mark`](Sections::mark) says then which it is, and what is read next comes after it.
 ///
-/// It keeps a line up to its end, but at most 4 KiB and what is read at once.
+/// It keeps a line up to its end, but at most 4 KiB and what is read at once. Where no groups are
+/// asked for, it reads what the other reader does.
 #[derive(Drop)]
 pub struct Sections<R> {
     inner: R,
+    is_on: bool,
     alloc: Global,
     // what was read, and how much of it was handed out
     kept: Vec<u8>,
@@ -47,10 +49,12 @@ pub struct Sections<R> {
 }
 
 impl<R: Read> Sections<R> {
-    /// A reader of what this one reads, from its beginning. Takes no memory.
-    pub fn new(alloc: Global, inner: R) -> Sections<R> {
+    /// A reader of what this one reads, from its beginning; group after group, or not. Takes no
+    /// memory.
+    pub fn new(alloc: Global, is_on: bool, inner: R) -> Sections<R> {
         Sections {
             inner,
+            is_on,
             alloc,
             kept: Vec::new(alloc),
             at: 0,
@@ -189,6 +193,9 @@ impl<R: Read> Sections<R> {
 
 impl<R: Read> Read for Sections<R> {
     fn read(&mut self, buf: &mut [u8]) -> io::Result<usize> {
+        if !self.is_on {
+            return self.inner.read(buf);
+        }
         if buf.is_empty() {
             return Ok(0);
         }
