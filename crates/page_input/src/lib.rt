@@ -14,6 +14,7 @@ mod deflate;
 mod files;
 mod found;
 mod leads;
+mod linker;
 mod linking;
 mod marks;
 mod picture;
