@@ -212,7 +212,9 @@ impl<R: Read> Pictures<R> {
                 self.ready = Some(picture);
                 self.at = self.at.saturating_add(length);
             }
-            Command::Part => self.at = self.at.saturating_add(length),
+            Command::Part if self.carried.is_ground() => self.at = self.at.saturating_add(length),
+            // (it ends the string that is unfinished before it)
+            Command::Part => self.plain = length,
             Command::Lost(loss) => {
                 self.lose(loss);
                 self.plain = length;
