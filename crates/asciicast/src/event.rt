@@ -78,7 +78,7 @@ fn event_of<'a>(reader: &mut Reader<'a>) -> Event<'a>
     event_at(time, kind, text)
 }
 
-// What an event of this kind is.
+// Returns the meaning of an event of this kind.
 fn event_at<'a>(time: &'a str, kind: &'a str, text: &'a str) -> Event<'a>
     ensures { told_by result ≡ told_at time.now kind.now text.now }
 {

@@ -105,7 +105,7 @@ fn event_of<'a>(reader: &mut Reader<'a>) -> Line<'a>
     event_at(time, kind, text)
 }
 
-// What an event of this kind is.
+// Returns the meaning of an event of this kind.
 fn event_at<'a>(time: &'a str, kind: &str, text: &'a str) -> Line<'a>
     requires { IsNumber time.now }
     ensures kind { kind_seen result ≡ kind_at time.now kind.now text.now }

@@ -17,7 +17,7 @@ pub fn is_shown_line(line: &str) -> bool
     true
 }
 
-/// A line, of which each control is spelled.
+/// A line with each control spelled.
 pub fn spelled<A: Allocator>(alloc: A, line: &str) -> Result<String<A>, AllocError>
     ensures { IfOk result (λ t. string_bytes t
         ≡ encode_utf8_all (flat_map spelled_char (chars line.now))) }

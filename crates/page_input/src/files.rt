@@ -7,7 +7,7 @@ use esc_values::base64_text::read_base64;
 use memchr::memchr;
 use std::alloc::{AllocError, Global};
 
-/// What a command of iTerm2 begins with, after what opens it.
+/// The first bytes of a command of iTerm2, after its opener.
 pub(crate) const PROPRIETARY: &[u8] = b"1337;";
 
 // What one with a file begins with after that, and those that begin, go on with and end a file
