@@ -64,7 +64,7 @@ func BenchmarkParser(b *testing.B) {
 	})
 }
 
-// What Go programs use: the pattern of the npm package ansi-regex 6.2, from memory.
+// A pattern that Go programs use: that of the npm package ansi-regex 6.2, from memory.
 var pattern = regexp.MustCompile("(?:\x1b\\][\\s\\S]*?(?:\x07|\x1b\x5c|\u009c))|" +
 	"[\x1b\u009b][[\\]()#;?]*(?:\\d{1,4}(?:[;:]\\d{0,4})*)?[\\dA-PR-TZcf-nq-uy=><~]")
 

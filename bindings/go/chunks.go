@@ -10,7 +10,7 @@ import "runtime"
 // How many bytes of a text are copied at once.
 const room = 1 << 16
 
-// What takes a stream in chunks and has the text of each: a filter or a sanitizer.
+// A receiver of a stream in chunks, with the text of each: a filter or a sanitizer.
 type inChunks interface {
 	feed(p []byte) error
 	finish() error

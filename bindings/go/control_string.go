@@ -18,7 +18,7 @@ type ControlString struct {
 
 type stringKind uint8
 
-// What a string is told apart by.
+// The kind of a string.
 const (
 	stringOsc stringKind = iota
 	stringLetter
@@ -28,7 +28,7 @@ const (
 
 type beginning uint8
 
-// What a string has after its key.
+// The text of a string after its key.
 const (
 	anything beginning = iota
 	beginsPart

@@ -18,7 +18,7 @@
 
 enum { SIZE = 2 * 4096, LONGEST = 3 * CHUNK, MOST_NOTED = 1 << 22 };
 
-/* What a stream gives: of text and data the bytes, of other events their numbers. */
+/* The events of a stream: the bytes of text and data, the numbers of others. */
 struct log {
     size_t length;
     uint8_t bytes[MOST_NOTED];

@@ -7,7 +7,7 @@
 #include "shims.h"
 #include <stdlib.h>
 
-/* What a refused request points to, since the pointer may be compared. */
+/* The pointee of a refused request, since the pointer may be compared. */
 static uint8_t nothing;
 
 static struct tried answer(uint8_t *block)

@@ -2,7 +2,7 @@
 /*
  * shims.h - the functions in C that proved code calls, with the types that it calls them by
  *
- * What each does is the contract that the toolchain's crates `libc` and `os` state of it. The
+ * Each meets the contract that the toolchain's crates `libc` and `os` state of it. The
  * toolchain has them for x86-64, in liblibc_c.a and libos_c.a; these are for other processors.
  */
 #ifndef SHIMS_H
@@ -12,7 +12,7 @@
 #include <stddef.h>
 #include <stdint.h>
 
-/* What a request for memory gives: a block, or that there is none. */
+/* The result of a request for memory: a block, or that there is none. */
 struct tried {
     bool ok;
     uint8_t *p;

@@ -1,5 +1,5 @@
 /* SPDX-License-Identifier: MIT */
-/* What the proved programs ask of the system, over the C library of GNU. */
+/* The calls of the proved programs to the system, over the C library of GNU. */
 #define _GNU_SOURCE
 #include "shims.h"
 #include <errno.h>

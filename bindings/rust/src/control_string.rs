@@ -22,7 +22,7 @@ use core::fmt;
 #[derive(Clone, Copy, PartialEq, Eq, Hash, PartialOrd, Ord)]
 pub struct ControlString(u16);
 
-// What a string is told apart by.
+// The kind of a string, which its key needs.
 #[derive(Clone, Copy, PartialEq, Eq)]
 pub(crate) enum StringKind {
     Osc,
@@ -31,7 +31,7 @@ pub(crate) enum StringKind {
     Apc,
 }
 
-// What a string has after its key.
+// The text of a string after its key.
 #[derive(Clone, Copy)]
 pub(crate) enum Begin {
     Anything,

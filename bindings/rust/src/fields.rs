@@ -117,7 +117,7 @@ pub mod name {
     }
 }
 
-// What a field holds, `ESCAPE_STREAM_VALUE_..`.
+// The value of a field, `ESCAPE_STREAM_VALUE_..`.
 numbered! { 0; VALUE_NUMBER VALUE_TEXT VALUE_SIZE }
 
 /// Fields that are left. Each call takes the next one, if it has this name and holds what is

@@ -405,7 +405,7 @@ impl Parser {
         }
     }
 
-    // What the last call noted.
+    // The notes of the last call.
     #[cfg(feature = "oneshot")]
     #[inline(always)]
     pub(crate) fn raw_event(&self) -> &ffi::Event {

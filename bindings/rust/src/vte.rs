@@ -426,7 +426,7 @@ fn call<P: Perform>(params: &mut Params, performer: &mut P, event: Event<'_>, ta
     }
 }
 
-// Of a run of ASCII each byte is a character, which costs less than to read UTF-8.
+// Each byte of a run of ASCII is a character, which costs less than to read UTF-8.
 #[inline]
 fn print_all<P: Perform>(performer: &mut P, run: &str) {
     if run.is_ascii() {

@@ -1,6 +1,6 @@
 /* SPDX-License-Identifier: MIT */
 /*
- * What the module exports: the calls of the library with places and lengths of 32 bits, which are
+ * The exports of the module: the calls of the library with places and lengths of 32 bits, which are
  * numbers in JavaScript. A memory of 32 bits has no others.
  */
 #include "escape_stream.h"
@@ -8,7 +8,7 @@
 #include "exports.h"
 #include "heap.h"
 
-/* What JavaScript reads and writes by its place. */
+/* The structs that JavaScript reads and writes by their places. */
 _Static_assert(sizeof(struct escape_stream_filter_state) == 16, "a filter");
 _Static_assert(sizeof(struct escape_stream_sanitizer) == 16, "a sanitizer");
 _Static_assert(sizeof(struct escape_stream_sanitizer_options) == 56, "its options");

@@ -1,5 +1,5 @@
 /* SPDX-License-Identifier: MIT */
-/* What heap.c gives the library and the host, and the memory that it is over. */
+/* The calls of heap.c for the library and the host, and the memory that it is over. */
 #ifndef HEAP_H
 #define HEAP_H
 

@@ -103,7 +103,7 @@ static void check_states(void) {
     escape_stream_filter_end(&filter);
 }
 
-/* What a stream leaves changed is taken back at its end, and the filter goes on with the next. */
+/* The end of a stream resets the state that it leaves changed; the filter goes on with the next. */
 static void check_finish(void) {
     struct escape_stream_filter_state filter = {0};
     const char stream[] = "\x1b[1m\x1b]8;;http://a\x1b\\x\x1b]0;t";

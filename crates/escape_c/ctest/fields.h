@@ -4,14 +4,14 @@
  * what is wanted. Each text in every room, with guards beside it; each request for memory is
  * refused in turn.
  *
- * What includes it defines PROGRAM, its name, kind_name, the names of the kinds, and read_text, the
- * call.
+ * A file that includes it defines PROGRAM, its name, kind_name, the names of the kinds, and
+ * read_text, the call.
  */
 #include "memory.h"
 
 #include <inttypes.h>
 
-/* What each such call writes first. */
+/* The first output of each such call. */
 struct value {
     uint32_t kind;
     size_t field_count, text_length;
@@ -131,7 +131,7 @@ written(const struct value *value, const struct escape_stream_field *fields, con
     return line;
 }
 
-/* What a call is given: room for fields and texts, with guards. */
+/* The arguments of a call: room for fields and texts, with guards. */
 struct room {
     struct value value;
     struct escape_stream_field fields[MOST_FIELDS];

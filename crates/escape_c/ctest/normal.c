@@ -124,7 +124,7 @@ static void check_finish(void) {
     escape_stream_normal_end(&it);
 }
 
-/* What the calls of a filter began is no normaliser. It is given back. */
+/* An object that the calls of a filter began is no normaliser. It is given back. */
 static void check_others(void) {
     union {
         struct escape_stream_filter_state filter;

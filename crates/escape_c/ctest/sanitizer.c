@@ -19,7 +19,7 @@
 
 static const struct escape_stream_sanitizer_options INIT = ESCAPE_STREAM_SANITIZER_OPTIONS_INIT;
 
-/* What was written of a stream, and its account. */
+/* The text for a stream, and its account. */
 struct written {
     uint8_t text[MOST];
     size_t count;
@@ -159,7 +159,7 @@ static void gives(
 #define WITH(...)                                                                                  \
     ((struct escape_stream_sanitizer_options){.size = INIT.size, .limit = LIMIT, __VA_ARGS__})
 
-/* What each option says, by the words of its comment. */
+/* The effect of each option, by the words of its comment. */
 static void check_texts(void) {
     const char *unended = "one\n\x1b]0;two\nthree\n";
     gives("a string that nobody ends, by lines", WITH(.policy = 0), unended, "one\n\nthree\n");

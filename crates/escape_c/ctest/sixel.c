@@ -55,7 +55,7 @@ static size_t append_item(char *line, const struct escape_stream_sixel_item *it)
     }
 }
 
-/* What a call is given: room for items, with guards. */
+/* The arguments of a call: room for items, with guards. */
 struct room {
     struct escape_stream_sixel sixel;
     struct escape_stream_sixel_item items[MOST_ITEMS];
@@ -198,7 +198,7 @@ static void check_no_images(void) {
         (*item =
              (struct escape_stream_sixel_item){.kind = ESCAPE_STREAM_SIXEL_DEFINE_RGB, .green = 1}),
         NOT_WRITABLE);
-    /* What follows from the rest is not looked at. */
+    /* Values that follow from the rest are not looked at. */
     room = plain;
     room.sixel.width = room.sixel.height = 7;
     check_written(&room, "a width and a height", "1:1 1x6 | 63");

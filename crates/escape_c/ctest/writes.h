@@ -3,8 +3,8 @@
  * Writes what was read by a call of escape_stream.h that gives a kind and fields, and reads it
  * again; and fields that say nothing.
  *
- * What includes it defines INTRODUCER, with which a text begins, and write_text, the call, and all
- * that fields.h wants.
+ * A file that includes it defines INTRODUCER, with which a text begins, and write_text, the call,
+ * and all that fields.h wants.
  */
 #include "fields.h"
 #include "written.h"
@@ -82,7 +82,7 @@ static void check_changed(const struct room *whole, const char *text) {
         }
 }
 
-/* What was read, written; where it is not writable, it is not. */
+/* Writes a value that was read; one that is not writable is not written. */
 static void check_back(const char *text, bool is_writable) {
     static struct room whole;
     read_into(&whole, text, MOST_FIELDS, MOST_BYTES);

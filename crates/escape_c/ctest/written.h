@@ -3,7 +3,7 @@
  * Writes what was read by a call of escape_stream.h: in every room, with guards beside it, and with
  * each request for memory refused in turn.
  *
- * What includes it includes memory.h, and defines struct room, what was read, write_from, the call
+ * A file that includes it includes memory.h, and defines struct room, a value, write_from, the call
  * that writes it, and is_framed, whether a text has the beginning and the end of one.
  */
 enum { MOST_WRITTEN = 240 };

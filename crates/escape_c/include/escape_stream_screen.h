@@ -75,7 +75,7 @@ uint32_t escape_stream_screen_begin(
 uint32_t escape_stream_screen_feed(
     struct escape_stream_screen *screen, const uint8_t *bytes, size_t length);
 
-/* What is known of a screen, but for its cells. Rows and columns are counted from 0 on. */
+/* The state of a screen, but for its cells. Rows and columns are counted from 0 on. */
 struct escape_stream_screen_state {
     uint64_t scrolled;      /* how many rows were scrolled off its top in all */
     size_t kept;            /* how many of these are kept: the last ones */
@@ -183,7 +183,7 @@ uint32_t escape_stream_screen_link_id(
     struct escape_stream_screen *screen, size_t number, uint8_t *out, size_t capacity,
     size_t *needed);
 
-/* What a stream asks a terminal for, which a real one answers. */
+/* A request of a stream to a terminal, which a real one answers. */
 #define ESCAPE_STREAM_REQUEST_PRIMARY_ATTRIBUTES 1   /* DA1, DECID */
 #define ESCAPE_STREAM_REQUEST_SECONDARY_ATTRIBUTES 2 /* DA2 */
 #define ESCAPE_STREAM_REQUEST_TERTIARY_ATTRIBUTES 3  /* DA3 */

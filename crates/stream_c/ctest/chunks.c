@@ -15,7 +15,7 @@ enum { GUARD = 32, MOST_CHUNK = 40, NOISES = 2000, NOISE_CHUNKS = 60, ROOM = 1 <
 
 static unsigned long differences;
 
-/* What was handed out, in a form in which a run is the same as its characters or bytes by
+/* The events, in a form in which a run is the same as its characters or bytes by
  * themselves. */
 struct log {
     char at[ROOM];

@@ -32,7 +32,7 @@ static void put_rendition(const struct escape_stream_event *event)
     printf("m");
 }
 
-/* Of a run all but DEL is shown. */
+/* Writes all of a run but DEL. */
 static void put_run(const uint8_t *text, size_t length)
 {
     for (size_t i = 0; i < length; i++)

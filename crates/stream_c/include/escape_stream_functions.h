@@ -361,7 +361,7 @@ static inline uint32_t escape_stream_control_number(const struct escape_stream_e
             return ESCAPE_STREAM_FUNCTION_NONE;
         number = number * 0x100 + entry->byte;
     }
-    /* Of two functions with the same bytes one has parameters. */
+    /* One of two functions with the same bytes has parameters. */
     if (number == 1 && ((event->byte == 'T' && event->count >= 2) ||
                         ((event->byte == 's' || event->byte == 'u') && event->count >= 1)))
         number = 2;

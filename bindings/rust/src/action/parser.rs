@@ -125,7 +125,7 @@ impl Parser {
         let mut rest = bytes;
         loop {
             let taken = self.events.step(rest);
-            // What comes most often first, each in its own call, so that a closure can be inlined.
+            // The commonest first, each in its own call, so that a closure can be inlined.
             let event = self.events.raw_event();
             if event.kind == kind::CSI {
                 to.sequence(event);
@@ -164,7 +164,7 @@ impl Parser {
         self.done(taken).is_some()
     }
 
-    // What a call gave. An error is kept.
+    // The value of a call. An error is kept.
     fn done<T>(&mut self, result: Result<T, Error>) -> Option<T> {
         result.map_err(|error| self.failure = Some(error)).ok()
     }
@@ -276,7 +276,7 @@ impl Parser {
     // Takes bytes up to the end of the first action, calls `act` with each action of its last byte,
     // and returns how many bytes were taken.
     fn take_first(&mut self, bytes: &[u8], mut act: impl FnMut(Action)) -> usize {
-        // Of a run only the first character or byte is taken: a run changes no state.
+        // Only the first character or byte of a run is taken: a run changes no state.
         let mut excess = 0;
         let count = self.take(bytes, |taker, event, _| {
             let mut goes_on = true;

@@ -7,8 +7,8 @@ use crate::borrowed::{Action, CSI, KittyImage};
 use crate::fields::Room;
 use crate::{Error, Event};
 
-/// What is kept between events: an unfinished device control string, and room for what the
-/// library's calls write.
+/// The state between events: an unfinished device control string, and room for the output of the
+/// library's calls.
 #[derive(Clone)]
 pub struct Taker {
     pub device: DeviceString,

@@ -94,7 +94,7 @@ pub enum KittyImageDelete {
 }
 
 impl KittyImageDelete {
-    // What a kind deletes, from its fields.
+    // The deletion of a kind, from its fields.
     pub(crate) fn of(kind: u32, fields: &mut Fields<'_>) -> Option<KittyImageDelete> {
         use KittyImageDelete as Delete;
         Some(match kind {
@@ -127,7 +127,7 @@ impl KittyImageDelete {
     }
 }
 
-// What is deleted by its place.
+// A deletion by place.
 fn at_a_place(kind: u32, fields: &mut Fields<'_>) -> Option<KittyImageDelete> {
     use KittyImageDelete as Delete;
     Some(match kind {

@@ -65,7 +65,7 @@ pub enum KittyImageData {
     },
 }
 
-/// Of bytes in the command it writes only how many they are, since they may be many.
+/// It writes only the number of bytes in the command, since they may be many.
 impl fmt::Debug for KittyImageData {
     fn fmt(&self, f: &mut fmt::Formatter<'_>) -> fmt::Result {
         borrowed::KittyImageData::from(self).fmt(f)

@@ -244,7 +244,7 @@ impl Keys {
         }
     }
 
-    // What is deleted: by a capital letter the data too.
+    // The images to delete: by a capital letter the data too.
     fn which(&mut self, letter: char, delete: bool) -> &mut Keys {
         let capital = letter.to_ascii_uppercase();
         self.key('d', if delete { capital } else { letter })

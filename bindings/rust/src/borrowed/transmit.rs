@@ -200,7 +200,7 @@ impl<'a> From<&'a apc::KittyImageData> for KittyImageData<'a> {
     }
 }
 
-/// Of bytes in the command it writes only how many they are, since they may be many.
+/// It writes only the number of bytes in the command, since they may be many.
 impl fmt::Debug for KittyImageData<'_> {
     fn fmt(&self, f: &mut fmt::Formatter<'_>) -> fmt::Result {
         let (variant, field, named, data_size, data_offset) = match self {

@@ -132,7 +132,7 @@ fn reserve(items: &mut Vec<SixelData>, more: usize) -> Result<(), Error> {
     items.try_reserve(more).map_err(|_| Error::Memory)
 }
 
-// What the library says of parameters and data.
+// The library's reading of parameters and data.
 fn read_raw<'a>(
     params: &[i64],
     data: &[u8],

@@ -65,8 +65,8 @@ extern "C" {
 
 const TOO_MANY_ROWS: u32 = 14;
 
-// What they have in common: the struct, whose fields are the library's, and the calls but that
-// which begins it. What it points to is in use by it alone, since it is never copied.
+// The common parts: the struct, whose fields are the library's, and the calls but that
+// which begins it. Its pointee is in use by it alone, since it is never copied.
 macro_rules! in_chunks {
     ($(#[$doc:meta])* $name:ident, $feed:ident, $finish:ident, $text:ident, $end:ident) => {
         $(#[$doc])*

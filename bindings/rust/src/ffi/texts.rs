@@ -75,7 +75,7 @@ pub const NO_FIELD: Field = Field {
     length: 0,
 };
 
-/// What a call says of a text: a kind, and how much room its fields and their texts need.
+/// The answer of a call on a text: a kind, and the room that its fields and their texts need.
 #[repr(C)]
 pub struct Said {
     pub kind: u32,

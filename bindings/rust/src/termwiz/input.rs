@@ -1,5 +1,5 @@
 // SPDX-License-Identifier: MIT
-//! What is held down beside a key or a button.
+//! Keys that are held down beside a key or a button.
 use super::flags::flags;
 
 flags! {

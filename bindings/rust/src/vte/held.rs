@@ -15,7 +15,7 @@ pub struct Held {
     kind: Kind,
 }
 
-// What the bytes are.
+// The kind of the bytes.
 #[derive(Clone, Copy, Debug, PartialEq)]
 enum Kind {
     // There are none, or the parser has to see each.
@@ -41,7 +41,7 @@ pub enum Place {
     Inside,
 }
 
-/// What a byte does, if it comes by itself.
+/// The effect of a byte that comes by itself.
 pub enum Single {
     /// It is this character.
     Print(char),
@@ -205,8 +205,9 @@ fn count_while(bytes: &[u8], is_so: impl Fn(u8) -> bool) -> usize {
     bytes.iter().take_while(|byte| is_so(**byte)).count()
 }
 
-// What a byte begins that is neither a character by itself nor a control of C0. After some first
-// bytes of a character not every second one may follow: the parser has to see these at once.
+// The beginning that a byte is, if it is neither a character by itself nor a control of C0. After
+// some first bytes of a character not every second one may follow: the parser has to see these at
+// once.
 #[inline]
 fn begun(byte: u8) -> Kind {
     match byte {

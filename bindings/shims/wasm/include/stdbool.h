@@ -1,5 +1,5 @@
 /* SPDX-License-Identifier: MIT */
-/* What the headers of the library use of this one, for a target without a C library. */
+/* The part of this header that the library's headers use, for a target without a C library. */
 #ifndef STDBOOL_H
 #define STDBOOL_H
 

@@ -42,7 +42,7 @@ use alloc::boxed::Box;
 use alloc::vec::Vec;
 use core::fmt::{self, Write};
 
-/// What a control sequence asks for. One sequence may ask for several values, as one of renditions
+/// A request of a control sequence. One sequence may ask for several values, as one of renditions
 /// does.
 #[derive(Clone, Debug, PartialEq)]
 #[cfg_attr(feature = "serde", derive(serde::Serialize, serde::Deserialize))]

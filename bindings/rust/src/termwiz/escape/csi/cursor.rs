@@ -5,7 +5,7 @@ use crate::termwiz::choices::choices;
 use crate::termwiz::escape::OneBased;
 use core::fmt;
 
-/// What is asked of the cursor, and of what bounds it. Counts are from 1 on.
+/// A request to the cursor, or to its margins. Counts are from 1 on.
 #[derive(Clone, Copy, Debug, PartialEq, Eq)]
 #[cfg_attr(feature = "serde", derive(serde::Serialize, serde::Deserialize))]
 pub enum Cursor {
@@ -113,7 +113,7 @@ choices! {
 }
 
 choices! {
-    /// What CTC does.
+    /// The effect of CTC.
     CursorTabulationControl {
         /// A stop is set in the column.
         SetCharacterTabStopAtActivePosition = 0,
@@ -133,7 +133,7 @@ choices! {
 }
 
 choices! {
-    /// What TBC clears.
+    /// The stops that TBC clears.
     TabulationClear {
         /// The stop in the column is cleared.
         ClearCharacterTabStopAtActivePosition = 0,
@@ -234,7 +234,7 @@ fn write_margins(first: OneBased, last: OneBased, f: &mut fmt::Formatter<'_>) ->
     }
 }
 
-// What comes after `ESC [`.
+// The text after `ESC [`.
 impl fmt::Display for Cursor {
     fn fmt(&self, f: &mut fmt::Formatter<'_>) -> fmt::Result {
         let last = match *self {

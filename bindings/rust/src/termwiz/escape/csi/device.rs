@@ -6,7 +6,7 @@ use crate::termwiz::choices::choices;
 use alloc::vec::Vec;
 use core::fmt;
 
-/// What is asked of the terminal itself, or reported by it.
+/// A request to the terminal itself, or a report by it.
 #[derive(Clone, Debug, PartialEq, Eq)]
 #[cfg_attr(feature = "serde", derive(serde::Serialize, serde::Deserialize))]
 pub enum Device {
@@ -30,7 +30,7 @@ pub enum Device {
     XtSmGraphics(XtSmGraphics),
 }
 
-/// What a terminal is, as it reports.
+/// The kind of a terminal, as it reports.
 #[derive(Clone, Debug, PartialEq, Eq)]
 #[cfg_attr(feature = "serde", derive(serde::Serialize, serde::Deserialize))]
 pub enum DeviceAttributes {
@@ -187,7 +187,7 @@ impl fmt::Display for DeviceAttributes {
     }
 }
 
-// What comes after `ESC [`.
+// The text after `ESC [`.
 impl fmt::Display for Device {
     fn fmt(&self, f: &mut fmt::Formatter<'_>) -> fmt::Result {
         f.write_str(match self {

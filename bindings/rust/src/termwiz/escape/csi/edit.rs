@@ -4,7 +4,7 @@ use super::sequence::{Sequence, write_choice, write_count};
 use crate::termwiz::choices::choices;
 use core::fmt;
 
-/// What is inserted, deleted, erased, repeated and scrolled. Counts are from 1 on.
+/// Inserting, deleting, erasing, repeating and scrolling. Counts are from 1 on.
 #[derive(Clone, Copy, Debug, PartialEq, Eq)]
 #[cfg_attr(feature = "serde", derive(serde::Serialize, serde::Deserialize))]
 pub enum Edit {
@@ -31,7 +31,7 @@ pub enum Edit {
 }
 
 choices! {
-    /// What EL erases of the line.
+    /// The part of the line that EL erases.
     EraseInLine {
         /// It erases what is right of the cursor, and below it.
         EraseToEndOfLine = 0,
@@ -43,7 +43,7 @@ choices! {
 }
 
 choices! {
-    /// What ED erases of the screen.
+    /// The part of the screen that ED erases.
     EraseInDisplay {
         /// It erases what comes after the cursor.
         EraseToEndOfDisplay = 0,
@@ -77,7 +77,7 @@ impl Edit {
     }
 }
 
-// What comes after `ESC [`.
+// The text after `ESC [`.
 impl fmt::Display for Edit {
     fn fmt(&self, f: &mut fmt::Formatter<'_>) -> fmt::Result {
         let last = match *self {

@@ -9,7 +9,7 @@ use core::fmt;
 #[derive(Clone, Debug, PartialEq, Eq)]
 #[cfg_attr(feature = "serde", derive(serde::Serialize, serde::Deserialize))]
 pub struct XtSmGraphics {
-    /// What is limited.
+    /// The limited thing.
     pub item: XtSmGraphicsItem,
     /// The action of a request, or the status of a report.
     pub action_or_status: i64,
@@ -17,7 +17,7 @@ pub struct XtSmGraphics {
     pub value: Vec<i64>,
 }
 
-/// What is limited.
+/// A thing with a limit.
 #[derive(Clone, Copy, Debug, PartialEq, Eq)]
 #[cfg_attr(feature = "serde", derive(serde::Serialize, serde::Deserialize))]
 pub enum XtSmGraphicsItem {
@@ -32,7 +32,7 @@ pub enum XtSmGraphicsItem {
 }
 
 choices! {
-    /// What is asked of a limit.
+    /// A request about a limit.
     XtSmGraphicsAction {
         /// It is asked for.
         ReadAttribute = 1,
@@ -46,7 +46,7 @@ choices! {
 }
 
 choices! {
-    /// What came of a request.
+    /// The result of a request.
     XtSmGraphicsStatus {
         /// It was done.
         Success = 0,
@@ -108,7 +108,7 @@ impl XtSmGraphics {
     }
 }
 
-// What comes after `ESC [`.
+// The text after `ESC [`.
 impl fmt::Display for XtSmGraphics {
     fn fmt(&self, f: &mut fmt::Formatter<'_>) -> fmt::Result {
         let item = match self.item {

@@ -5,7 +5,7 @@ use crate::termwiz::choices::choices;
 use crate::termwiz::flags::flags;
 use core::fmt;
 
-/// What is asked of how keys are reported, or reported of it.
+/// A request about the reports of keys, or a report of them.
 #[derive(Clone, Copy, Debug, PartialEq, Eq)]
 #[cfg_attr(feature = "serde", derive(serde::Serialize, serde::Deserialize))]
 pub enum Keyboard {
@@ -32,7 +32,7 @@ pub enum Keyboard {
 }
 
 flags! {
-    /// What is reported of keys.
+    /// The reports of keys.
     KittyKeyboardFlags {
         /// Nothing more is.
         NONE = 0;
@@ -40,7 +40,7 @@ flags! {
         DISAMBIGUATE_ESCAPE_CODES = 1;
         /// Repetition and release are.
         REPORT_EVENT_TYPES = 2;
-        /// What a key gives with Shift and in the usual layout is.
+        /// The characters of a key with Shift and in the usual layout are.
         REPORT_ALTERNATE_KEYS = 4;
         /// Keys of text are reported by control sequences.
         REPORT_ALL_KEYS_AS_ESCAPE_CODES = 8;
@@ -93,7 +93,7 @@ impl Keyboard {
     }
 }
 
-// What comes after `ESC [`.
+// The text after `ESC [`.
 impl fmt::Display for Keyboard {
     fn fmt(&self, f: &mut fmt::Formatter<'_>) -> fmt::Result {
         match *self {

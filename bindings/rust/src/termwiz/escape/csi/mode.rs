@@ -4,7 +4,7 @@ use super::mode_codes::{DecPrivateModeCode, TerminalModeCode};
 use super::sequence::{CsiParam, Sequence};
 use core::fmt;
 
-/// What is asked of a mode.
+/// A request about a mode.
 #[derive(Clone, Copy, Debug, PartialEq, Eq)]
 #[cfg_attr(feature = "serde", derive(serde::Serialize, serde::Deserialize))]
 pub enum Mode {
@@ -28,7 +28,7 @@ pub enum Mode {
     XtermKeyMode {
         /// The keys.
         resource: XtermKeyModifierResource,
-        /// What they send. Without a number it is as the terminal has it at first.
+        /// Their number. Without a number it is as the terminal has it at first.
         value: Option<i64>,
     },
 }
@@ -122,7 +122,7 @@ impl TerminalMode {
     }
 }
 
-/// What a sequence of modes does with each.
+/// The effect of a sequence of modes on each.
 #[derive(Clone, Copy)]
 pub enum Change {
     Private(fn(DecPrivateMode) -> Mode),
@@ -130,7 +130,7 @@ pub enum Change {
 }
 
 impl Change {
-    /// What this sequence does, if it is one of modes.
+    /// The effect of this sequence, if it is one of modes.
     pub fn of(sequence: &Sequence<'_>) -> Option<Change> {
         Some(
             match (sequence.prefix, sequence.intermediate, sequence.last) {
@@ -145,7 +145,7 @@ impl Change {
         )
     }
 
-    /// What it does with the mode of a parameter.
+    /// The mode of a parameter, with this effect.
     pub fn mode(self, param: &[CsiParam]) -> Option<Mode> {
         let [CsiParam::Integer(number)] = *param else {
             return None;
@@ -189,7 +189,7 @@ impl Mode {
     }
 }
 
-// What comes after `ESC [`.
+// The text after `ESC [`.
 impl fmt::Display for Mode {
     fn fmt(&self, f: &mut fmt::Formatter<'_>) -> fmt::Result {
         match self {

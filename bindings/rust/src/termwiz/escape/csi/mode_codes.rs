@@ -59,13 +59,13 @@ choices! {
         EnableAlternateScreen = 47,
         /// The alternate screen is shown, and erased when it is left.
         OptEnableAlternateScreen = 1047,
-        /// What is pasted comes between brackets.
+        /// Pasted text comes between brackets.
         BracketedPaste = 2004,
         /// Characters are joined as Unicode says.
         GraphemeClustering = 2027,
         /// Each image has a palette of its own.
         UsePrivateColorRegistersForEachGraphic = 1070,
-        /// What is written is shown at once when the mode ends.
+        /// Written text is shown at once when the mode ends.
         SynchronizedOutput = 2026,
         /// The key Escape sends a sequence, in mintty.
         MinTTYApplicationEscapeKeyMode = 7727,

@@ -4,7 +4,7 @@ use super::sequence::Sequence;
 use crate::termwiz::input::Modifiers;
 use core::fmt;
 
-/// What a terminal reports of the mouse.
+/// A terminal's report of the mouse.
 #[derive(Clone, Copy, Debug, PartialEq, Eq)]
 #[cfg_attr(feature = "serde", derive(serde::Serialize, serde::Deserialize))]
 pub enum MouseReport {
@@ -130,7 +130,7 @@ impl MouseReport {
     }
 }
 
-// What comes after `ESC [`.
+// The text after `ESC [`.
 impl fmt::Display for MouseReport {
     fn fmt(&self, f: &mut fmt::Formatter<'_>) -> fmt::Result {
         let (x, y, button, modifiers) = match *self {

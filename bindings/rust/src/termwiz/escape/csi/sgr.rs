@@ -31,7 +31,7 @@ pub enum Sgr {
     Font(Font),
     /// They have this colour.
     Foreground(ColorSpec),
-    /// What lies behind them has this colour.
+    /// The ground behind them has this colour.
     Background(ColorSpec),
     /// Whether a line is above them.
     Overline(bool),
@@ -204,7 +204,7 @@ fn write_channels(number: u8, color: SrgbaTuple, f: &mut fmt::Formatter<'_>) -> 
     }
 }
 
-// What comes after `ESC [`.
+// The text after `ESC [`.
 impl fmt::Display for Sgr {
     fn fmt(&self, f: &mut fmt::Formatter<'_>) -> fmt::Result {
         let number = match *self {

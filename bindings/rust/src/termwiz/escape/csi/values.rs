@@ -12,14 +12,14 @@ use core::iter::FusedIterator;
 /// The values of a control sequence: the iterator of [`CSI::parse`].
 #[derive(Clone)]
 pub struct Values<'a> {
-    // What comes most often has a place of its own.
+    // The commonest has a place of its own.
     renditions: Option<&'a [CsiParam]>,
     others: Others<'a>,
     is_truncated: bool,
     control: char,
 }
 
-// What is still to be read that is no rendition.
+// The values still to be read, but for renditions.
 #[derive(Clone)]
 enum Others<'a> {
     Nothing,
@@ -29,7 +29,7 @@ enum Others<'a> {
 
 impl<'a> Others<'a> {
     fn of(params: &'a [CsiParam], is_truncated: bool, control: char) -> Others<'a> {
-        // Of more entries than are kept an intermediate may be among those that are not.
+        // An intermediate may be among entries that are not kept.
         if is_truncated {
             return Others::Whole(params, None);
         }

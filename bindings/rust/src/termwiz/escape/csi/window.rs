@@ -4,7 +4,7 @@ use super::sequence::{Sequence, counted};
 use crate::termwiz::escape::OneBased;
 use core::fmt;
 
-/// What is asked of the window, or reported of it. Sizes are in pixels or, if the name says so, in
+/// A request to the window, or a report of it. Sizes are in pixels or, if the name says so, in
 /// cells.
 #[derive(Clone, Copy, Debug, PartialEq, Eq)]
 #[cfg_attr(feature = "serde", derive(serde::Serialize, serde::Deserialize))]
@@ -209,7 +209,7 @@ fn write_numbers(
     f.write_str("t")
 }
 
-// What comes after `ESC [`.
+// The text after `ESC [`.
 impl fmt::Display for Window {
     fn fmt(&self, f: &mut fmt::Formatter<'_>) -> fmt::Result {
         match *self {
