@@ -4,6 +4,7 @@ pub mod ChoicesAdmit
 pub mod GroupsByKey
 pub mod GroupsAreThePolicy
 pub mod CommandsAreKnown
+pub mod PlainLinksAreLinks
 pub mod ImagesDoNotPass
 pub mod PassedIsWritable
 pub mod AtMostTextOrColor

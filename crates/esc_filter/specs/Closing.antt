@@ -19,6 +19,7 @@ use Rattle.esc_actions.specs.declared.control_code.ControlCode.TheVariants.{Shif
 use Rattle.esc_write.specs.declared.short_numbers.ShortNumbers.{ShortNumbers}
 use Rattle.esc_write.specs.declared.short_numbers.ShortNumbers.TheVariants as short
 use Rattle.esc_pen.specs.declared.pen.Pen.{Pen}
+use Rattle.esc_filter.specs.Addresses.{address_in, is_address}
 use Rattle.esc_filter.specs.Pens.{pen_after_final, pen_after_sequence, pen_selected}
 use Rattle.esc_filter.specs.Terminal.{after_named, after_named_escape, is_changed_saved, nothing_saved, unchanged}
 use Rattle.esc_filter.specs.declared.terminal.Screen.{Screen}
@@ -92,8 +93,14 @@ abbrev pub ends_in_semicolon : Bool → List ℕ → Bool
 ends_in_semicolon before [] = before
 ends_in_semicolon before (b ∷ s) = ends_in_semicolon (b == 0x3b) s
 
+-- the same of a link whose address is in parts; none are no link
+abbrev pub after_address : List (List ℕ) → Terminal → Terminal
+after_address [] t = t
+after_address (u ∷ us) t = record t { link = is_address (u ∷ us) }
+
 abbrev pub after_command : {A : Type 0} → OperatingSystemCommand A → Terminal → Terminal
 after_command (command.SetHyperlink link) t = record t { link = opens link }
+after_command (command.Unspecified ps) t = after_address (address_in ps) t
 after_command _ t = t
 
 -- after a value

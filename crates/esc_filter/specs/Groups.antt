@@ -1,5 +1,5 @@
 -- Groups of actions, and what a choice of groups admits.
-use Rattle.std.specs.Prelude.{ℕ, ◌≡◌, Bool, true, false, ◌==◌, ◌&&◌, ◌||◌, if◌then◌else◌, List, [], ◌∷◌, get_or, set, Option, Some, None}
+use Rattle.std.specs.Prelude.{ℕ, ◌≡◌, Bool, true, false, not, ◌==◌, ◌&&◌, ◌||◌, if◌then◌else◌, List, [], ◌∷◌, get_or, set, Option, Some, None}
 use Rattle.std.specs.List.{list_all, list_any}
 use Rattle.std.specs.Option.{option_map}
 use Rattle.esc_sequences.specs.Csis.{CsiValue, sgr, unspecified}
@@ -15,8 +15,9 @@ use Rattle.esc_osc.specs.declared.command.OperatingSystemCommand.{OperatingSyste
 use Rattle.esc_osc.specs.declared.command.OperatingSystemCommand.TheVariants as command
 use Rattle.esc_actions.specs.ControlCodes.{code_number}
 use Rattle.esc_actions.specs.Values.{Value, print, string, control, esc, csi, osc, kitty, sixel}
+use Rattle.esc_filter.specs.Addresses.{address_in, has_parts}
 use Rattle.esc_filter.specs.Concealed.{conceals}
-use Rattle.esc_filter.specs.Rules.{changes_with, escape_changes_with, is_layout, is_palette, is_plain_param, is_shown}
+use Rattle.esc_filter.specs.Rules.{changes_with, escape_changes_with, is_hyperlink, is_layout, is_link, is_palette, is_plain_param, is_shown}
 use Rattle.esc_filter.specs.declared.function_groups.TheConstants.{CURSOR, ERASE, ESCAPE_CHARSETS, ESCAPE_CURSOR, ESCAPE_SCROLL, MODES, SCROLL}
 use Rattle.esc_filter.specs.declared.group.Group.{Group}
 use Rattle.esc_filter.specs.declared.group.Group.TheVariants as group
@@ -162,8 +163,12 @@ abbrev pub of_sequence : CsiValue → Group
 of_sequence (sgr s) = group.Sgr
 of_sequence (unspecified es more f) = of_body es f
 
+abbrev pub of_parts : List (List ℕ) → Group
+of_parts ps = if has_parts (address_in ps) then group.Links else group.Other
+
 abbrev pub of_other_command : {A : Type 0} → OperatingSystemCommand A → Group
 of_other_command (command.SetHyperlink l) = group.Links
+of_other_command (command.Unspecified ps) = of_parts ps
 of_other_command (command.SetIconNameAndWindowTitle t) = group.Titles
 of_other_command (command.SetIconName t) = group.Titles
 of_other_command (command.SetIconNameSun t) = group.Titles
@@ -231,9 +236,15 @@ groups_of policy.All = record {
   schemes = None;
 }
 
--- what a choice of groups admits: what is of one of them, but for links that lead elsewhere
+-- the value is no link with DEL or a character that deceives, or these pass too
+abbrev pub shows : {A : Type 0} → Bool → Value A → Bool
+shows all (osc c) = (not (is_hyperlink c) || is_link c) || all
+shows all v = true
+
+-- what a choice of groups admits: what is of one of them, but for links that lead elsewhere, and
+-- those with DEL or a character that deceives where other actions do not pass
 abbrev pub admits_groups : {A : Type 0} → Groups → Value A → Bool
-admits_groups g v = leads g.schemes v && has g (group_of v)
+admits_groups g v = leads g.schemes v && (shows (has g group.Other) v && has g (group_of v))
 
 -- of control sequences
 abbrev pub has_sequence : Groups → CsiValue → Bool

@@ -1,3 +1,4 @@
+pub mod Addresses
 pub mod Rules
 pub mod Known
 pub mod Terminal

@@ -1,9 +1,12 @@
 -- What the policies admit.
 use Rattle.std.specs.Prelude.{ℕ, ◌≡◌, ◌≢◌, ◌≤◌, Bool, true, false, not, pos, negsuc, ◌==◌, ◌&&◌, ◌||◌, List, [], ◌∷◌, Option, Some, None}
-use Rattle.std.specs.List.{list_all}
+use Rattle.std.specs.List.{list_all, list_any}
+use Rattle.std.specs.Str.{chars}
+use Rattle.unicode_visibility.specs.Characters.{is_deceiving}
 use Rattle.esc_sequences.specs.Csis.{CsiValue, sgr, unspecified}
 use Rattle.esc_values.specs.declared.csi_param.CsiParam.{CsiParam}
 use Rattle.esc_values.specs.declared.csi_param.CsiParam.TheVariants.{Integer, P}
+use Rattle.esc_values.specs.Scalars.{utf8_of}
 use Rattle.esc_sequences.specs.declared.esc.Esc.{Esc}
 use Rattle.esc_sequences.specs.declared.esc.Esc.TheVariants as esc_variant
 use Rattle.control_functions.specs.Controls.{control_of, is_screen as is_screen_c0}
@@ -17,6 +20,7 @@ use Rattle.control_functions.specs.declared.control_function.ControlFunction.{Co
 use Rattle.control_functions.specs.declared.control_function.ControlFunction.TheVariants as function
 use Rattle.control_functions.specs.declared.escape_function.EscapeFunction.{EscapeFunction}
 use Rattle.control_functions.specs.declared.escape_function.EscapeFunction.TheVariants as escape_function
+use Rattle.esc_links.specs.declared.hyperlink.Hyperlink.{Hyperlink}
 use Rattle.esc_osc_values.specs.declared.change_color_pair.ChangeColorPair.{ChangeColorPair}
 use Rattle.esc_osc_values.specs.declared.color_or_query.ColorOrQuery.{ColorOrQuery}
 use Rattle.esc_osc_values.specs.declared.color_or_query.ColorOrQuery.TheVariants as color
@@ -24,6 +28,7 @@ use Rattle.esc_osc.specs.declared.command.OperatingSystemCommand.{OperatingSyste
 use Rattle.esc_osc.specs.declared.command.OperatingSystemCommand.TheVariants as command
 use Rattle.esc_actions.specs.ControlCodes.{code_number}
 use Rattle.esc_actions.specs.Values.{Value, print, string, control, esc, csi, osc}
+use Rattle.esc_filter.specs.Addresses.{address_in, has_parts}
 use Rattle.esc_filter.specs.declared.policy.Policy.{Policy}
 use Rattle.esc_filter.specs.declared.policy.Policy.TheVariants as policy
 
@@ -55,9 +60,40 @@ abbrev pub is_rendition : CsiValue → Bool
 is_rendition (sgr s) = true
 is_rendition (unspecified es more f) = (f == 0x6d) && list_all is_plain_param es
 
--- a link, or the end of one
+-- a text without DEL, and without a character that deceives
+abbrev pub is_clean : List ℕ → Bool
+is_clean t = list_all is_shown t && not (list_any is_deceiving (chars t))
+
+abbrev pub is_clean_pair : List ℕ × List ℕ → Bool
+is_clean_pair e = is_clean e.0 && is_clean e.1
+
+-- the end of a link, or a link whose parameters and address are such texts
+abbrev pub is_clean_link : {A : Type 0} → Option (Hyperlink A) → Bool
+is_clean_link None = true
+is_clean_link (Some l) = list_all is_clean_pair l.params && is_clean l.uri
+
+-- bytes that are UTF-8, and such a text
+abbrev pub is_clean_text : Option (List ℕ) → Bool
+is_clean_text None = false
+is_clean_text (Some t) = is_clean t
+
+abbrev pub is_clean_part : List ℕ → Bool
+is_clean_part p = is_clean_text (utf8_of p)
+
+-- parts that are those of a link, and such texts
+abbrev pub are_clean_link : List (List ℕ) → Bool
+are_clean_link ps = has_parts (address_in ps) && list_all is_clean_part ps
+
+-- a link, whatever its parameters and its address are, or the end of one
+abbrev pub is_hyperlink : {A : Type 0} → OperatingSystemCommand A → Bool
+is_hyperlink (command.SetHyperlink l) = true
+is_hyperlink (command.Unspecified ps) = has_parts (address_in ps)
+is_hyperlink _ = false
+
+-- the same without DEL, and without a character that deceives
 abbrev pub is_link : {A : Type 0} → OperatingSystemCommand A → Bool
-is_link (command.SetHyperlink l) = true
+is_link (command.SetHyperlink l) = is_clean_link l
+is_link (command.Unspecified ps) = are_clean_link ps
 is_link _ = false
 
 -- a text that begins with a digit other than 8

@@ -1,5 +1,5 @@
 -- Where links lead: the schemes of their addresses (RFC 3986, 3.1).
-use Rattle.std.specs.Prelude.{ℕ, Bool, true, false, ◌==◌, ◌&&◌, ◌||◌, List, [], ◌∷◌, length, take, drop, Option, Some}
+use Rattle.std.specs.Prelude.{ℕ, Bool, true, false, not, ◌==◌, ◌&&◌, ◌||◌, List, [], ◌∷◌, length, take, drop, Option, Some}
 use Rattle.std.specs.Char.{is_ascii_alphabetic, is_ascii_alphanumeric}
 use Rattle.std.specs.Borrow.{Bor}
 use Rattle.std.specs.List.{list_all, list_any, slice_split}
@@ -8,6 +8,7 @@ use Rattle.esc_frame.specs.Segments.{is_empty}
 use Rattle.esc_actions.specs.Values.{Value, osc}
 use Rattle.esc_osc.specs.declared.command.OperatingSystemCommand.{OperatingSystemCommand}
 use Rattle.esc_osc.specs.declared.command.OperatingSystemCommand.TheVariants as command
+use Rattle.esc_filter.specs.Addresses.{address_in, is_address}
 
 -- a letter, and then letters, digits, `+`, `-` and `.`
 abbrev pub is_scheme_byte : ℕ → Bool
@@ -34,11 +35,17 @@ is_comma b = b == 0x2c
 abbrev pub has_one_scheme : List ℕ → List ℕ → Bool
 has_one_scheme address schemes = list_any (has_scheme address) (slice_split is_comma schemes)
 
+-- the same of an address in parts, of which the scheme is in the first; or they are none
+abbrev pub parts_lead : List (List ℕ) → List ℕ → Bool
+parts_lead [] schemes = true
+parts_lead (u ∷ us) schemes = not (is_address (u ∷ us)) || has_one_scheme u schemes
+
 -- no link, the end of one, as a link without an address is, or a link to an address with one of the
 -- schemes, where there are some
 abbrev pub link_leads : {A : Type 0} → Option (Bor (List ℕ)) → OperatingSystemCommand A → Bool
 link_leads (Some schemes) (command.SetHyperlink (Some link)) =
     is_empty link.uri || has_one_scheme link.uri schemes.now
+link_leads (Some schemes) (command.Unspecified ps) = parts_lead (address_in ps) schemes.now
 link_leads _ _ = true
 
 abbrev pub leads : {A : Type 0} → Option (Bor (List ℕ)) → Value A → Bool

@@ -7,7 +7,7 @@ use Rattle.esc_values.specs.Clear.{IsClearText, framed_text}
 use Rattle.esc_values.specs.Params.{is_csi_parameter, is_from}
 use Rattle.esc_actions.specs.Values.{Value}
 use Rattle.esc_filter.specs.Closing.{joined_lists}
-use Rattle.esc_filter.specs.Rules.{admits}
+use Rattle.esc_filter.specs.Rules.{admits, is_shown}
 use Rattle.esc_filter.specs.declared.policy.Policy.{Policy}
 
 -- a character of plain text: tab, line feed, carriage return, U+0020 to U+007E, or a Guard scalar
@@ -25,9 +25,10 @@ abbrev pub IsRendition : List ℕ → Type 0
 IsRendition x = (y : List ℕ) × (list_all is_csi_parameter y ≡ true)
     × (x ≡ 0x1b ∷ 0x5b ∷ (y ++ 0x6d ∷ []))
 
--- `ESC ]`, a text of clear characters that begins with `8;`, and `ESC \`
+-- `ESC ]`, a text of clear characters but DEL that begins with `8;`, and `ESC \`
 abbrev pub IsLink : List ℕ → Type 0
-IsLink x = (y : List ℕ) × IsClearText (codes "8;" ++ y) × (x ≡ framed_text (codes "8;" ++ y))
+IsLink x = (y : List ℕ) × IsClearText (codes "8;" ++ y) × (list_all is_shown y ≡ true)
+    × (x ≡ framed_text (codes "8;" ++ y))
 
 -- a piece: a character, and where there is colour also a rendition or a link
 abbrev pub IsToken : Bool → List ℕ → Type 0

@@ -2,17 +2,18 @@
 ghost use Rattle.std.specs.Prelude.{◌≡◌};
 ghost use Rattle.esc_actions.specs.Values.{value_of};
 ghost use Rattle.esc_sequences.specs.Csis.{csi_value};
-ghost use Rattle.esc_filter.specs.Groups.{group_of, of_body, of_command, of_control, of_escape, of_print, of_rendition, of_sequence, of_text};
+ghost use Rattle.esc_filter.specs.Groups.{group_of, of_body, of_command, of_control, of_escape, of_parts, of_print, of_rendition, of_sequence, of_text};
 
 use crate::concealed::conceals;
 use crate::function_groups::{group_of_escape_function, group_of_function};
+use crate::links::has_address;
 use crate::policy::{are_plain, are_shown, is_layout};
 use crate::screen::{changes_with, escape_changes_with, is_palette};
 use control_functions::{ControlFunction, EscapeFunction};
 use esc_actions::Action;
 use esc_osc::OperatingSystemCommand;
 use esc_sequences::{CSI, Esc};
-use esc_values::CsiParam;
+use esc_values::{CsiParam, Items};
 use std::alloc::Allocator;
 
 /// A group of actions. Each action is in one: the groups of what [`Policy::Text`] admits are the
@@ -29,7 +30,8 @@ pub enum Group {
     Sgr,
     /// Graphic renditions of which one conceals text (SGR 8).
     Hidden,
-    /// Hyperlinks (OSC 8), and their ends.
+    /// Hyperlinks (OSC 8), and their ends. An address may have `;` in it. A link with DEL or a
+    /// character that deceives ([`is_deceiving`](crate::is_deceiving)) passes only with `Other`.
     Links,
     /// Bell, backspace, line tabulation and form feed.
     Controls,
@@ -179,7 +181,18 @@ fn group_of_command<A: Allocator>(command: &OperatingSystemCommand<A>) -> Group
         | OperatingSystemCommand::CurrentWorkingDirectory(_)
         | OperatingSystemCommand::ResetColors(_)
         | OperatingSystemCommand::RxvtExtension(_)
-        | OperatingSystemCommand::ConEmuProgress(_)
-        | OperatingSystemCommand::Unspecified(_) => Group::Other,
+        | OperatingSystemCommand::ConEmuProgress(_) => Group::Other,
+        OperatingSystemCommand::Unspecified(parts) => group_of_parts(parts.as_slice()),
+    }
+}
+
+// The group of a command that has these parts, and no other reading.
+fn group_of_parts<A: Allocator>(parts: &[Items<u8, A>]) -> Group
+    ensures { result ≡ of_parts parts.now }
+{
+    if has_address(parts) {
+        Group::Links
+    } else {
+        Group::Other
     }
 }

@@ -8,6 +8,7 @@ use crate::admit::Admit;
 use crate::concealed::conceals;
 use crate::group::{Group, group_of_body};
 use crate::known::Known;
+use crate::links::shows;
 use crate::policy::{Policy, are_plain, are_shown};
 use crate::schemes::leads;
 use esc_actions::Action;
@@ -15,7 +16,8 @@ use esc_values::CsiParam;
 use std::alloc::Allocator;
 
 /// A policy by groups: the actions of some groups pass, and no others. Of links it may admit those
-/// alone whose address has one of some schemes, and the ends of links.
+/// alone whose address has one of some schemes, and the ends of links. Where the group `Other` does
+/// not pass, links with DEL or characters that deceive do not either.
 #[derive(Clone, Copy, Debug)]
 pub struct Groups<'a> {
     // of each group, in their order, whether it passes
@@ -107,7 +109,8 @@ impl<'a, A: Allocator> Admit<A> for Groups<'a> {
     // Out of the way of a policy that a program has in the same place.
     #[inline(never)]
     fn admits(&self, action: &Action<A>) -> bool {
-        leads(&self.schemes, action) && self.has(Group::of(action))
+        leads(&self.schemes, action)
+            && (shows(self.has(Group::Other), action) && self.has(Group::of(action)))
     }
 
     #[inline(never)]

@@ -11,11 +11,12 @@ pub struct Known {
     pub text: bool,
     /// All graphic renditions (SGR) pass.
     pub renditions: bool,
-    /// All hyperlinks (OSC 8) pass, and their ends.
+    /// All hyperlinks (OSC 8) that [`Policy::Color`](crate::Policy::Color) admits pass, and their
+    /// ends.
     pub links: bool,
     /// No control sequence passes but renditions.
     pub no_functions: bool,
-    /// No operating system command passes but links.
+    /// No operating system command passes but these links.
     pub no_commands: bool,
     /// No escape sequence passes.
     pub no_escapes: bool,

@@ -171,7 +171,7 @@ pub fn writes_plain_text<A: Allocator>()
 
 /// Under one that admits no more than `Policy::Color`, it is made of these and of whole renditions
 /// and links: `ESC [`, digits, `:` and `;`, `m`; and `ESC ]`, a text that begins with `8;` and has
-/// no control of C0 or C1, `ESC \`.
+/// no control of C0 or C1 and no DEL, `ESC \`.
 pub fn writes_color_text<A: Allocator>()
     ensures goes_on { (u : Guard) (limit : Option ℕ) (f : Value A → Bool)
         → AdmitsAtMost policy.Color f → (s : List ℕ) → IsColorText (passed_text_as u limit f s) }

@@ -6,13 +6,14 @@ ghost use Rattle.esc_values.specs.declared.csi_param.CsiParam.{CsiParam};
 ghost use Rattle.esc_values.specs.declared.csi_param.CsiParam.TheVariants.{Integer};
 ghost use Rattle.esc_actions.specs.Values.{value_of};
 ghost use Rattle.esc_osc.specs.Reading.{meaning as command_meant};
-ghost use Rattle.esc_filter.specs.Closing.{BeginsWith, IsAfter, Turns, after_body, after_command, after_control, after_escape, after_sequence, after_value, ends_in_semicolon, is_reset, lights, noted_terminal, opens, turned_terminal};
+ghost use Rattle.esc_filter.specs.Closing.{BeginsWith, IsAfter, Turns, after_address, after_body, after_command, after_control, after_escape, after_sequence, after_value, ends_in_semicolon, is_reset, lights, noted_terminal, opens, turned_terminal};
 ghost use Rattle.esc_filter.specs.Pens.{pen_after_final, pen_after_sequence};
 ghost use Rattle.esc_pen.specs.declared.pen.Pen.{Pen};
 ghost use Rattle.esc_filter.specs.Terminal.{after_escape_function, after_named_escape};
 ghost use Rattle.esc_filter.specs.declared.terminal.Terminal.{Terminal};
 ghost use Rattle.esc_write.specs.Plain.{AreParams, IsPlainLink};
 
+use crate::links::{address_in, is_address};
 use crate::policy::{are_plain, has_other_code};
 use crate::terminal::Terminal;
 use control_functions::{ControlFunction, EscapeFunction};
@@ -21,7 +22,7 @@ use esc_links::Hyperlink;
 use esc_osc::{OperatingSystemCommand, laws};
 use esc_sequences::csi::is_unspecified;
 use esc_sequences::{CSI, Esc, Sgr};
-use esc_values::CsiParam;
+use esc_values::{CsiParam, Items};
 use esc_write::short_numbers::ShortNumbers;
 use std::alloc::Allocator;
 
@@ -111,7 +112,20 @@ impl Terminal {
     {
         match command {
             OperatingSystemCommand::SetHyperlink(link) => self.link = opens(link),
+            OperatingSystemCommand::Unspecified(parts) => {
+                self.note_address(address_in(parts.as_slice()));
+            }
             _ => {}
+        }
+    }
+
+    // Notes a link to an address in these parts; none are no link.
+    fn note_address<A: Allocator>(&mut self, address: &[Items<u8, A>])
+        ensures { self.new ≡ after_address address.now self.old }
+    {
+        match address {
+            [_, ..] => self.link = is_address(address),
+            [] => {}
         }
     }
 
@@ -227,7 +241,7 @@ fn is_reset(sgr: Sgr) -> bool
 }
 
 /// Whether the command of this text leaves all as it was, where that is seen at once.
-#[tactic(auto, using(crate::proofs::GivingBack::RenditionsAfterSequence::leaves))]
+#[tactic(auto, using(crate::proofs::Admission::CommandsAreKnown::other_leaves))]
 #[inline]
 pub(crate) fn leaves_all<A: Allocator>(text: &[u8]) -> bool
     ensures { IsTrue result → (t : Terminal)

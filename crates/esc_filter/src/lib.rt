@@ -31,6 +31,7 @@ mod known;
 mod laws;
 mod leaving;
 mod line_filter;
+mod links;
 mod passing;
 mod pens;
 mod plain_lines;

@@ -9,12 +9,11 @@ ghost use Rattle.esc_filter.specs.Rules.{BeginsOther, admits, is_color, is_layou
 
 use crate::admit::Admit;
 use crate::known::Known;
+use crate::links::{clean_link, is_link};
 use crate::screen::{is_screen, is_screen_body};
 use esc_actions::Action;
-use esc_osc::OperatingSystemCommand;
 use esc_sequences::CSI;
 use esc_values::CsiParam;
-use esc_write::is_plain_link;
 use std::alloc::Allocator;
 
 /// Which actions pass a filter. Each admits all that the one before it does.
@@ -22,7 +21,8 @@ use std::alloc::Allocator;
 pub enum Policy {
     /// Characters but DEL; tab, line feed and carriage return.
     Text,
-    /// And graphic renditions (SGR) and hyperlinks.
+    /// And graphic renditions (SGR), and hyperlinks without DEL and characters that deceive
+    /// ([`is_deceiving`](crate::is_deceiving)).
     Color,
     /// And what changes the screen alone: the controls 07 to 0F; cursor movement, erasing,
     /// inserting, deleting, copying, filling, scrolling, margins and tab stops; modes of what is
@@ -137,17 +137,18 @@ fn is_admitted<A: Allocator>(policy: &Policy, action: &Action<A>) -> bool
 }
 
 // Whether the command of this text is a link; known where it begins with a digit other than 8, and
-// where it is a plain link in ASCII.
+// where it is a plain link of bytes 20 to 7E.
 #[inline]
 fn link_passes<A: Allocator>(text: &[u8]) -> Option<bool>
     ensures { IfSome result (λ b. is_link (command_meant {A = A} (parts_of text.now)) ≡ b) }
 {
     if has_other_code(text) {
         Some(false)
-    } else if is_plain_link::<A>(text) && text.is_ascii() {
-        Some(true)
     } else {
-        None
+        match clean_link::<A>(text) {
+            Some(_) => Some(true),
+            None => None,
+        }
     }
 }
 
@@ -273,11 +274,4 @@ fn is_plain_param(param: &CsiParam) -> bool
         CsiParam::Integer(_) => true,
         CsiParam::P(b) => *b == b';' || *b == b':',
     }
-}
-
-// Whether it is a link, or the end of one.
-fn is_link<A: Allocator>(command: &OperatingSystemCommand<A>) -> bool
-    ensures { result ≡ is_link command.now }
-{
-    matches!(command, OperatingSystemCommand::SetHyperlink(_))
 }

@@ -2,10 +2,12 @@
 ghost use Rattle.std.specs.Prelude.{◌≡◌};
 ghost use Rattle.std.specs.List.{list_all};
 ghost use Rattle.esc_actions.specs.Values.{value_of};
-ghost use Rattle.esc_filter.specs.Schemes.{has_one_scheme, has_scheme, is_scheme, is_scheme_byte, leads, link_leads};
+ghost use Rattle.esc_filter.specs.Schemes.{has_one_scheme, has_scheme, is_scheme, is_scheme_byte, leads, link_leads, parts_lead};
 
+use crate::links::{address_in, is_address};
 use esc_actions::Action;
 use esc_osc::OperatingSystemCommand;
+use esc_values::Items;
 use std::alloc::Allocator;
 
 /// Whether a text is a scheme: a letter, and then letters, digits, `+`, `-` and `.` (RFC 3986,
@@ -51,7 +53,20 @@ fn link_leads<A: Allocator>(schemes: &Option<&str>, command: &OperatingSystemCom
             let address = link.uri.as_bytes();
             address.is_empty() || has_one_scheme(address, schemes.as_bytes())
         }
+        (Some(schemes), OperatingSystemCommand::Unspecified(parts)) => {
+            parts_lead(address_in(parts.as_slice()), schemes.as_bytes())
+        }
         _ => true,
+    }
+}
+
+// The same of an address in parts, of which the scheme is in the first; or they are none.
+fn parts_lead<A: Allocator>(parts: &[Items<u8, A>], schemes: &[u8]) -> bool
+    ensures { result ≡ parts_lead parts.now schemes.now }
+{
+    match parts {
+        [first, ..] => !is_address(parts) || has_one_scheme(first.as_slice(), schemes),
+        [] => true,
     }
 }
 

@@ -16,6 +16,7 @@ ghost use Rattle.esc_filter.specs.Passing.{is_line_feed};
 
 use crate::guard::Guard;
 use crate::leaving::{is_other_end, leaves_all, renditions_after};
+use crate::links::clean_link;
 use crate::pens::{pen_after, pen_after_final, start_pen};
 use crate::returns::{Returns, is_return};
 use crate::terminal::Terminal;
@@ -26,7 +27,6 @@ use esc_normal::TextSink;
 use esc_parse::Sink;
 use esc_pen::Pen;
 use esc_values::CsiParam;
-use esc_write::plain_link;
 use esc_write::short_numbers::ShortNumbers;
 use std::alloc::{AllocError, Allocator, Global};
 use unicode_visibility::{
@@ -261,7 +261,7 @@ impl<A: Allocator> Written<A> {
     }
 
     /// Appends a link to an address that is written as it came, or the end of one, and notes it.
-    /// Where the command of this text is none, it returns false.
+    /// Where this is not seen at once to be the command of this text, it returns false.
     #[inline]
     pub fn append_link(&mut self, text: &[u8]) -> Result<bool, AllocError>
         ensures taken { IfOk result (λ b. IsTrue b
@@ -269,7 +269,7 @@ impl<A: Allocator> Written<A> {
         ensures left { IfOk result (λ b. b ≡ false → self.new ≡ self.old) }
         ensures refused { OnErr result (Refused A) }
     {
-        let Some(link) = plain_link::<A>(text) else {
+        let Some(link) = clean_link::<A>(text) else {
             return Ok(false);
         };
         if is_other_end(link) {

@@ -1,5 +1,5 @@
 -- What choices of groups admit.
-use Rattle.std.proofs.Common.{ℕ, ◌≡◌, Bool, true, false, if◌then◌else◌, List, Option, None, Some, refl, sym, ap, ◌∙◌}
+use Rattle.std.proofs.Common.{ℕ, ◌≡◌, Bool, true, false, ◌&&◌, if◌then◌else◌, List, Option, None, Some, refl, sym, ap, ◌∙◌}
 use Rattle.std.specs.Borrow.{Bor}
 use Rattle.std.specs.List.{list_all}
 use Rattle.std.proofs.lemmas.Bool.{and_parts, true≢false}
@@ -9,11 +9,12 @@ use Rattle.esc_osc.specs.declared.command.OperatingSystemCommand.{OperatingSyste
 use Rattle.esc_osc.specs.declared.command.OperatingSystemCommand.TheVariants as command
 use Rattle.esc_actions.specs.ControlCodes.{code_number}
 use Rattle.esc_actions.specs.Values.{print, string, control, csi, osc}
+use Rattle.esc_filter.specs.Addresses.{address_in, has_parts}
 use Rattle.esc_filter.specs.Concealed.{conceals}
-use Rattle.esc_filter.specs.Groups.{admits_groups, groups_of, has, of_command, of_named, of_rendition, of_sequence}
+use Rattle.esc_filter.specs.Groups.{admits_groups, groups_of, has, of_command, of_named, of_rendition, of_sequence, shows}
 use Rattle.esc_filter.specs.Known.{IsPassedText}
 use Rattle.esc_filter.specs.Tokens.{AdmitsAtMost}
-use Rattle.esc_filter.specs.Rules.{is_layout, is_link, is_rendition, is_shown}
+use Rattle.esc_filter.specs.Rules.{is_clean_part, is_layout, is_link, is_rendition, is_shown}
 use Rattle.esc_filter.specs.Schemes.{leads, link_leads}
 use Rattle.esc_filter.specs.declared.group.Group.{Group}
 use Rattle.esc_filter.specs.declared.group.Group.TheVariants as group
@@ -47,6 +48,9 @@ end_leads A (Some schemes) = refl
 link_has : {A : Type 0} (g : Groups) (c : OperatingSystemCommand A) → is_link c ≡ true
     → has g (of_command c) ≡ true → has g group.Links ≡ true
 link_has g (command.SetHyperlink l) e h = h
+link_has g (command.Unspecified ps) e h =
+    let k = and_parts (has_parts (address_in ps)) (list_all is_clean_part ps) e in
+    sym (ap (λ b. has g (if b then group.Links else group.Other)) k.0) ∙ h
 link_has g _ e h = absurd (true≢false (sym e))
 
 module _ {A : Type 0} (g : Groups)
@@ -58,8 +62,10 @@ module _ {A : Type 0} (g : Groups)
   link_reset : (c : OperatingSystemCommand A) → admits_groups g (osc c) ≡ true
       → admits_groups {A = A} g (osc (command.SetHyperlink None)) ≡ true
   link_reset c h =
-      let q = and_parts (link_leads g.schemes c) (has g (of_command c)) h in
-      rw (end_leads A g.schemes, link_has g c (most (osc c) h) q.1) refl
+      let q = and_parts (link_leads g.schemes c)
+      (shows {A = A} (has g group.Other) (osc c) && has g (of_command c)) h in
+      let r = and_parts (shows {A = A} (has g group.Other) (osc c)) (has g (of_command c)) q.1 in
+      rw (end_leads A g.schemes, link_has g c (most (osc c) h) r.1) refl
 
   resets : AdmitsResets {A = A} (admits_groups g)
   resets = (

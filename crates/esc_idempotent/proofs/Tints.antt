@@ -1,5 +1,5 @@
 -- What text, renditions and links leave changed is given back by renditions and links alone.
-use Rattle.std.proofs.Common.{◌≡◌, Bool, true, false, not, ◌||◌, ◌==◌, List, [], ◌∷◌, None, refl, sym, ap, ◌∙◌, subst}
+use Rattle.std.proofs.Common.{◌≡◌, ℕ, Bool, true, false, not, ◌||◌, ◌==◌, List, [], ◌∷◌, None, refl, sym, ap, ◌∙◌, subst}
 use Rattle.std.specs.List.{list_all}
 use Rattle.std.proofs.lemmas.Bool.{and_parts, eqb-true, true≢false}
 use Rattle.esc_sequences.specs.Csis.{CsiValue, sgr, unspecified}
@@ -10,7 +10,8 @@ use Rattle.esc_actions.specs.ControlCodes.{code_number}
 use Rattle.esc_actions.specs.Values.{Value, print, string, control, esc, csi, osc, kitty, sixel, termcap, short, enter, datum, exit}
 use Rattle.esc_actions.specs.declared.control_code.ControlCode.{ControlCode}
 use Rattle.esc_actions.specs.declared.control_code.ControlCode.TheVariants as code
-use Rattle.esc_filter.specs.Closing.{after_body, after_command, after_control, after_sequence, after_value, after_values, closing, given_back, is_reset, keeps_cursor, opens, turned_terminal}
+use Rattle.esc_filter.specs.Addresses.{address_in, is_address}
+use Rattle.esc_filter.specs.Closing.{after_address, after_body, after_command, after_control, after_sequence, after_value, after_values, closing, given_back, is_reset, keeps_cursor, opens, turned_terminal}
 use Rattle.esc_filter.specs.Tokens.{AdmitsAtMost}
 use Rattle.esc_filter.specs.Rules.{is_color, is_layout, is_link, is_plain_param, is_rendition, is_text}
 use Rattle.esc_filter.specs.Terminal.{unchanged}
@@ -92,6 +93,18 @@ module _ {A : Type 0} (f : Value A → Bool) (most : AdmitsAtMost policy.Color f
       (sym (ap (λ x. after_body es x t) (eqb-true b 0x6d q.0) ∙ plain_lit es q.1 t))
       (turned_tints true t g k)
 
+  -- by an address in parts, or none
+  address_tints : (us : List (List ℕ)) (t : Terminal)
+      → f (osc (command.SetHyperlink None)) ≡ true → IsTinted t → IsTinted (after_address us t)
+  address_tints [] t g k = k
+  address_tints (u ∷ us) t g k = record {
+    rendition = k.rendition;
+    link = is_address (u ∷ us);
+    tints = ap (linked (is_address (u ∷ us))) k.tints;
+    reset = k.reset;
+    ended = λ _. g;
+  }
+
   link_tints : (c : OperatingSystemCommand A) (t : Terminal) → is_link c ≡ true
       → f (osc (command.SetHyperlink None)) ≡ true → IsTinted t → IsTinted (after_command c t)
   link_tints (command.SetHyperlink l) t h g k = record {
@@ -101,6 +114,7 @@ module _ {A : Type 0} (f : Value A → Bool) (most : AdmitsAtMost policy.Color f
     reset = k.reset;
     ended = λ _. g;
   }
+  link_tints (command.Unspecified ps) t h g k = address_tints (address_in ps) t g k
   link_tints _ t h g k = absurd (true≢false (sym h))
 
   color_tints : (v : Value A) (t : Terminal) → is_color v ≡ true → f v ≡ true → IsTinted t

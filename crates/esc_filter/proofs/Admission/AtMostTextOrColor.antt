@@ -17,8 +17,9 @@ use Rattle.esc_actions.specs.Writable.{AreWritable}
 use Rattle.esc_actions.specs.declared.control_code.ControlCode.{ControlCode}
 use Rattle.esc_actions.specs.declared.control_code.ControlCode.TheVariants as code
 use Rattle.esc_actions.specs.declared.control_code.ControlCode.TheVariants.{CarriageReturn}
+use Rattle.esc_filter.specs.Addresses.{address_in, is_address}
 use Rattle.esc_filter.specs.Characters.{in_guard, in_return, in_values_after, replacement_values, is_return, last_after}
-use Rattle.esc_filter.specs.Closing.{after_body, after_command, after_control, after_sequence, after_value, after_values, closed_values, closing, given_back, is_reset, keeps_cursor, opens, turned_terminal}
+use Rattle.esc_filter.specs.Closing.{after_address, after_body, after_command, after_control, after_sequence, after_value, after_values, closed_values, closing, given_back, is_reset, keeps_cursor, opens, turned_terminal}
 use Rattle.esc_filter.specs.Lines.{body, closed_by_lines_as, content, end_text, ended_lines, ends_line, ends_return, last_line, last_values, line_text, lines, passed_of_line, text_by_lines_as}
 use Rattle.esc_filter.specs.Passing.{closed_text_as, in_lines, is_line_feed, is_whole, passed_values, passed_as, passed_text_as, passes}
 use Rattle.esc_filter.specs.Tokens.{AdmitsAtMost, IsOfTokens}
@@ -156,10 +157,18 @@ rendition_tints (unspecified es more f) t h k =
 abbrev linked : Bool → Terminal → Terminal
 linked b t = record t { link = b }
 
+-- by an address in parts, or none
+pub address_tints : (us : List (List ℕ)) (t : Terminal) → IsTinted true t
+    → IsTinted true (after_address us t)
+address_tints [] t k = k
+address_tints (u ∷ us) t (r, m, e) =
+    (r, is_address (u ∷ us), ap (linked (is_address (u ∷ us))) e)
+
 link_tints : {A : Type 0} (c : OperatingSystemCommand A) (t : Terminal) → is_link c ≡ true
     → IsTinted true t → IsTinted true (after_command c t)
 link_tints (command.SetHyperlink l) t h (r, m, e) =
     (r, opens l, ap (linked (opens l)) e)
+link_tints (command.Unspecified ps) t h k = address_tints (address_in ps) t k
 link_tints _ t h k = absurd (true≢false (sym h))
 
 color_tints : {A : Type 0} (v : Value A) (t : Terminal) → is_color v ≡ true → IsTinted true t

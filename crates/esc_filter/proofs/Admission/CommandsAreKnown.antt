@@ -1,8 +1,8 @@
 -- Commands that are known before they are made.
-use Rattle.std.proofs.Common.{◌≡◌, ◌≢◌, ℕ, zero, suc, ◌<◌, ◌≤◌, ◌==◌, Bool, true, false, if◌then◌else◌, List, [], ◌∷◌, ◌++◌, codes, Option, Some, None, refl}
+use Rattle.std.proofs.Common.{◌≡◌, ◌≢◌, ℕ, zero, suc, ◌<◌, ◌≤◌, ◌==◌, ◌&&◌, Bool, true, false, if◌then◌else◌, List, [], ◌∷◌, ◌++◌, codes, Option, Some, None, refl}
 use Rattle.std.proofs.Common.{length, take, get_or, ap, ◌∙◌, inl, inr, arith}
-use Rattle.std.specs.List.{onto_first, slice_split}
-use Rattle.std.proofs.lemmas.Bool.{cases_Bool, eqb-false, ne_eqb}
+use Rattle.std.specs.List.{list_all, onto_first, slice_split}
+use Rattle.std.proofs.lemmas.Bool.{cases_Bool, eqb-false, ne_eqb, true≢false}
 use Rattle.std.proofs.lemmas.List.Splits.{slice_split-cons_no}
 use Rattle.std.proofs.lemmas.Str.Ascii.{IsAscii-cons, IsAscii-nil}
 use Rattle.std.specs.Prelude.{nat_eq}
@@ -27,16 +27,18 @@ use Rattle.esc_osc.specs.declared.command.OperatingSystemCommand.{OperatingSyste
 use Rattle.esc_osc.specs.declared.command.OperatingSystemCommand.TheVariants as command
 use Rattle.esc_osc_values.specs.declared.dynamic_color_number.DynamicColorNumber.{DynamicColorNumber}
 use Rattle.esc_osc_values.specs.declared.progress.Progress.{Progress}
-use Rattle.esc_write.specs.Plain.{IsPlainLink}
-use Rattle.esc_filter.specs.Rules.{BeginsOther, is_link}
+use Rattle.esc_filter.specs.Addresses.{address_in, has_parts, is_link_code}
+use Rattle.esc_filter.specs.Closing.{after_address, after_command}
+use Rattle.esc_filter.specs.Rules.{BeginsOther, is_clean_part, is_hyperlink, is_link}
+use Rattle.esc_filter.specs.declared.terminal.Terminal.{Terminal}
 
 -- whether there is a command, and it is a link
 abbrev links : {A : Type 0} → Option (OperatingSystemCommand A) → Bool
 links None = false
-links (Some c) = is_link c
+links (Some c) = is_hyperlink c
 
 module _ (A : Type 0) where
-  no_link : {T : Type 0} (f : T → OperatingSystemCommand A) → ((t : T) → is_link (f t) ≡ false)
+  no_link : {T : Type 0} (f : T → OperatingSystemCommand A) → ((t : T) → is_hyperlink (f t) ≡ false)
       → (o : Option T) → links (option_map f o) ≡ false
   no_link f h None = refl
   no_link f h (Some t) = h t
@@ -103,9 +105,10 @@ module _ (A : Type 0) where
   code_no_link (Some c) t args h = read_no_link c t args (h c refl)
 
   meant_no_link : (o : Option (OperatingSystemCommand A)) (ps : List (List ℕ)) → links o ≡ false
-      → is_link (unwrap_or o (command.Unspecified ps)) ≡ false
-  meant_no_link None ps h = refl
-  meant_no_link (Some c) ps h = h
+      → has_parts (address_in ps) ≡ false
+      → is_hyperlink (unwrap_or o (command.Unspecified ps)) ≡ false
+  meant_no_link None ps h k = k
+  meant_no_link (Some c) ps h k = h
 
 other_named : (t : List ℕ) → t ≢ codes "8" → (c : OperatingSystemCommandCode) → code_of t ≡ Some c
     → c ≢ code.SetHyperlink
@@ -170,28 +173,60 @@ named_no_link A b q args low high other =
     ∙ code_no_link A (code_of (b ∷ q)) (b ∷ q) args
     (other_named (b ∷ q) (λ e. other (ap (λ l. get_or l 0 0) e)))
 
+-- such a part is not the code of links
+other_code : (b : ℕ) (p : List ℕ) → b ≢ 0x38 → is_link_code (b ∷ p) ≡ false
+other_code b [] other = ne_eqb b 0x38 other
+other_code b (c ∷ p) other = refl
+
+no_address : (b : ℕ) (p : List ℕ) (ps : List (List ℕ)) → b ≢ 0x38
+    → has_parts (address_in ((b ∷ p) ∷ ps)) ≡ false
+no_address b p [] other = refl
+no_address b p (q ∷ us) other = ap (λ t. has_parts (if t then us else [])) (other_code b p other)
+
 begun_no_link : (A : Type 0) (b : ℕ) (p : List ℕ) (ps : List (List ℕ)) → 0x30 ≤ b → b ≤ 0x39
-    → b ≢ 0x38 → is_link (meaning {A = A} ((b ∷ p) ∷ ps)) ≡ false
+    → b ≢ 0x38 → is_hyperlink (meaning {A = A} ((b ∷ p) ∷ ps)) ≡ false
 begun_no_link A b p ps low high other =
     let l = lossy_first b p (omega (arith, high)) in
     meant_no_link A (named_command (utf8_lossy (b ∷ p)) ps) ((b ∷ p) ∷ ps)
     (ap (λ t. links {A = A} (named_command t ps)) l.1 ∙ named_no_link A b l.0 ps low high other)
+    (no_address b p ps other)
 
 -- a text that begins with another digit than that of the code of links
 begins_no_link : (A : Type 0) (b : ℕ) (t : List ℕ) → 0x30 ≤ b → b ≤ 0x39 → b ≢ 0x38
-    → is_link (meaning {A = A} (parts_of (b ∷ t))) ≡ false
+    → is_hyperlink (meaning {A = A} (parts_of (b ∷ t))) ≡ false
 begins_no_link A b t low high other =
     let no : (b == 0x3b) ≡ false = ne_eqb b 0x3b (λ e. omega (arith, e, high)) in
     let first = onto_some b (slice_split (λ c. c == 0x3b) t) in
-    ap (λ ps. is_link (meaning {A = A} ps)) (slice_split-cons_no (λ c. c == 0x3b) b t no ∙ first.2)
+    ap (λ ps. is_hyperlink (meaning {A = A} ps))
+    (slice_split-cons_no (λ c. c == 0x3b) b t no ∙ first.2)
     ∙ begun_no_link A b first.0 first.1 low high other
+
+-- what is no such command is no link, and leaves all as it was
+unlinked : {A : Type 0} (c : OperatingSystemCommand A) → is_hyperlink c ≡ false → is_link c ≡ false
+unlinked (command.SetHyperlink l) h = absurd (true≢false h)
+unlinked (command.Unspecified ps) h = ap (λ t. t && list_all is_clean_part ps) h
+unlinked _ h = refl
+
+stays_at : (us : List (List ℕ)) (t : Terminal) → has_parts us ≡ false → after_address us t ≡ t
+stays_at [] t h = refl
+stays_at (u ∷ us) t h = absurd (true≢false h)
+
+stays : {A : Type 0} (c : OperatingSystemCommand A) (t : Terminal) → is_hyperlink c ≡ false
+    → after_command c t ≡ t
+stays (command.SetHyperlink l) t h = absurd (true≢false h)
+stays (command.Unspecified ps) t h = stays_at (address_in ps) t h
+stays _ t h = refl
+
+begins : (A : Type 0) (t : List ℕ) → BeginsOther t
+    → is_hyperlink (meaning {A = A} (parts_of t)) ≡ false
+begins A t (b, rest, e, low, high, other) =
+    ap (λ t. is_hyperlink (meaning {A = A} (parts_of t))) e
+    ∙ begins_no_link A b rest low high other
 
 pub other_begins : (A : Type 0) (t : List ℕ) → BeginsOther t
     → is_link (meaning {A = A} (parts_of t)) ≡ false
-other_begins A t (b, rest, e, low, high, other) = ap (λ t. is_link (meaning {A = A} (parts_of t))) e
-    ∙ begins_no_link A b rest low high other
+other_begins A t h = unlinked (meaning (parts_of t)) (begins A t h)
 
--- a plain link is a link
-pub plain_is_link : (A : Type 0) (t : List ℕ) → IsPlainLink A t
-    → is_link (meaning {A = A} (parts_of t)) ≡ true
-plain_is_link A t (link, means, written) = ap is_link means
+pub other_leaves : (A : Type 0) (x : List ℕ) (t : Terminal) → BeginsOther x
+    → after_command (meaning {A = A} (parts_of x)) t ≡ t
+other_leaves A x t h = stays (meaning (parts_of x)) t (begins A x h)

@@ -24,9 +24,10 @@ use Rattle.esc_osc.specs.declared.command.OperatingSystemCommand.TheVariants as 
 use Rattle.esc_actions.specs.ControlCodes.{code_number}
 use Rattle.esc_actions.specs.Values.{Value}
 use Rattle.esc_actions.specs.Values.Value.{print, string, control, esc, csi, osc, kitty, sixel, termcap, short, enter, datum, exit}
+use Rattle.esc_filter.specs.Addresses.{address_in, has_parts}
 use Rattle.esc_filter.specs.Concealed.{conceals}
-use Rattle.esc_filter.specs.Groups.{admits_groups, group_of, groups_of, has, of_control, of_escape_function, of_function, of_named, of_escape_named, of_other_command, of_rendition, place}
-use Rattle.esc_filter.specs.Rules.{admits, changes_with, escape_changes_with, is_color, is_escape_function, is_layout, is_link, is_palette, is_plain_param, is_screen, is_screen_control, is_screen_function, is_set, is_set_pair, is_shown, is_text}
+use Rattle.esc_filter.specs.Groups.{admits_groups, group_of, groups_of, has, of_command, of_control, of_escape_function, of_function, of_named, of_escape_named, of_rendition, place, shows}
+use Rattle.esc_filter.specs.Rules.{admits, changes_with, escape_changes_with, is_clean_link, is_clean_part, is_color, is_escape_function, is_hyperlink, is_layout, is_link, is_palette, is_plain_param, is_screen, is_screen_control, is_screen_function, is_set, is_set_pair, is_shown, is_text}
 use Rattle.esc_filter.specs.Tokens.{AdmitsAtMost}
 use Rattle.esc_filter.specs.Schemes.{leads}
 use Rattle.esc_filter.specs.declared.group.Group.{Group}
@@ -80,12 +81,25 @@ other policy.Color = refl
 other policy.Screen = refl
 other policy.All = refl
 
-links : (p : Policy) → chosen p group.Links ≡ rule p false true false
+-- a link, which has neither DEL nor a character that deceives, or has
+links : (p : Policy) (b : Bool)
+    → (((false || b) || chosen p group.Other) && chosen p group.Links) ≡ rule p false b false
 unfolding place
-links policy.Text = refl
-links policy.Color = refl
-links policy.Screen = refl
-links policy.All = refl
+links policy.Text true = refl
+links policy.Text false = refl
+links policy.Color true = refl
+links policy.Color false = refl
+links policy.Screen true = refl
+links policy.Screen false = refl
+links policy.All true = refl
+links policy.All false = refl
+
+-- one whose address is in parts, or none
+parts : (p : Policy) (h b : Bool)
+    → (((not h || (h && b)) || chosen p group.Other)
+    && chosen p (if h then group.Links else group.Other)) ≡ rule p false (h && b) false
+parts p true b = links p b
+parts p false b = other p
 
 renditions : (p : Policy) (k s : Bool)
     → chosen p (if k then group.Hidden else group.Sgr) ≡ rule p false true s
@@ -285,9 +299,9 @@ csi_ruled A p (unspecified es more f) =
     body_ruled p es (function_of (sequence_key es f)) ((f == 0x6d) && list_all is_plain_param es)
 
 osc_ruled : {A : Type 0} (p : Policy) (c : OperatingSystemCommand A)
-    → chosen p (if is_palette c then group.Palette else of_other_command c)
+    → (shows (chosen p group.Other) (osc c) && chosen p (of_command c))
     ≡ rule p false (is_link c) (is_palette c)
-osc_ruled p (command.SetHyperlink l) = links p
+osc_ruled p (command.SetHyperlink l) = links p (is_clean_link l)
 osc_ruled p (command.SetIconNameAndWindowTitle t) = titles p
 osc_ruled p (command.SetIconName t) = titles p
 osc_ruled p (command.SetIconNameSun t) = titles p
@@ -306,10 +320,12 @@ osc_ruled p (command.FinalTermSemanticPrompt c) = other p
 osc_ruled p (command.CurrentWorkingDirectory t) = other p
 osc_ruled p (command.RxvtExtension ts) = other p
 osc_ruled p (command.ConEmuProgress c) = other p
-osc_ruled p (command.Unspecified ps) = other p
+osc_ruled p (command.Unspecified ps) =
+    parts p (has_parts (address_in ps)) (list_all is_clean_part ps)
 
 each_ruled : {A : Type 0} (p : Policy) (v : Value A)
-    → chosen p (group_of v) ≡ rule p (is_text v) (is_color v) (is_screen v)
+    → (shows (chosen p group.Other) v && chosen p (group_of v))
+    ≡ rule p (is_text v) (is_color v) (is_screen v)
 each_ruled p (print c) = shown p (is_shown c)
 each_ruled p (string t) = shown p (list_all is_shown t)
 each_ruled p (control c) = control_ruled p (code_number c)
@@ -340,13 +356,27 @@ each_leads policy.All v = all_lead v
 
 pub same : {A : Type 0} (p : Policy) (v : Value A) → admits_groups (groups_of p) v ≡ admits p v
 same p v =
-    led (leads (groups_of p).schemes v) (chosen p (group_of v)) (each_leads p v)
+    led (leads (groups_of p).schemes v) (shows (chosen p group.Other) v && chosen p (group_of v))
+    (each_leads p v)
     ∙ each_ruled p v ∙ ruled p v
+
+-- where more pass, no fewer show what they are
+or_more : (x a b : Bool) → (a ≡ true → b ≡ true) → (x || a) ≡ true → (x || b) ≡ true
+or_more true a b some h = refl
+or_more false a b some h = some h
+
+shows_more : {A : Type 0} (a b : Bool) (v : Value A) → (a ≡ true → b ≡ true)
+    → shows a v ≡ true → shows b v ≡ true
+shows_more a b (osc c) some h = or_more (not (is_hyperlink c) || is_link c) a b some h
+shows_more a b v some h = refl
 
 -- some of a policy's groups
 pub at_most : {A : Type 0} (p : Policy) (g : Groups)
     → ((c : Group) → has g c ≡ true → has (groups_of p) c ≡ true)
     → AdmitsAtMost {A = A} p (admits_groups g)
 at_most p g some v h =
+    let q = and_parts (leads g.schemes v) (shows (has g group.Other) v && has g (group_of v)) h in
+    let r = and_parts (shows (has g group.Other) v) (has g (group_of v)) q.1 in
+    let k = shows_more (has g group.Other) (chosen p group.Other) v (some group.Other) r.0 in
     sym (each_ruled p v ∙ ruled p v)
-    ∙ some (group_of v) (and_parts (leads g.schemes v) (has g (group_of v)) h).1
+    ∙ (ap (λ t. t && chosen p (group_of v)) k ∙ some (group_of v) r.1)

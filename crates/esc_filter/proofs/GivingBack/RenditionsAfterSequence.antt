@@ -37,8 +37,7 @@ use Rattle.typed_functions.specs.Selections.{selections}
 use Rattle.esc_filter.specs.Terminal.{after_function, after_named, with_renditions}
 use Rattle.esc_filter.specs.declared.terminal.Terminal.{Terminal}
 use Rattle.esc_filter.proofs.GivingBack.ScreenFunctions.{no_marks}
-use Rattle.esc_filter.specs.Rules.{BeginsOther, is_link, is_plain_param}
-use Rattle.esc_filter.proofs.Admission.CommandsAreKnown.{other_begins}
+use Rattle.esc_filter.specs.Rules.{is_plain_param}
 
 -- ---- one number
 
@@ -313,16 +312,6 @@ unfolding encode
 end_writable = ((codes "8;;", refl, refl), refl)
 
 module _ (A : Type 0) where
-  pub stays : (c : OperatingSystemCommand A) (t : Terminal) → is_link c ≡ false
-      → t ≡ after_command c t
-  stays (command.SetHyperlink l) t h = absurd cc
-  stays _ t h = refl
-
-  -- a command that is no link leaves all as it was
-  pub leaves : (x : List ℕ) (t : Terminal) → BeginsOther x
-      → after_command (meaning {A = A} (parts_of x)) t ≡ t
-  leaves x t h = sym (stays (meaning (parts_of x)) t (other_begins A x h))
-
   no_address : (y : List ℕ) (u : List ℕ) → u ≡ []
       → ends_in_semicolon false (codes "8;" ++ (y ++ 0x3b ∷ u)) ≡ true
   no_address y u e = ap (λ z. ends_in_semicolon false (codes "8;" ++ (y ++ 0x3b ∷ z))) e ∙ last true y

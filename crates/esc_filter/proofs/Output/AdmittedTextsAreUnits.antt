@@ -1,19 +1,26 @@
 -- The texts of values that the policies `Text` and `Color` admit are of pieces.
 use Rattle.std.proofs.Common.{ℕ, ◌≡◌, inl, inr, Bool, true, false, not, ◌&&◌, ◌||◌, ◌==◌, nat_le, if◌then◌else◌, List, [], ◌∷◌, ◌++◌, codes, Option, Some, None, refl, sym, ap, ◌∙◌, subst, arith, lit<, append-nil}
 use Rattle.std.specs.Char.{encode_utf8}
-use Rattle.std.specs.List.{flat_map, list_all}
-use Rattle.std.specs.Str.{encode_utf8_all}
+use Rattle.std.specs.List.{flat_map, list_all, list_any}
+use Rattle.std.specs.Str.{chars, encode_utf8_all, is_utf8}
+use Rattle.std.specs.Str.Lossy.{utf8_lossy}
 use Rattle.std.proofs.lemmas.Bool.{and_parts, eqb-true, true≢false}
 use Rattle.std.proofs.lemmas.Bool.Decides.{nat_tests}
 use Rattle.std.proofs.lemmas.List.Elements.{All-append, All-cons, All-nil}
 use Rattle.std.proofs.lemmas.List.Folds.{list_all-append}
 use Rattle.std.proofs.lemmas.Str.{encode_ascii}
 use lib.Utf8.{scalar}
-use Rattle.esc_values.specs.Clear.{IsClearText, framed_text, is_clear}
+use Rattle.unicode_visibility.specs.Characters.{is_deceiving}
+use Rattle.esc_values.specs.Clear.{AreClearParts, IsClearText, framed_text, is_clear, separated_parts}
+use Rattle.esc_values.specs.Cuts.{Pairs, pair_text}
 use Rattle.esc_values.specs.Params.{is_from}
+use Rattle.esc_values.specs.Scalars.{some_if}
 use Rattle.esc_links.specs.Hyperlinks.{link_text, params_text}
 use Rattle.esc_links.specs.declared.hyperlink.Hyperlink.{Hyperlink}
+use Rattle.esc_osc_values.specs.Lists.{joined_by}
+use Rattle.esc_osc_values.proofs.JoinedLossy.{lossy_joined}
 use Rattle.esc_osc.specs.Commands.{command_text}
+use Rattle.esc_osc.proofs.ReadsBack.{writes_clear}
 use Rattle.esc_osc.specs.Writable.{IsWritable as IsWritableCommand}
 use Rattle.esc_osc.specs.declared.command.OperatingSystemCommand.{OperatingSystemCommand}
 use Rattle.esc_osc.specs.declared.command.OperatingSystemCommand.TheVariants as command
@@ -23,10 +30,12 @@ use Rattle.esc_actions.specs.Values.{Value, print, string, control, esc, csi, os
 use Rattle.esc_actions.specs.Writable.{AreWritableFrom, IsWritable, stays_within}
 use Rattle.esc_filter.specs.Closing.{joined_lists}
 use Rattle.esc_filter.specs.Tokens.{IsCharacter, IsLink, IsOfTokens, IsToken, is_plain}
-use Rattle.esc_filter.specs.Rules.{admits, is_color, is_layout, is_link, is_shown, is_text}
+use Rattle.esc_filter.specs.Addresses.{has_parts, is_link_code}
+use Rattle.esc_filter.specs.Rules.{admits, are_clean_link, is_clean, is_clean_link, is_clean_pair, is_clean_part, is_clean_text, is_color, is_layout, is_link, is_shown, is_text}
 use Rattle.esc_filter.specs.declared.policy.Policy.{Policy}
 use Rattle.esc_filter.specs.declared.policy.Policy.TheVariants as policy
 use Rattle.esc_filter.proofs.Renditions.NumbersHaveNoSign.{one_natural, rendition_text}
+use Rattle.esc_filter.proofs.ByLine.DataHasNoFeed.{both}
 use Rattle.esc_filter.proofs.Output.PartsAreAppended.{joined_both}
 
 -- ---- pieces, one after another
@@ -122,14 +131,93 @@ text_pieces k (enter e) w h = absurd (true≢false (sym h))
 text_pieces k (datum b) w h = absurd (true≢false (sym h))
 text_pieces k exit w h = absurd (true≢false (sym h))
 
+-- the texts of a link
+
+clean_shown : (t : List ℕ) → is_clean t ≡ true → list_all is_shown t ≡ true
+clean_shown t h = (and_parts (list_all is_shown t) (not (list_any is_deceiving (chars t))) h).0
+
+pair_shown : (e : List ℕ × List ℕ) → is_clean_pair e ≡ true → list_all is_shown (pair_text e) ≡ true
+pair_shown e h =
+    let k = and_parts (is_clean e.0) (is_clean e.1) h in
+    both is_shown e.0 (0x3d ∷ e.1) (clean_shown e.0 k.0) (clean_shown e.1 k.1)
+
+abbrev more_pairs : Pairs → List ℕ
+more_pairs es = flat_map (λ e. 0x3a ∷ pair_text e) es
+
+pairs_shown : (es : Pairs) → list_all is_clean_pair es ≡ true
+    → list_all is_shown (more_pairs es) ≡ true
+pairs_shown [] h = refl
+pairs_shown (e ∷ es) h =
+    let k = and_parts (is_clean_pair e) (list_all is_clean_pair es) h in
+    both is_shown (pair_text e) (more_pairs es) (pair_shown e k.0) (pairs_shown es k.1)
+
+params_shown : (es : Pairs) → list_all is_clean_pair es ≡ true
+    → list_all is_shown (params_text es) ≡ true
+params_shown [] h = refl
+params_shown (e ∷ es) h =
+    let k = and_parts (is_clean_pair e) (list_all is_clean_pair es) h in
+    both is_shown (pair_text e) (more_pairs es) (pair_shown e k.0) (pairs_shown es k.1)
+
 link_is : {A : Type 0} (l : Option (Hyperlink A)) → IsClearText (link_text l)
-    → IsLink (framed_text (link_text l))
-link_is None h = (codes ";", h, refl)
-link_is (Some l) h = (params_text l.params ++ 0x3b ∷ l.uri, h, refl)
+    → is_clean_link l ≡ true → IsLink (framed_text (link_text l))
+link_is None h c = (codes ";", h, refl, refl)
+link_is (Some l) h c =
+    let k = and_parts (list_all is_clean_pair l.params) (is_clean l.uri) c in (
+      params_text l.params ++ 0x3b ∷ l.uri,
+      h,
+      both is_shown (params_text l.params) (0x3b ∷ l.uri) (params_shown l.params k.0)
+          (clean_shown l.uri k.1),
+      refl,
+    )
+
+part_shown : (p : List ℕ) → is_clean_part p ≡ true → list_all is_shown p ≡ true
+part_shown p h = by (is_utf8 p) h
+  where
+    by : (t : Bool) → is_clean_text (some_if t p) ≡ true → list_all is_shown p ≡ true
+    by true g = clean_shown p g
+    by false g = absurd (true≢false (sym g))
+
+parts_shown : (ps : List (List ℕ)) → list_all is_clean_part ps ≡ true
+    → list_all is_shown (separated_parts ps) ≡ true
+parts_shown [] h = refl
+parts_shown (p ∷ ps) h =
+    let k = and_parts (is_clean_part p) (list_all is_clean_part ps) h in
+    both is_shown p (separated_parts ps) (part_shown p k.0) (parts_shown ps k.1)
+
+code_is : (p : List ℕ) → is_link_code p ≡ true → p ≡ 0x38 ∷ []
+code_is [] h = absurd (true≢false (sym h))
+code_is (b ∷ []) h = ap (λ x. x ∷ []) (eqb-true b 0x38 h)
+code_is (b ∷ c ∷ p) h = absurd (true≢false (sym h))
+
+of_links : (t : Bool) (us : List (List ℕ)) → has_parts (if t then us else []) ≡ true → t ≡ true
+of_links true us h = refl
+of_links false us h = absurd (true≢false (sym h))
+
+-- one whose address is in parts
+parts_are : (ps : List (List ℕ)) → AreClearParts ps → IsClearText (joined_by utf8_lossy ps)
+    → are_clean_link ps ≡ true → IsLink (framed_text (joined_by utf8_lossy ps))
+parts_are [] h c l = absurd (true≢false (sym l))
+parts_are (p ∷ []) h c l = absurd (true≢false (sym l))
+parts_are (p ∷ q ∷ us) h c l =
+    let k = and_parts (has_parts (if is_link_code p then us else []))
+    (list_all is_clean_part (p ∷ q ∷ us)) l in
+    let code : p ≡ 0x38 ∷ [] = code_is p (of_links (is_link_code p) us k.0) in
+    let rest = and_parts (is_clean_part p) (list_all is_clean_part (q ∷ us)) k.1 in
+    let ends = and_parts (is_clean_part q) (list_all is_clean_part us) rest.1 in
+    let y = q ++ separated_parts us in
+    let same : joined_by utf8_lossy (p ∷ q ∷ us) ≡ codes "8;" ++ y =
+    lossy_joined (p ∷ q ∷ us) h ∙ ap (λ x. x ++ separated_parts (q ∷ us)) code in (
+      y,
+      subst IsClearText same c,
+      both is_shown q (separated_parts us) (part_shown q ends.0) (parts_shown us ends.1),
+      ap framed_text same,
+    )
 
 command_piece : {A : Type 0} (c : OperatingSystemCommand A) → IsWritableCommand c
     → is_link c ≡ true → IsLink (command_text c)
-command_piece (command.SetHyperlink l) w h = link_is l w.0
+command_piece (command.SetHyperlink l) w h = link_is l w.0 h
+command_piece {A} (command.Unspecified ps) w h =
+    parts_are ps w.0.0 (writes_clear {A = A} (command.Unspecified ps) w) h
 command_piece _ w h = absurd (true≢false (sym h))
 
 colour_pieces : {A : Type 0} (v : Value A) → IsWritable v → is_color v ≡ true

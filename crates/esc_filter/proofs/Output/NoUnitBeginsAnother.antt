@@ -76,19 +76,19 @@ first_rest true x y a b (inl (c, h, e)) (inl (d, j, f)) g =
     (encode_same c d a b (in_form x y _ _ a b e f g)).1
 first_rest true x y a b (inl (c, h, e)) (inr (inl (v, j, f))) g =
     absurd (no_character c a _ h (in_form x y _ _ a b e f g))
-first_rest true x y a b (inl (c, h, e)) (inr (inr (v, j, f))) g =
+first_rest true x y a b (inl (c, h, e)) (inr (inr (v, j, z, f))) g =
     absurd (no_character c a _ h (in_form x y _ _ a b e f g))
 first_rest true x y a b (inr (inl (v, h, e))) (inl (d, j, f)) g =
     absurd (no_character d b _ j (sym (in_form x y _ _ a b e f g)))
-first_rest true x y a b (inr (inr (v, h, e))) (inl (d, j, f)) g =
+first_rest true x y a b (inr (inr (v, h, s, e))) (inl (d, j, f)) g =
     absurd (no_character d b _ j (sym (in_form x y _ _ a b e f g)))
 first_rest true x y a b (inr (inl (v, h, e))) (inr (inl (w, j, f))) g =
     rendition_rest v w a b h j (in_form x y _ _ a b e f g)
-first_rest true x y a b (inr (inl (v, h, e))) (inr (inr (w, j, f))) g =
+first_rest true x y a b (inr (inl (v, h, e))) (inr (inr (w, j, z, f))) g =
     absurd (apart _ _ (in_form x y _ _ a b e f g))
-first_rest true x y a b (inr (inr (v, h, e))) (inr (inl (w, j, f))) g =
+first_rest true x y a b (inr (inr (v, h, s, e))) (inr (inl (w, j, f))) g =
     absurd (apart _ _ (sym (in_form x y _ _ a b e f g)))
-first_rest true x y a b (inr (inr (v, h, e))) (inr (inr (w, j, f))) g =
+first_rest true x y a b (inr (inr (v, h, s, e))) (inr (inr (w, j, z, f))) g =
     link_rest _ _ a b h j (in_form x y _ _ a b e f g)
 
 some_byte : (x : List ℕ) (c : ℕ) → x ≡ encode_utf8 c → 0 < length x
@@ -98,7 +98,7 @@ some : (k : Bool) (x : List ℕ) → IsToken k x → 0 < length x
 some false x (c, h, e) = some_byte x c e
 some true x (inl (c, h, e)) = some_byte x c e
 some true x (inr (inl (y, h, e))) = omega (arith, ap length e)
-some true x (inr (inr (y, h, e))) = omega (arith, ap length e)
+some true x (inr (inr (y, h, s, e))) = omega (arith, ap length e)
 
 -- ---- texts
 
