@@ -1,7 +1,7 @@
 -- The renditions that are control sequences by themselves.
 use Rattle.std.specs.Prelude.{Bool, true, false, List, [], ◌∷◌}
 use Rattle.esc_values.specs.declared.csi_param.CsiParam.{CsiParam}
-use Rattle.esc_values.specs.declared.csi_param.CsiParam.TheVariants.{Integer, P}
+use Rattle.esc_values.specs.declared.csi_param.CsiParam.TheVariants.{Integer}
 use Rattle.esc_sequences.specs.declared.sgr.Sgr.{Sgr}
 use Rattle.esc_sequences.specs.declared.sgr.Sgr.TheVariants as sgr
 use Rattle.typed_functions.specs.declared.rendition.Rendition.{Rendition}
