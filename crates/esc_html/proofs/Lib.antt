@@ -1,9 +1,11 @@
 pub mod Attributes
 pub mod Characters
+pub mod ColoredLooks
 pub mod Encoded
 pub mod EscapedRuns
 pub mod Fed
 pub mod Listing
+pub mod Numbers
 pub mod Pages
 pub mod PlainLooks
 pub mod Reading

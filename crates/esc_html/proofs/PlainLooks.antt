@@ -8,7 +8,7 @@ use Rattle.esc_style.specs.declared.look.Look.{Look}
 use Rattle.esc_sequences.specs.declared.underline.Underline.{Underline}
 use Rattle.esc_sequences.specs.declared.underline.Underline.TheVariants as underline
 
-abbrev look : Bool → Bool → Bool → Underline → Bool → Bool → Bool → Bool → Bool → Color → Color
+abbrev pub look : Bool → Bool → Bool → Underline → Bool → Bool → Bool → Bool → Bool → Color → Color
     → Color → Look
 look h i s u b v c t o f g d = record {
   bold = h;

@@ -1,5 +1,5 @@
 -- A run of characters at once is what each of them, one after another, makes of a page.
-use Rattle.std.proofs.Common.{ℕ, zero, suc, ◌≡◌, ◌≤◌, ◌<◌, ◌+◌, Bool, true, false, inl, inr, List, [], ◌∷◌, ◌++◌, length, map, take, drop, get_or, Some, chars, Result, Ok, Err, OnOk, OnErr, MatchResult, refl, ap, sym, ◌∙◌, subst, append_assoc, arith}
+use Rattle.std.proofs.Common.{ℕ, zero, suc, ◌≡◌, ◌≤◌, ◌<◌, ◌+◌, ◌==◌, ◌&&◌, Bool, true, false, not, inl, inr, List, [], ◌∷◌, ◌++◌, length, map, take, drop, get_or, Some, chars, Result, Ok, Err, OnOk, OnErr, MatchResult, refl, ap, sym, ◌∙◌, subst, append_assoc, arith}
 use Rattle.std.specs.Char.{encode_utf8}
 use Rattle.std.specs.List.{FoldsTo, filter, flat_map, list_all}
 use Rattle.std.specs.Str.{IsAscii, IsUtf8, encode_utf8_all}
@@ -14,7 +14,7 @@ use Rattle.memchr.specs.Find.{is_byte, IsFirstByte}
 use Rattle.esc_actions.specs.declared.action.Action.TheVariants as action
 use Rattle.esc_frame.specs.Scans.{is_text_byte}
 use Rattle.esc_values.specs.Clear.{is_clear}
-use Rattle.esc_html.specs.Characters.{is_character}
+use Rattle.esc_html.specs.Characters.{is_bare, is_character}
 use Rattle.esc_html.specs.Fed.{Adds, Takes, is_visible, state_of, text_of, with_text}
 use Rattle.esc_html.specs.Marks.{ends_line, print_step, shows}
 use Rattle.esc_html.specs.Pages.{after_character, before_character, opening_tags, with_tags}
@@ -51,6 +51,33 @@ visible_at (b ∷ x) (suc n) l h e =
 
 pub del_small : (b : ℕ) → is_byte 0x7f b ≡ true → b < 128
 del_small b h = grind (arith, nat_tests)
+
+-- ---- runs that are written as they are
+
+off : (b : Bool) → not b ≡ true → b ≡ false
+off true h = absurd (true≢false (sym h))
+off false h = refl
+
+bare_byte : (b : ℕ) → is_bare b ≡ true → (is_visible b ≡ true) × (escape_text b ≡ b ∷ [])
+bare_byte b h =
+    let one = and_parts (not (b == 0x7f))
+    (not (b == 0x26) && (not (b == 0x3c) && not (b == 0x3e))) h in
+    let two = and_parts (not (b == 0x26)) (not (b == 0x3c) && not (b == 0x3e)) one.1 in
+    let three = and_parts (not (b == 0x3c)) (not (b == 0x3e)) two.1 in
+    (one.0, rw (off (b == 0x26) two.0, off (b == 0x3c) three.0, off (b == 0x3e) three.1) refl)
+
+pub bare_visible : (x : List ℕ) → list_all is_bare x ≡ true → filter is_visible x ≡ x
+bare_visible [] h = refl
+bare_visible (b ∷ x) h =
+    let k = and_parts (is_bare b) (list_all is_bare x) h in
+    rw (bare_byte b k.0).0 (ap (λ y. b ∷ y) (bare_visible x k.1))
+
+pub bare_text : (x : List ℕ) → list_all is_bare x ≡ true → flat_map escape_text x ≡ x
+bare_text [] h = refl
+bare_text (b ∷ x) h =
+    let k = and_parts (is_bare b) (list_all is_bare x) h in
+    ap (λ y. y ++ flat_map escape_text x) (bare_byte b k.0).1
+    ∙ ap (λ y. b ∷ y) (bare_text x k.1)
 
 -- ---- text after text
 

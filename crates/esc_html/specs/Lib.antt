@@ -11,6 +11,7 @@ pub mod Addresses
 pub mod Listed
 pub mod Marks
 pub mod Renditions
+pub mod Numbers
 pub mod Pages
 pub mod Shown
 pub mod Fed

@@ -1,6 +1,7 @@
 -- Looks without renditions, field by field.
 use Rattle.std.specs.Prelude.{Bool, true, false, not, ◌&&◌, is_none}
-use Rattle.esc_style.specs.Looks.{underline_class}
+use Rattle.typed_functions.specs.declared.ansi_color.AnsiColor.{AnsiColor}
+use Rattle.esc_style.specs.Looks.{plain_look, underline_class}
 use Rattle.esc_style.specs.declared.color.Color.{Color}
 use Rattle.esc_style.specs.declared.color.Color.TheVariants.{Default, Named, Palette, Direct}
 use Rattle.esc_style.specs.declared.look.Look.{Look}
@@ -23,3 +24,11 @@ is_own (Direct c) = false
 
 abbrev pub is_colorless : Look → Bool
 is_colorless l = is_own l.foreground && (is_own l.background && is_own l.underline_color)
+
+-- a colour of the characters by its name, and nothing else
+abbrev pub colored : AnsiColor → Look
+colored c = record plain_look { foreground = Named c }
+
+-- none of the renditions but a colour of the characters holds
+abbrev pub is_colored_alone : Look → Bool
+is_colored_alone l = is_markless l && (is_own l.background && is_own l.underline_color)

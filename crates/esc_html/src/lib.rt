@@ -20,6 +20,7 @@
 mod address;
 mod breaks;
 mod character;
+mod colored;
 mod escaping;
 pub mod html_writer;
 mod inline;
@@ -29,6 +30,7 @@ mod line_writer;
 mod markup;
 mod page;
 mod plain;
+mod renditions;
 mod shades;
 mod shown;
 mod tag;

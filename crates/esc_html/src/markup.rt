@@ -1,13 +1,14 @@
 //! A text in HTML that grows.
-ghost use Rattle.std.specs.Prelude.{◌≡◌, ◌++◌, ℕ, List, [], OnErr, OnOk, string_bytes};
+ghost use Rattle.std.specs.Prelude.{◌≡◌, ◌++◌, ℕ, List, [], OnErr, OnOk, string_bytes, true};
 ghost use Rattle.std.specs.Char.{encode_utf8};
-ghost use Rattle.std.specs.List.{flat_map};
+ghost use Rattle.std.specs.List.{flat_map, list_all};
+ghost use Rattle.esc_html.specs.Characters.{is_bare};
 ghost use Rattle.esc_html.specs.PageParts.{escape_text, link, page_part_text, span};
 ghost use Rattle.fallible_alloc.specs.Refusals.{Refused};
 
+use crate::colored::push_any_span;
 use crate::escaping::{push_char, push_escaped};
 use crate::inline::push_inline_span;
-use crate::tag::push_span;
 use crate::writing::push_link;
 use esc_style::Look;
 use std::alloc::{AllocError, Allocator, Global};
@@ -74,6 +75,15 @@ impl<A: Allocator> Markup<A> {
         push_escaped(&mut self.string, more, b'>')
     }
 
+    /// Appends characters that are written as they are, as text.
+    pub fn push_bare(&mut self, more: &str) -> Result<(), AllocError>
+        requires { list_all is_bare more.now ≡ true }
+        ensures ok { OnOk result (self.new ≡ self.old ++ flat_map escape_text more.now) }
+        ensures refused { OnErr result (Refused A) }
+    {
+        self.push_html(more)
+    }
+
     /// Begins a span, in declarations alone or with classes.
     pub fn push_span(&mut self, inline: bool, look: &Look) -> Result<(), AllocError>
         ensures ok { OnOk result (self.new ≡ self.old ++ page_part_text (span inline look.now)) }
@@ -82,7 +92,7 @@ impl<A: Allocator> Markup<A> {
         if inline {
             push_inline_span(&mut self.string, look)
         } else {
-            push_span(&mut self.string, look)
+            push_any_span(&mut self.string, look)
         }
     }
 

@@ -3,7 +3,7 @@ ghost use Rattle.std.specs.Prelude.{◌≡◌, ◌++◌, [], OnErr, OnOk, map, t
 ghost use Rattle.std.specs.List.{filter, list_all};
 ghost use Rattle.std.specs.Str.{chars};
 ghost use Rattle.esc_actions.specs.declared.action.Action.TheVariants.{Print};
-ghost use Rattle.esc_frame.specs.Scans.{is_text_byte};
+ghost use Rattle.esc_html.specs.Characters.{is_bare};
 ghost use Rattle.esc_html.specs.Fed.{Adds, Takes, is_visible, state_of, text_of, with_text};
 ghost use Rattle.esc_style.specs.Looks.{is_plain, look_by, look_by_all};
 ghost use Rattle.esc_html.specs.Marks.{address_of, command_step, control_step, escape_step, function_step, next_line, print_step, redirects, restyles, shows, with_link};
@@ -19,10 +19,11 @@ ghost use Rattle.fallible_alloc.specs.Refusals.{Refused};
 
 use crate::address::address_of;
 use crate::breaks::{begins_line, escape_begins_line};
-use crate::character::{are_characters, shown_as};
+use crate::character::{SHORT, are_bare, are_characters, as_str, shown_as};
 use crate::layout::Layout;
 use crate::markup::Markup;
 use crate::plain::is_plain;
+use crate::renditions::{function_of, lone_rendition, rendition_of};
 use crate::tags::{Tags, closing_tags, link_end, span_end};
 use esc_actions::Action;
 use esc_links::Hyperlink;
@@ -34,7 +35,6 @@ use esc_style::Look;
 use esc_values::{CsiParam, Text};
 use memchr::memchr;
 use std::alloc::{AllocError, Allocator, Global};
-use std::str;
 use typed_functions::{Function, Rendition, Renditions};
 
 // On how many more lines than its first one a link is opened, where tags are closed at the end of
@@ -249,8 +249,41 @@ impl<A: Allocator> Page<A> {
         self.html.push_text(run)
     }
 
-    // Shows a run that is printed, but DEL.
+    // Shows a run of characters that are written as they are.
+    fn show_bare(&mut self, run: &str) -> Result<(), AllocError>
+        requires { list_all is_bare run.now ≡ true }
+        ensures ok { OnOk result (self.new ≡ with_text self.old run.now) }
+        ensures refused { OnErr result (Refused A) }
+    {
+        if run.is_empty() {
+            return Ok(());
+        }
+        self.open()?;
+        self.html.push_bare(run)
+    }
+
+    // The same of such a run that is printed, in which there is no DEL.
+    fn take_bare(&mut self, run: &str) -> Result<(), AllocError>
+        requires { list_all is_bare run.now ≡ true }
+        ensures ok { OnOk result (self.new ≡ with_text self.old (filter is_visible run.now)) }
+        ensures refused { OnErr result (Refused A) }
+    {
+        self.show_bare(run)
+    }
+
+    // Shows a run that is printed, but DEL; a short one is looked through once.
     fn take_run(&mut self, run: &str) -> Result<(), AllocError>
+        ensures ok { OnOk result (self.new ≡ with_text self.old (filter is_visible run.now)) }
+        ensures refused { OnErr result (Refused A) }
+    {
+        if run.len() <= SHORT && are_bare(run) {
+            return self.take_bare(run);
+        }
+        self.take_parts(run)
+    }
+
+    // The same, from one DEL to the next.
+    fn take_parts(&mut self, run: &str) -> Result<(), AllocError>
         ensures ok { OnOk result (self.new ≡ with_text self.old (filter is_visible run.now)) }
         ensures refused { OnErr result (Refused A) }
     {
@@ -345,7 +378,10 @@ impl<A: Allocator> Page<A> {
             (of_csi (unspecified params.now parameters_truncated control))) self.new) }
         ensures refused { OnErr result (Refused A) }
     {
-        self.take_function(function_of(params, parameters_truncated, control))
+        match lone_rendition(params, parameters_truncated, control) {
+            Some(rendition) => self.select_one(rendition),
+            None => self.take_function(function_of(params, parameters_truncated, control)),
+        }
     }
 
     // The span is closed, and the look changes.
@@ -459,34 +495,4 @@ impl<A: Allocator> Sink<Action<A>> for Page<A> {
     fn drops_sequences(&self, _control: u8) -> bool {
         false
     }
-}
-
-// The same as one of all renditions.
-fn rendition_of(rendition: Sgr) -> Rendition
-    ensures { result ≡ rendition_of rendition }
-{
-    match rendition {
-        Sgr::Reset => Rendition::Reset,
-        Sgr::Intensity(intensity) => Rendition::Intensity(intensity),
-        Sgr::Italic(is_on) => Rendition::Italic(is_on),
-        Sgr::Underline(underline) => Rendition::Underline(underline),
-    }
-}
-
-// What a control sequence of these parameters asks for.
-fn function_of(params: &[CsiParam], parameters_truncated: bool, control: u8) -> Function<'_>
-    ensures { value_of result ≡ of_csi (unspecified params.now parameters_truncated control) }
-{
-    if parameters_truncated {
-        return Function::of_kept(params, control);
-    }
-    Function::of_params(params, control)
-}
-
-// ASCII as a text.
-fn as_str(text: &[u8]) -> &str
-    requires { list_all is_text_byte text.now ≡ true }
-    ensures { result.now ≡ text.now }
-{
-    unsafe { str::from_utf8_unchecked(text) }
 }

@@ -6,16 +6,17 @@ ghost use Rattle.esc_style.specs.Looks.{is_plain, underline_class};
 use esc_sequences::Underline;
 use esc_style::{Color, Look};
 
-// Whether a look needs no span: it is as at first. It makes no list of classes to see that.
+// Whether a look needs no span: it is as at first. It makes no list of classes to see that, and
+// looks at colours first, which most looks that are not plain have.
 #[inline]
 pub(crate) fn is_plain(look: &Look) -> bool
     ensures { result ≡ is_plain look.now }
 {
-    is_markless(look) && is_colorless(look)
+    is_colorless(look) && is_markless(look)
 }
 
 // Whether none of the renditions but colours holds.
-fn is_markless(look: &Look) -> bool
+pub(crate) fn is_markless(look: &Look) -> bool
     ensures { result ≡ is_markless look.now }
 {
     !look.bold
@@ -49,7 +50,7 @@ fn is_colorless(look: &Look) -> bool
     is_own(look.foreground) && is_own(look.background) && is_own(look.underline_color)
 }
 
-fn is_own(color: Color) -> bool
+pub(crate) fn is_own(color: Color) -> bool
     ensures { result ≡ is_own color }
 {
     match color {

@@ -3,7 +3,7 @@ use denote.Text.{Utf8}
 use denote.Shadow.{shadow}
 use Rattle.std.specs.List.{filter}
 use Rattle.esc_html.specs.Fed.{is_visible, with_text}
-use Rattle.esc_html.proofs.page.Page.take_run.Given as goal
+use Rattle.esc_html.proofs.page.Page.take_parts.Given as goal
 
 abbrev pub invariant-loop-at : goal.invariant-loop-at
 invariant-loop-at g l =
