@@ -1,6 +1,8 @@
 //! In which cells the screens of two streams differ.
 
+use crate::display::Display;
 use crate::fault::{Fault, ended};
+use crate::frames::Frames;
 use crate::options::Options;
 use crate::reading::display_of;
 use crate::showing::{print_sheet, view_of};
@@ -28,11 +30,18 @@ pub struct Differing<'a, W, E> {
 
 impl<'a, W: Write, E: Write> Work for Differing<'a, W, E> {
     fn take<R: Read + Drop>(&mut self, name: &str, input: R) -> Ended {
-        let done = match display_of(self.alloc, self.options, input) {
+        let done = match display_of(self.alloc, self.options, input, self) {
             Ok(display) => self.take_terminal(display.terminal),
             Err(fault) => Err(fault),
         };
         ended(done, name, self.output_name, &mut self.faults)
+    }
+}
+
+// It compares the screens at the end alone.
+impl<'a, W: Write, E: Write> Frames for Differing<'a, W, E> {
+    fn take_frame(&mut self, _display: &Display) -> Result<(), Fault> {
+        Ok(())
     }
 }
 

@@ -15,6 +15,8 @@ pub struct Display {
     pub terminal: Terminal,
     /// The lines.
     pub log: Option<Log>,
+    /// The time of the last output of a recording, in seconds.
+    pub time: Option<f64>,
 }
 
 impl Display {
@@ -33,7 +35,11 @@ impl Display {
         } else {
             None
         };
-        Ok(Display { terminal, log })
+        Ok(Display {
+            terminal,
+            log,
+            time: None,
+        })
     }
 
     /// Takes bytes more.

@@ -5,10 +5,12 @@
 mod differing;
 mod display;
 mod fault;
+mod frames;
 mod html;
 mod options;
 mod reading;
 mod recorded;
+mod seconds;
 mod showing;
 
 use atomic_file::{NewFile, Output};
@@ -26,7 +28,8 @@ use std::process::ExitCode;
 
 const USAGE: &str = "\
 usage: escshow [--size columnsxrows] [--log] [--newline] [--color] [--html] [--json] [--cast] \
-[--at seconds] [--diff] [-o|--output file] [-h|--help] [-V|--version] [--] [FILE..]";
+[--at seconds] [--every seconds] [--diff] [-o|--output file] [-h|--help] [-V|--version] [--] \
+[FILE..]";
 
 const HELP: &str = "\
 Prints the screen that a terminal shows at the end of each FILE, or of standard input, as rows of
@@ -42,6 +45,8 @@ text.
   --json          writes an object of JSON: the cells with their looks, the cursor, the title, links
   --cast          takes each FILE as a recording of asciinema, version 2 or 3
   --at seconds    shows the screen of a recording at this time, as 12.5, and not at its end
+  --every seconds shows one screen after another of a recording, for each stretch of so many seconds
+                  that has output, with the time of its last output
   --diff          compares the screens of two FILEs, and says in which cells they differ
   -o, --output f  writes the file f, whole or not at all
   -h, --help      prints this

@@ -41,6 +41,9 @@ pub struct Options {
     /// The time of a recording at which its screen is shown, in seconds; at its end, where there is
     /// none.
     pub at: Option<f64>,
+    /// The seconds of each stretch of a recording of which a screen is shown; one screen alone is
+    /// shown, where there is none.
+    pub every: Option<f64>,
 }
 
 /// What the program does.
@@ -120,6 +123,11 @@ const KNOWN: &[Known] = &[
         takes: Takes::OneOf("time in seconds, as 12.5", &[]),
     },
     Known {
+        name: "--every",
+        letter: "",
+        takes: Takes::OneOf("time in seconds, as 0.5", &[]),
+    },
+    Known {
         name: "--diff",
         letter: "",
         takes: Takes::Nothing,
@@ -171,9 +179,23 @@ impl Options {
     // Takes --log: an object of JSON is one of a screen alone.
     fn take_log(&mut self) {
         self.is_log = true;
+        self.every = None;
         if self.form == Form::Json {
             self.form = Form::Text;
         }
+    }
+
+    // Takes --every: the lines of a recording come once.
+    fn take_every(&mut self, seconds: f64) {
+        self.is_cast = true;
+        self.is_log = false;
+        self.every = Some(seconds);
+    }
+
+    // Takes --diff: one screen of each stream is compared.
+    fn take_diff(&mut self) {
+        self.is_log = false;
+        self.every = None;
     }
 
     // Takes --json.
@@ -204,6 +226,7 @@ impl<'a> Task<'a> {
                 has_new_lines: false,
                 is_cast: false,
                 at: None,
+                every: None,
             },
             output: None,
             files: found.files,
@@ -231,6 +254,7 @@ impl<'a> Task<'a> {
                 self.options.is_cast = true;
                 self.options.at = Some(time_named(given.word)?);
             }
+            "--every" => self.options.take_every(stretch_named(given.word)?),
             "--diff" => self.kind = Kind::Compare,
             "--output" => self.output = Some(given.word),
             "--help" => self.kind = Kind::Help,
@@ -242,7 +266,7 @@ impl<'a> Task<'a> {
 
     // The task, where it has two files.
     fn with_two_files(mut self) -> Result<Task<'a>, Wrong<'a>> {
-        self.options.is_log = false;
+        self.options.take_diff();
         match self.files.as_slice() {
             [_, _] => Ok(self),
             [_, _, third, ..] => Err(Wrong::Value("--diff", "third file", *third, None)),
@@ -265,5 +289,13 @@ fn time_named(word: &str) -> Result<f64, Wrong<'_>> {
     match word.parse::<f64>() {
         Ok(time) if time >= 0.0 => Ok(time),
         _ => Err(Wrong::Value("--at", "time in seconds", word, None)),
+    }
+}
+
+// How long a stretch is that a word names, in seconds: a thousandth at least.
+fn stretch_named(word: &str) -> Result<f64, Wrong<'_>> {
+    match word.parse::<f64>() {
+        Ok(seconds) if seconds >= 0.001 => Ok(seconds),
+        _ => Err(Wrong::Value("--every", "time in seconds", word, None)),
     }
 }

@@ -3,6 +3,7 @@ ghost use Rattle.std.specs.Prelude.{◌≤◌, IfOk, length};
 
 use crate::display::Display;
 use crate::fault::Fault;
+use crate::frames::Frames;
 use crate::options::{DEFAULT_SIZE, Options};
 use crate::recorded::Recorded;
 use command_line::{ErrorCapture, Reason};
@@ -11,17 +12,18 @@ use std::alloc::Global;
 use std::io::Read;
 
 /// The terminal that was fed a stream, or the texts of a recording, by these options, and the lines
-/// that it leaves.
-pub fn display_of<R: Read + Drop>(
+/// that it leaves. While a recording is played, its screens go to `frames`.
+pub fn display_of<R: Read + Drop, F: Frames>(
     alloc: Global,
     options: Options,
     input: R,
+    frames: &mut F,
 ) -> Result<Display, Fault> {
     let mut chunk = fallible_alloc::read_buffer(alloc)?;
     let mut reader = ErrorCapture::new(input);
     if options.is_cast {
         let mut recorded = Recorded::new(alloc, options);
-        play(&mut recorded, &mut reader, &mut chunk)?;
+        play(&mut recorded, &mut reader, &mut chunk, frames)?;
         let mut display = recorded.into_display()?;
         display.end()?;
         Ok(display)
@@ -55,19 +57,20 @@ fn feed<R: Read>(
 }
 
 // Plays a recording, chunk by chunk, up to its end or the time that is asked for.
-fn play<R: Read>(
+fn play<R: Read, F: Frames>(
     recorded: &mut Recorded,
     reader: &mut ErrorCapture<R>,
     chunk: &mut [u8],
+    frames: &mut F,
 ) -> Result<(), Fault> {
     for _ in 0..u64::MAX {
         let count = read(reader, chunk)?;
         if count == 0 || recorded.is_over() {
             break;
         }
-        recorded.take(&chunk[..count])?;
+        recorded.take(&chunk[..count], frames)?;
     }
-    recorded.end()
+    recorded.end(frames)
 }
 
 // Replaces the bytes of a chunk that would be controls by themselves.

@@ -2,11 +2,13 @@
 
 use crate::display::Display;
 use crate::fault::Fault;
+use crate::frames::Frames;
 use crate::options::{DEFAULT_SIZE, Options, Size};
 use asciicast::{Event, event_in};
 use json::{Scratch, Value};
 use memchr::memchr;
 use std::alloc::Global;
+use std::num::saturating_f64_to_u64;
 use std::{mem, str};
 
 /// A recording, line by line, and the terminal that got the texts of its events.
@@ -59,11 +61,11 @@ impl Recorded {
     }
 
     /// Takes bytes more.
-    pub fn take(&mut self, bytes: &[u8]) -> Result<(), Fault> {
+    pub fn take<F: Frames>(&mut self, bytes: &[u8], frames: &mut F) -> Result<(), Fault> {
         let mut rest = bytes;
         while let Some(at) = memchr(b'\n', rest) {
             self.line.extend_from_slice(&rest[..at])?;
-            self.end_line()?;
+            self.end_line(frames)?;
             rest = &rest[at + 1..];
         }
         self.line.extend_from_slice(rest)?;
@@ -71,11 +73,11 @@ impl Recorded {
     }
 
     /// Takes the last line, where it has no line feed.
-    pub fn end(&mut self) -> Result<(), Fault> {
+    pub fn end<F: Frames>(&mut self, frames: &mut F) -> Result<(), Fault> {
         if self.line.is_empty() {
             return Ok(());
         }
-        self.end_line()
+        self.end_line(frames)
     }
 
     /// The terminal, and its lines so far. The error is that there was no header.
@@ -87,26 +89,26 @@ impl Recorded {
     }
 
     // Takes the line, where the recording goes on.
-    fn end_line(&mut self) -> Result<(), Fault> {
+    fn end_line<F: Frames>(&mut self, frames: &mut F) -> Result<(), Fault> {
         self.count = self.count.saturating_add(1);
         let line = mem::replace(&mut self.line, Vec::new(self.alloc));
         if self.clock.is_over {
             return Ok(());
         }
         match str::from_utf8(&line) {
-            Ok(text) => self.take_line(text),
+            Ok(text) => self.take_line(text, frames),
             Err(_) => Err(Fault::Line(self.count)),
         }
     }
 
     // Takes a line.
-    fn take_line(&mut self, line: &str) -> Result<(), Fault> {
+    fn take_line<F: Frames>(&mut self, line: &str, frames: &mut F) -> Result<(), Fault> {
         let mut scratch = mem::replace(&mut self.scratch, Scratch::new(self.alloc));
         let event = event_in(self.alloc, line, &mut scratch)?;
         match event {
             Event::Output(time, text) => {
                 self.clock.pass(time, self.options.at);
-                self.print(text)
+                self.print(text, frames)
             }
             Event::Input(time, _) | Event::Passed(time) => {
                 self.clock.pass(time, self.options.at);
@@ -121,13 +123,20 @@ impl Recorded {
         }
     }
 
-    // Gives the terminal a text, where that is not too late.
-    fn print(&mut self, text: &str) -> Result<(), Fault> {
+    // Gives the terminal a text, where that is not too late. Before it, the screen goes to `frames`
+    // where the text is the first of another stretch of time.
+    fn print<F: Frames>(&mut self, text: &str, frames: &mut F) -> Result<(), Fault> {
         if self.clock.is_over {
             return Ok(());
         }
         match &mut self.display {
-            Some(display) => Ok(display.feed(text.as_bytes())?),
+            Some(display) => {
+                if self.clock.is_later(display.time, self.options.every) {
+                    frames.take_frame(display)?;
+                }
+                display.time = Some(self.clock.now);
+                Ok(display.feed(text.as_bytes())?)
+            }
             None => Err(Fault::Line(self.count)),
         }
     }
@@ -144,6 +153,16 @@ impl Recorded {
 }
 
 impl Clock {
+    // Whether it is in a later stretch of so many seconds than this time was.
+    fn is_later(self, time: Option<f64>, every: Option<f64>) -> bool {
+        match (time, every) {
+            (Some(time), Some(every)) => {
+                saturating_f64_to_u64(time / every) < saturating_f64_to_u64(self.now / every)
+            }
+            _ => false,
+        }
+    }
+
     // Passes to the time of an event.
     fn pass(&mut self, time: &str, end: Option<f64>) {
         let time = time.parse::<f64>().unwrap_or(0.0);

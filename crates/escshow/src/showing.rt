@@ -5,9 +5,11 @@ ghost use Rattle.esc_sheet.specs.Sheets.{AppendsSheet};
 
 use crate::display::Display;
 use crate::fault::{Fault, ended};
+use crate::frames::Frames;
 use crate::html::{HEAD, html_of};
 use crate::options::{Form, Options};
 use crate::reading::display_of;
+use crate::seconds::heading_of;
 use command_line::{Ended, Reason, Work};
 use esc_sheet::{Sheet, View, push_object, push_rows};
 use esc_terminal::Terminal;
@@ -30,11 +32,17 @@ pub struct Showing<'a, W, E> {
 
 impl<'a, W: Write, E: Write> Work for Showing<'a, W, E> {
     fn take<R: Read + Drop>(&mut self, name: &str, input: R) -> Ended {
-        let done = match display_of(self.alloc, self.options, input) {
+        let done = match display_of(self.alloc, self.options, input, self) {
             Ok(display) => self.write(&display),
             Err(fault) => Err(fault),
         };
         ended(done, name, self.output_name, &mut self.faults)
+    }
+}
+
+impl<'a, W: Write, E: Write> Frames for Showing<'a, W, E> {
+    fn take_frame(&mut self, display: &Display) -> Result<(), Fault> {
+        self.write(display)
     }
 }
 
@@ -44,8 +52,34 @@ impl<'a, W: Write, E: Write> Showing<'a, W, E> {
         if let Some(log) = &display.log {
             return self.write_sheet(log.sheet());
         }
+        self.write_heading(display.time)?;
         let sheet = sheet_of(self.alloc, &display.terminal, self.options.form)?;
         self.write_sheet(&sheet)
+    }
+
+    // Writes the time of a screen of a recording, where one screen after another is written, other
+    // than as JSON.
+    fn write_heading(&mut self, time: Option<f64>) -> Result<(), Fault> {
+        match (self.options.every, time) {
+            (Some(_), Some(time)) => match self.options.form {
+                Form::Json => Ok(()),
+                Form::Text | Form::Color | Form::Html => {
+                    self.write_head()?;
+                    let line = heading_of(self.alloc, time)?;
+                    print(line.as_str(), self.output)
+                }
+            },
+            _ => Ok(()),
+        }
+    }
+
+    // Writes what a page begins with, where nothing of it was written yet.
+    fn write_head(&mut self) -> Result<(), Fault> {
+        if self.options.form != Form::Html || !self.is_first {
+            return Ok(());
+        }
+        self.is_first = false;
+        print(HEAD, self.output)
     }
 
     // Writes a text, or the HTML of it.
@@ -53,10 +87,7 @@ impl<'a, W: Write, E: Write> Showing<'a, W, E> {
         if self.options.form != Form::Html {
             return print_sheet(sheet, self.output);
         }
-        if self.is_first {
-            self.is_first = false;
-            print(HEAD, self.output)?;
-        }
+        self.write_head()?;
         let html = html_of(self.alloc, sheet.as_str())?;
         print(html.as_str(), self.output)
     }
