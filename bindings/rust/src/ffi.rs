@@ -247,15 +247,11 @@ impl Parser {
         }
         match self.state {
             GROUND => Place::Ground,
+            IN_COMMAND => Place::Text,
+            PASSED_OVER | IN_APC => Place::Passed,
             IN_DATA if !self.is_over => Place::Data,
             _ => Place::Inside,
         }
-    }
-
-    /// Whether a string is unfinished that is handed out whole at its end, or passed over.
-    #[inline(always)]
-    pub fn is_in_text(&self) -> bool {
-        matches!(self.state, IN_COMMAND | PASSED_OVER | IN_APC)
     }
 
     /// How many bytes of an unfinished string are kept, or of its header.

@@ -340,10 +340,10 @@ impl Parser {
         self.raw.place()
     }
 
-    // Whether a string is unfinished that is handed out whole at its end, or passed over.
+    // How long a string may be that is handed out.
     #[inline(always)]
-    pub(crate) fn is_in_text(&self) -> bool {
-        self.raw.is_in_text()
+    pub(crate) fn limit(&self) -> usize {
+        self.limit
     }
 
     // Takes bytes up to the next event, and returns how many.

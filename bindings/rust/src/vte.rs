@@ -35,10 +35,12 @@
 //! assert_eq!((&screen.text[..], &screen.colors[..]), ("caf\u{e9} red", &[1, 31][..]));
 //! ```
 use crate::{Entry, Event};
-use held::{Held, Single};
+use held::{Held, Single, before_tail, tail};
+use plain::Plain;
 
 pub mod by_byte;
 mod held;
+mod plain;
 
 pub(crate) use held::Place;
 
@@ -170,7 +172,11 @@ impl<const OSC_RAW_BUF_SIZE: usize> Parser<OSC_RAW_BUF_SIZE> {
     /// After a [failure](Parser::has_failed) it makes none.
     #[inline]
     pub fn advance<P: Perform>(&mut self, performer: &mut P, bytes: &[u8]) {
-        self.take(performer, bytes, |_| false);
+        if let [byte] = *bytes {
+            self.take_byte(performer, byte);
+        } else {
+            self.take(performer, bytes, |_| false);
+        }
     }
 
     /// Takes the next bytes of the stream until [`Perform::terminated`] is true, makes the calls
@@ -197,6 +203,7 @@ impl<const OSC_RAW_BUF_SIZE: usize> Parser<OSC_RAW_BUF_SIZE> {
         self.has_failed
     }
 
+    // Takes some bytes, or a byte after which it may be asked to stop.
     #[inline]
     fn take<P: Perform>(
         &mut self,
@@ -221,9 +228,17 @@ impl<const OSC_RAW_BUF_SIZE: usize> Parser<OSC_RAW_BUF_SIZE> {
         count
     }
 
+    // Takes a byte by itself. It is all of a call in a stream that comes byte by byte, so it stands
+    // apart from the loops over bytes.
+    #[inline]
+    fn take_byte<P: Perform>(&mut self, performer: &mut P, byte: u8) {
+        let single = self.held.take(byte);
+        self.act(performer, byte, single);
+    }
+
     // Takes bytes event by event while `goes_on` is true, or all, and says how many; nothing if the
     // parser failed.
-    #[inline]
+    #[inline(never)]
     fn take_events<P: Perform>(
         &mut self,
         performer: &mut P,
@@ -238,7 +253,7 @@ impl<const OSC_RAW_BUF_SIZE: usize> Parser<OSC_RAW_BUF_SIZE> {
             call(params, performer, event, taken);
             goes_on(performer)
         });
-        self.held.clear(self.stream.is_in_text());
+        self.held.clear(self.stream.place());
         taken.ok()
     }
 
@@ -247,8 +262,7 @@ impl<const OSC_RAW_BUF_SIZE: usize> Parser<OSC_RAW_BUF_SIZE> {
     #[inline]
     fn take_short<P: Perform>(&mut self, performer: &mut P, bytes: &[u8]) -> Option<usize> {
         if let [byte] = *bytes {
-            let single = self.held.take(byte, || self.stream.place());
-            self.act(performer, byte, single);
+            self.take_byte(performer, byte);
             return Some(1);
         }
         if self.held.is_open() {
@@ -256,14 +270,19 @@ impl<const OSC_RAW_BUF_SIZE: usize> Parser<OSC_RAW_BUF_SIZE> {
             self.act(performer, bytes[0], single);
             return Some(count);
         }
-        let place = self.stream.place();
+        let place = self.held.place();
         let count = take_plain(performer, bytes, place);
         if count > 0 {
             return Some(count);
         }
-        if let (Place::Ground, Some(sequence)) = (place, plain_sequence(bytes)) {
-            call_plain(&mut self.params, performer, sequence);
-            return Some(2 + sequence.len());
+        if place == Place::Ground {
+            if let Some((plain, count)) = Plain::first(bytes, self.stream.limit()) {
+                plain.call(&mut self.params, performer);
+                if plain.ends_in_escape() {
+                    self.held.begin(&[ESCAPE]);
+                }
+                return Some(count);
+            }
         }
         match *bytes {
             [ESCAPE, ..] if place == Place::Ground && tail(bytes) == bytes.len() => {
@@ -272,7 +291,7 @@ impl<const OSC_RAW_BUF_SIZE: usize> Parser<OSC_RAW_BUF_SIZE> {
             }
             // The beginning of a character.
             [first @ 0xc2..=0xf4, ..] if place == Place::Ground && bytes.len() < 4 => {
-                let single = self.held.take(first, || place);
+                let single = self.held.take(first);
                 self.act(performer, first, single);
                 return Some(1);
             }
@@ -297,9 +316,13 @@ impl<const OSC_RAW_BUF_SIZE: usize> Parser<OSC_RAW_BUF_SIZE> {
     #[inline(never)]
     fn take_held<P: Perform>(&mut self, performer: &mut P) {
         let params = &mut self.params;
-        if let Some(sequence) = plain_sequence(self.held.bytes()) {
-            call_plain(params, performer, sequence);
-            self.held.clear(false);
+        if let Some((plain, _)) = Plain::first(self.held.bytes(), self.stream.limit()) {
+            plain.call(params, performer);
+            if plain.ends_in_escape() {
+                self.held.begin(&[ESCAPE]);
+            } else {
+                self.held.clear(Place::Ground);
+            }
             return;
         }
         let taken = self
@@ -309,7 +332,7 @@ impl<const OSC_RAW_BUF_SIZE: usize> Parser<OSC_RAW_BUF_SIZE> {
                 true
             });
         self.has_failed |= taken.is_err();
-        self.held.clear(self.stream.is_in_text());
+        self.held.clear(self.stream.place());
     }
 }
 
@@ -326,7 +349,7 @@ fn take_plain<P: Perform>(performer: &mut P, bytes: &[u8], place: Place) -> usiz
         (Place::Ground, [0xc2..=0xf4, ..]) => print_characters(performer, bytes),
         (Place::Ground, _) => run.map(|it| performer.print(char::from(*it))).count(),
         (Place::Data, _) => run.map(|it| performer.put(*it)).count(),
-        (Place::Inside, _) => 0,
+        (Place::Text | Place::Passed | Place::Inside, _) => 0,
     }
 }
 
@@ -361,33 +384,6 @@ fn first_character(bytes: &[u8]) -> Option<char> {
         _ => return None,
     };
     char::from_u32(number).filter(|_| number >= least)
-}
-
-// The bytes of a short chunk before its tail, or all, where the tail is the chunk.
-#[inline]
-fn before_tail(bytes: &[u8]) -> &[u8] {
-    match bytes.len() - tail(bytes) {
-        0 => bytes,
-        before => &bytes[..before],
-    }
-}
-
-// How many bytes at the end of a chunk are the beginning of a sequence or of a string, which makes
-// no call if nothing is unfinished before it.
-#[inline]
-fn tail(bytes: &[u8]) -> usize {
-    let Some(start) = bytes.iter().rposition(|byte| *byte == ESCAPE) else {
-        return 0;
-    };
-    let goes_on = match bytes[start + 1..] {
-        [] => true,
-        [b'[', ref rest @ ..] => rest.iter().all(|byte| matches!(byte, 0x30..=0x3f)),
-        [b']' | b'X' | b'^' | b'_', ref rest @ ..] => {
-            rest.iter().all(|byte| matches!(byte, 0x20..=0x7e))
-        }
-        _ => false,
-    };
-    if goes_on { bytes.len() - start } else { 0 }
 }
 
 // Makes the call for an event, or one for each character or byte of a run. The bytes are those that
@@ -434,39 +430,6 @@ fn print_all<P: Perform>(performer: &mut P, run: &str) {
     } else {
         run.chars().for_each(|c| performer.print(c));
     }
-}
-
-// The part of a control sequence after its opener, if it is at the beginning of bytes and has but a
-// prefix, numbers and separators.
-#[inline]
-fn plain_sequence(bytes: &[u8]) -> Option<&[u8]> {
-    let inner = bytes.strip_prefix(b"\x1b[")?;
-    let prefix = usize::from(matches!(inner, [0x3c..=0x3f, ..]));
-    let numbers = inner.get(prefix..)?.iter();
-    let last = prefix + numbers.take_while(|it| matches!(it, 0x30..=0x3b)).count();
-    matches!(inner.get(last), Some(0x40..=0x7e)).then(|| &inner[..=last])
-}
-
-// Such a sequence. To have the parser read so few bytes costs more than they do.
-#[inline]
-fn call_plain<P: Perform>(params: &mut Params, performer: &mut P, sequence: &[u8]) {
-    let is_prefix = |byte: &u8| matches!(byte, 0x3c..=0x3f);
-    let (prefix, rest) = sequence.split_at(sequence.iter().take_while(|it| is_prefix(it)).count());
-    let Some((last, numbers)) = rest.split_last() else {
-        return;
-    };
-    let (mut number, mut ignore) = (0, false);
-    params.clear();
-    for byte in numbers {
-        if let b';' | b':' = byte {
-            ignore |= !params.push(number, *byte == b':');
-            number = 0;
-        } else {
-            number = with_digit(number, byte);
-        }
-    }
-    ignore |= !params.push(number, false);
-    performer.csi_dispatch(params, prefix, ignore, char::from(*last));
 }
 
 // A control sequence. Its entries are a marker, numbers with separators, and intermediates.

@@ -250,6 +250,31 @@ fn stops() {
     assert_eq!(log.calls[7..], ["print 'e'"]);
 }
 
+// As many bytes are taken for a call in a short chunk as in a long one.
+#[test]
+fn stops_in_short_chunks() {
+    for (stream, stop, taken) in [
+        (&b"\x1b]2;a\x07bc"[..], "osc 2|a bell", 6),
+        (b"\x1b]2;a\x1b\\bc", "osc 2|a", 6),
+        (b"\x1b[31mbc", "csi [31]m", 5),
+        (b"\x1b7bc", "esc 7", 2),
+    ] {
+        for more in ["", "a text that is longer than a short chunk"] {
+            let mut log = Log {
+                stop: Some(stop),
+                ..Log::default()
+            };
+            let chunk = [stream, more.as_bytes()].concat();
+            let mut parser = Parser::new();
+            let count = parser.advance_until_terminated(&mut log, &chunk);
+            assert_eq!((count, &log.calls[..]), (taken, &[stop.to_string()][..]));
+            log.stop = None;
+            parser.advance(&mut log, &chunk[count..]);
+            assert_eq!(log.calls, calls([&chunk[..]]));
+        }
+    }
+}
+
 #[test]
 fn long_strings() {
     let mut log = Log::default();

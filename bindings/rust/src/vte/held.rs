@@ -1,9 +1,10 @@
 // SPDX-License-Identifier: MIT
 //! Bytes of a stream that comes byte by byte.
+use super::ESCAPE;
 use core::str;
 
-// Most control sequences are shorter.
-const ROOM: usize = 64;
+// Most sequences, titles and addresses are shorter.
+const ROOM: usize = 256;
 
 /// The last bytes that came one by one and that the parser was not given yet. They make no call
 /// before the next byte, and the calls of a stream are the same however it is cut, so the parser
@@ -18,25 +19,31 @@ pub struct Held {
 // The kind of the bytes.
 #[derive(Clone, Copy, Debug, PartialEq)]
 enum Kind {
-    // There are none, or the parser has to see each.
-    Nothing,
+    // There are none, and the parser is here.
+    Nothing(Place),
     // ESC.
     Escape,
     // A control sequence up to its parameters.
     Parameters,
-    // A string that is handed out at its end.
+    // A command, whose text is handed out at its end.
     Text,
+    // A string that makes no call: its text is dropped, since none of it matters.
+    Passed,
     // A character of which so many bytes are missing.
     Character(u8),
 }
 
 /// Where the parser is.
-#[derive(Clone, Copy, PartialEq)]
+#[derive(Clone, Copy, Debug, PartialEq)]
 pub enum Place {
     /// No sequence, no string and no character is unfinished.
     Ground,
     /// The data of a device control string are unfinished.
     Data,
+    /// The text of a command is.
+    Text,
+    /// A string is that makes no call here.
+    Passed,
     /// Something else is.
     Inside,
 }
@@ -61,42 +68,44 @@ impl Held {
         Held {
             bytes: [0; ROOM],
             count: 0,
-            kind: Kind::Nothing,
+            kind: Kind::Nothing(Place::Ground),
         }
     }
 
-    /// Takes a byte. `place` says where the parser is.
+    /// Takes a byte.
     #[inline]
-    pub fn take(&mut self, byte: u8, place: impl FnOnce() -> Place) -> Single {
-        if self.kind != Kind::Nothing {
-            let is_due = !self.goes_on(byte);
-            return self.keep(byte, is_due);
-        }
-        match (place(), byte) {
-            (Place::Ground, 0x20..=0x7e) => Single::Print(byte.into()),
-            (Place::Ground, 0x00..=0x1a | 0x1c..=0x1f) => Single::Execute,
-            (Place::Ground, _) => {
+    pub fn take(&mut self, byte: u8) -> Single {
+        match (self.kind, byte) {
+            (Kind::Nothing(Place::Ground), 0x20..=0x7e) => Single::Print(byte.into()),
+            (Kind::Nothing(Place::Ground), 0x00..=0x1a | 0x1c..=0x1f) => Single::Execute,
+            (Kind::Nothing(Place::Data), 0x20..=0x7e) => Single::Put,
+            (Kind::Passed, 0x20..=0x7e) => Single::Held,
+            (Kind::Nothing(Place::Ground), _) => {
                 self.kind = begun(byte);
-                self.keep(byte, self.kind == Kind::Nothing)
+                self.keep(byte, !self.is_open())
             }
-            (Place::Data, 0x20..=0x7e) => Single::Put,
-            _ => self.keep(byte, true),
+            _ => {
+                let is_due = !self.goes_on(byte);
+                self.keep(byte, is_due)
+            }
         }
     }
 
-    /// Takes the beginning of a sequence or of a string, where no byte is held and nothing is
-    /// unfinished.
+    /// Takes the beginning of a sequence or of a string in the place of all that is held, where
+    /// nothing is unfinished.
     #[inline]
     pub fn begin(&mut self, bytes: &[u8]) {
-        for (place, byte) in self.bytes.iter_mut().zip(bytes) {
+        let (kind, kept) = match bytes.get(1) {
+            None => (Kind::Escape, bytes),
+            Some(b'[') => (Kind::Parameters, bytes),
+            Some(b']') => (Kind::Text, bytes),
+            Some(_) => (Kind::Passed, &bytes[..2]),
+        };
+        for (place, byte) in self.bytes.iter_mut().zip(kept) {
             *place = *byte;
         }
-        self.count = bytes.len().min(ROOM);
-        self.kind = match bytes.get(1) {
-            None => Kind::Escape,
-            Some(b'[') => Kind::Parameters,
-            Some(_) => Kind::Text,
-        };
+        self.count = kept.len().min(ROOM);
+        self.kind = kind;
     }
 
     /// Takes bytes after some that are held, up to the one that ends what they are, and says how
@@ -105,7 +114,8 @@ impl Held {
     pub fn take_run(&mut self, bytes: &[u8]) -> (usize, Single) {
         let run = match self.kind {
             Kind::Parameters => count_while(bytes, |byte| matches!(byte, 0x30..=0x3f)),
-            Kind::Text => count_while(bytes, |byte| matches!(byte, 0x20..=0x7e)),
+            Kind::Text => count_while(bytes, is_text),
+            Kind::Passed => return self.pass(bytes),
             _ => 0,
         };
         let room = self.bytes.get_mut(self.count..).unwrap_or_default();
@@ -122,21 +132,32 @@ impl Held {
         }
     }
 
+    // Drops bytes of a string that makes no call, up to the one that ends it.
+    #[inline]
+    fn pass(&mut self, bytes: &[u8]) -> (usize, Single) {
+        let run = count_while(bytes, is_text);
+        match bytes.get(run) {
+            None => (run, Single::Held),
+            Some(byte) => (run + 1, self.keep(*byte, true)),
+        }
+    }
+
     // Whether this byte makes no call after those that are held.
     #[inline]
     fn goes_on(&mut self, byte: u8) -> bool {
         match self.kind {
-            Kind::Nothing => false,
+            Kind::Nothing(_) => false,
             Kind::Escape => {
                 self.kind = match byte {
                     b'[' => Kind::Parameters,
-                    b']' | b'X' | b'^' | b'_' => Kind::Text,
+                    b']' => Kind::Text,
+                    b'X' | b'^' | b'_' => Kind::Passed,
                     _ => return false,
                 };
                 true
             }
             Kind::Parameters => matches!(byte, 0x30..=0x3f),
-            Kind::Text => matches!(byte, 0x20..=0x7e),
+            Kind::Text | Kind::Passed => is_text(byte),
             Kind::Character(left) => {
                 self.kind = Kind::Character(left.saturating_sub(1));
                 left > 1 && matches!(byte, 0x80..=0xbf)
@@ -165,7 +186,7 @@ impl Held {
         }
         let mut characters = str::from_utf8(self.bytes()).ok()?.chars();
         let c = characters.next().filter(|it| *it >= '\u{a0}')?;
-        self.clear(false);
+        self.clear(Place::Ground);
         Some(c)
     }
 
@@ -178,7 +199,16 @@ impl Held {
     /// Whether there are some, or the next ones may be held beside a text that the parser has.
     #[inline]
     pub fn is_open(&self) -> bool {
-        self.kind != Kind::Nothing
+        !matches!(self.kind, Kind::Nothing(_))
+    }
+
+    /// Where the next byte comes, if none is held.
+    #[inline]
+    pub fn place(&self) -> Place {
+        match self.kind {
+            Kind::Nothing(place) => place,
+            _ => Place::Inside,
+        }
     }
 
     /// The bytes.
@@ -187,17 +217,47 @@ impl Held {
         self.bytes.get(..self.count).unwrap_or_default()
     }
 
-    /// Holds none any more. `is_in_text` says whether the parser is in a string that is handed out
-    /// at its end.
+    /// Holds none any more. `place` says where the parser is.
     #[inline]
-    pub fn clear(&mut self, is_in_text: bool) {
+    pub fn clear(&mut self, place: Place) {
         self.count = 0;
-        self.kind = if is_in_text {
-            Kind::Text
-        } else {
-            Kind::Nothing
+        self.kind = match place {
+            Place::Text => Kind::Text,
+            Place::Passed => Kind::Passed,
+            Place::Ground | Place::Data | Place::Inside => Kind::Nothing(place),
         };
     }
+}
+
+// Whether a byte is one of the text of a string, in any string.
+#[inline]
+fn is_text(byte: u8) -> bool {
+    matches!(byte, 0x20..=0x7e)
+}
+
+/// The bytes of a short chunk before its tail, or all, where the tail is the chunk.
+#[inline]
+pub fn before_tail(bytes: &[u8]) -> &[u8] {
+    match bytes.len() - tail(bytes) {
+        0 => bytes,
+        before => &bytes[..before],
+    }
+}
+
+/// How many bytes at the end of a chunk are the beginning of a sequence or of a string, which makes
+/// no call if nothing is unfinished before it.
+#[inline]
+pub fn tail(bytes: &[u8]) -> usize {
+    let Some(start) = bytes.iter().rposition(|byte| *byte == ESCAPE) else {
+        return 0;
+    };
+    let goes_on = match bytes[start + 1..] {
+        [] => true,
+        [b'[', ref rest @ ..] => rest.iter().all(|byte| matches!(byte, 0x30..=0x3f)),
+        [b']' | b'X' | b'^' | b'_', ref rest @ ..] => rest.iter().all(|byte| is_text(*byte)),
+        _ => false,
+    };
+    if goes_on { bytes.len() - start } else { 0 }
 }
 
 #[inline]
@@ -215,6 +275,6 @@ fn begun(byte: u8) -> Kind {
         0xc2..=0xdf | 0xe0 | 0xed | 0xf0 | 0xf4 => Kind::Character(1),
         0xe1..=0xec | 0xee | 0xef => Kind::Character(2),
         0xf1..=0xf3 => Kind::Character(3),
-        _ => Kind::Nothing,
+        _ => Kind::Nothing(Place::Inside),
     }
 }
