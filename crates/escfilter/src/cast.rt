@@ -1,11 +1,12 @@
 //! A recording, from its reader to the output.
 
 use crate::named_groups::Choice;
+use crate::options::Options;
 use crate::rows::Rows;
 use asciicast::{CastError, Recording};
 use esc_filter::FilterError;
 use esc_normal::Watched;
-use esc_sanitize::{Auditor, FilterOptions, Sanitizing, sanitizing};
+use esc_sanitize::{Auditor, Sanitizing, sanitizing};
 use memchr::memchr;
 use std::alloc::Global;
 use std::fmt::{Display, Formatter};
@@ -50,10 +51,15 @@ pub struct Lines<'a> {
 }
 
 impl<'a> Lines<'a> {
-    /// A recording of which nothing came, for a filter that was fed nothing. Takes no memory.
-    pub fn new(alloc: Global, feeding: Sanitizing<Choice<'a>, Rows<'a>>) -> Lines<'a> {
+    /// A recording of which nothing came, for a filter that was fed nothing; its events of input
+    /// lose their texts, or keep them. Takes no memory.
+    pub fn new(
+        alloc: Global,
+        feeding: Sanitizing<Choice<'a>, Rows<'a>>,
+        drops_input: bool,
+    ) -> Lines<'a> {
         Lines {
-            recording: Recording::new(alloc, feeding),
+            recording: Recording::new(alloc, feeding).dropping_input(drops_input),
             line: Vec::new(alloc),
             count: 0,
         }
@@ -114,12 +120,13 @@ impl<'a> Lines<'a> {
 /// reads; what did not pass of the texts of its events of output goes into these rows.
 pub fn filter_recording<'a, R: Read, W: Write>(
     alloc: Global,
-    options: FilterOptions<Choice<'a>>,
+    options: Options<'a>,
     rows: Rows<'a>,
     reader: &mut Watched<R>,
     writer: &mut Watched<W>,
 ) -> Recorded<'a> {
-    let mut lines = Lines::new(alloc, sanitizing(alloc, options, rows));
+    let feeding = sanitizing(alloc, options.filter, rows);
+    let mut lines = Lines::new(alloc, feeding, options.drops_input);
     let outcome = match fallible_alloc::read_buffer(alloc) {
         Ok(mut chunk) => filter_lines(&mut lines, reader, writer, chunk.as_mut_slice()),
         Err(_) => Err(CastFault::Stream(FilterError::Memory)),

@@ -147,10 +147,9 @@ impl<'a, W: Write, E: Write> Filtering<'a, W, E> {
             output: &mut *self.output,
             is_open: !self.options.is_list,
         }));
-        let options = self.options.filter;
         let Recorded { outcome, auditor } = filter_recording(
             self.alloc,
-            options,
+            self.options,
             rows,
             &mut reader,
             &mut writer,

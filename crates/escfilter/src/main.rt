@@ -24,8 +24,9 @@ mod values;
 
 use atomic_file::{NewFile, Output};
 use command_line::{
-    DONE, Ended, FAULT, OUTPUT, Reason, Wrong, is_text, open_closed, program_words, refused,
-    status_after, status_of_text, take_opened, unread, unwritable, work_through, wrong_apart,
+    DONE, Ended, FAULT, OUTPUT, Reason, USAGE_FAULT, Wrong, is_text, open_closed, program_words,
+    refused, status_after, status_of_text, take_opened, unread, unwritable, work_through,
+    wrong_apart,
 };
 use filtering::Filtering;
 use listing::Names;
@@ -45,7 +46,7 @@ controls|cursor|erase|scroll|modes|charsets|palette|titles|clipboard|images|othe
 [--encoding utf-8|utf-16|utf-16le|utf-16be|latin1|windows-1250|windows-1251|windows-1252|\
 windows-1253|windows-1254|windows-1255|windows-1256|windows-1257|windows-1258] \
 [--c1 replace|obey] [--unicode keep|join|show|drop] [--returns keep|show|drop] \
-[--show[=escaped|color]] [--collapse[=rows]] [--cast] \
+[--show[=escaped|color]] [--collapse[=rows]] [--cast] [--drop-input] \
 [--report[=text|json]] [--report-to file] [--events file] \
 [--fail[=respelled|shown|replaced|left-out|swallowed|overwritten,..]] [--list] [-z|--null] \
 [-o|--output file] [-i|--in-place[=suffix]] [-h|--help] [-V|--version] [--] [FILE..]";
@@ -83,7 +84,9 @@ leaves on, as colours or a link, is taken back at its end, and at each line's wi
   --collapse      writes what a terminal leaves of lines that are written again, as by
                   progress bars; --collapse=rows where these go back over more rows than 32
   --cast          takes each FILE as a recording of asciinema: filters the texts of its
-                  events of output, and keeps its times and all other lines
+                  events of output, and keeps its times and all other lines; then
+                  --allow screen is the default
+  --drop-input    with --cast empties the texts of its events of input, which may be passwords
   --report        says on standard error what was left out of each FILE, and where;
                   --report=json as a line of JSON
   --report-to f   writes the report to the file f, in place of standard error
@@ -131,9 +134,10 @@ fn main(rt: HostRuntime) -> ExitCode {
 // Does what the words ask for.
 fn done(rt: &HostRuntime, task: &Task<'_>) -> u8 {
     match task.kind {
-        Kind::Filter => match wrong_apart(rt, task.apart) {
-            Some(wrong) => refused(PROGRAM, wrong, &mut rt.stderr()),
-            None => filter(rt, task),
+        Kind::Filter => match (wrong_apart(rt, task.apart), task.clash) {
+            (Some(wrong), _) => refused(PROGRAM, wrong, &mut rt.stderr()),
+            (None, Some(clash)) => clashing(clash, &mut rt.stderr()),
+            (None, None) => filter(rt, task),
         },
         Kind::Help => said(rt, println!(rt; "{USAGE}\n\n{HELP}\n{Listed}")),
         Kind::Version => said(rt, println!(rt; "{VERSION}")),
@@ -143,6 +147,13 @@ fn done(rt: &HostRuntime, task: &Task<'_>) -> u8 {
 // The status after a text was printed.
 fn said(rt: &HostRuntime, printed: io::Result<()>) -> u8 {
     status_of_text(PROGRAM, OUTPUT, printed, &mut rt.stderr())
+}
+
+// The status where options do not go together, which a line says.
+fn clashing<E: Write>(clash: &str, faults: &mut E) -> u8 {
+    let _ = writeln!(faults, "{PROGRAM}: {clash}");
+    let _ = writeln!(faults, "Try '{PROGRAM} --help' for more.");
+    USAGE_FAULT
 }
 
 // Filters the files, and tells of them what is asked for.

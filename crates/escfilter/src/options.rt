@@ -8,6 +8,7 @@ use crate::settings::Settings;
 use crate::values::{apart_of, wrong_value};
 use command_line::{Apart, Found, Given, Known, Takes, Wrong, read};
 use esc_decode::{ByteOrder, ENCODINGS, order_of, page_of};
+use esc_filter::Policy;
 use esc_sanitize::FilterOptions;
 use std::alloc::Global;
 
@@ -20,6 +21,8 @@ pub struct Options<'a> {
     pub order: Option<ByteOrder>,
     /// Whether the input is a recording, of which the events of output are filtered.
     pub is_cast: bool,
+    /// Whether its events of input lose their texts.
+    pub drops_input: bool,
     /// In which form it is reported what was left out.
     pub report: Option<Form>,
     /// Whether what did not pass is told, one thing after another.
@@ -81,6 +84,8 @@ pub struct Task<'a> {
     pub files: Vec<&'a str>,
     /// The first of these that an option before it could take.
     pub apart: Option<Apart<'a>>,
+    /// Which options do not go together, where some do not.
+    pub clash: Option<&'static str>,
 }
 
 impl<'a> Options<'a> {
@@ -164,6 +169,11 @@ const KNOWN: &[Known] = &[
         takes: Takes::Nothing,
     },
     Known {
+        name: "--drop-input",
+        letter: "",
+        takes: Takes::Nothing,
+    },
+    Known {
         name: "--report",
         letter: "",
         takes: Takes::Maybe("form", &["text", "json"]),
@@ -218,7 +228,7 @@ impl<'a> Task<'a> {
 
     // The task that these options and files name.
     fn from_found(found: Found<'a>) -> Task<'a> {
-        let mut asked = Asked::nothing();
+        let mut asked = Asked::nothing(default_policy(&found.options));
         for given in &found.options {
             asked.take(given);
         }
@@ -230,6 +240,7 @@ impl<'a> Task<'a> {
             events: asked.events,
             files: found.files,
             apart: apart_of(&found.options),
+            clash: asked.clash(),
         }
     }
 }
@@ -241,6 +252,7 @@ struct Asked<'a> {
     target: Target<'a>,
     settings: Settings<'a>,
     order: Option<ByteOrder>,
+    drops_input: bool,
     report: Option<Form>,
     report_to: Option<&'a str>,
     events: Option<&'a str>,
@@ -250,13 +262,14 @@ struct Asked<'a> {
 }
 
 impl<'a> Asked<'a> {
-    // What no option asks for.
-    fn nothing() -> Asked<'a> {
+    // What no option asks for, where this policy is the default.
+    fn nothing(policy: Policy) -> Asked<'a> {
         Asked {
             kind: Kind::Filter,
             target: Target::Output,
-            settings: Settings::nothing(),
+            settings: Settings::nothing(policy),
             order: None,
+            drops_input: false,
             report: None,
             report_to: None,
             events: None,
@@ -273,6 +286,7 @@ impl<'a> Asked<'a> {
                 self.settings.page = page_of(given.word);
                 self.order = order_of(given.word);
             }
+            "--drop-input" => self.drops_input = true,
             "--report" => self.report = Some(form_of(given.word)),
             "--report-to" => self.report_to = Some(given.word),
             "--events" => self.events = Some(given.word),
@@ -298,11 +312,21 @@ impl<'a> Asked<'a> {
             filter: self.settings.filter_options(audits),
             order: self.order,
             is_cast: self.settings.is_cast,
+            drops_input: self.drops_input,
             report,
             has_events: self.events.is_some(),
             is_list: self.is_list,
             is_null: self.is_null,
             fails: self.fails,
+        }
+    }
+
+    // Which options do not go together, where some do not: the rows that are left of lines have no
+    // times.
+    fn clash(&self) -> Option<&'static str> {
+        match self.settings.rows {
+            Some(_) if self.settings.is_cast => Some("--collapse is not for recordings"),
+            _ => None,
         }
     }
 
@@ -321,6 +345,16 @@ impl<'a> Asked<'a> {
             (report, _) => report,
         }
     }
+}
+
+// The policy where none is named: what is recorded is a program that uses the screen.
+fn default_policy(options: &[Given<'_>]) -> Policy {
+    for given in options {
+        if given.name == "--cast" {
+            return Policy::Screen;
+        }
+    }
+    Policy::Color
 }
 
 // The form of this name, which is one of those in the table; of text where none is named.

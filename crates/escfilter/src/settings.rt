@@ -40,10 +40,10 @@ pub struct Settings<'a> {
 }
 
 impl<'a> Settings<'a> {
-    /// What no word says.
-    pub fn nothing() -> Settings<'a> {
+    /// What no word says, where this policy is the default.
+    pub fn nothing(policy: Policy) -> Settings<'a> {
         Settings {
-            choice: Choice::of(Policy::Color),
+            choice: Choice::of(policy),
             schemes: None,
             limit: FilterOptions::new(Policy::Color).limit,
             by_lines: None,
