@@ -15,6 +15,7 @@ mod listing;
 mod name;
 mod named_groups;
 mod options;
+mod recording;
 mod report;
 mod rows;
 mod saying;
