@@ -8,18 +8,19 @@ ghost use Rattle.escfilter.specs.Reports.{HasAudited, IsReported, IsReportedOf, 
 use crate::PROGRAM;
 use crate::cast::Lines;
 use crate::events::Events;
+use crate::frames::Frames;
 use crate::json::tell_json;
 use crate::laws::choices_admit_less;
 use crate::listing::{Names, Passage, write_name};
 use crate::named_groups::Choice;
-use crate::options::{Form, Options};
+use crate::options::{Form, Options, Recorded};
 use crate::recording::{Cut, Fault, Recording, filter_recording};
 use crate::report::tell_text;
 use crate::rows::Rows;
 use crate::told::Told;
 use command_line::{Ended, ErrorCapture, Place, Reason, Work, ended_by, unwritten};
 use esc_account::Account;
-use esc_decode::Input;
+use esc_decode::{ByteOrder, Input};
 use esc_filter::FilterError;
 use esc_normal::Watched;
 use esc_sanitize::{Auditor, Sanitized, sanitize_stream, sanitizing};
@@ -58,10 +59,10 @@ struct Filtered {
 impl<'a, W: Write, E: Write> Work for Filtering<'a, W, E> {
     fn take<R: Read + Drop>(&mut self, name: &str, input: R) -> Ended {
         let events = started(self.told.events.take(), name);
-        let (ended, is_failure, events) = if self.options.is_cast {
-            self.take_cast(name, input, events)
-        } else {
-            self.take_stream(name, input, events)
+        let (ended, is_failure, events) = match self.options.recorded {
+            Recorded::Stream => self.take_stream(name, input, events),
+            Recorded::Cast => self.take_cast(name, input, events),
+            Recorded::Frames => self.take_frames(name, input, events),
         };
         self.told.events = stopped(events);
         if self.options.is_list && is_failure {
@@ -144,17 +145,33 @@ impl<'a, W: Write, E: Write> Filtering<'a, W, E> {
         let rows = Rows::new(self.alloc, self.options, events);
         let feeding = sanitizing(self.alloc, self.options.filter, rows);
         let mut lines = Lines::new(self.alloc, feeding, self.options);
-        let (outcome, reason) = self.read_recording(&mut lines, input);
+        let order = self.options.order;
+        let (outcome, reason) = self.read_recording(&mut lines, order, input);
         self.end_recording(name, outcome, reason, lines.into_auditor())
+    }
+
+    // The same of a recording of ttyrec.
+    fn take_frames<R: Read + Drop>(
+        &mut self,
+        name: &str,
+        input: R,
+        events: Option<Events>,
+    ) -> (Ended, bool, Option<Events>) {
+        let rows = Rows::new(self.alloc, self.options, events);
+        let feeding = sanitizing(self.alloc, self.options.filter, rows);
+        let mut frames = Frames::new(self.alloc, feeding);
+        let (outcome, reason) = self.read_recording(&mut frames, None, input);
+        self.end_recording(name, outcome, reason, frames.into_auditor())
     }
 
     // Reads a recording to its end. It returns how that ended, and the reason of what hindered it.
     fn read_recording<T: Recording, R: Read + Drop>(
         &mut self,
         recording: &mut T,
+        order: Option<ByteOrder>,
         input: R,
     ) -> (Result<Option<Cut>, Fault>, Option<Reason>) {
-        let input = Input::new(self.alloc, self.options.order, input);
+        let input = Input::new(self.alloc, order, input);
         let mut reader = Watched::new(ErrorCapture::new(input));
         let mut writer = Watched::new(ErrorCapture::new(Passage {
             output: &mut *self.output,

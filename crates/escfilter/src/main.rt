@@ -9,6 +9,7 @@ mod cast;
 mod events;
 mod failing;
 mod filtering;
+mod frames;
 mod json;
 mod laws;
 mod listing;
@@ -47,7 +48,7 @@ controls|cursor|erase|scroll|modes|charsets|palette|titles|clipboard|images|othe
 [--encoding utf-8|utf-16|utf-16le|utf-16be|latin1|windows-1250|windows-1251|windows-1252|\
 windows-1253|windows-1254|windows-1255|windows-1256|windows-1257|windows-1258] \
 [--c1 replace|obey] [--unicode keep|join|show|drop] [--returns keep|show|drop] \
-[--show[=escaped|color]] [--collapse[=rows]] [--cast] [--drop-input] \
+[--show[=escaped|color]] [--collapse[=rows]] [--cast] [--drop-input] [--ttyrec] \
 [--report[=text|json]] [--report-to file] [--events file] \
 [--fail[=respelled|shown|replaced|left-out|swallowed|overwritten,..]] [--list] [-z|--null] \
 [-o|--output file] [-i|--in-place[=suffix]] [-h|--help] [-V|--version] [--] [FILE..]";
@@ -85,9 +86,10 @@ leaves on, as colours or a link, is taken back at its end, and at each line's wi
   --collapse      writes what a terminal leaves of lines that are written again, as by
                   progress bars; --collapse=rows where these go back over more rows than 32
   --cast          takes each FILE as a recording of asciinema: filters the texts of its
-                  events of output, and keeps its times and all other lines; then
+                  events of output, and keeps its times and all other lines; for recordings
                   --allow screen is the default
   --drop-input    with --cast empties the texts of its events of input, which may be passwords
+  --ttyrec        takes each FILE as a recording of ttyrec, and writes one
   --report        says on standard error what was left out of each FILE, and where;
                   --report=json as a line of JSON
   --report-to f   writes the report to the file f, in place of standard error

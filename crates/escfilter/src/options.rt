@@ -19,9 +19,9 @@ pub struct Options<'a> {
     pub filter: FilterOptions<Choice<'a>>,
     /// Which byte of a unit comes first, where a stream is in UTF-16; then it is read as UTF-8.
     pub order: Option<ByteOrder>,
-    /// Whether the input is a recording, of which the events of output are filtered.
-    pub is_cast: bool,
-    /// Whether its events of input lose their texts.
+    /// What a file is: a stream, or a recording of one.
+    pub recorded: Recorded,
+    /// Whether events of input lose their texts.
     pub drops_input: bool,
     /// In which form it is reported what was left out.
     pub report: Option<Form>,
@@ -33,6 +33,17 @@ pub struct Options<'a> {
     pub is_null: bool,
     /// Which fates are a failure, where some are.
     pub fails: Option<Failing>,
+}
+
+/// What a file is.
+#[derive(Clone, Copy)]
+pub enum Recorded {
+    /// A stream.
+    Stream,
+    /// A recording of asciinema.
+    Cast,
+    /// A recording of ttyrec.
+    Frames,
 }
 
 /// The form of a report.
@@ -174,6 +185,11 @@ const KNOWN: &[Known] = &[
         takes: Takes::Nothing,
     },
     Known {
+        name: "--ttyrec",
+        letter: "",
+        takes: Takes::Nothing,
+    },
+    Known {
         name: "--report",
         letter: "",
         takes: Takes::Maybe("form", &["text", "json"]),
@@ -311,7 +327,7 @@ impl<'a> Asked<'a> {
         Options {
             filter: self.settings.filter_options(audits),
             order: self.order,
-            is_cast: self.settings.is_cast,
+            recorded: self.settings.recorded,
             drops_input: self.drops_input,
             report,
             has_events: self.events.is_some(),
@@ -325,7 +341,7 @@ impl<'a> Asked<'a> {
     // times.
     fn clash(&self) -> Option<&'static str> {
         match self.settings.rows {
-            Some(_) if self.settings.is_cast => Some("--collapse is not for recordings"),
+            Some(_) if self.settings.is_recording() => Some("--collapse is not for recordings"),
             _ => None,
         }
     }
@@ -350,8 +366,9 @@ impl<'a> Asked<'a> {
 // The policy where none is named: what is recorded is a program that uses the screen.
 fn default_policy(options: &[Given<'_>]) -> Policy {
     for given in options {
-        if given.name == "--cast" {
-            return Policy::Screen;
+        match given.name {
+            "--cast" | "--ttyrec" => return Policy::Screen,
+            _ => {}
         }
     }
     Policy::Color

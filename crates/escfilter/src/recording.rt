@@ -32,6 +32,8 @@ pub enum Fault {
     Line(u64),
     /// The line of this number has more bytes than this.
     Long(u64, usize),
+    /// The frame of this number is none of a recording of ttyrec.
+    Frame(u64),
 }
 
 impl Fault {
@@ -50,6 +52,7 @@ impl Display for Fault {
             Fault::Stream(error) => error.fmt(f),
             Fault::Line(number) => write!(f, "line {number} is no line of a recording"),
             Fault::Long(number, most) => write!(f, "line {number} has more than {most} bytes"),
+            Fault::Frame(number) => write!(f, "frame {number} is no frame of ttyrec"),
         }
     }
 }
@@ -59,12 +62,15 @@ impl Display for Fault {
 pub enum Cut {
     /// In the line of this number, which is left out.
     Line(u64),
+    /// In the frame of this number, of which the beginning is filtered.
+    Frame(u64),
 }
 
 impl Display for Cut {
     fn fmt<W: fmt::Write>(&self, f: &mut Formatter<W>) -> fmt::Result {
         match self {
             Cut::Line(number) => write!(f, "it is cut in line {number}, which is left out"),
+            Cut::Frame(number) => write!(f, "it is cut in frame {number}"),
         }
     }
 }
