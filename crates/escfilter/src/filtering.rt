@@ -17,6 +17,7 @@ use crate::options::{Form, Options, Recorded};
 use crate::recording::{Cut, Fault, Recording, filter_recording};
 use crate::report::tell_text;
 use crate::rows::Rows;
+use crate::script::Script;
 use crate::told::Told;
 use command_line::{Ended, ErrorCapture, Place, Reason, Work, ended_by, unwritten};
 use esc_account::Account;
@@ -63,6 +64,7 @@ impl<'a, W: Write, E: Write> Work for Filtering<'a, W, E> {
             Recorded::Stream => self.take_stream(name, input, events),
             Recorded::Cast => self.take_cast(name, input, events),
             Recorded::Frames => self.take_frames(name, input, events),
+            Recorded::Typescript => self.take_script(name, input, events),
         };
         self.told.events = stopped(events);
         if self.options.is_list && is_failure {
@@ -162,6 +164,23 @@ impl<'a, W: Write, E: Write> Filtering<'a, W, E> {
         let mut frames = Frames::new(self.alloc, feeding);
         let (outcome, reason) = self.read_recording(&mut frames, None, input);
         self.end_recording(name, outcome, reason, frames.into_auditor())
+    }
+
+    // The same of a typescript.
+    fn take_script<R: Read + Drop>(
+        &mut self,
+        name: &str,
+        input: R,
+        events: Option<Events>,
+    ) -> (Ended, bool, Option<Events>) {
+        let rows = Rows::new(self.alloc, self.options, events);
+        let feeding = sanitizing(self.alloc, self.options.filter, rows);
+        let timing = self.told.timing.take();
+        let mut script = Script::new(self.alloc, feeding, self.options.timing, timing);
+        let (outcome, reason) = self.read_recording(&mut script, None, input);
+        let (timing, auditor) = script.into_parts();
+        self.told.timing = timing;
+        self.end_recording(name, outcome, reason, auditor)
     }
 
     // Reads a recording to its end. It returns how that ended, and the reason of what hindered it.

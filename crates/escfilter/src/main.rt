@@ -20,7 +20,9 @@ mod recording;
 mod report;
 mod rows;
 mod saying;
+mod script;
 mod settings;
+mod timing;
 mod told;
 mod values;
 
@@ -38,6 +40,7 @@ use std::fs::File;
 use std::io;
 use std::io::{IsTerminal, Stderr, Write};
 use std::process::ExitCode;
+use timing::Timing;
 use told::Told;
 
 const USAGE: &str = "\
@@ -48,7 +51,8 @@ controls|cursor|erase|scroll|modes|charsets|palette|titles|clipboard|images|othe
 [--encoding utf-8|utf-16|utf-16le|utf-16be|latin1|windows-1250|windows-1251|windows-1252|\
 windows-1253|windows-1254|windows-1255|windows-1256|windows-1257|windows-1258] \
 [--c1 replace|obey] [--unicode keep|join|show|drop] [--returns keep|show|drop] \
-[--show[=escaped|color]] [--collapse[=rows]] [--cast] [--drop-input] [--ttyrec] \
+[--show[=escaped|color]] [--collapse[=rows]] \
+[--cast] [--drop-input] [--ttyrec] [--timing file] [--timing-to file] \
 [--report[=text|json]] [--report-to file] [--events file] \
 [--fail[=respelled|shown|replaced|left-out|swallowed|overwritten,..]] [--list] [-z|--null] \
 [-o|--output file] [-i|--in-place[=suffix]] [-h|--help] [-V|--version] [--] [FILE..]";
@@ -90,6 +94,8 @@ leaves on, as colours or a link, is taken back at its end, and at each line's wi
                   --allow screen is the default
   --drop-input    with --cast empties the texts of its events of input, which may be passwords
   --ttyrec        takes each FILE as a recording of ttyrec, and writes one
+  --timing f      takes FILE as a typescript of script(1) with the timing f, and writes one
+  --timing-to f   writes the timing of the new typescript to the file f
   --report        says on standard error what was left out of each FILE, and where;
                   --report=json as a line of JSON
   --report-to f   writes the report to the file f, in place of standard error
@@ -140,7 +146,7 @@ fn done(rt: &HostRuntime, task: &Task<'_>) -> u8 {
         Kind::Filter => match (wrong_apart(rt, task.apart), task.clash) {
             (Some(wrong), _) => refused(PROGRAM, wrong, &mut rt.stderr()),
             (None, Some(clash)) => clashing(clash, &mut rt.stderr()),
-            (None, None) => filter(rt, task),
+            (None, None) => filter_timed(rt, task),
         },
         Kind::Help => said(rt, println!(rt; "{USAGE}\n\n{HELP}\n{Listed}")),
         Kind::Version => said(rt, println!(rt; "{VERSION}")),
@@ -159,11 +165,29 @@ fn clashing<E: Write>(clash: &str, faults: &mut E) -> u8 {
     USAGE_FAULT
 }
 
-// Filters the files, and tells of them what is asked for.
-fn filter(rt: &HostRuntime, task: &Task<'_>) -> u8 {
+// Reads the timing file, where there is one, and filters the files.
+fn filter_timed(rt: &HostRuntime, task: &Task<'_>) -> u8 {
+    let Some(name) = task.timing else {
+        return filter(rt, task, task.options);
+    };
+    let mut timing = Timing::new(rt.alloc(), rt.stderr());
+    let status = work_through(rt, PROGRAM, &[name], &mut timing, &mut rt.stderr());
+    if status != DONE {
+        return status;
+    }
+    filter(rt, task, timed(task.options, timing.bytes()))
+}
+
+// The options with this timing.
+fn timed<'a>(options: Options<'a>, timing: &'a [u8]) -> Options<'a> {
+    Options { timing, ..options }
+}
+
+// Filters the files by these options, and tells of them what is asked for.
+fn filter(rt: &HostRuntime, task: &Task<'_>, options: Options<'_>) -> u8 {
     match Told::of(rt, task) {
         Ok(mut told) => {
-            let status = filter_to(rt, task.target, task.options, &task.files, &mut told);
+            let status = filter_to(rt, task.target, options, &task.files, &mut told);
             told.end(rt, task, status)
         }
         Err(status) => status,

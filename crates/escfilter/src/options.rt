@@ -23,6 +23,8 @@ pub struct Options<'a> {
     pub recorded: Recorded,
     /// Whether events of input lose their texts.
     pub drops_input: bool,
+    /// The timing of a typescript.
+    pub timing: &'a [u8],
     /// In which form it is reported what was left out.
     pub report: Option<Form>,
     /// Whether what did not pass is told, one thing after another.
@@ -44,6 +46,8 @@ pub enum Recorded {
     Cast,
     /// A recording of ttyrec.
     Frames,
+    /// A typescript of script(1), with its timing.
+    Typescript,
 }
 
 /// The form of a report.
@@ -91,6 +95,10 @@ pub struct Task<'a> {
     pub report_to: Option<&'a str>,
     /// Where what did not pass is told, one thing after another.
     pub events: Option<&'a str>,
+    /// The timing file of a typescript.
+    pub timing: Option<&'a str>,
+    /// Where the timing of the new typescript goes.
+    pub timing_to: Option<&'a str>,
     /// The files.
     pub files: Vec<&'a str>,
     /// The first of these that an option before it could take.
@@ -190,6 +198,16 @@ const KNOWN: &[Known] = &[
         takes: Takes::Nothing,
     },
     Known {
+        name: "--timing",
+        letter: "",
+        takes: Takes::OneOf("file", &[]),
+    },
+    Known {
+        name: "--timing-to",
+        letter: "",
+        takes: Takes::OneOf("file", &[]),
+    },
+    Known {
         name: "--report",
         letter: "",
         takes: Takes::Maybe("form", &["text", "json"]),
@@ -248,15 +266,18 @@ impl<'a> Task<'a> {
         for given in &found.options {
             asked.take(given);
         }
+        let clash = asked.clash(&found.files);
         Task {
             kind: asked.kind,
             target: asked.target(),
             options: asked.options(),
             report_to: asked.report_to,
             events: asked.events,
+            timing: asked.timing(),
+            timing_to: asked.timing_to(),
             files: found.files,
             apart: apart_of(&found.options),
-            clash: asked.clash(),
+            clash,
         }
     }
 }
@@ -269,6 +290,8 @@ struct Asked<'a> {
     settings: Settings<'a>,
     order: Option<ByteOrder>,
     drops_input: bool,
+    timing: Option<&'a str>,
+    timing_to: Option<&'a str>,
     report: Option<Form>,
     report_to: Option<&'a str>,
     events: Option<&'a str>,
@@ -286,6 +309,8 @@ impl<'a> Asked<'a> {
             settings: Settings::nothing(policy),
             order: None,
             drops_input: false,
+            timing: None,
+            timing_to: None,
             report: None,
             report_to: None,
             events: None,
@@ -303,6 +328,11 @@ impl<'a> Asked<'a> {
                 self.order = order_of(given.word);
             }
             "--drop-input" => self.drops_input = true,
+            "--timing" => {
+                self.settings.recorded = Recorded::Typescript;
+                self.timing = Some(given.word);
+            }
+            "--timing-to" => self.timing_to = Some(given.word),
             "--report" => self.report = Some(form_of(given.word)),
             "--report-to" => self.report_to = Some(given.word),
             "--events" => self.events = Some(given.word),
@@ -329,6 +359,7 @@ impl<'a> Asked<'a> {
             order: self.order,
             recorded: self.settings.recorded,
             drops_input: self.drops_input,
+            timing: b"",
             report,
             has_events: self.events.is_some(),
             is_list: self.is_list,
@@ -337,12 +368,29 @@ impl<'a> Asked<'a> {
         }
     }
 
-    // Which options do not go together, where some do not: the rows that are left of lines have no
-    // times.
-    fn clash(&self) -> Option<&'static str> {
+    // Which options do not go together, where some do not with these files. The rows that are left
+    // of lines have no times.
+    fn clash(&self, files: &[&str]) -> Option<&'static str> {
         match self.settings.rows {
             Some(_) if self.settings.is_recording() => Some("--collapse is not for recordings"),
-            _ => None,
+            _ => match self.settings.recorded {
+                Recorded::Typescript => self.timing_clash(files),
+                _ if self.timing_to.is_some() => Some("--timing-to wants --timing"),
+                _ => None,
+            },
+        }
+    }
+
+    // The same of a typescript.
+    fn timing_clash(&self, files: &[&str]) -> Option<&'static str> {
+        if files.len() > 1 {
+            Some("--timing is that of one FILE")
+        } else if is_input(self.timing.unwrap_or("")) && are_input(files) {
+            Some("--timing and FILE are both standard input")
+        } else if self.timing_to.is_none() && !self.is_list {
+            Some("--timing wants --timing-to, for the new timing")
+        } else {
+            None
         }
     }
 
@@ -354,6 +402,19 @@ impl<'a> Asked<'a> {
         }
     }
 
+    // The timing of a typescript.
+    fn timing(&self) -> Option<&'a str> {
+        match self.settings.recorded {
+            Recorded::Typescript => self.timing,
+            _ => None,
+        }
+    }
+
+    // Where the timing of the new typescript goes. Where names are listed there is none.
+    fn timing_to(&self) -> Option<&'a str> {
+        if self.is_list { None } else { self.timing_to }
+    }
+
     // In which form it is reported what was left out. A file for the report asks for one.
     fn report(&self) -> Option<Form> {
         match (self.report, self.report_to) {
@@ -363,11 +424,24 @@ impl<'a> Asked<'a> {
     }
 }
 
+// Whether these files, at most one, are standard input.
+fn are_input(files: &[&str]) -> bool {
+    match files {
+        [] => true,
+        [file, ..] => is_input(file),
+    }
+}
+
+// Whether a file of this name is standard input.
+fn is_input(name: &str) -> bool {
+    name == "-"
+}
+
 // The policy where none is named: what is recorded is a program that uses the screen.
 fn default_policy(options: &[Given<'_>]) -> Policy {
     for given in options {
         match given.name {
-            "--cast" | "--ttyrec" => return Policy::Screen,
+            "--cast" | "--ttyrec" | "--timing" => return Policy::Screen,
             _ => {}
         }
     }

@@ -2,6 +2,7 @@
 
 use crate::named_groups::Choice;
 use crate::rows::Rows;
+use dump_time::TimeError;
 use esc_filter::FilterError;
 use esc_normal::Watched;
 use esc_sanitize::Sanitizing;
@@ -34,6 +35,8 @@ pub enum Fault {
     Long(u64, usize),
     /// The frame of this number is none of a recording of ttyrec.
     Frame(u64),
+    /// The timing of a typescript is none.
+    Timing(TimeError),
 }
 
 impl Fault {
@@ -53,6 +56,7 @@ impl Display for Fault {
             Fault::Line(number) => write!(f, "line {number} is no line of a recording"),
             Fault::Long(number, most) => write!(f, "line {number} has more than {most} bytes"),
             Fault::Frame(number) => write!(f, "frame {number} is no frame of ttyrec"),
+            Fault::Timing(error) => error.fmt(f),
         }
     }
 }
@@ -64,6 +68,8 @@ pub enum Cut {
     Line(u64),
     /// In the frame of this number, of which the beginning is filtered.
     Frame(u64),
+    /// Before its timing ends.
+    Timing,
 }
 
 impl Display for Cut {
@@ -71,6 +77,7 @@ impl Display for Cut {
         match self {
             Cut::Line(number) => write!(f, "it is cut in line {number}, which is left out"),
             Cut::Frame(number) => write!(f, "it is cut in frame {number}"),
+            Cut::Timing => f.write_str("it ends before its timing does"),
         }
     }
 }
