@@ -2,7 +2,7 @@
 
 use crate::named_groups::Choice;
 use crate::options::Options;
-use crate::recording::{Cut, Fault, Feeding, MEMORY, Recording, write};
+use crate::recording::{Cut, Fault, MEMORY, Recording, TextFilter, write};
 use crate::rows::Rows;
 use asciicast::CastError;
 use esc_normal::Watched;
@@ -18,7 +18,7 @@ const TIMES: usize = 16;
 /// A recording of asciinema whose lines come in pieces.
 #[derive(Drop)]
 pub struct Lines<'a> {
-    recording: asciicast::Recording<Feeding<'a>>,
+    recording: asciicast::Recording<TextFilter<'a>>,
     // what came of the line that is unfinished
     line: Vec<u8>,
     // how many bytes it may have
@@ -30,7 +30,7 @@ pub struct Lines<'a> {
 impl<'a> Lines<'a> {
     /// A recording of which nothing came, for a filter by these options that was fed nothing.
     /// Takes no memory.
-    pub fn new(alloc: Global, feeding: Feeding<'a>, options: Options<'_>) -> Lines<'a> {
+    pub fn new(alloc: Global, feeding: TextFilter<'a>, options: Options<'_>) -> Lines<'a> {
         let recording = asciicast::Recording::new(alloc, feeding);
         Lines {
             recording: recording.dropping_input(options.drops_input),

@@ -1,7 +1,7 @@
 //! Recordings of ttyrec, frame by frame.
 
 use crate::named_groups::Choice;
-use crate::recording::{Cut, Fault, Feeding, MEMORY, Recording, write};
+use crate::recording::{Cut, Fault, MEMORY, Recording, TextFilter, write};
 use crate::rows::Rows;
 use esc_filter::StreamFilter;
 use esc_normal::Watched;
@@ -30,7 +30,7 @@ struct Head {
 /// not empty; a long text is taken in pieces, and so may become several frames.
 #[derive(Drop)]
 pub struct Frames<'a> {
-    feeding: Feeding<'a>,
+    feeding: TextFilter<'a>,
     // what came of the head of a frame
     head: Vec<u8>,
     // the time of the last frame
@@ -44,7 +44,7 @@ pub struct Frames<'a> {
 
 impl<'a> Frames<'a> {
     /// A recording of which nothing came, for a filter that was fed nothing. Takes no memory.
-    pub fn new(alloc: Global, feeding: Feeding<'a>) -> Frames<'a> {
+    pub fn new(alloc: Global, feeding: TextFilter<'a>) -> Frames<'a> {
         Frames {
             feeding,
             head: Vec::new(alloc),

@@ -12,7 +12,7 @@ use std::fmt::{Display, Formatter};
 use std::io::{Read, Write};
 
 /// The filter of the stream of a recording.
-pub type Feeding<'a> = Sanitizing<Choice<'a>, Rows<'a>>;
+pub type TextFilter<'a> = Sanitizing<Choice<'a>, Rows<'a>>;
 
 /// A recording of one form, whose bytes come in pieces.
 pub trait Recording {

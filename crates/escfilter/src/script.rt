@@ -2,7 +2,7 @@
 
 use crate::aside::Aside;
 use crate::named_groups::Choice;
-use crate::recording::{Cut, Fault, Feeding, MEMORY, Recording, write};
+use crate::recording::{Cut, Fault, MEMORY, Recording, TextFilter, write};
 use crate::rows::Rows;
 use command_line::Shown;
 use dump_time::{TimeError, Typescript};
@@ -25,7 +25,7 @@ const MOST: usize = 4096;
 /// what was typed and what comes after the bytes that the timing counts are left out.
 #[derive(Drop)]
 pub struct Script<'a> {
-    feeding: Feeding<'a>,
+    feeding: TextFilter<'a>,
     typescript: Typescript<'a>,
     // what came of the first line, while it is unfinished
     first: Option<Vec<u8>>,
@@ -43,7 +43,7 @@ impl<'a> Script<'a> {
     /// new timing goes there, and begins with its headers.
     pub fn new(
         alloc: Global,
-        feeding: Feeding<'a>,
+        feeding: TextFilter<'a>,
         timing: &'a [u8],
         aside: Option<Aside>,
     ) -> Script<'a> {
