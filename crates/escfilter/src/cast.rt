@@ -1,66 +1,97 @@
-//! A recording, from its reader to the output.
+//! Recordings of asciinema, line by line.
 
 use crate::named_groups::Choice;
+use crate::options::Options;
+use crate::recording::{Cut, Fault, MEMORY, Recording, TextFilter, write};
 use crate::rows::Rows;
-use asciicast::{CastError, Recording};
-use esc_filter::FilterError;
+use asciicast::CastError;
 use esc_normal::Watched;
-use esc_sanitize::{Auditor, FilterOptions, Sanitizing, sanitizing};
+use esc_sanitize::Auditor;
 use memchr::memchr;
 use std::alloc::Global;
-use std::fmt::{Display, Formatter};
-use std::io::{Read, Write};
-use std::{fmt, str};
+use std::io::Write;
+use std::str;
 
-/// Why a recording was not filtered to its end.
-#[derive(Clone, Copy)]
-pub enum CastFault {
-    /// As of a stream.
-    Stream(FilterError),
-    /// The line of this number is no line of a recording.
-    Line(u64),
-}
+// How many bytes a line may have, for each byte that may be kept of an unfinished segment.
+const TIMES: usize = 16;
 
-impl Display for CastFault {
-    fn fmt<W: fmt::Write>(&self, f: &mut Formatter<W>) -> fmt::Result {
-        match self {
-            CastFault::Stream(error) => error.fmt(f),
-            CastFault::Line(number) => write!(f, "line {number} is no line of a recording"),
-        }
-    }
-}
-
-/// How a recording was filtered.
-#[derive(Drop)]
-pub struct Recorded<'a> {
-    /// Whether that failed.
-    pub outcome: Result<(), CastFault>,
-    /// The account of the texts of its events of output.
-    pub auditor: Auditor<Choice<'a>, Rows<'a>>,
-}
-
-/// A recording whose lines come in pieces.
+/// A recording of asciinema whose lines come in pieces.
 #[derive(Drop)]
 pub struct Lines<'a> {
-    recording: Recording<Sanitizing<Choice<'a>, Rows<'a>>>,
+    recording: asciicast::Recording<TextFilter<'a>>,
     // what came of the line that is unfinished
     line: Vec<u8>,
+    // how many bytes it may have
+    most: usize,
     // how many lines were taken
     count: u64,
 }
 
 impl<'a> Lines<'a> {
-    /// A recording of which nothing came, for a filter that was fed nothing. Takes no memory.
-    pub fn new(alloc: Global, feeding: Sanitizing<Choice<'a>, Rows<'a>>) -> Lines<'a> {
+    /// A recording of which nothing came, for a filter by these options that was fed nothing.
+    /// Takes no memory.
+    pub fn new(alloc: Global, feeding: TextFilter<'a>, options: Options<'_>) -> Lines<'a> {
+        let recording = asciicast::Recording::new(alloc, feeding);
         Lines {
-            recording: Recording::new(alloc, feeding),
+            recording: recording.dropping_input(options.drops_input),
             line: Vec::new(alloc),
+            most: options.filter.limit.saturating_mul(TIMES),
             count: 0,
         }
     }
 
-    // Takes bytes more, and writes the lines that they end.
-    fn take<W: Write>(&mut self, bytes: &[u8], writer: &mut Watched<W>) -> Result<(), CastFault> {
+    /// The account, of a recording of which nothing more comes.
+    pub fn into_auditor(self) -> Auditor<Choice<'a>, Rows<'a>> {
+        let Lines {
+            recording,
+            line: _,
+            most: _,
+            count: _,
+        } = self;
+        recording.into_feeding().into_auditor()
+    }
+
+    // Makes the unfinished line longer.
+    fn grow(&mut self, bytes: &[u8]) -> Result<(), Fault> {
+        if bytes.len() > self.most.saturating_sub(self.line.len()) {
+            return Err(Fault::Long(self.count.saturating_add(1), self.most));
+        }
+        match self.line.extend_from_slice(bytes) {
+            Ok(()) => Ok(()),
+            Err(_) => Err(MEMORY),
+        }
+    }
+
+    // Takes the line, and writes what is given for it.
+    fn end_line<W: Write>(&mut self, writer: &mut Watched<W>) -> Result<(), Fault> {
+        self.count = self.count.saturating_add(1);
+        let Ok(line) = str::from_utf8(&self.line) else {
+            return Err(Fault::Line(self.count));
+        };
+        match self.recording.take_line(line) {
+            Ok(()) => {}
+            Err(CastError::NoEvent) => return Err(Fault::Line(self.count)),
+            Err(CastError::Memory) => return Err(MEMORY),
+        }
+        self.line.clear();
+        write(writer, self.recording.text())
+    }
+
+    // Takes the last line, where it has no line feed. It returns where that is cut, where it is.
+    fn end_last<W: Write>(&mut self, writer: &mut Watched<W>) -> Result<Option<Cut>, Fault> {
+        if self.line.is_empty() {
+            return Ok(None);
+        }
+        match self.end_line(writer) {
+            Ok(()) => Ok(None),
+            Err(Fault::Line(number)) if number > 1 => Ok(Some(Cut::Line(number))),
+            Err(fault) => Err(fault),
+        }
+    }
+}
+
+impl<'a> Recording for Lines<'a> {
+    fn take<W: Write>(&mut self, bytes: &[u8], writer: &mut Watched<W>) -> Result<(), Fault> {
         let mut rest = bytes;
         while let Some(at) = memchr(b'\n', rest) {
             self.grow(&rest[..at])?;
@@ -70,122 +101,12 @@ impl<'a> Lines<'a> {
         self.grow(rest)
     }
 
-    // Makes the unfinished line longer.
-    fn grow(&mut self, bytes: &[u8]) -> Result<(), CastFault> {
-        match self.line.extend_from_slice(bytes) {
-            Ok(()) => Ok(()),
-            Err(_) => Err(CastFault::Stream(FilterError::Memory)),
-        }
-    }
-
-    // Takes the line, and writes what is given for it.
-    fn end_line<W: Write>(&mut self, writer: &mut Watched<W>) -> Result<(), CastFault> {
-        self.count = self.count.saturating_add(1);
-        let Ok(line) = str::from_utf8(&self.line) else {
-            return Err(CastFault::Line(self.count));
-        };
-        match self.recording.take_line(line) {
-            Ok(()) => {}
-            Err(CastError::NoEvent) => return Err(CastFault::Line(self.count)),
-            Err(CastError::Memory) => return Err(CastFault::Stream(FilterError::Memory)),
-        }
-        self.line.clear();
-        write(writer, self.recording.text())
-    }
-
-    /// The account, of a recording of which nothing more comes.
-    pub fn into_auditor(self) -> Auditor<Choice<'a>, Rows<'a>> {
-        self.recording.into_feeding().into_auditor()
-    }
-
-    // Takes the last line, where it has no line feed, and ends the recording.
-    fn end<W: Write>(&mut self, writer: &mut Watched<W>) -> Result<(), CastFault> {
-        if !self.line.is_empty() {
-            self.end_line(writer)?;
-        }
+    fn end<W: Write>(&mut self, writer: &mut Watched<W>) -> Result<Option<Cut>, Fault> {
+        let cut = self.end_last(writer)?;
         match self.recording.finish() {
-            Ok(()) => write(writer, self.recording.text()),
-            Err(_) => Err(CastFault::Stream(FilterError::Memory)),
+            Ok(()) => write(writer, self.recording.text())?,
+            Err(_) => return Err(MEMORY),
         }
-    }
-}
-
-/// Reads a recording to its end, and writes what is given for its lines by the options, as it
-/// reads; what did not pass of the texts of its events of output goes into these rows.
-pub fn filter_recording<'a, R: Read, W: Write>(
-    alloc: Global,
-    options: FilterOptions<Choice<'a>>,
-    rows: Rows<'a>,
-    reader: &mut Watched<R>,
-    writer: &mut Watched<W>,
-) -> Recorded<'a> {
-    let mut lines = Lines::new(alloc, sanitizing(alloc, options, rows));
-    let outcome = match fallible_alloc::read_buffer(alloc) {
-        Ok(mut chunk) => filter_lines(&mut lines, reader, writer, chunk.as_mut_slice()),
-        Err(_) => Err(CastFault::Stream(FilterError::Memory)),
-    };
-    Recorded {
-        outcome,
-        auditor: lines.into_auditor(),
-    }
-}
-
-// Reads to the end by way of this chunk, and writes what is given for the lines.
-fn filter_lines<R: Read, W: Write>(
-    lines: &mut Lines<'_>,
-    reader: &mut Watched<R>,
-    writer: &mut Watched<W>,
-    chunk: &mut [u8],
-) -> Result<(), CastFault> {
-    take_all(lines, reader, writer, chunk)?;
-    end(lines, writer)
-}
-
-// The same by way of this chunk, but for the end of the recording.
-fn take_all<R: Read, W: Write>(
-    lines: &mut Lines<'_>,
-    reader: &mut Watched<R>,
-    writer: &mut Watched<W>,
-    chunk: &mut [u8],
-) -> Result<(), CastFault> {
-    for _ in 0..u64::MAX {
-        match reader.read(chunk) {
-            Ok(0) => return Ok(()),
-            Ok(n) => pass_on(lines, &chunk[..n], writer)?,
-            Err(_) => return Err(CastFault::Stream(FilterError::Read)),
-        }
-    }
-    Ok(())
-}
-
-// Takes bytes more, and flushes what is written of the lines that they end.
-fn pass_on<W: Write>(
-    lines: &mut Lines<'_>,
-    bytes: &[u8],
-    writer: &mut Watched<W>,
-) -> Result<(), CastFault> {
-    lines.take(bytes, writer)?;
-    flush(writer)
-}
-
-// Ends the recording, and flushes what is written then.
-fn end<W: Write>(lines: &mut Lines<'_>, writer: &mut Watched<W>) -> Result<(), CastFault> {
-    lines.end(writer)?;
-    flush(writer)
-}
-
-// Writes all of the bytes.
-fn write<W: Write>(writer: &mut Watched<W>, bytes: &[u8]) -> Result<(), CastFault> {
-    if writer.write_whole(bytes) {
-        Ok(())
-    } else {
-        Err(CastFault::Stream(FilterError::Write))
-    }
-}
-
-fn flush<W: Write>(writer: &mut Watched<W>) -> Result<(), CastFault> {
-    match writer.flush() {
-        Ok(()) => Ok(()),
-        Err(_) => Err(CastFault::Stream(FilterError::Write)),
+        Ok(cut)
     }
 }

@@ -6,22 +6,25 @@ ghost use Rattle.escfilter.specs.Fates.{IsComplete};
 ghost use Rattle.escfilter.specs.Reports.{HasAudited, IsReported, IsReportedOf, is_json};
 
 use crate::PROGRAM;
-use crate::cast::{CastFault, Recorded, filter_recording};
+use crate::cast::Lines;
 use crate::events::Events;
+use crate::frames::Frames;
 use crate::json::tell_json;
 use crate::laws::choices_admit_less;
 use crate::listing::{Names, Passage, write_name};
 use crate::named_groups::Choice;
-use crate::options::{Form, Options};
+use crate::options::{Form, Options, Recorded};
+use crate::recording::{Cut, Fault, Recording, filter_recording};
 use crate::report::tell_text;
 use crate::rows::Rows;
+use crate::script::Script;
 use crate::told::Told;
 use command_line::{Ended, ErrorCapture, Place, Reason, Work, ended_by, unwritten};
 use esc_account::Account;
-use esc_decode::Input;
+use esc_decode::{ByteOrder, Input};
 use esc_filter::FilterError;
 use esc_normal::Watched;
-use esc_sanitize::{Auditor, Sanitized, sanitize_stream};
+use esc_sanitize::{Auditor, Sanitized, sanitize_stream, sanitizing};
 use std::alloc::Global;
 use std::io::{Read, Write};
 
@@ -57,10 +60,11 @@ struct Filtered {
 impl<'a, W: Write, E: Write> Work for Filtering<'a, W, E> {
     fn take<R: Read + Drop>(&mut self, name: &str, input: R) -> Ended {
         let events = started(self.told.events.take(), name);
-        let (ended, is_failure, events) = if self.options.is_cast {
-            self.take_cast(name, input, events)
-        } else {
-            self.take_stream(name, input, events)
+        let (ended, is_failure, events) = match self.options.recorded {
+            Recorded::Stream => self.take_stream(name, input, events),
+            Recorded::Cast => self.take_cast(name, input, events),
+            Recorded::Frames => self.take_frames(name, input, events),
+            Recorded::Typescript => self.take_script(name, input, events),
         };
         self.told.events = stopped(events);
         if self.options.is_list && is_failure {
@@ -133,7 +137,7 @@ impl<'a, W: Write, E: Write> Filtering<'a, W, E> {
         }
     }
 
-    // The same of a recording.
+    // The same of a recording of asciinema.
     fn take_cast<R: Read + Drop>(
         &mut self,
         name: &str,
@@ -141,28 +145,85 @@ impl<'a, W: Write, E: Write> Filtering<'a, W, E> {
         events: Option<Events>,
     ) -> (Ended, bool, Option<Events>) {
         let rows = Rows::new(self.alloc, self.options, events);
-        let input = Input::new(self.alloc, self.options.order, input);
+        let feeding = sanitizing(self.alloc, self.options.filter, rows);
+        let mut lines = Lines::new(self.alloc, feeding, self.options);
+        let order = self.options.order;
+        let (outcome, reason) = self.read_recording(&mut lines, order, input);
+        self.end_recording(name, outcome, reason, lines.into_auditor())
+    }
+
+    // The same of a recording of ttyrec.
+    fn take_frames<R: Read + Drop>(
+        &mut self,
+        name: &str,
+        input: R,
+        events: Option<Events>,
+    ) -> (Ended, bool, Option<Events>) {
+        let rows = Rows::new(self.alloc, self.options, events);
+        let feeding = sanitizing(self.alloc, self.options.filter, rows);
+        let mut frames = Frames::new(self.alloc, feeding);
+        let (outcome, reason) = self.read_recording(&mut frames, None, input);
+        self.end_recording(name, outcome, reason, frames.into_auditor())
+    }
+
+    // The same of a typescript.
+    fn take_script<R: Read + Drop>(
+        &mut self,
+        name: &str,
+        input: R,
+        events: Option<Events>,
+    ) -> (Ended, bool, Option<Events>) {
+        let rows = Rows::new(self.alloc, self.options, events);
+        let feeding = sanitizing(self.alloc, self.options.filter, rows);
+        let timing = self.told.timing.take();
+        let mut script = Script::new(self.alloc, feeding, self.options.timing, timing);
+        let (outcome, reason) = self.read_recording(&mut script, None, input);
+        let (timing, auditor) = script.into_parts();
+        self.told.timing = timing;
+        self.end_recording(name, outcome, reason, auditor)
+    }
+
+    // Reads a recording to its end. It returns how that ended, and the reason of what hindered it.
+    fn read_recording<T: Recording, R: Read + Drop>(
+        &mut self,
+        recording: &mut T,
+        order: Option<ByteOrder>,
+        input: R,
+    ) -> (Result<Option<Cut>, Fault>, Option<Reason>) {
+        let input = Input::new(self.alloc, order, input);
         let mut reader = Watched::new(ErrorCapture::new(input));
         let mut writer = Watched::new(ErrorCapture::new(Passage {
             output: &mut *self.output,
             is_open: !self.options.is_list,
         }));
-        let options = self.options.filter;
-        let Recorded { outcome, auditor } = filter_recording(
-            self.alloc,
-            options,
-            rows,
-            &mut reader,
-            &mut writer,
-        );
+        let outcome = filter_recording(self.alloc, recording, &mut reader, &mut writer);
         let reason = reader
             .into_inner()
             .reason()
             .or(writer.into_inner().reason());
+        (outcome, reason)
+    }
+
+    // Says of a recording of this name how it ended, and reports what did not pass.
+    fn end_recording(
+        &mut self,
+        name: &str,
+        outcome: Result<Option<Cut>, Fault>,
+        reason: Option<Reason>,
+        auditor: Auditor<Choice<'_>, Rows<'_>>,
+    ) -> (Ended, bool, Option<Events>) {
         let is_failure = self.report(name, &auditor, outcome.is_ok());
         let place = match outcome {
-            Err(CastFault::Stream(FilterError::Write)) => Place::Output(self.output_name),
+            Err(fault) if fault.is_of_output() => Place::Output(self.output_name),
             _ => Place::Input(name),
+        };
+        let outcome = match outcome {
+            Ok(Some(cut)) => {
+                command_line::tell(PROGRAM, name, cut, &mut self.faults);
+                Ok(())
+            }
+            Ok(None) => Ok(()),
+            Err(fault) => Err(fault),
         };
         let ended = ended_by(PROGRAM, outcome, place, reason, &mut self.faults);
         (ended, is_failure, events_of(auditor))

@@ -9,23 +9,28 @@ mod cast;
 mod events;
 mod failing;
 mod filtering;
+mod frames;
 mod json;
 mod laws;
 mod listing;
 mod name;
 mod named_groups;
 mod options;
+mod recording;
 mod report;
 mod rows;
 mod saying;
+mod script;
 mod settings;
+mod timing;
 mod told;
 mod values;
 
 use atomic_file::{NewFile, Output};
 use command_line::{
-    DONE, Ended, FAULT, OUTPUT, Reason, Wrong, is_text, open_closed, program_words, refused,
-    status_after, status_of_text, take_opened, unread, unwritable, work_through, wrong_apart,
+    DONE, Ended, FAULT, OUTPUT, Reason, USAGE_FAULT, Wrong, is_text, open_closed, program_words,
+    refused, status_after, status_of_text, take_opened, unread, unwritable, work_through,
+    wrong_apart,
 };
 use filtering::Filtering;
 use listing::Names;
@@ -35,6 +40,7 @@ use std::fs::File;
 use std::io;
 use std::io::{IsTerminal, Stderr, Write};
 use std::process::ExitCode;
+use timing::Timing;
 use told::Told;
 
 const USAGE: &str = "\
@@ -45,7 +51,8 @@ controls|cursor|erase|scroll|modes|charsets|palette|titles|clipboard|images|othe
 [--encoding utf-8|utf-16|utf-16le|utf-16be|latin1|windows-1250|windows-1251|windows-1252|\
 windows-1253|windows-1254|windows-1255|windows-1256|windows-1257|windows-1258] \
 [--c1 replace|obey] [--unicode keep|join|show|drop] [--returns keep|show|drop] \
-[--show[=escaped|color]] [--collapse[=rows]] [--cast] \
+[--show[=escaped|color]] [--collapse[=rows]] \
+[--cast] [--drop-input] [--ttyrec] [--timing file] [--timing-to file] \
 [--report[=text|json]] [--report-to file] [--events file] \
 [--fail[=respelled|shown|replaced|left-out|swallowed|overwritten,..]] [--list] [-z|--null] \
 [-o|--output file] [-i|--in-place[=suffix]] [-h|--help] [-V|--version] [--] [FILE..]";
@@ -83,7 +90,12 @@ leaves on, as colours or a link, is taken back at its end, and at each line's wi
   --collapse      writes what a terminal leaves of lines that are written again, as by
                   progress bars; --collapse=rows where these go back over more rows than 32
   --cast          takes each FILE as a recording of asciinema: filters the texts of its
-                  events of output, and keeps its times and all other lines
+                  events of output, and keeps its times and all other lines; for recordings
+                  --allow screen is the default
+  --drop-input    with --cast empties the texts of its events of input, which may be passwords
+  --ttyrec        takes each FILE as a recording of ttyrec, and writes one
+  --timing f      takes FILE as a typescript of script(1) with the timing f, and writes one
+  --timing-to f   writes the timing of the new typescript to the file f
   --report        says on standard error what was left out of each FILE, and where;
                   --report=json as a line of JSON
   --report-to f   writes the report to the file f, in place of standard error
@@ -131,9 +143,10 @@ fn main(rt: HostRuntime) -> ExitCode {
 // Does what the words ask for.
 fn done(rt: &HostRuntime, task: &Task<'_>) -> u8 {
     match task.kind {
-        Kind::Filter => match wrong_apart(rt, task.apart) {
-            Some(wrong) => refused(PROGRAM, wrong, &mut rt.stderr()),
-            None => filter(rt, task),
+        Kind::Filter => match (wrong_apart(rt, task.apart), task.clash) {
+            (Some(wrong), _) => refused(PROGRAM, wrong, &mut rt.stderr()),
+            (None, Some(clash)) => clashing(clash, &mut rt.stderr()),
+            (None, None) => filter_timed(rt, task),
         },
         Kind::Help => said(rt, println!(rt; "{USAGE}\n\n{HELP}\n{Listed}")),
         Kind::Version => said(rt, println!(rt; "{VERSION}")),
@@ -145,11 +158,36 @@ fn said(rt: &HostRuntime, printed: io::Result<()>) -> u8 {
     status_of_text(PROGRAM, OUTPUT, printed, &mut rt.stderr())
 }
 
-// Filters the files, and tells of them what is asked for.
-fn filter(rt: &HostRuntime, task: &Task<'_>) -> u8 {
+// The status where options do not go together, which a line says.
+fn clashing<E: Write>(clash: &str, faults: &mut E) -> u8 {
+    let _ = writeln!(faults, "{PROGRAM}: {clash}");
+    let _ = writeln!(faults, "Try '{PROGRAM} --help' for more.");
+    USAGE_FAULT
+}
+
+// Reads the timing file, where there is one, and filters the files.
+fn filter_timed(rt: &HostRuntime, task: &Task<'_>) -> u8 {
+    let Some(name) = task.timing else {
+        return filter(rt, task, task.options);
+    };
+    let mut timing = Timing::new(rt.alloc(), rt.stderr());
+    let status = work_through(rt, PROGRAM, &[name], &mut timing, &mut rt.stderr());
+    if status != DONE {
+        return status;
+    }
+    filter(rt, task, timed(task.options, timing.bytes()))
+}
+
+// The options with this timing.
+fn timed<'a>(options: Options<'a>, timing: &'a [u8]) -> Options<'a> {
+    Options { timing, ..options }
+}
+
+// Filters the files by these options, and tells of them what is asked for.
+fn filter(rt: &HostRuntime, task: &Task<'_>, options: Options<'_>) -> u8 {
     match Told::of(rt, task) {
         Ok(mut told) => {
-            let status = filter_to(rt, task.target, task.options, &task.files, &mut told);
+            let status = filter_to(rt, task.target, options, &task.files, &mut told);
             told.end(rt, task, status)
         }
         Err(status) => status,

@@ -8,6 +8,7 @@ use crate::settings::Settings;
 use crate::values::{apart_of, wrong_value};
 use command_line::{Apart, Found, Given, Known, Takes, Wrong, read};
 use esc_decode::{ByteOrder, ENCODINGS, order_of, page_of};
+use esc_filter::Policy;
 use esc_sanitize::FilterOptions;
 use std::alloc::Global;
 
@@ -18,8 +19,12 @@ pub struct Options<'a> {
     pub filter: FilterOptions<Choice<'a>>,
     /// Which byte of a unit comes first, where a stream is in UTF-16; then it is read as UTF-8.
     pub order: Option<ByteOrder>,
-    /// Whether the input is a recording, of which the events of output are filtered.
-    pub is_cast: bool,
+    /// What a file is: a stream, or a recording of one.
+    pub recorded: Recorded,
+    /// Whether events of input lose their texts.
+    pub drops_input: bool,
+    /// The timing of a typescript.
+    pub timing: &'a [u8],
     /// In which form it is reported what was left out.
     pub report: Option<Form>,
     /// Whether what did not pass is told, one thing after another.
@@ -30,6 +35,19 @@ pub struct Options<'a> {
     pub is_null: bool,
     /// Which fates are a failure, where some are.
     pub fails: Option<Failing>,
+}
+
+/// What a file is.
+#[derive(Clone, Copy)]
+pub enum Recorded {
+    /// A stream.
+    Stream,
+    /// A recording of asciinema.
+    Cast,
+    /// A recording of ttyrec.
+    Frames,
+    /// A typescript of script(1), with its timing.
+    Typescript,
 }
 
 /// The form of a report.
@@ -77,10 +95,16 @@ pub struct Task<'a> {
     pub report_to: Option<&'a str>,
     /// Where what did not pass is told, one thing after another.
     pub events: Option<&'a str>,
+    /// The timing file of a typescript.
+    pub timing: Option<&'a str>,
+    /// Where the timing of the new typescript goes.
+    pub timing_to: Option<&'a str>,
     /// The files.
     pub files: Vec<&'a str>,
     /// The first of these that an option before it could take.
     pub apart: Option<Apart<'a>>,
+    /// Which options do not go together, where some do not.
+    pub clash: Option<&'static str>,
 }
 
 impl<'a> Options<'a> {
@@ -164,6 +188,26 @@ const KNOWN: &[Known] = &[
         takes: Takes::Nothing,
     },
     Known {
+        name: "--drop-input",
+        letter: "",
+        takes: Takes::Nothing,
+    },
+    Known {
+        name: "--ttyrec",
+        letter: "",
+        takes: Takes::Nothing,
+    },
+    Known {
+        name: "--timing",
+        letter: "",
+        takes: Takes::OneOf("file", &[]),
+    },
+    Known {
+        name: "--timing-to",
+        letter: "",
+        takes: Takes::OneOf("file", &[]),
+    },
+    Known {
         name: "--report",
         letter: "",
         takes: Takes::Maybe("form", &["text", "json"]),
@@ -218,18 +262,22 @@ impl<'a> Task<'a> {
 
     // The task that these options and files name.
     fn from_found(found: Found<'a>) -> Task<'a> {
-        let mut asked = Asked::nothing();
+        let mut asked = Asked::nothing(default_policy(&found.options));
         for given in &found.options {
             asked.take(given);
         }
+        let clash = asked.clash(&found.files);
         Task {
             kind: asked.kind,
             target: asked.target(),
             options: asked.options(),
             report_to: asked.report_to,
             events: asked.events,
+            timing: asked.timing(),
+            timing_to: asked.timing_to(),
             files: found.files,
             apart: apart_of(&found.options),
+            clash,
         }
     }
 }
@@ -241,6 +289,9 @@ struct Asked<'a> {
     target: Target<'a>,
     settings: Settings<'a>,
     order: Option<ByteOrder>,
+    drops_input: bool,
+    timing: Option<&'a str>,
+    timing_to: Option<&'a str>,
     report: Option<Form>,
     report_to: Option<&'a str>,
     events: Option<&'a str>,
@@ -250,13 +301,16 @@ struct Asked<'a> {
 }
 
 impl<'a> Asked<'a> {
-    // What no option asks for.
-    fn nothing() -> Asked<'a> {
+    // What no option asks for, where this policy is the default.
+    fn nothing(policy: Policy) -> Asked<'a> {
         Asked {
             kind: Kind::Filter,
             target: Target::Output,
-            settings: Settings::nothing(),
+            settings: Settings::nothing(policy),
             order: None,
+            drops_input: false,
+            timing: None,
+            timing_to: None,
             report: None,
             report_to: None,
             events: None,
@@ -273,6 +327,12 @@ impl<'a> Asked<'a> {
                 self.settings.page = page_of(given.word);
                 self.order = order_of(given.word);
             }
+            "--drop-input" => self.drops_input = true,
+            "--timing" => {
+                self.settings.recorded = Recorded::Typescript;
+                self.timing = Some(given.word);
+            }
+            "--timing-to" => self.timing_to = Some(given.word),
             "--report" => self.report = Some(form_of(given.word)),
             "--report-to" => self.report_to = Some(given.word),
             "--events" => self.events = Some(given.word),
@@ -297,12 +357,40 @@ impl<'a> Asked<'a> {
         Options {
             filter: self.settings.filter_options(audits),
             order: self.order,
-            is_cast: self.settings.is_cast,
+            recorded: self.settings.recorded,
+            drops_input: self.drops_input,
+            timing: b"",
             report,
             has_events: self.events.is_some(),
             is_list: self.is_list,
             is_null: self.is_null,
             fails: self.fails,
+        }
+    }
+
+    // Which options do not go together, where some do not with these files. The rows that are left
+    // of lines have no times.
+    fn clash(&self, files: &[&str]) -> Option<&'static str> {
+        match self.settings.rows {
+            Some(_) if self.settings.is_recording() => Some("--collapse is not for recordings"),
+            _ => match self.settings.recorded {
+                Recorded::Typescript => self.timing_clash(files),
+                _ if self.timing_to.is_some() => Some("--timing-to wants --timing"),
+                _ => None,
+            },
+        }
+    }
+
+    // The same of a typescript.
+    fn timing_clash(&self, files: &[&str]) -> Option<&'static str> {
+        if files.len() > 1 {
+            Some("--timing is that of one FILE")
+        } else if is_input(self.timing.unwrap_or("")) && are_input(files) {
+            Some("--timing and FILE are both standard input")
+        } else if self.timing_to.is_none() && !self.is_list {
+            Some("--timing wants --timing-to, for the new timing")
+        } else {
+            None
         }
     }
 
@@ -314,6 +402,19 @@ impl<'a> Asked<'a> {
         }
     }
 
+    // The timing of a typescript.
+    fn timing(&self) -> Option<&'a str> {
+        match self.settings.recorded {
+            Recorded::Typescript => self.timing,
+            _ => None,
+        }
+    }
+
+    // Where the timing of the new typescript goes. Where names are listed there is none.
+    fn timing_to(&self) -> Option<&'a str> {
+        if self.is_list { None } else { self.timing_to }
+    }
+
     // In which form it is reported what was left out. A file for the report asks for one.
     fn report(&self) -> Option<Form> {
         match (self.report, self.report_to) {
@@ -321,6 +422,30 @@ impl<'a> Asked<'a> {
             (report, _) => report,
         }
     }
+}
+
+// Whether these files, at most one, are standard input.
+fn are_input(files: &[&str]) -> bool {
+    match files {
+        [] => true,
+        [file, ..] => is_input(file),
+    }
+}
+
+// Whether a file of this name is standard input.
+fn is_input(name: &str) -> bool {
+    name == "-"
+}
+
+// The policy where none is named: what is recorded is a program that uses the screen.
+fn default_policy(options: &[Given<'_>]) -> Policy {
+    for given in options {
+        match given.name {
+            "--cast" | "--ttyrec" | "--timing" => return Policy::Screen,
+            _ => {}
+        }
+    }
+    Policy::Color
 }
 
 // The form of this name, which is one of those in the table; of text where none is named.

@@ -2,6 +2,7 @@
 ghost use Rattle.std.specs.Prelude.{◌≡◌};
 
 use crate::named_groups::Choice;
+use crate::options::Recorded;
 use crate::values::rows_of;
 use caret_notation::Marking;
 use command_line::Given;
@@ -35,15 +36,15 @@ pub struct Settings<'a> {
     pub show: Option<Marking>,
     /// How many rows may be written again, where what is left of them is written.
     pub rows: Option<usize>,
-    /// Whether the input is a recording, of which the events of output are filtered.
-    pub is_cast: bool,
+    /// What a file is: a stream, or a recording of one.
+    pub recorded: Recorded,
 }
 
 impl<'a> Settings<'a> {
-    /// What no word says.
-    pub fn nothing() -> Settings<'a> {
+    /// What no word says, where this policy is the default.
+    pub fn nothing(policy: Policy) -> Settings<'a> {
         Settings {
-            choice: Choice::of(Policy::Color),
+            choice: Choice::of(policy),
             schemes: None,
             limit: FilterOptions::new(Policy::Color).limit,
             by_lines: None,
@@ -54,7 +55,7 @@ impl<'a> Settings<'a> {
             obeys: false,
             show: None,
             rows: None,
-            is_cast: false,
+            recorded: Recorded::Stream,
         }
     }
 
@@ -73,7 +74,8 @@ impl<'a> Settings<'a> {
             "--returns" => self.returns = Some(returns_of(given.word)),
             "--show" => self.show = Some(marking_of(given.word)),
             "--collapse" => self.rows = rows_of(given.word),
-            "--cast" => self.is_cast = true,
+            "--cast" => self.recorded = Recorded::Cast,
+            "--ttyrec" => self.recorded = Recorded::Frames,
             _ => {}
         }
     }
@@ -129,17 +131,22 @@ impl<'a> Settings<'a> {
         match self.returns {
             _ if !by_lines => Returns::Keep,
             Some(way) => way,
-            None if self.is_cast || self.rows.is_some() => Returns::Keep,
+            None if self.is_recording() || self.rows.is_some() => Returns::Keep,
             None => default,
         }
     }
 
-    // How the bytes of a stream are read. The texts of a recording are characters, and where bytes
-    // are shown none is replaced.
+    /// Whether a file is a recording.
+    pub fn is_recording(self) -> bool {
+        !matches!(self.recorded, Recorded::Stream)
+    }
+
+    // How the bytes of a stream are read. The texts of a recording of asciinema are characters, and
+    // where bytes are shown none is replaced.
     fn encoding(self) -> Encoding {
         let obeys = self.obeys || self.show.is_some();
         match self.page {
-            _ if self.is_cast => Encoding::EightBit,
+            _ if matches!(self.recorded, Recorded::Cast) => Encoding::EightBit,
             None if !obeys => Encoding::Utf8,
             page => encoding_of(page, obeys),
         }

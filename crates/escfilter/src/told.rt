@@ -6,7 +6,7 @@ use crate::failing::{Failing, Gate};
 use crate::options::{Options, Target, Task};
 use crate::{NEW, PROGRAM};
 use atomic_file::{Output, are_one};
-use command_line::{FAULT, unwritable};
+use command_line::{DONE, FAULT, unwritable};
 use output_file::is_output;
 use std::fs::metadata;
 
@@ -20,6 +20,8 @@ pub struct Told {
     pub report: Option<Aside>,
     /// Where what did not pass is told, one thing after another.
     pub events: Option<Events>,
+    /// Where the new timing of a typescript goes.
+    pub timing: Option<Aside>,
     /// Whether some byte had a fate that is a failure.
     pub gate: Gate,
 }
@@ -28,20 +30,40 @@ impl Told {
     /// Before the first stream of this task. The error is the status where a file cannot be
     /// written; a line on standard error says why.
     pub fn of(rt: &HostRuntime, task: &Task<'_>) -> Result<Told, u8> {
-        let report = opened(rt, task, task.report_to)?;
-        match opened_events(rt, task) {
-            Ok(events) => Ok(Told {
-                report,
-                events,
-                gate: Gate::new(task.options.fails.unwrap_or(Failing::LESS)),
-            }),
+        let mut told = Told {
+            report: None,
+            events: None,
+            timing: None,
+            gate: Gate::new(task.options.fails.unwrap_or(Failing::LESS)),
+        };
+        match told.open(rt, task) {
+            Ok(()) => Ok(told),
             Err(status) => {
-                if let Some(aside) = report {
-                    aside.give_up(rt);
-                }
+                told.give_up(rt);
                 Err(status)
             }
         }
+    }
+
+    // Opens the files that the task asks for.
+    fn open(&mut self, rt: &HostRuntime, task: &Task<'_>) -> Result<(), u8> {
+        self.report = opened(rt, task, task.report_to)?;
+        self.events = opened_events(rt, task)?;
+        self.timing = opened(rt, task, task.timing_to)?;
+        Ok(())
+    }
+
+    // Takes each file away.
+    fn give_up(self, rt: &HostRuntime) {
+        let Told {
+            report,
+            events,
+            timing,
+            gate: _,
+        } = self;
+        give_up(rt, report);
+        give_up(rt, aside_of(events));
+        give_up(rt, timing);
     }
 
     /// Puts each file in its place, and returns the status of the program, which would end with
@@ -50,15 +72,34 @@ impl Told {
         let Told {
             report,
             events,
+            timing,
             gate,
         } = self;
-        let status = with_failures(task.options, gate, status);
-        let status = ended(rt, task.report_to, report, status);
-        let events = match events {
-            Some(events) => Some(events.into_aside()),
-            None => None,
+        let timed = match status {
+            DONE => ended(rt, task.timing_to, timing, status),
+            _ => {
+                give_up(rt, timing);
+                status
+            }
         };
-        ended(rt, task.events, events, status)
+        let status = with_failures(task.options, gate, timed);
+        let status = ended(rt, task.report_to, report, status);
+        ended(rt, task.events, aside_of(events), status)
+    }
+}
+
+// Where events go.
+fn aside_of(events: Option<Events>) -> Option<Aside> {
+    match events {
+        Some(events) => Some(events.into_aside()),
+        None => None,
+    }
+}
+
+// Takes a file away, where there is one.
+fn give_up(rt: &HostRuntime, aside: Option<Aside>) {
+    if let Some(aside) = aside {
+        aside.give_up(rt);
     }
 }
 
@@ -101,15 +142,25 @@ fn is_taken(rt: &HostRuntime, task: &Task<'_>, name: &str) -> bool {
             return true;
         }
     }
-    are_both(rt, task) || is_output_of(rt, task.target, name)
+    is_named(rt, task.timing, name)
+        || is_twice(rt, task, name)
+        || is_output_of(rt, task.target, name)
 }
 
-// Whether reports and events go to one file.
-fn are_both(rt: &HostRuntime, task: &Task<'_>) -> bool {
-    match (task.report_to, task.events) {
-        (Some(report), Some(events)) => are_one(rt, report, events),
-        (Some(_), None) | (None, _) => false,
+// Whether this, where there is one, is the name of the same file.
+fn is_named(rt: &HostRuntime, one: Option<&str>, name: &str) -> bool {
+    match one {
+        Some(one) => are_one(rt, one, name),
+        None => false,
     }
+}
+
+// Whether two of reports, events and a timing go to the file of this name.
+fn is_twice(rt: &HostRuntime, task: &Task<'_>, name: &str) -> bool {
+    let report = is_named(rt, task.report_to, name);
+    let events = is_named(rt, task.events, name);
+    let timing = is_named(rt, task.timing_to, name);
+    (report && events) || (report && timing) || (events && timing)
 }
 
 // Whether the output goes to the file of this name.

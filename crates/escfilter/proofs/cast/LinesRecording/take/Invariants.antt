@@ -1,5 +1,5 @@
 use Rattle.std.proofs.Common.{◌≤◌, length}
-use Rattle.escfilter.proofs.cast.Lines.take.Given as goal
+use Rattle.escfilter.proofs.cast.LinesRecording.take.Given as goal
 
 abbrev pub invariant-loop-at : goal.invariant-loop-at
 invariant-loop-at g l = length l.rest ≤ length l.fn.bytes

@@ -1,0 +1,166 @@
+//! Recordings of ttyrec, frame by frame.
+
+use crate::named_groups::Choice;
+use crate::recording::{Cut, Fault, MEMORY, Recording, TextFilter, write};
+use crate::rows::Rows;
+use esc_filter::StreamFilter;
+use esc_normal::Watched;
+use esc_sanitize::Auditor;
+use std::alloc::Global;
+use std::io::Write;
+
+// How many bytes come before the text of a frame: the seconds, the microseconds and the length, of
+// four bytes each, the lowest first.
+const HEAD: usize = 12;
+
+// How many microseconds a second has.
+const SECOND: u32 = 1_000_000;
+
+// What comes before the text of a frame.
+#[derive(Clone, Copy)]
+struct Head {
+    // its time: the seconds, and the microseconds after these
+    seconds: u32,
+    micros: u32,
+    // how many bytes the text has
+    length: u32,
+}
+
+/// A recording of ttyrec. Of each frame what its text adds is a frame at the same time, where it is
+/// not empty; a long text is taken in pieces, and so may become several frames.
+#[derive(Drop)]
+pub struct Frames<'a> {
+    feeding: TextFilter<'a>,
+    // what came of the head of a frame
+    head: Vec<u8>,
+    // the time of the last frame
+    seconds: u32,
+    micros: u32,
+    // how many bytes of its text are still to come
+    left: u32,
+    // how many frames have begun
+    count: u64,
+}
+
+impl<'a> Frames<'a> {
+    /// A recording of which nothing came, for a filter that was fed nothing. Takes no memory.
+    pub fn new(alloc: Global, feeding: TextFilter<'a>) -> Frames<'a> {
+        Frames {
+            feeding,
+            head: Vec::new(alloc),
+            seconds: 0,
+            micros: 0,
+            left: 0,
+            count: 0,
+        }
+    }
+
+    /// The account, of a recording of which nothing more comes.
+    pub fn into_auditor(self) -> Auditor<Choice<'a>, Rows<'a>> {
+        let Frames {
+            feeding,
+            head: _,
+            seconds: _,
+            micros: _,
+            left: _,
+            count: _,
+        } = self;
+        feeding.into_auditor()
+    }
+
+    // Takes bytes of the head of a frame, and returns how many.
+    fn take_head(&mut self, bytes: &[u8]) -> Result<usize, Fault> {
+        let count = bytes.len().min(HEAD.saturating_sub(self.head.len()));
+        if self.head.extend_from_slice(&bytes[..count]).is_err() {
+            return Err(MEMORY);
+        }
+        if let Some(head) = head_of(&self.head) {
+            self.head.clear();
+            self.seconds = head.seconds;
+            self.micros = head.micros;
+            self.left = head.length;
+            self.count = self.count.saturating_add(1);
+            if head.micros >= SECOND {
+                return Err(Fault::Frame(self.count));
+            }
+        }
+        Ok(count)
+    }
+
+    // Takes bytes of the text of a frame, writes the frame of what they add, and returns how many.
+    fn take_text<W: Write>(
+        &mut self,
+        bytes: &[u8],
+        writer: &mut Watched<W>,
+    ) -> Result<usize, Fault> {
+        let most = usize::try_from(self.left).unwrap_or(usize::MAX);
+        let count = bytes.len().min(most);
+        self.left = self
+            .left
+            .saturating_sub(u32::try_from(count).unwrap_or(u32::MAX));
+        match self.feeding.feed_chunk(&bytes[..count]) {
+            Ok(()) => self.write_added(writer)?,
+            Err(_) => return Err(MEMORY),
+        }
+        Ok(count)
+    }
+
+    // Writes the frame of what the last bytes added, where they added anything.
+    fn write_added<W: Write>(&self, writer: &mut Watched<W>) -> Result<(), Fault> {
+        let text = self.feeding.output_text();
+        if text.is_empty() {
+            return Ok(());
+        }
+        let Ok(length) = u32::try_from(text.len()) else {
+            return Err(MEMORY);
+        };
+        write(writer, &self.seconds.to_le_bytes())?;
+        write(writer, &self.micros.to_le_bytes())?;
+        write(writer, &length.to_le_bytes())?;
+        write(writer, text.as_bytes())
+    }
+}
+
+impl<'a> Recording for Frames<'a> {
+    fn take<W: Write>(&mut self, bytes: &[u8], writer: &mut Watched<W>) -> Result<(), Fault> {
+        let mut rest = bytes;
+        for _ in 0..u64::MAX {
+            if rest.is_empty() {
+                break;
+            }
+            let count = if self.left > 0 {
+                self.take_text(rest, writer)?
+            } else {
+                self.take_head(rest)?
+            };
+            rest = rest.get(count..).unwrap_or(b"");
+        }
+        Ok(())
+    }
+
+    fn end<W: Write>(&mut self, writer: &mut Watched<W>) -> Result<Option<Cut>, Fault> {
+        match self.feeding.finish_all() {
+            Ok(()) => self.write_added(writer)?,
+            Err(_) => return Err(MEMORY),
+        }
+        if !self.head.is_empty() {
+            Ok(Some(Cut::Frame(self.count.saturating_add(1))))
+        } else if self.left > 0 {
+            Ok(Some(Cut::Frame(self.count)))
+        } else {
+            Ok(None)
+        }
+    }
+}
+
+// The head that these bytes are, where it is whole.
+fn head_of(bytes: &[u8]) -> Option<Head> {
+    match bytes {
+        [a, b, c, d, e, f, g, h, i, j, k, l] => Some(Head {
+            seconds: u32::from_le_bytes([*a, *b, *c, *d]),
+            micros: u32::from_le_bytes([*e, *f, *g, *h]),
+            length: u32::from_le_bytes([*i, *j, *k, *l]),
+        }),
+        _ => None,
+    }
+}

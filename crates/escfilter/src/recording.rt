@@ -1,0 +1,149 @@
+//! Recordings, from their reader to the output.
+
+use crate::named_groups::Choice;
+use crate::rows::Rows;
+use dump_time::TimeError;
+use esc_filter::FilterError;
+use esc_normal::Watched;
+use esc_sanitize::Sanitizing;
+use std::alloc::Global;
+use std::fmt;
+use std::fmt::{Display, Formatter};
+use std::io::{Read, Write};
+
+/// The filter of the stream of a recording.
+pub type TextFilter<'a> = Sanitizing<Choice<'a>, Rows<'a>>;
+
+/// A recording of one form, whose bytes come in pieces.
+pub trait Recording {
+    /// Takes bytes more, and writes what comes of them.
+    fn take<W: Write>(&mut self, bytes: &[u8], writer: &mut Watched<W>) -> Result<(), Fault>;
+
+    /// Ends the recording, and writes what comes of its end. It returns where the recording is cut,
+    /// where it is.
+    fn end<W: Write>(&mut self, writer: &mut Watched<W>) -> Result<Option<Cut>, Fault>;
+}
+
+/// Why a recording was not filtered to its end.
+#[derive(Clone, Copy)]
+pub enum Fault {
+    /// As of a stream.
+    Stream(FilterError),
+    /// The line of this number is no line of a recording of asciinema.
+    Line(u64),
+    /// The line of this number has more bytes than this.
+    Long(u64, usize),
+    /// The frame of this number is none of a recording of ttyrec.
+    Frame(u64),
+    /// The timing of a typescript is none.
+    Timing(TimeError),
+}
+
+impl Fault {
+    /// Whether the output took nothing more.
+    pub fn is_of_output(self) -> bool {
+        match self {
+            Fault::Stream(FilterError::Write) => true,
+            _ => false,
+        }
+    }
+}
+
+impl Display for Fault {
+    fn fmt<W: fmt::Write>(&self, f: &mut Formatter<W>) -> fmt::Result {
+        match self {
+            Fault::Stream(error) => error.fmt(f),
+            Fault::Line(number) => write!(f, "line {number} is no line of a recording"),
+            Fault::Long(number, most) => write!(f, "line {number} has more than {most} bytes"),
+            Fault::Frame(number) => write!(f, "frame {number} is no frame of ttyrec"),
+            Fault::Timing(error) => error.fmt(f),
+        }
+    }
+}
+
+/// Where a recording is cut: all that came before is filtered, and written.
+#[derive(Clone, Copy)]
+pub enum Cut {
+    /// In the line of this number, which is left out.
+    Line(u64),
+    /// In the frame of this number, of which the beginning is filtered.
+    Frame(u64),
+    /// Before its timing ends.
+    Timing,
+}
+
+impl Display for Cut {
+    fn fmt<W: fmt::Write>(&self, f: &mut Formatter<W>) -> fmt::Result {
+        match self {
+            Cut::Line(number) => write!(f, "it is cut in line {number}, which is left out"),
+            Cut::Frame(number) => write!(f, "it is cut in frame {number}"),
+            Cut::Timing => f.write_str("it ends before its timing does"),
+        }
+    }
+}
+
+/// Reads a recording to its end, and writes what comes of it as it reads. It returns where the
+/// recording is cut, where it is.
+pub fn filter_recording<T: Recording, R: Read, W: Write>(
+    alloc: Global,
+    recording: &mut T,
+    reader: &mut Watched<R>,
+    writer: &mut Watched<W>,
+) -> Result<Option<Cut>, Fault> {
+    match fallible_alloc::read_buffer(alloc) {
+        Ok(mut chunk) => filter_all(recording, reader, writer, chunk.as_mut_slice()),
+        Err(_) => Err(MEMORY),
+    }
+}
+
+// Reads to the end by way of this chunk, and writes what comes of it.
+fn filter_all<T: Recording, R: Read, W: Write>(
+    recording: &mut T,
+    reader: &mut Watched<R>,
+    writer: &mut Watched<W>,
+    chunk: &mut [u8],
+) -> Result<Option<Cut>, Fault> {
+    take_all(recording, reader, writer, chunk)?;
+    let cut = recording.end(writer)?;
+    flush(writer)?;
+    Ok(cut)
+}
+
+// The same by way of this chunk, but for the end of the recording.
+fn take_all<T: Recording, R: Read, W: Write>(
+    recording: &mut T,
+    reader: &mut Watched<R>,
+    writer: &mut Watched<W>,
+    chunk: &mut [u8],
+) -> Result<(), Fault> {
+    for _ in 0..u64::MAX {
+        match reader.read(chunk) {
+            Ok(0) => return Ok(()),
+            Ok(n) => {
+                recording.take(&chunk[..n], writer)?;
+                flush(writer)?;
+            }
+            Err(_) => return Err(Fault::Stream(FilterError::Read)),
+        }
+    }
+    Ok(())
+}
+
+/// Writes all of the bytes.
+pub fn write<W: Write>(writer: &mut Watched<W>, bytes: &[u8]) -> Result<(), Fault> {
+    if writer.write_whole(bytes) {
+        Ok(())
+    } else {
+        Err(Fault::Stream(FilterError::Write))
+    }
+}
+
+/// The fault that memory was refused.
+pub const MEMORY: Fault = Fault::Stream(FilterError::Memory);
+
+fn flush<W: Write>(writer: &mut Watched<W>) -> Result<(), Fault> {
+    match writer.flush() {
+        Ok(()) => Ok(()),
+        Err(_) => Err(Fault::Stream(FilterError::Write)),
+    }
+}
