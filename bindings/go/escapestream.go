@@ -48,7 +48,7 @@ func errorOf(status C.uint32_t) error {
 	case C.ESCAPE_STREAM_NOT_WRITABLE:
 		return ErrNotWritable
 	}
-	if status >= C.ESCAPE_STREAM_UNKNOWN_SIZE && status <= C.ESCAPE_STREAM_TOO_MANY_ROWS {
+	if status >= C.ESCAPE_STREAM_UNKNOWN_SIZE && status <= C.ESCAPE_STREAM_TOO_MANY_COLUMNS {
 		return ErrOption
 	}
 	return fmt.Errorf("escapestream: status %d", status)

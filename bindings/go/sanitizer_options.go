@@ -18,11 +18,11 @@ type SanitizerOptions struct {
 	// Links are the schemes of the links that pass; those of any if it is 0. The text of other links
 	// stays.
 	Links Links
-	// Framing is the extent of a stream of its own; if it is 0, FramingLines by Text and Color, and
-	// else FramingWhole.
+	// Framing is the extent of a stream of its own; if it is 0, FramingLines by Text and Color
+	// without Rows, and else FramingWhole.
 	Framing Framing
 	// Characters is the output for characters that hide or reorder text; if it is 0, CharactersJoin
-	// by Text and Color, but CharactersShow with Rows, and else CharactersKeep.
+	// by Text and Color, and else CharactersKeep.
 	Characters Characters
 	// Returns is the output for carriage returns within a line; if it is 0, ReturnsShow by Text and
 	// Color without Rows, and else ReturnsKeep, as always by FramingWhole.
@@ -33,14 +33,20 @@ type SanitizerOptions struct {
 	// they are left out.
 	Show Show
 	// Rows is the number of rows that may be written again, at most MostRows: text that is, as of a
-	// progress bar, is written as a terminal has it at the end.
+	// progress bar, is written as a terminal leaves it. The Account is of the text before that.
 	Rows int
+	// Columns is, with Rows, the number of columns of these rows, at most MostColumns: a longer line
+	// goes on in the next row. If it is 0, there are 512.
+	Columns int
 	// NoAccount says that no account is kept, which costs time and memory.
 	NoAccount bool
 }
 
 // MostRows is how many rows may be written again at most.
 const MostRows = 4096
+
+// MostColumns is how many columns these rows have at most.
+const MostColumns = 16384
 
 // A Group is a set of actions, or several, joined by |. Text passes the first two, Color the first
 // five, Screen all up to GroupPalette, and All all.
@@ -173,7 +179,7 @@ func (o SanitizerOptions) raw(policy Policy) (C.struct_escape_stream_sanitizer_o
 	if err != nil {
 		return raw, err
 	}
-	if o.Rows < 0 || o.Rows > MostRows {
+	if o.Rows < 0 || o.Rows > MostRows || o.Columns < 0 || o.Columns > MostColumns {
 		return raw, ErrOption
 	}
 	raw.size = C.sizeof_struct_escape_stream_sanitizer_options
@@ -182,7 +188,7 @@ func (o SanitizerOptions) raw(policy Policy) (C.struct_escape_stream_sanitizer_o
 	raw.links, raw.framing = C.uint32_t(o.Links), C.uint32_t(o.Framing)
 	raw.characters, raw.returns = C.uint32_t(o.Characters), C.uint32_t(o.Returns)
 	raw.encoding, raw.show = C.uint32_t(o.Encoding), C.uint32_t(o.Show)
-	raw.rows = C.uint32_t(o.Rows)
+	raw.rows, raw.columns = C.uint32_t(o.Rows), C.uint32_t(o.Columns)
 	if !o.NoAccount {
 		raw.account = 1
 	}

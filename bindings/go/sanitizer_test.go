@@ -55,6 +55,7 @@ func TestSanitizedInChunks(t *testing.T) {
 	for policy := Text; policy <= All; policy++ {
 		for _, options := range []SanitizerOptions{
 			{}, {Framing: FramingWhole}, {Framing: FramingLinesReset}, {Show: ShowEscaped}, {Rows: 8},
+			{Rows: 2, Columns: 5},
 		} {
 			text, account, err := Sanitize(log, policy, options)
 			if err != nil || account.Length != uint64(len(log)) || account.sum() != account.Length {
@@ -124,6 +125,8 @@ func TestSanitizerOptions(t *testing.T) {
 		{"\x80", Color, SanitizerOptions{Encoding: Windows1258}, "\u20ac"},
 		{"a\x1b]0;t\x07", Color, SanitizerOptions{Show: ShowPlain}, "a^[]0;t^G"},
 		{"10%\r20%\n", Color, SanitizerOptions{Rows: 8}, "20%\n"},
+		{"abcdef\x1b[Gx\n", Color, SanitizerOptions{Rows: 8}, "xbcdef\n"},
+		{"abcdef\x1b[Gx\n", Color, SanitizerOptions{Rows: 8, Columns: 4}, "abcdxf\n"},
 		{"a\x1b]0;long\x07b\n", Color, SanitizerOptions{Limit: 4}, "ab\n"},
 	} {
 		if got, _ := sanitized(t, []byte(it.log), 3, it.policy, it.options); got != it.want {
@@ -156,6 +159,7 @@ func TestSanitizersThatAreNone(t *testing.T) {
 	for _, options := range []SanitizerOptions{
 		{Allow: 0x10000}, {Deny: 0x10000}, {Links: 8}, {Framing: 4}, {Characters: 5}, {Returns: 4},
 		{Encoding: 13}, {Show: 4}, {Rows: MostRows + 1}, {Rows: -1},
+		{Columns: MostColumns + 1}, {Columns: -1},
 	} {
 		if _, err := NewSanitizerWriter(io.Discard, Text, options); err != ErrOption {
 			t.Error(options, err)
@@ -202,6 +206,7 @@ func TestAsTheProgram(t *testing.T) {
 		{Color, SanitizerOptions{Show: ShowReversed}, "--show=color"},
 		{Color, SanitizerOptions{Show: ShowPlain, Encoding: Latin1}, "--show --encoding=latin1"},
 		{Color, SanitizerOptions{Rows: 16}, "--collapse=16"},
+		{Color, SanitizerOptions{Rows: 16, Columns: 4}, "--collapse=16 --columns=4"},
 		{Text, SanitizerOptions{Rows: 16, Show: ShowEscaped}, "--allow=text --collapse=16 --show=escaped"},
 		{Color, SanitizerOptions{Limit: 2}, "--limit=2"},
 	} {

@@ -83,15 +83,15 @@ export interface SanitizerOptions extends Limit {
   /** The schemes of the links that pass; any if none is named. The text of other links stays. */
   links?: readonly ("http" | "https" | "mailto")[];
   /**
-   * The extent of a stream of its own: each line, as by `text` and `color`, or the whole, as by
-   * `screen` and `all`. A string that nobody ends takes the rest of it. By `lines-reset` no
-   * rendition goes on over a line feed.
+   * The extent of a stream of its own: each line, as by `text` and `color` without `rows`, or the
+   * whole, as by `screen` and `all`, and with `rows`. A string that nobody ends takes the rest of
+   * it. By `lines-reset` no rendition goes on over a line feed.
    */
   framing?: "lines" | "whole" | "lines-reset";
   /**
    * The output for characters that hide or reorder text: themselves, themselves if they belong to
    * the character before them and else their number as `<U+202E>`, their number, or nothing. By
-   * `text` and `color` it is `join`, with `rows` `show`, and else `keep`.
+   * `text` and `color` it is `join`, and else `keep`.
    */
   characters?: "keep" | "join" | "show" | "drop";
   /**
@@ -107,10 +107,15 @@ export interface SanitizerOptions extends Limit {
    */
   show?: "plain" | "escaped" | "reversed";
   /**
-   * Writes text that is written again, as of a progress bar, as a terminal has it at the end: how
-   * many rows may be written again, up to 4096.
+   * Writes text that is written again, as of a progress bar, as a terminal leaves it: how many
+   * rows may be written again, up to 4096. The account is of the text before that.
    */
   rows?: number;
+  /**
+   * With `rows`, how many columns these have, from 1 to 16384: a longer line goes on in the next
+   * row. If this is left out, they have 512.
+   */
+  columns?: number;
   /** Whether an account is kept, which costs time and memory: it is if this is left out. */
   account?: boolean;
 }

@@ -16,6 +16,7 @@ const ENCODINGS = `utf-8 utf-8-c1 latin-1 latin-1-c1 windows-1250 windows-1251 w
   windows-1253 windows-1254 windows-1255 windows-1256 windows-1257 windows-1258`.split(/\s+/);
 const FATES = `passed respelled shown replaced leftOut swallowed overwritten length`.split(" ");
 const MOST_ROWS = 4096;
+const MOST_COLUMNS = 16384;
 
 function numberOf(words, word, option) {
   const number = words.indexOf(word);
@@ -28,9 +29,9 @@ function bitsOf(words, given, option) {
   return given.reduce((bits, word) => bits | (1 << numberOf(words, word, option)), 0);
 }
 
-function rowsOf(rows) {
-  if (Number.isInteger(rows) && rows >= 0 && rows <= MOST_ROWS) return rows;
-  throw new RangeError(`escape-stream: rows is a whole number from 0 to ${MOST_ROWS}`);
+function within(number, least, most, option) {
+  if (Number.isInteger(number) && number >= least && number <= most) return number;
+  throw new RangeError(`escape-stream: ${option} is a whole number from ${least} to ${most}`);
 }
 
 const isUtf8 = (encoding) => encoding.startsWith("utf-8");
@@ -38,7 +39,7 @@ const isUtf8 = (encoding) => encoding.startsWith("utf-8");
 /* The options as struct escape_stream_sanitizer_options has them, in words of 32 bits. */
 function wordsOf(policy, options) {
   const { limit, allow = [], deny = [], links = [], framing, characters, returns, show } = options;
-  const { encoding = "utf-8", rows = 0, account = true } = options;
+  const { encoding = "utf-8", rows = 0, columns = 512, account = true } = options;
   const words = [
     policyOf(policy),
     limitOf(limit),
@@ -51,8 +52,10 @@ function wordsOf(policy, options) {
     numberOf(RETURNS, returns, "returns"),
     numberOf(ENCODINGS, encoding, "encoding"),
     numberOf(MARKINGS, show, "show"),
-    rowsOf(rows),
+    within(rows, 0, MOST_ROWS, "rows"),
+    within(columns, 1, MOST_COLUMNS, "columns"),
     account ? 1 : 0,
+    0,
   ];
   return [4 + 4 * words.length, ...words];
 }

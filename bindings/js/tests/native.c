@@ -3,9 +3,9 @@
  * Writes what the native archives give of each stream of standard input: its length in four bytes,
  * the lowest first, and its bytes. Each text that is written has its length in front so, too:
  * the filter by four policies, whole and in chunks of 7 bytes with the end; the sanitizer by four
- * policies in chunks of 6, as usual and with two rows and what does not pass shown, each with its
- * account; the normal form, whole and in chunks of 3; the page, and the page by lines with styles
- * in chunks of 5; and the events in chunks of 11, in the words of native.test.js.
+ * policies in chunks of 6, as usual and with two short rows and what does not pass shown, each with
+ * its account; the normal form, whole and in chunks of 3; the page, and the page by lines with
+ * styles in chunks of 5; and the events in chunks of 11, in the words of native.test.js.
  */
 #include "escape_stream.h"
 #include "escape_stream_parser.h"
@@ -135,6 +135,7 @@ static void write_logs(const uint8_t *bytes, size_t length)
         options.policy = policy;
         write_sanitized(&options, bytes, length);
         options.rows = 2;
+        options.columns = 9;
         options.show = ESCAPE_STREAM_SHOW_ESCAPED;
         write_sanitized(&options, bytes, length);
     }

@@ -10,6 +10,7 @@ import {
 import { chunks, streams } from "./rows.js";
 
 const POLICIES = ["text", "color", "screen", "all"];
+const SHORT_ROWS = { rows: 2, columns: 9, show: "escaped" };
 
 /* What a taker gives of a stream in chunks. */
 function inChunks(taker, stream, size) {
@@ -77,7 +78,7 @@ function* textsOf(stream) {
   }
   for (const policy of POLICIES) {
     yield [`log ${policy}`, sanitized(stream, policy)];
-    yield [`log ${policy} shown`, sanitized(stream, policy, { rows: 2, show: "escaped" })];
+    yield [`log ${policy} shown`, sanitized(stream, policy, SHORT_ROWS)];
   }
   yield ["normal", normal(stream, { limit: stream.length })];
   yield ["normal in chunks", inChunks(new Normaliser(), stream, 3)];

@@ -40,6 +40,7 @@ test("a string that nobody ends takes one line", () => {
 test("any size of chunks gives the same, and the sums are the length", () => {
   const ways = [
     {}, { framing: "whole" }, { framing: "lines-reset" }, { show: "escaped" }, { rows: 8 },
+    { rows: 2, columns: 5 },
   ];
   for (const policy of POLICIES) {
     for (const way of ways) {
@@ -84,6 +85,8 @@ test("each option", () => {
   assert.equal(textOf(bytes("\x80"), "color", { encoding: "windows-1258" }), "\u20ac");
   assert.equal(textOf("a\x1b]0;t\x07", "color", { show: "plain" }), "a^[]0;t^G");
   assert.equal(textOf("10%\r20%\n", "color", { rows: 8 }), "20%\n");
+  assert.equal(textOf("abcdef\x1b[Gx\n", "color", { rows: 8 }), "xbcdef\n");
+  assert.equal(textOf("abcdef\x1b[Gx\n", "color", { rows: 8, columns: 4 }), "abcdxf\n");
   assert.equal(textOf("a\x1b]0;long\x07b\n", "color", { limit: 4 }), "ab\n");
 });
 
@@ -122,6 +125,9 @@ test("what is no option, and what has ended", () => {
   for (const rows of [-1, 1.5, 4097, NaN]) {
     assert.throws(() => sanitize("a", "text", { rows }), RangeError);
   }
+  for (const columns of [0, 1.5, 16385, NaN]) {
+    assert.throws(() => sanitize("a", "text", { columns }), RangeError);
+  }
   assert.throws(() => sanitize("a", "none"), TypeError);
   assert.throws(() => sanitize("a", "text", { encoding: "latin-1" }), TypeError);
   const it = new Sanitizer();
@@ -154,6 +160,7 @@ const AS_THE_PROGRAM = [
   ["color", { show: "reversed" }, ["--show=color"]],
   ["color", { show: "plain", encoding: "latin-1" }, ["--show", "--encoding=latin1"]],
   ["color", { rows: 16 }, ["--collapse=16"]],
+  ["color", { rows: 16, columns: 4 }, ["--collapse=16", "--columns=4"]],
   ["text", { rows: 16, show: "escaped" }, ["--allow=text", "--collapse=16", "--show=escaped"]],
   ["color", { limit: 2 }, ["--limit=2"]],
 ];

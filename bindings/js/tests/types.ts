@@ -14,7 +14,8 @@ const page: string = toHtml(bytes, { perLine: true, inline: true });
 
 // @ts-expect-error There is no such policy.
 filter("a", "none");
-const options: SanitizerOptions = { allow: ["titles"], encoding: "windows-1252", rows: 4 };
+const screen = { rows: 4, columns: 80 };
+const options: SanitizerOptions = { allow: ["titles"], encoding: "windows-1252", ...screen };
 const log: string = sanitize("a", "text", options).text;
 const safe: Uint8Array = sanitize(bytes, "color").text;
 const account: Account = sanitize(safe).account;

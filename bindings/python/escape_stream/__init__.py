@@ -42,6 +42,7 @@ from escape_stream._library import VERSION as __version__
 from escape_stream._normaliser import Normaliser
 from escape_stream._parser import Parser, events, joined
 from escape_stream._sanitizer import (
+    MOST_COLUMNS,
     MOST_ROWS,
     Account,
     Characters,
@@ -73,6 +74,7 @@ from escape_stream._whole import DEFAULT_LIMIT, Policy, filter, is_normal, norma
 __all__ = [
     "CONTROL_STRINGS",
     "DEFAULT_LIMIT",
+    "MOST_COLUMNS",
     "MOST_ROWS",
     "Account",
     "Action",

@@ -32,7 +32,8 @@ Bytes = bytes | bytearray | memoryview | mmap
 
 DONE, NO_MEMORY, UNKNOWN_POLICY, NOT_BEGUN, NO_COMMAND, NOT_WRITABLE = range(6)
 UNKNOWN_SIZE, UNKNOWN_GROUP, UNKNOWN_LINKS, UNKNOWN_FRAMING, UNKNOWN_CHARACTERS = range(6, 11)
-UNKNOWN_RETURNS, UNKNOWN_ENCODING, UNKNOWN_SHOW, TOO_MANY_ROWS = range(11, 15)
+UNKNOWN_RETURNS, UNKNOWN_ENCODING, UNKNOWN_SHOW = range(11, 14)
+TOO_MANY_ROWS, TOO_MANY_COLUMNS = range(14, 16)
 
 NONE, TEXT, CHARACTER, CONTROL, ESCAPE, CSI, OSC = range(7)
 DCS, DATA, DATA_BYTE, DCS_END, APC, FAILED, LIMIT = range(7, 14)
@@ -68,7 +69,9 @@ class RawSanitizerOptions(Structure):
         ("encoding", c_uint32),
         ("show", c_uint32),
         ("rows", c_uint32),
+        ("columns", c_uint32),
         ("account", c_uint32),
+        ("reserved", c_uint32),
     ]
 
 

@@ -12,6 +12,9 @@ from escape_stream._whole import DEFAULT_LIMIT, Policy
 MOST_ROWS = 4096
 """How many rows may be written again at most."""
 
+MOST_COLUMNS = 16384
+"""How many columns these rows have at most."""
+
 
 class Group(IntFlag):
     """Groups of actions. TEXT passes the first two, COLOR the first five, SCREEN all up
@@ -189,6 +192,7 @@ class Sanitizer(InChunks):
         encoding: Encoding = Encoding.UTF_8,
         show: Show | None = None,
         rows: int = 0,
+        columns: int = 512,
         account: bool = True,
     ) -> None:
         """Begins a log, as the options of `escfilter` say; an option that is None is as the program
@@ -198,7 +202,9 @@ class Sanitizer(InChunks):
         whatever the others say. If `links` names schemes, links to addresses of others do not
         pass. `limit` is how many bytes are kept of an unfinished sequence or string. `rows`, up to
         MOST_ROWS, is the number of rows that may be written again: a progress bar is then written
-        as a terminal has it at the end. An `account` costs time and memory.
+        as a terminal leaves it, and the account is of the text before that. `columns`, from 1 to
+        MOST_COLUMNS, is with `rows` the number of columns of these: a longer line goes on in the
+        next row. An `account` costs time and memory.
 
         Raises MemoryError if a request for memory was refused, and ValueError if an option is
         none.
@@ -217,10 +223,11 @@ class Sanitizer(InChunks):
             encoding=Encoding(encoding),
             show=Show(show) if show else 0,
             rows=_library.within(rows, 32),
+            columns=_columns(columns),
             account=bool(account),
         )
         status = _library.sanitizer_begin(byref(self._raw), byref(options))
-        if _library.UNKNOWN_SIZE <= status <= _library.TOO_MANY_ROWS:
+        if _library.UNKNOWN_SIZE <= status <= _library.TOO_MANY_COLUMNS:
             raise ValueError(
                 f"an option of a sanitizer is none: {_FAULTS[status - _library.UNKNOWN_SIZE]}"
             )
@@ -250,6 +257,12 @@ class Sanitizer(InChunks):
         return Account(*(getattr(raw, name) for name, _ in raw._fields_))
 
 
+def _columns(columns: int) -> int:
+    if not 1 <= columns <= MOST_COLUMNS:
+        raise ValueError(f"an option of a sanitizer is none: {columns} columns")
+    return columns
+
+
 _FAULTS = (
     "size",
     "group",
@@ -260,4 +273,5 @@ _FAULTS = (
     "encoding",
     "show",
     f"more than {MOST_ROWS} rows",
+    f"more than {MOST_COLUMNS} columns",
 )

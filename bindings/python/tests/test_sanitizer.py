@@ -13,6 +13,7 @@ from typing import Any
 import pytest
 
 from escape_stream import (
+    MOST_COLUMNS,
     MOST_ROWS,
     Account,
     Characters,
@@ -66,6 +67,7 @@ def test_chunks_and_sums() -> None:
         {"framing": Framing.LINES_RESET},
         {"show": Show.ESCAPED},
         {"rows": 8},
+        {"rows": 2, "columns": 5},
     ]
     for policy in Policy:
         for options in ways:
@@ -113,6 +115,8 @@ def test_options() -> None:
     assert text_of(b"\x80", encoding=Encoding.WINDOWS_1252) == "€".encode()
     assert text_of(b"a\x1b]0;t\x07", show=Show.PLAIN) == b"a^[]0;t^G"
     assert text_of(b"10%\r20%\n", rows=8) == b"20%\n"
+    assert text_of(b"abcdef\x1b[Gx\n", rows=8) == b"xbcdef\n"
+    assert text_of(b"abcdef\x1b[Gx\n", rows=8, columns=4) == b"abcdxf\n"
     assert text_of(b"a\x1b]0;long\x07b\n", limit=4) == b"ab\n"
 
 
@@ -138,6 +142,7 @@ def test_the_program(tmp_path: Path) -> None:
         ({"show": Show.REVERSED}, ["--show=color"]),
         ({"show": Show.PLAIN, "encoding": Encoding.LATIN_1}, ["--show", "--encoding=latin1"]),
         ({"rows": 16}, ["--collapse=16"]),
+        ({"rows": 16, "columns": 4}, ["--collapse=16", "--columns=4"]),
         (
             {"policy": Policy.TEXT, "rows": 16, "show": Show.ESCAPED},
             ["--allow=text", "--collapse=16", "--show=escaped"],
@@ -167,6 +172,8 @@ def test_misuse() -> None:
     options: list[dict[str, Any]] = [
         {"rows": MOST_ROWS + 1},
         {"rows": -1},
+        {"columns": MOST_COLUMNS + 1},
+        {"columns": 0},
         {"allow": 0x10000},
         {"links": 8},
     ]

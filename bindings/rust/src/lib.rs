@@ -139,6 +139,8 @@ pub enum Error {
     NotWritable,
     /// The options of a [`Sanitizer`] let more than 4,096 rows be written again.
     TooManyRows,
+    /// The options of a [`Sanitizer`] give these rows more than 16,384 columns.
+    TooManyColumns,
 }
 
 impl fmt::Display for Error {
@@ -148,6 +150,7 @@ impl fmt::Display for Error {
             Error::Failed => f.write_str("an earlier call failed"),
             Error::NotWritable => f.write_str("what is written would not read back"),
             Error::TooManyRows => f.write_str("more than 4096 rows may be written again"),
+            Error::TooManyColumns => f.write_str("rows have more than 16384 columns"),
         }
     }
 }

@@ -63,8 +63,9 @@ impl Sanitizer {
     ///
     /// # Errors
     ///
-    /// [`Error::Memory`] if a request for memory was refused, and [`Error::TooManyRows`] if
-    /// the options let more than 4,096 rows be written again.
+    /// [`Error::Memory`] if a request for memory was refused, [`Error::TooManyRows`] if the options
+    /// let more than 4,096 rows be written again, and [`Error::TooManyColumns`] if they give these
+    /// more than 16,384 columns.
     pub fn new(options: SanitizerOptions) -> Result<Sanitizer, Error> {
         let mut raw = ffi::Sanitizer::ended();
         raw.begin(&options.raw)?;

@@ -56,15 +56,15 @@ impl SanitizerOptions {
     }
 
     /// Whether each line is a stream of its own; if it is not set, by [`Policy::Text`] and
-    /// [`Policy::Color`].
+    /// [`Policy::Color`] without [`rows`](SanitizerOptions::rows).
     pub fn framing(mut self, framing: Framing) -> SanitizerOptions {
         self.raw.framing = 1 + framing as u32;
         self
     }
 
     /// The output for characters that hide or reorder text; if it is not set,
-    /// [`Characters::Join`] by [`Policy::Text`] and [`Policy::Color`], but [`Characters::Show`]
-    /// with [`rows`](SanitizerOptions::rows), and else [`Characters::Keep`].
+    /// [`Characters::Join`] by [`Policy::Text`] and [`Policy::Color`], and else
+    /// [`Characters::Keep`].
     pub fn characters(mut self, characters: Characters) -> SanitizerOptions {
         self.raw.characters = 1 + characters as u32;
         self
@@ -91,10 +91,18 @@ impl SanitizerOptions {
         self
     }
 
-    /// Writes text that is written again, as of a progress bar, as a terminal has it at the end.
-    /// `rows` is the number of rows that may be written again, at most 4,096.
+    /// Writes text that is written again, as of a progress bar, as a terminal leaves it. `rows` is
+    /// the number of rows that may be written again, at most 4,096. The account is of the text
+    /// before that.
     pub fn rows(mut self, rows: u32) -> SanitizerOptions {
         self.raw.rows = rows;
+        self
+    }
+
+    /// With [`rows`](SanitizerOptions::rows), the number of their columns, at most 16,384: a longer
+    /// line goes on in the next row. If it is 0 or not set, there are 512.
+    pub fn columns(mut self, columns: u32) -> SanitizerOptions {
+        self.raw.columns = columns;
         self
     }
 

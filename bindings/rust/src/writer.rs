@@ -253,7 +253,9 @@ impl From<Error> for io::Error {
     fn from(error: Error) -> io::Error {
         let kind = match error {
             Error::Memory => ErrorKind::OutOfMemory,
-            Error::NotWritable | Error::TooManyRows => ErrorKind::InvalidInput,
+            Error::NotWritable | Error::TooManyRows | Error::TooManyColumns => {
+                ErrorKind::InvalidInput
+            }
             Error::Failed => ErrorKind::Other,
         };
         io::Error::new(kind, error)

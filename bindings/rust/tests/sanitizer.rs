@@ -62,6 +62,7 @@ fn any_size_of_chunks_gives_the_same() {
             SanitizerOptions::new(policy).framing(Framing::LinesReset),
             SanitizerOptions::new(policy).show(Marking::Escaped),
             SanitizerOptions::new(policy).rows(4),
+            SanitizerOptions::new(policy).rows(2).columns(5),
         ] {
             let whole = sanitized(options, STREAM, STREAM.len());
             for size in 1..40 {
@@ -160,6 +161,9 @@ fn each_option_says_what_it_says() {
         b"a^[]0;t^G"
     );
     assert_eq!(text_of(text().rows(8), b"10%\r20%\n"), b"20%\n");
+    let long = b"abcdef\x1b[Gx\n";
+    assert_eq!(text_of(text().rows(8), long), b"xbcdef\n");
+    assert_eq!(text_of(text().rows(8).columns(4), long), b"abcdxf\n");
     assert_eq!(text_of(text().limit(4), b"a\x1b]0;long\x07b\n"), b"ab\n");
 }
 
@@ -168,6 +172,10 @@ fn misuse_is_told() {
     assert_eq!(
         Sanitizer::new(text().rows(4097)).unwrap_err(),
         Error::TooManyRows
+    );
+    assert_eq!(
+        Sanitizer::new(text().columns(16_385)).unwrap_err(),
+        Error::TooManyColumns
     );
     let mut log = Sanitizer::new(text()).unwrap();
     log.finish().unwrap();

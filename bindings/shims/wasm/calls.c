@@ -11,12 +11,12 @@
 /* The structs that JavaScript reads and writes by their places. */
 _Static_assert(sizeof(struct escape_stream_filter_state) == 16, "a filter");
 _Static_assert(sizeof(struct escape_stream_sanitizer) == 16, "a sanitizer");
-_Static_assert(sizeof(struct escape_stream_sanitizer_options) == 56, "its options");
+_Static_assert(sizeof(struct escape_stream_sanitizer_options) == 64, "its options");
 _Static_assert(offsetof(struct escape_stream_sanitizer_options, limit) == 8, "their limit");
 _Static_assert(offsetof(struct escape_stream_sanitizer_options, allowed) == 16, "their groups");
 _Static_assert(offsetof(struct escape_stream_sanitizer_options, framing) == 28, "their framing");
 _Static_assert(offsetof(struct escape_stream_sanitizer_options, encoding) == 40, "their encoding");
-_Static_assert(offsetof(struct escape_stream_sanitizer_options, account) == 52, "the last");
+_Static_assert(offsetof(struct escape_stream_sanitizer_options, account) == 56, "their account");
 _Static_assert(sizeof(struct escape_stream_account) == 64, "an account");
 _Static_assert(offsetof(struct escape_stream_account, left_out) == 32, "what did not pass");
 _Static_assert(offsetof(struct escape_stream_account, length) == 56, "the length");

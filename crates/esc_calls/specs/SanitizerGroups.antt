@@ -17,11 +17,12 @@ pub record AreWith (bits : ℕ) (passes : Bool) (g h : Groups) : Type 0 where
   pub groups : (c : Group) → has h c ≡ (if has_bit (place c) bits then passes else has g c)
   pub schemes : h.schemes ≡ g.schemes
 
--- where rows may be written again, with what moves the cursor or erases
+-- where rows may be written again, with what changes the screen, and backspaces
 abbrev pub groups_with_moves : ℕ → Groups → Groups
 groups_with_moves rows g = if rows == 0 then g
-    else with_group (with_group (with_group g group.Controls true)
-    group.Cursor true) group.Erase true
+    else with_group (with_group (with_group (with_group (with_group (with_group g
+    group.Controls true) group.Cursor true) group.Erase true) group.Scroll true)
+    group.Modes true) group.Charsets true
 
 -- the schemes of the links that pass, of http, https and mailto, each with its bit; those of all
 -- where there are none
@@ -38,7 +39,7 @@ links_numbered n =
     else None
 
 -- h are the groups of the policy p and those that are allowed, but those that are denied, and what
--- moves where rows may be written again; of links those to addresses of the schemes
+-- changes the screen where rows may be written again; of links those to addresses of the schemes
 pub record AreSaid (r : SanitizerOptions) (p : Policy) (h : Groups) : Type 0 where
   pub more : Groups
   pub allowed : AreWith r.allowed true (groups_of p) more

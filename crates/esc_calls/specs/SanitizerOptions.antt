@@ -1,5 +1,5 @@
 -- What the options of a sanitizer say, as numbers.
-use Rattle.std.specs.Prelude.{ℕ, ◌≡◌, ◌≢◌, ◌≤◌, ◌<◌, ◌==◌, ◌⊎◌, if◌then◌else◌, Bool, true, false, not, Option, Some, None, is_some}
+use Rattle.std.specs.Prelude.{ℕ, ◌≡◌, ◌≢◌, ◌≤◌, ◌<◌, ◌==◌, ◌⊎◌, ◌&&◌, if◌then◌else◌, Bool, true, false, not, Option, Some, None, is_some}
 use Rattle.esc_decode.specs.declared.code_page.CodePage.TheVariants as page
 use Rattle.esc_decode.specs.declared.encoding.Encoding.{Encoding}
 use Rattle.esc_decode.specs.declared.encoding.Encoding.TheVariants as encoding
@@ -12,15 +12,17 @@ use Rattle.esc_filter.specs.declared.unicode.Unicode.{Unicode}
 use Rattle.esc_filter.specs.declared.unicode.Unicode.TheVariants as unicode
 use Rattle.caret_notation.specs.declared.marking.Marking.{Marking}
 use Rattle.caret_notation.specs.declared.marking.Marking.TheVariants as marking
+use Rattle.line_collapse.specs.Windows.{Size, window_of}
+use Rattle.line_collapse.specs.declared.window.TheConstants.{COLUMNS}
 use Rattle.esc_sanitize.specs.Defaults.{is_for_reading}
 use Rattle.esc_sanitize.specs.declared.options.FilterOptions.{FilterOptions}
 use Rattle.esc_calls.specs.Policies.{policy_numbered}
 use Rattle.esc_calls.specs.SanitizerGroups.{AreSaid, links_numbered}
-use Rattle.esc_calls.specs.declared.TheConstants.{TOO_MANY_ROWS, UNKNOWN_CHARACTERS, UNKNOWN_ENCODING, UNKNOWN_FRAMING, UNKNOWN_GROUP, UNKNOWN_LINKS, UNKNOWN_POLICY, UNKNOWN_RETURNS, UNKNOWN_SHOW, UNKNOWN_SIZE}
+use Rattle.esc_calls.specs.declared.TheConstants.{TOO_MANY_COLUMNS, TOO_MANY_ROWS, UNKNOWN_CHARACTERS, UNKNOWN_ENCODING, UNKNOWN_FRAMING, UNKNOWN_GROUP, UNKNOWN_LINKS, UNKNOWN_POLICY, UNKNOWN_RETURNS, UNKNOWN_SHOW, UNKNOWN_SIZE}
 use Rattle.esc_calls.specs.declared.fault.Fault.{Fault}
 use Rattle.esc_calls.specs.declared.fault.Fault.TheVariants as fault
 use Rattle.esc_calls.specs.declared.sanitizer_options.SanitizerOptions.{SanitizerOptions}
-use Rattle.esc_calls.specs.declared.sanitizer_options.TheConstants.{MOST_ROWS, OPTIONS_SIZE}
+use Rattle.esc_calls.specs.declared.sanitizer_options.TheConstants.{MOST_COLUMNS, MOST_ROWS, OPTIONS_SIZE}
 
 -- ---- what each number says; 0 says what is usual, where something is
 
@@ -80,19 +82,19 @@ encoding_numbered n shows =
     else if n == 12 then Some (encoding.CodePage page.Windows1258)
     else None
 
-abbrev pub rows_numbered : ℕ → Option ℕ
-rows_numbered n = if n == 0 then None else Some n
+abbrev pub columns_numbered : ℕ → ℕ
+columns_numbered n = if n == 0 then COLUMNS else n
 
 -- ---- what hides or reorders text
 
 -- Usual for text and its colours alone, which people read, is that characters that do so are shown,
--- but those that belong to the character before them, and that carriage returns are shown. Where
--- rows may be written again, the character before one may become another, and returns move.
+-- but those that belong to the character before them, and that carriage returns are shown, but
+-- where rows may be written again: there they move.
 abbrev pub usual_guard : Policy → ℕ → Guard
 usual_guard p rows =
     if is_for_reading p
     then (if rows == 0 then record { characters = unicode.Join; returns = returns.Show }
-    else record { characters = unicode.Show; returns = returns.Keep })
+    else record { characters = unicode.Join; returns = returns.Keep })
     else record { characters = unicode.Keep; returns = returns.Keep }
 
 -- carriage returns are kept in a stream that is one
@@ -106,30 +108,41 @@ pub record SaysGuard (r : SanitizerOptions) (usual : Guard) (by_lines : Bool) (g
   pub named : returns_numbered r.returns usual.returns ≡ Some way
   pub returns : g.returns ≡ framed way by_lines
 
+-- ---- rows that may be written again
+
+-- a screen of these rows and columns, on which this is written of characters that deceive
+abbrev pub window_numbered : ℕ → ℕ → Unicode → Option Size
+window_numbered rows columns u =
+    if rows == 0 then None else Some (window_of rows (columns_numbered columns) u)
+
+pub record SaysWindow (r : SanitizerOptions) (u : Unicode) (w : Option Size) : Type 0 where
+  pub window : w ≡ window_numbered r.rows r.columns u
+  pub few : r.rows ≤ MOST_ROWS
+  pub narrow : r.columns ≤ MOST_COLUMNS
+
 -- ---- the options
 
 -- the options o are what r says under the policy p
 pub record Says (r : SanitizerOptions) (p : Policy) (o : FilterOptions Groups) : Type 0 where
   pub groups : AreSaid r p o.policy
   pub limit : o.limit ≡ r.limit
-  pub framing : framing_numbered r.framing (is_for_reading p) ≡ Some o.by_lines
+  pub framing : framing_numbered r.framing (is_for_reading p && (r.rows == 0)) ≡ Some o.by_lines
   pub resumes : o.resumes ≡ resumes_numbered r.framing
   pub guard : SaysGuard r (usual_guard p r.rows) o.by_lines o.guard
   pub show : marking_numbered r.show ≡ Some o.show
   pub encoding : encoding_numbered r.encoding (is_some o.show) ≡ Some o.encoding
-  pub rows : o.rows ≡ rows_numbered r.rows
-  pub few : r.rows ≤ MOST_ROWS
+  pub window : SaysWindow r o.guard.characters o.window
   pub audits : o.audits ≡ not (r.account == 0)
 
 -- and under its own
 abbrev pub IsSaid : SanitizerOptions → FilterOptions Groups → Type 0
 IsSaid r o = (p : Policy) × (policy_numbered r.policy ≡ Some p) × (r.size ≡ OPTIONS_SIZE)
-    × Says r p o
+    × (r.reserved ≡ 0) × Says r p o
 
 -- ---- what says nothing
 
 abbrev pub IsFault : SanitizerOptions → Fault → Type 0
-IsFault r fault.Size = r.size ≢ OPTIONS_SIZE
+IsFault r fault.Size = (r.size ≢ OPTIONS_SIZE) ⊎ (r.reserved ≢ 0)
 IsFault r fault.Policy = policy_numbered r.policy ≡ None
 IsFault r fault.Group = (0xffff < r.allowed) ⊎ (0xffff < r.denied)
 IsFault r fault.Links = links_numbered r.links ≡ None
@@ -139,6 +152,7 @@ IsFault r fault.Returns = (w : Returns) × (returns_numbered r.returns w ≡ Non
 IsFault r fault.Encoding = (b : Bool) × (encoding_numbered r.encoding b ≡ None)
 IsFault r fault.Show = marking_numbered r.show ≡ None
 IsFault r fault.Rows = MOST_ROWS < r.rows
+IsFault r fault.Columns = MOST_COLUMNS < r.columns
 
 -- the status that says so
 abbrev pub status_of : Fault → ℕ
@@ -152,6 +166,7 @@ status_of fault.Returns = UNKNOWN_RETURNS
 status_of fault.Encoding = UNKNOWN_ENCODING
 status_of fault.Show = UNKNOWN_SHOW
 status_of fault.Rows = TOO_MANY_ROWS
+status_of fault.Columns = TOO_MANY_COLUMNS
 
 -- a status says which number says nothing
 abbrev pub SaysFault : SanitizerOptions → ℕ → Type 0

@@ -3,14 +3,14 @@ ghost use Rattle.std.specs.Prelude.{◌≡◌};
 ghost use Rattle.esc_calls.specs.SanitizerOptions.{status_of};
 
 use crate::{
-    TOO_MANY_ROWS, UNKNOWN_CHARACTERS, UNKNOWN_ENCODING, UNKNOWN_FRAMING, UNKNOWN_GROUP,
-    UNKNOWN_LINKS, UNKNOWN_POLICY, UNKNOWN_RETURNS, UNKNOWN_SHOW, UNKNOWN_SIZE,
+    TOO_MANY_COLUMNS, TOO_MANY_ROWS, UNKNOWN_CHARACTERS, UNKNOWN_ENCODING, UNKNOWN_FRAMING,
+    UNKNOWN_GROUP, UNKNOWN_LINKS, UNKNOWN_POLICY, UNKNOWN_RETURNS, UNKNOWN_SHOW, UNKNOWN_SIZE,
 };
 
 /// Which of the numbers that say how a stream is sanitized says nothing.
 #[derive(Clone, Copy)]
 pub enum Fault {
-    /// The size is not that of the options.
+    /// The size is not that of the options, or what is reserved is not 0.
     Size,
     /// No policy has the number.
     Policy,
@@ -30,6 +30,8 @@ pub enum Fault {
     Show,
     /// There are too many rows.
     Rows,
+    /// The rows have too many columns.
+    Columns,
 }
 
 impl Fault {
@@ -48,6 +50,7 @@ impl Fault {
             Fault::Encoding => UNKNOWN_ENCODING,
             Fault::Show => UNKNOWN_SHOW,
             Fault::Rows => TOO_MANY_ROWS,
+            Fault::Columns => TOO_MANY_COLUMNS,
         }
     }
 }

@@ -33,6 +33,7 @@ pub mod request_row;
 mod said;
 mod said_groups;
 mod said_guard;
+mod said_window;
 pub mod sanitizer_chunks;
 pub mod sanitizer_options;
 pub mod screen_chunks;
@@ -70,7 +71,7 @@ pub const NO_COMMAND: u32 = 4;
 /// The text of the command, image or query would not read back as it. Nothing was written.
 pub const NOT_WRITABLE: u32 = 5;
 
-/// The options of a sanitizer have another size than this version knows.
+/// The options of a sanitizer have another size than this version knows, or use what is reserved.
 pub const UNKNOWN_SIZE: u32 = 6;
 
 /// No group has one of the bits that options allow or deny.
@@ -96,3 +97,6 @@ pub const UNKNOWN_SHOW: u32 = 13;
 
 /// Options let more rows be written again than 4096.
 pub const TOO_MANY_ROWS: u32 = 14;
+
+/// Options give these rows more columns than 16,384.
+pub const TOO_MANY_COLUMNS: u32 = 15;

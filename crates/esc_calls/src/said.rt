@@ -98,7 +98,7 @@ pub(crate) fn usual_guard(policy: Policy, rows: u32) -> Guard
             returns: Returns::Show,
         },
         Policy::Text | Policy::Color => Guard {
-            characters: Unicode::Show,
+            characters: Unicode::Join,
             returns: Returns::Keep,
         },
         Policy::Screen | Policy::All => Guard {

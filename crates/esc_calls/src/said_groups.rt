@@ -31,8 +31,8 @@ const GROUPS: [Group; 16] = [
 ];
 
 /// The groups that pass: those of the policy and those that are allowed, but those that are denied,
-/// and where rows may be written again what moves the cursor or erases; of links those to addresses
-/// of the schemes.
+/// and where rows may be written again what changes the screen; of links those to addresses of the
+/// schemes.
 pub(crate) fn groups_said(
     options: &SanitizerOptions,
     policy: Policy,
@@ -81,7 +81,7 @@ fn with_group(groups: Groups<'static>, group: Group, passes: bool) -> Groups<'st
     }
 }
 
-// These groups, and where rows may be written again what moves the cursor or erases.
+// These groups, and where rows may be written again what changes the screen, and backspaces.
 fn with_movements(groups: Groups<'static>, rows: u32) -> Groups<'static>
     ensures { result ≡ groups_with_moves rows groups.entry }
 {
@@ -92,6 +92,9 @@ fn with_movements(groups: Groups<'static>, rows: u32) -> Groups<'static>
         .and(Group::Controls)
         .and(Group::Cursor)
         .and(Group::Erase)
+        .and(Group::Scroll)
+        .and(Group::Modes)
+        .and(Group::Charsets)
 }
 
 // The schemes of the links that pass; those of all where there are none.

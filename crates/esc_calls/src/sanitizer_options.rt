@@ -1,20 +1,24 @@
 //! How a stream is sanitized, as numbers.
 ghost use Rattle.std.specs.Prelude.{◌≡◌, IfErr, IfOk};
-ghost use Rattle.esc_calls.specs.SanitizerOptions.{IsFault, IsSaid, Says, resumes_numbered, rows_numbered};
+ghost use Rattle.esc_calls.specs.SanitizerOptions.{IsFault, IsSaid, Says, resumes_numbered};
 
 use crate::fault::Fault;
 use crate::filter::policy_of;
 use crate::said::{encoding_of, framing_of, marking_of, usual_guard};
 use crate::said_groups::groups_said;
 use crate::said_guard::guard_said;
+use crate::said_window::window_said;
 use esc_filter::{Groups, Policy};
 use esc_sanitize::FilterOptions;
 
 /// The size of [`SanitizerOptions`] in bytes.
-pub const OPTIONS_SIZE: u32 = 56;
+pub const OPTIONS_SIZE: u32 = 64;
 
 /// How many rows may be written again at most.
 pub const MOST_ROWS: u32 = 4096;
+
+/// How many columns these rows have at most.
+pub const MOST_COLUMNS: u32 = 16_384;
 
 /// How a stream is sanitized: what the options of the program `escfilter` say of that, as numbers.
 /// Where a field but the first three is 0, it is as the program has it without the option.
@@ -47,8 +51,12 @@ pub struct SanitizerOptions {
     pub show: u32,
     /// How many rows may be written again.
     pub rows: u32,
+    /// How many columns these rows have.
+    pub columns: u32,
     /// Whether an account is kept.
     pub account: u32,
+    /// Always 0. It fills the end of the struct, so that its size tells each version apart.
+    pub reserved: u32,
 }
 
 impl SanitizerOptions {
@@ -57,7 +65,7 @@ impl SanitizerOptions {
         ensures said { IfOk result (IsSaid self.now) }
         ensures fault { IfErr result (IsFault self.now) }
     {
-        if self.size != OPTIONS_SIZE {
+        if self.size != OPTIONS_SIZE || self.reserved != 0 {
             return Err(Fault::Size);
         }
         match policy_of(self.policy) {
@@ -76,7 +84,7 @@ impl SanitizerOptions {
             Err(fault) => return Err(fault),
         };
         let usual = FilterOptions::new(policy);
-        let Some(by_lines) = framing_of(self.framing, usual.by_lines) else {
+        let Some(by_lines) = framing_of(self.framing, usual.by_lines && self.rows == 0) else {
             return Err(Fault::Framing);
         };
         let guard = match guard_said(self, usual_guard(policy, self.rows), by_lines) {
@@ -89,9 +97,10 @@ impl SanitizerOptions {
         let Some(encoding) = encoding_of(self.encoding, show.is_some()) else {
             return Err(Fault::Encoding);
         };
-        if self.rows > MOST_ROWS {
-            return Err(Fault::Rows);
-        }
+        let window = match window_said(self, guard.characters) {
+            Ok(window) => window,
+            Err(fault) => return Err(fault),
+        };
         Ok(FilterOptions {
             policy: groups,
             limit: self.limit as usize,
@@ -100,7 +109,7 @@ impl SanitizerOptions {
             guard,
             encoding,
             show,
-            rows: rows_of(self.rows),
+            window,
             audits: self.account != 0,
         })
     }
@@ -111,11 +120,4 @@ fn resumes_of(framing: u32) -> bool
     ensures { result ≡ resumes_numbered framing }
 {
     framing != 3
-}
-
-// How many rows may be written again, where some may.
-fn rows_of(rows: u32) -> Option<usize>
-    ensures { result ≡ rows_numbered rows }
-{
-    if rows == 0 { None } else { Some(rows as usize) }
 }

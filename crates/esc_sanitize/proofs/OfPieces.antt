@@ -9,7 +9,7 @@ use Rattle.esc_filter.specs.declared.admit.Admit.{Ghosts as Admitter}
 use Rattle.esc_filter.specs.declared.guard.Guard.{Guard}
 use Rattle.line_collapse.specs.Streams.{final_of, left_of, values_of}
 use Rattle.line_collapse.specs.Windows.{Size}
-use Rattle.esc_sanitize.specs.Written.{OfAllWritten, closed_by, final_text, going_by, is_left_by, is_passed_by, left_text, lined_text, passed_of, passing_of, seen_by, size_of}
+use Rattle.esc_sanitize.specs.Written.{OfAllWritten, closed_by, final_text, going_by, is_left_by, is_passed_by, left_text, lined_text, passed_of, passing_of, seen_by}
 use Rattle.esc_sanitize.specs.declared.options.FilterOptions.{FilterOptions}
 
 -- ---- what passes
@@ -52,7 +52,7 @@ module _ (A : Type 0) (k : Bool)
     left_alone true u t e = e
     left_alone false u t e = e
 
-    pub written_pieces : {P : Type 0} (V : Admitter P A) (o : FilterOptions P) → o.rows ≡ None
+    pub written_pieces : {P : Type 0} (V : Admitter P A) (o : FilterOptions P) → o.window ≡ None
         → AdmitsAtMost {A = A} (least k) (V.admits o.policy) → OfAllWritten V o (IsOfTokens k)
     written_pieces V o none most = (
       λ s. subst (λ r. IsOfTokens k (left_text A r (passed_of V o s))) (sym none)
@@ -74,25 +74,25 @@ module _ (A : Type 0) (k : Bool)
 module _ (A : Type 0) (final : (z : Size) (s : List ℕ) → IsColorText (final_of z (values_of A s)))
     (left : (z : Size) (s : List ℕ) → IsColorText (left_of z (values_of A s))) where
   -- of rows that may be written again, whatever goes in
-  rows_left : (n : ℕ) (b : Bool) (u t : List ℕ) → is_left_by A (Some n) b u t → IsColorText t
-  rows_left n true u t e = subst IsColorText (sym e) (left (size_of n) u)
-  rows_left n false u t e = subst IsColorText (sym e) (final (size_of n) u)
+  rows_left : (z : Size) (b : Bool) (u t : List ℕ) → is_left_by A (Some z) b u t → IsColorText t
+  rows_left z true u t e = subst IsColorText (sym e) (left z u)
+  rows_left z false u t e = subst IsColorText (sym e) (final z u)
 
-  pub collapsed_pieces : {P : Type 0} (V : Admitter P A) (o : FilterOptions P) (n : ℕ)
-      → o.rows ≡ Some n → OfAllWritten V o IsColorText
-  collapsed_pieces V o n rows = (
+  pub collapsed_pieces : {P : Type 0} (V : Admitter P A) (o : FilterOptions P) (z : Size)
+      → o.window ≡ Some z → OfAllWritten V o IsColorText
+  collapsed_pieces V o z rows = (
     λ s. subst (λ r. IsColorText (left_text A r (passed_of V o s))) (sym rows)
-        (left (size_of n) (passed_of V o s)),
+        (left z (passed_of V o s)),
     λ s. subst (λ r. IsColorText (final_text A r (passing_of V o s))) (sym rows)
-        (final (size_of n) (passing_of V o s)),
-    λ b s t h. rows_left n b h.0 t (subst (λ r. is_left_by A r b h.0 t) rows h.2),
+        (final z (passing_of V o s)),
+    λ b s t h. rows_left z b h.0 t (subst (λ r. is_left_by A r b h.0 t) rows h.2),
   )
 
   -- whether rows are written again or not
   pub any_pieces : {P : Type 0} (V : Admitter P A) (o : FilterOptions P)
-      → (o.rows ≡ None → OfAllWritten V o IsColorText) → OfAllWritten V o IsColorText
-  any_pieces V o none = by o.rows refl
+      → (o.window ≡ None → OfAllWritten V o IsColorText) → OfAllWritten V o IsColorText
+  any_pieces V o none = by o.window refl
     where
-      by : (r : Option ℕ) → o.rows ≡ r → OfAllWritten V o IsColorText
+      by : (r : Option Size) → o.window ≡ r → OfAllWritten V o IsColorText
       by None e = none e
-      by (Some n) e = collapsed_pieces V o n e
+      by (Some z) e = collapsed_pieces V o z e

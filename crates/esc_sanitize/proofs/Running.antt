@@ -25,26 +25,26 @@ module _ {F P B A : Type 0} (G : Feeder F A) (V : Admitter P A) (W : Writer B A)
   -- bytes more, of which t passed
   pub runs_more : (k : Hearing F P B A) (n : Left A) (b t : List ℕ) → k.options ≡ o
       → Follows G V W k (s ++ b) → passing_of V o (s ++ b) ≡ passing_of V o s ++ t
-      → HasLeft o.rows (passing_of V o s ++ t) n
-      → final_text A o.rows (passing_of V o s ++ t)
-      ≡ final_text A o.rows (passing_of V o s) ++ left_added n t
+      → HasLeft o.window (passing_of V o s ++ t) n
+      → final_text A o.window (passing_of V o s ++ t)
+      ≡ final_text A o.window (passing_of V o s) ++ left_added n t
       → Runs G V W (record { hearing = k; left = n }) (s ++ b)
       × (going_of V o (s ++ b) ≡ going_of V o s ++ left_added n t)
   runs_more k n b t same follows more held added = (
     (
       follows,
-      subst (λ q. HasLeft q.rows (passing_of V q (s ++ b)) n) (sym same)
-          (subst (λ u. HasLeft o.rows u n) (sym more) held),
+      subst (λ q. HasLeft q.window (passing_of V q (s ++ b)) n) (sym same)
+          (subst (λ u. HasLeft o.window u n) (sym more) held),
     ),
-    ap (final_text A o.rows) more ∙ added,
+    ap (final_text A o.window) more ∙ added,
   )
 
   -- the end, of which t passed
   pub runs_end : (n : Left A) (t : List ℕ) → passed_of V o s ≡ passing_of V o s ++ t
-      → left_text A o.rows (passing_of V o s ++ t)
-      ≡ final_text A o.rows (passing_of V o s) ++ left_added n t
+      → left_text A o.window (passing_of V o s ++ t)
+      ≡ final_text A o.window (passing_of V o s) ++ left_added n t
       → text_of V o s ≡ going_of V o s ++ left_added n t
-  runs_end n t more added = ap (left_text A o.rows) more ∙ added
+  runs_end n t more added = ap (left_text A o.window) more ∙ added
 
 -- ---- as what takes a stream in pieces
 
@@ -104,9 +104,9 @@ module _ {F P B A : Type 0} (G : Feeder F A) (V : Admitter P A) (W : Writer B A)
       let j = k.hearing in
       let o = options_of k in
       let (x, f) = passing_longer G V W o j.decoding j.auditor s h.runs.0 b in
-      let (t, g) = rows_longer A o.rows (passing_of V o s) x in (
+      let (t, g) = rows_longer A o.window (passing_of V o s) x in (
         t,
-        h.goes_on (s ++ b) ∙ ap (final_text A o.rows) f ∙ g
+        h.goes_on (s ++ b) ∙ ap (final_text A o.window) f ∙ g
             ∙ ap (λ y. y ++ t) (sym (h.goes_on s)),
       )
 
@@ -115,13 +115,13 @@ module _ {F P B A : Type 0} (G : Feeder F A) (V : Admitter P A) (W : Writer B A)
       let j = k.hearing in
       let o = options_of k in
       let (x, f) = passed_longer G V W o j.decoding j.auditor s h.runs.0 z in
-      let (t, g) = rows_end A o.rows (passing_of V o z) x in (
+      let (t, g) = rows_end A o.window (passing_of V o z) x in (
         t,
-        h.ends z ∙ ap (left_text A o.rows) f ∙ g ∙ ap (λ y. y ++ t) (sym (h.goes_on z)),
+        h.ends z ∙ ap (left_text A o.window) f ∙ g ∙ ap (λ y. y ++ t) (sym (h.goes_on z)),
       )
 
   -- nothing has no text
   pub run_none : m [] ≡ []
   run_none =
       let o = options_of k in
-      h.goes_on [] ∙ ap (final_text A o.rows) h.runs.0.empty ∙ rows_none A o.rows
+      h.goes_on [] ∙ ap (final_text A o.window) h.runs.0.empty ∙ rows_none A o.window

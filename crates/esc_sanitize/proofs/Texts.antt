@@ -17,6 +17,7 @@ use Rattle.esc_filter.specs.declared.admit.Admit.{Ghosts as Admitter}
 use Rattle.esc_filter.specs.declared.guard.Guard.{Guard}
 use Rattle.line_collapse.proofs.Streams.{final_after_nil, final_longer}
 use Rattle.line_collapse.specs.Streams.{open_of, values_of}
+use Rattle.line_collapse.specs.Windows.{Size}
 use Rattle.esc_normal.specs.Texts.{ends_in_string}
 use Rattle.caret_notation.proofs.Begins.{through_longer}
 use Rattle.caret_notation.proofs.Longer.{revealed_longer}
@@ -25,7 +26,7 @@ use Rattle.caret_notation.specs.Revealed.{revealed_as, revealed_whole_as}
 use Rattle.caret_notation.specs.Through.{through, through_whole}
 use Rattle.caret_notation.specs.declared.marking.Marking.{Marking}
 use Rattle.caret_notation.specs.declared.reveal.Rule.{Rule}
-use Rattle.esc_sanitize.specs.Written.{final_text, left_text, revealed_by, revealed_whole_by, size_of}
+use Rattle.esc_sanitize.specs.Written.{final_text, left_text, revealed_by, revealed_whole_by}
 use Rattle.esc_sanitize.specs.declared.options.FilterOptions.{FilterOptions}
 
 -- nothing becomes nothing
@@ -95,42 +96,42 @@ resumed_add u limit p = record {
 }
 
 -- to what is final of its lines
-pub rows_longer : (A : Type 0) (r : Option ℕ) (u x : List ℕ)
+pub rows_longer : (A : Type 0) (r : Option Size) (u x : List ℕ)
     → (t : List ℕ) × (final_text A r (u ++ x) ≡ final_text A r u ++ t)
 rows_longer A None u x = (x, refl)
-rows_longer A (Some n) u x = final_longer A (size_of n) u x
+rows_longer A (Some z) u x = final_longer A z u x
 
 -- and its end to that
-pub rows_end : (A : Type 0) (r : Option ℕ) (u x : List ℕ)
+pub rows_end : (A : Type 0) (r : Option Size) (u x : List ℕ)
     → (t : List ℕ) × (left_text A r (u ++ x) ≡ final_text A r u ++ t)
 rows_end A None u x = (x, refl)
-rows_end A (Some n) u x =
-    let k = final_longer A (size_of n) u x in
-    let rest = open_of (size_of n) (values_of A (u ++ x)) in (
+rows_end A (Some z) u x =
+    let k = final_longer A z u x in
+    let rest = open_of z (values_of A (u ++ x)) in (
       k.0 ++ rest,
-      ap (λ y. y ++ rest) k.1 ∙ append_assoc (final_text A (Some n) u) k.0 rest,
+      ap (λ y. y ++ rest) k.1 ∙ append_assoc (final_text A (Some z) u) k.0 rest,
     )
 
 -- nothing has no row
-pub rows_none : (A : Type 0) (r : Option ℕ) → final_text A r [] ≡ []
+pub rows_none : (A : Type 0) (r : Option Size) → final_text A r [] ≡ []
 rows_none A None = refl
-rows_none A (Some n) = final_after_nil A (size_of n) (λ x. x) refl
+rows_none A (Some z) = final_after_nil A z (λ x. x) refl
 
 -- ---- what a piece adds to what is left of lines
 
-module _ (A : Type 0) (r : Option ℕ) (u b : List ℕ) where
+module _ (A : Type 0) (r : Option Size) (u b : List ℕ) where
   pub all_fed : r ≡ None → final_text A r (u ++ b) ≡ final_text A r u ++ b
   all_fed e = subst (λ k. final_text A k (u ++ b) ≡ final_text A k u ++ b) (sym e) refl
 
   pub all_ended : r ≡ None → left_text A r (u ++ b) ≡ final_text A r u ++ b
   all_ended e = subst (λ k. left_text A k (u ++ b) ≡ final_text A k u ++ b) (sym e) refl
 
-  pub rows_fed : (n : ℕ) (t : List ℕ) → r ≡ Some n
-      → final_text A (Some n) (u ++ b) ≡ final_text A (Some n) u ++ t
+  pub rows_fed : (z : Size) (t : List ℕ) → r ≡ Some z
+      → final_text A (Some z) (u ++ b) ≡ final_text A (Some z) u ++ t
       → final_text A r (u ++ b) ≡ final_text A r u ++ t
-  rows_fed n t e h = subst (λ k. final_text A k (u ++ b) ≡ final_text A k u ++ t) (sym e) h
+  rows_fed z t e h = subst (λ k. final_text A k (u ++ b) ≡ final_text A k u ++ t) (sym e) h
 
-  pub rows_ended : (n : ℕ) (t : List ℕ) → r ≡ Some n
-      → left_text A (Some n) (u ++ b) ≡ final_text A (Some n) u ++ t
+  pub rows_ended : (z : Size) (t : List ℕ) → r ≡ Some z
+      → left_text A (Some z) (u ++ b) ≡ final_text A (Some z) u ++ t
       → left_text A r (u ++ b) ≡ final_text A r u ++ t
-  rows_ended n t e h = subst (λ k. left_text A k (u ++ b) ≡ final_text A k u ++ t) (sym e) h
+  rows_ended z t e h = subst (λ k. left_text A k (u ++ b) ≡ final_text A k u ++ t) (sym e) h

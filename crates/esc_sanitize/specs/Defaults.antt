@@ -31,7 +31,7 @@ defaults p = record {
   guard = guard_of p;
   encoding = encodings.Utf8;
   show = None;
-  rows = None;
+  window = None;
   audits = true;
 }
 
@@ -45,6 +45,6 @@ with_policy q o = record {
   guard = o.guard;
   encoding = o.encoding;
   show = o.show;
-  rows = o.rows;
+  window = o.window;
   audits = o.audits;
 }

@@ -1,16 +1,16 @@
 -- What is left of the lines of a text that comes in pieces.
 use Rattle.std.specs.Prelude.{ℕ, ◌≡◌, List, [], Option, Some, None, string_bytes}
 use Rattle.line_collapse.specs.Fed.{HasConsumed, added_by}
-use Rattle.esc_sanitize.specs.Written.{size_of}
+use Rattle.line_collapse.specs.Windows.{Size}
 use Rattle.esc_sanitize.specs.declared.left.Left.{Left}
 use Rattle.esc_sanitize.specs.declared.left.Left.TheVariants as left
 use Rattle.fallible_alloc.specs.Refusals.{Refused}
 
--- It took this text, of which so many rows may be written again, or all is written; or memory was
+-- It took this text, of which what is left on this screen is written, or all is; or memory was
 -- refused.
-abbrev pub HasLeft : {A : Type 0} → Option ℕ → List ℕ → Left A → Type 0
+abbrev pub HasLeft : {A : Type 0} → Option Size → List ℕ → Left A → Type 0
 HasLeft r u left.All = r ≡ None
-HasLeft r u (left.Rows a c) = (n : ℕ) × (r ≡ Some n) × HasConsumed (size_of n) u c
+HasLeft r u (left.Rows a c) = (z : Size) × (r ≡ Some z) × HasConsumed z u c
 HasLeft r u (left.Last t) = ⊥
 HasLeft {A} r u left.Refused = Refused A
 

@@ -29,7 +29,7 @@ staged_added G k = left_added k.left (heard_added G k.hearing)
 abbrev pub Runs : {F P B A : Type 0} → Feeder F A → Admitter P A → Writer B A → Staged F P B A
     → List ℕ → Type 0
 Runs G V W k s = Follows G V W k.hearing s
-    × HasLeft (options_of k).rows (passing_of V (options_of k) s) k.left
+    × HasLeft (options_of k).window (passing_of V (options_of k) s) k.left
 
 -- ---- as what takes a stream in pieces
 

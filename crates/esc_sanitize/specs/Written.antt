@@ -1,5 +1,5 @@
 -- What is written of a stream under options.
-use Rattle.std.specs.Prelude.{ℕ, ◌≡◌, Bool, true, false, List, Option, Some, None, max}
+use Rattle.std.specs.Prelude.{ℕ, ◌≡◌, Bool, true, false, List, Option, Some, None}
 use Rattle.esc_actions.specs.Values.{Value}
 use Rattle.esc_decode.specs.Decodings.{decoded_stream}
 use Rattle.esc_filter.specs.Lines.{IsFilteredByLinesAs, closed_by_lines_as, text_by_lines_as}
@@ -10,11 +10,10 @@ use Rattle.esc_filter.specs.declared.admit.Admit.{Ghosts as Admitter}
 use Rattle.esc_filter.specs.declared.guard.Guard.{Guard}
 use Rattle.esc_filter.specs.declared.policy.Policy.TheVariants as policy
 use Rattle.line_collapse.specs.Streams.{final_of, left_of, values_of}
-use Rattle.line_collapse.specs.Windows.{Size, window_size}
+use Rattle.line_collapse.specs.Windows.{Size}
 use Rattle.caret_notation.specs.Revealed.{revealed_as, revealed_whole_as}
 use Rattle.caret_notation.specs.declared.marking.Marking.{Marking}
 use Rattle.esc_sanitize.specs.declared.options.FilterOptions.{FilterOptions}
-use Rattle.esc_sanitize.specs.declared.left.TheConstants.{COLUMNS}
 
 -- ---- what goes to the filter
 
@@ -80,22 +79,18 @@ passed_of V o s = closed_of V o (decoded_stream o.encoding s)
 
 -- ---- what is left of the lines of a text
 
--- so many rows may be written again
-abbrev pub size_of : ℕ → Size
-size_of n = window_size (max n 1) COLUMNS
-
--- of a text that goes on, where rows may be written again, those that may not any more
-abbrev pub final_text : Type 0 → Option ℕ → List ℕ → List ℕ
+-- of a text that goes on, where rows of a screen may be written again, those that may not any more
+abbrev pub final_text : Type 0 → Option Size → List ℕ → List ℕ
 final_text A None u = u
-final_text A (Some n) u = final_of (size_of n) (values_of A u)
+final_text A (Some z) u = final_of z (values_of A u)
 
 -- of one that has ended, all rows
-abbrev pub left_text : Type 0 → Option ℕ → List ℕ → List ℕ
+abbrev pub left_text : Type 0 → Option Size → List ℕ → List ℕ
 left_text A None u = u
-left_text A (Some n) u = left_of (size_of n) (values_of A u)
+left_text A (Some z) u = left_of z (values_of A u)
 
 -- the text t is what is left of the lines of u, which has ended or goes on
-abbrev pub is_left_by : Type 0 → Option ℕ → Bool → List ℕ → List ℕ → Type 0
+abbrev pub is_left_by : Type 0 → Option Size → Bool → List ℕ → List ℕ → Type 0
 is_left_by A r true u t = t ≡ left_text A r u
 is_left_by A r false u t = t ≡ final_text A r u
 
@@ -108,14 +103,14 @@ abbrev pub IsWritten : {P A : Type 0} → Admitter P A → FilterOptions P → B
 IsWritten {A = A} V o b s t = (u : List ℕ)
     × is_passed_by {A = A} o.resumes o.guard o.by_lines b o.limit (V.admits o.policy)
     (seen_by V o b s) u
-    × is_left_by A o.rows b u t
+    × is_left_by A o.window b u t
 
 -- the text of a stream that goes on, and of one that has ended
 abbrev pub going_of : {P A : Type 0} → Admitter P A → FilterOptions P → List ℕ → List ℕ
-going_of {A = A} V o s = final_text A o.rows (passing_of V o s)
+going_of {A = A} V o s = final_text A o.window (passing_of V o s)
 
 abbrev pub text_of : {P A : Type 0} → Admitter P A → FilterOptions P → List ℕ → List ℕ
-text_of {A = A} V o s = left_text A o.rows (passed_of V o s)
+text_of {A = A} V o s = left_text A o.window (passed_of V o s)
 
 -- ---- what it is made of
 
@@ -130,7 +125,7 @@ OfAllWritten V o C = ((s : List ℕ) → C (text_of V o s)) × ((s : List ℕ) �
 -- written again; and text of characters, renditions and links where it admits no more than `Color`,
 -- and wherever rows may be written again.
 pub record IsOfTokens {P A : Type 0} (V : Admitter P A) (o : FilterOptions P) : Type 0 where
-  pub plain : o.rows ≡ None → AdmitsAtMost policy.Text (V.admits o.policy)
+  pub plain : o.window ≡ None → AdmitsAtMost policy.Text (V.admits o.policy)
       → OfAllWritten V o IsPlainText
   pub color : AdmitsAtMost policy.Color (V.admits o.policy) → OfAllWritten V o IsColorText
-  pub collapsed : (n : ℕ) → o.rows ≡ Some n → OfAllWritten V o IsColorText
+  pub collapsed : (z : Size) → o.window ≡ Some z → OfAllWritten V o IsColorText

@@ -38,7 +38,7 @@ impl<P: Admit<A>, A: Allocator + Copy> Judging<P, A> {
             guard,
             show,
             encoding: _,
-            rows: _,
+            window: _,
             audits: _,
         } = options;
         Judging {

@@ -5,11 +5,8 @@ ghost use Rattle.line_collapse.specs.Streams.{final_of, left_of, values_of};
 ghost use Rattle.line_collapse.specs.Windows.{Size};
 ghost use Rattle.fallible_alloc.specs.Refusals.{Refused};
 
-use line_collapse::LineCollapser;
+use line_collapse::{LineCollapser, Window};
 use std::alloc::{AllocError, Allocator, Global};
-
-/// How many columns a row has at most of which what is left is written.
-pub const COLUMNS: usize = 16_384;
 
 /// What is written of a text.
 #[derive(Drop)]
@@ -28,14 +25,14 @@ impl<A: Allocator + Copy> Left<A> {
     ghost use Rattle.esc_sanitize.specs.Rows.{HasLeft, left_added};
     ghost use Rattle.esc_sanitize.specs.Written.{final_text, left_text};
 
-    /// At the beginning of a text, of which so many rows may be written again, where that is asked
-    /// for.
-    pub fn new(alloc: A, rows: Option<usize>) -> Left<A>
-        ensures { HasLeft rows [] result }
+    /// At the beginning of a text, of which what is left on this screen is written, where that is
+    /// asked for.
+    pub fn new(alloc: A, window: Option<Window>) -> Left<A>
+        ensures { HasLeft window [] result }
     {
-        match rows {
+        match window {
             None => Left::All,
-            Some(rows) => match LineCollapser::new(alloc, rows, COLUMNS) {
+            Some(window) => match LineCollapser::on(alloc, window) {
                 Ok(collapse) => Left::Rows(alloc, collapse),
                 Err(_) => Left::Refused,
             },
@@ -44,11 +41,11 @@ impl<A: Allocator + Copy> Left<A> {
 
     /// Takes text more.
     pub fn take(&mut self, text: &str) -> Result<(), AllocError>
-        ensures given { (r : Option ℕ) (u : List ℕ) → HasLeft r u self.old
+        ensures given { (r : Option Size) (u : List ℕ) → HasLeft r u self.old
             → OnOk result (HasLeft r (u ++ text.now) self.new
             × (final_text A r (u ++ text.now) ≡ final_text A r u
             ++ left_added self.new text.now)) }
-        ensures refused { (r : Option ℕ) (u : List ℕ) → HasLeft r u self.old
+        ensures refused { (r : Option Size) (u : List ℕ) → HasLeft r u self.old
             → OnErr result (Refused A) }
     {
         match self {
@@ -60,10 +57,10 @@ impl<A: Allocator + Copy> Left<A> {
 
     /// Takes the last text, and ends it.
     pub fn close(&mut self, text: &str) -> Result<(), AllocError>
-        ensures ended { (r : Option ℕ) (u : List ℕ) → HasLeft r u self.old
+        ensures ended { (r : Option Size) (u : List ℕ) → HasLeft r u self.old
             → OnOk result (left_text A r (u ++ text.now) ≡ final_text A r u
             ++ left_added self.new text.now) }
-        ensures refused { (r : Option ℕ) (u : List ℕ) → HasLeft r u self.old
+        ensures refused { (r : Option Size) (u : List ℕ) → HasLeft r u self.old
             → OnErr result (Refused A) }
     {
         match self {

@@ -33,7 +33,6 @@ pub use auditor::Auditor;
 pub use chain::{Sanitizing, sanitizing};
 pub use judging::Judging;
 pub use laws::writes_chunks;
-pub use left::COLUMNS;
 pub use options::FilterOptions;
 pub use sanitizer::Sanitizer;
 pub use stream::{Sanitized, sanitize_stream};

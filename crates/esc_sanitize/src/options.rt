@@ -5,6 +5,7 @@ ghost use Rattle.esc_sanitize.specs.Defaults.{defaults, guard_of, is_for_reading
 use caret_notation::Marking;
 use esc_decode::Encoding;
 use esc_filter::{Guard, Policy, Returns, Unicode};
+use line_collapse::Window;
 
 const DEFAULT_LIMIT: usize = 1_048_576;
 
@@ -30,12 +31,13 @@ pub struct FilterOptions<P> {
     pub encoding: Encoding,
     /// How what does not pass is shown in its place; where none, it is left out.
     pub show: Option<Marking>,
-    /// How many rows may be written again, where what is left of them is written, as of progress
-    /// bars; where none, all of the text is. The program then also lets pass the groups
-    /// [`Controls`](esc_filter::Group::Controls), [`Cursor`](esc_filter::Group::Cursor) and
-    /// [`Erase`](esc_filter::Group::Erase), none of which is written itself, and its guard shows
-    /// characters and keeps carriage returns.
-    pub rows: Option<usize>,
+    /// The screen of which what is left of the text is written, as of progress bars; where none,
+    /// all of the text is. The program then takes the stream whole, also lets pass the groups
+    /// [`Controls`](esc_filter::Group::Controls), [`Cursor`](esc_filter::Group::Cursor),
+    /// [`Erase`](esc_filter::Group::Erase), [`Scroll`](esc_filter::Group::Scroll),
+    /// [`Modes`](esc_filter::Group::Modes) and [`Charsets`](esc_filter::Group::Charsets), none of
+    /// which is written itself, and its guard keeps carriage returns.
+    pub window: Option<Window>,
     /// Whether an account is kept of what became of each byte. It costs time and memory.
     pub audits: bool,
 }
@@ -53,7 +55,7 @@ impl FilterOptions<Policy> {
             guard: guard_of(policy),
             encoding: Encoding::Utf8,
             show: None,
-            rows: None,
+            window: None,
             audits: true,
         }
     }
@@ -74,7 +76,7 @@ impl<P> FilterOptions<P> {
             guard: self.guard,
             encoding: self.encoding,
             show: self.show,
-            rows: self.rows,
+            window: self.window,
             audits: self.audits,
         }
     }

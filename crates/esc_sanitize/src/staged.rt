@@ -28,7 +28,7 @@ impl<F: StreamFilter<A>, P: Admit<A>, B: Book<A>, A: Allocator + Copy> Staged<F,
             → Runs F.StreamFilter P.Admit B.Book result [] }
         ensures options { options_of result ≡ hearing.options }
     {
-        let left = Left::new(alloc, hearing.options().rows);
+        let left = Left::new(alloc, hearing.options().window);
         Staged { hearing, left }
     }
 

@@ -13,6 +13,10 @@ use Rattle.esc_screen.specs.declared.motion.Motion.TheVariants as motion
 use Rattle.esc_screen.specs.declared.step.Step.{Step}
 use Rattle.esc_screen.specs.declared.step.Step.TheVariants as step
 
+-- the rows of the main screen, whether it is seen or not
+abbrev pub main_rows : Grid → List (List Cell)
+main_rows g = if g.alternate then g.other else g.rows
+
 -- ---- how many rows go off, the first ones of the screen
 
 -- whether a row that moves up out of the margins goes off the screen: it is the main one that is

@@ -1,6 +1,7 @@
 //! A row of cells.
-ghost use Rattle.std.specs.Prelude.{◌≡◌, ◌+◌, ◌<◌, ◌^◌, IfOk, length};
+ghost use Rattle.std.specs.Prelude.{◌≡◌, ◌+◌, ◌<◌, ◌^◌, IfOk, OnErr, length};
 ghost use Rattle.esc_screen.specs.Cells.{blank_row, content_at, deleted_cells, erased_cells, filled_cells, inserted_cells, joined_at, marked_cells, put, put_all, put_wide, shifted_cells};
+ghost use Rattle.fallible_alloc.specs.Refusals.{Refused};
 
 use crate::cell::Cell;
 use crate::cells;
@@ -27,11 +28,12 @@ impl<A: Allocator> Model for Row<A> {
 impl<A: Allocator> Row<A> {
     /// A blank row.
     pub fn new(alloc: A, columns: usize) -> Result<Row<A>, AllocError>
-        ensures { IfOk result (λ r. r ≡ blank_row 0 columns) }
+        ensures ok { IfOk result (λ r. r ≡ blank_row 0 columns) }
+        ensures refused { OnErr result (Refused A) }
     {
         let mut cells = Vec::new(alloc);
         for _ in 0..columns {
-            cells.push(Cell::blank(0))?;
+            fallible_alloc::push(&mut cells, Cell::blank(0))?;
         }
         Ok(Row { cells })
     }

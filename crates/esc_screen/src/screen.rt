@@ -1,8 +1,10 @@
 //! The screen.
-ghost use Rattle.std.specs.Prelude.{◌≡◌, [], IfOk, false, get_or, true};
+ghost use Rattle.std.specs.Prelude.{◌≡◌, [], IfOk, OnErr, false, get_or, length, true};
 ghost use Rattle.esc_screen.specs.Screens.{Becomes, Takes, grid_of, size_of};
 ghost use Rattle.esc_screen.specs.Grids.{first_grid, line_fed, line_fed_back, grid_at, next_line, rows_down, rows_erased, rows_up, settled_grid};
+ghost use Rattle.esc_screen.specs.Scrolled.{main_rows};
 ghost use Rattle.esc_screen.specs.Steps.{grid_from};
+ghost use Rattle.fallible_alloc.specs.Refusals.{Refused};
 
 use crate::cell::Cell;
 use crate::cursor::Cursor;
@@ -44,15 +46,18 @@ impl<A: Allocator + Copy> Screen<A> {
     /// The error is that a request for memory was refused.
     pub fn new(alloc: A, max_rows: u16, max_columns: u16) -> Result<Screen<A>, AllocError>
         ensures grid { IfOk result (λ p. grid_of p ≡ first_grid (size_of p)) }
-        ensures rows { IfOk result (λ p. p.max_rows ≡ max_rows) }
-        ensures columns { IfOk result (λ p. p.max_columns ≡ max_columns) }
+        ensures size { IfOk result (λ p. (p.max_rows ≡ max_rows)
+            × (p.max_columns ≡ max_columns)) }
         ensures returns { IfOk result (λ p. p.returns ≡ false) }
+        ensures refused { OnErr result (Refused A) }
     {
         let mut rows = Vec::new(alloc);
         let mut other = Vec::new(alloc);
         for _ in 0..max_rows {
-            rows.push(Row::new(alloc, max_columns as usize)?)?;
-            other.push(Row::new(alloc, max_columns as usize)?)?;
+            let row = Row::new(alloc, max_columns as usize)?;
+            fallible_alloc::push(&mut rows, row)?;
+            let row = Row::new(alloc, max_columns as usize)?;
+            fallible_alloc::push(&mut other, row)?;
         }
         let tabs = tabs::eighths(alloc, max_columns as usize)?;
         Ok(Screen {
@@ -103,6 +108,35 @@ impl<A: Allocator> Screen<A> {
         ensures { result.now ≡ get_or self.now.rows.items at [] }
     {
         match self.rows.get(at) {
+            Some(row) => row.cells(),
+            None => &[],
+        }
+    }
+
+    // The rows of the main screen.
+    fn main_rows(&self) -> &[Row<A>]
+        ensures { result.now ≡ main_rows (grid_of self.now) }
+    {
+        if self.alternate {
+            &self.other
+        } else {
+            &self.rows
+        }
+    }
+
+    /// How many rows the main screen has, whether it is seen or not.
+    pub fn main_height(&self) -> usize
+        ensures { result ≡ length (main_rows (grid_of self.now)) }
+    {
+        self.main_rows().len()
+    }
+
+    /// The cells of a row of the main screen, from 0 on, whether it is seen or not; none where
+    /// there is no such row.
+    pub fn main_row(&self, at: usize) -> &[Cell]
+        ensures { result.now ≡ get_or (main_rows (grid_of self.now)) at [] }
+    {
+        match self.main_rows().get(at) {
             Some(row) => row.cells(),
             None => &[],
         }

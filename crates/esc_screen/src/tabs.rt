@@ -1,6 +1,7 @@
 //! Tab stops: for each column whether it is one.
-ghost use Rattle.std.specs.Prelude.{◌≡◌, ◌+◌, IfOk, drop, false, replicate};
+ghost use Rattle.std.specs.Prelude.{◌≡◌, ◌+◌, IfOk, OnErr, drop, false, replicate};
 ghost use Rattle.esc_screen.specs.Cursors.{before_stop, eighths, stop_before};
+ghost use Rattle.fallible_alloc.specs.Refusals.{Refused};
 
 use std::alloc::{AllocError, Allocator};
 
@@ -41,11 +42,12 @@ pub(crate) fn last_stop(tabs: &[bool], before: u16) -> u16
 
 /// A stop in every eighth of so many columns.
 pub(crate) fn eighths<A: Allocator>(alloc: A, columns: usize) -> Result<Vec<bool, A>, AllocError>
-    ensures { IfOk result (λ v. v.items ≡ eighths 0 (replicate columns false)) }
+    ensures ok { IfOk result (λ v. v.items ≡ eighths 0 (replicate columns false)) }
+    ensures refused { OnErr result (Refused A) }
 {
     let mut tabs = Vec::new(alloc);
     for _ in 0..columns {
-        tabs.push(false)?;
+        fallible_alloc::push(&mut tabs, false)?;
     }
     set_eighths(&mut tabs);
     Ok(tabs)

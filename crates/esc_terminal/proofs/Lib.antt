@@ -5,3 +5,4 @@ pub mod Runs
 pub mod Streams
 pub mod Handed
 pub mod Stepping
+pub mod Here

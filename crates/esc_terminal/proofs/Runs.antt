@@ -8,7 +8,6 @@ use Rattle.std.proofs.lemmas.List.{with_items_is}
 use Rattle.memchr.specs.Find.{is_byte}
 use Rattle.fallible_alloc.specs.Refusals.{Refused}
 use Rattle.unicode_width.specs.Width.{char_width}
-use Rattle.esc_values.specs.Params.{is_from}
 use Rattle.esc_values.specs.declared.csi_param.CsiParam.{CsiParam}
 use Rattle.esc_frame.specs.Scans.{is_text_byte}
 use Rattle.esc_sequences.specs.Csis.{CsiValue, csi_of, unspecified}
@@ -23,15 +22,12 @@ use Rattle.esc_screen.specs.Screens.{Becomes, grid_of, size_of}
 use Rattle.esc_screen.specs.Steps.{grid_from}
 use Rattle.esc_screen.specs.declared.step.Step.TheVariants as step
 use Rattle.esc_terminal.specs.Fed.{Takes, TakesAll, known_in, requests_in}
+use Rattle.esc_terminal.specs.Kept.{has_column}
 use Rattle.esc_terminal.specs.Steps.{print_step, width_step}
 use Rattle.esc_terminal.specs.declared.state.State.{State}
 use Rattle.esc_terminal.proofs.Kept.{kept_narrow}
 
--- whether a character is one of ASCII that has a column
-abbrev pub has_column : ℕ → Bool
-has_column c = is_from 0x20 0x7e c
-
-step_is : (c : ℕ) → has_column c ≡ true → print_step c ≡ step.Print c
+pub step_is : (c : ℕ) → has_column c ≡ true → print_step c ≡ step.Print c
 step_is c h = ap (λ b. if b then step.Print c else width_step c (char_width false c)) h
 
 -- with a character more on the screen

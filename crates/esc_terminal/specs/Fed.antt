@@ -9,12 +9,14 @@ use Rattle.typed_functions.specs.Functions.{Value as Function}
 use Rattle.esc_screen.specs.Grids.{Size}
 use Rattle.esc_screen.specs.Screens.{Becomes, grid_of, size_of}
 use Rattle.esc_screen.specs.Steps.{grid_from}
+use Rattle.esc_screen.specs.declared.screen.Screen.{Screen}
 use Rattle.esc_screen.specs.declared.step.Step.{Step}
 use Rattle.esc_terminal.specs.Requests.{function_request, request_list, requests_of}
 use Rattle.esc_terminal.specs.Steps.{function_known, function_steps, known_by, steps_of}
 use Rattle.esc_terminal.specs.Streams.{Shown, asked_by, shown_of, title_by}
 use Rattle.esc_terminal.specs.declared.request.Request.{Request}
 use Rattle.esc_terminal.specs.declared.state.State.{State}
+use Rattle.esc_terminal.specs.declared.styles.Styles.{Styles}
 use Rattle.esc_terminal.specs.declared.terminal.Terminal.{Terminal}
 
 -- what is known of looks and links, and what it was asked for since it was cleared
@@ -95,6 +97,15 @@ asked_in (Some p) = requests_in p
 
 abbrev pub requests_now : {A : Type 0} → Terminal A → List Request
 requests_now t = asked_in t.state
+
+-- its screen, and how the cells of that look
+abbrev pub screen_in : {A : Type 0} → Option (State A) → Option (Screen A)
+screen_in None = None
+screen_in (Some p) = Some p.screen
+
+abbrev pub styles_in : {A : Type 0} → Option (State A) → Option (Styles A)
+styles_in None = None
+styles_in (Some p) = Some p.styles
 
 -- its title
 abbrev pub title_in : {A : Type 0} → Option (State A) → Option (List ℕ)

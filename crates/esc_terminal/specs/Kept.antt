@@ -1,6 +1,7 @@
 -- A terminal that hands out the rows that are scrolled off.
-use Rattle.std.specs.Prelude.{◌≡◌, ℕ, List, [], ◌∷◌, Some}
-use Rattle.std.specs.List.{FoldsTo}
+use Rattle.std.specs.Prelude.{◌≡◌, ◌+◌, ◌-◌, ◌≤◌, ◌&&◌, nat_le, not, ℕ, Bool, false, true, length, List, [], ◌∷◌, Some}
+use Rattle.std.specs.List.{FoldsTo, list_all}
+use Rattle.esc_values.specs.Params.{is_from}
 use Rattle.esc_actions.specs.Values.{value_of}
 use Rattle.esc_actions.specs.Meaning.{yield_within}
 use Rattle.esc_actions.specs.declared.action.Action.{Action}
@@ -15,7 +16,23 @@ use Rattle.esc_terminal.specs.Scrolled.{Row, off_after, off_by_value, with_known
 use Rattle.esc_terminal.specs.Steps.{function_steps}
 use Rattle.esc_terminal.specs.Streams.{shown_of}
 use Rattle.esc_terminal.specs.declared.keeping.Keeping.{Keeping}
+use Rattle.esc_terminal.specs.declared.state.State.{State}
 use Rattle.esc_terminal.specs.declared.terminal.Terminal.{Terminal}
+
+-- whether a character is one of ASCII that has a column
+abbrev pub has_column : ℕ → Bool
+has_column c = is_from 0x20 0x7e c
+
+-- the row of the cursor has columns for so many
+abbrev pub has_room : {A : Type 0} → ℕ → State A → Bool
+has_room n p = not p.screen.cursor.pending
+    && nat_le n (p.screen.max_columns - p.screen.cursor.column)
+
+-- each of these characters has one, and that row has as many
+pub record HasColumns {A : Type 0} (cs : List ℕ) (p : State A) : Type 0 where
+  pub shown : list_all has_column cs ≡ true
+  pub ready : p.screen.cursor.pending ≡ false
+  pub fits : length cs ≤ p.screen.max_columns - p.screen.cursor.column
 
 -- these rows are handed out, and nothing else is done
 abbrev pub HandsOut : {R A : Type 0} → (R → Row → R → Type 0) → Keeping R A → List (List Cell)

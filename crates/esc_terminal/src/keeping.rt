@@ -1,8 +1,11 @@
 //! A terminal that hands out the rows that are scrolled off.
-ghost use Rattle.std.specs.Prelude.{◌⊎◌, OnErr, OnOk, take};
+ghost use Rattle.std.specs.Prelude.{◌≡◌, ◌⊎◌, IsTrue, OnErr, OnOk, map, take};
+ghost use Rattle.std.specs.List.{FoldsTo};
+ghost use Rattle.esc_actions.specs.declared.action.Action.TheVariants as action;
+ghost use Rattle.esc_frame.specs.Scans.{IsRun, is_text_byte};
 ghost use Rattle.esc_screen.specs.Scrolled.{gone_by};
 ghost use Rattle.esc_screen.specs.Screens.{grid_of, size_of};
-ghost use Rattle.esc_terminal.specs.Kept.{HandsOut, KeepsAction, KeepsFunction, KeepsStep};
+ghost use Rattle.esc_terminal.specs.Kept.{HandsOut, HasColumns, KeepsAction, KeepsFunction, KeepsStep, has_room};
 ghost use Rattle.typed_functions.specs.Functions.{value_of as function_value};
 ghost use Rattle.fallible_alloc.specs.Refusals.{Refused};
 
@@ -13,6 +16,7 @@ use crate::steps::{control_step, one_step, print_step};
 use esc_actions::Action;
 use esc_parse::Sink;
 use esc_screen::Step;
+use memchr::memchr;
 use std::alloc::{AllocError, Allocator, Global};
 use typed_functions::Function;
 
@@ -50,6 +54,47 @@ impl<R: Rows, A: Allocator + Copy> Keeping<R, A> {
             self.state.screen.join_for(part);
             self.hand_out(part)?;
             self.state.screen.take(part);
+        }
+        Ok(())
+    }
+
+    // Whether the row of the cursor has columns for so many characters.
+    fn has_room(&self, count: usize) -> bool
+        ensures { result ≡ has_room count self.now.state }
+    {
+        let cursor = self.state.screen.cursor();
+        let columns = self.state.screen.width();
+        !cursor.pending && count <= columns.saturating_sub(cursor.column) as usize
+    }
+
+    // Whether that of the cursor has columns for these, and none is DEL.
+    fn has_columns(&self, text: &[u8]) -> bool
+        requires { IsRun is_text_byte text.now }
+        ensures { IsTrue result → HasColumns text.now self.now.state }
+    {
+        match memchr(0x7f, text) {
+            None => self.has_room(text.len()),
+            Some(_) => false,
+        }
+    }
+
+    // Prints characters for which its row has columns.
+    fn print_here(&mut self, text: &[u8])
+        requires run { IsRun is_text_byte text.now }
+        requires fits { HasColumns text.now self.old.state }
+        ensures { FoldsTo (KeepsAction R.takes) self.old (map action.Print text.now) self.new }
+    {
+        self.state.print_all(text);
+    }
+
+    // Prints characters, one byte each, one by one.
+    fn print_each(&mut self, text: &[u8]) -> Result<(), AllocError>
+        ensures ok { OnOk result (FoldsTo (KeepsAction R.takes) self.old
+            (map action.Print text.now) self.new) }
+        ensures failed { OnErr result R.fails }
+    {
+        for b in text {
+            self.take_step(print_step(*b as char))?;
         }
         Ok(())
     }
@@ -92,6 +137,14 @@ impl<R: Rows, A: Allocator + Copy> Sink<Action<A>> for Keeping<R, A> {
             }
             other => self.state.take(other),
         }
+    }
+
+    fn receive_text(&mut self, text: &[u8]) -> Result<(), AllocError> {
+        if self.has_columns(text) {
+            self.print_here(text);
+            return Ok(());
+        }
+        self.print_each(text)
     }
 
     fn drops_images(&self) -> bool {

@@ -50,8 +50,9 @@ impl<A: Allocator + Copy> State<A> {
     pub fn new(alloc: A, columns: u16, rows: u16) -> Result<State<A>, AllocError>
         ensures grid { IfOk result (λ p. grid_of p.screen ≡ first_grid (screen_size columns rows)) }
         ensures size { IfOk result (λ p. size_of p.screen ≡ screen_size columns rows) }
-        ensures known { IfOk result (λ p. (known_in p ≡ first_known) × (p.title ≡ None)) }
-        ensures requests { IfOk result (λ p. requests_in p ≡ []) }
+        ensures known { IfOk result (λ p. (known_in p ≡ first_known) × (p.title ≡ None)
+            × (requests_in p ≡ [])) }
+        ensures refused { OnErr result (Refused A) }
     {
         let screen = Screen::new(alloc, rows, columns)?;
         let styles = Styles::new(alloc)?;

@@ -1,7 +1,7 @@
 //! A terminal.
 ghost use Rattle.std.specs.Prelude.{◌≡◌, ◌⊎◌, [], IfOk, IfSome, IsErr, IsSomeAnd, OnErr, OnOk};
 ghost use Rattle.std.specs.Option.{option_map};
-ghost use Rattle.esc_terminal.specs.Fed.{asked_in, title_in};
+ghost use Rattle.esc_terminal.specs.Fed.{asked_in, screen_in, styles_in, title_in};
 ghost use Rattle.fallible_alloc.specs.Refusals.{Refused};
 
 use crate::keeping::Keeping;
@@ -37,6 +37,7 @@ impl<A: Allocator + Copy> Terminal<A> {
     pub fn new(alloc: A, columns: u16, rows: u16) -> Result<Terminal<A>, AllocError>
         ensures fed { IfOk result (λ t. HasConsumed (screen_size columns rows) [] t) }
         ensures asked { IfOk result (λ t. requests_now t ≡ []) }
+        ensures refused { OnErr result (Refused A) }
     {
         let state = State::new(alloc, columns, rows)?;
         Ok(Terminal {
@@ -52,6 +53,7 @@ impl<A: Allocator + Copy> Terminal<A> {
     pub fn for_log(alloc: A, columns: u16, rows: u16) -> Result<Terminal<A>, AllocError>
         ensures fed { IfOk result (λ t. HasConsumed (for_log columns rows) [] t) }
         ensures asked { IfOk result (λ t. requests_now t ≡ []) }
+        ensures refused { OnErr result (Refused A) }
     {
         let state = State::new(alloc, columns, rows)?;
         Ok(Terminal {
@@ -116,7 +118,8 @@ impl<A: Allocator + Copy> Terminal<A> {
 impl<A: Allocator> Terminal<A> {
     /// Its screen; none after an error.
     pub fn screen(&self) -> Option<&Screen<A>>
-        ensures { IfSome result (λ p. IsSomeAnd self.now.state (λ q. q.screen ≡ p.now)) }
+        ensures value { option_map (λ p. p.now) result ≡ screen_in self.now.state }
+        ensures shown { IfSome result (λ p. IsSomeAnd self.now.state (λ q. q.screen ≡ p.now)) }
     {
         match &self.state {
             Some(state) => Some(&state.screen),
@@ -134,7 +137,8 @@ impl<A: Allocator> Terminal<A> {
 
     /// How its cells look and where they lead, by the numbers that they have; none after an error.
     pub fn styles(&self) -> Option<&Styles<A>>
-        ensures { IfSome result (λ s. IsSomeAnd self.now.state (λ q. q.styles ≡ s.now)) }
+        ensures value { option_map (λ s. s.now) result ≡ styles_in self.now.state }
+        ensures shown { IfSome result (λ s. IsSomeAnd self.now.state (λ q. q.styles ≡ s.now)) }
     {
         match &self.state {
             Some(state) => Some(&state.styles),

@@ -138,6 +138,7 @@ static void check_options(void) {
                 options.limit = LIMIT;
                 check_streams(&options);
                 options.rows = 8;
+                options.columns = 16;
                 check_stream(&options, (const uint8_t *)STREAMS[4], strlen(STREAMS[4]));
             }
 }
@@ -209,6 +210,18 @@ static void check_texts(void) {
         "a title that is shown", WITH(.policy = 0, .show = ESCAPE_STREAM_SHOW_PLAIN),
         "a\x1b]0;t\x07", "a^[]0;t^G");
     gives("rows that are written again", WITH(.policy = 0, .rows = 8), "10%\r20%\n", "20%\n");
+    gives(
+        "a row that is scrolled off", WITH(.policy = 0, .rows = 1), "a\nb\x1b[Ac\n", "a\nbc\n");
+    gives(
+        "a line of two rows", WITH(.policy = 0, .rows = 8, .columns = 4), "abcdef\x1b[Gx\n",
+        "abcdxf\n");
+    gives(
+        "the same on a screen of as many columns as is usual", WITH(.policy = 0, .rows = 8),
+        "abcdef\x1b[Gx\n", "xbcdef\n");
+    gives("columns without rows", WITH(.policy = 0, .columns = 4), "abcdef\n", "abcdef\n");
+    gives(
+        "the alternate screen", WITH(.policy = 1, .rows = 8),
+        "a\n\x1b[?1049h\x1b[Hx\n\x1b[?1049lb\n", "a\nb\n");
 }
 
 static void refuses(struct escape_stream_sanitizer_options options, uint32_t wanted) {
@@ -233,6 +246,8 @@ static void check_faults(void) {
     refuses(WITH(.encoding = 13), ESCAPE_STREAM_UNKNOWN_ENCODING);
     refuses(WITH(.show = 4), ESCAPE_STREAM_UNKNOWN_SHOW);
     refuses(WITH(.rows = 4097), ESCAPE_STREAM_TOO_MANY_ROWS);
+    refuses(WITH(.columns = 16385), ESCAPE_STREAM_TOO_MANY_COLUMNS);
+    refuses(WITH(.reserved = 1), ESCAPE_STREAM_UNKNOWN_SIZE);
 }
 
 static void check_states(void) {

@@ -78,7 +78,8 @@ const char *escape_stream_version(void);
 #define ESCAPE_STREAM_NOT_WRITABLE 5   /* its text would not read back as it */
 
 /* Which of the options of escape_stream_sanitizer_begin is none, beside UNKNOWN_POLICY. */
-#define ESCAPE_STREAM_UNKNOWN_SIZE 6       /* `size` is not that of this version */
+/* `size` is not that of this version, or `reserved` is not 0 */
+#define ESCAPE_STREAM_UNKNOWN_SIZE 6
 #define ESCAPE_STREAM_UNKNOWN_GROUP 7      /* `allowed` or `denied` has a bit of no group */
 #define ESCAPE_STREAM_UNKNOWN_LINKS 8      /* `links` has a bit of no scheme */
 #define ESCAPE_STREAM_UNKNOWN_FRAMING 9    /* no framing has this number */
@@ -87,6 +88,7 @@ const char *escape_stream_version(void);
 #define ESCAPE_STREAM_UNKNOWN_ENCODING 12  /* no encoding has this number */
 #define ESCAPE_STREAM_UNKNOWN_SHOW 13      /* `show` says nothing */
 #define ESCAPE_STREAM_TOO_MANY_ROWS 14     /* `rows` is more than 4096 */
+#define ESCAPE_STREAM_TOO_MANY_COLUMNS 15  /* `columns` is more than 16384 */
 
 /*
  * The policies of escape_stream_filter and escape_stream_filter_begin. Each admits all that the one
@@ -331,9 +333,9 @@ struct escape_stream_sanitizer {
 #define ESCAPE_STREAM_LINKS_MAILTO 4
 
 /*
- * Whether each line is a stream of its own, or the whole; 0: LINES if the policy is TEXT or COLOR,
- * and else WHOLE. By LINES a rendition that goes on over a line feed is written again at the start
- * of the next line; by LINES_RESET each line begins plain.
+ * Whether each line is a stream of its own, or the whole; 0: LINES if the policy is TEXT or COLOR
+ * and `rows` is 0, and else WHOLE. By LINES a rendition that goes on over a line feed is written
+ * again at the start of the next line; by LINES_RESET each line begins plain.
  */
 #define ESCAPE_STREAM_FRAMING_LINES 1
 #define ESCAPE_STREAM_FRAMING_WHOLE 2
@@ -342,7 +344,7 @@ struct escape_stream_sanitizer {
 /*
  * The output for characters that hide or reorder text: themselves, themselves if they belong to the
  * character before them or are a byte order mark where none is, and else their number as <U+202E>,
- * their number, or nothing; 0: JOIN by TEXT and COLOR, but SHOW with `rows`, and else KEEP.
+ * their number, or nothing; 0: JOIN by TEXT and COLOR, and else KEEP.
  */
 #define ESCAPE_STREAM_CHARACTERS_KEEP 1
 #define ESCAPE_STREAM_CHARACTERS_JOIN 2
@@ -359,7 +361,8 @@ struct escape_stream_sanitizer {
 
 /*
  * How bytes are read. A byte 80 to 9F that is no part of a character is replaced by U+FFFD, and by
- * an encoding .._C1 it is a control, as it is wherever `show` is not 0.
+ * an encoding .._C1 it is a control, as it is wherever `show` is not 0. A stream in UTF-16 has to be
+ * made UTF-8 first.
  */
 #define ESCAPE_STREAM_ENCODING_UTF_8 0
 #define ESCAPE_STREAM_ENCODING_UTF_8_C1 1
@@ -389,6 +392,12 @@ struct escape_stream_sanitizer {
  * ESCAPE_STREAM_SANITIZER_OPTIONS_INIT, and set the fields that are to differ. A later version may
  * add fields at the end: it takes `size` from an older header too, and then has the usual values of
  * them.
+ *
+ * If `rows` is not 0, the text goes to a terminal's screen of that size, and what this leaves is
+ * written: of a progress bar its last state. A row is written when it is scrolled off the top of
+ * the screen, and those that are left at the end of the stream. What changes the screen takes
+ * effect there, even if its group does not pass. Two screens are held, of 20 bytes a cell. The
+ * account is of the text that goes to the screen.
  */
 struct escape_stream_sanitizer_options {
     uint32_t size;       /* sizeof(struct escape_stream_sanitizer_options) */
@@ -402,23 +411,25 @@ struct escape_stream_sanitizer_options {
     uint32_t returns;    /* ESCAPE_STREAM_RETURNS_.. */
     uint32_t encoding;   /* ESCAPE_STREAM_ENCODING_.. */
     uint32_t show;       /* ESCAPE_STREAM_SHOW_.. */
-    uint32_t rows;       /* how many rows may be written again, up to 4096: of text that is, as of
-                            a progress bar, what a terminal has at the end is written; 0: all is */
+    uint32_t rows;       /* how many rows may be written again, up to 4096; 0: none */
+    uint32_t columns;    /* with `rows`, how many columns these have, up to 16384: a longer line
+                            goes on in the next row; 0: 512 */
     uint32_t account;    /* whether an account is kept, which costs time and memory: 0 is no */
+    uint32_t reserved;   /* 0 */
 };
 
 /* The policy COLOR, a limit of 1 MiB, an account, and all else as usual in `escfilter`. */
 #define ESCAPE_STREAM_SANITIZER_OPTIONS_INIT                                                       \
     {(uint32_t)sizeof(struct escape_stream_sanitizer_options),                                     \
-     ESCAPE_STREAM_POLICY_COLOR, 1048576, 0, 0, 0, 0, 0, 0, 0, 0, 0, 1}
+     ESCAPE_STREAM_POLICY_COLOR, 1048576, 0, 0, 0, 0, 0, 0, 0, 0, 0, 0, 1, 0}
 
 /*
  * Begins a stream, which is sanitized as the options say; they are not looked at after the call. A
  * sanitizer that was begun before is ended first.
  *
  * ESCAPE_STREAM_DONE and ESCAPE_STREAM_NO_MEMORY are statuses, and if an option is none,
- * ESCAPE_STREAM_UNKNOWN_POLICY and ESCAPE_STREAM_UNKNOWN_SIZE to ESCAPE_STREAM_TOO_MANY_ROWS, which
- * say which. After any but the first the sanitizer is not begun, and keeps nothing.
+ * ESCAPE_STREAM_UNKNOWN_POLICY and ESCAPE_STREAM_UNKNOWN_SIZE to ESCAPE_STREAM_TOO_MANY_COLUMNS,
+ * which say which. After any but the first the sanitizer is not begun, and keeps nothing.
  */
 uint32_t escape_stream_sanitizer_begin(struct escape_stream_sanitizer *sanitizer,
                                        const struct escape_stream_sanitizer_options *options);

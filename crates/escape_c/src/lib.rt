@@ -40,9 +40,9 @@ pub use esc_calls::screen_row::ScreenRow;
 pub use esc_calls::sixel_value::SixelValue;
 pub use esc_calls::string_row::StringRow;
 pub use esc_calls::{
-    DONE, NO_COMMAND, NO_MEMORY, NOT_BEGUN, NOT_WRITABLE, TOO_MANY_ROWS, UNKNOWN_CHARACTERS,
-    UNKNOWN_ENCODING, UNKNOWN_FRAMING, UNKNOWN_GROUP, UNKNOWN_LINKS, UNKNOWN_POLICY,
-    UNKNOWN_RETURNS, UNKNOWN_SHOW, UNKNOWN_SIZE,
+    DONE, NO_COMMAND, NO_MEMORY, NOT_BEGUN, NOT_WRITABLE, TOO_MANY_COLUMNS, TOO_MANY_ROWS,
+    UNKNOWN_CHARACTERS, UNKNOWN_ENCODING, UNKNOWN_FRAMING, UNKNOWN_GROUP, UNKNOWN_LINKS,
+    UNKNOWN_POLICY, UNKNOWN_RETURNS, UNKNOWN_SHOW, UNKNOWN_SIZE,
 };
 pub use filter::{
     escape_stream_filter, escape_stream_filter_begin, escape_stream_filter_end,

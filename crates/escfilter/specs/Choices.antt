@@ -69,7 +69,12 @@ pub record IsChanged (words : ℕ) (passes : Bool) (c d : Choice) : Type 0 where
 abbrev pub IsLinked : List ℕ → Choice → Choice → Type 0
 IsLinked s c d = IsWithSchemes (groups_in c) s (groups_in d) × (d.policy ≡ c.policy)
 
--- d is the choice c and what moves the cursor or erases, and backspaces
+-- these groups, and those that change the screen: backspaces are in Controls
+abbrev pub moving_groups : Groups → Groups
+moving_groups g = with_group (with_group (with_group (with_group (with_group (with_group g
+    group.Controls true) group.Cursor true) group.Erase true) group.Scroll true) group.Modes true)
+    group.Charsets true
+
+-- d is the choice c with those
 abbrev pub IsMoving : Choice → Choice → Type 0
-IsMoving c d = (groups_in d ≡ with_group (with_group (with_group (groups_in c) group.Controls true)
-    group.Cursor true) group.Erase true) × (d.policy ≡ c.policy)
+IsMoving c d = (groups_in d ≡ moving_groups (groups_in c)) × (d.policy ≡ c.policy)

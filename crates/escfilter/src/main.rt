@@ -51,7 +51,7 @@ controls|cursor|erase|scroll|modes|charsets|palette|titles|clipboard|images|othe
 [--encoding utf-8|utf-16|utf-16le|utf-16be|latin1|windows-1250|windows-1251|windows-1252|\
 windows-1253|windows-1254|windows-1255|windows-1256|windows-1257|windows-1258] \
 [--c1 replace|obey] [--unicode keep|join|show|drop] [--returns keep|show|drop] \
-[--show[=escaped|color]] [--collapse[=rows]] \
+[--show[=escaped|color]] [--collapse[=rows]] [--columns number] \
 [--cast] [--drop-input] [--ttyrec] [--timing file] [--timing-to file] \
 [--report[=text|json]] [--report-to file] [--events file] \
 [--fail[=respelled|shown|replaced|left-out|swallowed|overwritten,..]] [--list] [-z|--null] \
@@ -70,7 +70,8 @@ leaves on, as colours or a link, is taken back at its end, and at each line's wi
   --links s,..    of links those alone whose addresses have these schemes, as http,https
   --lines         takes each line as a stream of its own, so that no string takes away the
                   lines after it (the default with text and color)
-  --whole         takes each FILE as one stream (the default with screen and all)
+  --whole         takes each FILE as one stream (the default with screen and all, and with
+                  --collapse)
   --line-reset    by lines, begins each line plain; else a rendition that goes on over a line
                   feed is written again where the next line begins
   --limit size    the most bytes of an unfinished sequence that are kept (1MiB): a number,
@@ -88,7 +89,10 @@ leaves on, as colours or a link, is taken back at its end, and at each line's wi
                   --show=escaped a ^ and < of other text too, as <5E> and <3C>, so that the
                   input can be read back; --show=color in reverse video, where that passes
   --collapse      writes what a terminal leaves of lines that are written again, as by
-                  progress bars; --collapse=rows where these go back over more rows than 32
+                  progress bars; --collapse=rows where these go back over more rows than 32;
+                  takes each FILE as one stream, but with --lines
+  --columns n     with --collapse, how many columns a row has (512): a longer line goes on in
+                  the next one
   --cast          takes each FILE as a recording of asciinema: filters the texts of its
                   events of output, and keeps its times and all other lines; for recordings
                   --allow screen is the default

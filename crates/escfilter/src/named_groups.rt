@@ -120,8 +120,8 @@ impl<'a> Choice<'a> {
         }
     }
 
-    /// What passes, and what moves the cursor or erases, backspaces too: none of it is written
-    /// itself, but what it leaves of the lines is.
+    /// The same, with all that changes the screen, backspaces too. The collapse obeys these and
+    /// writes none of them.
     pub fn with_movements(self) -> Choice<'a>
         ensures { IsMoving self.entry result }
     {
@@ -129,7 +129,10 @@ impl<'a> Choice<'a> {
             .all_groups()
             .and(Group::Controls)
             .and(Group::Cursor)
-            .and(Group::Erase);
+            .and(Group::Erase)
+            .and(Group::Scroll)
+            .and(Group::Modes)
+            .and(Group::Charsets);
         Choice {
             policy: self.policy,
             groups: Some(groups),

@@ -183,6 +183,11 @@ const KNOWN: &[Known] = &[
         takes: Takes::Maybe("rows", &[]),
     },
     Known {
+        name: "--columns",
+        letter: "",
+        takes: Takes::OneOf("number", &[]),
+    },
+    Known {
         name: "--cast",
         letter: "",
         takes: Takes::Nothing,
@@ -373,6 +378,7 @@ impl<'a> Asked<'a> {
     fn clash(&self, files: &[&str]) -> Option<&'static str> {
         match self.settings.rows {
             Some(_) if self.settings.is_recording() => Some("--collapse is not for recordings"),
+            None if self.settings.columns.is_some() => Some("--columns wants --collapse"),
             _ => match self.settings.recorded {
                 Recorded::Typescript => self.timing_clash(files),
                 _ if self.timing_to.is_some() => Some("--timing-to wants --timing"),

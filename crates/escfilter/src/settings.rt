@@ -3,12 +3,13 @@ ghost use Rattle.std.specs.Prelude.{◌≡◌};
 
 use crate::named_groups::Choice;
 use crate::options::Recorded;
-use crate::values::rows_of;
+use crate::values::{columns_of, rows_of};
 use caret_notation::Marking;
 use command_line::Given;
 use esc_decode::{CodePage, Encoding, encoding_of};
 use esc_filter::{Guard, Policy, Returns, Unicode};
 use esc_sanitize::FilterOptions;
+use line_collapse::{COLUMNS, Window};
 
 /// What the words say of how streams are filtered. Where they do not say something, the policy may
 /// decide.
@@ -36,6 +37,8 @@ pub struct Settings<'a> {
     pub show: Option<Marking>,
     /// How many rows may be written again, where what is left of them is written.
     pub rows: Option<usize>,
+    /// How many columns these rows have.
+    pub columns: Option<usize>,
     /// What a file is: a stream, or a recording of one.
     pub recorded: Recorded,
 }
@@ -55,6 +58,7 @@ impl<'a> Settings<'a> {
             obeys: false,
             show: None,
             rows: None,
+            columns: None,
             recorded: Recorded::Stream,
         }
     }
@@ -74,6 +78,7 @@ impl<'a> Settings<'a> {
             "--returns" => self.returns = Some(returns_of(given.word)),
             "--show" => self.show = Some(marking_of(given.word)),
             "--collapse" => self.rows = rows_of(given.word),
+            "--columns" => self.columns = columns_of(given.word),
             "--cast" => self.recorded = Recorded::Cast,
             "--ttyrec" => self.recorded = Recorded::Frames,
             _ => {}
@@ -85,19 +90,22 @@ impl<'a> Settings<'a> {
         ensures { result.audits ≡ audits }
     {
         let defaults = FilterOptions::new(self.choice.policy);
-        let by_lines = self.by_lines.unwrap_or(defaults.by_lines);
+        let by_lines = self
+            .by_lines
+            .unwrap_or(defaults.by_lines && self.rows.is_none());
+        let characters = self.unicode.unwrap_or(defaults.guard.characters);
         FilterOptions {
             policy: self.policy(),
             limit: self.limit,
             by_lines,
             resumes: !self.resets,
             guard: Guard {
-                characters: self.characters(defaults.guard.characters),
+                characters,
                 returns: self.bare_returns(by_lines, defaults.guard.returns),
             },
             encoding: self.encoding(),
             show: self.show,
-            rows: self.rows,
+            window: self.window(characters),
             audits,
         }
     }
@@ -114,13 +122,16 @@ impl<'a> Settings<'a> {
         }
     }
 
-    // What is written of characters that hide or reorder text, where this is the policy's way.
-    // Where text is written over other text, the character before one may become another.
-    fn characters(self, default: Unicode) -> Unicode {
-        match (self.unicode, default) {
-            (Some(way), _) => way,
-            (None, Unicode::Join) if self.rows.is_some() => Unicode::Show,
-            (None, way) => way,
+    // The screen of which what is left is written, where it is. Where text is written over other
+    // text, the character before one may become another, so this is asked again there.
+    fn window(self, characters: Unicode) -> Option<Window> {
+        match self.rows {
+            Some(rows) => Some(Window::new(
+                rows,
+                self.columns.unwrap_or(COLUMNS),
+                characters,
+            )),
+            None => None,
         }
     }
 

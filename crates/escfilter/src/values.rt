@@ -8,12 +8,13 @@ const DEFAULT_ROWS: usize = 32;
 
 const MOST_ROWS: usize = 4096;
 
+const MOST_COLUMNS: usize = 16_384;
+
 /// What is wrong with the values of which the table does not say what they may be.
 pub fn wrong_value<'a>(options: &[Given<'a>]) -> Option<Wrong<'a>> {
-    match (wrong_scheme(options), wrong_rows(options)) {
+    match (wrong_scheme(options), wrong_number(options)) {
         (Some(scheme), _) => Some(Wrong::Value("--links", "scheme", scheme, None)),
-        (None, Some(rows)) => Some(Wrong::Value("--collapse", "number of rows", rows, None)),
-        (None, None) => None,
+        (None, wrong) => wrong,
     }
 }
 
@@ -32,11 +33,18 @@ fn wrong_scheme<'a>(options: &[Given<'a>]) -> Option<&'a str> {
     None
 }
 
-// The first word that `--collapse` is given as a number of rows and is none.
-fn wrong_rows<'a>(options: &[Given<'a>]) -> Option<&'a str> {
+// The first word that is given as a number of rows or columns and is none.
+fn wrong_number<'a>(options: &[Given<'a>]) -> Option<Wrong<'a>> {
     for given in options {
-        if given.name == "--collapse" && rows_of(given.word).is_none() {
-            return Some(given.word);
+        let word = given.word;
+        match given.name {
+            "--collapse" if rows_of(word).is_none() => {
+                return Some(Wrong::Value("--collapse", "number of rows", word, None));
+            }
+            "--columns" if columns_of(word).is_none() => {
+                return Some(Wrong::Value("--columns", "number of columns", word, None));
+            }
+            _ => {}
         }
     }
     None
@@ -92,8 +100,18 @@ pub fn rows_of(word: &str) -> Option<usize> {
     if word.is_empty() {
         return Some(DEFAULT_ROWS);
     }
+    number_of(word, MOST_ROWS)
+}
+
+/// How many columns a word names.
+pub fn columns_of(word: &str) -> Option<usize> {
+    number_of(word, MOST_COLUMNS)
+}
+
+// The number that a word names, where it is from 1 to this one.
+fn number_of(word: &str, most: usize) -> Option<usize> {
     match word.parse::<usize>() {
-        Ok(rows) if 0 < rows && rows <= MOST_ROWS => Some(rows),
+        Ok(number) if 0 < number && number <= most => Some(number),
         _ => None,
     }
 }

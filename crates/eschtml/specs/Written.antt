@@ -19,7 +19,7 @@ use Rattle.caret_notation.specs.Revealed.{revealed_as, revealed_whole_as}
 use Rattle.caret_notation.specs.declared.marking.Marking.TheVariants.{Reversed}
 use Rattle.eschtml.specs.Joined.{joined}
 use Rattle.eschtml.specs.declared.options.Options.{Options}
-use Rattle.eschtml.specs.declared.stream.TheConstants.{COLUMNS}
+use Rattle.line_collapse.specs.declared.window.TheConstants.{COLUMNS}
 
 -- ---- pages
 

@@ -19,7 +19,7 @@ use esc_decode::Decoding;
 use esc_filter::{Filter, FilterError, Policy, StreamFilter, pump};
 use esc_html::{HtmlWriter, Layout, laws};
 use esc_normal::Watched;
-use line_collapse::Collapsing;
+use line_collapse::{COLUMNS, Collapsing};
 use std::alloc::{AllocError, Allocator, Global};
 use std::io::{Read, Write};
 
@@ -77,9 +77,6 @@ impl<A: Allocator + Copy> StreamFilter<A> for Marked<A> {
         }
     }
 }
-
-// How many columns a row has at most of which what is left is written.
-pub(crate) const COLUMNS: usize = 16_384;
 
 /// Writes on `writer` the HTML of what the stream that `reader` reads becomes by its encoding, as
 /// it comes, and at its end what closes the tags that are open; by the options, what is left out of

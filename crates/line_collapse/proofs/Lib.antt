@@ -1,7 +1,4 @@
-pub mod Rows
-pub mod Placing
-pub mod Texts
-pub mod Runs
+mod Closing
+mod Rows
 pub mod Streams
-pub mod LookTexts
-pub mod Pieces
+mod Texts

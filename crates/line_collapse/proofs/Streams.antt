@@ -1,88 +1,100 @@
 -- What rows were given of values.
-use Rattle.std.proofs.Common.{ℕ, ◌≡◌, List, [], ◌∷◌, ◌++◌, Some, MatchResult, OnErr, OnOk, Result, Ok, Err, inl, inr, ap, sym, subst, ◌∙◌, append_assoc, append-nil, refl, true}
+use Rattle.std.proofs.Common.{ℕ, ◌≡◌, List, [], ◌++◌, Some, max, refl, ap, sym, subst, ◌∙◌, append_assoc}
 use Rattle.std.specs.List.{FoldsTo}
-use Rattle.esc_actions.proofs.Meanings.{meaning_more, meaning_nil}
+use Rattle.esc_actions.proofs.Meanings.{meaning_nil}
 use Rattle.esc_actions.specs.Meaning.{yield_within}
-use Rattle.esc_actions.specs.Values.{Value, value_of, print, string, control, esc, csi, osc, kitty, sixel, termcap, short, enter, datum, exit}
-use Rattle.esc_actions.specs.declared.action.Action.{Action}
-use Rattle.esc_parse.specs.Given.{At, StopsAt}
-use Rattle.esc_parse.specs.Images.{is_image}
-use Rattle.line_collapse.specs.Fed.{Adds, Takes, final_after, left_after, size_of, text_of, window_of}
-use Rattle.line_collapse.specs.Steps.{step_of}
-use Rattle.line_collapse.specs.Streams.{final_of, left_of, open_of, text_from, values_of, window_from}
-use Rattle.line_collapse.specs.Windows.{Size, Window, first_window, text_by, window_by}
-use Rattle.line_collapse.specs.declared.screen.Screen.{Screen}
+use Rattle.esc_terminal.specs.Fed.{for_log, HasConsumed as TerminalHasConsumed}
+use Rattle.esc_terminal.specs.declared.terminal.Terminal.{Terminal}
+use Rattle.esc_terminal.specs.Scrolled.{Row, off_after, off_of}
+use Rattle.esc_terminal.specs.Streams.{shown_of}
+use Rattle.esc_terminal.proofs.Stepping.{goes_off_on}
+use Rattle.screen_lines.specs.Pieces.{emptied_out, first_out}
+use Rattle.screen_lines.specs.Rows.{out_by_rows}
+use Rattle.screen_lines.specs.Written.{WritesRow, out_of, text_of}
+use Rattle.screen_lines.specs.declared.lines.Lines.{Lines}
+use Rattle.screen_lines.proofs.Growing.{emptied_after, rows_more, rows_taken, text_after}
+use Rattle.line_collapse.specs.Fed.{Closes, HasConsumed, HasWritten, final_after, left_after}
+use Rattle.line_collapse.specs.Streams.{final_of, final_out, left_of, left_rows, open_of, shown_by_all, values_of}
+use Rattle.line_collapse.specs.Windows.{Size, screen_of}
 
-pub window_more : {A : Type 0} (s : Size) (w : Window) (us vs : List (Value A))
-    → window_from s w (us ++ vs) ≡ window_from s (window_from s w us) vs
-window_more s w [] vs = refl
-window_more s w (u ∷ us) vs = window_more s (window_by s w (step_of w.pen u)) us vs
+-- what comes after a stream scrolls off these rows
+abbrev rows_of : (A : Type 0) → Size → List ℕ → List ℕ → List Row
+rows_of A z s b = off_after (screen_of z) (shown_of A (screen_of z) s)
+    (yield_within {A = A} (Some 0x1000) s b)
 
-pub text_more : {A : Type 0} (s : Size) (w : Window) (us vs : List (Value A))
-    → text_from s w (us ++ vs) ≡ text_from s w us ++ text_from s (window_from s w us) vs
-text_more s w [] vs = refl
-text_more s w (u ∷ us) vs =
-    let t = text_by s w (step_of w.pen u) in
-    let v = window_by s w (step_of w.pen u) in
-    ap (λ x. t ++ x) (text_more s v us vs)
-    ∙ sym (append_assoc t (text_from s v us) (text_from s (window_from s v us) vs))
+out_longer : (A : Type 0) (z : Size) (s b : List ℕ) → final_out z (values_of A (s ++ b))
+    ≡ out_by_rows (final_out z (values_of A s)) (rows_of A z s b)
+out_longer A z s b =
+    ap (out_by_rows (first_out z.characters)) (goes_off_on A (screen_of z) s b)
+    ∙ rows_more (first_out z.characters) (off_of A (screen_of z) s) (rows_of A z s b)
 
--- what is given one after another adds the text of all
-pub takes_all : {A : Type 0} (p : Screen A) (vs : List (Value A)) (q : Screen A)
-    → FoldsTo (At value_of Takes) p vs q
-    → (text_of q ≡ text_of p ++ text_from (size_of p) (window_of p) vs)
-    × (window_of q ≡ window_from (size_of p) (window_of p) vs) × (size_of q ≡ size_of p)
-takes_all p [] q e = (
-  ap text_of (sym e) ∙ sym (append-nil (text_of p)),
-  ap window_of (sym e),
-  ap size_of (sym e),
-)
-takes_all p (v ∷ vs) q (j, (a, is, w), rest) =
-    let s = size_of p in
-    let t = step_of p.pen v in
-    let k = subst (λ x. Adds p (step_of p.pen x) j) is w in
-    let r = takes_all j vs q rest in
-    let m = window_by s (window_of p) t in (
-      r.0 ∙ ap (λ x. x ++ text_from (size_of j) (window_of j) vs) k.text
-          ∙ append_assoc (text_of p) (text_by s (window_of p) t)
-          (text_from (size_of j) (window_of j) vs)
-          ∙ ap (λ z. text_of p ++ (text_by s (window_of p) t ++ text_from z (window_of j) vs))
-          k.size
-          ∙ ap (λ z. text_of p ++ (text_by s (window_of p) t ++ text_from s z vs)) k.window,
-      r.1 ∙ ap (λ z. window_from z (window_of j) vs) k.size
-          ∙ ap (λ z. window_from s z vs) k.window,
-      r.2 ∙ k.size,
-    )
-
-pub fed_more : {A : Type 0} (z : Size) (s b : List ℕ) (p q : Screen A)
-    → text_of p ≡ [] → window_of p ≡ window_from z first_window (values_of A s) → size_of p ≡ z
-    → FoldsTo (At value_of Takes) p (yield_within (Some 0) s b) q
-    → (window_of q ≡ window_from z first_window (values_of A (s ++ b))) × (size_of q ≡ z)
-    × (final_of z (values_of A (s ++ b)) ≡ final_of z (values_of A s) ++ text_of q)
-fed_more {A} z s b p q none at size f =
-    let us = values_of A s in
-    let vs = yield_within {A = A} (Some 0) s b in
-    let r = takes_all p vs q f in
-    let more = sym (meaning_more {A = A} (Some 0) s b) in
-    let w = window_from z first_window us in (
-      r.1 ∙ ap (λ x. window_from x (window_of p) vs) size ∙ ap (λ x. window_from z x vs) at
-          ∙ sym (window_more z first_window us vs) ∙ ap (window_from z first_window) (sym more),
-      r.2 ∙ size,
-      ap (final_of z) more ∙ text_more z first_window us vs
-          ∙ ap (λ x. final_of z us ++ x)
-          (sym (r.0 ∙ ap (λ t. t ++ text_from (size_of p) (window_of p) vs) none
-          ∙ ap (λ x. text_from x (window_of p) vs) size ∙ ap (λ x. text_from z x vs) at)),
-    )
-
--- what comes after a stream only adds to its final rows
+-- and only adds to the final rows
 pub final_longer : (A : Type 0) (z : Size) (s b : List ℕ)
     → (t : List ℕ) × (final_of z (values_of A (s ++ b)) ≡ final_of z (values_of A s) ++ t)
 final_longer A z s b =
-    let us = values_of A s in
-    let vs = yield_within {A = A} (Some 0) s b in (
-      text_from z (window_from z first_window us) vs,
-      ap (final_of z) (sym (meaning_more {A = A} (Some 0) s b)) ∙ text_more z first_window us vs,
+    let o = final_out z (values_of A s) in (
+      (out_by_rows (emptied_out o) (rows_of A z s b)).text,
+      ap (λ x. x.text) (out_longer A z s b) ∙ text_after o (rows_of A z s b),
     )
+
+pub nothing_final : (A : Type 0) (z : Size)
+    → final_out z (values_of A []) ≡ first_out z.characters
+nothing_final A z = ap (final_out z) (meaning_nil {A = A} (Some 0x1000))
+
+-- at the beginning of a stream
+pub first_fed : {A : Type 0} (z : Size) (t : Terminal A) (p : Lines A) (columns rows : ℕ)
+    → columns ≡ max z.columns 1 → rows ≡ max z.rows 1
+    → TerminalHasConsumed (for_log columns rows) [] t → out_of p ≡ first_out z.characters
+    → HasConsumed z [] (record { terminal = t; lines = Some p })
+first_fed {A} z t p columns rows c r fed is = record {
+  terminal = subst (λ n. TerminalHasConsumed (for_log n (max z.rows 1)) [] t) c
+      (subst (λ n. TerminalHasConsumed (for_log columns n) [] t) r fed);
+  lines = ap emptied_out (is ∙ sym (nothing_final A z));
+}
+
+-- lines that took these rows
+pub written_more : {A : Type 0} (z : Size) (s b : List ℕ) (p q : Lines A)
+    → out_of p ≡ emptied_out (final_out z (values_of A s))
+    → FoldsTo WritesRow p (rows_of A z s b) q
+    → HasWritten z (s ++ b) q
+    × (final_of z (values_of A (s ++ b)) ≡ final_of z (values_of A s) ++ text_of q)
+written_more {A} z s b p q at f =
+    let o = final_out z (values_of A s) in
+    let rs = rows_of A z s b in
+    let taken : out_of q ≡ out_by_rows (emptied_out o) rs =
+    rows_taken p rs q f ∙ ap (λ x. out_by_rows x rs) at in (
+      ap emptied_out taken ∙ sym (emptied_after o rs)
+          ∙ ap emptied_out (sym (out_longer A z s b)),
+      ap (λ x. x.text) (out_longer A z s b) ∙ text_after o rs
+          ∙ ap (λ x. o.text ++ x.text) (sym taken),
+    )
+
+-- lines with the rows that are left
+pub open_added : {A : Type 0} (z : Size) (s : List ℕ) (p q : Lines A)
+    → out_of p ≡ emptied_out (final_out z (values_of A s))
+    → Closes (shown_of A (screen_of z) s) p q
+    → HasWritten z s q × (text_of q ≡ open_of z (values_of A s))
+open_added {A} z s p q at c =
+    let rs = left_rows (shown_by_all z (values_of A s)) in (
+      c.rest ∙ ap emptied_out at,
+      c.text ∙ ap (λ x. (out_by_rows x rs).text) at,
+    )
+
+-- and with the last text before them
+pub left_added : {A : Type 0} (z : Size) (s b : List ℕ) (p q : Lines A)
+    → HasWritten z (s ++ b) p
+    → final_of z (values_of A (s ++ b)) ≡ final_of z (values_of A s) ++ text_of p
+    → Closes (shown_of A (screen_of z) (s ++ b)) p q
+    → left_of z (values_of A (s ++ b)) ≡ final_of z (values_of A s) ++ text_of q
+left_added {A} z s b p q at grown c =
+    let rs = left_rows (shown_by_all z (values_of A (s ++ b))) in
+    let last = open_of z (values_of A (s ++ b)) in
+    let old = final_of z (values_of A s) in
+    ap (λ x. x ++ last) grown ∙ append_assoc old (text_of p) last
+    ∙ ap (λ x. old ++ x) (sym (c.text ∙ text_after (out_of p) rs
+    ∙ ap (λ x. text_of p ++ (out_by_rows x rs).text) at))
+
+-- ---- filters
 
 -- the same of a filter whose text becomes longer
 pub final_after_longer : (A : Type 0) (z : Size) (f m : List ℕ → List ℕ) (s b : List ℕ)
@@ -112,7 +124,7 @@ left_after_longer A z f e m c s is ends (x, more) =
 pub final_after_nil : (A : Type 0) (z : Size) (m : List ℕ → List ℕ) → m [] ≡ []
     → final_after A z m [] ≡ []
 final_after_nil A z m e = ap (λ s. final_of z (values_of A s)) e
-    ∙ ap (final_of z) (meaning_nil {A = A} (Some 0))
+    ∙ ap (λ o. o.text) (nothing_final A z)
 
 -- what is left of a stream that has ended is its final rows, and more
 pub left_after_more : (A : Type 0) (z : Size) (m c : List ℕ → List ℕ)
@@ -120,49 +132,3 @@ pub left_after_more : (A : Type 0) (z : Size) (m c : List ℕ → List ℕ)
     → (t : List ℕ) × (left_after A z c s ≡ final_after A z m s ++ t)
 left_after_more A z m c more s =
     left_after_longer A z m c (final_after A z m) (left_after A z c) s refl refl (more s)
-
--- a giver that stops at a value, or by itself, was refused memory
-pub stops_refused : {P V : Type 0} (own why : Type 0) (R Q : P → V → P → Type 0)
-    → (own → why) → ((p : P) (v : V) (q : P) → Q p v q → why)
-    → (p : P) (vs : List V) (q : P) → StopsAt own R Q p vs q → why
-stops_refused own why R Q k says p [] q e = k e.0
-stops_refused own why R Q k says p (v ∷ vs) q (inl e) = k e.0
-stops_refused own why R Q k says p (v ∷ vs) q (inr (inl z)) = says p v q z
-stops_refused own why R Q k says p (v ∷ vs) q (inr (inr (mid, t, rest))) =
-    stops_refused own why R Q k says mid vs q rest
-
--- what a call did, where its result says which
-pub received : {E : Type 0} (X Y P Q : Type 0) (r : Result (Unit {0}) E) → (X → Y) → (P → Q)
-    → OnOk r X → OnErr r P → MatchResult r (λ _. Y) (λ _. Q)
-received X Y P Q (Ok t) f k x p = f x
-received X Y P Q (Err e) f k x p = k p
-
--- ---- images
-
-adds_nothing : {A : Type 0} (p : Screen A) (v : Value A) → is_image v ≡ true
-    → Adds p (step_of p.pen v) p
-adds_nothing p (kitty i) h = record {
-  text = sym (append-nil (text_of p));
-  window = refl;
-  size = refl;
-}
-adds_nothing p (sixel s) h = record {
-  text = sym (append-nil (text_of p));
-  window = refl;
-  size = refl;
-}
-adds_nothing p (print c) h = absurd cc
-adds_nothing p (string t) h = absurd cc
-adds_nothing p (control c) h = absurd cc
-adds_nothing p (esc e) h = absurd cc
-adds_nothing p (csi c) h = absurd cc
-adds_nothing p (osc c) h = absurd cc
-adds_nothing p (termcap ns) h = absurd cc
-adds_nothing p (short s) h = absurd cc
-adds_nothing p (enter e) h = absurd cc
-adds_nothing p (datum b) h = absurd cc
-adds_nothing p exit h = absurd cc
-
-pub image_dropped : {A : Type 0} (p : Screen A) (a : Action A) → is_image (value_of a) ≡ true
-    → Takes p a p
-image_dropped p a h = adds_nothing p (value_of a) h

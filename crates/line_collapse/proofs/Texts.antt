@@ -1,223 +1,122 @@
--- Characters that are put into a row one after another.
-use Rattle.std.proofs.Common.{ℕ, zero, suc, ◌≡◌, ◌+◌, ◌-◌, ◌<◌, ◌≤◌, Bool, true, false, Result, Ok, Err, OnOk, inl, inr, List, [], ◌∷◌, ◌++◌, length, take, drop, map, Option, None, Some, refl, ap, sym, ◌∙◌, nat_lt, replicate, append_assoc, take-append-drop, arith}
-use Rattle.std.proofs.lemmas.Bool.{and_parts, cases_Bool}
-use Rattle.std.proofs.lemmas.Bool.Decides.{nat_tests}
-use Rattle.std.proofs.lemmas.List.{append-nil, drop-append-le, drop-map, drop-drop, drop_all, length-drop, length-map, length-take-le, map-append}
-use Rattle.std.proofs.Math.Seq.{drop-nil}
-use Rattle.std.proofs.lemmas.List.Folds.{list_all-append}
-use Rattle.std.proofs.lemmas.Str.{encode_ascii}
-use Rattle.std.proofs.lemmas.Str.Ascii.{IsAscii-cons, IsAscii-nil}
-use Rattle.std.specs.List.{list_all}
-use Rattle.std.specs.Str.{IsAscii}
-use Rattle.esc_frame.specs.Scans.{is_text_byte}
-use Rattle.esc_style.specs.Looks.{plain_look}
-use Rattle.esc_style.specs.declared.look.Look.{Look}
-use Rattle.line_collapse.specs.Rows.{cells_text, glyph_of, line_begin, plain_cell, put_all, put_at}
-use Rattle.line_collapse.specs.declared.glyph.Glyph.{Glyph}
+-- What is left of the lines of a stream is of characters, line feeds, renditions and links.
+use Rattle.std.proofs.Common.{◌≡◌, Bool, true, false, ◌||◌, List, [], ◌∷◌, Option, Some, None, is_some, refl, ◌∙◌}
+use Rattle.std.specs.List.{All, list_any}
+use Rattle.std.proofs.lemmas.Bool.{true≢false}
+use Rattle.std.proofs.lemmas.List.Elements.{All-append, All-cons, All-nil}
+use Rattle.esc_actions.specs.Values.{Value, print, string, control, esc, csi, osc, kitty, sixel, termcap, short, enter, datum, exit}
+use Rattle.esc_filter.specs.Tokens.{IsOfTokens}
+use Rattle.esc_filter.proofs.Output.AdmittedTextsAreUnits.{more_pieces, no_pieces}
+use Rattle.typed_functions.specs.Escapes.{of_escape}
+use Rattle.typed_functions.specs.Functions.{Value as Function, charset, cursor, device, edit, escape, keyboard, modes, mode_status, mouse, of_csi, other, renditions, tabs, window}
+use Rattle.esc_screen.specs.declared.cell.Cell.{Cell}
+use Rattle.esc_screen.specs.declared.cursor.Cursor.{Cursor as Place}
+use Rattle.esc_terminal.specs.Links.{Known, Target, first_known, lead_in}
+use Rattle.esc_terminal.specs.Scrolled.{Row, off_after, off_by_value, with_known}
+use Rattle.esc_terminal.specs.Steps.{function_known, known_by, lead_known}
+use Rattle.esc_terminal.specs.Streams.{Shown, first_shown, shown_after, shown_by}
+use Rattle.esc_screen.specs.Grids.{Size as Screen}
+use Rattle.screen_lines.specs.Pieces.{emptied_out, first_out}
+use Rattle.screen_lines.proofs.Bare.{bare_out}
+use Rattle.screen_lines.proofs.Tokens.{color_rows}
+use Rattle.line_collapse.specs.Streams.{final_of, final_out, is_selection, left_of, left_rows, open_of, rows_left, selects, shown_by_all}
+use Rattle.line_collapse.specs.Windows.{Size, screen_of}
 
--- ---- a character past others
+-- ---- of any stream
 
-put_next : (x : Option Glyph) (n : ℕ) (g : Glyph) (ys : List (Option Glyph))
-    → put_at (suc n) g (x ∷ ys) ≡ x ∷ put_at n g ys
-put_next x n g ys =
-    elim (cases_Bool (nat_lt n (length ys))) [
-      | inl held ↦
-          let same : nat_lt (suc n) (suc (length ys)) ≡ true = grind (arith, nat_tests) in
-          rw (held, same) refl
-      | inr failed ↦
-          let same : nat_lt (suc n) (suc (length ys)) ≡ false = grind (arith, nat_tests) in
-          let left : suc n - suc (length ys) ≡ n - length ys = omega arith in
-          rw (failed, same) (ap (λ k. x ∷ (ys ++ (replicate k None ++ Some g ∷ []))) left)
-    ]
+pub final_color : {A : Type 0} (z : Size) (vs : List (Value A)) → IsOfTokens true (final_of z vs)
+final_color z vs = color_rows (first_out z.characters)
+    (off_after (screen_of z) (first_shown (screen_of z)) vs) (no_pieces true)
 
-pub put_past : (xs : List (Option Glyph)) (n : ℕ) (g : Glyph) (ys : List (Option Glyph))
-    → put_at (length xs + n) g (xs ++ ys) ≡ xs ++ put_at n g ys
-put_past [] n g ys =
-    let none : 0 + n ≡ n = omega arith in
-    ap (λ k. put_at k g ys) none
-put_past (x ∷ xs) n g ys =
-    let one : suc (length xs) + n ≡ suc (length xs + n) = omega arith in
-    ap (λ k. put_at k g (x ∷ (xs ++ ys))) one ∙ put_next x (length xs + n) g (xs ++ ys)
-    ∙ ap (λ z. x ∷ z) (put_past xs n g ys)
+pub left_color : {A : Type 0} (z : Size) (vs : List (Value A)) → IsOfTokens true (left_of z vs)
+left_color z vs =
+    more_pieces true (final_of z vs) (open_of z vs) (final_color z vs)
+    (color_rows (emptied_out (final_out z vs)) (left_rows (shown_by_all z vs)) (no_pieces true))
 
--- ---- characters at a place
+-- ---- of one in which nothing selects a look or a link
 
-put_all_past : (cs : List ℕ) (xs : List (Option Glyph)) (n : ℕ) (l : Look)
-    (ys : List (Option Glyph))
-    → put_all (length xs + n) l cs (xs ++ ys) ≡ xs ++ put_all n l cs ys
-put_all_past [] xs n l ys = refl
-put_all_past (c ∷ cs) xs n l ys =
-    let one : length xs + n + 1 ≡ length xs + (n + 1) = omega arith in
-    ap (λ z. put_all (length xs + n + 1) l cs z) (put_past xs n (glyph_of c l) ys)
-    ∙ ap (λ k. put_all k l cs (xs ++ put_at n (glyph_of c l) ys)) one
-    ∙ put_all_past cs xs (n + 1) l (put_at n (glyph_of c l) ys)
+abbrev IsPlainRow : Row → Type 0
+IsPlainRow r = r.1 ≡ first_known
 
-abbrev pub cell_of : Look → ℕ → Option Glyph
-cell_of l c = Some (glyph_of c l)
+neither : (a b : Bool) → (a || b) ≡ false → (a ≡ false) × (b ≡ false)
+neither true b h = absurd (true≢false h)
+neither false b h = (refl, h)
 
-put_first : (g : Glyph) (y : Option Glyph) (ys : List (Option Glyph))
-    → put_at 0 g (y ∷ ys) ≡ Some g ∷ ys
-put_first g y ys =
-    let some : nat_lt 0 (suc (length ys)) ≡ true = grind (arith, nat_tests) in
-    rw some refl
+function_kept : (ks : Known) (k : Place) (f : Function) → is_selection f ≡ false
+    → function_known ks k f ≡ ks
+function_kept ks k (cursor c) h = refl
+function_kept ks k (edit e) h = refl
+function_kept ks k (device d) h = refl
+function_kept ks k (keyboard d) h = refl
+function_kept ks k (mouse d) h = refl
+function_kept ks k (window d) h = refl
+function_kept ks k (mode_status d) h = refl
+function_kept ks k (charset c) h = refl
+function_kept ks k (escape e) h = refl
+function_kept ks k (modes c ms) h = refl
+function_kept ks k (tabs c ns) h = refl
+function_kept ks k (renditions rs) h = absurd (true≢false h)
+function_kept ks k (other d) h = refl
 
-put_all_first : (l : Look) (cs : List ℕ) (ys : List (Option Glyph))
-    → put_all 0 l cs ys ≡ map (cell_of l) cs ++ drop (length cs) ys
-put_all_first l [] ys = refl
-put_all_first l (c ∷ cs) [] =
-    put_all_past cs (cell_of l c ∷ []) 0 l []
-    ∙ ap (λ z. cell_of l c ∷ z) (put_all_first l cs [] ∙ ap (λ z. map (cell_of l) cs ++ z)
-    (drop-nil (length cs)))
-put_all_first l (c ∷ cs) (y ∷ ys) =
-    ap (put_all 1 l cs) (put_first (glyph_of c l) y ys)
-    ∙ put_all_past cs (cell_of l c ∷ []) 0 l ys
-    ∙ ap (λ z. cell_of l c ∷ z) (put_all_first l cs ys)
+lead_kept : (ks : Known) (k : Place) (o : Option (Option Target)) → is_some o ≡ false
+    → lead_known k ks o ≡ ks
+lead_kept ks k None h = refl
+lead_kept ks k (Some t) h = absurd (true≢false h)
 
-pub put_all_at : (n : ℕ) (l : Look) (cs : List ℕ) (xs ys : List (Option Glyph)) → length xs ≡ n
-    → put_all n l cs (xs ++ ys) ≡ xs ++ (map (cell_of l) cs ++ drop (length cs) ys)
-put_all_at n l cs xs ys len =
-    let at : n ≡ length xs + 0 = omega (arith, len) in
-    ap (λ k. put_all k l cs (xs ++ ys)) at ∙ put_all_past cs xs 0 l ys
-    ∙ ap (λ z. xs ++ z) (put_all_first l cs ys)
+value_kept : {A : Type 0} (ks : Known) (k : Place) (v : Value A) → selects v ≡ false
+    → known_by ks k v ≡ ks
+value_kept ks k (print c) h = refl
+value_kept ks k (string t) h = refl
+value_kept ks k (control c) h = refl
+value_kept ks k (esc e) h = function_kept ks k (of_escape e) h
+value_kept ks k (csi c) h = function_kept ks k (of_csi c) h
+value_kept ks k (osc c) h = lead_kept ks k (lead_in c) h
+value_kept ks k (kitty i) h = refl
+value_kept ks k (sixel s) h = refl
+value_kept ks k (termcap ns) h = refl
+value_kept ks k (short s) h = refl
+value_kept ks k (enter e) h = refl
+value_kept ks k (datum b) h = refl
+value_kept ks k exit h = refl
 
--- characters among those of the row that look as at first
-module _ (n : ℕ) (cs ps : List ℕ) (ys : List (Option Glyph)) (within : n ≤ length ps) where
-  abbrev pub before : List ℕ
-  before = take n ps
+plain_all : (k : Known) (rs : List (List Cell)) → k ≡ first_known
+    → All IsPlainRow (with_known k rs)
+plain_all k [] e = All-nil IsPlainRow
+plain_all k (r ∷ rs) e = All-cons IsPlainRow (r, k) (with_known k rs) e (plain_all k rs e)
 
-  abbrev pub after : List ℕ
-  after = drop n ps
+off_plain : {A : Type 0} (s : Screen) (t : Shown) (vs : List (Value A)) → t.known ≡ first_known
+    → list_any selects vs ≡ false → All IsPlainRow (off_after s t vs)
+off_plain s t [] e h = All-nil IsPlainRow
+off_plain s t (v ∷ vs) e h =
+    let q = neither (selects v) (list_any selects vs) h in
+    All-append IsPlainRow (off_by_value s t v) (off_after s (shown_by s t v) vs)
+    (plain_all t.known _ e)
+    (off_plain s (shown_by s t v) vs (value_kept t.known t.grid.cursor v q.0 ∙ e) q.1)
 
-  cut : map plain_cell ps ++ ys ≡ map plain_cell before ++ (map plain_cell after ++ ys)
-  cut =
-      ap (λ z. map plain_cell z ++ ys) (sym (take-append-drop n ps))
-      ∙ ap (λ z. z ++ ys) (map-append plain_cell before after)
-      ∙ append_assoc (map plain_cell before) (map plain_cell after) ys
+known_plain : {A : Type 0} (s : Screen) (t : Shown) (vs : List (Value A)) → t.known ≡ first_known
+    → list_any selects vs ≡ false → (shown_after s t vs).known ≡ first_known
+known_plain s t [] e h = e
+known_plain s t (v ∷ vs) e h =
+    let q = neither (selects v) (list_any selects vs) h in
+    known_plain s (shown_by s t v) vs (value_kept t.known t.grid.cursor v q.0 ∙ e) q.1
 
-  put_among : put_all n plain_look cs (map plain_cell ps ++ ys)
-      ≡ map plain_cell before
-      ++ (map plain_cell cs ++ drop (length cs) (map plain_cell after ++ ys))
-  put_among =
-      ap (put_all n plain_look cs) cut
-      ∙ put_all_at n plain_look cs (map plain_cell before) (map plain_cell after ++ ys)
-      (length-map before plain_cell ∙ length-take-le n ps within)
+final_bare : {A : Type 0} (z : Size) (vs : List (Value A)) → list_any selects vs ≡ false
+    → IsOfTokens false (final_of z vs) × ((final_out z vs).ink.leads ≡ false)
+final_bare z vs h =
+    let s = screen_of z in
+    bare_out (first_out z.characters) (off_after s (first_shown s) vs) refl
+    (off_plain s (first_shown s) vs refl h) (no_pieces false)
 
-  pub put_over : n + length cs ≤ length ps → put_all n plain_look cs (map plain_cell ps ++ ys)
-      ≡ map plain_cell (before ++ (cs ++ drop (n + length cs) ps)) ++ ys
-  put_over room =
-      let some : length cs ≤ length (map plain_cell after) =
-      omega (arith, length-map after plain_cell, length-drop n ps) in
-      let rest = drop (n + length cs) ps in
-      let m = map plain_cell in
-      put_among
-      ∙ ap (λ z. m before ++ (m cs ++ z)) (drop-append-le (length cs) (m after) ys some
-      ∙ ap (λ z. z ++ ys) (drop-map plain_cell (length cs) after
-      ∙ ap m (drop-drop (length cs) n ps)))
-      ∙ ap (λ z. m before ++ z) (sym (append_assoc (m cs) (m rest) ys)
-      ∙ ap (λ z. z ++ ys) (sym (map-append plain_cell cs rest)))
-      ∙ sym (append_assoc (m before) (m (cs ++ rest)) ys)
-      ∙ ap (λ z. z ++ ys) (sym (map-append plain_cell before (cs ++ rest)))
+pub final_plain : {A : Type 0} (z : Size) (vs : List (Value A)) → list_any selects vs ≡ false
+    → IsOfTokens false (final_of z vs)
+final_plain z vs h = (final_bare z vs h).0
 
-  pub put_beyond : length ps ≤ n + length cs → ys ≡ []
-      → put_all n plain_look cs (map plain_cell ps ++ ys) ≡ map plain_cell (before ++ cs) ++ ys
-  put_beyond end none =
-      let m = map plain_cell in
-      let few : length (m after) ≤ length cs =
-      omega (arith, length-map after plain_cell, length-drop n ps) in
-      put_among
-      ∙ ap (λ z. m before ++ (m cs ++ drop (length cs) (m after ++ z))) none
-      ∙ ap (λ z. m before ++ (m cs ++ drop (length cs) z)) (append-nil (m after))
-      ∙ ap (λ z. m before ++ (m cs ++ z)) (drop_all (length cs) (m after) few ∙ sym none)
-      ∙ sym (append_assoc (m before) (m cs) ys)
-      ∙ ap (λ z. z ++ ys) (sym (map-append plain_cell before cs))
-
--- the first cells of characters and others
-pub take_both : {X Y : Type 0} (f : X → Y) (n : ℕ) (xs : List X) (ys : List Y)
-    → take n (map f xs ++ ys) ≡ map f (take n xs) ++ take (n - length xs) ys
-take_both f zero xs ys =
-    let none : zero ≡ zero - length xs = omega arith in
-    ap (λ k. take k ys) none
-take_both f (suc n) [] ys =
-    let all : suc n ≡ suc n - 0 = omega arith in
-    ap (λ k. take k ys) all
-take_both f (suc n) (x ∷ xs) ys =
-    let left : n - length xs ≡ suc n - suc (length xs) = omega arith in
-    ap (λ z. f x ∷ z) (take_both f n xs ys)
-    ∙ ap (λ k. f x ∷ (map f (take n xs) ++ take k ys)) left
-
--- ---- text
-
-byte_small : (b : ℕ) → is_text_byte b ≡ true → b < 128
-byte_small b h = grind (arith, nat_tests)
-
-pub plain_text : (ps : List ℕ) (xs : List (Option Glyph)) → list_all is_text_byte ps ≡ true
-    → cells_text plain_look 0 (map plain_cell ps ++ xs) ≡ ps ++ cells_text plain_look 0 xs
-plain_text [] xs h = refl
-plain_text (b ∷ ps) xs h =
-    let k = and_parts (is_text_byte b) (list_all is_text_byte ps) h in
-    ap (λ z. z ++ cells_text plain_look 0 (map plain_cell ps ++ xs))
-    (encode_ascii b (byte_small b k.0))
-    ∙ ap (λ z. b ∷ z) (plain_text ps xs k.1)
-
-pub bytes_ascii : (x : List ℕ) → list_all is_text_byte x ≡ true → IsAscii x
-bytes_ascii [] h = IsAscii-nil
-bytes_ascii (b ∷ x) h =
-    let k = and_parts (is_text_byte b) (list_all is_text_byte x) h in
-    IsAscii-cons b x (byte_small b k.0) (bytes_ascii x k.1)
-
--- ---- each byte is a character
-
-pub all_both : {X : Type 0} (p : X → Bool) (xs ys : List X) → list_all p xs ≡ true
-    → list_all p ys ≡ true → list_all p (xs ++ ys) ≡ true
-all_both p xs ys h k = list_all-append p xs ys ∙ rw (h, k) refl
-
-all_parts : {X : Type 0} (p : X → Bool) (n : ℕ) (xs : List X) → list_all p xs ≡ true
-    → (list_all p (take n xs) ≡ true) × (list_all p (drop n xs) ≡ true)
-all_parts p n xs h =
-    and_parts (list_all p (take n xs)) (list_all p (drop n xs))
-    (sym (list_all-append p (take n xs) (drop n xs))
-    ∙ ap (list_all p) (take-append-drop n xs) ∙ h)
-
-pub all_taken : {X : Type 0} (p : X → Bool) (n : ℕ) (xs : List X) → list_all p xs ≡ true
-    → list_all p (take n xs) ≡ true
-all_taken p n xs h = (all_parts p n xs h).0
-
-pub all_dropped : {X : Type 0} (p : X → Bool) (n : ℕ) (xs : List X) → list_all p xs ≡ true
-    → list_all p (drop n xs) ≡ true
-all_dropped p n xs h = (all_parts p n xs h).1
-
-pub bytes_over : (n m : ℕ) (cs ps : List ℕ) → list_all is_text_byte ps ≡ true
-    → list_all is_text_byte cs ≡ true
-    → list_all is_text_byte (take n ps ++ (cs ++ drop m ps)) ≡ true
-bytes_over n m cs ps h k =
-    all_both is_text_byte (take n ps) (cs ++ drop m ps) (all_taken is_text_byte n ps h)
-    (all_both is_text_byte cs (drop m ps) k (all_dropped is_text_byte m ps h))
-
-pub bytes_beyond : (n : ℕ) (cs ps : List ℕ) → list_all is_text_byte ps ≡ true
-    → list_all is_text_byte cs ≡ true → list_all is_text_byte (take n ps ++ cs) ≡ true
-bytes_beyond n cs ps h k =
-    all_both is_text_byte (take n ps) cs (all_taken is_text_byte n ps h) k
-
--- ---- rows
-
-pub row_written : (b : Bool) (ps bytes : List ℕ) (xs ys : List (Option Glyph))
-    (t t1 t2 t3 : List ℕ) → list_all is_text_byte ps ≡ true → bytes ≡ ps → ys ≡ xs
-    → t1 ≡ t ++ line_begin b → t2 ≡ t1 ++ bytes → t3 ≡ t2 ++ cells_text plain_look 0 ys
-    → t3 ≡ t ++ (line_begin b ++ cells_text plain_look 0 (map plain_cell ps ++ xs))
-row_written b ps bytes xs ys t t1 t2 t3 h is same e1 e2 e3 =
-    let rest = cells_text plain_look 0 xs in
-    e3 ∙ ap (λ z. t2 ++ cells_text plain_look 0 z) same
-    ∙ ap (λ z. z ++ rest) (e2 ∙ ap (λ z. t1 ++ z) is ∙ ap (λ z. z ++ ps) e1)
-    ∙ append_assoc (t ++ line_begin b) ps rest
-    ∙ append_assoc t (line_begin b) (ps ++ rest)
-    ∙ ap (λ z. t ++ (line_begin b ++ z)) (sym (plain_text ps xs h))
-
--- ---- results
-
-pub no_cells : {X : Type 0} (xs : List X) → length xs ≡ 0 → xs ≡ []
-no_cells [] e = refl
-no_cells (x ∷ xs) e = absurd (omega (arith, e))
-
-pub ok_map : {U E X Y : Type 0} (r : Result U E) → (X → Y) → OnOk r X → OnOk r Y
-ok_map (Ok u) f x = f x
-ok_map (Err e) f x = tt
+pub left_plain : {A : Type 0} (z : Size) (vs : List (Value A)) → list_any selects vs ≡ false
+    → IsOfTokens false (left_of z vs)
+left_plain z vs h =
+    let s = screen_of z in
+    let t = shown_by_all z vs in
+    let f = final_bare z vs h in
+    more_pieces false (final_of z vs) (open_of z vs) f.0
+    (bare_out (emptied_out (final_out z vs)) (left_rows t) f.1
+    (plain_all t.known (rows_left t.known t.grid) (known_plain s (first_shown s) vs refl h))
+    (no_pieces false)).0

@@ -3,29 +3,23 @@
 ghost use Rattle.std.specs.Prelude.{◌≡◌, ℕ, List, false};
 ghost use Rattle.std.specs.List.{list_any};
 ghost use Rattle.esc_filter.specs.Tokens.{IsColorText, IsPlainText};
-ghost use Rattle.line_collapse.specs.Steps.{selects};
-ghost use Rattle.line_collapse.specs.Streams.{final_of, left_of, values_of};
+ghost use Rattle.line_collapse.specs.Streams.{final_of, left_of, selects, values_of};
 ghost use Rattle.line_collapse.specs.Windows.{Size};
 
-use esc_actions::laws;
 use std::alloc::Allocator;
 
 /// What is left of the lines of any stream, and the rows of it that are final, are characters from
-/// U+0020 to U+007E and from U+00A0 on, line feeds and renditions: text as
+/// U+0020 to U+007E and from U+00A0 on, line feeds, renditions and links: text as
 /// [`Policy::Color`](esc_filter::Policy::Color) lets it through, whatever the stream is.
 pub fn leaves_color_text<A: Allocator>()
     ensures final_rows { (z : Size) (s : List ℕ) → IsColorText (final_of z (values_of A s)) }
     ensures all_rows { (z : Size) (s : List ℕ) → IsColorText (left_of z (values_of A s)) }
-{
-    laws::handed_out::<A>();
-}
+{}
 
-/// Where no sequence of the stream selects a rendition, there are no renditions either.
+/// Where nothing in the stream selects a rendition or a link, there are none either.
 pub fn leaves_plain_text<A: Allocator>()
     ensures final_rows { (z : Size) (s : List ℕ) → list_any selects (values_of A s) ≡ false
         → IsPlainText (final_of z (values_of A s)) }
     ensures all_rows { (z : Size) (s : List ℕ) → list_any selects (values_of A s) ≡ false
         → IsPlainText (left_of z (values_of A s)) }
-{
-    laws::handed_out::<A>();
-}
+{}

@@ -1,12 +1,13 @@
 //! What a terminal leaves of lines that are written again, as progress bars do by carriage returns,
-//! backspaces, erasures and movements of the cursor (ECMA-48, 8.3).
+//! backspaces, erasures and movements of the cursor: the rows that are scrolled off its screen
+//! (crate `esc_terminal`), and at the end those that are left on it.
 //!
 //! [`LineCollapser`] takes text in pieces, as a filter wrote it, and gives the text of the rows
 //! that are final. [`Collapsing`] is a filter and a collapse after it, and [`collapse_from`] reads
 //! a stream to its end and writes what is left of the lines of its filter.
 //!
 //! ```text
-//! let mut collapse = LineCollapser::new(alloc, 32, 4096)?;
+//! let mut collapse = LineCollapser::new(alloc, 32, 512)?;
 //! collapse.feed(b"10%\r100%\n")?;
 //! collapse.added()    // "": the row may be written again
 //! collapse.finish()?;
@@ -14,20 +15,15 @@
 //! ```
 #![tactic(auto)]
 
-mod ascii;
-mod cells;
 pub mod collapse;
 pub mod collapsing;
 mod filtering;
-mod glyph;
 mod laws;
-mod receiving;
-mod row;
-mod screen;
-pub mod step;
+mod seen;
+pub mod window;
 
 pub use collapse::LineCollapser;
 pub use collapsing::Collapsing;
 pub use filtering::collapse_from;
 pub use laws::{leaves_color_text, leaves_plain_text};
-pub use step::Step;
+pub use window::{COLUMNS, Window};

@@ -64,6 +64,7 @@ extern "C" {
 }
 
 const TOO_MANY_ROWS: u32 = 14;
+const TOO_MANY_COLUMNS: u32 = 15;
 
 // The common parts: the struct, whose fields are the library's, and the calls but that
 // which begins it. Its pointee is in use by it alone, since it is never copied.
@@ -195,10 +196,11 @@ impl Sanitizer {
     /// Begins a stream.
     pub fn begin(&mut self, options: &SanitizerOptions) -> Result<(), Error> {
         // SAFETY: as of a filter; the options are what the type asks for. By clause `wrong` each
-        // other status says which of them is none, and of those that are made here the rows alone
-        // can be.
+        // other status says which of them is none, and of those that are made here the rows and
+        // columns alone can be.
         match unsafe { escape_stream_sanitizer_begin(self, options) } {
             TOO_MANY_ROWS => Err(Error::TooManyRows),
+            TOO_MANY_COLUMNS => Err(Error::TooManyColumns),
             status => done(status, ()),
         }
     }
@@ -231,7 +233,9 @@ pub struct SanitizerOptions {
     pub encoding: u32,
     pub show: u32,
     pub rows: u32,
+    pub columns: u32,
     pub account: u32,
+    reserved: u32,
 }
 
 impl SanitizerOptions {
@@ -250,7 +254,9 @@ impl SanitizerOptions {
             encoding: 0,
             show: 0,
             rows: 0,
+            columns: 0,
             account: 0,
+            reserved: 0,
         }
     }
 }

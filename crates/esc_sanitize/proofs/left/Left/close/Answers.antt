@@ -2,7 +2,7 @@ use Rattle.std.proofs.Common.{◌≡◌, ◌++◌, subst, sym}
 use Rattle.esc_sanitize.proofs.Following.{on_err_any}
 use Rattle.esc_sanitize.proofs.Texts.{all_ended, rows_ended}
 use Rattle.esc_sanitize.specs.Rows.{HasLeft, left_added}
-use Rattle.esc_sanitize.specs.Written.{final_text, left_text, size_of}
+use Rattle.esc_sanitize.specs.Written.{final_text, left_text}
 use Rattle.esc_sanitize.proofs.left.Left.close.Goals as goal
 
 pub returns-in-All-clause-ended : goal.returns-in-All-clause-ended
@@ -16,7 +16,7 @@ pub returns-in_ok-last-in-Rows-clause-ended : goal.returns-in_ok-last-in-Rows-cl
 returns-in_ok-last-in-Rows-clause-ended g c = λ r u h.
     let (n, e, fed) = subst (HasLeft r u) c.in-Rows.is h in
     rows_ended g.row.A.Denot r u c.args.text.now n _ e
-    (c.in_ok-last-in-Rows.ensures.ended (size_of n) u fed)
+    (c.in_ok-last-in-Rows.ensures.ended n u fed)
 
 pub returns-in_ok-last-in-Rows-clause-refused : goal.returns-in_ok-last-in-Rows-clause-refused
 returns-in_ok-last-in-Rows-clause-refused g c = λ r u h. tt
@@ -25,4 +25,4 @@ pub returns-in_err-last-in-Rows-clause-refused : goal.returns-in_err-last-in-Row
 returns-in_err-last-in-Rows-clause-refused g c = λ r u h.
     let (n, e, fed) = subst (HasLeft r u) c.in-Rows.is h in
     on_err_any _ c.from_residual.result
-    (c.in_err-last-in-Rows.ensures.refused (size_of n) u fed)
+    (c.in_err-last-in-Rows.ensures.refused n u fed)

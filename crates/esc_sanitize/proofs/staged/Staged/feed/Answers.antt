@@ -17,15 +17,15 @@ returns-clause-given g c = λ s h.
     (λ z.
     runs_more g.F.StreamFilter g.P.Admit g.B.Book o s c.feed.new.self n c.args.bytes.now
     (heard_added g.F.StreamFilter c.feed.new.self) c.feed.ensures.options k.0 k.1
-    (subst (λ t. HasLeft o.rows (u ++ t) n) c.output_text.ensures z.0)
-    (subst (λ t. final_text g.row.A.Denot o.rows (u ++ t)
-    ≡ final_text g.row.A.Denot o.rows u ++ left_added n t) c.output_text.ensures z.1))
-    (c.take.ensures.given o.rows u h.1)
+    (subst (λ t. HasLeft o.window (u ++ t) n) c.output_text.ensures z.0)
+    (subst (λ t. final_text g.row.A.Denot o.window (u ++ t)
+    ≡ final_text g.row.A.Denot o.window u ++ left_added n t) c.output_text.ensures z.1))
+    (c.take.ensures.given o.window u h.1)
 
 pub returns-clause-refused : goal.returns-clause-refused
 returns-clause-refused g c = λ s h.
     let o = c.args.self.now.hearing.options in
-    c.take.ensures.refused o.rows (passing_of g.P.Admit o s) h.1
+    c.take.ensures.refused o.window (passing_of g.P.Admit o s) h.1
 
 pub returns-in_err-feed-clause-refused : goal.returns-in_err-feed-clause-refused
 returns-in_err-feed-clause-refused g c = λ s h.

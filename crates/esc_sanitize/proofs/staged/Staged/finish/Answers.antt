@@ -18,14 +18,14 @@ returns-clause-ended g c = λ s h.
       k.0,
       runs_end g.F.StreamFilter g.P.Admit g.B.Book o s n
           (heard_added g.F.StreamFilter c.finish.new.self)
-          k.1 (subst (λ t. left_text g.row.A.Denot o.rows (u ++ t)
-          ≡ final_text g.row.A.Denot o.rows u ++ left_added n t) c.output_text.ensures z),
-    )) (c.close.ensures.ended o.rows u h.1)
+          k.1 (subst (λ t. left_text g.row.A.Denot o.window (u ++ t)
+          ≡ final_text g.row.A.Denot o.window u ++ left_added n t) c.output_text.ensures z),
+    )) (c.close.ensures.ended o.window u h.1)
 
 pub returns-clause-refused : goal.returns-clause-refused
 returns-clause-refused g c = λ s h.
     let o = c.args.self.now.hearing.options in
-    c.close.ensures.refused o.rows (passing_of g.P.Admit o s) h.1
+    c.close.ensures.refused o.window (passing_of g.P.Admit o s) h.1
 
 pub returns-in_err-finish-clause-refused : goal.returns-in_err-finish-clause-refused
 returns-in_err-finish-clause-refused g c = λ s h.

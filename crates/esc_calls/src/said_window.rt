@@ -1,0 +1,48 @@
+//! What the options of a sanitizer say of rows that may be written again.
+ghost use Rattle.std.specs.Prelude.{◌≡◌, IfErr, IfOk};
+ghost use Rattle.esc_calls.specs.SanitizerOptions.{IsFault, SaysWindow, columns_numbered, window_numbered};
+
+use crate::fault::Fault;
+use crate::sanitizer_options::{MOST_COLUMNS, MOST_ROWS, SanitizerOptions};
+use esc_filter::Unicode;
+use line_collapse::{COLUMNS, Window};
+
+/// The screen of which what is left is written, where rows may be written again; this is written of
+/// characters that deceive.
+pub(crate) fn window_said(
+    options: &SanitizerOptions,
+    characters: Unicode,
+) -> Result<Option<Window>, Fault>
+    ensures said { IfOk result (SaysWindow options.now characters) }
+    ensures fault { IfErr result (IsFault options.now) }
+{
+    if options.rows > MOST_ROWS {
+        return Err(Fault::Rows);
+    }
+    if options.columns > MOST_COLUMNS {
+        return Err(Fault::Columns);
+    }
+    Ok(window_of(options.rows, options.columns, characters))
+}
+
+// The same, where the numbers are not too large.
+fn window_of(rows: u32, columns: u32, characters: Unicode) -> Option<Window>
+    ensures { result ≡ window_numbered rows columns characters }
+{
+    if rows == 0 {
+        None
+    } else {
+        Some(Window::new(rows as usize, columns_of(columns), characters))
+    }
+}
+
+// How many columns a number says; by 0 as many as is usual.
+fn columns_of(number: u32) -> usize
+    ensures { result ≡ columns_numbered number }
+{
+    if number == 0 {
+        COLUMNS
+    } else {
+        number as usize
+    }
+}

@@ -1,0 +1,35 @@
+//! The screen of which the lines are left.
+ghost use Rattle.std.specs.Prelude.{◌≡◌};
+ghost use Rattle.line_collapse.specs.Windows.{window_of};
+
+use esc_filter::Unicode;
+
+/// How many columns a screen has where nothing says how many.
+pub const COLUMNS: usize = 512;
+
+/// The screen of a terminal of which the lines are left, and what is written of characters that
+/// deceive.
+#[derive(Clone, Copy)]
+pub struct Window {
+    /// How many rows may be written again: 0 is as 1.
+    pub rows: u16,
+    /// After how many columns a line goes on in the next row: 0 is as 1.
+    pub columns: u16,
+    /// What is written of characters that deceive.
+    pub characters: Unicode,
+}
+
+impl Window {
+    /// One of so many rows and columns, of which more than 65,535 are taken for so many, and this
+    /// is written of characters that deceive. The screen is made at once, so its memory is rows
+    /// times columns.
+    pub fn new(rows: usize, columns: usize, characters: Unicode) -> Window
+        ensures { result ≡ window_of rows columns characters }
+    {
+        Window {
+            rows: rows.min(0xffff) as u16,
+            columns: columns.min(0xffff) as u16,
+            characters,
+        }
+    }
+}

@@ -1,0 +1,4 @@
+pub mod Growing
+mod Looks
+pub mod Tokens
+pub mod Bare
