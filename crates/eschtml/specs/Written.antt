@@ -19,7 +19,6 @@ use Rattle.caret_notation.specs.Revealed.{revealed_as, revealed_whole_as}
 use Rattle.caret_notation.specs.declared.marking.Marking.TheVariants.{Reversed}
 use Rattle.eschtml.specs.Joined.{joined}
 use Rattle.eschtml.specs.declared.options.Options.{Options}
-use Rattle.line_collapse.specs.declared.window.TheConstants.{COLUMNS}
 
 -- ---- pages
 
@@ -100,9 +99,9 @@ seen_by A o moves false s = going_in A o.shows o.limit moves (decoded_stream o.e
 
 -- ---- what is left of lines
 
--- so many rows may be written again
-abbrev pub size_of : ℕ → Size
-size_of n = window_size (max n 1) COLUMNS
+-- a screen of so many rows, and of as many columns as the options say
+abbrev pub size_of : Options → ℕ → Size
+size_of o n = window_size (max n 1) o.columns
 
 -- what changes the screen of a stream, as text, of one that goes on, and of one that has ended
 abbrev pub screen_text : Type 0 → ℕ → List ℕ → List ℕ
@@ -113,14 +112,14 @@ whole_screen A limit s = closed_text {A = A} (Some limit) (admits Screen) s
 
 -- the stream; or, where so many rows may be written again, what is left of the lines of what
 -- changes the screen
-abbrev pub shown_of : Type 0 → ℕ → Option ℕ → Bool → List ℕ → List ℕ
-shown_of A limit None b s = s
-shown_of A limit (Some n) true s = left_after A (size_of n) (whole_screen A limit) s
-shown_of A limit (Some n) false s = final_after A (size_of n) (screen_text A limit) s
+abbrev pub shown_of : Type 0 → Options → Option ℕ → Bool → List ℕ → List ℕ
+shown_of A o None b s = s
+shown_of A o (Some n) true s = left_after A (size_of o n) (whole_screen A o.limit) s
+shown_of A o (Some n) false s = final_after A (size_of o n) (screen_text A o.limit) s
 
 -- what becomes HTML of a stream that goes on or has ended
 abbrev pub content_by : Type 0 → Options → Option ℕ → Bool → List ℕ → List ℕ
-content_by A o rows b s = shown_of A o.limit rows b (seen_by A o (is_some rows) b s)
+content_by A o rows b s = shown_of A o rows b (seen_by A o (is_some rows) b s)
 
 -- ---- what is written
 

@@ -40,8 +40,8 @@ use style::push_style;
 const USAGE: &str = "\
 usage: eschtml [--page] [--title text] [--css address] [--lang language] \
 [--theme auto|light|dark] [--palette xterm|vga|solarized|tango|one-half] [--numbers] [--wrap] \
-[--lines] [--inline] [--show] [--lost] [--final-lines[=rows]] [--head lines] [--tail lines] \
-[--linkify] [--fold] [--times] [--images] [--cast] [--style] \
+[--lines] [--inline] [--show] [--lost] [--final-lines[=rows]] [--columns number] \
+[--head lines] [--tail lines] [--linkify] [--fold] [--times] [--images] [--cast] [--style] \
 [--encoding utf-8|utf-16|utf-16le|utf-16be|latin1|windows-1250|windows-1251|windows-1252|\
 windows-1253|windows-1254|windows-1255|windows-1256|windows-1257|windows-1258] \
 [--c1 replace|obey] [--limit size] [-o|--output file] [-h|--help] [-V|--version] [--] [FILE..]";
@@ -72,6 +72,7 @@ renditions as spans, and links to http, https and mailto. Nothing of it becomes 
                   many images are left out
   --final-lines   writes what a terminal leaves of lines that are written again, as by
                   progress bars; --final-lines=rows where these go back over more rows than 32
+  --columns n     how many columns these rows have (512); a longer line goes on in the next one
   --head lines    writes so many lines that come first, and says how many are left out
   --tail lines    writes so many that come last; of the first ones, with --head
   --linkify       makes links of addresses in text that begin with http:// or https://

@@ -4,6 +4,7 @@ use crate::palettes::{PALETTES, Palette};
 use command_line::{Apart, Found, Given, Known, Takes, Wrong, read};
 use esc_decode::{ByteOrder, CodePage, ENCODINGS, Encoding, encoding_of, order_of, page_of};
 use esc_html::Layout;
+use line_collapse::COLUMNS;
 use page_input::Cut;
 use std::alloc::Global;
 
@@ -34,6 +35,8 @@ pub struct Options<'a> {
     pub marks_lost: bool,
     /// How many rows may be written again, where what is left of them is written.
     pub rows: Option<usize>,
+    /// How many columns these rows have.
+    pub columns: usize,
     /// Which lines are written.
     pub cut: Cut,
     /// Whether addresses in text are links.
@@ -73,6 +76,7 @@ impl<'a> Options<'a> {
             shows: false,
             marks_lost: false,
             rows: None,
+            columns: COLUMNS,
             cut: Cut {
                 head: None,
                 tail: None,
@@ -106,6 +110,7 @@ impl<'a> Options<'a> {
             "--inline" => self.layout.inline = true,
             "--show" => self.shows = true,
             "--lost" => self.marks_lost = true,
+            "--columns" => self.columns = columns_of(given.word).unwrap_or(COLUMNS),
             "--head" => self.cut.head = lines_of(given.word),
             "--tail" => self.cut.tail = lines_of(given.word),
             "--linkify" => self.links = true,
@@ -175,8 +180,13 @@ const DEFAULT_ROWS: usize = 32;
 
 const MOST_ROWS: usize = 4096;
 
+const MOST_COLUMNS: usize = 16_384;
+
 // What the value of `--head` and `--tail` is called.
 const LINES: &str = "number of lines";
+
+// And that of `--columns`.
+const COLUMN_NUMBER: &str = "number of columns";
 
 const KNOWN: &[Known] = &[
     Known {
@@ -243,6 +253,11 @@ const KNOWN: &[Known] = &[
         name: "--final-lines",
         letter: "",
         takes: Takes::Maybe("number of rows", &[]),
+    },
+    Known {
+        name: "--columns",
+        letter: "",
+        takes: Takes::OneOf(COLUMN_NUMBER, &[]),
     },
     Known {
         name: "--head",
@@ -392,6 +407,7 @@ impl<'a> Choices<'a> {
 fn wrong_value<'a>(given: &Given<'a>) -> Option<Wrong<'a>> {
     let (kind, is_right) = match given.name {
         "--final-lines" => ("number of rows", rows_of(given.word).is_some()),
+        "--columns" => (COLUMN_NUMBER, columns_of(given.word).is_some()),
         "--lang" => ("language", is_language(given.word)),
         "--head" | "--tail" => (LINES, lines_of(given.word).is_some()),
         _ => return None,
@@ -428,8 +444,18 @@ fn rows_of(word: &str) -> Option<usize> {
     if word.is_empty() {
         return Some(DEFAULT_ROWS);
     }
+    number_of(word, MOST_ROWS)
+}
+
+// How many columns a word names.
+fn columns_of(word: &str) -> Option<usize> {
+    number_of(word, MOST_COLUMNS)
+}
+
+// The number that a word names, where it is from 1 to this one.
+fn number_of(word: &str, most: usize) -> Option<usize> {
     match word.parse::<usize>() {
-        Ok(rows) if 0 < rows && rows <= MOST_ROWS => Some(rows),
+        Ok(number) if 0 < number && number <= most => Some(number),
         _ => None,
     }
 }

@@ -19,7 +19,7 @@ use esc_decode::Decoding;
 use esc_filter::{Filter, FilterError, Policy, StreamFilter, pump};
 use esc_html::{HtmlWriter, Layout, laws};
 use esc_normal::Watched;
-use line_collapse::{COLUMNS, Collapsing};
+use line_collapse::Collapsing;
 use std::alloc::{AllocError, Allocator, Global};
 use std::io::{Read, Write};
 
@@ -130,16 +130,16 @@ fn write_left<A: Allocator + Copy, R: Read, W: Write>(
 ) -> Result<(), FilterError>
     ensures holds { Filters R.Read W.Write
         (λ s. html_of A options.now
-        (shown_of A options.now.limit (Some rows) true (seen_by A options.now true true s)))
+        (shown_of A options.now (Some rows) true (seen_by A options.now true true s)))
         (λ b s t. IsHtml A options.now b
-        (shown_of A options.now.limit (Some rows) b (seen_by A options.now true b s)) t) result
+        (shown_of A options.now (Some rows) b (seen_by A options.now true b s)) t) result
         reader writer }
     ensures refused { IsErrOf result FilterError.Memory → Refused A }
 {
     laws::streams_are_pages::<A>();
     laws::lines_are_elements::<A>();
     let filter = Filter::new(alloc, options.limit, Policy::Screen);
-    let Ok(collapsing) = Collapsing::new(alloc, filter, rows, COLUMNS) else {
+    let Ok(collapsing) = Collapsing::new(alloc, filter, rows, options.columns) else {
         return Err(FilterError::Memory);
     };
     let marked = Marked::new(alloc, options.limit, layout_by(options));

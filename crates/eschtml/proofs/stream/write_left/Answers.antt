@@ -22,7 +22,7 @@ returns-clause-holds g c =
     let a = g.row.A.Denot in
     let o = c.args.options.now in
     let l = o.limit in
-    let z = size_of c.args.rows in
+    let z = size_of o c.args.rows in
     let m = screen_text a l in
     let e = whole_screen a l in
     let fresh = begun (λ p. admits {A = a} p) keep_all l Screen c.new-filter.result
@@ -39,7 +39,7 @@ returns-clause-holds g c =
     (pages_add a l y) in
     let f = filters (λ s. ended_by o.first (whole (seen_by a o true true s)))
     (λ s. going_by o.first (going (seen_by a o true false s)))
-    (λ b s t. IsHtml a o b (shown_of a l (Some c.args.rows) b (seen_by a o true b s)) t)
+    (λ b s t. IsHtml a o b (shown_of a o (Some c.args.rows) b (seen_by a o true b s)) t)
     (λ s. html_is a o c.streams_are_pages.ensures c.lines_are_elements.ensures
     (left_after a z e (seen_by a o true true s))) (λ s. refl) _ _ _
     (c.write_lined.ensures.holds going whole new (no_html a l y z) (html_adds a l y z)) in
@@ -60,7 +60,7 @@ returns-in_default-clause-holds g c =
     let o = c.args.options.now in
     let l = o.limit in
     let y = layout_by o.first o.layout in
-    let z = size_of c.args.rows in
+    let z = size_of o c.args.rows in
     let held = g.W.Write.contents c.args.writer.now.inner in
     let m = composed (page_text a (Some l) y) (final_after a z (screen_text a l)) in record {
       read_all = tt;
@@ -96,7 +96,7 @@ returns-clause-refused g c =
     let o = c.args.options.now in
     let l = o.limit in
     let y = layout_by o.first o.layout in
-    let z = size_of c.args.rows in
+    let z = size_of o c.args.rows in
     let m = screen_text a l in
     let e = whole_screen a l in
     let fresh = begun (λ p. admits {A = a} p) keep_all l Screen c.new-filter.result
