@@ -1,4 +1,4 @@
-//! Recordings of asciinema, line by line.
+//! Reads recordings of asciinema, line by line.
 
 use crate::clock::Clock;
 use crate::time_error::TimeError;
@@ -11,30 +11,30 @@ use std::str;
 /// A text of a recording, with its time.
 #[derive(Clone, Copy)]
 pub struct Heard<'a> {
-    /// When it came.
+    /// The time.
     pub time: u64,
-    /// What came.
+    /// The text.
     pub text: &'a str,
-    /// Whether it was typed, and not written to the terminal.
+    /// Whether a user typed it, and no program wrote it.
     pub is_input: bool,
 }
 
-/// A recording of asciinema, version 2 or 3, whose lines come in chunks.
+/// A recording of asciinema, version 2 or 3, which comes in chunks.
 #[derive(Drop)]
 pub struct Cast {
     alloc: Global,
     scratch: Scratch<Global>,
-    // What came of a line.
+    // The line so far.
     line: Vec<u8>,
     // Whether it is whole.
     is_whole: bool,
-    // How many lines were read.
+    // The number of lines so far.
     count: u64,
     clock: Clock,
 }
 
 impl Cast {
-    /// A recording of which nothing came. Takes no memory.
+    /// The beginning of a recording. Takes no memory.
     pub fn new(alloc: Global) -> Cast {
         Cast {
             alloc,
@@ -46,8 +46,8 @@ impl Cast {
         }
     }
 
-    /// Takes the bytes up to a line feed, after which the line can be [`heard`](Cast::heard), and
-    /// returns those after it; none, where there is no line feed, and all are taken.
+    /// Takes the bytes up to a line feed, and returns those after it. The line can then be
+    /// [`heard`](Cast::heard). Without a line feed it takes all bytes, and returns none.
     pub fn take<'b>(&mut self, bytes: &'b [u8]) -> Result<Option<&'b [u8]>, TimeError> {
         if self.is_whole {
             self.is_whole = false;
@@ -66,7 +66,7 @@ impl Cast {
         }
     }
 
-    // Makes the line longer.
+    // Adds bytes to the line.
     fn grow(&mut self, bytes: &[u8]) -> Result<(), TimeError> {
         match self.line.extend_from_slice(bytes) {
             Ok(()) => Ok(()),
@@ -74,12 +74,12 @@ impl Cast {
         }
     }
 
-    /// Whether a line came that has no line feed: the last one may have none.
+    /// Whether a line without a line feed came. The last line may have none.
     pub fn has_rest(&self) -> bool {
         !self.is_whole && !self.line.is_empty()
     }
 
-    /// The text that the line tells, where it tells one.
+    /// The text of the line, if it has one.
     pub fn heard(&mut self) -> Result<Option<Heard<'_>>, TimeError> {
         self.count = self.count.saturating_add(1);
         self.is_whole = true;
@@ -89,7 +89,7 @@ impl Cast {
     }
 }
 
-// The text that the line of this number tells, where it tells one.
+// The text of the line with this number, if it has one.
 fn heard_in<'a>(
     alloc: Global,
     count: u64,
@@ -101,7 +101,7 @@ fn heard_in<'a>(
     Ok(heard_by(event, clock))
 }
 
-// What the line of this number tells.
+// The event of the line with this number.
 fn event_at<'a>(
     alloc: Global,
     count: u64,
@@ -118,7 +118,7 @@ fn event_at<'a>(
     }
 }
 
-// The text of an event, where it has one, with the time that it has by the clock.
+// The text of an event, if it has one, with its time by the clock.
 fn heard_by<'a>(event: Event<'a>, clock: &mut Clock) -> Option<Heard<'a>> {
     match event {
         Event::Output(time, text) => Some(heard_at(clock.next(time), text, false)),
@@ -135,7 +135,7 @@ fn heard_by<'a>(event: Event<'a>, clock: &mut Clock) -> Option<Heard<'a>> {
     }
 }
 
-// A text at this time.
+// A text with its time.
 fn heard_at<'a>(time: u64, text: &'a str, is_input: bool) -> Heard<'a> {
     Heard {
         time,

@@ -6,8 +6,8 @@ use Rattle.esc_sanitize.specs.declared.left.Left.{Left}
 use Rattle.esc_sanitize.specs.declared.left.Left.TheVariants as left
 use Rattle.fallible_alloc.specs.Refusals.{Refused}
 
--- It took this text, of which what is left on this screen is written, or all is; or memory was
--- refused.
+-- it took this text, and writes the rows that this screen leaves of it, or all of it; or memory
+-- was refused
 abbrev pub HasLeft : {A : Type 0} → Option Size → List ℕ → Left A → Type 0
 HasLeft r u left.All = r ≡ None
 HasLeft r u (left.Rows a c) = (z : Size) × (r ≡ Some z) × HasConsumed z u c

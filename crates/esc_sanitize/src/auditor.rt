@@ -52,7 +52,7 @@ impl<P: Admit<A> + Drop, B: Book<A> + Drop, A: Allocator + Copy> Auditor<P, B, A
         }
     }
 
-    /// What did not pass, of a stream of which nothing more comes.
+    /// The book of the whole stream.
     pub fn into_book(self) -> Option<B> {
         match self {
             Auditor::Nobody => None,

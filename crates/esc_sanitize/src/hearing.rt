@@ -101,7 +101,7 @@ impl<F, P, B, A: Allocator> Hearing<F, P, B, A> {
 }
 
 impl<F: Drop, P: Drop, B: Drop, A: Allocator> Hearing<F, P, B, A> {
-    /// The auditor, of a stream of which nothing more comes.
+    /// The auditor of the whole stream.
     pub fn into_auditor(self) -> Auditor<P, B, A>
         ensures { result ≡ self.auditor }
     {

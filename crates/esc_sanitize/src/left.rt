@@ -25,8 +25,8 @@ impl<A: Allocator + Copy> Left<A> {
     ghost use Rattle.esc_sanitize.specs.Rows.{HasLeft, left_added};
     ghost use Rattle.esc_sanitize.specs.Written.{final_text, left_text};
 
-    /// At the beginning of a text, of which what is left on this screen is written, where that is
-    /// asked for.
+    /// The beginning of a text. The rows that this screen leaves of it are written, or without a
+    /// screen all of it.
     pub fn new(alloc: A, window: Option<Window>) -> Left<A>
         ensures { HasLeft window [] result }
     {

@@ -31,12 +31,13 @@ pub struct FilterOptions<P> {
     pub encoding: Encoding,
     /// How what does not pass is shown in its place; where none, it is left out.
     pub show: Option<Marking>,
-    /// The screen of which what is left of the text is written, as of progress bars; where none,
-    /// all of the text is. The program then takes the stream whole, also lets pass the groups
+    /// The screen that the text is collapsed on, as for progress bars: only the rows that it leaves
+    /// are written. Without one all of the text is written. With one, the program takes the stream
+    /// whole, its guard keeps carriage returns, and its policy admits also the groups
     /// [`Controls`](esc_filter::Group::Controls), [`Cursor`](esc_filter::Group::Cursor),
     /// [`Erase`](esc_filter::Group::Erase), [`Scroll`](esc_filter::Group::Scroll),
-    /// [`Modes`](esc_filter::Group::Modes) and [`Charsets`](esc_filter::Group::Charsets), none of
-    /// which is written itself, and its guard keeps carriage returns.
+    /// [`Modes`](esc_filter::Group::Modes) and [`Charsets`](esc_filter::Group::Charsets), which the
+    /// screen obeys.
     pub window: Option<Window>,
     /// Whether an account is kept of what became of each byte. It costs time and memory.
     pub audits: bool,

@@ -113,7 +113,7 @@ impl<F, P, B, A: Allocator> Staged<F, P, B, A> {
 impl<F: Drop, P: Drop, B: Drop, A: Allocator> Staged<F, P, B, A> {
     ghost use Rattle.esc_sanitize.specs.Stages.{auditor_of};
 
-    /// The auditor, of a stream of which nothing more comes.
+    /// The auditor of the whole stream.
     pub fn into_auditor(self) -> Auditor<P, B, A>
         ensures { result ≡ auditor_of self }
     {

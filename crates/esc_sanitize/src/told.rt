@@ -49,7 +49,7 @@ impl<F: Drop, P: Drop, B: Drop, N: Known, A: Allocator> Told<F, P, B, N, A> {
         }
     }
 
-    /// The auditor, of a stream of which nothing more comes.
+    /// The auditor of the whole stream.
     pub fn into_auditor(self) -> Auditor<P, B, A>
         ensures { result ≡ self.staged.hearing.auditor }
     {

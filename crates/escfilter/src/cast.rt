@@ -1,4 +1,4 @@
-//! Recordings of asciinema, line by line.
+//! Filters recordings of asciinema, line by line.
 
 use crate::named_groups::Choice;
 use crate::options::Options;
@@ -12,24 +12,23 @@ use std::alloc::Global;
 use std::io::Write;
 use std::str;
 
-// How many bytes a line may have, for each byte that may be kept of an unfinished segment.
+// A line has at most this many times the bytes of the limit.
 const TIMES: usize = 16;
 
-/// A recording of asciinema whose lines come in pieces.
+/// A filter of a recording of asciinema, which comes in pieces.
 #[derive(Drop)]
 pub struct Lines<'a> {
     recording: asciicast::Recording<TextFilter<'a>>,
-    // what came of the line that is unfinished
+    // the unfinished line
     line: Vec<u8>,
-    // how many bytes it may have
+    // the most bytes of a line
     most: usize,
-    // how many lines were taken
+    // the number of lines so far
     count: u64,
 }
 
 impl<'a> Lines<'a> {
-    /// A recording of which nothing came, for a filter by these options that was fed nothing.
-    /// Takes no memory.
+    /// The beginning of a recording, for a new filter by these options. Takes no memory.
     pub fn new(alloc: Global, feeding: TextFilter<'a>, options: Options<'_>) -> Lines<'a> {
         let recording = asciicast::Recording::new(alloc, feeding);
         Lines {
@@ -40,7 +39,7 @@ impl<'a> Lines<'a> {
         }
     }
 
-    /// The account, of a recording of which nothing more comes.
+    /// The account of the whole recording.
     pub fn into_auditor(self) -> Auditor<Choice<'a>, Rows<'a>> {
         let Lines {
             recording,
@@ -51,7 +50,7 @@ impl<'a> Lines<'a> {
         recording.into_feeding().into_auditor()
     }
 
-    // Makes the unfinished line longer.
+    // Adds bytes to the unfinished line.
     fn grow(&mut self, bytes: &[u8]) -> Result<(), Fault> {
         if bytes.len() > self.most.saturating_sub(self.line.len()) {
             return Err(Fault::Long(self.count.saturating_add(1), self.most));
@@ -62,7 +61,7 @@ impl<'a> Lines<'a> {
         }
     }
 
-    // Takes the line, and writes what is given for it.
+    // Ends the line, and writes its new form.
     fn end_line<W: Write>(&mut self, writer: &mut Watched<W>) -> Result<(), Fault> {
         self.count = self.count.saturating_add(1);
         let Ok(line) = str::from_utf8(&self.line) else {
@@ -77,7 +76,8 @@ impl<'a> Lines<'a> {
         write(writer, self.recording.text())
     }
 
-    // Takes the last line, where it has no line feed. It returns where that is cut, where it is.
+    // Ends a last line without a line feed. It returns the cut if the line is no line of a
+    // recording.
     fn end_last<W: Write>(&mut self, writer: &mut Watched<W>) -> Result<Option<Cut>, Fault> {
         if self.line.is_empty() {
             return Ok(None);

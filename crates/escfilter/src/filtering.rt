@@ -1,4 +1,4 @@
-//! Streams that are filtered to one output, each with its report.
+//! Filters streams to one output, with a report on each.
 ghost use Rattle.std.specs.Prelude.{◌≡◌, ℕ, List, OnOk, false, true};
 ghost use Rattle.esc_account.specs.Ledgers.{IsCounted};
 ghost use Rattle.esc_decode.specs.Decodings.{decoded_stream};
@@ -33,27 +33,27 @@ use std::io::{Read, Write};
 pub struct Filtering<'a, W, E> {
     pub alloc: Global,
     pub options: Options<'a>,
-    /// What the output is called.
+    /// The name of the output.
     pub output_name: &'a str,
     pub output: &'a mut W,
-    /// How names are written to it, where they are.
+    /// The form of the names in a list.
     pub names: Names,
-    /// Where reports and what hinders go.
+    /// The writer of error messages.
     pub faults: E,
-    /// What is told of the streams.
+    /// The reports, the events and the timing.
     pub told: &'a mut Told,
 }
 
-// How a stream was filtered.
+// The result of filtering a stream.
 #[derive(Drop)]
 struct Filtered {
-    // whether that failed
+    // the error, if there was one
     outcome: Result<(), FilterError>,
-    // why the output was not written, where it was not
+    // the system's reason for an error of the output
     refusal: Option<Reason>,
     // whether some byte had a fate that is a failure
     is_failure: bool,
-    // where what did not pass is told
+    // the writer of events
     events: Option<Events>,
 }
 
@@ -76,8 +76,8 @@ impl<'a, W: Write, E: Write> Work for Filtering<'a, W, E> {
 }
 
 impl<'a, W: Write, E: Write> Filtering<'a, W, E> {
-    // Filters a stream of this name. It returns how that ended, whether some byte had a fate that
-    // is a failure, and where what did not pass is told.
+    // Filters a stream of this name. It returns the outcome, whether some byte had a fate that is a
+    // failure, and the writer of events.
     fn take_stream<R: Read + Drop>(
         &mut self,
         name: &str,
@@ -101,7 +101,7 @@ impl<'a, W: Write, E: Write> Filtering<'a, W, E> {
         (ended, is_failure, events)
     }
 
-    // Filters what this reader gives, and reports what did not pass of it.
+    // Filters the bytes of this reader, and reports on them.
     fn filter_stream<R: Read>(
         &mut self,
         name: &str,
@@ -137,7 +137,7 @@ impl<'a, W: Write, E: Write> Filtering<'a, W, E> {
         }
     }
 
-    // The same of a recording of asciinema.
+    // Filters a recording of asciinema, and returns the same as `take_stream`.
     fn take_cast<R: Read + Drop>(
         &mut self,
         name: &str,
@@ -152,7 +152,7 @@ impl<'a, W: Write, E: Write> Filtering<'a, W, E> {
         self.end_recording(name, outcome, reason, lines.into_auditor())
     }
 
-    // The same of a recording of ttyrec.
+    // Filters a recording of ttyrec, and returns the same.
     fn take_frames<R: Read + Drop>(
         &mut self,
         name: &str,
@@ -166,7 +166,7 @@ impl<'a, W: Write, E: Write> Filtering<'a, W, E> {
         self.end_recording(name, outcome, reason, frames.into_auditor())
     }
 
-    // The same of a typescript.
+    // Filters a typescript, and returns the same.
     fn take_script<R: Read + Drop>(
         &mut self,
         name: &str,
@@ -183,7 +183,7 @@ impl<'a, W: Write, E: Write> Filtering<'a, W, E> {
         self.end_recording(name, outcome, reason, auditor)
     }
 
-    // Reads a recording to its end. It returns how that ended, and the reason of what hindered it.
+    // Reads a recording to its end. It returns the outcome, and the system's reason for an error.
     fn read_recording<T: Recording, R: Read + Drop>(
         &mut self,
         recording: &mut T,
@@ -204,7 +204,8 @@ impl<'a, W: Write, E: Write> Filtering<'a, W, E> {
         (outcome, reason)
     }
 
-    // Says of a recording of this name how it ended, and reports what did not pass.
+    // Reports on a recording of this name, and prints a line on its cut or its error. It returns
+    // the same as `take_stream`.
     fn end_recording(
         &mut self,
         name: &str,
@@ -229,7 +230,7 @@ impl<'a, W: Write, E: Write> Filtering<'a, W, E> {
         (ended, is_failure, events_of(auditor))
     }
 
-    // Writes the name of a stream, which ended so.
+    // Writes the name of a stream. It returns this outcome, or that of a failed write.
     fn list(&mut self, name: &str, ended: Ended) -> Ended {
         match write_name(name, self.names, self.output) {
             Ok(()) => ended,
@@ -240,8 +241,8 @@ impl<'a, W: Write, E: Write> Filtering<'a, W, E> {
         }
     }
 
-    // Reports what did not pass of the stream of this name, where the options ask for it. It
-    // returns whether some byte of it had a fate that is a failure.
+    // Reports on the stream of this name if the options ask for that. It returns whether some byte
+    // had a fate that is a failure.
     fn report(
         &mut self,
         name: &str,
@@ -269,7 +270,7 @@ impl<'a, W: Write, E: Write> Filtering<'a, W, E> {
     }
 }
 
-// Writes a report on the stream of this name, where one is asked for.
+// Writes a report on the stream of this name if there is a form for one.
 fn tell<E: Write>(
     form: Option<Form>,
     account: Account,
@@ -290,7 +291,7 @@ fn tell<E: Write>(
     }
 }
 
-// Where what does not pass is told, at the beginning of the stream of this name.
+// The writer of events, at the beginning of the stream of this name.
 fn started(events: Option<Events>, name: &str) -> Option<Events> {
     match events {
         Some(mut events) => {
@@ -301,7 +302,7 @@ fn started(events: Option<Events>, name: &str) -> Option<Events> {
     }
 }
 
-// The same at its end.
+// The writer of events, at the end of a stream.
 fn stopped(events: Option<Events>) -> Option<Events> {
     match events {
         Some(mut events) => {
@@ -312,7 +313,7 @@ fn stopped(events: Option<Events>) -> Option<Events> {
     }
 }
 
-// Where what did not pass of a stream is told, of which this is the auditor.
+// The writer of events that this auditor has.
 fn events_of(auditor: Auditor<Choice<'_>, Rows<'_>>) -> Option<Events> {
     match auditor.into_book() {
         Some(rows) => rows.into_events(),

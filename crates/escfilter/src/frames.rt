@@ -1,4 +1,4 @@
-//! Recordings of ttyrec, frame by frame.
+//! Filters recordings of ttyrec, frame by frame.
 
 use crate::named_groups::Choice;
 use crate::recording::{Cut, Fault, MEMORY, Recording, TextFilter, write};
@@ -9,41 +9,41 @@ use esc_sanitize::Auditor;
 use std::alloc::Global;
 use std::io::Write;
 
-// How many bytes come before the text of a frame: the seconds, the microseconds and the length, of
+// The length of a frame's header: the seconds, the microseconds and the length of the text have
 // four bytes each, the lowest first.
 const HEAD: usize = 12;
 
-// How many microseconds a second has.
+// The microseconds of a second.
 const SECOND: u32 = 1_000_000;
 
-// What comes before the text of a frame.
+// The header of a frame.
 #[derive(Clone, Copy)]
 struct Head {
-    // its time: the seconds, and the microseconds after these
+    // the time of the frame: seconds, and microseconds after them
     seconds: u32,
     micros: u32,
-    // how many bytes the text has
+    // the length of the text
     length: u32,
 }
 
-/// A recording of ttyrec. Of each frame what its text adds is a frame at the same time, where it is
-/// not empty; a long text is taken in pieces, and so may become several frames.
+/// A filter of a recording of ttyrec, which comes in pieces. The output of each piece of a frame is
+/// a frame with the same time, unless it is empty: so a frame may become several.
 #[derive(Drop)]
 pub struct Frames<'a> {
     feeding: TextFilter<'a>,
-    // what came of the head of a frame
+    // the unfinished header of a frame
     head: Vec<u8>,
     // the time of the last frame
     seconds: u32,
     micros: u32,
-    // how many bytes of its text are still to come
+    // the bytes of its text that are still to come
     left: u32,
-    // how many frames have begun
+    // the number of frames so far
     count: u64,
 }
 
 impl<'a> Frames<'a> {
-    /// A recording of which nothing came, for a filter that was fed nothing. Takes no memory.
+    /// The beginning of a recording, for a new filter. Takes no memory.
     pub fn new(alloc: Global, feeding: TextFilter<'a>) -> Frames<'a> {
         Frames {
             feeding,
@@ -55,7 +55,7 @@ impl<'a> Frames<'a> {
         }
     }
 
-    /// The account, of a recording of which nothing more comes.
+    /// The account of the whole recording.
     pub fn into_auditor(self) -> Auditor<Choice<'a>, Rows<'a>> {
         let Frames {
             feeding,
@@ -68,7 +68,7 @@ impl<'a> Frames<'a> {
         feeding.into_auditor()
     }
 
-    // Takes bytes of the head of a frame, and returns how many.
+    // Takes bytes of the header of a frame, and returns their number.
     fn take_head(&mut self, bytes: &[u8]) -> Result<usize, Fault> {
         let count = bytes.len().min(HEAD.saturating_sub(self.head.len()));
         if self.head.extend_from_slice(&bytes[..count]).is_err() {
@@ -87,7 +87,7 @@ impl<'a> Frames<'a> {
         Ok(count)
     }
 
-    // Takes bytes of the text of a frame, writes the frame of what they add, and returns how many.
+    // Takes bytes of the text of a frame, writes a frame of their output, and returns their number.
     fn take_text<W: Write>(
         &mut self,
         bytes: &[u8],
@@ -105,7 +105,7 @@ impl<'a> Frames<'a> {
         Ok(count)
     }
 
-    // Writes the frame of what the last bytes added, where they added anything.
+    // Writes a frame of the output of the last bytes, unless it is empty.
     fn write_added<W: Write>(&self, writer: &mut Watched<W>) -> Result<(), Fault> {
         let text = self.feeding.output_text();
         if text.is_empty() {
@@ -153,7 +153,7 @@ impl<'a> Recording for Frames<'a> {
     }
 }
 
-// The head that these bytes are, where it is whole.
+// The header in these bytes, or none if they are fewer.
 fn head_of(bytes: &[u8]) -> Option<Head> {
     match bytes {
         [a, b, c, d, e, f, g, h, i, j, k, l] => Some(Head {

@@ -1,6 +1,6 @@
 // SPDX-License-Identifier: MIT
-//! Writes what a policy admits of streams of terminal escape sequences, and nothing else, as they
-//! come: for a log or a recording of unknown origin that goes to a terminal.
+//! Writes the actions of terminal streams that a policy admits, and nothing else, as the streams
+//! come: for logs and recordings of unknown origin that go to a terminal.
 #![tactic(auto)]
 
 mod aside;
@@ -128,7 +128,7 @@ pub(crate) const PROGRAM: &str = "escfilter";
 
 const VERSION: &str = "escfilter 0.1.0";
 
-// What the name of a new file ends in, until it takes its place.
+// The end of the name of a new file, until the file takes its place.
 pub(crate) const NEW: &str = ".escfilter";
 
 fn main(rt: HostRuntime) -> ExitCode {
@@ -144,7 +144,7 @@ fn main(rt: HostRuntime) -> ExitCode {
     ExitCode::from(status)
 }
 
-// Does what the words ask for.
+// Does the task, and returns the status.
 fn done(rt: &HostRuntime, task: &Task<'_>) -> u8 {
     match task.kind {
         Kind::Filter => match (wrong_apart(rt, task.apart), task.clash) {
@@ -157,19 +157,19 @@ fn done(rt: &HostRuntime, task: &Task<'_>) -> u8 {
     }
 }
 
-// The status after a text was printed.
+// The status after printing a text.
 fn said(rt: &HostRuntime, printed: io::Result<()>) -> u8 {
     status_of_text(PROGRAM, OUTPUT, printed, &mut rt.stderr())
 }
 
-// The status where options do not go together, which a line says.
+// Prints that options do not go together, and returns the status.
 fn clashing<E: Write>(clash: &str, faults: &mut E) -> u8 {
     let _ = writeln!(faults, "{PROGRAM}: {clash}");
     let _ = writeln!(faults, "Try '{PROGRAM} --help' for more.");
     USAGE_FAULT
 }
 
-// Reads the timing file, where there is one, and filters the files.
+// Reads the timing file if there is one, and filters the files.
 fn filter_timed(rt: &HostRuntime, task: &Task<'_>) -> u8 {
     let Some(name) = task.timing else {
         return filter(rt, task, task.options);
@@ -182,12 +182,12 @@ fn filter_timed(rt: &HostRuntime, task: &Task<'_>) -> u8 {
     filter(rt, task, timed(task.options, timing.bytes()))
 }
 
-// The options with this timing.
+// These options, with this timing.
 fn timed<'a>(options: Options<'a>, timing: &'a [u8]) -> Options<'a> {
     Options { timing, ..options }
 }
 
-// Filters the files by these options, and tells of them what is asked for.
+// Filters the files by these options, and writes the reports and events.
 fn filter(rt: &HostRuntime, task: &Task<'_>, options: Options<'_>) -> u8 {
     match Told::of(rt, task) {
         Ok(mut told) => {
@@ -198,7 +198,7 @@ fn filter(rt: &HostRuntime, task: &Task<'_>, options: Options<'_>) -> u8 {
     }
 }
 
-// Filters the files to where the output goes.
+// Filters the files to the place of the output.
 fn filter_to(
     rt: &HostRuntime,
     target: Target<'_>,
@@ -217,7 +217,7 @@ fn filter_to(
     }
 }
 
-// Filters one file after another to an output of this name.
+// Filters one file after another to this output, which has this name.
 fn filter_all<W: Write>(
     rt: &HostRuntime,
     options: Options<'_>,
@@ -231,7 +231,7 @@ fn filter_all<W: Write>(
     work_through(rt, PROGRAM, files, &mut filtering, &mut rt.stderr())
 }
 
-// A filter of streams to an output of this name.
+// A filter of streams to this output, which has this name.
 fn filter_of<'a, W>(
     rt: &HostRuntime,
     options: Options<'a>,
@@ -251,7 +251,7 @@ fn filter_of<'a, W>(
     }
 }
 
-// Filters the files to that of this name, whole or not at all, or to the stream of this name.
+// Filters the files to the file of this name, whole or not at all, or to the device of this name.
 fn filter_to_file(
     rt: &HostRuntime,
     options: Options<'_>,
@@ -297,7 +297,7 @@ fn filter_in_place(
     status
 }
 
-// Filters the file of this name in its place. It returns how that ended.
+// Filters the file of this name in its place, and returns the outcome.
 fn replace_file(
     rt: &HostRuntime,
     options: Options<'_>,
@@ -316,7 +316,7 @@ fn replace_file(
     }
 }
 
-// Filters the file of this name to a new one, which then takes its place.
+// Filters the file of this name to a new file, which then takes its place.
 fn replace_by(
     rt: &HostRuntime,
     options: Options<'_>,

@@ -1,4 +1,4 @@
-//! What the program's words ask for.
+//! Reads the program's task from its words.
 ghost use Rattle.std.specs.Prelude.{◌≡◌};
 ghost use Rattle.escfilter.specs.Settings.{has_names, is_audited};
 
@@ -12,32 +12,32 @@ use esc_filter::Policy;
 use esc_sanitize::FilterOptions;
 use std::alloc::Global;
 
-/// How streams are filtered, and what is told of them.
+/// The options of the filter, and of the reports on its streams.
 #[derive(Clone, Copy)]
 pub struct Options<'a> {
-    /// How they are filtered.
+    /// The options of the filter.
     pub filter: FilterOptions<Choice<'a>>,
-    /// Which byte of a unit comes first, where a stream is in UTF-16; then it is read as UTF-8.
+    /// The order of bytes in a stream of UTF-16. The filter gets such a stream as UTF-8.
     pub order: Option<ByteOrder>,
-    /// What a file is: a stream, or a recording of one.
+    /// The kind of the files.
     pub recorded: Recorded,
     /// Whether events of input lose their texts.
     pub drops_input: bool,
     /// The timing of a typescript.
     pub timing: &'a [u8],
-    /// In which form it is reported what was left out.
+    /// The form of the reports, if there are any.
     pub report: Option<Form>,
-    /// Whether what did not pass is told, one thing after another.
+    /// Whether events are written.
     pub has_events: bool,
-    /// Whether the names of files are written in place of what passes.
+    /// Whether the output is a list of names of files.
     pub is_list: bool,
-    /// Whether a zero byte ends each of them, in place of a line feed.
+    /// Whether each name ends with a zero byte, in place of a line feed.
     pub is_null: bool,
-    /// Which fates are a failure, where some are.
+    /// The fates that are a failure, if there are any.
     pub fails: Option<Failing>,
 }
 
-/// What a file is.
+/// The kind of a file.
 #[derive(Clone, Copy)]
 pub enum Recorded {
     /// A stream.
@@ -59,56 +59,56 @@ pub enum Form {
     Json,
 }
 
-/// What the program does.
+/// The kind of a task.
 #[derive(Clone, Copy)]
 pub enum Kind {
-    /// It filters files, or standard input where there is none.
+    /// To filter files, or standard input if there is no file.
     Filter,
-    /// It prints what it does.
+    /// To print the usage.
     Help,
-    /// It prints its version.
+    /// To print the version.
     Version,
 }
 
-/// Where the output goes.
+/// The place of the output.
 #[derive(Clone, Copy)]
 pub enum Target<'a> {
-    /// To standard output.
+    /// Standard output.
     Output,
-    /// To the file of this name.
+    /// The file of this name.
     File(&'a str),
-    /// To each file that is read; the one that was there is kept under its name with this suffix,
-    /// where there is one.
+    /// Each file that is read. The old file is kept under its name with this suffix, unless the
+    /// suffix is empty.
     InPlace(&'a str),
 }
 
-/// What the program's words ask for.
+/// A task of the program.
 #[derive(Drop)]
 pub struct Task<'a> {
-    /// What the program does.
+    /// The kind of the task.
     pub kind: Kind,
-    /// Where the output goes.
+    /// The place of the output.
     pub target: Target<'a>,
-    /// How streams are filtered.
+    /// The options of the filter and of its reports.
     pub options: Options<'a>,
-    /// Where reports go, where not to standard error.
+    /// The file of the reports, in place of standard error.
     pub report_to: Option<&'a str>,
-    /// Where what did not pass is told, one thing after another.
+    /// The file of the events.
     pub events: Option<&'a str>,
     /// The timing file of a typescript.
     pub timing: Option<&'a str>,
-    /// Where the timing of the new typescript goes.
+    /// The file of the new timing.
     pub timing_to: Option<&'a str>,
-    /// The files.
+    /// The files to filter.
     pub files: Vec<&'a str>,
-    /// The first of these that an option before it could take.
+    /// The first file that may be meant as the value of the option before it.
     pub apart: Option<Apart<'a>>,
-    /// Which options do not go together, where some do not.
+    /// An error message on options that do not go together.
     pub clash: Option<&'static str>,
 }
 
 impl<'a> Options<'a> {
-    /// Whether names are asked for of what did not pass.
+    /// Whether omissions get names, for reports or for events.
     pub fn has_names(&self) -> bool
         ensures { result ≡ has_names self.now }
     {
@@ -253,8 +253,8 @@ const KNOWN: &[Known] = &[
 ];
 
 impl<'a> Task<'a> {
-    /// The task that these words, the program's arguments, name; of an option that is given twice
-    /// the last counts.
+    /// The task in these words, the program's arguments. If an option comes twice, the last one
+    /// counts.
     pub fn of(alloc: Global, words: &'a [String]) -> Result<Task<'a>, Wrong<'a>> {
         match read(alloc, KNOWN, words) {
             Ok(found) => match wrong_value(&found.options) {
@@ -265,7 +265,7 @@ impl<'a> Task<'a> {
         }
     }
 
-    // The task that these options and files name.
+    // The task of these options and files.
     fn from_found(found: Found<'a>) -> Task<'a> {
         let mut asked = Asked::nothing(default_policy(&found.options));
         for given in &found.options {
@@ -287,7 +287,7 @@ impl<'a> Task<'a> {
     }
 }
 
-// What the options ask for.
+// The values of the options.
 #[derive(Drop)]
 struct Asked<'a> {
     kind: Kind,
@@ -306,7 +306,7 @@ struct Asked<'a> {
 }
 
 impl<'a> Asked<'a> {
-    // What no option asks for, where this policy is the default.
+    // The values without any option, with this default policy.
     fn nothing(policy: Policy) -> Asked<'a> {
         Asked {
             kind: Kind::Filter,
@@ -325,7 +325,7 @@ impl<'a> Asked<'a> {
         }
     }
 
-    // Takes an option more.
+    // Takes one more option.
     fn take(&mut self, given: &Given<'a>) {
         match given.name {
             "--encoding" => {
@@ -352,7 +352,7 @@ impl<'a> Asked<'a> {
         }
     }
 
-    // How streams are filtered, and what is told of them.
+    // The options of the filter and of its reports.
     fn options(&self) -> Options<'a>
         ensures { result.filter.audits ≡ is_audited result }
     {
@@ -373,8 +373,8 @@ impl<'a> Asked<'a> {
         }
     }
 
-    // Which options do not go together, where some do not with these files. The rows that are left
-    // of lines have no times.
+    // An error message on options that do not go together, or not with these files. The rows of
+    // --collapse have no times, so it is not for recordings.
     fn clash(&self, files: &[&str]) -> Option<&'static str> {
         match self.settings.rows {
             Some(_) if self.settings.is_recording() => Some("--collapse is not for recordings"),
@@ -387,7 +387,7 @@ impl<'a> Asked<'a> {
         }
     }
 
-    // The same of a typescript.
+    // The same for a typescript.
     fn timing_clash(&self, files: &[&str]) -> Option<&'static str> {
         if files.len() > 1 {
             Some("--timing is that of one FILE")
@@ -400,7 +400,7 @@ impl<'a> Asked<'a> {
         }
     }
 
-    // Where the output goes. A list changes no file that is read.
+    // The place of the output. A list changes no file that is read.
     fn target(&self) -> Target<'a> {
         match self.target {
             Target::InPlace(_) if self.is_list => Target::Output,
@@ -408,7 +408,7 @@ impl<'a> Asked<'a> {
         }
     }
 
-    // The timing of a typescript.
+    // The timing file of a typescript.
     fn timing(&self) -> Option<&'a str> {
         match self.settings.recorded {
             Recorded::Typescript => self.timing,
@@ -416,12 +416,12 @@ impl<'a> Asked<'a> {
         }
     }
 
-    // Where the timing of the new typescript goes. Where names are listed there is none.
+    // The file of the new timing. A list has none.
     fn timing_to(&self) -> Option<&'a str> {
         if self.is_list { None } else { self.timing_to }
     }
 
-    // In which form it is reported what was left out. A file for the report asks for one.
+    // The form of the reports. A file for them without a form has lines of text.
     fn report(&self) -> Option<Form> {
         match (self.report, self.report_to) {
             (None, Some(_)) => Some(Form::Text),
@@ -430,7 +430,7 @@ impl<'a> Asked<'a> {
     }
 }
 
-// Whether these files, at most one, are standard input.
+// Whether the input is standard input. There is at most one file.
 fn are_input(files: &[&str]) -> bool {
     match files {
         [] => true,
@@ -443,7 +443,7 @@ fn is_input(name: &str) -> bool {
     name == "-"
 }
 
-// The policy where none is named: what is recorded is a program that uses the screen.
+// The policy without --allow. Recorded programs use the screen.
 fn default_policy(options: &[Given<'_>]) -> Policy {
     for given in options {
         match given.name {
@@ -454,7 +454,7 @@ fn default_policy(options: &[Given<'_>]) -> Policy {
     Policy::Color
 }
 
-// The form of this name, which is one of those in the table; of text where none is named.
+// The form of this name in the table: text if the name is empty.
 fn form_of(name: &str) -> Form {
     match name {
         "json" => Form::Json,

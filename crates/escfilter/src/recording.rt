@@ -1,4 +1,4 @@
-//! Recordings, from their reader to the output.
+//! Filters a recording from a reader to the output.
 
 use crate::named_groups::Choice;
 use crate::rows::Rows;
@@ -14,33 +14,32 @@ use std::io::{Read, Write};
 /// The filter of the stream of a recording.
 pub type TextFilter<'a> = Sanitizing<Choice<'a>, Rows<'a>>;
 
-/// A recording of one form, whose bytes come in pieces.
+/// A filter of a recording in one format, which comes in pieces.
 pub trait Recording {
-    /// Takes bytes more, and writes what comes of them.
+    /// Takes more bytes, and writes their output.
     fn take<W: Write>(&mut self, bytes: &[u8], writer: &mut Watched<W>) -> Result<(), Fault>;
 
-    /// Ends the recording, and writes what comes of its end. It returns where the recording is cut,
-    /// where it is.
+    /// Ends the recording, and writes the output of its end. It returns the place of a cut.
     fn end<W: Write>(&mut self, writer: &mut Watched<W>) -> Result<Option<Cut>, Fault>;
 }
 
-/// Why a recording was not filtered to its end.
+/// The error that stopped the filtering of a recording.
 #[derive(Clone, Copy)]
 pub enum Fault {
-    /// As of a stream.
+    /// An error that a stream has too.
     Stream(FilterError),
-    /// The line of this number is no line of a recording of asciinema.
+    /// The line with this number is no line of a recording of asciinema.
     Line(u64),
-    /// The line of this number has more bytes than this.
+    /// The line with this number has more bytes than the second number.
     Long(u64, usize),
-    /// The frame of this number is none of a recording of ttyrec.
+    /// The frame with this number is no frame of ttyrec.
     Frame(u64),
-    /// The timing of a typescript is none.
+    /// The timing file of a typescript is malformed.
     Timing(TimeError),
 }
 
 impl Fault {
-    /// Whether the output took nothing more.
+    /// Whether a write failed.
     pub fn is_of_output(self) -> bool {
         match self {
             Fault::Stream(FilterError::Write) => true,
@@ -61,14 +60,14 @@ impl Display for Fault {
     }
 }
 
-/// Where a recording is cut: all that came before is filtered, and written.
+/// The place where a recording is cut. All before it is filtered and written.
 #[derive(Clone, Copy)]
 pub enum Cut {
-    /// In the line of this number, which is left out.
+    /// In the line with this number, which is left out.
     Line(u64),
-    /// In the frame of this number, of which the beginning is filtered.
+    /// In the frame with this number, whose beginning is filtered.
     Frame(u64),
-    /// Before its timing ends.
+    /// Before the end of its timing.
     Timing,
 }
 
@@ -82,8 +81,7 @@ impl Display for Cut {
     }
 }
 
-/// Reads a recording to its end, and writes what comes of it as it reads. It returns where the
-/// recording is cut, where it is.
+/// Reads a recording to its end, and writes the output as it reads. It returns the place of a cut.
 pub fn filter_recording<T: Recording, R: Read, W: Write>(
     alloc: Global,
     recording: &mut T,
@@ -96,7 +94,7 @@ pub fn filter_recording<T: Recording, R: Read, W: Write>(
     }
 }
 
-// Reads to the end by way of this chunk, and writes what comes of it.
+// Reads to the end into this buffer, and writes the output.
 fn filter_all<T: Recording, R: Read, W: Write>(
     recording: &mut T,
     reader: &mut Watched<R>,
@@ -109,7 +107,7 @@ fn filter_all<T: Recording, R: Read, W: Write>(
     Ok(cut)
 }
 
-// The same by way of this chunk, but for the end of the recording.
+// Reads to the end into this buffer, and writes the output, without that of the end.
 fn take_all<T: Recording, R: Read, W: Write>(
     recording: &mut T,
     reader: &mut Watched<R>,
@@ -138,7 +136,7 @@ pub fn write<W: Write>(writer: &mut Watched<W>, bytes: &[u8]) -> Result<(), Faul
     }
 }
 
-/// The fault that memory was refused.
+/// The fault of refused memory.
 pub const MEMORY: Fault = Fault::Stream(FilterError::Memory);
 
 fn flush<W: Write>(writer: &mut Watched<W>) -> Result<(), Fault> {

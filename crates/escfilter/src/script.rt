@@ -1,4 +1,4 @@
-//! Typescripts of script(1), by their timing.
+//! Filters typescripts of script(1) by their timing.
 
 use crate::aside::Aside;
 use crate::named_groups::Choice;
@@ -14,33 +14,33 @@ use std::alloc::Global;
 use std::io::Write;
 use std::str;
 
-// How many microseconds a second has.
+// The microseconds of a second.
 const SECOND: u64 = 1_000_000;
 
-// How many bytes are kept of the first line of a typescript.
+// The first line of a typescript is kept up to this many bytes.
 const MOST: usize = 4096;
 
-/// A typescript of script(1), with its timing. What its output adds is written, and in a timing of
-/// its own when, in the form of the timing that it has. Its first line stays, as far as it is text;
-/// what was typed and what comes after the bytes that the timing counts are left out.
+/// A filter of a typescript of script(1), which comes in pieces, by its timing. It makes a new
+/// typescript and a new timing in the form of the old one. The first line stays if it is text. What
+/// the user typed is left out, and so are the bytes that the timing does not count.
 #[derive(Drop)]
 pub struct Script<'a> {
     feeding: TextFilter<'a>,
     typescript: Typescript<'a>,
-    // what came of the first line, while it is unfinished
+    // the unfinished first line; none after its end
     first: Option<Vec<u8>>,
-    // what an entry of output begins with in the timing
+    // the beginning of an entry of output in the timing
     mark: &'static str,
-    // the time up to which the new timing counts, and that of what came last
+    // the time of the last entry of the new timing, and that of the last output
     told: u64,
     time: u64,
-    // where the new timing goes
+    // the file of the new timing
     timing: Option<Aside>,
 }
 
 impl<'a> Script<'a> {
-    /// A typescript with this timing of which nothing came, for a filter that was fed nothing; the
-    /// new timing goes there, and begins with its headers.
+    /// The beginning of a typescript with this timing, for a new filter. The headers of the new
+    /// timing go to its file.
     pub fn new(
         alloc: Global,
         feeding: TextFilter<'a>,
@@ -58,7 +58,7 @@ impl<'a> Script<'a> {
         }
     }
 
-    /// Where the new timing goes, of a typescript of which nothing more comes, and the account.
+    /// The file of the new timing, and the account of the whole typescript.
     pub fn into_parts(self) -> (Option<Aside>, Auditor<Choice<'a>, Rows<'a>>) {
         let Script {
             feeding,
@@ -72,7 +72,7 @@ impl<'a> Script<'a> {
         (timing, feeding.into_auditor())
     }
 
-    // Takes bytes of the first line, and writes that where it ends.
+    // Takes bytes of the first line, and writes the line at its end.
     fn take_first<W: Write>(&mut self, bytes: &[u8], writer: &mut Watched<W>) -> Result<(), Fault> {
         let Some(mut first) = self.first.take() else {
             return Ok(());
@@ -90,7 +90,7 @@ impl<'a> Script<'a> {
         }
     }
 
-    // Takes bytes of the output that came at this time, and writes what they add.
+    // Filters output of this time, and writes the result.
     fn hear<W: Write>(
         &mut self,
         time: u64,
@@ -104,7 +104,7 @@ impl<'a> Script<'a> {
         }
     }
 
-    // Writes what the last bytes added, and tells in the new timing when.
+    // Writes the output of the last bytes, with an entry in the new timing.
     fn write_added<W: Write>(&mut self, writer: &mut Watched<W>) -> Result<(), Fault> {
         let added = self.feeding.output_text();
         let count = added.len();
@@ -115,7 +115,7 @@ impl<'a> Script<'a> {
         Ok(())
     }
 
-    // Tells in the new timing that so many bytes came.
+    // Adds an entry for this number of bytes to the new timing.
     fn tell(&mut self, count: usize) {
         let mark = self.mark;
         let delay = self.time.saturating_sub(self.told);
@@ -126,7 +126,7 @@ impl<'a> Script<'a> {
         }
     }
 
-    // Writes what is held of the new timing.
+    // Writes the held entries of the new timing.
     fn flush_timing(&mut self) {
         if let Some(timing) = &mut self.timing {
             let _ = timing.flush();
@@ -168,7 +168,7 @@ impl<'a> Recording for Script<'a> {
     }
 }
 
-// Makes the first line longer, up to as many bytes as are kept of it.
+// Adds bytes to the first line, up to the most that it keeps.
 fn grow(first: &mut Vec<u8>, bytes: &[u8]) -> Result<(), Fault> {
     let most = MOST.saturating_sub(first.len());
     match first.extend_from_slice(&bytes[..bytes.len().min(most)]) {
@@ -177,7 +177,7 @@ fn grow(first: &mut Vec<u8>, bytes: &[u8]) -> Result<(), Fault> {
     }
 }
 
-// Writes the first line of a typescript, with nothing live in it.
+// Writes the first line of a typescript, with its controls escaped.
 fn write_first<W: Write>(line: &[u8], writer: &mut Watched<W>) -> Result<(), Fault> {
     let text = str::from_utf8(line).unwrap_or("Script started");
     match writeln!(writer, "{}", Shown(text)) {
@@ -186,7 +186,7 @@ fn write_first<W: Write>(line: &[u8], writer: &mut Watched<W>) -> Result<(), Fau
     }
 }
 
-// What an entry of output begins with in a timing as this: a letter, where entries have one.
+// The beginning of an entry of output in the form of this timing: a letter in the advanced form.
 fn mark_of(timing: &[u8]) -> &'static str {
     match timing {
         [b'H' | b'I' | b'O' | b'S', ..] => "O ",
@@ -194,7 +194,7 @@ fn mark_of(timing: &[u8]) -> &'static str {
     }
 }
 
-// A new timing, where there is one, with the headers of this one, but for the names of files.
+// The file of the new timing, with the headers of the old one, but without names of files.
 fn with_headers(timing: &[u8], aside: Option<Aside>) -> Option<Aside> {
     match aside {
         Some(mut aside) => {
@@ -205,7 +205,7 @@ fn with_headers(timing: &[u8], aside: Option<Aside>) -> Option<Aside> {
     }
 }
 
-// Tells the headers of a timing, but for the names of files.
+// Writes the headers of a timing, but without names of files.
 fn tell_headers(timing: &[u8], aside: &mut Aside) {
     let mut rest = timing;
     for _ in 0..u64::MAX {
@@ -221,7 +221,7 @@ fn tell_headers(timing: &[u8], aside: &mut Aside) {
     }
 }
 
-// The bytes before this one, and those after it; all and none, where it is not there.
+// The text before the first byte of this value, and the text after it: all and none without one.
 fn parted(text: &[u8], by: u8) -> (&[u8], &[u8]) {
     match memchr(by, text) {
         Some(at) => (&text[..at], &text[at + 1..]),
@@ -229,8 +229,8 @@ fn parted(text: &[u8], by: u8) -> (&[u8], &[u8]) {
     }
 }
 
-// Whether a line is a header that is told: its bytes are those of characters of ASCII, and it names
-// no file of output, of input or of the timing.
+// Whether a line is a header that stays: it is printable ASCII, and names no file of output, input
+// or timing.
 fn is_told(line: &[u8]) -> bool {
     match line {
         [b'H', b' ', rest @ ..] => is_plain(rest) && !names_file(rest),
@@ -238,7 +238,7 @@ fn is_told(line: &[u8]) -> bool {
     }
 }
 
-// Whether each byte is one of ASCII that is no control.
+// Whether each byte is printable ASCII.
 fn is_plain(line: &[u8]) -> bool {
     for byte in line {
         if *byte < 0x20 || *byte > 0x7e {
@@ -248,7 +248,7 @@ fn is_plain(line: &[u8]) -> bool {
     true
 }
 
-// Whether a header, after its letter, is the name of a file.
+// Whether a header, without its letter, names a file.
 fn names_file(line: &[u8]) -> bool {
     let (_, header) = parted(line, b' ');
     let (name, _) = parted(header, b' ');

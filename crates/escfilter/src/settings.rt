@@ -1,4 +1,4 @@
-//! How streams are filtered by the program's words.
+//! The options of the filter, in the program's words.
 ghost use Rattle.std.specs.Prelude.{◌≡◌};
 
 use crate::named_groups::Choice;
@@ -11,40 +11,39 @@ use esc_filter::{Guard, Policy, Returns, Unicode};
 use esc_sanitize::FilterOptions;
 use line_collapse::{COLUMNS, Window};
 
-/// What the words say of how streams are filtered. Where they do not say something, the policy may
-/// decide.
+/// The values of the filter's options. The policy may decide on those without a value.
 #[derive(Clone, Copy)]
 pub struct Settings<'a> {
-    /// What passes, by the policies and groups that are named.
+    /// The policies and groups that pass.
     pub choice: Choice<'a>,
-    /// The schemes that the addresses of links have to have.
+    /// The schemes of links that pass.
     pub schemes: Option<&'a str>,
-    /// How many bytes are kept of an unfinished segment.
+    /// The most bytes of an unfinished segment that are kept.
     pub limit: usize,
     /// Whether each line is a stream of its own.
     pub by_lines: Option<bool>,
-    /// Whether each line begins plain, and a rendition does not go on over a line feed.
+    /// Whether each line begins plain, so that no rendition goes on over a line feed.
     pub resets: bool,
-    /// What is written of characters that hide or reorder text.
+    /// The treatment of characters that hide or reorder text.
     pub unicode: Option<Unicode>,
-    /// What is written of bare carriage returns.
+    /// The treatment of bare carriage returns.
     pub returns: Option<Returns>,
-    /// An 8-bit encoding.
+    /// The encoding, if it has 8 bits.
     pub page: Option<CodePage>,
     /// Whether bytes 80 to 9F that are part of no character are controls of C1.
     pub obeys: bool,
-    /// How what does not pass is shown in place.
+    /// The form of omissions that are shown in place.
     pub show: Option<Marking>,
-    /// How many rows may be written again, where what is left of them is written.
+    /// The number of rows of the screen that the text is collapsed on.
     pub rows: Option<usize>,
-    /// How many columns these rows have.
+    /// The number of its columns.
     pub columns: Option<usize>,
-    /// What a file is: a stream, or a recording of one.
+    /// The kind of the files.
     pub recorded: Recorded,
 }
 
 impl<'a> Settings<'a> {
-    /// What no word says, where this policy is the default.
+    /// The values without any option, with this default policy.
     pub fn nothing(policy: Policy) -> Settings<'a> {
         Settings {
             choice: Choice::of(policy),
@@ -63,7 +62,7 @@ impl<'a> Settings<'a> {
         }
     }
 
-    /// Takes an option more, where it is one of these.
+    /// Takes one more option if it is one of these.
     pub fn take(&mut self, given: &Given<'a>) {
         match given.name {
             "--allow" => self.choice = self.choice.and(given.some),
@@ -85,7 +84,7 @@ impl<'a> Settings<'a> {
         }
     }
 
-    /// How streams are filtered then, with an account or without.
+    /// The options of the filter, with an account or without.
     pub fn filter_options(self, audits: bool) -> FilterOptions<Choice<'a>>
         ensures { result.audits ≡ audits }
     {
@@ -110,7 +109,7 @@ impl<'a> Settings<'a> {
         }
     }
 
-    // What passes where links have these schemes, and so many rows may be written again.
+    // The choice of what passes, with these schemes of links. The collapse obeys movements too.
     fn policy(self) -> Choice<'a> {
         let choice = match self.schemes {
             Some(schemes) => self.choice.with_schemes(schemes),
@@ -122,22 +121,18 @@ impl<'a> Settings<'a> {
         }
     }
 
-    // The screen of which what is left is written, where it is. Where text is written over other
-    // text, the character before one may become another, so this is asked again there.
+    // The screen that the text is collapsed on. It gets the treatment of characters too, since text
+    // that is written over may put another character before one.
     fn window(self, characters: Unicode) -> Option<Window> {
         match self.rows {
-            Some(rows) => Some(Window::new(
-                rows,
-                self.columns.unwrap_or(COLUMNS),
-                characters,
-            )),
+            Some(rows) => Some(Window::new(rows, self.columns.unwrap_or(COLUMNS), characters)),
             None => None,
         }
     }
 
-    // What is written of bare carriage returns, where this is the policy's way: they are kept in a
-    // stream that is one, and, where the words do not say so, where they move what is written, as
-    // in a recording.
+    // The treatment of bare carriage returns, with this default of the policy. A stream that is
+    // taken whole keeps them. So do recordings and the collapse, unless an option says otherwise,
+    // since a terminal obeys them there.
     fn bare_returns(self, by_lines: bool, default: Returns) -> Returns {
         match self.returns {
             _ if !by_lines => Returns::Keep,
@@ -147,13 +142,13 @@ impl<'a> Settings<'a> {
         }
     }
 
-    /// Whether a file is a recording.
+    /// Whether the files are recordings.
     pub fn is_recording(self) -> bool {
         !matches!(self.recorded, Recorded::Stream)
     }
 
-    // How the bytes of a stream are read. The texts of a recording of asciinema are characters, and
-    // where bytes are shown none is replaced.
+    // The encoding of a stream. The texts of a recording of asciinema are characters already, and
+    // --show replaces no byte.
     fn encoding(self) -> Encoding {
         let obeys = self.obeys || self.show.is_some();
         match self.page {
@@ -164,6 +159,7 @@ impl<'a> Settings<'a> {
     }
 }
 
+// The treatment of carriage returns that has this name in the table.
 fn returns_of(name: &str) -> Returns {
     match name {
         "show" => Returns::Show,
@@ -172,7 +168,7 @@ fn returns_of(name: &str) -> Returns {
     }
 }
 
-// The way of this name, which is one of those in the table.
+// The treatment of characters that has this name in the table.
 fn unicode_of(name: &str) -> Unicode {
     match name {
         "join" => Unicode::Join,
@@ -182,7 +178,7 @@ fn unicode_of(name: &str) -> Unicode {
     }
 }
 
-// How what is shown is told by this word, which is one of those in the table, or none.
+// The form of omissions that has this name in the table: plain if the name is empty.
 fn marking_of(name: &str) -> Marking {
     match name {
         "escaped" => Marking::Escaped,

@@ -1,4 +1,4 @@
-//! The timing file of a typescript, which is read before that.
+//! Reads the timing file of a typescript.
 
 use crate::PROGRAM;
 use command_line::{Ended, ErrorCapture, Place, Work, ended_by};
@@ -6,16 +6,16 @@ use esc_filter::FilterError;
 use std::alloc::Global;
 use std::io::{Read, Write};
 
-/// What keeps the bytes of a file.
+/// The bytes of a timing file.
 #[derive(Drop)]
 pub struct Timing<E> {
     bytes: Vec<u8>,
-    // where what hinders goes
+    // the writer of error messages
     faults: E,
 }
 
 impl<E: Write> Timing<E> {
-    /// None. Takes no memory.
+    /// No bytes yet. Takes no memory.
     pub fn new(alloc: Global, faults: E) -> Timing<E> {
         Timing {
             bytes: Vec::new(alloc),
@@ -44,7 +44,7 @@ impl<E: Write> Work for Timing<E> {
     }
 }
 
-// Reads to the end, and adds what is read.
+// Reads to the end, and adds the bytes.
 fn read_all<R: Read>(input: &mut R, bytes: &mut Vec<u8>) -> Result<(), FilterError> {
     let mut chunk = [0u8; 4096];
     for _ in 0..u64::MAX {
