@@ -1,4 +1,5 @@
-//! A file beside the output, for what is told of streams.
+//! Files beside the output, for reports, events and timing.
+ghost use Rattle.std.specs.Prelude.{◌≡◌, IsErr, OnErr, is_some, true};
 
 use atomic_file::{FileFault, Output};
 use command_line::{ErrorCapture, Reason};
@@ -6,19 +7,19 @@ use std::alloc::Global;
 use std::io;
 use std::io::Write;
 
-/// A file beside the output. What is put into it goes there at each flush; after an error nothing
-/// does.
+/// A file beside the output. Each flush writes the bytes since the last one. After an error nothing
+/// more is written.
 #[derive(Drop)]
 pub struct Aside {
     output: ErrorCapture<Output>,
-    // what was put into it since the last flush
+    // the bytes since the last flush
     held: Vec<u8>,
-    // why it is not written any more
+    // the reason of the error
     fault: Option<Reason>,
 }
 
 impl Aside {
-    /// A file that goes there, and has nothing yet. Takes no memory.
+    /// A file at this place, with no bytes yet. Takes no memory.
     pub fn new(alloc: Global, output: Output) -> Aside {
         Aside {
             output: ErrorCapture::new(output),
@@ -27,9 +28,10 @@ impl Aside {
         }
     }
 
-    /// Puts it in its place. The error says why it is not whole, or cannot be put there; then what
-    /// was there is as it was.
-    pub fn end(self, rt: &HostRuntime) -> Result<(), FileFault<'static>> {
+    /// Puts the file in its place. After an error, also of an earlier write, the old file stays.
+    pub fn end(self, rt: &HostRuntime) -> Result<(), FileFault<'static>>
+        ensures { is_some self.fault ≡ true → IsErr result }
+    {
         let Aside {
             output,
             held: _,
@@ -42,17 +44,34 @@ impl Aside {
         }
     }
 
-    /// Takes it away. What was there is as it was.
+    /// Removes the file. The old file stays.
     pub fn give_up(self, rt: &HostRuntime) {
         let _ = self.output.into_inner().end(rt, false);
     }
 
-    /// Takes it for one that cannot be whole, for this reason.
-    pub fn fail(&mut self, error: &io::Error) {
+    /// Notes that the file cannot be whole, for this reason.
+    pub fn fail(&mut self, error: &io::Error)
+        ensures { is_some self.new.fault ≡ true }
+    {
         self.fault = Some(Reason::of(error));
     }
 
-    // Writes what it holds.
+    // Writes the held bytes, and notes an error.
+    fn write_noted(&mut self) -> io::Result<()>
+        ensures lost { OnErr result (is_some self.new.fault ≡ true) }
+    {
+        let written = self.write_held();
+        self.held.clear();
+        match written {
+            Ok(()) => Ok(()),
+            Err(fault) => {
+                self.fail(&fault);
+                Err(fault)
+            }
+        }
+    }
+
+    // Writes the held bytes.
     fn write_held(&mut self) -> io::Result<()> {
         self.output.write_all(&self.held)?;
         self.output.flush()
@@ -75,11 +94,6 @@ impl Write for Aside {
         if self.fault.is_some() {
             return Ok(());
         }
-        let written = self.write_held();
-        self.held.clear();
-        if let Err(error) = &written {
-            self.fail(error);
-        }
-        written
+        self.write_noted()
     }
 }

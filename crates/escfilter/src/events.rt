@@ -1,5 +1,5 @@
 //! What did not pass of streams, one thing after another, in lines of JSON (RFC 8259).
-ghost use Rattle.std.specs.Prelude.{OnErr};
+ghost use Rattle.std.specs.Prelude.{◌≡◌, OnErr};
 ghost use Rattle.std.specs.Global.{Global};
 ghost use Rattle.fallible_alloc.specs.Refusals.{Refused};
 
@@ -105,7 +105,9 @@ impl Events {
     }
 
     /// The file that they go to.
-    pub fn into_aside(self) -> Aside {
+    pub fn into_aside(self) -> Aside
+        ensures { result ≡ self.aside }
+    {
         let Events {
             aside,
             stream: _,

@@ -261,9 +261,8 @@ impl<'a, W: Write, E: Write> Filtering<'a, W, E> {
         };
         let form = self.options.report;
         let mut report = self.told.report.take();
-        match &mut report {
-            Some(aside) => tell(form, account, rows, name, is_complete, aside),
-            None => tell(form, account, rows, name, is_complete, &mut self.faults),
+        if let Some(aside) = &mut report {
+            tell(form, account, rows, name, is_complete, aside);
         }
         self.told.report = report;
         self.told.gate.take(account.sums)

@@ -1,4 +1,4 @@
-//! Texts and numbers on standard error. Where one cannot be written there is nobody to tell.
+//! Writes texts and numbers of reports and events. Their file notes an error.
 
 use crate::name::Key;
 use std::io::Write;
