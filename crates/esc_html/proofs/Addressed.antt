@@ -1,14 +1,16 @@
 -- How long the address of a command is: no longer than its parts, nor than an address may be.
-use Rattle.std.proofs.Common.{ℕ, ◌≡◌, ◌≤◌, ◌+◌, ◌-◌, Bool, true, false, ◌&&◌, ◌||◌, if◌then◌else◌, List, [], ◌∷◌, codes, length, Option, Some, None, refl, subst, arith}
+use Rattle.std.proofs.Common.{ℕ, ◌≡◌, ◌≤◌, ◌+◌, ◌-◌, Bool, true, false, ◌&&◌, if◌then◌else◌, List, [], ◌∷◌, codes, length, Option, Some, None, refl, ap, arith}
 use Rattle.std.specs.List.{list_all}
 use Rattle.std.specs.Option.{option_map, unwrap_or}
 use Rattle.std.specs.Str.{chars, is_utf8}
 use Rattle.std.specs.Str.Lossy.{utf8_lossy}
 use Rattle.std.proofs.lemmas.Bool.{and_parts, leb-true}
-use Rattle.esc_html.specs.Addresses.{has_scheme, is_address_char, is_safe_address, is_short}
-use Rattle.esc_html.specs.Marks.{address_if, address_of, is_page_address}
+use Rattle.std.proofs.lemmas.List.{append-nil}
+use Rattle.esc_html.specs.Addresses.{address_in, has_safe_scheme, is_address_char, is_link_code, is_safe_address, is_safe_in_parts, is_short}
+use Rattle.esc_html.specs.Marks.{address_if, address_of, is_page_address, lead_by, lead_to}
 use Rattle.esc_html.specs.PageParts.{is_unbroken}
 use Rattle.esc_html.proofs.Costs.{address_size}
+use Rattle.esc_html.proofs.Safe.{page_in_parts}
 use Rattle.esc_html.proofs.Sizes.{value_added, value_size, value_small}
 use Rattle.esc_links.specs.Hyperlinks.{link_in, link_of, link_to, params_of}
 use Rattle.esc_links.specs.declared.hyperlink.Hyperlink.{Hyperlink}
@@ -30,7 +32,7 @@ use Rattle.esc_osc_values.specs.Selections.{selection, selection_of}
 use Rattle.esc_osc_values.specs.declared.dynamic_color_number.DynamicColorNumber.{DynamicColorNumber}
 use Rattle.esc_osc_values.specs.declared.progress.Progress.{Progress}
 use Rattle.esc_values.proofs.Split.{joined_parts}
-use Rattle.esc_values.specs.Clear.{joined, parts_of, separated_parts}
+use Rattle.esc_values.specs.Clear.{joined, parts_of}
 use Rattle.esc_values.specs.Cuts.{Pairs}
 use Rattle.esc_values.specs.Scalars.{and_then, utf8_of}
 
@@ -50,39 +52,44 @@ capped_most n = omega arith
 
 -- ---- parts
 
+-- with `;` between them
 abbrev pub parts_size : List (List ℕ) → ℕ
-parts_size [] = 0
-parts_size (p ∷ ps) = value_size p + parts_size ps
-
-separated_size : (ps : List (List ℕ)) → parts_size ps ≤ value_size (separated_parts ps)
-separated_size [] = leb-true 0 0 refl
-separated_size (p ∷ ps) =
-    omega (
-      arith,
-      value_added (0x3b ∷ p) (separated_parts ps),
-      value_added (0x3b ∷ []) p,
-      separated_size ps,
-    )
-
-joined_size : (ps : List (List ℕ)) → parts_size ps ≤ value_size (joined ps)
-joined_size [] = leb-true 0 0 refl
-joined_size (p ∷ ps) = omega (arith, value_added p (separated_parts ps), separated_size ps)
+parts_size ps = value_size (joined ps)
 
 pub parts_within : (t : List ℕ) → parts_size (parts_of t) ≤ value_size t
-parts_within t =
-    subst (λ x. parts_size (parts_of t) ≤ value_size x) (joined_parts t)
-    (joined_size (parts_of t))
+parts_within t = omega (arith, ap value_size (joined_parts t))
+
+-- but the first one
+fewer_parts : (p : List ℕ) (ps : List (List ℕ)) → parts_size ps ≤ parts_size (p ∷ ps)
+fewer_parts p [] = omega arith
+fewer_parts p (q ∷ ps) =
+    omega (
+      arith,
+      value_added p (0x3b ∷ joined (q ∷ ps)),
+      value_added (0x3b ∷ []) (joined (q ∷ ps)),
+    )
+
+last_part : (p q : List ℕ) → value_size q ≤ parts_size (p ∷ q ∷ [])
+last_part p q = omega (arith, fewer_parts p (q ∷ []), ap value_size (append-nil q))
+
+-- those of an address alone
+fewer_in : (ps : List (List ℕ)) → parts_size (address_in ps) ≤ parts_size ps
+fewer_in [] = omega arith
+fewer_in (p ∷ []) = omega arith
+fewer_in (p ∷ q ∷ us) = by (is_link_code p)
+  where
+    by : (b : Bool) → parts_size (if b then us else []) ≤ parts_size (p ∷ q ∷ us)
+    by true = omega (arith, fewer_parts p (q ∷ us), fewer_parts q us)
+    by false = omega arith
 
 -- ---- addresses
 
 pub short_size : (a : List ℕ) → is_page_address a ≡ true → value_size a ≤ 12498
 short_size a h =
     let safe = (and_parts (is_safe_address a) (list_all is_unbroken a) h).0 in
-    let form = (and_parts (is_short a && (has_scheme (codes "http://") a
-    || has_scheme (codes "https://") a || has_scheme (codes "mailto:") a))
+    let form = (and_parts (is_short a && has_safe_scheme a)
     (list_all is_address_char (chars a)) safe).0 in
-    let short = (and_parts (is_short a) (has_scheme (codes "http://") a
-    || has_scheme (codes "https://") a || has_scheme (codes "mailto:") a) form).0 in
+    let short = (and_parts (is_short a) (has_safe_scheme a) form).0 in
     omega (arith, value_small a, leb-true (length a) 2083 short)
 
 pub page_address_size : (a : List ℕ) → is_page_address a ≡ true
@@ -96,9 +103,21 @@ address_if_size false a h = omega arith
 
 -- ---- commands
 
+abbrev pub lead_size : Option (Option (List ℕ)) → ℕ
+lead_size None = 0
+lead_size (Some k) = address_size k
+
 abbrev pub command_size : {A : Type 0} → OperatingSystemCommand A → ℕ
-command_size (command.SetHyperlink l) = address_size (address_of l)
-command_size _ = 0
+command_size c = lead_size (lead_by c)
+
+in_parts_size : (us : List (List ℕ)) → lead_size (lead_to us) ≤ capped (parts_size us)
+in_parts_size [] = omega arith
+in_parts_size (u ∷ us) = by (is_safe_in_parts (u ∷ us)) refl
+  where
+    by : (b : Bool) → is_safe_in_parts (u ∷ us) ≡ b
+        → address_size (address_if b (joined (u ∷ us))) ≤ capped (parts_size (u ∷ us))
+    by true h = page_address_size (joined (u ∷ us)) (page_in_parts (u ∷ us) h)
+    by false h = omega arith
 
 -- the address of the command that there may be is no longer than n
 abbrev IsWithin : {A : Type 0} → ℕ → Option (OperatingSystemCommand A) → Type 0
@@ -184,7 +203,7 @@ module _ (A : Type 0) (n : ℕ) where
   link_within t [] h = tt
   link_within t (p ∷ []) h = tt
   link_within t (p ∷ uri ∷ []) h =
-      let less : value_size uri ≤ parts_size (p ∷ uri ∷ []) = omega arith in
+      let less = last_part p uri in
       in_within p uri (omega (
         arith,
         h,
@@ -234,14 +253,21 @@ module _ (A : Type 0) (n : ℕ) where
   fitting_within [] h = tt
   fitting_within (p ∷ args) h =
       let t = utf8_lossy p in
-      let less : parts_size args ≤ parts_size (p ∷ args) = omega arith in
+      let less = fewer_parts p args in
       named_within (code_of (code_name t args)) t args
       (omega (arith, h, capped_less (parts_size args) (parts_size (p ∷ args)) less))
 
-  or_within : (o : Option (OperatingSystemCommand A)) (ps : List (List ℕ)) → IsWithin n o
+  or_within : (o : Option (OperatingSystemCommand A)) (ps : List (List ℕ))
+      → capped (parts_size ps) ≤ n → IsWithin n o
       → command_size (unwrap_or o (command.Unspecified ps)) ≤ n
-  or_within None ps h = omega arith
-  or_within (Some c) ps h = h
+  or_within None ps most h =
+      omega (
+        arith,
+        most,
+        in_parts_size (address_in ps),
+        capped_less (parts_size (address_in ps)) (parts_size ps) (fewer_in ps),
+      )
+  or_within (Some c) ps most h = h
 
 -- what parts mean
 pub meant_within : (A : Type 0) (ps : List (List ℕ))
@@ -249,4 +275,4 @@ pub meant_within : (A : Type 0) (ps : List (List ℕ))
 meant_within A ps =
     let n = capped (parts_size ps) in
     let same : capped (parts_size ps) ≤ n = omega arith in
-    or_within A n (fitting {A = A} ps) ps (fitting_within A n ps same)
+    or_within A n (fitting {A = A} ps) ps same (fitting_within A n ps same)

@@ -21,11 +21,11 @@ use Rattle.esc_frame.specs.Stream.{added_within, events_within}
 use Rattle.esc_frame.proofs.Emits.EventsAreTheCuts.{added_is}
 use Rattle.esc_html.specs.Bounds.{IsBounded, IsBoundedPagePart}
 use Rattle.esc_html.specs.Characters.{shown_as}
-use Rattle.esc_html.specs.Marks.{Pen, Step, redirects, restyles, shows, nothing, address_of, begins_line, command_step, ends_line, escape_begins_line, step_of}
+use Rattle.esc_html.specs.Marks.{Pen, Step, redirects, restyles, shows, nothing, begins_line, ends_line, escape_begins_line, lead_by, lead_step, step_of}
 use Rattle.esc_html.specs.Pages.{State, after_character, closing_text, first_state, page_text, page_parts_by, page_parts_from, state_by, state_from, state_of_stream}
 use Rattle.esc_html.specs.PageParts.{html_text, page_part_text}
 use Rattle.esc_html.specs.declared.layout.Layout.{Layout}
-use Rattle.esc_html.proofs.Addressed.{capped, command_size, meant_within, parts_size, short_size}
+use Rattle.esc_html.proofs.Addressed.{capped, lead_size, meant_within, parts_size, short_size}
 use Rattle.esc_html.proofs.Costs.{Pays, address_size, control_pays, core, csis_keep, ending_most, escape_pays, held_most, kept, nothing_pays, print_pays, redirects_pays, reserve_most}
 use Rattle.esc_html.proofs.Pages.{pieces_more, state_more}
 use Rattle.esc_html.proofs.Safe.{IsGoodLink, IsGoodStep, good_command, good_function, good_next}
@@ -33,8 +33,6 @@ use Rattle.esc_html.proofs.Weights.{bytes_used, unused_most, weight, weights}
 use Rattle.esc_kitty.specs.Images.{image_of}
 use Rattle.esc_kitty.specs.declared.image.KittyImage.{KittyImage}
 use Rattle.esc_osc.specs.Reading.{meaning as command_meant}
-use Rattle.esc_osc.specs.declared.command.OperatingSystemCommand.{OperatingSystemCommand}
-use Rattle.esc_osc.specs.declared.command.OperatingSystemCommand.TheVariants as command
 use Rattle.esc_sequences.specs.Csis.{csi_of}
 use Rattle.esc_sequences.specs.Escs.{esc_of}
 use Rattle.typed_functions.specs.Functions.{of_csi}
@@ -56,35 +54,17 @@ module _ (A : Type 0) where
   none_pay : (pl : Bool) (g : State) (n : ℕ) → AllPay pl g [] n
   none_pay pl g n = omega arith
 
-  command_pays : (pl : Bool) (g : State) (c : OperatingSystemCommand A)
-      → Pays pl g (command_step g.pen c) (144 + 16 * command_size c)
-  command_pays pl g (command.SetHyperlink l) = redirects_pays pl g (address_of l)
-  command_pays pl g (command.SetIconNameAndWindowTitle t) = nothing_pays pl g 144
-  command_pays pl g (command.SetWindowTitle t) = nothing_pays pl g 144
-  command_pays pl g (command.SetWindowTitleSun t) = nothing_pays pl g 144
-  command_pays pl g (command.SetIconName t) = nothing_pays pl g 144
-  command_pays pl g (command.SetIconNameSun t) = nothing_pays pl g 144
-  command_pays pl g (command.ClearSelection s) = nothing_pays pl g 144
-  command_pays pl g (command.QuerySelection s) = nothing_pays pl g 144
-  command_pays pl g (command.SetSelection s t) = nothing_pays pl g 144
-  command_pays pl g (command.SystemNotification t) = nothing_pays pl g 144
-  command_pays pl g (command.ITermProprietary i) = nothing_pays pl g 144
-  command_pays pl g (command.FinalTermSemanticPrompt q) = nothing_pays pl g 144
-  command_pays pl g (command.ChangeColorNumber cs) = nothing_pays pl g 144
-  command_pays pl g (command.ChangeDynamicColors n cs) = nothing_pays pl g 144
-  command_pays pl g (command.ResetDynamicColor n) = nothing_pays pl g 144
-  command_pays pl g (command.CurrentWorkingDirectory t) = nothing_pays pl g 144
-  command_pays pl g (command.ResetColors cs) = nothing_pays pl g 144
-  command_pays pl g (command.RxvtExtension ts) = nothing_pays pl g 144
-  command_pays pl g (command.ConEmuProgress q) = nothing_pays pl g 144
-  command_pays pl g (command.Unspecified ps) = nothing_pays pl g 144
+  lead_pays : (pl : Bool) (g : State) (k : Option (Option (List ℕ)))
+      → Pays pl g (lead_step k) (144 + 16 * lead_size k)
+  lead_pays pl g None = nothing_pays pl g 144
+  lead_pays pl g (Some k) = redirects_pays pl g k
 
   osc_pays : (pl : Bool) (g : State) (ps : List (List ℕ))
       → AllPay pl g (osc (command_meant ps) ∷ []) (144 + 16 * capped (parts_size ps))
   osc_pays pl g ps =
       let c = command_meant {A = A} ps in
       one_pays pl g (osc c) (144 + 16 * capped (parts_size ps))
-      (omega (arith, command_pays pl g c, meant_within A ps))
+      (omega (arith, lead_pays pl g (lead_by c), meant_within A ps))
 
   csi_pays : (pl : Bool) (g : State) (vs : List (Value A))
       → length (html_text (page_parts_from pl g vs)) + core (state_from pl g vs) ≡ core g

@@ -3,6 +3,7 @@ pub mod Characters
 pub mod ColoredLooks
 pub mod Encoded
 pub mod EscapedRuns
+pub mod InParts
 pub mod Fed
 pub mod Listing
 pub mod Numbers

@@ -16,16 +16,17 @@ use Rattle.esc_osc.specs.declared.command.OperatingSystemCommand.{OperatingSyste
 use Rattle.esc_osc.specs.declared.command.OperatingSystemCommand.TheVariants as command
 use Rattle.esc_sequences.specs.declared.esc.Esc.{Esc}
 use Rattle.typed_functions.specs.Functions.{Value as Function, of_csi, cursor, edit, device, keyboard, mouse, window, mode_status, charset, escape, modes, tabs, renditions, other}
-use Rattle.esc_values.specs.Clear.{is_clear}
-use Rattle.esc_html.specs.Addresses.{is_address_char, is_safe_address}
+use Rattle.esc_values.specs.Clear.{is_clear, joined}
+use Rattle.esc_html.specs.Addresses.{address_in, is_address_char, is_safe_address, is_safe_in_parts}
 use Rattle.esc_html.specs.Characters.{is_noncharacter, shown_as}
 use Rattle.esc_style.specs.Looks.{is_plain}
-use Rattle.esc_html.specs.Marks.{Pen, Step, restyles, redirects, shows, nothing, address_if, address_of, begins_line, command_step, control_step, ends_line, escape_begins_line, escape_step, function_step, is_page_address, print_step, step_of}
+use Rattle.esc_html.specs.Marks.{Pen, Step, restyles, redirects, shows, nothing, address_if, address_of, begins_line, command_step, control_step, ends_line, escape_begins_line, escape_step, function_step, is_page_address, lead_step, lead_to, print_step, step_of}
 use Rattle.esc_html.specs.Pages.{State, after_character, before_character, closed, closing, link_end_if, link_opening, opening, page_parts_by, page_parts_from, span_closing, span_end_unless, span_unless, state_by, state_from}
 use Rattle.esc_html.specs.PageParts.{PagePart, text, span, span_end, link, link_end, is_kept, is_unbroken}
 use Rattle.esc_style.specs.declared.look.Look.{Look}
 use Rattle.esc_html.specs.declared.tags.Tags.{Tags}
 use Rattle.esc_html.specs.declared.tags.Tags.TheVariants.{Closed, Link, Open}
+use Rattle.esc_html.proofs.InParts.{safe_in_parts}
 
 -- ---- characters that are kept
 
@@ -156,6 +157,21 @@ good_link : {A : Type 0} (h : Option (Hyperlink A)) → IsGoodLink (address_of h
 good_link None = tt
 good_link (Some h) = good_address (is_page_address h.uri) h.uri refl
 
+-- an address in parts
+pub page_in_parts : (us : List (List ℕ)) → is_safe_in_parts us ≡ true
+    → is_page_address (joined us) ≡ true
+page_in_parts us h =
+    let q = safe_in_parts us h in sym (page_address (joined us) q.1) ∙ q.0
+
+good_parts : (us : List (List ℕ)) → IsGoodStep (lead_step (lead_to us))
+good_parts [] = tt
+good_parts (u ∷ us) = by (is_safe_in_parts (u ∷ us)) refl
+  where
+    by : (b : Bool) → is_safe_in_parts (u ∷ us) ≡ b
+        → IsGoodLink (address_if b (joined (u ∷ us)))
+    by true h = page_in_parts (u ∷ us) h
+    by false h = tt
+
 pub good_command : {A : Type 0} (p : Pen) (c : OperatingSystemCommand A)
     → IsGoodStep (command_step p c)
 good_command p (command.SetHyperlink l) = good_link l
@@ -177,7 +193,7 @@ good_command p (command.CurrentWorkingDirectory t) = tt
 good_command p (command.ResetColors cs) = tt
 good_command p (command.RxvtExtension ts) = tt
 good_command p (command.ConEmuProgress q) = tt
-good_command p (command.Unspecified ps) = tt
+good_command p (command.Unspecified ps) = good_parts (address_in ps)
 
 good_step : {A : Type 0} (p : Pen) (v : Value A) → IsHandedOut v → IsGoodStep (step_of p v)
 good_step p (print c) k = good_print c (k refl)

@@ -5,11 +5,12 @@ use Rattle.esc_actions.specs.ControlCodes.{code_number}
 use Rattle.esc_actions.specs.Values.{Value, print, control, esc, csi, osc}
 use Rattle.esc_links.specs.declared.hyperlink.Hyperlink.{Hyperlink}
 use Rattle.esc_osc.specs.declared.command.OperatingSystemCommand.{OperatingSystemCommand}
-use Rattle.esc_osc.specs.declared.command.OperatingSystemCommand.TheVariants.{SetHyperlink}
+use Rattle.esc_osc.specs.declared.command.OperatingSystemCommand.TheVariants as command
 use Rattle.esc_sequences.specs.declared.esc.Esc.{Esc}
 use Rattle.esc_sequences.specs.declared.esc.Esc.TheVariants.{Unspecified}
 use Rattle.typed_functions.specs.Functions.{Value as Function, renditions, of_csi}
-use Rattle.esc_html.specs.Addresses.{is_safe_address}
+use Rattle.esc_values.specs.Clear.{joined}
+use Rattle.esc_html.specs.Addresses.{address_in, is_safe_address, is_safe_in_parts}
 use Rattle.esc_html.specs.Characters.{shown_as}
 use Rattle.esc_style.specs.Looks.{look_by_all, plain_look}
 use Rattle.esc_html.specs.PageParts.{is_unbroken}
@@ -45,6 +46,17 @@ address_if false a = None
 abbrev pub address_of : {A : Type 0} → Option (Hyperlink A) → Option (List ℕ)
 address_of None = None
 address_of (Some h) = address_if (is_page_address h.uri) h.uri
+
+-- where the characters lead that come after a link with an address of these parts, if there are any
+abbrev pub lead_to : List (List ℕ) → Option (Option (List ℕ))
+lead_to [] = None
+lead_to (u ∷ us) = Some (address_if (is_safe_in_parts (u ∷ us)) (joined (u ∷ us)))
+
+-- where the characters lead that come after a command, if it says that
+abbrev pub lead_by : {A : Type 0} → OperatingSystemCommand A → Option (Option (List ℕ))
+lead_by (command.SetHyperlink h) = Some (address_of h)
+lead_by (command.Unspecified ps) = lead_to (address_in ps)
+lead_by _ = None
 
 -- what a value does: another look holds from here on, or another address, a character is shown, or
 -- nothing
@@ -96,9 +108,12 @@ abbrev pub function_step : Pen → Function → Step
 function_step p (renditions rs) = restyles (look_by_all p.look rs)
 function_step p _ = nothing
 
+abbrev pub lead_step : Option (Option (List ℕ)) → Step
+lead_step None = nothing
+lead_step (Some k) = redirects k
+
 abbrev pub command_step : {A : Type 0} → Pen → OperatingSystemCommand A → Step
-command_step p (SetHyperlink h) = redirects (address_of h)
-command_step p _ = nothing
+command_step p c = lead_step (lead_by c)
 
 abbrev pub step_of : {A : Type 0} → Pen → Value A → Step
 step_of p (print c) = print_step c
@@ -123,7 +138,8 @@ leads None = true
 leads (Some h) = is_page_address h.uri
 
 abbrev pub is_shown_command : {A : Type 0} → OperatingSystemCommand A → Bool
-is_shown_command (SetHyperlink h) = leads h
+is_shown_command (command.SetHyperlink h) = leads h
+is_shown_command (command.Unspecified ps) = is_safe_in_parts (address_in ps)
 is_shown_command _ = false
 
 -- a page shows the value, or the look or the link that holds after it

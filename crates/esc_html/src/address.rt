@@ -2,7 +2,7 @@
 ghost use Rattle.std.specs.Prelude.{◌≡◌};
 ghost use Rattle.std.specs.List.{list_all};
 ghost use Rattle.std.specs.Str.{chars};
-ghost use Rattle.esc_html.specs.Addresses.{has_scheme, is_address_char, is_safe_address, is_short};
+ghost use Rattle.esc_html.specs.Addresses.{has_safe_scheme, has_scheme, is_address_char, is_safe_address, is_short};
 ghost use Rattle.esc_html.specs.Marks.{address_of, is_page_address};
 
 use crate::character::is_noncharacter;
@@ -11,7 +11,7 @@ use esc_values::Text;
 use std::alloc::Allocator;
 
 // How many bytes of an address VTE and iTerm2 take.
-const LONGEST_ADDRESS: usize = 2083;
+pub(crate) const LONGEST_ADDRESS: usize = 2083;
 
 /// Whether a link may lead to this address: its scheme is `http` or `https` with `//`, or `mailto`,
 /// in letters of either case (RFC 3986, 3.1), and it has no control, no space and no noncharacter.
@@ -22,11 +22,7 @@ pub fn is_safe_address(address: &str) -> bool
     ensures { result ≡ is_safe_address address.now }
 {
     let bytes = address.as_bytes();
-    is_short(bytes)
-        && (has_scheme(bytes, b"http://")
-            || has_scheme(bytes, b"https://")
-            || has_scheme(bytes, b"mailto:"))
-        && are_address_chars(address)
+    is_short(bytes) && has_safe_scheme(bytes) && are_address_chars(address)
 }
 
 // Whether these bytes are no longer than terminals take.
@@ -36,6 +32,15 @@ fn is_short(address: &[u8]) -> bool
     address.len() <= LONGEST_ADDRESS
 }
 
+/// Whether these bytes begin with a scheme of a safe address.
+pub(crate) fn has_safe_scheme(address: &[u8]) -> bool
+    ensures { result ≡ has_safe_scheme address.now }
+{
+    has_scheme(address, b"http://")
+        || has_scheme(address, b"https://")
+        || has_scheme(address, b"mailto:")
+}
+
 // Whether these bytes begin with a scheme and what follows it.
 fn has_scheme(address: &[u8], scheme: &[u8]) -> bool
     ensures { result ≡ has_scheme scheme.now address.now }
@@ -43,8 +48,8 @@ fn has_scheme(address: &[u8], scheme: &[u8]) -> bool
     scheme.len() <= address.len() && address[..scheme.len()].eq_ignore_ascii_case(scheme)
 }
 
-// Whether each character may be in an address.
-fn are_address_chars(address: &str) -> bool
+/// Whether each character may be in an address.
+pub(crate) fn are_address_chars(address: &str) -> bool
     ensures { result ≡ list_all is_address_char (chars address.now) }
 {
     for c in address.chars() {

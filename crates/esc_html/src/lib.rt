@@ -18,6 +18,7 @@
 #![tactic(auto)]
 
 mod address;
+mod address_parts;
 mod breaks;
 mod character;
 mod colored;

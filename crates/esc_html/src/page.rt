@@ -6,7 +6,7 @@ ghost use Rattle.esc_actions.specs.declared.action.Action.TheVariants.{Print};
 ghost use Rattle.esc_html.specs.Characters.{is_bare};
 ghost use Rattle.esc_html.specs.Fed.{Adds, Takes, is_visible, state_of, text_of, with_text};
 ghost use Rattle.esc_style.specs.Looks.{is_plain, look_by, look_by_all};
-ghost use Rattle.esc_html.specs.Marks.{address_of, command_step, control_step, escape_step, function_step, next_line, print_step, redirects, restyles, shows, with_link};
+ghost use Rattle.esc_html.specs.Marks.{command_step, control_step, escape_step, function_step, next_line, print_step, redirects, restyles, shows, with_link};
 ghost use Rattle.esc_html.specs.Pages.{State, after_character, before_character, closed, first_state, link_opening, opening_tags, span_closed, span_unless, with_tags, without_span};
 ghost use Rattle.esc_html.specs.PageParts.{html_text};
 ghost use Rattle.esc_html.specs.Renditions.{rendition_of};
@@ -17,7 +17,7 @@ ghost use Rattle.typed_functions.specs.Functions.{of_csi, value_of};
 ghost use Rattle.typed_functions.specs.Selections.{left};
 ghost use Rattle.fallible_alloc.specs.Refusals.{Refused};
 
-use crate::address::address_of;
+use crate::address_parts::lead_by;
 use crate::breaks::{begins_line, escape_begins_line};
 use crate::character::{SHORT, are_bare, are_characters, as_str, shown_as};
 use crate::layout::Layout;
@@ -26,7 +26,6 @@ use crate::plain::is_plain;
 use crate::renditions::{function_of, lone_rendition, rendition_of};
 use crate::tags::{Tags, closing_tags, link_end, span_end};
 use esc_actions::Action;
-use esc_links::Hyperlink;
 use esc_osc::OperatingSystemCommand;
 use esc_parse::Sink;
 use esc_sequences::csi::{is_unspecified, short_rendition};
@@ -402,20 +401,19 @@ impl<A: Allocator> Page<A> {
             (command_step (state_of self.old).pen command) self.new) }
         ensures refused { OnErr result (Refused A) }
     {
-        match command {
-            OperatingSystemCommand::SetHyperlink(link) => self.lead(link),
-            _ => Ok(()),
+        match lead_by(command)? {
+            Some(address) => self.lead(address),
+            None => Ok(()),
         }
     }
 
     // The tags are closed, and the link changes.
-    fn lead(&mut self, link: Option<Hyperlink<A>>) -> Result<(), AllocError>
-        ensures ok { OnOk result (Adds self.old
-            (redirects (address_of link)) self.new) }
+    fn lead(&mut self, address: Option<Text<A>>) -> Result<(), AllocError>
+        ensures ok { OnOk result (Adds self.old (redirects address) self.new) }
         ensures refused { OnErr result (Refused A) }
     {
         self.close()?;
-        self.link = address_of(link);
+        self.link = address;
         self.lines = MORE_LINES;
         Ok(())
     }

@@ -5,6 +5,7 @@ ghost use Rattle.esc_html.specs.Marks.{is_shown, is_shown_command, is_shown_cont
 ghost use Rattle.typed_functions.specs.Functions.{value_of as function_value};
 
 use crate::address::is_page_address;
+use crate::address_parts::{address_in, is_safe_in_parts};
 use crate::breaks::{begins_line, escape_begins_line};
 use esc_actions::Action;
 use esc_links::Hyperlink;
@@ -55,6 +56,9 @@ fn is_shown_command<A: Allocator>(command: &OperatingSystemCommand<A>) -> bool
 {
     match command {
         OperatingSystemCommand::SetHyperlink(link) => leads(link),
+        OperatingSystemCommand::Unspecified(parts) => {
+            is_safe_in_parts(address_in(parts.as_slice()))
+        }
         _ => false,
     }
 }
