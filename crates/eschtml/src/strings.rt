@@ -8,6 +8,9 @@ use std::alloc::{AllocError, Global};
 
 const ESC: u8 = 0x1b;
 
+// How many bytes are looked at one by one.
+const NEAR: usize = 16;
+
 /// What is unfinished at the end of a stream.
 #[derive(Clone, Copy)]
 pub struct Lost {
@@ -70,24 +73,37 @@ impl Strings {
 
     // Passes text up to what may open a string, which it begins with; how many bytes that are.
     fn pass(&mut self, bytes: &[u8]) -> usize {
-        let Some(at) = self.candidate(bytes) else {
-            self.count_lines(bytes);
-            return bytes.len();
-        };
+        let at = self.passed(bytes).min(bytes.len());
         self.count_lines(bytes.get(..at).unwrap_or(bytes));
         let here = bytes.get(at..).unwrap_or(bytes);
-        if is_other(here) {
-            return at.saturating_add(2);
+        if here.is_empty() {
+            return at;
         }
         self.mask = Mask::new();
         self.begin();
         at.saturating_add(self.follow(here))
     }
 
+    // How many bytes come before what may open a string.
+    fn passed(&self, bytes: &[u8]) -> usize {
+        let mut rest = bytes;
+        while !rest.is_empty() {
+            let at = match self.candidate(rest) {
+                Some(at) => at,
+                None => rest.len(),
+            };
+            if !is_other(rest.get(at..).unwrap_or(rest)) {
+                return bytes.len().saturating_sub(rest.len()).saturating_add(at);
+            }
+            rest = &rest[at.saturating_add(2).min(rest.len())..];
+        }
+        bytes.len()
+    }
+
     // Where the first byte is that may open a string.
     fn candidate(&self, bytes: &[u8]) -> Option<usize> {
         match self.encoding {
-            Encoding::Utf8 => memchr2(ESC, 0xc2, bytes),
+            Encoding::Utf8 => first_of_two(bytes),
             Encoding::EightBit | Encoding::CodePage(CodePage::Latin1WithControls) => {
                 first_of_any(bytes)
             }
@@ -105,7 +121,7 @@ impl Strings {
             }
             n = n.saturating_add(1);
             self.open.bytes = self.open.bytes.saturating_add(1);
-            self.count_lines(&[*byte]);
+            self.feeds = self.feeds.saturating_add(u64::from(*byte == b'\n'));
             if !self.frame(*byte) {
                 return bytes.len();
             }
@@ -144,6 +160,22 @@ impl Strings {
             self.feeds = self.feeds.saturating_add(1);
             rest = &rest[at + 1..];
         }
+    }
+}
+
+// Where the first byte is that is ESC or begins a C1 control in UTF-8. The first few are looked at
+// one by one, since in a log with colours few come before a sequence.
+fn first_of_two(bytes: &[u8]) -> Option<usize> {
+    let near = bytes.get(..NEAR).unwrap_or(bytes);
+    for (at, byte) in near.iter().enumerate() {
+        if *byte == ESC || *byte == 0xc2 {
+            return Some(at);
+        }
+    }
+    let far = bytes.get(near.len()..).unwrap_or(&[]);
+    match memchr2(ESC, 0xc2, far) {
+        Some(at) => Some(at.saturating_add(near.len())),
+        None => None,
     }
 }
 
