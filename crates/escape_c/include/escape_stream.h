@@ -396,7 +396,7 @@ struct escape_stream_sanitizer {
  * If `rows` is not 0, the text goes to a terminal's screen of that size, and what this leaves is
  * written: of a progress bar its last state. A row is written when it is scrolled off the top of
  * the screen, and those that are left at the end of the stream. What changes the screen takes
- * effect there, even if its group does not pass. Two screens are held, of 20 bytes a cell. The
+ * effect there, even if its group does not pass. Two screens are held, of 32 bytes a cell. The
  * account is of the text that goes to the screen.
  */
 struct escape_stream_sanitizer_options {
