@@ -13,7 +13,7 @@ one_char : {A : Type 0} (actions : List (Action A)) (c : ℕ) (cs : List ℕ)
 one_char [] c cs = refl
 one_char (a ∷ actions) c cs = ap (λ l. value_of a ∷ l) (one_char actions c cs)
 
--- a character that was appended, and what is left of a text
+-- an appended character, and the rest of a text
 pub pushed : {A : Type 0} (old new : List (Action A)) (c : ℕ) (text later : List ℕ)
     → new ≡ old ++ Print c ∷ [] → chars text ≡ c ∷ chars later
     → map value_of new ++ map print (chars later) ≡ map value_of old ++ map print (chars text)

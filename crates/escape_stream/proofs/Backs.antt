@@ -1,4 +1,4 @@
--- What the text of a writable value means first.
+-- The first value that the text of a writable value means.
 use Rattle.std.proofs.Common.{ℕ, ◌≡◌, true, false, List, [], ◌∷◌, ◌++◌, take, drop, Option, Some, None, refl, ap, sym, ◌∙◌, append-nil}
 use Rattle.std.proofs.lemmas.List.{take-append-drop}
 use Rattle.std.specs.Prelude.{IfSome, IfNone}
@@ -11,7 +11,7 @@ use Rattle.escape_stream.specs.Asked.{has_own_text}
 use Rattle.esc_parse.specs.Firsts.{IsFirst, first}
 pub use Rattle.esc_normal.proofs.HaveTexts.{writable_has_text}
 
--- what comes after a text does not change what it means first
+-- bytes after a text do not change the first value that it means
 still_first : {A : Type 0} (s b : List ℕ) (v : Value A) (vs : List (Value A)) → meaning s ≡ v ∷ vs
     → first (meaning (s ++ b)) ≡ Some v
 still_first s b v vs e = ap first (sym (meaning_more None s b) ∙ ap (λ x. x ++ yield s b) e)

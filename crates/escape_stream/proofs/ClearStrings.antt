@@ -1,4 +1,4 @@
--- A text is clear where its characters are.
+-- A text is clear if all its characters are.
 use Rattle.std.proofs.Common.{ℕ, ◌≡◌, ◌≢◌, ◌↔◌, ◌&&◌, Bool, true, List, [], ◌∷◌, IsUtf8, chars, IsTrue, refl, ap, sym, ◌∙◌}
 use Rattle.std.specs.List.{list_all}
 use Rattle.std.proofs.lemmas.Bool.{and_from, and_parts}

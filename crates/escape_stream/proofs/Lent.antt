@@ -1,4 +1,4 @@
--- What a sink of borrowed actions is given by one of actions.
+-- A sink of borrowed actions takes actions: it is given their values.
 use Rattle.std.proofs.Common.{◌≡◌, ◌⊎◌, ◌<◌, ℕ, Bor, true, List, length, arith, MatchResult, Result, Ok, Err, [], ◌∷◌, ◌++◌, map, refl, ap, sym, ◌∙◌, subst, append_assoc, inl, inr}
 use Rattle.std.proofs.lemmas.List.{append-nil}
 use Rattle.std.proofs.Math.Logic.{⊎_map}
@@ -61,7 +61,7 @@ last_of : {A : Type 0} (xs : List ℕ) (c : ℕ)
 last_of [] c = refl
 last_of (x ∷ xs) c = ap (λ l. print x ∷ l) (last_of xs c)
 
--- what means something is no empty text
+-- a text that means something is not empty
 no_text : {A : Type 0} (t : List ℕ) (v : Value A) (vs : List (Value A)) → t ≡ []
     → map print (chars t) ≡ v ∷ vs → ⊥
 no_text {A} t v vs none e =
@@ -141,7 +141,7 @@ module _ {S A : Type 0} (R : S → ActionRef (Action A) → S → Type 0) where
       (means ∙ ap (map print) (sym (append_assoc p.begun (c ∷ []) (d ∷ cs))))
       (w.1 (with_one p c) (inl (c, refl, refl, refl)))
 
-  -- the values of what ends here, and those after it
+  -- the values of the run that ends here, and those after it
   ends : (p : BorrowAdapter S) (a : Action A) (r : ActionRef (Action A)) (v : Value A)
       (vs : List (Value A))
       → value_of a ≡ v → Ends p a r → values_of r ++ vs ≡ map print p.begun ++ v ∷ vs
@@ -282,7 +282,7 @@ module _ {S A : Type 0} (R : S → ActionRef (Action A) → S → Type 0) where
     text_given Q (Ok x) q done h = lends_run cs p q (Text text) some done meant h
     text_given Q (Err e) q done h = run_refused Q cs p q (Text text) some meant h
 
-  -- one action, by what it is
+  -- one action, by its kind
   module _ {V : Type 0} (IsIt : Action A → V → Type 0) (p : BorrowAdapter S) (none : p.begun ≡ [])
       (vs : List V) (v : V) (a : Action A) (r : ActionRef (Action A)) (one : vs ≡ v ∷ [])
       (is : IsIt a v)

@@ -112,7 +112,7 @@ dispatched : (A : Type 0) (x : List ℕ) (f : ℕ) (c : CsiValue) (t : Bool)
 dispatched A x f c true h = one_csi A (csi_of (kept_csi_params x) (has_more_csi_params x) f) c h
 dispatched A x f c false h = absurd (no_value A c h)
 
--- of a body of which no parameter is left out, no value says that one is
+-- if no parameter of a body is left out, no value says that one is
 abbrev is_whole : List CsiValue → Bool
 is_whole [] = true
 is_whole (sgr s ∷ vs) = true
@@ -148,7 +148,7 @@ whole_by es f false = refl
 csi_whole : (es : List CsiParam) (f : ℕ) → is_whole (csi_of es false f) ≡ true
 csi_whole es f = whole_by es f (f == 0x6d)
 
--- what a truncated value was read of
+-- the parameters that a truncated value was read from
 came_of : (ks es : List CsiParam) (g f : ℕ) (more : Bool)
     → csi_of ks more g ≡ unspecified es true f ∷ [] → (more ≡ true) × (ks ≡ es) × (g ≡ f)
 came_of ks es g f false h = absurd (false_is_not (sym (ap is_whole h) ∙ csi_whole ks g))
@@ -179,7 +179,7 @@ strip_body (b ∷ x) h =
     (list_all (λ c. in_csi (class_of c)) x) h in strip_by b x (is_noise (class_of b)) refl q.0
     (strip_body x q.1)
 
--- A body of which parameters are left out is not the text of those that are kept.
+-- If parameters of a body are left out, the body is not the text of those that are kept.
 few_kept : (x : List ℕ) → length (kept_csi_params x) ≤ 256
 unfolding kept_csi_params
 few_kept x = take_few 256 (csi_params x)

@@ -1,4 +1,4 @@
--- What is found of a list that is gone through from its prefix.
+-- A loop goes through a list from its first action: the facts that it finds.
 use Rattle.std.proofs.Common.{ℕ, ◌≡◌, ◌<◌, ◌≤◌, ◌+◌, ◌↔◌, Bool, true, false, not, List, [], ◌∷◌, length, map, drop, get_or, IsTrue, refl, sym, ap, subst, ◌∙◌}
 use Rattle.std.proofs.lemmas.List.{drop_all, drop_more}
 use Rattle.esc_actions.specs.Values.{Value}
@@ -12,8 +12,8 @@ one_more : {A : Type 0} (P : Type 0) (w : Bool) (v : Value A) (vs : List (Value 
     → P ↔ AreWritableFrom (stays_within v) vs
 one_more P w v vs left e h = (λ p. (left.0 p).2, λ k. left.1 (e, h, k))
 
--- P says of the whole list that it is writable, and so it is where what is left of it is. With x,
--- that comes next:
+-- P says that the whole list is writable, which it is if the rest of the list is. x is the next
+-- action:
 module _ {T A : Type 0} (f : T → Value A) (P : Type 0) (w : Bool) (xs : List T) (i : ℕ) (x : T)
     (is : x ≡ get_or xs i x) (h : i < length xs)
     (left : P ↔ AreWritableFrom w (map f (drop i xs))) where
@@ -29,7 +29,7 @@ module _ {T A : Type 0} (f : T → Value A) (P : Type 0) (w : Bool) (xs : List T
       let R : Bool → Type 0 = λ b. P ↔ AreWritableFrom b (map f (drop (i + 1) xs)) in
       subst R (sym s) (one_more P w (f x) (map f (drop (i + 1) xs)) next_left e k)
 
-  -- where it is not writable, the list is not
+  -- if it is not writable, the list is not
   pub not_itself : (IsWritable (f x) → ⊥) → IsTrue false ↔ P
   not_itself n = (λ t. absurd (false_is_not t), λ p. absurd (n (next_left.0 p).1))
 

@@ -2,8 +2,8 @@
 use Rattle.std.specs.Prelude.{Bool, true, false}
 use Rattle.esc_actions.specs.Values.{Value, print, string, control, esc, csi, osc, kitty, sixel, termcap, short, enter, datum, exit}
 
--- a value that is the first that its own text means, where it is writable: a string of characters
--- means its characters, and a byte and the end of a mode mean nothing outside it
+-- a value that is the first value of its own text, if it is writable: a string of characters means
+-- its characters, and a byte and the end of a mode mean nothing outside it
 abbrev pub has_own_text : {A : Type 0} → Value A → Bool
 has_own_text (print c) = true
 has_own_text (string t) = false
@@ -19,7 +19,7 @@ has_own_text (enter e) = true
 has_own_text (datum b) = false
 has_own_text exit = false
 
--- a value of which only its text shows whether it is writable
+-- a value whose text alone shows whether it is writable
 abbrev pub wants_text : {A : Type 0} → Value A → Bool
 wants_text (print c) = false
 wants_text (string t) = false

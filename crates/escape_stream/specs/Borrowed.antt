@@ -1,4 +1,4 @@
--- Borrowed actions: what they mean, and what a sink of them was given.
+-- Borrowed actions: their meaning, and the record of those that a sink was given.
 use Rattle.std.specs.Prelude.{◌≡◌, ◌≢◌, ◌⊎◌, List, [], ◌∷◌, ◌++◌, map, true}
 use Rattle.std.specs.List.{FoldsTo, flat_map, list_all}
 use Rattle.std.specs.Str.{chars}
@@ -10,7 +10,7 @@ use Rattle.esc_actions.specs.declared.action.Action.{Action}
 use Rattle.escape_stream.specs.declared.borrowed.ActionRef.{ActionRef}
 use Rattle.escape_stream.specs.declared.borrowed.ActionRef.TheVariants.{Text, Print, Control, Sgr, Sequence, Command, Owned}
 
--- what a borrowed action means: the values of one or more actions, in order
+-- the meaning of a borrowed action: the values of one or more actions, in order
 abbrev pub values_of : {A : Type 0} → ActionRef (Action A) → List (Value A)
 values_of (Text t) = map print (chars t.now)
 values_of (Print c) = print c ∷ []
@@ -30,7 +30,7 @@ abbrev pub IsClear : {T : Type 0} → ActionRef T → Type 0
 IsClear (Text t) = list_all is_clear (chars t.now) ≡ true
 IsClear _ = Unit {0}
 
--- what a text holds that is handed on: of any other borrowed action this says nothing
+-- the text that a borrowed action hands on; this says nothing about any other borrowed action
 pub record HasClearText {T : Type 0} (r : ActionRef T) : Type 0 where
   -- it has a character
   pub some : IsSome r
@@ -51,9 +51,9 @@ GetsSome {S} {A} takes p vs q =
     (prefix : List (Value A)) × (rest : List (Value A)) × (vs ≡ prefix ++ rest)
     × Gets takes p prefix q
 
--- p was given borrowed actions that together mean a prefix of vs. Then the call with one that means
--- what comes next was refused, and left q; or the giver stopped by itself, at q, which it does only
--- where `own` holds.
+-- p was given borrowed actions that together mean a prefix of vs. Then either the sink refused the
+-- call with an action that means the next values, and became q; or the giver stopped by itself, at
+-- q, which it does only if `own` holds.
 abbrev pub Stops : {S A : Type 0} → Type 0 → (S → ActionRef (Action A) → S → Type 0)
     → (S → ActionRef (Action A) → S → Type 0) → S → List (Value A) → S
     → Type 0
@@ -63,8 +63,8 @@ Stops {S} {A} own takes refuses p vs q =
     × ((own × (mid ≡ q)) ⊎ ((r : ActionRef (Action A)) × (later : List (Value A))
     × (rest ≡ values_of r ++ later) × refuses mid r q))
 
--- p may be given borrowed actions that together mean vs: once those that it was given mean a prefix
--- of vs, any that means what comes next, and no empty text
+-- p may be given borrowed actions that together mean vs: after actions that mean a prefix of vs, it
+-- may be given any action that means the next values, and no empty text
 abbrev pub Awaits : {S A : Type 0} → (S → ActionRef (Action A) → Type 0)
     → (S → ActionRef (Action A) → S → Type 0) → S → List (Value A)
     → Type 0

@@ -1,5 +1,5 @@
--- What an action makes of a sink of borrowed actions. A run of characters is handed out at once, so
--- a character may be begun, and handed out with those after it.
+-- The effect of an action on a sink of borrowed actions. A run of characters is handed out at once,
+-- so a character may be begun, and handed out with those after it.
 use Rattle.std.specs.Prelude.{ℕ, ◌≡◌, ◌⊎◌, [], ◌∷◌, ◌++◌, map}
 use Rattle.esc_actions.specs.Values.{print, value_of}
 use Rattle.esc_actions.specs.declared.action.Action.{Action}
@@ -15,7 +15,7 @@ Ends p a r = values_of r ≡ map print p.begun ++ value_of a ∷ []
 abbrev pub Begins : {S A : Type 0} → BorrowAdapter S → Action A → BorrowAdapter S → Type 0
 Begins p a q = (c : ℕ) × (value_of a ≡ print c) × (q.begun ≡ p.begun ++ c ∷ []) × (q.sink ≡ p.sink)
 
--- what an action makes of a sink: it is begun, or handed out with what was begun
+-- the effect of an action on a sink: it is begun, or handed out with the run that was begun
 abbrev pub Lends : {S A : Type 0} → (S → ActionRef (Action A) → S → Type 0) → BorrowAdapter S
     → Action A
     → BorrowAdapter S
@@ -24,7 +24,7 @@ Lends {S} {A} takes p a q =
     Begins p a q ⊎ ((q.begun ≡ []) × (r : ActionRef (Action A)) × Ends p a r
     × takes p.sink r q.sink)
 
--- what a refused one may leave
+-- the sink that a refused action may leave
 abbrev pub LendsNot : {S A : Type 0} → (S → ActionRef (Action A) → S → Type 0) → BorrowAdapter S
     → Action A → BorrowAdapter S
     → Type 0

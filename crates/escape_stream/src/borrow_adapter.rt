@@ -1,4 +1,4 @@
-//! A sink that hands actions on, borrowed where they lie in the parser.
+//! A sink that hands actions on as borrowed ones, from their place in the parser.
 ghost use Rattle.std.specs.Prelude.{◌≡◌, [], ◌∷◌, IsTrue, true};
 ghost use Rattle.std.specs.List.{list_all};
 ghost use Rattle.esc_frame.specs.Scans.{is_text_byte};
@@ -17,8 +17,8 @@ use esc_values::CsiParam;
 use std::alloc::{AllocError, Allocator};
 use std::str;
 
-/// Hands each action on to a sink of borrowed actions: a run of text, a control sequence that has
-/// no name and a command where they lie.
+/// Hands each action on to a sink of borrowed actions. A run of text, a control sequence that has
+/// no name and a command are borrowed from their place in the parser.
 #[derive(Drop)]
 pub struct BorrowAdapter<S> {
     /// The sink.
@@ -82,7 +82,7 @@ impl<A: Allocator, S: BorrowingSink<Action<A>>> Sink<Action<A>> for BorrowAdapte
         self.sink.receive(ActionRef::Text(text))
     }
 
-    // Hands it on where it has no name. A rendition is made and received.
+    // Hands the sequence on if it has no name. A rendition is made and received.
     #[inline]
     fn receive_sequence(
         &mut self,
@@ -113,8 +113,8 @@ impl<A: Allocator, S: BorrowingSink<Action<A>>> Sink<Action<A>> for BorrowAdapte
         }
     }
 
-    // What follows is as by default, and written out: at the type of an action, a method that is
-    // taken over from the trait costs a proof some seconds more.
+    // The next methods are as by default, and written out: at the type of an action, a method that
+    // is taken over from the trait costs a proof some seconds more.
     #[inline]
     fn drops_sequences(&self, _control: u8) -> bool {
         false
@@ -126,7 +126,7 @@ impl<A: Allocator, S: BorrowingSink<Action<A>>> Sink<Action<A>> for BorrowAdapte
     }
 }
 
-// An action as it is handed on: by value where it is small.
+// An action in the form in which it is handed on: by value if it is small.
 #[inline(always)]
 fn lent<'a, A: Allocator>(action: Action<A>) -> ActionRef<'a, Action<A>>
     ensures value { values_of result ≡ value_of action ∷ [] }

@@ -1,4 +1,4 @@
-//! Actions that borrow what the parser has of them.
+//! Actions that borrow their text and parameters from the parser.
 ghost use Rattle.std.specs.Prelude.{◌≡◌, ◌+◌, ◌≤◌, [], ◌∷◌, OnErr, OnOk, length, map, vec_capacity, vec_len};
 ghost use Rattle.std.specs.Str.{chars};
 ghost use Rattle.esc_actions.specs.Values.{print, value_of};
@@ -12,13 +12,12 @@ use esc_sequences::{CSI, Sgr};
 use esc_values::{Boxed, CsiParam};
 use std::alloc::{AllocError, Allocator};
 
-/// Actions as [`parse_borrowed`](crate::parse_borrowed) hands them out: text, parameters and
-/// commands lie where the parser has them, so that no memory is asked for, and what is small comes
+/// Actions as [`parse_borrowed`](crate::parse_borrowed) hands them out. Text, parameters and
+/// commands stay at their place in the parser, so that no memory is asked for; small actions come
 /// by value.
 #[derive(Drop, Debug)]
 pub enum ActionRef<'a, T = Action> {
-    /// A run of characters, one or more and no controls, of which each is a
-    /// [`Print`](Action::Print).
+    /// A run of one or more characters without controls; each is a [`Print`](Action::Print).
     Text(&'a str),
     /// A character by itself: one [`Print`](Action::Print).
     Print(char),
@@ -36,8 +35,8 @@ pub enum ActionRef<'a, T = Action> {
         /// The final byte, 40 to 7E (hexadecimal).
         control: u8,
     },
-    /// The text of an operating system command (ECMA-48, 8.3.89), of which the parts are between
-    /// `;`: one [`OperatingSystemCommand`](Action::OperatingSystemCommand).
+    /// The text of an operating system command (ECMA-48, 8.3.89), with `;` between its parts: one
+    /// [`OperatingSystemCommand`](Action::OperatingSystemCommand).
     Command(&'a [u8]),
     /// Any other action.
     Owned(T),

@@ -1,17 +1,17 @@
-//! What takes the borrowed actions of a stream.
+//! The receivers of the borrowed actions of a stream.
 ghost use Rattle.std.specs.Prelude.{◌⊎◌, MatchResult, OnOk};
 ghost use Rattle.escape_stream.specs.Borrowed.{HasClearText};
 
 use crate::borrowed::ActionRef;
 use std::alloc::AllocError;
 
-/// What takes the borrowed actions of a stream, one after another: the receiver of
+/// Takes the borrowed actions of a stream, one after another: the receiver of
 /// [`parse_borrowed_into`](crate::parse_borrowed_into).
 ///
-/// An implementation says what a borrowed action makes of its value (`takes`), what a refused call
-/// leaves (`refuses`), when it may be given any (`is_ready`), and else which (`may`). After a call
-/// that returns `AllocError` no more calls are made. `T` is the type of actions, as
-/// [`Action`](crate::Action).
+/// An implementation says how a borrowed action changes its value (`takes`), which value a refused
+/// call leaves (`refuses`), when it may be given any action (`is_ready`), and which actions it may
+/// be given otherwise (`may`). After a call that returns `AllocError` no more calls are made. `T`
+/// is the type of actions, as [`Action`](crate::Action).
 pub trait BorrowingSink<T> {
     ghost use Rattle.escape_stream.specs.declared.borrowed.ActionRef.{ActionRef};
 
@@ -21,10 +21,10 @@ pub trait BorrowingSink<T> {
     // the next may be this one
     ghost may: { Self → ActionRef T → Type 0 };
 
-    // what one makes of a value
+    // the value after a borrowed action
     ghost takes: { Self → ActionRef T → Self → Type 0 };
 
-    // what a refused one may leave
+    // the value that a refused action may leave
     ghost refuses: { Self → ActionRef T → Self → Type 0 };
 
     /// Takes a borrowed action; a text is never empty, and none of its characters is a control of

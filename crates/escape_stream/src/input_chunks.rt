@@ -13,13 +13,13 @@ use std::alloc::Allocator;
 
 /// The actions of a stream that comes in these chunks, whatever the chunks are.
 ///
-/// The clause `headline` is what this crate promises of reading and writing, in one statement:
-/// while no request for memory is refused, the call returns the actions; the stream has exactly one
-/// cut into segments; these actions are the readings of the segments, in order; each is writable,
-/// but for four exceptions; and where the stream is the text of a writable list, they are the
-/// list's normal list, which has the same text.
+/// The clause `headline` states all that this crate promises of reading and writing. While no
+/// request for memory is refused, the call returns the actions; the stream has exactly one cut into
+/// segments; these actions are the readings of the segments, in order; each is writable, but for
+/// four exceptions; and if the stream is the text of a writable list, they are the list's normal
+/// list, which has the same text.
 ///
-/// `ParseError::Memory` says that a request for memory was refused; what came is dropped.
+/// `ParseError::Memory` says that a request for memory was refused; the actions so far are dropped.
 pub fn parse_chunks<A: Allocator + Copy>(
     alloc: A,
     input_chunks: &[&[u8]],

@@ -10,7 +10,7 @@ use esc_parse::Parser;
 use std::alloc::{Allocator, Global};
 
 /// Gives the sink, in order, borrowed actions that together are exactly the actions that `bytes`
-/// add to what the bytes fed before mean, and hands it back: what
+/// add to the meaning of the bytes fed before, and hands the sink back. The actions are those that
 /// [`Parser::parse_into`] would give, with no copy of text, parameters and commands.
 ///
 /// The sink has to be ready for any borrowed action; or, of a parser that was fed a stream, for
@@ -36,8 +36,8 @@ pub fn parse_borrowed_into<A: Allocator + Copy, S: BorrowingSink<Action<A>>>(
 }
 
 /// Calls `callback`, in order, on borrowed actions that together are exactly the actions that
-/// `bytes` add to what the bytes fed before mean: those on which [`Parser::parse`] would call it,
-/// with no copy of text, parameters and commands.
+/// `bytes` add to the meaning of the bytes fed before. The actions are those on which
+/// [`Parser::parse`] would call it, with no copy of text, parameters and commands.
 ///
 /// As [`Parser::parse`] it is for the global allocator alone, and [`parse_borrowed_into`] is for
 /// any. The closure has to be callable always; or, of a parser that was fed a stream, on borrowed

@@ -18,10 +18,10 @@ use std::alloc::{AllocError, Allocator};
 /// the segment comes in a stream. They are found by splitting the segment's bytes, without a
 /// parser.
 ///
-/// The segment is one that [`Segments`](esc_segments::Segments) gave. Of a segment that is
-/// unfinished these are the actions so far. Of any other value of the type nothing is said but that
-/// the call returns. `AllocError` says that memory was refused; then nothing is handed out. It does
-/// not come of a segment without actions, but for a string or a control sequence, whole or cut
+/// The segment is one that [`Segments`](esc_segments::Segments) gave. If it is unfinished, these
+/// are its actions so far. For any other value of the type, the promise is only that the call
+/// returns. `AllocError` says that memory was refused; then nothing is handed out. A segment
+/// without actions gives this error only if it is a string or a control sequence, whole or cut
 /// short.
 pub fn read_segment<A: Allocator + Copy>(
     alloc: A,

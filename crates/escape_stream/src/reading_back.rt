@@ -1,4 +1,4 @@
-//! What the text of an action means.
+//! The first action that the text of an action means.
 ghost use Rattle.std.specs.Prelude.{◌≡◌, ◌∷◌, ◌++◌, ◌↔◌, [], false, true, IfOk, IfSome, IsTrue, OnErr, Some};
 ghost use Rattle.std.specs.Option.{option_map};
 ghost use Rattle.esc_actions.specs.Meaning.{meaning};
@@ -39,8 +39,8 @@ pub(crate) fn reads_back<A: Allocator + Copy>(
     }
 }
 
-// The first action that the text of this one means, with a string terminator after it; none where
-// it has no text.
+// The first action that the text of this one means, with a string terminator after it; none if it
+// has no text.
 #[tactic(auto, using(crate::proofs::Backs::writable_has_text))]
 fn first_meant<A: Allocator + Copy>(
     alloc: A,

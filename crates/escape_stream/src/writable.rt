@@ -12,12 +12,12 @@ use esc_device::DeviceControlMode;
 use std::alloc::{AllocError, Allocator};
 
 /// Whether the action is writable: its text, whatever follows it, reads back as the action. A
-/// `PrintString` reads back as its characters, and is writable where there is one and all are
-/// clear; an `Enter`, a byte of data and an `Exit` read back in a group, and only there.
+/// `PrintString` reads back as its characters, and is writable if it has one or more and all are
+/// clear. An `Enter`, a byte of data and an `Exit` read back in a group, and only there.
 ///
-/// Takes time and memory in proportion to the action's text, and none of it lasts. Of a character,
-/// a string, a control, a byte and an `Exit` it takes no memory. The error is that memory was
-/// refused.
+/// Takes time and memory in proportion to the action's text, and frees all the memory again. A
+/// character, a string, a control, a byte and an `Exit` take no memory. The error is that memory
+/// was refused.
 pub fn is_writable<A: Allocator + Copy>(alloc: A, action: &Action<A>) -> Result<bool, AllocError>
     ensures ok { IfOk result (λ b. IsTrue b ↔ IsWritable (value_of action.now)) }
     ensures refused { OnErr result (Refused A) }
@@ -68,7 +68,7 @@ pub fn are_writable<A: Allocator + Copy>(
     Ok(!within)
 }
 
-// Whether the action may come here, where a mode is entered or not.
+// Whether the action may come here; `within` says whether a mode is entered.
 fn is_in_place<A: Allocator>(action: &Action<A>, within: bool) -> bool
     ensures { IsTrue result ↔ (is_within (value_of action.now) ≡ within) }
 {
