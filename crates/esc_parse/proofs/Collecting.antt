@@ -1,4 +1,4 @@
--- What a list of actions is given, one after another or as a run.
+-- A list takes actions, one after another or as a run.
 use Rattle.std.proofs.Common.{ℕ, ◌≡◌, ◌<◌, ◌+◌, List, [], ◌∷◌, ◌++◌, get_or, length, map, refl, ap, sym, ◌∙◌, append_assoc, inl, inr, arith}
 use Rattle.std.proofs.lemmas.List.{append-nil, length-append, length-map, map-append}
 use Rattle.std.proofs.Common.{Option, Some, None, Result, Ok, Err, subst}
@@ -28,7 +28,7 @@ module _ {A : Type 0} (f : ℕ → Action A) where
   gathers_from [] p r q some e h = absurd (omega arith)
   gathers_from (x ∷ xs) p r q some e (j, t, h) = (j, t ∙ ap (λ is. is ++ f x ∷ []) e, h)
 
-  -- and stays as it was where there is no room
+  -- and stays as it was if there is no room
   pub gathers_none : (xs : List ℕ) (p q : Collect A) → 0 < length xs
       → q.actions.items ≡ p.actions.items
       → Refused A
@@ -77,7 +77,7 @@ counts_more had all now later vs h a (more, is, of) =
     ap length (a ∙ is ∙ ap (λ l. l ++ more) (sym h)) ∙ length-append had more
     ∙ ap (λ n. length had + n) (sym (length-map more value_of) ∙ ap length of)
 
--- what it was given, one after another, was appended
+-- the values that it was given, one after another, were appended
 pub gathers : {A : Type 0} (p : Collect A) (vs : List (Value A)) (q : Collect A)
     → FoldsTo (At value_of Gathers) p vs q → Adds p.actions.items vs q.actions.items
 gathers p [] q e = adds_none _ _ (ap (λ x. x.actions.items) (sym e))
@@ -97,7 +97,7 @@ gathers_some own p (v ∷ vs) q (inr (inr (j, (a, is, t), rest))) =
     adds_some p.actions.items j.actions.items q.actions.items (v ∷ []) vs
     (adds_one _ _ a v t is) (gathers_some own j vs q rest)
 
--- what keeps the first action takes a run by its first character
+-- a sink that keeps the first action takes a run by its first character
 abbrev pub Keeps : {A : Type 0} → First A → Action A → First A → Type 0
 Keeps p a q = q.action ≡ first_of p.action a
 
@@ -121,7 +121,7 @@ pub first_byte : {A : Type 0} (xs : List ℕ) (d : ℕ) (p q : First A) → 0 < 
 first_byte [] d p q some k = absurd (omega (arith, some))
 first_byte (x ∷ xs) d p q some k = first_taken x xs p q k
 
--- what was appended to no actions is a list of its own
+-- the actions that were appended to an empty list are a list of their own
 pub lists_found : {A L : Type 0} (items : L → List (Action A)) (old : Parser A) (b : List ℕ)
     (had : List (Action A)) (r : Result (Option ℕ) ParseError) (o : Option ℕ) (new : Parser A)
     (l : L) → r ≡ Ok o → had ≡ [] → FindsFirsts old b had r new (items l)

@@ -53,7 +53,7 @@ more_past : (limit : Option ℕ) (d : List ℕ) (b : ℕ) → is_within limit (l
     → is_within limit (length (d ++ b ∷ [])) ≡ false
 more_past limit d b h = ap (is_within limit) (one_more d b) ∙ past limit (length d) 1 h
 
--- what is past the limit stays so
+-- data past the limit stays past it
 pub over_stays : (limit : Option ℕ) (m : Mode) (b : ℕ) → is_within limit (data_count m) ≡ false
     → is_within limit (data_count (mode_with_byte m b)) ≡ false
 over_stays limit plain b h = h
@@ -93,7 +93,7 @@ entered_put (in_termcap d) b h = absurd cc
 entered_put (in_short ps is f d) b h = absurd cc
 entered_put entered b h = (refl, refl)
 
--- what is kept of a segment and of its data, together
+-- the number of bytes kept of a segment and of its data, together
 abbrev IsLeast : ℕ → ℕ → ℕ → Type 0
 IsLeast x a m = ((x ≡ a) × (a ≤ m)) ⊎ ((x ≡ m) × (m ≤ a))
 
@@ -127,7 +127,7 @@ fits_one a b x y r n e f g (inr z) h k =
     let none : y ≡ 0 = f ∙ ap (λ m. min m most) z in
     let few = min-le_left (x + y) most in omega (arith, none, few, g, h)
 
--- which is within the limit, where one of them is nothing
+-- this is within the limit if one of them is nothing
 pub kept_fits : (limit : Option ℕ) (a b x y r : ℕ) → x ≡ min a most → y ≡ min b most
     → r ≡ min (x + y) most → (a ≡ 0) ⊎ (b ≡ 0)
     → IfSome limit (λ n. x ≤ n) → IfSome limit (λ n. y ≤ n) → IfSome limit (λ n. r ≤ n)
@@ -142,7 +142,7 @@ kept_at_most (Some l) n = by (nat_le n l) refl
     by true e = grind (arith, nat_tests)
     by false e = omega arith
 
--- what is kept of data is within the limit
+-- the kept part of data is within the limit
 pub data_fits : (limit : Option ℕ) (n r : ℕ) → r ≡ min (kept_within limit n) most
     → IfSome limit (λ m. r ≤ m)
 data_fits None n r e = tt

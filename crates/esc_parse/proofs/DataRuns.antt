@@ -84,11 +84,11 @@ rest_room limit c b bs room =
           subst (λ n. is_within limit n ≡ true) same room.within;
     }
 
--- what is unfinished, with this dcs_payload and so many bytes more
+-- the unfinished string, with this payload and so many bytes more
 abbrev pub holding : {A : Type 0} → Unfinished A → DcsPayload A → ℕ → Unfinished A
 holding u h n = record u { dcs_payload = h; «data» = counted u.data n }
 
--- a run that a builder takes, where what is dcs_payload holds the builder
+-- a run that a builder takes, if the payload holds the builder
 module _ {A B : Type 0} (R : B → ℕ → B → Type 0) (f : B → DcsPayload A)
     (same_kind : (p q : B) → is_mode (f q) ≡ is_mode (f p))
     (step : (limit : Option ℕ) (c : Count) (m : Mode) (p q : B) (b : ℕ) → HasRoom limit c 1
@@ -153,7 +153,7 @@ short_step x limit c (in_short ps is f d) p q b room r h =
     (r ps is f d h.0, one_counted limit c d b room h.1)
 short_step x limit c entered p q b room r h = absurd h
 
--- a run that a builder takes, which what is dcs_payload holds
+-- a run that a builder takes, if the payload is that builder
 module _ {A : Type 0} (bs : List ℕ) (u v : Unfinished A) where
   pub sixel_run : (x : Box (SixelText A) A) (y : SixelText A) → u.dcs_payload ≡ dcs_payload.Sixel x
       → HasRoom u.limit u.data (length bs)
@@ -225,7 +225,7 @@ module _ {A : Type 0} (bs : List ℕ) (u v : Unfinished A)
   idle_run (inr (inr is)) same =
       dropped_run dcs_payload.Over (λ limit c e m b k. over_stays limit m b k) is same
 
--- what is unfinished is no mode, or is one
+-- the unfinished string is no mode, or is one
 pub no_mode : {A : Type 0} (limit : Option ℕ) (h : DcsPayload A) (c : Count) (m : Mode)
     → Keeps limit h c m → is_mode h ≡ false → is_entered m ≡ false
 no_mode limit h c plain k e = refl

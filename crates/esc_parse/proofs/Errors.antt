@@ -1,4 +1,4 @@
--- What is known of a result that is an error.
+-- Facts about a result that is an error.
 use Rattle.std.proofs.Common.{◌≡◌, Result, Ok, Err}
 
 pub ok_is_no_error : {T E : Type 0} (r : Result T E) (x : T) (e : E) → r ≡ Ok x → r ≡ Err e → ⊥

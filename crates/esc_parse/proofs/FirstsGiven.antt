@@ -1,4 +1,4 @@
--- Exact prefixes: what a turn of a loop that looks for one knows.
+-- Exact prefixes: the facts that a turn of a loop that looks for one knows.
 use Rattle.std.proofs.Common.{◌≡◌, ◌≢◌, ℕ, zero, suc, ◌+◌, ◌-◌, ◌<◌, ◌≤◌, List, [], ◌∷◌, ◌++◌, length, take, drop, Option, Some, None, IfSome, refl, ap, sym, ◌∙◌}
 use Rattle.std.proofs.Common.{subst, append_assoc, take-append-drop, take_all, length-drop, arith, ◌⊎◌, inl, inr}
 use Rattle.std.proofs.Math.Seq.{take-add}
@@ -31,7 +31,7 @@ use Rattle.esc_actions.specs.declared.action.Action.{Action}
 use Rattle.esc_actions.specs.declared.control_code.ControlCode.{ControlCode}
 use Rattle.esc_parse.specs.declared.sink.First.{First}
 
--- the first of what a sink was given
+-- the first of the actions that a sink was given
 keeps : {A : Type 0} (p : First A) (a : Action A) (vs : List (Value A)) (q : First A)
     → FoldsTo (At value_of (λ p a q. q.action ≡ first_of p.action a)) p vs q
     → p.action ≡ Some a → q.action ≡ Some a
@@ -45,7 +45,7 @@ keeps_first p [] q e h = ap (λ x. option_map value_of x.action) (sym e) ∙ ap 
 keeps_first p (v ∷ vs) q (j, (b, is, w), rest) h =
     ap (option_map value_of) (keeps j b vs q rest (w ∙ ap (λ o. first_of o b) h)) ∙ ap Some is
 
--- what takes every action is stopped by the giver alone
+-- a sink that takes every action is stopped by the giver alone
 pub stops_itself : {P T V : Type 0} (f : T → V) (takes : P → T → P → Type 0) (own : Type 0) (p : P)
     (vs : List V) (q : P)
     → StopsAt own (At f takes) (At f (λ p a q. ⊥)) p vs q → own
@@ -55,7 +55,7 @@ stops_itself f takes own p (v ∷ vs) q (inr (inl r)) = absurd r.2
 stops_itself f takes own p (v ∷ vs) q (inr (inr (mid, t, rest))) =
     stops_itself f takes own mid vs q rest
 
--- what bytes yield, one after another
+-- the values that bytes yield, one after another
 pub yield_append : {A : Type 0} (limit : Option ℕ) (s b c : List ℕ)
     → yield_within {A = A} limit s (b ++ c)
     ≡ yield_within limit s b ++ yield_within limit (s ++ b) c
@@ -89,7 +89,7 @@ prefix_empty limit s b c e =
     left_empty (yield_within limit s b) (yield_within limit (s ++ b) c)
     (sym (yield_append limit s b c) ∙ e)
 
--- how many bytes there are, of which at were taken, and then n of the rest, one at least where
+-- the number of bytes, of which at were taken, and then n of the rest, which is at least one if
 -- there are any
 pub least : (n : ℕ) → 0 ≤ n
 least n = omega arith
@@ -146,7 +146,7 @@ prefix_by : (P : ℕ → Type 0) (at n k : ℕ) → k < at + n → ((j : ℕ) �
 prefix_by P at n k h before later (inl l) = into_rest P at n k h l later
 prefix_by P at n k h before later (inr l) = before k l
 
--- a prefix is one of what was taken, or reaches into the rest
+-- a prefix lies in the taken bytes, or reaches into the rest
 prefix_cases : (P : ℕ → Type 0) (at n k : ℕ) → k < at + n → ((j : ℕ) → j ≤ at → P j)
     → ((j : ℕ) → 0 < j → j < n → P (at + j)) → P k
 prefix_cases P at n k h before later = prefix_by P at n k h before later (cases_lt at k)
@@ -294,7 +294,7 @@ control_found A limit s bs b W None w e is = tt
 control_found A limit s bs b W (Some c) w e is =
     (w, sym (yields_by limit s bs (Execute b) e ∙ rw (sym is) refl))
 
--- what was taken and n bytes of the rest, where these are all
+-- the taken bytes and n bytes of the rest, if these are all
 pub fed_all : (s bs : List ℕ) (at n : ℕ) → length bs ≤ at + n → s ++ take (at + n) bs ≡ s ++ bs
 fed_all s bs at n h = ap (λ x. s ++ x) (take_all (at + n) bs h)
 
@@ -322,7 +322,7 @@ values_more {A = A} limit s bs at n had mid all one two =
     let P : List (Value A) → Type 0 = λ vs. Adds had vs all in
     subst P (sym (yield_more limit s bs at n)) (adds_more had mid all _ _ one two)
 
--- what the rest may want, the whole may
+-- memory that the rest may want, the whole may want
 right_empty : {X : Type 0} (xs ys : List X) → xs ++ ys ≡ [] → ys ≡ []
 right_empty [] ys e = e
 right_empty (x ∷ xs) ys e = absurd cc

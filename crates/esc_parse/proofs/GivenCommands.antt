@@ -14,7 +14,7 @@ use Rattle.esc_parse.specs.declared.performer.Performer.{Performer}
 use Rattle.esc_parse.proofs.Lists.{StopsAt-weaker}
 use Rattle.fallible_alloc.specs.Refusals.{Refused}
 
--- what an event makes of a performer, and how it stops there
+-- the effect of an event on a performer, and the ways in which it stops there
 abbrev Performs : {S A : Type 0} → (S → Action A → S → Type 0) → Performer S A → Event
     → Performer S A → Type 0
 Performs takes p e q = (limit : Option ℕ) (m : Mode) → Hooks limit p.unfinished m

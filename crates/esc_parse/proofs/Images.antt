@@ -37,7 +37,7 @@ module _ {S A : Type 0} (R : S → Action A → S → Type 0) (s : S)
       let (first, rest) = and_parts (is_image v) (list_all is_image vs) h in
       (s, one_dropped v first, all_dropped vs rest)
 
--- what an application program command means is an image or nothing
+-- an application program command means an image or nothing
 pub command_images : {A : Type 0} (o : Option (KittyImage A)) → list_all is_image (image_values o)
     ≡ true
 command_images None = refl

@@ -67,7 +67,7 @@ module _ {P V : Type 0} (R Q : P → V → P → Type 0) (own why : Type 0)
       → (own ⊎ (vs ≢ [])) × why
   stops_wanting p vs q e = (stops_or_some p vs q e, stops_why p vs q e)
 
--- where nothing is refused, what was taken is a prefix, and the giver stopped by itself
+-- if nothing is refused, the taken values are a prefix, and the giver stopped by itself
 module _ {P V : Type 0} (R Q : P → V → P → Type 0) (own : Type 0)
     (never : (p : P) (v : V) (q : P) → Q p v q → ⊥) where
   pub gets_prefix : (p : P) (vs : List V) (q : P) → StopsAt own R Q p vs q → own × GetsPrefix R p vs
@@ -104,7 +104,7 @@ module _ {C P T V : Type 0} (f : C → P) (g : T → V) (may : P → T → Type 
   awaits_moved c [] m = tt
   awaits_moved c (v ∷ vs) m = (m.0, λ d t. awaits_moved d vs (m.1 (f d) t))
 
--- what was given by what it is, was given as it is seen
+-- values given in one of two equal forms were given in the other
 module _ {P T V W : Type 0} (g : T → W) (f : V → W) (R Q : P → T → P → Type 0) where
   abbrev SeenSo : T → V → Type 0
   SeenSo t v = g t ≡ f v
@@ -166,7 +166,7 @@ pub if_err_parts : {T E : Type 0} (Y Z W V : Type 0) (r : Result T E) (A B : E �
 if_err_parts Y Z W V (Ok x) A B f w = tt
 if_err_parts Y Z W V (Err e) A B f w = let p = f w.2 in (w.0, w.1, (p.0.0, p.1), p.0.1)
 
--- no error, where its cause never is
+-- no error, if its cause never happens
 pub is_ok_unless : {T E : Type 0} (P : T → Type 0) (B : E → Type 0) (W : Type 0) (r : Result T E)
     → (W → ⊥) → IfOk r P
     → IfErr r (λ e. B e × W) → IsOkAnd r P

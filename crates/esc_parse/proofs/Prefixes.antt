@@ -1,4 +1,4 @@
--- A prefix of what is left, and what stands after it.
+-- A prefix of the rest, and the bytes after it.
 use Rattle.std.proofs.Common.{◌≡◌, ℕ, ◌-◌, List, ◌++◌, length, take, drop, sym, ap, ◌∙◌, append_assoc, take-append-drop, take_all, length-drop, arith}
 
 pub rest_is : (xs : List ℕ) (n : ℕ) → take (length xs - n) (drop n xs) ≡ drop n xs

@@ -92,7 +92,7 @@ chars_taken print R text [] p q e so =
     (sym (so.1 ∙ ap (λ x. so.0 ++ x) chars-nil ∙ append-nil so.0)) so.2
 chars_taken print R text (b ∷ rest) p q e so = absurd (omega arith)
 
--- what a sink takes as a run, its actor takes as events
+-- a run that a sink takes is a run that its actor takes as events
 module _ {S A : Type 0} (R Q : S → Action A → S → Type 0) where
   abbrev pub Takes : Performer S A → Event → Performer S A → Type 0
   Takes p e q = (limit : Option ℕ) (m : Mode) → Hooks limit p.unfinished m
@@ -150,7 +150,7 @@ module _ {S A : Type 0} (R Q : S → Action A → S → Type 0) where
       (record p { sink = j }, one_taken p j x t, refl)
       (run_stopped own xs (record p { sink = j }) s h)
 
--- where a run is refused, its first character may be
+-- if a run is refused, its first character may be refused
 pub refuses_run : {S A : Type 0} (R Q : S → Action A → S → Type 0) (xs : List ℕ) (p q : S)
     → 0 < length xs
     → ((x : ℕ) → Q p (action.Print x) q) → StopsAt ⊥ R Q p (map action.Print xs) q

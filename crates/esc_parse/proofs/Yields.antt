@@ -1,4 +1,4 @@
--- From events to values, and what a sink was given of them.
+-- From events to values, and the values that a sink was given.
 use Rattle.std.proofs.Common.{◌≡◌, ℕ, Bool, true, List, [], ◌∷◌, ◌++◌, map, refl, ap, sym, ◌∙◌, subst, append_assoc, inl, inr, Option}
 use Rattle.std.proofs.lemmas.List.{map-append}
 use Rattle.std.specs.List.{FoldsTo}
@@ -25,7 +25,7 @@ use Rattle.fallible_alloc.specs.Refusals.{Refused}
 use Rattle.esc_parse.specs.declared.sink.Collect.{Collect}
 use Rattle.esc_parse.specs.declared.unfinished.Unfinished.{Unfinished}
 
--- what events make of an actor that gives a sink their values
+-- the effect of events on an actor that gives a sink their values
 module _ {S A : Type 0} (R Q : S → Value A → S → Type 0) where
   abbrev Takes : Performer S A → Event → Performer S A → Type 0
   Takes p e q =
@@ -135,7 +135,7 @@ added_takes limit s b before e later is h =
     (sym (events_more limit s b) ∙ ap (λ l. events_within limit s ++ l) is
     ∙ sym (append_assoc (events_within limit s) before (e ∷ later))) h
 
--- an event that leaves unfinished what was unfinished
+-- an event that leaves the unfinished string unfinished
 pub hooks_by : {A : Type 0} (limit : Option ℕ) (u : Unfinished A) (s b : List ℕ) (x : Event)
     → added_within limit s b ≡ x ∷ []
     → mode_after (mode_from plain (events_within limit s)) x
@@ -186,7 +186,7 @@ module _ {S A : Type 0} (R Q : S → Value A → S → Type 0) where
       (λ g. (grows_takes (s ++ b) g.0, g.1)) h) k in
       subst (λ vs. StopsAt own R Q p.sink vs q.sink) (sym (yield_is limit s b)) w
 
--- what a list of actions was given
+-- the values that a list of actions was given
 pub collects : {A : Type 0} (p : Collect A) (vs : List (Value A)) (q : Collect A)
     → FoldsTo (At value_of Gathers) p vs q
     → map value_of q.actions.items ≡ map value_of p.actions.items ++ vs

@@ -1,4 +1,4 @@
--- What a call of a parser promises, in the words that its clauses share.
+-- The promises of a parser's calls, in the words that their clauses share.
 use Rattle.std.specs.Prelude.{ℕ, ◌≡◌, ◌<◌, ◌≤◌, ◌+◌, ◌⊎◌, List, [], ◌++◌, length, map, take, Option, Result, Err, IfErr, IfNone, IfOk, IfSome, OnOk}
 use Rattle.std.specs.Fn.{Called, Mut, always_mut}
 use Rattle.std.specs.List.{FoldsTo}
@@ -22,8 +22,8 @@ use Rattle.fallible_alloc.specs.Refusals.{Refused}
 abbrev pub After : {A : Type 0} → Parser A → (Option ℕ → List ℕ → Type 0) → Type 0
 After p P = (limit : Option ℕ) (s : List ℕ) → ParserHasConsumedWithin limit s p → P limit s
 
--- A receiver need not be ready for every action: the parser has failed, and gives none; or the
--- receiver awaits what b adds to a stream that the parser may have been fed.
+-- A receiver need not be ready for every action: either the parser has failed, and gives none; or
+-- the receiver awaits the values that b adds to a stream that the parser may have been fed.
 abbrev pub MayParse : {A P : Type 0} → (P → Action A → Type 0) → (P → Action A → P → Type 0)
     → Parser A → P → List ℕ
     → Type 0
@@ -66,8 +66,8 @@ CallsOnAll calls f vs = GetsAll (At value_of (CallsOn calls)) f vs
 abbrev pub CallsOnPrefix : {A F : Type 0} → Callback A F → F → List (Value A) → Type 0
 CallsOnPrefix calls f vs = GetsPrefix (At value_of (CallsOn calls)) f vs
 
--- P holds of each limit, stream s and bytes b where the parser may have been fed both, and b yields
--- as many values as there are more now than there were
+-- P holds for each limit, stream s and bytes b that the parser may have been fed, if b yields as
+-- many values as there are more now than before
 abbrev pub AfterMore : {A : Type 0} → Parser A → ℕ → ℕ → (Option ℕ → List ℕ → List ℕ → Type 0)
     → Type 0
 AfterMore {A} p had have P =
@@ -78,8 +78,8 @@ AfterMore {A} p had have P =
 abbrev pub IsStopped : {A T : Type 0} → Result T ParseError → Parser A → Type 0 → Type 0
 IsStopped result p stopped = IfErr result (λ e. (e ≡ Memory) × IsBroken p × stopped)
 
--- an error is `Memory`, the parser has failed then, and a request for memory was refused, which the
--- call made only where `wants` holds
+-- an error is `Memory`: the parser has failed then, and a request for memory was refused, which the
+-- call made only if `wants` holds
 abbrev pub IsRefused : {A T : Type 0} → Result T ParseError → Parser A → Type 0 → Type 0
 IsRefused {A} result p wants =
     IfErr result (λ e. (e ≡ Memory) × IsBroken p × wants × Refused A)
@@ -88,9 +88,9 @@ IsRefused {A} result p wants =
 abbrev pub StaysBroken : {A T : Type 0} → Parser A → Result T ParseError → Parser A → Type 0
 StaysBroken old result new = IsBroken old → (result ≡ Err Failed) × IsBroken new
 
--- The sink `old` was given a prefix of what b adds to s; then it refused the next action, or the
--- parser was refused memory. By itself the parser stops only where the cut of s and b holds a
--- string or a control sequence, whole or cut short.
+-- The sink `old` was given a prefix of the values that b adds to s; then it refused the next
+-- action, or the parser was refused memory. The parser stops by itself only if the cut of s and b
+-- holds a string or a control sequence, whole or cut short.
 abbrev pub StopsIn : {A P : Type 0} → (P → Action A → P → Type 0) → (P → Action A → P → Type 0)
     → Option ℕ → List ℕ → List ℕ → P → P → Type 0
 StopsIn {A} takes refuses limit s b old new =
@@ -112,11 +112,11 @@ abbrev pub YieldsFirst : {A : Type 0} → Option ℕ → List ℕ → List ℕ �
 YieldsFirst limit s b p v n = ParserHasConsumedWithin limit (s ++ take n b) p
     × IsFirst limit s b v n
 
--- this holds of what was found, where something was
+-- this holds for the thing found, if there is one
 abbrev pub IfFound : {T E : Type 0} → Result (Option T) E → (T → Type 0) → Type 0
 IfFound result P = IfOk result (λ r. IfSome r P)
 
--- this holds where nothing was found
+-- this holds if nothing was found
 abbrev pub IfNoneFound : {T E : Type 0} → Result (Option T) E → Type 0 → Type 0
 IfNoneFound result P = IfOk result (λ r. IfNone r P)
 
@@ -124,11 +124,12 @@ IfNoneFound result P = IfOk result (λ r. IfNone r P)
 abbrev pub IsSomeOf : ℕ → List ℕ → Type 0
 IsSomeOf n b = (0 < n) × (n ≤ length b)
 
--- the length of a prefix of the bytes, which is empty only where there are none
+-- the length of a prefix of the bytes, which is empty only if there are none
 abbrev pub IsTaken : ℕ → List ℕ → Type 0
 IsTaken n b = (n ≤ length b) × (0 < length b → 0 < n)
 
--- What a call promises that gives a sink what the bytes b add, and hands it back.
+-- The promises of a call that gives a sink the values that the bytes b add, and hands the sink
+-- back.
 pub record GivesAll {A S : Type 0} (T : Sinks S (Action A)) (old : Parser A) (b : List ℕ)
     (sink : S) (result : Result (Unit {0}) ParseError) (new : Parser A) (back : S) : Type 0 where
   -- they were fed, and the sink was given the actions that they add, in order
@@ -139,10 +140,10 @@ pub record GivesAll {A S : Type 0} (T : Sinks S (Action A)) (old : Parser A) (b 
       (StopsIn T.takes T.refuses limit s b sink back))
   -- a parser that has failed says so, and the sink is as it was
   pub failed : IsBroken old → (result ≡ Err Failed) × IsBroken new × (back ≡ sink)
-  -- after any other call the sink is ready for any action, where it was before
+  -- after any other call the sink is ready for any action, if it was before
   pub ready : T.is_ready sink → OnOk result (T.is_ready back)
 
--- What a call promises that calls a closure on what the bytes b add.
+-- The promises of a call that calls a closure on the values that the bytes b add.
 pub record CallsBack {A F : Type 0} (calls : Callback A F) (old : Parser A) (b : List ℕ) (f : F)
     (result : Result (Unit {0}) ParseError) (new : Parser A) : Type 0 where
   -- they were fed, and the closure was called on the actions that they add, in order
@@ -156,16 +157,16 @@ pub record CallsBack {A F : Type 0} (calls : Callback A F) (old : Parser A) (b :
   -- a parser that has failed says so
   pub failed : StaysBroken old result new
 
--- What a call promises that takes a prefix of the bytes b: `got` holds of the values that it
--- yields, `nothing` where no byte was taken, and `stopped` where memory was refused.
+-- The promises of a call that takes a prefix of the bytes b: `got` holds for the values that it
+-- yields, `nothing` if no byte was taken, and `stopped` if memory was refused.
 pub record TakesPrefix {A : Type 0} (old : Parser A) (b : List ℕ) (result : Result ℕ ParseError)
     (new : Parser A) (nothing : Type 0) (got : List (Value A) → Type 0)
     (stopped : Option ℕ → List ℕ → Type 0) : Type 0 where
   -- the length of the prefix
   pub count : IfOk result (λ n. IsTaken n b)
-  -- where there are no bytes, `nothing` holds, also after an error
+  -- if there are no bytes, `nothing` holds, also after an error
   pub empty : length b ≡ 0 → nothing
-  -- it was fed, and what it yields was got
+  -- it was fed, and the values that it yields were got
   pub given : After old (λ limit s. IfOk result
       (λ n. ParserHasConsumedWithin limit (s ++ take n b) new
       × got (yield_within limit s (take n b))))
@@ -176,14 +177,14 @@ pub record TakesPrefix {A : Type 0} (old : Parser A) (b : List ℕ) (result : Re
   -- a parser that has failed says so
   pub failed : IsBroken old → (result ≡ Err Failed) × IsBroken new × nothing
 
--- where a sink gets what the prefix yields, and is handed back
+-- the same for a sink that gets the values of the prefix, and is handed back
 abbrev pub GivesPrefix : {A S : Type 0} → Sinks S (Action A) → Parser A → List ℕ → S
     → Result ℕ ParseError → Parser A → S → Type 0
 GivesPrefix T old b sink result new back =
     TakesPrefix old b result new (back ≡ sink) (λ vs. FoldsTo (At value_of T.takes) sink vs back)
     (λ limit s. StopsIn T.takes T.refuses limit s b sink back)
 
--- What a call for the first action promises, where it is given the bytes b.
+-- The promises of a call for the first action, given the bytes b.
 pub record FindsFirst {A : Type 0} (old : Parser A) (b : List ℕ)
     (result : Result (Option (Action A × ℕ)) ParseError) (new : Parser A) : Type 0 where
   -- it was found in a prefix of them, of this length
@@ -193,14 +194,14 @@ pub record FindsFirst {A : Type 0} (old : Parser A) (b : List ℕ)
       (λ x. YieldsFirst limit s b new (value_of x.0) x.1))
   -- it can be written, but for the exceptions
   pub handed_out : After old (λ limit s. IfFound result (λ x. IsHandedOut (value_of x.0)))
-  -- where none was found all were fed, and they add none
+  -- if none was found all were fed, and they add none
   pub none : After old (λ limit s. IfNoneFound result (YieldsNone limit s b new))
   -- an error says that memory was refused
   pub refused : After old (λ limit s. IsRefused result new (MayTake (s ++ b)))
   -- a parser that has failed says so
   pub failed : StaysBroken old result new
 
--- What a call promises that makes a list of the first actions, where it is given the bytes b.
+-- The promises of a call that makes a list of the first actions, given the bytes b.
 pub record FindsFirstList {A L : Type 0} (items : L → List (Action A)) (old : Parser A) (b : List ℕ)
     (result : Result (Option (L × ℕ)) ParseError) (new : Parser A) : Type 0 where
   -- they were found in a prefix of the bytes, of this length
@@ -213,7 +214,7 @@ pub record FindsFirstList {A L : Type 0} (items : L → List (Action A)) (old : 
   -- they can be written, but for the exceptions
   pub handed_out : After old
       (λ limit s. IfFound result (λ x. EmittedAreWritable (map value_of (items x.0))))
-  -- where none were found all bytes were fed, and no prefix is such
+  -- if none were found all bytes were fed, and no prefix is such
   pub none : After old (λ limit s. IfNoneFound result (ParserHasConsumedWithin limit (s ++ b) new
       × ((k : ℕ) → k ≤ length b → IsStop A limit s (take k b) → ⊥)))
   -- an error says that memory was refused
@@ -221,8 +222,8 @@ pub record FindsFirstList {A L : Type 0} (items : L → List (Action A)) (old : 
   -- a parser that has failed says so
   pub failed : StaysBroken old result new
 
--- What a call promises that appends the first actions, where it is given the bytes b and a list of
--- the actions `had`, and leaves `all` there.
+-- The promises of a call that appends the first actions, given the bytes b and a list of the
+-- actions `had`; it leaves the list `all`.
 pub record FindsFirsts {A : Type 0} (old : Parser A) (b : List ℕ) (had : List (Action A))
     (result : Result (Option ℕ) ParseError) (new : Parser A) (all : List (Action A)) : Type 0 where
   -- they were found in a prefix of the bytes, of this length
@@ -233,14 +234,17 @@ pub record FindsFirsts {A : Type 0} (old : Parser A) (b : List ℕ) (had : List 
       (λ n. ParserHasConsumedWithin limit (s ++ take n b) new
       × IsFirstStop limit s b (yield_within {A = A} limit s (take n b)) n
       × Adds had (yield_within limit s (take n b)) all))
-  -- what any prefix adds, and so what was appended, can be written, but for the exceptions
+  -- the actions that any prefix adds, and so those that were appended, can be written, but for the
+  -- exceptions
   pub handed_out : After old
       (λ limit s. (n : ℕ) → EmittedAreWritable {A = A} (yield_within limit s (take n b)))
-  -- where none were found all bytes were fed, no prefix is such, and what they add was appended
+  -- if none were found all bytes were fed, no prefix is such, and the actions that they add were
+  -- appended
   pub none : After old (λ limit s. IfNoneFound result (ParserHasConsumedWithin limit (s ++ b) new
       × Adds had (yield_within limit s b) all
       × ((k : ℕ) → k ≤ length b → IsStop A limit s (take k b) → ⊥)))
-  -- an error says that memory was refused, and a prefix of what the bytes add was appended
+  -- an error says that memory was refused, and a prefix of the actions that the bytes add was
+  -- appended
   pub refused : After old (λ limit s. IsRefused result new
       (MayWant A limit s b × AddsSome had (yield_within limit s b) all))
   -- a parser that has failed says so, and the list is as it was

@@ -1,10 +1,10 @@
--- What a list of actions takes.
+-- A list of actions takes an action: it is appended.
 use Rattle.std.specs.Prelude.{◌≡◌, List, [], ◌∷◌, ◌++◌, map}
 use Rattle.esc_actions.specs.Values.{Value, value_of}
 use Rattle.esc_actions.specs.declared.action.Action.{Action}
 use Rattle.esc_parse.specs.declared.sink.Collect.{Collect}
 
--- what an action makes of a list
+-- the effect of an action on a list
 abbrev pub Gathers : {A : Type 0} → Collect A → Action A → Collect A → Type 0
 Gathers p a q = q.actions.items ≡ p.actions.items ++ a ∷ []
 

@@ -1,4 +1,4 @@
--- What a parser was fed.
+-- The bytes that a parser was fed.
 use Rattle.std.specs.Prelude.{ℕ, ◌≡◌, ◌+◌, ◌≤◌, Bool, true, false, List, length, Option, None}
 use Rattle.esc_frame.specs.Limits.{Counts, is_within, most}
 use Rattle.esc_frame.specs.Stream.{HasConsumedWithin, HasFailed, events_within}
@@ -13,11 +13,11 @@ use Rattle.esc_parse.specs.declared.dcs_payload.DcsPayload.TheVariants as dcs_pa
 use Rattle.esc_parse.specs.declared.parser.Parser.{Parser}
 use Rattle.esc_parse.specs.declared.unfinished.Unfinished.{Unfinished}
 
--- the count is that of this data, and within the limit
+-- the count is the number of bytes of this data, and within the limit
 abbrev pub CountsData : Option ℕ → Count → List ℕ → Type 0
 CountsData limit c d = Counts limit c (length d) × (is_within limit (length d) ≡ true)
 
--- what is dcs_payload is what is unfinished, or nothing of it where its data is past the limit
+-- the payload is the unfinished string, or nothing of it if its data is past the limit
 abbrev pub Keeps : {A : Type 0} → Option ℕ → DcsPayload A → Count → Mode → Type 0
 Keeps limit dcs_payload.Nothing c plain = Unit {0}
 Keeps limit (dcs_payload.Sixel b) c (in_sixel ps d) = HoldsSixel ps d b.value × CountsData limit c d
@@ -28,19 +28,19 @@ Keeps limit dcs_payload.Entered c entered = Unit {0}
 Keeps limit dcs_payload.Over c m = is_within limit (data_count m) ≡ false
 Keeps limit _ c _ = ⊥
 
--- a string that begins, of which no data is counted yet
+-- a string begins, and none of its data is counted yet
 abbrev pub Begins : {A : Type 0} → Option ℕ → DcsPayload A → Mode → Type 0
 Begins limit h m = (c : Count) → Counts limit c 0 → Keeps limit h c m
 
--- what is kept, under this limit, is what is unfinished
+-- the parser keeps the unfinished string, under this limit
 unfoldable pub Hooks : {A : Type 0} → Option ℕ → Unfinished A → Mode → Type 0
 Hooks limit u m = (u.limit ≡ limit) × Keeps limit u.dcs_payload u.data m
 
--- this holds of what is unfinished, under the limit, where that is kept
+-- this holds for the unfinished string that is kept, under the limit
 abbrev pub Hooking : {A : Type 0} → Unfinished A → (Option ℕ → Mode → Type 0) → Type 0
 Hooking u P = (limit : Option ℕ) (m : Mode) → Hooks limit u m → P limit m
 
--- what is dcs_payload is a mode
+-- the payload is a mode
 abbrev pub is_mode : {A : Type 0} → DcsPayload A → Bool
 is_mode dcs_payload.Nothing = false
 is_mode (dcs_payload.Sixel b) = false
@@ -49,7 +49,7 @@ is_mode (dcs_payload.Short b) = false
 is_mode dcs_payload.Entered = true
 is_mode dcs_payload.Over = false
 
--- a string is unfinished of which only the end gives a value, and no byte of its data does
+-- an unfinished string that gives a value only at its end, and none for a byte of its data
 abbrev pub keeps_data : Mode → Bool
 keeps_data plain = false
 keeps_data (in_sixel ps d) = true
@@ -69,8 +69,8 @@ pub record HasRoom (limit : Option ℕ) (c : Count) (more : ℕ) : Type 0 where
   pub few : c.bytes + more ≤ most
   pub within : is_within limit (c.bytes + more) ≡ true
 
--- The bytes may be what the parser was fed, which keeps no more than the limit of a segment: it has
--- not failed, and keeps what is unfinished of them.
+-- The bytes may be those that the parser was fed, which keeps no more than the limit of a segment:
+-- it has not failed, and keeps their unfinished string.
 unfoldable pub ParserHasConsumedWithin : {A : Type 0} → Option ℕ → List ℕ → Parser A → Type 0
 ParserHasConsumedWithin limit s p =
     HasConsumedWithin limit s p.framer

@@ -1,4 +1,4 @@
--- Sixel images: what is kept of one that is unfinished.
+-- Sixel images: the kept state of an unfinished one.
 use Rattle.std.specs.Prelude.{ℕ, ℤ, ◌≡◌, List, [], ◌∷◌, ◌++◌}
 use Rattle.esc_sixel.specs.Steps.{HasConsumed}
 use Rattle.esc_parse.specs.declared.sixel_text.SixelText.{SixelText}

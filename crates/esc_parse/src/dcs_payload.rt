@@ -1,4 +1,4 @@
-//! What is kept of a device control string while it is unfinished.
+//! The state that is kept of an unfinished device control string.
 ghost use Rattle.std.specs.Prelude.{◌≡◌, [], ◌∷◌, ℕ, IfOk, OnErr, Option, option_to_list};
 ghost use Rattle.std.specs.Option.{option_map};
 ghost use Rattle.esc_actions.specs.Values.{Mode, unhook_values, mode_at_hook, hook_values, value_of};
@@ -25,13 +25,13 @@ pub enum DcsPayload<A: Allocator = Global> {
     Termcap(GetTcapBuilder<A>),
     /// A short device control.
     Short(Box<ShortBuilder<A>, A>),
-    /// A mode, of which nothing has to be kept.
+    /// A mode: nothing of it has to be kept.
     Entered,
-    /// A string of which more data came than the limit allows, so that nothing is kept of it.
+    /// A string with more data than the limit allows: nothing of it is kept.
     Over,
 }
 
-// What is kept of a string that begins.
+// The state that is kept of a string that begins.
 #[tactic(auto, using(crate::proofs::DataLimits::zero_within))]
 pub(crate) fn begin<A: Allocator + Copy>(
     alloc: A,
@@ -78,7 +78,7 @@ pub(crate) fn header_action<A: Allocator + Copy>(
     Ok(Action::DeviceControl(DeviceControlMode::Enter(enter)))
 }
 
-// The action of the end of a string, where it has one.
+// The action at the end of a string, if it has one.
 #[tactic(auto, using(crate::proofs::DataLimits::over_gives))]
 pub(crate) fn end<A: Allocator + Copy>(
     alloc: A,

@@ -1,7 +1,7 @@
-//! From bytes to actions: the [`Parser`], and the sinks that take what it hands out.
+//! From bytes to actions: the [`Parser`], and the sinks that take its actions.
 //!
-//! Events go to a [`Performer`](performer::Performer), which makes actions of them and keeps what
-//! is unfinished of a device control string. No text is made of actions here: `esc_write` does
+//! Events go to a [`Performer`](performer::Performer), which makes actions of them and keeps the
+//! state of an unfinished device control string. No text is made of actions here: `esc_write` does
 //! that, and `esc_normal` joins the two. A part of `escape_stream`.
 //!
 //! ```text

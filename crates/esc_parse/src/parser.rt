@@ -59,7 +59,7 @@ impl<A: Allocator + Copy> Parser<A> {
     ///
     /// An operating system command, an application program command, and a sixel image, termcap
     /// query or short control with more data give no action but the controls in their openers, and
-    /// a device control string of which the header has more parameter bytes is passed over. A short
+    /// a device control string with more parameter bytes in its header is passed over. A short
     /// control is a device control string with the intermediate `$` and the final byte `q`, as a
     /// query of a setting. The segments of the stream are the same as without a limit.
     #[tactic(auto, unfolding(crate::specs::Fed::ParserHasConsumedWithin))]
@@ -73,7 +73,7 @@ impl<A: Allocator + Copy> Parser<A> {
         }
     }
 
-    /// Begins a new stream: what is unfinished is dropped, and gives no action. The limit stays,
+    /// Begins a new stream: an unfinished segment is dropped, and gives no action. The limit stays,
     /// and so does the memory that strings took. A parser that has failed stays so.
     pub fn restart(&mut self)
         ensures fed { After self.old (λ limit s. ParserHasConsumedWithin limit [] self.new) }
@@ -83,14 +83,13 @@ impl<A: Allocator + Copy> Parser<A> {
         self.unfinished.restart();
     }
 
-    /// How many bytes are kept of the segment that is unfinished: of an operating system command
-    /// its text in UTF-8, of an application program command its bytes 20 to 7F, of a device control
+    /// The number of bytes that are kept of the unfinished segment. An operating system command
+    /// keeps its text in UTF-8; an application program command its bytes 20 to 7F; a device control
     /// string its parameter bytes 30 to 39 and 3B until its final byte, and after it the data of a
-    /// sixel image, termcap query or short control. Of any other device control string no data is
-    /// kept: a mode hands it out as it comes, and one whose header does not have its form is passed
-    /// over. The count is 0 also once the limit was passed, where no such segment is unfinished,
-    /// and after a failure. Without a limit a count past [`usize::MAX`] is returned as
-    /// `usize::MAX`.
+    /// sixel image, termcap query or short control. Any other device control string keeps no data:
+    /// a mode hands it out as it comes, and one whose header does not have its form is passed over.
+    /// The count is 0 also once the limit was passed, if no such segment is unfinished, and after a
+    /// failure. Without a limit a count past [`usize::MAX`] is returned as `usize::MAX`.
     pub fn kept(&self) -> usize
         ensures given { After self.now (λ limit s. (gs : List Segment) → IsCut s gs
             → result ≡ min (kept_of_cut limit gs + data_kept limit s) most) }
@@ -104,9 +103,9 @@ impl<A: Allocator + Copy> Parser<A> {
         text.saturating_add(bytes)
     }
 
-    /// Gives the sink, in order, exactly the actions that `bytes` add to what the bytes fed before
-    /// mean, and hands it back. They can be written, but for the four kinds of
-    /// [`is_exception`](esc_actions::exceptions::is_exception): so says the law
+    /// Gives the sink, in order, exactly the actions that `bytes` add to the meaning of the bytes
+    /// fed before, and hands the sink back. They can be written, but for the four kinds of
+    /// [`is_exception`](esc_actions::exceptions::is_exception), by the law
     /// [`yield_handed_out`](esc_actions::laws::yield_handed_out).
     ///
     /// The sink has to be ready for any action; or, of a parser that was fed a stream, for these,
@@ -114,9 +113,9 @@ impl<A: Allocator + Copy> Parser<A> {
     ///
     /// `ParseError::Memory` says that a request of the parser for memory was refused, or that the
     /// sink returned an error: it was given a prefix of these actions, and the parser has failed.
-    /// Without the sink's doing it does not come while the stream so far holds only characters,
+    /// Unless the sink causes it, it does not come while the stream so far holds only characters,
     /// stray and broken bytes, controls, lone terminators and escape sequences, whole or cut short.
-    /// Of the bytes fed before only those of the segment that is unfinished matter here, by the law
+    /// Only the bytes of the unfinished segment matter here among the bytes fed before, by the law
     /// [`unfinished_alone`](crate::laws::unfinished_alone). `ParseError::Failed` says that an
     /// earlier call returned `Memory`: the sink comes back as it was.
     #[tactic(auto, unfolding(crate::specs::Fed::ParserHasConsumedWithin))]
@@ -148,14 +147,14 @@ impl<A: Allocator + Copy> Parser<A> {
         }
     }
 
-    /// The actions that `bytes` add to what the bytes fed before mean, in order. They can be
-    /// written, but for the four kinds of
-    /// [`is_exception`](esc_actions::exceptions::is_exception).
+    /// The actions that `bytes` add to the meaning of the bytes fed before, in order. They can be
+    /// written, but for the four kinds of [`is_exception`](esc_actions::exceptions::is_exception).
     ///
-    /// `ParseError::Memory` says that a request for memory was refused; what came is dropped, and
-    /// the parser has failed. It does not come where the bytes fed before and these hold no control
-    /// sequence and no string, whole or cut short, and add no action. `ParseError::Failed` says
-    /// that an earlier call returned `Memory`; the parser has still failed.
+    /// `ParseError::Memory` says that a request for memory was refused; the actions so far are
+    /// dropped, and the parser has failed. It does not come if the bytes fed before and these hold
+    /// no control sequence and no string, whole or cut short, and add no action.
+    /// `ParseError::Failed` says that an earlier call returned `Memory`; the parser has still
+    /// failed.
     pub fn parse_as_vec(&mut self, bytes: &[u8]) -> Result<Vec<Action<A>, A>, ParseError>
         ensures given { After self.old (λ limit s. IfOk result
             (λ v. Yields limit s bytes.now self.new (map value_of v.items))) }
@@ -188,7 +187,7 @@ impl<A: Allocator + Copy> Parser<A> {
 }
 
 impl Parser {
-    /// Calls `callback` on each action that `bytes` add to what the bytes fed before mean, in
+    /// Calls `callback` on each action that `bytes` add to the meaning of the bytes fed before, in
     /// order. They can be written, but for the four kinds of
     /// [`is_exception`](esc_actions::exceptions::is_exception).
     ///

@@ -36,7 +36,7 @@ pub struct Performer<S, A: Allocator = Global> {
     pub unfinished: Unfinished<A>,
 }
 
-// The intermediate, where there is exactly one.
+// The intermediate, if there is exactly one.
 fn lone_of(intermediates: &[u8]) -> Option<u8>
     ensures { result ≡ only_item intermediates.now }
 {
@@ -60,7 +60,7 @@ fn give_all<A: Allocator, S: Sink<Action<A>>>(
     Ok(())
 }
 
-// Gives the sink what a control sequence means, out of the way of the code that gives one short
+// Gives the sink the values of a control sequence, apart from the code that gives one short
 // rendition.
 #[inline(never)]
 fn give_sequence<A: Allocator + Copy, S: Sink<Action<A>>>(
@@ -82,7 +82,7 @@ fn give_sequence<A: Allocator + Copy, S: Sink<Action<A>>>(
     }
 }
 
-// Gives the sink what a control sequence means, which is more than one value.
+// Gives the sink the values of a control sequence that means more than one.
 #[inline(never)]
 fn give_several<A: Allocator + Copy, S: Sink<Action<A>>>(
     sink: &mut S,
@@ -102,8 +102,8 @@ fn give_several<A: Allocator + Copy, S: Sink<Action<A>>>(
     }
 }
 
-// The same, where the sink may take it from its parameters. The action of one short rendition is
-// made here.
+// The same, if the sink may take it from its parameters. The action of one short rendition is made
+// here.
 #[inline(never)]
 fn give_csi<A: Allocator + Copy, S: Sink<Action<A>>>(
     sink: &mut S,
@@ -127,7 +127,7 @@ fn give_csi<A: Allocator + Copy, S: Sink<Action<A>>>(
     }
 }
 
-// Gives the sink a command that was made, where there was memory for it.
+// Gives the sink a command that was made, if there was memory for it.
 fn give_command<A: Allocator + Copy, S: Sink<Action<A>>>(
     sink: &mut S,
     alloc: A,

@@ -1,4 +1,4 @@
-//! What takes actions, one after another.
+//! The receivers of actions.
 ghost use Rattle.std.specs.Prelude.{◌≡◌, ◌⊎◌, ◌≤◌, ◌+◌, ℕ, List, [], ◌∷◌, ◌++◌, IsTrue, MatchResult, OnOk, false, length, map, true, vec_capacity, vec_len};
 ghost use Rattle.std.specs.List.{FoldsTo};
 ghost use Rattle.std.specs.Str.{chars};
@@ -19,9 +19,9 @@ use esc_actions::Action;
 use esc_values::CsiParam;
 use std::alloc::{AllocError, Allocator, Global};
 
-/// What a character can be made into.
+/// The form that a sink takes characters in.
 pub trait ActionShape {
-    // what the character is made into
+    // the form of a character
     ghost print: { ℕ → Self };
 
     // it is this control sequence
@@ -33,7 +33,7 @@ pub trait ActionShape {
     // it is an image
     ghost is_image: { Self → Type 0 };
 
-    /// What prints the character.
+    /// The printed character in this form.
     fn print(c: char) -> Self
         ensures { result ≡ print c };
 }
@@ -54,12 +54,12 @@ impl<A: Allocator> ActionShape for Action<A> {
     }
 }
 
-/// What takes the actions of a stream, one after another: the receiver of
+/// Takes the actions of a stream, one after another: the receiver of
 /// [`Parser::parse_into`](crate::parser::Parser::parse_into).
 ///
-/// An implementation says what it becomes with an action (`takes`), what a refused call leaves of
-/// it (`refuses`), when it may be given any action (`is_ready`), and else which (`may`). After a
-/// call that returns `AllocError` no more calls are made.
+/// An implementation says how an action changes it (`takes`), which value a refused call leaves
+/// (`refuses`), when it may be given any action (`is_ready`), and which actions it may be given
+/// otherwise (`may`). After a call that returns `AllocError` no more calls are made.
 pub trait Sink<T: ActionShape> {
     // any action may be given, and after each one any other
     ghost is_ready: { Self → Type 0 };
@@ -67,10 +67,10 @@ pub trait Sink<T: ActionShape> {
     // the next action may be this one
     ghost may: { Self → T → Type 0 };
 
-    // what the sink becomes with an action
+    // the sink after an action
     ghost takes: { Self → T → Self → Type 0 };
 
-    // what a refused one may leave of it
+    // the sink that a refused action may leave
     ghost refuses: { Self → T → Self → Type 0 };
 
     /// Takes an action.
@@ -80,9 +80,9 @@ pub trait Sink<T: ActionShape> {
         ensures given { MatchResult result (λ _. takes self.old action self.new)
             (λ _. refuses self.old action self.new) };
 
-    /// Takes a run of text, never empty: characters 20 to 7F, one byte each. It does to the sink
-    /// what a `Print` of each, one after another, does. A sink that keeps text can take the run at
-    /// once.
+    /// Takes a run of text, never empty: characters 20 to 7F, one byte each. Its effect on the sink
+    /// is the same as a `Print` of each, one after another. A sink that keeps text can take the run
+    /// at once.
     #[inline]
     fn receive_text(&mut self, text: &[u8]) -> Result<(), AllocError>
         requires ready { MayGet is_ready may takes self.old (map T.print text.now) }
@@ -100,9 +100,9 @@ pub trait Sink<T: ActionShape> {
         Ok(())
     }
 
-    /// Takes a run of characters as UTF-8, never empty: none is a control of C0 or C1. It does to
-    /// the sink what a `Print` of each, one after another, does. A sink that keeps text can take
-    /// the run at once.
+    /// Takes a run of characters as UTF-8, never empty: none is a control of C0 or C1. Its effect
+    /// on the sink is the same as a `Print` of each, one after another. A sink that keeps text can
+    /// take the run at once.
     #[inline]
     fn receive_str(&mut self, text: &str) -> Result<(), AllocError>
         requires ready { MayGet is_ready may takes self.old
@@ -122,8 +122,8 @@ pub trait Sink<T: ActionShape> {
     }
 
     /// Takes the actions of a control sequence at once, from its parameters, and returns whether it
-    /// did: it does to the sink what receiving each does. Where it returns false it did nothing,
-    /// and they are made and received; so it does by default.
+    /// did: its effect on the sink is the same as receiving each. If it returns false it did
+    /// nothing, and they are made and received; so it does by default.
     #[inline]
     fn receive_sequence(
         &mut self,
@@ -175,7 +175,7 @@ pub trait Sink<T: ActionShape> {
 }
 
 /// Calls a closure on each action. [`Parser::parse_into`](crate::parser::Parser::parse_into) hands
-/// it back, where it returns no error, after exactly one call for each action, in order.
+/// it back, if it returns no error, after exactly one call for each action, in order.
 #[derive(Drop)]
 pub struct Calls<F> {
     /// The closure.
@@ -228,7 +228,7 @@ impl<A: Allocator> Collect<A> {
     }
 }
 
-/// An action is refused where memory is: it is dropped, and those before it are kept.
+/// An action is refused if memory is: it is dropped, and those before it are kept.
 impl<A: Allocator> Sink<Action<A>> for Collect<A> {
     ghost is_ready = { λ _. Unit {0} };
 
@@ -261,8 +261,8 @@ impl<A: Allocator> Sink<Action<A>> for Collect<A> {
         Ok(())
     }
 
-    // What follows is as by default, and written out: at the type of an action, a method that is
-    // taken over from the trait costs a proof some seconds more.
+    // The next methods are as by default, and written out: at the type of an action, a method that
+    // is taken over from the trait costs a proof some seconds more.
     #[inline]
     fn receive_sequence(
         &mut self,
@@ -289,7 +289,7 @@ impl<A: Allocator> Sink<Action<A>> for Collect<A> {
     }
 }
 
-// Keeps the value where none is kept yet, and drops it otherwise.
+// Keeps the value if none is kept yet, and drops it otherwise.
 #[inline]
 fn keep_first<T: Drop>(first: &mut Option<T>, next: T)
     ensures { first.new ≡ first_of first.old next }
@@ -338,8 +338,8 @@ impl<A: Allocator> Sink<Action<A>> for First<A> {
         Ok(())
     }
 
-    // What follows is as by default, and written out: at the type of an action, a method that is
-    // taken over from the trait costs a proof some seconds more.
+    // The next methods are as by default, and written out: at the type of an action, a method that
+    // is taken over from the trait costs a proof some seconds more.
     #[inline]
     fn receive_sequence(
         &mut self,

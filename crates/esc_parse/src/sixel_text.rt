@@ -1,4 +1,4 @@
-//! What is kept of a sixel image while it is unfinished.
+//! The state that is kept of an unfinished sixel image.
 ghost use Rattle.std.specs.Prelude.{◌≡◌, ℕ, ℤ, List, [], ◌∷◌, ◌++◌, IfOk, OnErr, OnOk};
 ghost use Rattle.std.specs.List.{FoldsTo};
 ghost use Rattle.esc_sixel.specs.Items.{items};

@@ -19,7 +19,7 @@ use esc_frame::runs::scans::data_run;
 use std::alloc::{AllocError, Allocator, Global};
 use std::mem;
 
-/// What is kept of a device control string, as far as a limit allows.
+/// The state that is kept of a device control string, as far as a limit allows.
 #[derive(Drop)]
 pub struct Unfinished<A: Allocator = Global> {
     /// The string itself.
@@ -56,7 +56,7 @@ impl<A: Allocator + Copy> Unfinished<A> {
         self.dcs_payload = DcsPayload::Nothing;
     }
 
-    /// What is unfinished, in place of which nothing is.
+    /// The unfinished string; nothing is unfinished after that.
     pub fn take(&mut self) -> Unfinished<A>
         ensures taken { result ≡ self.old }
         ensures nothing { self.new.dcs_payload ≡ dcs_payload.Nothing }
@@ -94,8 +94,8 @@ impl<A: Allocator + Copy> Unfinished<A> {
         matches!(self.dcs_payload, DcsPayload::Entered)
     }
 
-    /// How many bytes of its data come first in `bytes`, where only its end makes an action: those
-    /// of 20 to 7E, of a string that is no mode.
+    /// The number of bytes of its data that come first in `bytes`, if only its end makes an action:
+    /// the bytes 20 to 7E, for a string that is no mode.
     #[tactic(auto, unfolding(crate::specs::Fed::Hooks), using(crate::proofs::DataSkips::keeps_over, crate::proofs::DataSkips::run_is_data))]
     #[inline]
     pub fn data_ahead(&self, bytes: &[u8]) -> usize
@@ -144,8 +144,8 @@ impl<A: Allocator + Copy> Unfinished<A> {
         Ok(())
     }
 
-    /// More bytes of its data, as `push` of each takes them. They are taken at once where the limit
-    /// has room for all.
+    /// More bytes of its data, with the effect of a `push` of each. They are taken at once if the
+    /// limit has room for all.
     pub fn push_run(&mut self, bytes: &[u8]) -> Result<(), AllocError>
         ensures ok { OnOk result (FoldsTo TakesData self.old bytes.now self.new) }
         ensures refused { OnErr result (Refused A) }
@@ -200,7 +200,7 @@ impl<A: Allocator + Copy> Unfinished<A> {
         self.dcs_payload = DcsPayload::Nothing;
     }
 
-    /// The action of its end, where it has one. Nothing is unfinished then.
+    /// The action of its end, if it has one. Nothing is unfinished then.
     #[tactic(auto, unfolding(crate::specs::Fed::Hooks))]
     pub fn end(&mut self, alloc: A) -> Result<Option<Action<A>>, AllocError>
         ensures hooks { Hooking self.old (λ limit m. Hooks limit self.new plain) }
@@ -214,8 +214,8 @@ impl<A: Allocator + Copy> Unfinished<A> {
         )
     }
 
-    /// How many bytes of its data are kept; 0 once they passed the limit, and where none have to
-    /// be.
+    /// The number of bytes of its data that are kept; 0 once they passed the limit, and for a
+    /// string that keeps none.
     #[tactic(auto, unfolding(crate::specs::Fed::Hooks), using(crate::proofs::DataLimits::zero_within))]
     pub fn kept(&self) -> usize
         ensures counts { Hooking self.now (λ limit m.

@@ -19,7 +19,7 @@ use esc_frame::runs::printing::first_char;
 use std::alloc::Allocator;
 use std::mem;
 
-// The list, with how many bytes it is of, where it is of some.
+// The list, with the number of bytes that it was read from, if there is one.
 #[inline]
 fn listed<L: Drop>(list: L, found: Option<usize>) -> Option<(L, usize)>
     ensures { result ≡ option_map (λ n. (list, n)) found }
@@ -65,7 +65,7 @@ impl<A: Allocator + Copy> Parser<A> {
         }
     }
 
-    // The same, where a run of data that gives no action by itself counts as one byte.
+    // The same; a run of data that gives no action by itself counts as one byte.
     fn feed_some<S: Sink<Action<A>>>(
         &mut self,
         bytes: &[u8],
@@ -85,8 +85,7 @@ impl<A: Allocator + Copy> Parser<A> {
         }
     }
 
-    // The first action that a prefix of `bytes` adds, where it adds one, and the length of the
-    // prefix.
+    // The first action that a prefix of `bytes` adds, if one does, and the length of the prefix.
     fn first_in(&mut self, bytes: &[u8]) -> (Result<usize, ParseError>, Option<Action<A>>)
         ensures { TakesPrefix self.old bytes.now result.0 self.new (result.1 ≡ None)
             (λ vs. option_map value_of result.1 ≡ first vs)
@@ -130,15 +129,15 @@ impl<A: Allocator + Copy> Parser<A> {
         ControlCode::from_byte(self.framer.first_control(bytes)?)
     }
 
-    /// The first action of the shortest prefix of `bytes` that adds one to what the bytes fed
-    /// before mean, and the length of this prefix, which is all that was fed; further actions of
-    /// its last byte are dropped. `None` where `bytes` add none: then all were fed. It can be
+    /// The first action of the shortest prefix of `bytes` that adds one to the meaning of the bytes
+    /// fed before, and the length of this prefix, which is all that was fed; further actions of its
+    /// last byte are dropped. `None` says that `bytes` add none: then all were fed. It can be
     /// written, but for the four kinds of [`is_exception`](esc_actions::exceptions::is_exception).
     ///
     /// `ParseError::Memory` says that a request for memory was refused; the parser has failed. It
-    /// does not come where the bytes fed before and `bytes` hold no control sequence and no string,
+    /// does not come if the bytes fed before and `bytes` hold no control sequence and no string,
     /// whole or cut short. `ParseError::Failed` says that an earlier call returned `Memory`, also
-    /// where `bytes` are empty.
+    /// if `bytes` are empty.
     #[tactic(auto, unfolding(crate::specs::Fed::ParserHasConsumedWithin))]
     #[inline]
     pub fn parse_first(&mut self, bytes: &[u8]) -> Result<Option<(Action<A>, usize)>, ParseError>
@@ -230,16 +229,17 @@ impl<A: Allocator + Copy> Parser<A> {
 
     /// Appends to the list all actions of the shortest prefix of `bytes` that adds one and leaves
     /// no segment unfinished, and returns the length of this prefix, which is all that was fed: it
-    /// finds what [`parse_first_as_vec`](Parser::parse_first_as_vec) finds. `None` where there is
-    /// no such prefix: then all `bytes` were fed, and what they added was appended.
+    /// finds the actions of [`parse_first_as_vec`](Parser::parse_first_as_vec). `None` says that
+    /// there is no such prefix: then all `bytes` were fed, and the actions that they added were
+    /// appended.
     ///
     /// Clear the list and pass it again, and its memory is used again. In ground a character of 20
     /// to 7F or a control then takes a short path; this is speed, and no clause promises it.
     ///
     /// `ParseError::Memory` says that a request for memory was refused, the parser's or the list's:
     /// a prefix of the actions that `bytes` add was appended, and the parser has failed.
-    /// `ParseError::Failed` says that an earlier call returned `Memory`, also where `bytes` are
-    /// empty; the list stays as it was.
+    /// `ParseError::Failed` says that an earlier call returned `Memory`, also if `bytes` are empty;
+    /// the list stays as it was.
     #[tactic(auto, unfolding(crate::specs::Fed::ParserHasConsumedWithin))]
     #[inline]
     pub fn parse_first_into(
@@ -265,14 +265,14 @@ impl<A: Allocator + Copy> Parser<A> {
     }
 
     /// All actions of the shortest prefix of `bytes` that adds one and leaves no segment
-    /// unfinished, and the length of this prefix, which is all that was fed. So no action of what
-    /// follows belongs to a sequence or a string that began before: a string comes with its
-    /// terminator. `None` where there is no such prefix: then all `bytes` were fed, and what they
-    /// added is dropped.
+    /// unfinished, and the length of this prefix, which is all that was fed. So no later action
+    /// belongs to a sequence or a string that began before: a string comes with its terminator.
+    /// `None` says that there is no such prefix: then all `bytes` were fed, and the actions that
+    /// they added are dropped.
     ///
-    /// `ParseError::Memory` says that a request for memory was refused; what came is dropped, and
-    /// the parser has failed. `ParseError::Failed` says that an earlier call returned `Memory`,
-    /// also where `bytes` are empty.
+    /// `ParseError::Memory` says that a request for memory was refused; the actions so far are
+    /// dropped, and the parser has failed. `ParseError::Failed` says that an earlier call returned
+    /// `Memory`, also if `bytes` are empty.
     pub fn parse_first_as_vec(
         &mut self,
         bytes: &[u8],
