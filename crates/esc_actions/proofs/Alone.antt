@@ -1,4 +1,4 @@
--- Finished segments have no more to do with what the bytes after them mean.
+-- Finished segments have no effect on the meaning of the bytes after them.
 use Rattle.std.proofs.Common.{ℕ, Option, ◌≡◌, List, [], ◌∷◌, true, refl, ap, sym, ◌∙◌}
 use Rattle.esc_frame.specs.Leads.{finished_events_within}
 use Rattle.esc_frame.specs.Segments.{Segment, events_of_within}
@@ -19,14 +19,14 @@ finished_close limit (g ∷ gs) =
     ∙ finished_close limit gs
 
 module _ (limit : Option ℕ) (s u : List ℕ) (after : IsAfterFinished s u) where
-  -- so what is unfinished of the stream is unfinished of what is left of it
+  -- so the unfinished string of the stream is that of the rest of the stream
   pub mode_alone : mode_from plain (events_within limit s) ≡ mode_from plain (events_within limit u)
   mode_alone =
       ap (mode_from plain) (events_alone limit s u after)
       ∙ mode_append plain (finished_events_within limit after.0) (events_within limit u)
       ∙ ap (λ m. mode_from m (events_within limit u)) (finished_close limit after.0)
 
-  -- and bytes yield after the stream what they yield after that
+  -- and bytes yield the same values after the stream as after that rest
   pub yield_alone : {A : Type 0} (b : List ℕ)
       → yield_within {A = A} limit s b ≡ yield_within limit u b
   yield_alone b =

@@ -7,7 +7,7 @@ use Rattle.esc_actions.specs.Values.{Value, value_of, print, string}
 use Rattle.esc_actions.specs.declared.action.Action.{Action}
 use Rattle.esc_actions.specs.declared.action.Action.TheVariants as action
 
--- what is no character comes after the last
+-- a value that is no character comes after the last value
 apart : {A : Type 0} (v w : Value A) → is_characters v ≡ false → joined_values v w ≡ v ∷ w ∷ []
 apart (print c) w h = absurd cc
 apart (string t) w h = absurd cc
@@ -19,7 +19,7 @@ others_come_last [] w h = refl
 others_come_last (v ∷ []) w h = apart v w h
 others_come_last (v ∷ u ∷ vs) w h = ap (λ l. v ∷ l) (others_come_last (u ∷ vs) w h)
 
--- and so does what is no single one
+-- and so does a value that is no single character
 alone : {A : Type 0} (v w : Value A) → ((d : ℕ) → w ≢ print d) → joined_values v w ≡ v ∷ w ∷ []
 alone v (print d) h = absurd (h d refl)
 alone (print c) w h = refl

@@ -11,7 +11,7 @@ appended_last [] v w = refl
 appended_last (u ∷ []) v w = refl
 appended_last (u ∷ x ∷ us) v w = ap (λ l. u ∷ l) (appended_last (x ∷ us) v w)
 
--- appended to any list that ends in a value, these make what they make after that value
+-- appended to any list that ends in a value, these give the same list as after that value alone
 abbrev Gathers : {A : Type 0} → List (Value A) → Type 0
 Gathers {A} vs = (us : List (Value A)) (v : Value A)
     → appended_all (us ++ v ∷ []) vs ≡ us ++ gathered_from v vs

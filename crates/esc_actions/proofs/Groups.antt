@@ -51,7 +51,7 @@ groups_append A m es fs h k =
     (is_entered (mode_from m es))
     (values_from None (mode_from m es) fs) (is_entered (mode_from (mode_from m es) fs)) h k))
 
--- where the first of them leave nothing unfinished
+-- if the first of them leave nothing unfinished
 groups_after : (A : Type 0) (es fs : List Event) → mode_from plain es ≡ plain → Groups A plain es
     → Groups A plain fs → Groups A plain (es ++ fs)
 groups_after A es fs e h k = groups_append A plain es fs h (subst (λ m. Groups A m fs) (sym e) k)

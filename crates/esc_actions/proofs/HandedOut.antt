@@ -1,4 +1,4 @@
--- What may be handed out.
+-- The actions that may be handed out.
 use Rattle.std.proofs.Common.{◌≡◌, ◌≢◌, ◌<◌, ◌≤◌, ◌==◌, if◌then◌else◌, nat_lt, inl, inr, Option, Some, None, ℕ, ℤ, Bool, true, false, not, ◌&&◌, ◌||◌, List}
 use Rattle.std.proofs.Common.{[], ◌∷◌, ◌++◌}
 use Rattle.std.proofs.Common.{length, map, take_all, refl, ap, sym, ◌∙◌, subst, arith}
@@ -192,7 +192,7 @@ csi_small : (f : ℕ) → ends_csi (class_of f) ≡ true → f < 128
 unfolding class_of
 csi_small f h = grind (arith, nat_tests)
 
--- what reads back as one value is writable
+-- a sequence that reads back as one value is writable
 csi_writable : (A : Type 0) (f : ℕ) (v : CsiValue) → ends_csi (class_of f) ≡ true → ReadsBack f v
     → IsWritable {A = A} (csi v)
 csi_writable A f v ends (text, (bytes, form, few), one) =
@@ -246,7 +246,7 @@ image_handed : (A : Type 0) (low : LowerLaws A) (t : List ℕ) (o : Option (Kitt
 image_handed A low t None e h = tt
 image_handed A low t (Some i) e h = (λ _. low.image_writable t (text_kept t h) i e, tt)
 
--- device control strings: what is unfinished is of a header that fits, and of bytes that do
+-- device control strings: the header and the bytes of the unfinished string fit
 abbrev IsFitMode : Mode → Type 0
 IsFitMode (in_sixel ps d) = AreNatural ps
 IsFitMode (in_short ps is f d) = (more : Bool) × IsFit (DcsHook f ps is more)
@@ -312,7 +312,7 @@ taken_handed A (in_termcap d) b h = tt
 taken_handed A (in_short ps is f d) b h = tt
 taken_handed A entered b h = (λ low. put_datum b h low, tt)
 
--- what the end of a string gives, where it gives anything
+-- the value that the end of a string gives, if it gives one
 given_where : {A : Type 0} (v : Value A) (t : Bool) → IsHandedOut v
     → EmittedAreWritable (if t then v ∷ [] else [])
 given_where v true h = (h, tt)

@@ -1,4 +1,4 @@
--- A list is writable exactly where it is writable single values and groups, joined.
+-- A list is writable exactly if it is writable single values and groups, joined.
 use Rattle.std.proofs.Common.{ℕ, ◌≡◌, true, false, List, [], ◌∷◌, ◌++◌, map, refl, ap, sym, ◌∙◌, subst, append_assoc}
 use Rattle.std.specs.List.{flat_map, list_all}
 use Rattle.std.proofs.lemmas.Bool.{and_parts}

@@ -1,4 +1,4 @@
--- A stream that is within a limit means what it means without one.
+-- A stream that is within a limit has the same meaning as without one.
 use Rattle.std.proofs.Common.{ℕ, ◌≡◌, Bool, true, false, ◌&&◌, if◌then◌else◌, List, [], ◌∷◌, ◌++◌, map, Option, None, refl, ap, sym, ◌∙◌}
 use Rattle.std.proofs.lemmas.Bool.{and_parts}
 use Rattle.std.proofs.lemmas.List.{append-nil}
@@ -31,7 +31,7 @@ none_kept false n h = h
 pub nothing_kept : (limit : Option ℕ) → kept_within limit 0 ≡ 0
 nothing_kept limit = none_kept (is_within limit 0) 0 refl
 
--- what every event gives but the end of a string
+-- the values of every event but the end of a string
 abbrev goes_on : Event → Bool
 goes_on DcsUnhook = false
 goes_on (Print c) = true
@@ -96,7 +96,7 @@ one_goes_on : (e : Event) (t : Bool) → goes_on e ≡ true
 one_goes_on e true h = rw h refl
 one_goes_on e false h = refl
 
--- a string that ends: its opener, and its header and data where they are read
+-- a string that ends: its opener, and its header and data if they are read
 ended_same : {A : Type 0} (limit : Option ℕ) (es fs : List Event) → list_all goes_on es ≡ true
     → list_all goes_on fs ≡ true → mode_from plain es ≡ plain
     → is_within limit (data_count (mode_from plain fs)) ≡ true

@@ -1,4 +1,4 @@
--- What events and streams mean, one after another.
+-- The meaning of events and streams, one after another.
 use Rattle.std.proofs.Common.{◌≡◌, ℕ, List, [], ◌∷◌, ◌++◌, length, drop, refl, ap, sym, ◌∙◌, append_assoc, Option}
 use Rattle.std.proofs.Math.Seq.{drop-append_seam}
 use Rattle.esc_frame.specs.Events.{Event}
@@ -21,7 +21,7 @@ values_append limit m (e ∷ es) fs =
     ∙ sym (append_assoc (event_values limit m e) (values_from limit (mode_after m e) es)
     (values_from limit (mode_from (mode_after m e) es) fs))
 
--- what is unfinished after s and b, and after nothing
+-- the string that is unfinished after s and b, and after nothing
 pub mode_more : (limit : Option ℕ) (s b : List ℕ)
     → mode_from (mode_from plain (events_within limit s)) (added_within limit s b)
     ≡ mode_from plain (events_within limit (s ++ b))
@@ -35,7 +35,7 @@ nothing_within limit = refl
 pub mode_nil : (limit : Option ℕ) → mode_from plain (events_within limit []) ≡ plain
 mode_nil limit = ap (mode_from plain) (nothing_within limit)
 
--- what b adds, by its events
+-- the values that b adds, by its events
 added_values : {A : Type 0} (limit : Option ℕ) (s b : List ℕ)
     → meaning_within {A = A} limit s ++ values_from limit (mode_from plain (events_within limit s))
     (added_within limit s b) ≡ meaning_within limit (s ++ b)

@@ -174,10 +174,10 @@ pub normal_normal : {A : Type 0} (vs : List (Value A)) → normal (normal vs) �
 normal_normal vs = sym (meant_normal (normal vs)) ∙ ap (meant_after false) (sym (meant_normal vs))
     ∙ meant_twice false vs ∙ meant_normal vs
 
--- by what writable lists read back as
+-- by the lists that the texts of writable lists read back as
 module _ {A : Type 0} (back : (vs : List (Value A)) → AreWritable vs
     → meaning (list_text vs) ≡ normal vs) where
-  -- where a stream means a writable list, normalising is idempotent
+  -- if a stream means a writable list, normalising is idempotent
   pub normal_once : (s : List ℕ) → AreWritable {A = A} (meaning s)
       → list_text (meaning {A = A} (list_text (meaning {A = A} s))) ≡ list_text (meaning {A = A} s)
   normal_once s h = ap list_text (back (meaning s) h) ∙ same_text (meaning s) h

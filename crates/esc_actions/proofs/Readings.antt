@@ -41,11 +41,11 @@ csi_keeps : (x : List ℕ) (f : ℕ) (t : Bool) → is_csi_body x ≡ t
 csi_keeps x f true e = rw e refl
 csi_keeps x f false e = rw e refl
 
--- the end of a device control string closes what it opened
+-- the end of a device control string closes the string that it opened
 unhooked : (m : Mode) (es : List Event) → mode_from m (es ++ DcsUnhook ∷ []) ≡ plain
 unhooked m es = mode_append m es (DcsUnhook ∷ [])
 
--- an event of a whole string, where it is within the limit
+-- an event of a whole string, if it is within the limit
 emitted_keeps : (e : Event) (t : Bool) → mode_after plain e ≡ plain
     → mode_from plain (if t then e ∷ [] else []) ≡ plain
 emitted_keeps e true h = h
@@ -103,7 +103,7 @@ values_of_cut limit (g ∷ h ∷ gs) =
 pub one_closes : (t : List ℕ) (es : List Event) → IsOneSegment t es → mode_from plain es ≡ plain
 one_closes t es (g, bytes, ends, shape, e) = ap (mode_from plain) (sym e) ∙ closes None g
 
--- where no segment is unfinished, nothing is
+-- if no segment is unfinished, no string is
 last_closes : (limit : Option ℕ) (g : Segment) → ends_itself g ≡ true
     → mode_from plain (events_of_within limit g (ends_itself g)) ≡ plain
 last_closes limit g e = rw e (closes limit g)
@@ -124,8 +124,8 @@ last_osc limit o ps Open = after_kept plain (opener_events o) [] plain (opener_k
 last_osc limit o ps (Waits f) =
     after_kept plain (opener_events o) [] plain (opener_keeps plain o) refl
 
--- what is unfinished of a cut is unfinished of its last segment, of which then nothing counts but
--- data
+-- the unfinished string of a cut is that of its last segment, and then only data of this segment
+-- counts
 last_opens : (limit : Option ℕ) (g : Segment)
     → (mode_from plain (events_of_within limit g (ends_itself g)) ≡ plain) ⊎ (kept_of limit g ≡ 0)
 last_opens limit (Character b) = inl refl
@@ -177,7 +177,7 @@ module _ (once : (limit : Option ℕ) (stream : List ℕ) (xs ys : List Event)
   meaning_of_the_cut A limit s gs cut =
       ap (values_from limit plain) (events_are limit s gs cut) ∙ values_of_cut limit gs
 
-  -- where something is unfinished, nothing is kept of the last segment but its data
+  -- if a string is unfinished, nothing is kept of the last segment but its data
   pub kept_once : (limit : Option ℕ) (s : List ℕ) (gs : List Segment) → IsCut s gs
       → (mode_from plain (events_within limit s) ≡ plain) ⊎ (kept_of_cut limit gs ≡ 0)
   kept_once limit s gs cut =
@@ -188,7 +188,7 @@ module _ (once : (limit : Option ℕ) (stream : List ℕ) (xs ys : List Event)
 
 -- ---- each segment by itself
 
--- what ends by itself is what is finished with nothing after it
+-- a segment ends by itself exactly if it is finished with nothing after it
 same_end : (g : Segment) → ends_itself g ≡ is_finished g []
 same_end (Osc o ps Open) = refl
 same_end (Osc o ps Rung) = refl

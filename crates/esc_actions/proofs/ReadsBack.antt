@@ -1,4 +1,4 @@
--- What the text of a writable list means.
+-- The meaning of the text of a writable list.
 use Rattle.std.proofs.Common.{◌≡◌, ℕ, ◌<◌, ◌≤◌, ◌+◌, ◌/◌, ◌%◌, nat_lt, Bool, true, false, not, ◌&&◌, if◌then◌else◌, List, [], ◌∷◌, ◌++◌, map, None, refl, ap}
 use Rattle.std.proofs.Common.{sym}
 use Rattle.std.proofs.Common.{◌∙◌, append_assoc, arith, inl, inr}
@@ -135,7 +135,7 @@ reads_control {A = A} low c h =
           (low.executes_high b (high_control b l h)))
     ]
 
--- what the text of one value means by itself: its characters, and after a string action the
+-- the meaning of the text of one value by itself: its characters, and after a string action the
 -- terminator
 abbrev pub meant : {A : Type 0} → Value A → List (Value A)
 meant v = spelled_values v ++ (if is_string v then terminator ∷ [] else [])
@@ -175,7 +175,7 @@ reads_kitty low i h =
     ∷ []) refl
     (low.application t (kept_text t back.0)))
 
--- strings that are given at their end: what is kept of the data gives this one value
+-- strings that are given at their end: the data that is kept gives this one value
 module _ (kept : List ℕ → Mode) (keeps : (d : List ℕ) (b : ℕ)
     → mode_with_byte (kept d) b ≡ kept (d ++ b ∷ [])) where
   kept_gives : {A : Type 0} (hook : Event) (d : List ℕ) (v : Value A)
@@ -259,7 +259,7 @@ reads_group low e d h hd =
     (reads_says t (string_events (hook_of e) d) (string_closes (hook_of e) d)
     (low.mode_says e d h hd))
 
--- what belongs to no group
+-- a value that belongs to no group
 reads_value : {A : Type 0} (low : LowerLaws A) (v : Value A) → IsWritable v → is_within v ≡ false
     → stays_within v ≡ false → Reads (whole_text v) (meant v)
 reads_value low (print c) h o p = reads_print low c h

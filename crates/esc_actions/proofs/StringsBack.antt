@@ -9,7 +9,7 @@ use Rattle.esc_actions.specs.Meaning.{mode_from, values_from}
 use Rattle.esc_actions.specs.Texts.{terminator}
 use Rattle.esc_actions.specs.Values.{Mode, Value, plain, entered, mode_after, event_values, mode_with_byte, taken_gives, unhook_values, datum}
 
--- what bytes of data make of what is unfinished, where each is kept and gives nothing
+-- the effect of bytes of data on the unfinished string, if each is kept and gives nothing
 module _ (kept : List ℕ → Mode) (keeps : (d : List ℕ) (b : ℕ)
     → mode_with_byte (kept d) b ≡ kept (d ++ b ∷ [])) where
   pub puts_kept : (d x : List ℕ) → mode_from (kept x) (map DcsPut d) ≡ kept (x ++ d)
@@ -41,7 +41,7 @@ string_closes hook d =
     mode_append plain ((hook ∷ map DcsPut d) ++ DcsUnhook ∷ []) (EscDispatch [] false 0x5c ∷ [])
     ∙ mode_append plain (hook ∷ map DcsPut d) (DcsUnhook ∷ [])
 
--- and gives what the header gives, what the data gives, and what the end gives
+-- and gives the values of the header, of the data, and of the end
 pub string_gives : {A : Type 0} (hook : Event) (d : List ℕ)
     → values_from {A = A} None plain (string_events hook d)
     ≡ ((event_values None plain hook ++ values_from None (mode_after plain hook) (map DcsPut d)) ++

@@ -1,4 +1,4 @@
--- A list with a value at its end, where a character joins the characters before it.
+-- A list with a value at its end; a character joins the characters before it.
 use Rattle.std.specs.Prelude.{Bool, true, false, List, [], ◌∷◌, ◌++◌}
 use Rattle.std.specs.Char.{encode_utf8}
 use Rattle.esc_actions.specs.Values.{Value, print, string}
@@ -27,12 +27,12 @@ appended_list [] w = w ∷ []
 appended_list (v ∷ []) w = joined_values v w
 appended_list (v ∷ u ∷ vs) w = v ∷ appended_list (u ∷ vs) w
 
--- a list with these values at its end, each appended to what the ones before it made
+-- a list with these values at its end, each appended to the list that the ones before it gave
 abbrev pub appended_all : {A : Type 0} → List (Value A) → List (Value A) → List (Value A)
 appended_all us [] = us
 appended_all us (v ∷ vs) = appended_all (appended_list us v) vs
 
--- a value and those after it, where it takes in the characters that directly follow it
+-- a value and those after it; it takes in the characters that directly follow it
 abbrev pub gathered_from : {A : Type 0} → Value A → List (Value A) → List (Value A)
 gathered_from v [] = v ∷ []
 gathered_from (print c) (print d ∷ vs) =
@@ -40,8 +40,8 @@ gathered_from (print c) (print d ∷ vs) =
 gathered_from (string t) (print d ∷ vs) = gathered_from (string (t ++ encode_utf8 d)) vs
 gathered_from v (w ∷ vs) = v ∷ gathered_from w vs
 
--- these values, where each run of characters, and each string with those that directly follow it,
--- is one string
+-- these values, with each run of characters as one string, and each string with the characters that
+-- directly follow it as one string
 abbrev pub gathered_values : {A : Type 0} → List (Value A) → List (Value A)
 gathered_values [] = []
 gathered_values (v ∷ vs) = gathered_from v vs

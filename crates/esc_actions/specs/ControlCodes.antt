@@ -88,6 +88,6 @@ abbrev pub first_numbered : List ControlCode → ℕ → Option ControlCode
 first_numbered [] b = None
 first_numbered (c ∷ cs) b = if b == code_number c then Some c else first_numbered cs b
 
--- the code with the number b: none where that is 80, 81, 99, or past 9F
+-- the code with the number b: none if that is 80, 81, 99, or past 9F
 unfoldable pub code_of : ℕ → Option ControlCode
 code_of b = first_numbered all_codes b

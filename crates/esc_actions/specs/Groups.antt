@@ -8,8 +8,8 @@ use Rattle.esc_actions.specs.Meaning.{meaning, mode_from}
 use Rattle.esc_actions.specs.Values.{Mode, Value, plain, entered, enter, datum, exit}
 use Rattle.esc_actions.specs.Writable.{AreWritable, IsWritable, is_exception, is_within, stays_within}
 
--- each value is where it may be, where `from` and `to` say whether a mode is entered before and
--- after them
+-- each value is at a place that it may have; `from` and `to` say whether a mode is entered before
+-- and after them
 abbrev pub AreGrouped : {A : Type 0} → Bool → List (Value A) → Bool → Type 0
 AreGrouped from [] to = from ≡ to
 AreGrouped from (v ∷ vs) to = (is_within v ≡ from) × AreGrouped (stays_within v) vs to
@@ -28,8 +28,7 @@ abbrev pub MeansWritable : Type 0 → Type 0
 MeansWritable A = (s : List ℕ) → list_any is_exception (meaning {A = A} s) ≡ false
     → ends_in_mode s ≡ false → AreWritable {A = A} (meaning s)
 
--- the values of any stream come in groups; the last is unfinished where the stream ends inside a
--- mode
+-- the values of any stream come in groups; the last is unfinished if the stream ends inside a mode
 abbrev pub MeansGroups : Type 0 → Type 0
 MeansGroups A = (s : List ℕ) → AreGrouped {A = A} false (meaning s) (ends_in_mode s)
 

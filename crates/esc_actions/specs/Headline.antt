@@ -1,4 +1,4 @@
--- What reading a stream and writing a list promise, in one statement.
+-- The promises of reading a stream and of writing a list, in one statement.
 use Rattle.std.specs.Prelude.{ℕ, ◌≡◌, List}
 use Rattle.esc_frame.specs.Segments.{Segment, IsCut}
 use Rattle.esc_actions.specs.Readings.{readings}
@@ -11,7 +11,7 @@ pub record IsUniqueCut (stream : List ℕ) (gs : List Segment) : Type 0 where
   pub cuts : IsCut stream gs
   pub alone : (hs : List Segment) → IsCut stream hs → hs ≡ gs
 
--- What holds of a stream and the values `vs` that were handed out for it:
+-- The facts about a stream and the values `vs` that were handed out for it:
 pub record Headline {A : Type 0} (stream : List ℕ) (vs : List (Value A)) : Type 0 where
   -- the stream has exactly one cut into segments
   pub segments : List Segment
@@ -22,7 +22,7 @@ pub record Headline {A : Type 0} (stream : List ℕ) (vs : List (Value A)) : Typ
   -- sequence; an escape sequence whose letter opens something; a header of a mode without some of
   -- its intermediates; data of a mode or a short control with a byte A0-FF
   pub handed_out_is_writable : EmittedAreWritable vs
-  -- where the stream is the text of a writable list, the values are its normal list, which has the
+  -- if the stream is the text of a writable list, the values are its normal list, which has the
   -- same text
   pub reads_back : (ws : List (Value A)) → AreWritable ws → list_text ws ≡ stream → vs ≡ normal ws
   pub same_text : (ws : List (Value A)) → AreWritable ws → list_text ws ≡ stream

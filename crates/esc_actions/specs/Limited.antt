@@ -1,4 +1,4 @@
--- Streams of which a limit changes nothing.
+-- Streams that a limit does not change.
 use Rattle.std.specs.Prelude.{ℕ, ◌≡◌, true, false, List, [], ◌∷◌, Option}
 use Rattle.esc_frame.specs.Counts.{AreWithin}
 use Rattle.esc_frame.specs.Limits.{is_within, kept_within}
@@ -11,7 +11,7 @@ use Rattle.esc_actions.specs.Values.{data_count, plain}
 abbrev pub data_kept : Option ℕ → List ℕ → ℕ
 data_kept limit s = kept_within limit (data_count (mode_from plain (events_within limit s)))
 
--- what a segment has of data that is kept until its end is within the limit
+-- the data of a segment that is kept until its end is within the limit
 abbrev pub IsDataWithin : Option ℕ → Segment → Type 0
 IsDataWithin limit g = is_within limit (data_count (mode_from plain (events_of g false))) ≡ true
 

@@ -1,5 +1,5 @@
--- What the laws of the crates below say of texts, events and values. Only private contracts cite
--- it: the laws of this crate rest on it, and it rests on calls of those laws.
+-- The laws of the crates below about texts, events and values. Only private contracts cite it: the
+-- laws of this crate rest on it, and it rests on calls of those laws.
 use Rattle.std.specs.Prelude.{ℕ, ◌≡◌, ◌<◌, ◌≤◌, true, false, List, [], ◌∷◌, ◌++◌, length, Option, Some, ℤ, Bool}
 use Rattle.std.specs.List.{list_all, list_any}
 use Rattle.std.specs.Char.{encode_utf8}
@@ -33,7 +33,7 @@ use Rattle.esc_sixel.specs.declared.sixel.Sixel.{Sixel}
 use Rattle.xtgettcap.specs.Names.{names_of, AreWritable as AreWritableNames}
 
 pub record LowerLaws (A : Type 0) : Type 0 where
-  -- what texts say, whatever follows them
+  -- the meaning of texts, whatever follows them
   pub prints : (c : ℕ) → is_clear c ≡ true → Says (encode_utf8 c) (Print c ∷ [])
   pub executes : (b : ℕ) → is_control (class_of b) ≡ true → Says (b ∷ []) (Execute b ∷ [])
   pub executes_high : (b : ℕ) → is_c1 (class_of b) ≡ true
@@ -45,7 +45,7 @@ pub record LowerLaws (A : Type 0) : Type 0 where
   pub application : (t : List ℕ) → AllOf is_text t
       → Says ((0x1b ∷ 0x5f ∷ t) ++ 0x1b ∷ 0x5c ∷ []) (ApcDispatch t ∷ EscDispatch [] false 0x5c
       ∷ [])
-  -- what the events of any stream can be
+  -- the events that any stream can have
   pub events_fit : (limit : Option ℕ) (s : List ℕ) → AreFit (events_within limit s)
   -- operating system commands
   pub command_clear : (c : OperatingSystemCommand A) → IsWritableCommand c

@@ -1,4 +1,4 @@
--- What segments mean, each by itself.
+-- The meaning of segments, each by itself.
 use Rattle.std.specs.Prelude.{ℕ, ◌≡◌, Bool, true, List, [], ◌∷◌, ◌++◌, Option, None}
 use Rattle.esc_frame.specs.Segments.{Segment, IsCut, events_of_within, ends_itself, is_finished, joined_bytes}
 use Rattle.esc_actions.specs.Meaning.{meaning_within, values_from}
@@ -26,8 +26,8 @@ abbrev pub MeansItsCut : Type 0 → Type 0
 MeansItsCut A = (limit : Option ℕ) (s : List ℕ) (gs : List Segment) → IsCut s gs
     → meaning_within {A = A} limit s ≡ readings_within limit gs
 
--- The readings of segments, in order, each of a segment by itself: it is finished where what comes
--- after it here finishes it.
+-- The readings of segments, in order, each of a segment by itself: it is finished if the bytes
+-- after it here finish it.
 abbrev pub readings_of_each : {A : Type 0} → Option ℕ → List Segment → List (Value A)
 readings_of_each limit [] = []
 readings_of_each limit (g ∷ gs) =

@@ -31,12 +31,12 @@ value_text (enter e) = enter_text e
 value_text (datum b) = encode_utf8 b
 value_text exit = []
 
--- whether it can be written: an image of which a value is over 63 cannot
+-- whether it can be written: an image with a value over 63 cannot
 abbrev pub has_text : {A : Type 0} → Value A → Bool
 has_text (sixel s) = list_all is_sixel s.content
 has_text _ = true
 
--- its text, and none where it cannot be written
+-- its text, and none if it cannot be written
 abbrev pub value_output : {A : Type 0} → Value A → Option (List ℕ)
 value_output v = if has_text v then Some (value_text v) else None
 
@@ -73,8 +73,8 @@ is_left_open _ = false
 abbrev pub whole_text : {A : Type 0} → Value A → List ℕ
 whole_text v = if is_left_open v then value_text v ++ 0x1b ∷ 0x5c ∷ [] else value_text v
 
--- the text of a value in a list, where `follows` says that it comes directly after a string action:
--- there a string terminator is the one that ends this action's text, and adds none
+-- the text of a value in a list; `follows` says that it comes directly after a string action: there
+-- a string terminator is the one that ends this action's text, and adds none
 abbrev pub text_after : {A : Type 0} → Bool → Value A → List ℕ
 text_after follows v = if is_terminator v && follows then [] else whole_text v
 

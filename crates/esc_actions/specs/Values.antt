@@ -27,7 +27,7 @@ use Rattle.esc_actions.specs.declared.control_code.ControlCode.{ControlCode}
 use Rattle.esc_actions.specs.declared.action.Action.{Action}
 use Rattle.esc_actions.specs.declared.action.Action.TheVariants as action
 
--- an action, without where it lies in memory
+-- an action, without its place in memory
 pub data Value (A : Type 0) : Type 0 where
   print : ℕ → Value A
   string : List ℕ → Value A
@@ -62,8 +62,8 @@ value_of (action.Sixel s) = sixel s
 value_of (action.XtGetTcap ns) = termcap ns
 value_of (action.DeviceControl m) = device_value m
 
--- What is unfinished between two events. It decides what the next one gives: an action that is
--- known only at the end of a string needs all that came of it.
+-- The unfinished string between two events. It decides the values of the next one: an action that
+-- is known only at the end of a string needs all of the string.
 pub data Mode : Type 0 where
   -- nothing
   plain : Mode
@@ -73,7 +73,7 @@ pub data Mode : Type 0 where
   in_termcap : List ℕ → Mode
   -- a short control: its parameters, intermediates, final byte and data so far
   in_short : List ℤ → List ℕ → ℕ → List ℕ → Mode
-  -- a mode, of which everything is given at once
+  -- a mode, which gives everything at once
   entered : Mode
 
 -- how many bytes of data have to be kept of it
@@ -84,14 +84,14 @@ data_count (in_termcap d) = length d
 data_count (in_short ps is f d) = length d
 data_count entered = 0
 
--- what a header opens, by its kind
+-- the string that a header opens, by its kind
 abbrev pub mode_at_hook : StringKind → ℕ → List ℤ → List ℕ → Mode
 mode_at_hook kind.Sixel f ps is = in_sixel ps []
 mode_at_hook kind.Termcap f ps is = in_termcap []
 mode_at_hook kind.Short f ps is = in_short ps is f []
 mode_at_hook kind.Other f ps is = entered
 
--- what is unfinished after a byte of data
+-- the unfinished string after a byte of data
 abbrev pub mode_with_byte : Mode → ℕ → Mode
 mode_with_byte plain b = plain
 mode_with_byte (in_sixel ps d) b = in_sixel ps (d ++ b ∷ [])
@@ -99,7 +99,7 @@ mode_with_byte (in_termcap d) b = in_termcap (d ++ b ∷ [])
 mode_with_byte (in_short ps is f d) b = in_short ps is f (d ++ b ∷ [])
 mode_with_byte entered b = entered
 
--- what is unfinished after an event
+-- the unfinished string after an event
 abbrev pub mode_after : Mode → Event → Mode
 mode_after m (Print c) = m
 mode_after m (Execute b) = m
@@ -111,8 +111,9 @@ mode_after m (DcsPut b) = mode_with_byte m b
 mode_after m DcsUnhook = plain
 mode_after m (ApcDispatch t) = m
 
--- What a header, a byte of data and the end of a string give. An image, a query and a short control
--- are given whole at the end, and only where their data is within the limit: past it none is kept.
+-- The values of a header, of a byte of data and of the end of a string. An image, a query and a
+-- short control are given whole at the end, and only if their data is within the limit: past it
+-- none is kept.
 abbrev pub hook_values : {A : Type 0} → StringKind → ℕ → List ℤ → List ℕ → Bool → List (Value A)
 hook_values kind.Other f ps is more = enter (enter_of f ps is more) ∷ []
 hook_values _ f ps is more = []
@@ -147,7 +148,7 @@ abbrev pub image_values : {A : Type 0} → Option (KittyImage A) → List (Value
 image_values None = []
 image_values (Some i) = kitty i ∷ []
 
--- the values that an event gives, where no more than the limit is kept of a string's data
+-- the values that an event gives, if no more than the limit is kept of a string's data
 abbrev pub event_values : {A : Type 0} → Option ℕ → Mode → Event → List (Value A)
 event_values limit m (Print c) = print c ∷ []
 event_values limit m (Execute b) = control_values (code_of b)

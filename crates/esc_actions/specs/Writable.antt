@@ -44,7 +44,7 @@ IsWritable (enter e) = IsWritableEnter e
 IsWritable (datum b) = is_datum b ≡ true
 IsWritable exit = Unit {0}
 
--- what comes inside a mode that is entered, and nothing else does
+-- the values that come inside a mode that is entered, and nowhere else
 abbrev pub is_within : {A : Type 0} → Value A → Bool
 is_within (datum b) = true
 is_within exit = true
@@ -77,13 +77,13 @@ abbrev pub is_opening : Esc → Bool
 is_opening (esc_variant.Unspecified None f) = opens (class_of f)
 is_opening _ = false
 
--- a control sequence of which parameters are left out
+-- a control sequence with parameters left out
 abbrev pub is_truncated : CsiValue → Bool
 is_truncated (sgr s) = false
 is_truncated (unspecified es more f) = more
 
--- the exceptions: these two; the header of a mode of which intermediates are left out; a byte A0-FF
--- of a mode, and a short control that has one
+-- the exceptions: these two; the header of a mode with intermediates left out; a byte A0-FF of a
+-- mode, and a short control that has one
 abbrev pub is_exception : {A : Type 0} → Value A → Bool
 is_exception (esc e) = is_opening e
 is_exception (csi c) = is_truncated c
@@ -92,7 +92,7 @@ is_exception (datum b) = is_high_byte b
 is_exception (short s) = list_any is_high_byte s.content
 is_exception _ = false
 
--- what is handed out is writable, but for these four
+-- an action that is handed out is writable, but for these four
 abbrev pub IsHandedOut : {A : Type 0} → Value A → Type 0
 IsHandedOut v = is_exception v ≡ false → IsWritable v
 

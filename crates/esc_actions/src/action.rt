@@ -16,7 +16,7 @@ use std::fmt;
 use std::fmt::Display;
 use xtgettcap::TcapQuery;
 
-/// What a terminal is asked to do by a piece of a stream.
+/// The request that a piece of a stream makes to a terminal.
 #[derive(Drop)]
 #[derive_where(Debug, PartialEq)]
 pub enum Action<A: Allocator = Global> {
@@ -77,7 +77,7 @@ impl<A: Allocator> Action<A> {
         }
     }
 
-    /// Whether it can be written: a sixel image of which a value is over 63 cannot.
+    /// Whether it can be written: a sixel image with a value over 63 cannot.
     pub fn has_text(&self) -> bool
         ensures { result ≡ has_text (value_of self.now) }
     {
@@ -111,8 +111,8 @@ impl<A: Allocator> Action<A> {
 
 /// Writes the action as a terminal reads it: a control as the character of its number, a command
 /// with the string terminator that ends it, as a short device control too; an image, a query and
-/// the end of a mode without it. It errs only where the formatter's writer errs, and at a sixel
-/// image of which a value is over 63.
+/// the end of a mode without it. It errs only if the formatter's writer errs, and at a sixel image
+/// with a value over 63.
 impl<A: Allocator> Display for Action<A> {
     ghost output = { λ a. value_output (value_of a) };
 

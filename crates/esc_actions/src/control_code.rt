@@ -135,8 +135,8 @@ pub enum ControlCode {
 }
 
 impl ControlCode {
-    /// The code with this number, where there is one: none for 80, 81 and 99, and for what is no
-    /// control.
+    /// The code with this number, if there is one: none for 80, 81 and 99, and for a number that is
+    /// no control.
     pub fn from_byte(byte: u8) -> Option<ControlCode>
         ensures { result ≡ code_of byte }
     {
@@ -222,8 +222,8 @@ impl ControlCode {
     }
 }
 
-/// Writes the character of the same number, of one byte for C0 and of two for C1. It errs only
-/// where the formatter's writer errs.
+/// Writes the character of the same number, of one byte for C0 and of two for C1. It errs only if
+/// the formatter's writer errs.
 impl fmt::Display for ControlCode {
     ghost output = { λ c. Some (encode_utf8 (code_number c)) };
 

@@ -1,6 +1,6 @@
-//! Laws of streams of actions: a stream means the readings of its one cut, what is written reads
-//! back, and what is handed out can be written. Each holds for every allocator `A`, which the type
-//! of the actions names.
+//! Laws of streams of actions: a stream means the readings of its one cut, a written list reads
+//! back, and actions that are handed out can be written. Each holds for every allocator `A`, which
+//! the type of the actions names.
 ghost use Rattle.std.specs.Prelude.{◌≡◌, ◌++◌, ◌↔◌, ◌⊎◌, List, [], ℕ, Option, false};
 ghost use Rattle.std.specs.List.{list_any};
 ghost use Rattle.esc_frame.specs.Stream.{IsAfterFinished, IsAtGround, events_within};
@@ -21,8 +21,8 @@ pub use esc_frame::laws::{has_cut, has_unfinished, one_cut};
 use std::alloc::Allocator;
 
 /// Everything at once, for every stream: it has exactly one cut; it means the readings of the cut's
-/// segments, in order; each of these values is writable, but for the four exceptions; and where it
-/// is the text of a writable list, it means the list's normal list, which has the same text.
+/// segments, in order; each of these values is writable, but for the four exceptions; and if it is
+/// the text of a writable list, it means the list's normal list, which has the same text.
 pub fn headline<A: Allocator>()
     ensures { (s : List ℕ) → Headline {A = A} s (meaning s) }
 {
@@ -43,15 +43,15 @@ pub fn meaning_of_the_cut<A: Allocator>()
     esc_frame::laws::events_of_the_cut_within();
 }
 
-/// So what a stream means is told segment by segment: reading starts anew at each, and its values
-/// are those of the segment by itself, finished or not by what comes after it.
+/// So the meaning of a stream is told segment by segment: reading starts anew at each, and its
+/// values are those of the segment by itself, finished or not by the bytes after it.
 pub fn meaning_by_segments<A: Allocator>()
     ensures { MeansItsSegments A }
 {
     meaning_of_the_cut::<A>();
 }
 
-// What the laws of the crates below say.
+// The laws of the crates below.
 fn lower_laws<A: Allocator>()
     ensures { LowerLaws A }
 {
@@ -87,7 +87,7 @@ pub fn reads_back<A: Allocator>()
     lower_laws::<A>();
 }
 
-/// It means that whatever bytes follow it, and these mean what they mean by themselves.
+/// It has that meaning whatever bytes follow it, and these have their own meaning.
 pub fn reads_by_itself<A: Allocator>()
     ensures { (vs : List (Value A)) → AreWritable vs → Reads (list_text vs) (normal vs) }
 {
@@ -105,7 +105,7 @@ pub fn reads_back_within<A: Allocator>()
     esc_frame::laws::same_within();
 }
 
-/// Of an unfinished segment one thing alone is kept: its text or header, or its data.
+/// Only one part of an unfinished segment is kept: its text or header, or its data.
 pub fn keeps_once()
     ensures { (limit : Option ℕ) (s : List ℕ) (gs : List Segment) → IsCut s gs
         → (kept_of_cut limit gs ≡ 0) ⊎ (data_kept limit s ≡ 0) }
@@ -120,7 +120,7 @@ pub fn same_text<A: Allocator>()
     ensures { (vs : List (Value A)) → AreWritable vs → list_text (normal vs) ≡ list_text vs }
 {}
 
-/// Two writable lists have the same text exactly where they have the same normal list.
+/// Two writable lists have the same text exactly if they have the same normal list.
 pub fn same_normal<A: Allocator>()
     ensures { (vs ws : List (Value A)) → AreWritable vs → AreWritable ws
         → (list_text vs ≡ list_text ws) ↔ (normal vs ≡ normal ws) }
@@ -142,8 +142,8 @@ pub fn normal_normal<A: Allocator>()
 
 /// Every value that any stream means, whatever limit there is, is writable, but for an escape
 /// sequence without intermediate whose letter opens a string or a control sequence; a control
-/// sequence of which parameters were left out; the header of a mode of which intermediates were
-/// left out; and a byte A0 to FF of a mode, or a short control that has one.
+/// sequence with parameters left out; the header of a mode with intermediates left out; and a byte
+/// A0 to FF of a mode, or a short control that has one.
 pub fn handed_out<A: Allocator>()
     ensures { (limit : Option ℕ) (s : List ℕ)
         → EmittedAreWritable {A = A} (meaning_within limit s) }
@@ -159,7 +159,8 @@ pub fn yield_handed_out<A: Allocator>()
     handed_out::<A>();
 }
 
-/// What calls hand out one after another is the meaning of what they were fed, joined.
+/// The values that calls hand out one after another, joined, are the meaning of the bytes that they
+/// were fed.
 #[tactic(auto, using(crate::proofs::Meanings::meaning_more))]
 pub fn meaning_of_more<A: Allocator>()
     ensures { (limit : Option ℕ) (s b : List ℕ)
@@ -176,14 +177,14 @@ pub fn plain_at_ground()
     esc_frame::laws::events_of_the_cut_within();
 }
 
-/// Finished segments have no more to do with what follows them: bytes yield after a stream what
-/// they yield after what is left of it, once some finished segments are taken off.
+/// Finished segments have no effect on later bytes: bytes yield the same values after a stream as
+/// after the rest of the stream without some finished segments.
 pub fn yield_alone<A: Allocator>()
     ensures { (limit : Option ℕ) (s u b : List ℕ) → IsAfterFinished s u
         → yield_within {A = A} limit s b ≡ yield_within limit u b }
 {}
 
-/// A list is writable exactly where it is writable single values and writable groups, joined.
+/// A list is writable exactly if it is writable single values and writable groups, joined.
 pub fn writable_is_joined<A: Allocator>()
     ensures { (vs : List (Value A)) → AreWritable vs ↔ JoinsGroups vs }
 {}
@@ -212,7 +213,7 @@ pub fn normal_once<A: Allocator>()
     reads_back::<A>();
 }
 
-/// So normalising is idempotent where none of the four occurs and no mode is unfinished.
+/// So normalising is idempotent if none of the four occurs and no mode is unfinished.
 pub fn normal_is_idempotent<A: Allocator>()
     ensures { (s : List ℕ) → list_any is_exception (meaning {A = A} s) ≡ false
         → ends_in_mode s ≡ false

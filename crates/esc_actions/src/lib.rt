@@ -1,9 +1,9 @@
-//! Actions of a terminal: what pieces of a stream ask it to do, their texts, and the laws of what
-//! streams mean (ECMA-48; xterm's list of control sequences).
+//! Actions of a terminal: the requests that pieces of a stream make to it, their texts, and the
+//! laws of the meaning of streams (ECMA-48; xterm's list of control sequences).
 //!
-//! An [`Action`] is a value with a text. The specifications of this crate say what a stream of
-//! bytes means, as a list of such values, and what the text of a list is; its [`laws`] say how the
-//! two fit. `esc_parse` reads, and `esc_write` writes.
+//! An [`Action`] is a value with a text. The specifications of this crate define the meaning of a
+//! stream of bytes, as a list of such values, and the text of a list; its [`laws`] say how the two
+//! fit. `esc_parse` reads, and `esc_write` writes.
 //!
 //! ```text
 //! let mut list = Vec::new(alloc);
