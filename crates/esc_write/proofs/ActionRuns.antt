@@ -56,7 +56,7 @@ text_unless_sixel (action.Sixel s) other = absurd (other s refl)
 text_unless_sixel (action.DeviceControl m) other = device_text m
 text_unless_sixel a other = refl
 
--- all of a list: of its first n, and of what follows
+-- all of a list: of its first n, and of the rest
 module _ {X : Type 0} (p : X → Bool) (n : ℕ) (xs prefix back : List X) (f : prefix ≡ take n xs)
     (b : back ≡ drop n xs) where
   all_split : list_all p xs ≡ (list_all p prefix && list_all p back)
@@ -78,7 +78,7 @@ spelled_run [] vs h = refl
 spelled_run (x ∷ xs) vs h =
     rw (encode_ascii x (h 0)) (ap (λ t. x ∷ t) (spelled_run xs vs (λ i. h (suc i))))
 
--- what comes before a character does not show in its text
+-- the values before a character do not show in its text
 print_follows : {A : Type 0} (follows : Bool) (c : ℕ) (vs ws : List (Value A)) → vs ≡ print c ∷ ws
     → texts_after false vs ≡ texts_after follows vs
 print_follows follows c vs ws h = ap (texts_after false) h ∙ ap (texts_after follows) (sym h)
@@ -105,7 +105,7 @@ one_text follows ends old new v vs ws h k e =
     ∙ ap (λ b. old ++ (text_after follows v ++ texts_after b ws)) e
     ∙ ap (λ vs. old ++ texts_after follows vs) (sym h)
 
--- what follows a run is shorter
+-- the rest after a run is shorter
 pub rest_shorter : {X : Type 0} {A : Type 0} (f : X → Value A) (xs rest : List X) (run : List ℕ)
     → map f xs ≡ map print run ++ map f rest → 0 < length run
     → length rest < length xs
@@ -130,7 +130,7 @@ both_second : (a b : Bool) → (a && b) ≡ true → b ≡ true
 both_second true b h = h
 both_second false b h = absurd cc
 
--- where each of a list passes, so do the first and each after it
+-- if each of a list passes, so do the first and each after it
 module _ {X : Type 0} (p : X → Bool) (xs : List X) (x : X) (ys : List X) (is : xs ≡ x ∷ ys)
     (all : list_all p xs ≡ true) where
   both_pass : (p x && list_all p ys) ≡ true
@@ -147,7 +147,7 @@ shown_have : {A : Type 0} (run : List ℕ) (vs : List (Value A))
 shown_have [] vs = refl
 shown_have (c ∷ run) vs = shown_have run vs
 
--- what follows a run has texts where all have
+-- the rest after a run has texts if all have
 pub rest_have : {X A : Type 0} (f : X → Value A) (xs rest : List X) (run : List ℕ)
     → map f xs ≡ map print run ++ map f rest → list_all (λ a. has_text (f a)) xs ≡ true
     → list_all (λ a. has_text (f a)) rest ≡ true

@@ -18,6 +18,6 @@ pub memory_is_not_fmt : {T : Type 0} (r : Result T EncodeError) → r ≡ Err er
     → r ≡ Err error.Fmt → ⊥
 memory_is_not_fmt r h k = absurd cc
 
--- what does not come, comes just where a test fails that does not fail
+-- an event that never comes, comes exactly if a test fails that never fails
 pub never_without : {P : Type 0} (t : Bool) → t ≡ true → (P → ⊥) → (P → t ≡ false) × (t ≡ false → P)
 never_without t sure never = (λ p. absurd (never p), λ h. absurd cc)

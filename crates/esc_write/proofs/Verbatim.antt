@@ -39,7 +39,7 @@ use Rattle.esc_write.specs.Plain.{IsOnePart, IsPlainLink, IsVerbatim}
 abbrev semi : ℕ → Bool
 semi c = c == 0x3b
 
--- what a code reads is what the parts mean
+-- a code reads the value that the parts mean
 meant : {A : Type 0} (k : OperatingSystemCommandCode) (args : List (List ℕ))
     (c : OperatingSystemCommand A)
     → reading {A = A} k (code_text k) args ≡ Some c → meaning {A = A} (code_text k ∷ args) ≡ c
@@ -84,7 +84,7 @@ titled (p ∷ ps) t e u =
     let whole : joined (p ∷ ps) ≡ t = ap joined (sym e) ∙ joined_split t in
     ap utf8_of whole ∙ rw (is_utf8-from_IsUtf8 t u) refl
 
--- what comes after ASCII
+-- the text after ASCII
 pub past_ascii : (p t : List ℕ) → list_all (λ b. nat_lt b 128) p ≡ true → IsUtf8 (p ++ t) → IsUtf8 t
 past_ascii [] t h u = u
 past_ascii (b ∷ p) t h u =
@@ -199,7 +199,7 @@ id_meant A v u h k l =
     rw (id_params v h k, is_utf8-from_IsUtf8 u l) refl in
     meant {A = A} code.SetHyperlink ((codes "id=" ++ v) ∷ u ∷ []) (id_of A v u) read
 
--- what comes before and after a `;`
+-- the text before and after a `;`
 mark_of : (v u : List ℕ) → get_or (v ++ 0x3b ∷ u) (length v) 0 ≡ 0x3b
 mark_of [] u = refl
 mark_of (b ∷ v) u = mark_of v u
@@ -274,7 +274,7 @@ two_parts t end last e h k l =
 joined_end : (n k : ℕ) → k ≡ n → cond (eqb k n) (n + 0) k ≡ n
 joined_end n k e = grind (arith, nat_tests, e)
 
--- what scans find in a name and an address
+-- the ends that scans find in a name and an address
 pub name_end : (t v u : List ℕ) (end : ℕ) → end ≡ 0 + prefix_len is_unmarked (drop 0 t)
     → t ≡ v ++ 0x3b ∷ u → IsOnePart v → end ≡ length v
 name_end t v u end e is one =
@@ -300,7 +300,7 @@ name_taken t v u end e is =
 
 -- Marks of prompts.
 
--- the text of what was read, where it was
+-- the text of the command that was read, if one was
 text_of : {A : Type 0} (o : Option (OperatingSystemCommand A)) (c : OperatingSystemCommand A)
     (t : List ℕ)
     → option_map command_text o ≡ Some t → command_text (unwrap_or o c) ≡ t

@@ -1,4 +1,4 @@
--- What is promised of the text of a list.
+-- The promises about the text of a list.
 use Rattle.std.specs.Borrow.{Bor}
 use Rattle.std.specs.Prelude.{◌≡◌, ◌<◌, ◌++◌, ℕ, Bool, true, List, length, map, Result, IfOk, OnErr}
 use Rattle.std.specs.List.{list_all}
@@ -16,8 +16,8 @@ ReadsBack vs t = (meaning t ≡ normal vs) × (list_text (normal vs) ≡ t)
 abbrev pub HaveTexts : {A : Type 0} → List (Action A) → Type 0
 HaveTexts actions = list_all (λ a. has_text (value_of a)) actions ≡ true
 
--- What a call promises that appends the text of the first of these actions, of one at least, to the
--- text `had`: it returns the actions after them, and whether they come directly after a string
+-- The promises of a call that appends the text of the first of these actions, of at least one, to
+-- the text `had`: it returns the actions after them, and whether they come directly after a string
 -- action.
 pub record AppendsFirst {A E : Type 0} (had : List ℕ) (follows : Bool) (actions : List (Action A))
     (result : Result (Bor (List (Action A)) × Bool) E) (new : List ℕ) : Type 0 where
@@ -26,7 +26,7 @@ pub record AppendsFirst {A E : Type 0} (had : List ℕ) (follows : Bool) (action
       ≡ had ++ texts_after follows (map value_of actions))
   -- fewer are left
   pub less : IfOk result (λ r. length r.0.now < length actions)
-  -- where each had a text, each of those that are left has one
+  -- if each had a text, each of the actions that are left has one
   pub left : HaveTexts actions → IfOk result (λ r. HaveTexts r.0.now)
   -- and an error says that memory was refused
   pub refused : HaveTexts actions → OnErr result (Refused A)

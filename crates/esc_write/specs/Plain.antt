@@ -1,5 +1,5 @@
--- Control sequences and commands whose text is seen at once: that of the parameters, or the text as
--- it came.
+-- Control sequences and commands whose text is seen at once: the text of the parameters, or the
+-- text as it came.
 use Rattle.std.specs.Prelude.{ℕ, ℤ, pos, ◌≡◌, ◌≢◌, ◌⊎◌, ◌==◌, Bool, false, List, [], ◌∷◌, ◌++◌, Option, codes}
 use Rattle.std.specs.Fmt.{decimal}
 use Rattle.std.specs.List.{list_any, slice_split}
@@ -19,7 +19,7 @@ use Rattle.esc_write.specs.declared.short_numbers.ShortNumbers.TheVariants as sh
 abbrev pub IsNumber : List CsiParam → Type 0
 IsNumber es = (n : ℤ) × (es ≡ Integer n ∷ [])
 
--- a control sequence whose text is that of its parameters, by its form
+-- a control sequence whose text is the text of its parameters, by its form
 abbrev pub IsPlain : List CsiParam → Bool → ℕ → Type 0
 IsPlain es more f = IsNumber es ⊎ (csi_of es more f ≡ unspecified es more f ∷ [])
 

@@ -31,7 +31,7 @@ fn is_one_part(text: &[u8]) -> bool
     mark_from(text, 0) == text.len()
 }
 
-// What follows `8;;`.
+// The rest after `8;;`.
 fn past_bare_link(text: &[u8]) -> Option<&[u8]>
     ensures { MatchOption result ((u : List ℕ) → text.now ≢ codes "8;;" ++ u) (λ r.
         text.now ≡ codes "8;;" ++ r.now) }
@@ -42,7 +42,7 @@ fn past_bare_link(text: &[u8]) -> Option<&[u8]>
     Some(rest)
 }
 
-// What follows `8;id=`.
+// The rest after `8;id=`.
 fn past_link_id(text: &[u8]) -> Option<&[u8]>
     ensures { MatchOption result ((u : List ℕ) → text.now ≢ codes "8;id=" ++ u) (λ r.
         text.now ≡ codes "8;id=" ++ r.now) }
@@ -56,7 +56,7 @@ fn past_link_id(text: &[u8]) -> Option<&[u8]>
 /// Whether the text of an operating system command, its bytes between `ESC ]` and the terminator,
 /// is a link (OSC 8) without parameters or with `id` alone, or the end of one: `8;;` and an
 /// address, or `8;id=`, a name without `:`, `;` and an address. Such a command is written as it
-/// came, where its text is UTF-8.
+/// came, if its text is UTF-8.
 pub fn is_plain_link<A: Allocator>(text: &[u8]) -> bool
     ensures link { IsTrue result → IsUtf8 text.now → IsPlainLink A text.now }
     ensures bare { IsBareLink text.now → IsTrue result }
@@ -95,7 +95,7 @@ fn is_named_mark(letter: u8) -> bool
     letter == b'A' || letter == b'C' || letter == b'N'
 }
 
-// The letter after `133;`, where it is all that follows.
+// The letter after `133;`, if nothing else follows.
 fn lone_letter(text: &[u8]) -> Option<u8>
     ensures { IfSome result (λ l. text.now ≡ codes "133;" ++ l ∷ []) }
 {
@@ -105,7 +105,7 @@ fn lone_letter(text: &[u8]) -> Option<u8>
     Some(*letter)
 }
 
-// The letter after `133;`, and what follows the key `aid` after it.
+// The letter after `133;`, and the text after the key `aid` behind it.
 fn letter_and_name(text: &[u8]) -> Option<(u8, &[u8])>
     ensures { IfSome result (λ p. text.now ≡ codes "133;" ++ p.0 ∷ (codes ";aid=" ++ p.1.now)) }
 {
@@ -159,7 +159,7 @@ fn is_title<A: Allocator>(text: &[u8]) -> bool
     is_title_code(*code)
 }
 
-/// The text of a command that is a plain link, as [`is_plain_link`] says, where it is UTF-8.
+/// The text of a command that is a plain link, as [`is_plain_link`] says, if it is UTF-8.
 pub fn plain_link<A: Allocator>(text: &[u8]) -> Option<&str>
     ensures same { IfSome result (λ t. t.now ≡ text.now) }
     ensures link { IfSome result (λ t. IsPlainLink A text.now) }
@@ -173,9 +173,9 @@ pub fn plain_link<A: Allocator>(text: &[u8]) -> Option<&str>
     }
 }
 
-/// The text of a command, where it is seen at once that the command is written as it came: a title,
-/// a link without parameters or with `id` alone, the end of a link, and the mark of a prompt
-/// without keys or with `aid` alone.
+/// The text of a command, if it is seen at once that the command is written as it came: a title, a
+/// link without parameters or with `id` alone, the end of a link, and the mark of a prompt without
+/// keys or with `aid` alone.
 pub fn verbatim<A: Allocator>(text: &[u8]) -> Option<&str>
     ensures same { IfSome result (λ t. t.now ≡ text.now) }
     ensures written { IfSome result (λ t. IsVerbatim A text.now) }

@@ -30,7 +30,7 @@ pub(crate) fn append_csi<A: Allocator>(text: &mut Text<A>, csi: &CSI<A>) -> Resu
     }
 }
 
-// Appends the text of a control sequence that has no name, at once where its numbers are short.
+// Appends the text of a control sequence that has no name, at once if its numbers are short.
 fn append_body<A: Allocator>(
     text: &mut Text<A>,
     params: &[CsiParam],
@@ -70,8 +70,8 @@ pub fn append_csi_params<A: Allocator>(
     }
 }
 
-/// Whether the text of a control sequence is that of its parameters: it has no name, or its only
-/// parameter is a number, also where that is a rendition.
+/// Whether the text of a control sequence is the text of its parameters: it has no name, or its
+/// only parameter is a number, also if that is a rendition.
 pub fn is_plain(params: &[CsiParam], parameters_truncated: bool, control: u8) -> bool
     ensures { IsTrue result → IsPlain params.now parameters_truncated control }
 {

@@ -23,8 +23,8 @@ use std::alloc::{AllocError, Allocator};
 /// and not a second.
 ///
 /// The text of a writable list reads back as the list's normal list, and is the text of that list
-/// too. `EncodeError::Fmt` comes exactly where a sixel image of the list has a value over 63; that
-/// is seen before any memory is taken. `EncodeError::Memory` says that a request for memory for the
+/// too. `EncodeError::Fmt` comes exactly if a sixel image of the list has a value over 63; that is
+/// seen before any memory is taken. `EncodeError::Memory` says that a request for memory for the
 /// text was refused. The empty list takes no memory.
 pub fn encode<A: Allocator>(alloc: A, actions: &[Action<A>]) -> Result<String<A>, EncodeError>
     ensures text { IfOk result (λ t. string_bytes t ≡ list_text (map value_of actions.now)) }
@@ -105,8 +105,8 @@ fn write_few<'a, A: Allocator>(
     Ok((rest, follows))
 }
 
-// Appends the text of an action, and returns whether what comes after it follows a string action.
-// It looks for characters first.
+// Appends the text of an action, and returns whether it is a string action, so that the next text
+// follows one. It looks for characters first.
 #[inline(always)]
 fn write_next<A: Allocator>(
     text: &mut Text<A>,
@@ -159,7 +159,7 @@ pub fn write_after<A: Allocator>(
     }
 }
 
-// The same, where it looks for a string terminator first.
+// The same, but it looks for a string terminator first.
 #[inline(always)]
 fn write_whole<A: Allocator>(
     text: &mut Text<A>,
@@ -200,7 +200,7 @@ fn write_alone<A: Allocator>(text: &mut Text<A>, action: &Action<A>) -> Result<(
     }
 }
 
-// Appends the text of a sixel image, out of the way of what writes all else.
+// Appends the text of a sixel image, apart from the code that writes all else.
 #[inline(never)]
 fn write_image<A: Allocator>(text: &mut Text<A>, image: &Sixel<A>) -> Result<(), AllocError>
     ensures ok { OnOk result (text.new ≡ text.old ++ sixel_text image.now) }

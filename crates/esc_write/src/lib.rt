@@ -1,9 +1,9 @@
 //! From actions to text: [`encode`], and the texts of control sequences and commands that are
 //! written as they came.
 //!
-//! The text of a list of actions is that of its values, with a string terminator after each that
-//! needs one. There is no parser here: `esc_normal` joins what this crate writes with what
-//! `esc_parse` reads. A part of `escape_stream`.
+//! The text of a list of actions is the texts of its values, with a string terminator after each
+//! that needs one. There is no parser here: `esc_normal` joins the writer of this crate with the
+//! parser of `esc_parse`. A part of `escape_stream`.
 //!
 //! ```text
 //! encode(alloc, &actions)?     // of a title "t" and Print('x'): "\x1b]0;t\x1b\\x"

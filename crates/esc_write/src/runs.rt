@@ -9,7 +9,7 @@ use crate::short_text::ShortText;
 use esc_actions::Action;
 use std::alloc::Allocator;
 
-// The character that the action shows, where it is ASCII.
+// The character that the action shows, if it is ASCII.
 #[inline(always)]
 fn ascii_of<A: Allocator>(action: &Action<A>) -> Option<u8>
     ensures ascii { IfSome result (λ b. b < 128) }
@@ -21,7 +21,7 @@ fn ascii_of<A: Allocator>(action: &Action<A>) -> Option<u8>
     }
 }
 
-// The characters of the first eight actions, where each is an ASCII character that is shown.
+// The characters of the first eight actions, if each is an ASCII character that is shown.
 #[inline(always)]
 fn eight_of<A: Allocator>(actions: &[Action<A>]) -> Option<[u8; 8]>
     ensures few { IfSome result (λ bs. 8 ≤ length actions.now) }
@@ -55,7 +55,7 @@ fn eight_of<A: Allocator>(actions: &[Action<A>]) -> Option<[u8; 8]>
 }
 
 // Gathers the ASCII characters that are shown at the start, eight at a time, as far as there is
-// room for them, and returns what follows them.
+// room for them, and returns the rest.
 #[inline(always)]
 pub(crate) fn gather_eights<'a, A: Allocator>(
     actions: &'a [Action<A>],

@@ -8,8 +8,8 @@ use crate::short_text::{ROOM, ShortText};
 use esc_values::CsiParam;
 
 impl ShortText {
-    // Appends the text of a control sequence that has no name, where it is short: its parameters
-    // are ASCII characters and numbers under 256, and there is room for it.
+    // Appends the text of a control sequence that has no name, if it is short: its parameters are
+    // ASCII characters and numbers under 256, and there is room for it.
     pub(crate) fn push_sequence(&mut self, params: &[CsiParam], control: u8) -> bool
         requires { self.old ≡ [] }
         ensures { (more : Bool) → IsTrue result
@@ -29,7 +29,7 @@ impl ShortText {
         true
     }
 
-    // Appends the text of a parameter, where that is short and there is room for three bytes.
+    // Appends the text of a parameter, if that is short and there is room for three bytes.
     #[inline(always)]
     fn push_param(&mut self, param: CsiParam) -> bool
         ensures { IsTrue result → self.new ≡ self.old ++ param_text param }
