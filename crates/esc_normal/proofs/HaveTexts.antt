@@ -1,4 +1,4 @@
--- What has a text.
+-- Values that have a text.
 use Rattle.std.proofs.Common.{ℕ, ◌≡◌, ◌<◌, true, List, [], ◌∷◌, refl, arith}
 use Rattle.std.proofs.lemmas.Bool.{and_from}
 use Rattle.std.proofs.lemmas.Bool.Decides.{nat_tests}
@@ -42,7 +42,7 @@ writable_has_text (enter e) h = refl
 writable_has_text (datum b) h = refl
 writable_has_text exit h = refl
 
--- of what is handed out only a sixel image needs to be writable for that
+-- among the actions that are handed out, only a sixel image needs to be writable for that
 handed_out_has_text : {A : Type 0} (v : Value A) → IsHandedOut v → has_text v ≡ true
 handed_out_has_text (sixel s) h = writable_has_text (sixel s) (h refl)
 handed_out_has_text (print c) h = refl

@@ -56,7 +56,7 @@ signed_body : (n : ℤ) (s : Sgr) → sgr_at n ≡ Some s → sgr_body s ≡ sig
 signed_body (pos n) s h = named_body n s h
 signed_body (negsuc n) s h = absurd (none_some s h)
 
--- what the sequence is, with the text of its parameter
+-- the control sequence, with the text of its parameter
 abbrev IsLone : Type 0 → ℤ → Bool → ℕ → Type 0
 IsLone A n more f = (c : CSI A) × (csi_of (Integer n ∷ []) more f ≡ csi_value c ∷ [])
     × (csi_text (csi_value c) ≡ csi_text (unspecified (Integer n ∷ []) more f))

@@ -18,7 +18,7 @@ use Rattle.esc_normal.specs.Spelled.{Adds}
 use Rattle.esc_normal.specs.Texts.{ends_in_string}
 use Rattle.esc_normal.specs.declared.spell.TextSink.{TextSink}
 
--- what b adds to the normal form of s
+-- the text that b adds to the normal form of s
 abbrev pub added_form : (A : Type 0) → Option ℕ → List ℕ → List ℕ → List ℕ
 added_form A limit s b =
     texts_after {A = A} (ends_in_string false (meaning_within {A = A} limit s))
@@ -31,14 +31,14 @@ form_longer A limit s b =
     ap list_text (sym (meaning_more {A = A} limit s b))
     ∙ texts_more false (meaning_within {A = A} limit s) (yield_within {A = A} limit s b)
 
--- whether the text of what was given ends in a string
+-- whether the text of the given values ends in a string
 ends : {A : Type 0} (p : TextSink A) (vs : List (Value A)) (q : TextSink A)
     → FoldsTo (At value_of Adds) p vs q → q.follows_string ≡ ends_in_string p.follows_string vs
 ends p [] q e = ap (λ x. x.follows_string) (sym e)
 ends p (v ∷ vs) q (j, (a, is, w), rest) = ends j vs q rest
     ∙ ap (λ b. ends_in_string b vs) (w.1 ∙ ap is_string is)
 
--- what is given of b after s is what b adds
+-- the values that are given for b after s are the values that b adds
 pub fed_more : {A : Type 0} (limit : Option ℕ) (s b : List ℕ) (p q : TextSink A) → p.text ≡ []
     → p.follows_string ≡ ends_in_string false (meaning_within {A = A} limit s)
     → FoldsTo (At value_of Adds) p (yield_within limit s b) q
@@ -56,7 +56,7 @@ fed_more {A} limit s b p q none end folds =
           ∙ ap (λ x. texts_after x vs) end)),
     )
 
--- a prefix of the text of what was read is one of the text of all that the reader had
+-- a prefix of the text of the bytes that were read is one of the text of all that the reader had
 pub prefix_of_had : (A : Type 0) (limit : Option ℕ) (had left before after : Option (List ℕ))
     (s : List ℕ) → Consumes had left s
     → AppendsPrefix before after (normal_form A limit s)
@@ -69,8 +69,8 @@ prefix_of_had A limit (Some xs) (Some ys) before after s c p =
     (normal_form A limit (s ++ ys))
     (added_form A limit s ys, form_longer A limit s ys) p)
 
--- where all was read, and the text of what was read was written, it is the text of all that the
--- reader had
+-- if all was read, and the text of the bytes that were read was written, it is the text of all that
+-- the reader had
 pub written_all : (A : Type 0) {X E : Type 0} (limit : Option ℕ)
     (had left before after : Option (List ℕ)) (r : Result X E) → OnOk r (IsAtEnd left)
     → OnOk r ((s : List ℕ) × (t : List ℕ) × Consumes had left s × Appends before after t

@@ -12,7 +12,7 @@ pub err_is : {T E : Type 0} (r : Result T E) (e x : E) → r ≡ Err e → IsErr
 err_is (Ok t) e x is h = cc
 err_is (Err f) e x is h = cc
 
--- what has not failed does not fail with an error that did not come
+-- a call that has not failed does not fail with an error that did not come
 pub not_failed : {T E : Type 0} (r : Result T E) (e : E) (failed : Bool) → (IsErrOf r e → ⊥)
     → failed ≡ false → (IsErrOf r e ↔ IsTrue failed)
 not_failed r e true other h = absurd cc
@@ -65,12 +65,12 @@ one_more n k s buf h some is = omega (arith, length-append s (take k buf))
 pub none_within : (n : ℕ) → length {A = ℕ} [] ≤ n
 none_within n = omega arith
 
--- what holds, holds on Ok
+-- a true statement is true on Ok
 pub ok_any : {T E X : Type 0} (r : Result T E) → X → OnOk r X
 ok_any (Ok t) x = x
 ok_any (Err e) x = tt
 
--- what failed exactly where an error came, which did not come, has not failed
+-- if it failed exactly if an error came, and the error did not come, it has not failed
 pub unfailed : {T E : Type 0} (t : T) (e : E) (failed : Bool)
     → (IsErrOf (Ok t) e ↔ IsTrue failed) → failed ≡ false
 unfailed t e true h = let k = h.1 refl in absurd cc
@@ -102,13 +102,13 @@ no_other (Ok t) e f is h not = absurd cc
 no_other {T} (Err x) e f is h not =
     other (Err x) e h (ap (λ y. is_fault {T = T} e (Err y)) is ∙ not)
 
--- what had not failed, has not after a call that did not
+-- if it had not failed, it has not after a call that did not
 pub stays_sound : {T E : Type 0} (r : Result T E) (t : T) (old new : Bool) → new ≡ old || is_err r
     → r ≡ Ok t → old ≡ false → new ≡ false
 stays_sound r t false new e is h = e ∙ ap is_err is
 stays_sound r t true new e is h = absurd (true≢false h)
 
--- what a failed call returned an error of, has failed
+-- if a failed call returned its error, it has failed
 pub now_failed : {T E : Type 0} (r : Result T E) (f : E) (old new : Bool) → new ≡ old || is_err r
     → r ≡ Err f → IsTrue new
 now_failed r f false new e is = e ∙ ap is_err is

@@ -1,4 +1,4 @@
--- What a text is given by actions that are not kept.
+-- A text is given actions that are not kept.
 use Rattle.std.proofs.Common.{◌≡◌, ℕ, Bool, true, false, List, [], ◌∷◌, ◌++◌}
 use Rattle.std.proofs.Common.{MatchResult, Result, Ok, Err, refl, ap, sym, ◌∙◌, subst, inl, inr}
 use Rattle.std.proofs.Common.{append_assoc}
@@ -23,14 +23,14 @@ use Rattle.esc_normal.specs.Spelled.{Adds, Denies}
 use Rattle.esc_normal.specs.declared.spell.TextSink.{TextSink}
 use Rattle.fallible_alloc.specs.Refusals.{Refused}
 
--- what a result says
+-- the statement that a result makes
 pub match_both : {E : Type 0} (X Y P Q : Type 0) (r : Result (Unit {0}) E) → (X → Y) → (P → Q)
     → MatchResult r (λ _. X) (λ _. P)
     → MatchResult r (λ _. Y) (λ _. Q)
 match_both X Y P Q (Ok t) f k h = f h
 match_both X Y P Q (Err e) f k h = k h
 
--- a control sequence whose text is that of its parameters is one value of this text
+-- a control sequence whose text is the text of its parameters is one value of this text
 plain_value : {A : Type 0} (es : List CsiParam) (more : Bool) (f : ℕ) → IsPlain es more f
     → (c : CSI A) × (csi_of es more f ≡ csi_value c ∷ [])
     × (csi_text (csi_value c) ≡ csi_text (unspecified es more f))
@@ -84,7 +84,7 @@ pub command_refused : {A : Type 0} (own : Type 0) (p q : TextSink A) (ps : List 
 command_refused {A} own p q ps r =
     inr (inl (action.OperatingSystemCommand (command_meant ps), refl, λ _. r))
 
--- what a text was given
+-- the values that a text was given
 pub spells : {A : Type 0} (p : TextSink A) (vs : List (Value A)) (q : TextSink A)
     → FoldsTo (At value_of (λ p a q. (q.text ≡ p.text ++ text_after p.follows_string (value_of a))
     × (q.follows_string ≡ is_string (value_of a)))) p vs q
@@ -98,7 +98,7 @@ spells p (v ∷ vs) q (j, (a, is, w), rest) =
     ∙ ap (λ b. p.text ++ (text_after p.follows_string v ++ texts_after b vs))
     (w.1 ∙ ap is_string is)
 
--- what refuses an action that has a text where memory is, stops for that alone
+-- if a sink refuses an action that has a text only for want of memory, it stops for that alone
 module _ {S A : Type 0} (R : S → Value A → S → Type 0) (own : Type 0) where
   abbrev DeniesIt : S → Action A → S → Type 0
   DeniesIt p a q = has_text (value_of a) ≡ true → Refused A

@@ -1,4 +1,4 @@
--- What is read and written through watched readers and writers.
+-- Reading and writing through watched readers and writers.
 use Rattle.std.specs.Prelude.{◌≡◌, ◌↔◌, ℕ, Bool, false, List, ◌++◌, Option, Result, IsErrOf, IsTrue}
 use Rattle.std.specs.Borrow.{MutBor}
 use denote.Triple.Both.{Both}
@@ -7,7 +7,7 @@ use Rattle.std.specs.declared.io.traits.Read.{Ghosts as Reader}
 use Rattle.std.specs.declared.io.traits.Write.{Ghosts as Writer}
 use Rattle.esc_normal.specs.declared.watched.Watched.{Watched}
 
--- what a watched reader or writer is round
+-- the reader or writer inside a watched one
 abbrev pub inner_of : {T : Type 0} → Watched T → T
 inner_of w = w.inner
 
@@ -24,11 +24,11 @@ AppendsPrefix old new bs = (prefix : List ℕ) × (rest : List ℕ) × (bs ≡ p
 abbrev pub Borrowed : Type 0 → Type 0
 Borrowed T = Both (MutBor (Watched T)) (MutBor (Watched T))
 
--- the bytes that the reader had before the call, where they are known
+-- the bytes that the reader had before the call, if they are known
 abbrev pub had : {R : Type 0} → Reader R → Borrowed R → Option (List ℕ)
 had R reader = R.remaining (inner_of reader.entry.now)
 
--- of what it could read nothing is left
+-- nothing is left that it could read
 abbrev pub IsReadWhole : {R : Type 0} → Reader R → Borrowed R → Type 0
 IsReadWhole R reader = IsAtEnd (R.remaining (inner_of reader.exit.now))
 
@@ -52,7 +52,7 @@ abbrev pub WritesPrefix : {W : Type 0} → Writer W → List ℕ → Borrowed W 
 WritesPrefix W t writer =
     AppendsPrefix (W.contents (inner_of writer.entry.now)) (W.contents (inner_of writer.exit.now)) t
 
--- where it had not failed before, the result is this error exactly where it has failed now
+-- if it had not failed before, the result is this error exactly if it has failed now
 abbrev pub FailsWith : {T X E : Type 0} → Result X E → E → Borrowed T → Type 0
 FailsWith result error borrowed =
     has_failed borrowed.entry.now ≡ false

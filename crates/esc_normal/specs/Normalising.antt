@@ -6,7 +6,7 @@ use Rattle.esc_parse.specs.Fed.{IsBroken as IsBrokenParser, ParserHasConsumedWit
 use Rattle.esc_normal.specs.Texts.{ends_in_string}
 use Rattle.esc_normal.specs.declared.normaliser.Normaliser.{Normaliser}
 
--- the normal form of a stream: the text of what it means, where no more than the limit is kept of a
+-- the normal form of a stream: the text of its meaning, if no more than the limit is kept of a
 -- segment
 abbrev pub normal_form : (A : Type 0) → Option ℕ → List ℕ → List ℕ
 normal_form A limit s = list_text (meaning_within {A = A} limit s)

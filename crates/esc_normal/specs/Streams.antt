@@ -1,4 +1,4 @@
--- What a filter did to a watched reader and a watched writer that it was lent.
+-- The effect of a filter on a watched reader and a watched writer that it was lent.
 use Rattle.std.specs.Prelude.{ℕ, ◌≡◌, ◌≤◌, Bool, true, false, List, [], ◌++◌, length, Result, IsErrOf, OnErr, OnOk}
 use Rattle.std.specs.declared.io.traits.Read.{Ghosts as Reader}
 use Rattle.std.specs.declared.io.traits.Write.{Ghosts as Writer}
@@ -26,7 +26,7 @@ abbrev pub HasFilteredAtLeast : {R W : Type 0} → Reader R → Writer W → ℕ
 HasFilteredAtLeast R W n Is reader writer =
     (s : List ℕ) × (t : List ℕ) × (n ≤ length s) × Reads R s reader × Writes W t writer × Is s t
 
--- the same, but that of the last bytes, at most n, nothing was written
+-- the same, but nothing was written for the last bytes, at most n
 abbrev pub HasFilteredAllBut : {R W : Type 0} → Reader R → Writer W → ℕ
     → (List ℕ → List ℕ → Type 0) → Borrowed R → Borrowed W → Type 0
 HasFilteredAllBut R W n Is reader writer =
@@ -43,29 +43,29 @@ HasBegun R W m reader writer =
 abbrev pub IsText : (List ℕ → List ℕ) → List ℕ → List ℕ → Type 0
 IsText m s t = t ≡ m s
 
--- What a filter did with a reader and a writer that it was lent, by this result, where m is the
--- text of a stream that has ended, and Is says what holds of a stream, whether it has ended, and of
--- its text:
+-- The effect of a filter on a reader and a writer that it was lent, by this result. m gives the
+-- text of a stream that has ended; Is holds for a text of a stream, and is told whether the stream
+-- has ended:
 pub record Filters {R W X : Type 0} (Rd : Reader R) (Wr : Writer W) (m : List ℕ → List ℕ)
     (Is : Bool → List ℕ → List ℕ → Type 0) (result : Result X FilterError) (reader : Borrowed R)
     (writer : Borrowed W) : Type 0 where
   -- on Ok all was read
   pub read_all : OnOk result (IsReadWhole Rd reader)
-  -- and the text of it was written, which has ended
+  -- and the text of the stream, which has ended, was written
   pub written : OnOk result (HasFiltered Rd Wr (Is true) reader writer)
-  -- after a fault of the reader, the text of all that was read was, which goes on
+  -- after a fault of the reader, the text of all that was read, which goes on, was written
   pub decided : IsErrOf result fault.Read → HasFiltered Rd Wr (Is false) reader writer
-  -- where the stream has no end, that of at least so many bytes was
+  -- if the stream has no end, the text of at least so many bytes was written
   pub endless : IsErrOf result fault.Endless
       → HasFilteredAtLeast Rd Wr MOST_READS (Is false) reader writer
-  -- where memory was refused, that of all but what the last read gave was
+  -- if memory was refused, the text of all but the bytes of the last read was written
   pub until_refused : IsErrOf result fault.Memory
       → HasFilteredAllBut Rd Wr most_a_read (Is false) reader writer
-  -- after any error, a prefix of the text of what was read was
+  -- after any error, a prefix of the text of the bytes that were read was written
   pub beginning : OnErr result (HasBegun Rd Wr m reader writer)
-  -- of a reader that had not failed before, its fault comes exactly where it has failed
+  -- if the reader had not failed before, its fault comes exactly if it has failed
   pub read_fault : FailsWith result fault.Read reader
-  -- and so does that of the writer
+  -- and so does the fault of the writer
   pub write_fault : FailsWith result fault.Write writer
 
 -- ---- a filter that is fed
@@ -82,7 +82,7 @@ abbrev pub New : {F A : Type 0} → Feeder F A → F
 New V f C = (m c : List ℕ → List ℕ) → V.gives f m c [] → m [] ≡ []
     → ((s : List ℕ) → (t : List ℕ) × (c s ≡ m s ++ t)) → C m c
 
--- the text t of the stream s is that of the first where it has ended, and of the second where it
+-- the text t of the stream s is given by the first if the stream has ended, and by the second if it
 -- goes on
 abbrev pub IsEither : (List ℕ → List ℕ) → (List ℕ → List ℕ) → Bool → List ℕ → List ℕ → Type 0
 IsEither c m true s t = IsText c s t
@@ -112,8 +112,8 @@ abbrev pub PassesPrefixOn : {W : Type 0} → Writer W → (List ℕ → List ℕ
 PassesPrefixOn W m s b writer =
     (t : List ℕ) × (m (s ++ b) ≡ m s ++ t) × WritesPrefix W t writer
 
--- What a call did that feeds a filter, or ends its stream, and writes the text that this adds. Of
--- the filter's texts and stream `done` holds on Ok, and `begun` after an error:
+-- The effect of a call that feeds a filter, or ends its stream, and writes the text that this adds.
+-- On Ok `done` holds for the filter's texts and stream, and after an error `begun`:
 pub record WritesAdded {F A W X : Type 0} (V : Feeder F A) (old : F)
     (done begun : (List ℕ → List ℕ) → (List ℕ → List ℕ) → List ℕ → Type 0)
     (result : Result X FilterError) (writer : Borrowed W) : Type 0 where
@@ -121,24 +121,24 @@ pub record WritesAdded {F A W X : Type 0} (V : Feeder F A) (old : F)
   pub given : Given V old (λ m c s. OnOk result (done m c s))
   -- or a prefix of it
   pub beginning : Given V old (λ m c s. OnErr result (begun m c s))
-  -- where memory was refused, nothing was
+  -- if memory was refused, nothing was written
   pub unwritten : IsErrOf result fault.Memory → writer.exit.now ≡ writer.entry.now
   pub refused : Given V old (λ m c s. IsErrOf result fault.Memory → Refused A)
-  -- of a writer that had not failed before, its error comes exactly where it has failed
+  -- if the writer had not failed before, its error comes exactly if it has failed
   pub write_fault : FailsWith result fault.Write writer
-  -- and there is no fourth
+  -- and there is no other error
   pub no_read : IsErrOf result fault.Read → ⊥
   pub no_end : IsErrOf result fault.Endless → ⊥
 
--- What a call did with a filter that was fed nothing: it fed it what it read, by n bytes at most,
--- and wrote the text of that.
+-- The effect of a call on a filter that was fed nothing: it fed the filter the bytes that it read,
+-- by n bytes at most, and wrote their text.
 pub record FeedsAll {F A R W X : Type 0} (V : Feeder F A) (Rd : Reader R) (Wr : Writer W) (n : ℕ)
     (old : F) (result : Result X FilterError) (new : F) (reader : Borrowed R) (writer : Borrowed W)
     : Type 0 where
-  -- on Ok that was all
+  -- on Ok it read all
   pub read_all : OnOk result (IsReadWhole Rd reader)
   pub fed : New V old (λ m c. OnOk result (HasFed V Rd Wr m c new reader writer))
-  -- the errors are those of `Filters`, with what was written then
+  -- the errors are those of `Filters`, with the text that was written then
   pub decided : New V old (λ m c.
       IsErrOf result fault.Read → HasFiltered Rd Wr (IsText m) reader writer)
   pub endless : New V old (λ m c. IsErrOf result fault.Endless

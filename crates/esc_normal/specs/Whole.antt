@@ -1,4 +1,4 @@
--- What a call promises that reads a watched reader to its end.
+-- The promises of a call that reads a watched reader to its end.
 use Rattle.std.specs.Prelude.{◌≡◌, ◌↔◌, ℕ, Bool, List, Option, Result, IfErr, IfOk, IfSome, IsErrOf, IsTrue, OnOk}
 use Rattle.std.specs.declared.io.traits.Read.{Ghosts as Reader}
 use Rattle.std.specs.declared.io.traits.Write.{Ghosts as Writer}
@@ -7,11 +7,11 @@ use Rattle.esc_normal.specs.declared.normalise_error.NormaliseError.{NormaliseEr
 use Rattle.esc_normal.specs.declared.normalise_error.NormaliseError.TheVariants as fault
 use Rattle.fallible_alloc.specs.Refusals.{Refused}
 
--- where the bytes that the reader had are known, this holds of them
+-- if the bytes that the reader had are known, this holds for them
 abbrev pub OfAll : {R : Type 0} → Reader R → Borrowed R → (List ℕ → Type 0) → Type 0
 OfAll R reader P = IfSome (had R reader) P
 
--- What a call did that reads all, and writes the text m of it:
+-- The effect of a call that reads all, and writes the text m of it:
 pub record WritesText {R W X : Type 0} (A : Type 0) (Rd : Reader R) (Wr : Writer W)
     (m : List ℕ → List ℕ) (result : Result X NormaliseError) (reader : Borrowed R)
     (writer : Borrowed W) : Type 0 where
@@ -24,21 +24,22 @@ pub record WritesText {R W X : Type 0} (A : Type 0) (Rd : Reader R) (Wr : Writer
   -- after the writer's, a prefix of the text was
   pub beginning : IsErrOf result fault.Write
       → OfAll Rd reader (λ s. WritesPrefix Wr (m s) writer)
-  -- of a reader that had not failed before, its error comes exactly where it has failed
+  -- if the reader had not failed before, its error comes exactly if it has failed
   pub read_fault : FailsWith result fault.Read reader
-  -- and so does that of the writer
+  -- and so does the error of the writer
   pub write_fault : FailsWith result fault.Write writer
   -- the third says that memory was refused
   pub refused : IsErrOf result fault.Memory → Refused A
 
--- What a call returned that reads all, where `is` holds of it and of what is returned:
+-- The result of a call that reads all, if `is` holds for the value that it returns and for the
+-- bytes:
 pub record ReadsAll {R X : Type 0} (A : Type 0) (Rd : Reader R) (is : X → List ℕ → Type 0)
     (result : Result X NormaliseError) (reader : Borrowed R) : Type 0 where
   -- on Ok all was read
   pub read_all : OnOk result (IsReadWhole Rd reader)
   -- and this is of it
   pub found : IfOk result (λ x. OfAll Rd reader (is x))
-  -- of a reader that had not failed before, its error comes exactly where it has failed
+  -- if the reader had not failed before, its error comes exactly if it has failed
   pub read_fault : FailsWith result fault.Read reader
   -- another says that memory was refused
   pub refused : IsErrOf result fault.Memory → Refused A

@@ -1,17 +1,16 @@
-//! What takes a stream in chunks, and has the text of each.
+//! Filters that take a stream in chunks, and have the text of each.
 ghost use Rattle.std.specs.Prelude.{◌≡◌, ◌++◌, ℕ, List, OnErr, OnOk};
 ghost use Rattle.fallible_alloc.specs.Refusals.{Refused};
 
 use std::alloc::{AllocError, Allocator};
 
-/// Takes a stream in whatever chunks it comes, and has for each the text that it adds, and what its
-/// end adds.
+/// Takes a stream in any chunks, and has the text that each adds, and the text that its end adds.
 pub trait StreamFilter<A: Allocator> {
     // it gives the first texts for streams that go on, and the second for those that have ended,
     // and was fed this stream
     ghost gives: { Self → (List ℕ → List ℕ) → (List ℕ → List ℕ) → List ℕ → Type 0 };
 
-    // what the bytes fed last added
+    // the text that the bytes fed last added
     ghost added: { Self → List ℕ };
 
     // its stream has ended: it was this one, and this is the text of one that has ended

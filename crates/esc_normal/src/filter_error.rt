@@ -11,8 +11,8 @@ pub enum FilterError {
     /// written.
     #[error("write fault")]
     Write,
-    /// A request for memory was refused. The text of what was read before the last read, which gave
-    /// at most 64 KiB, was written.
+    /// A request for memory was refused. The text of the bytes before the last read, which gave at
+    /// most 64 KiB, was written.
     #[error("out of memory")]
     Memory,
     /// The stream did not end in 2^64 - 1 reads, each of at least one byte. The text of all that

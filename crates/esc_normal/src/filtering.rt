@@ -1,4 +1,4 @@
-//! From a stream to the text of what takes it in chunks.
+//! From a stream to the text of a filter that takes it in chunks.
 ghost use Rattle.std.specs.Prelude.{ℕ, ◌≡◌, ◌<◌, ◌++◌, List, length, IfErr, IsErrOf, OnErr, OnOk};
 ghost use Rattle.esc_normal.specs.Io.{FailsWith, Writes, WritesPrefix};
 ghost use Rattle.esc_normal.specs.Streams.{FeedsAll, Filters, HasEnded, IsEither, New, PassesOn, PassesPrefixOn, WritesAdded};
@@ -13,16 +13,16 @@ use std::io::{Read, Write};
 /// How often [`pump`] reads a stream at most.
 pub const MOST_READS: u64 = u64::MAX;
 
-/// Reads to the end, and writes what the filter, which gives these texts and was fed nothing, has
-/// of each read and of the end, as it reads: after each read the text of all that was read so far
-/// is written and flushed; after an error the text of the end is not. It holds a chunk of 64 KiB,
-/// and what the filter keeps.
+/// Reads to the end, and writes the text that the filter, which gives these texts and was fed
+/// nothing, has for each read and for the end, as it reads: after each read the text of all that
+/// was read so far is written and flushed; after an error the text of the end is not. It holds a
+/// chunk of 64 KiB, and the memory of the filter.
 ///
-/// After `FilterError::Read` and `Endless` the text of all that was read was written, after
-/// `Memory` that of all but what the last read gave, at most 64 KiB, and after `Write` a prefix of
-/// it. Where neither had failed before, `Read` comes exactly where the reader has failed, and
-/// `Write` exactly where the writer has. A `write` that takes nothing is a failure. `Endless` comes
-/// after 2^64 - 1 reads, each of at least one byte.
+/// After `FilterError::Read` and `Endless` the text of all that was read was written; after
+/// `Memory` the text of all but the last read, which gave at most 64 KiB; and after `Write` a
+/// prefix of the text. If neither had failed before, `Read` comes exactly if the reader has failed,
+/// and `Write` exactly if the writer has. A `write` that takes nothing is a failure. `Endless`
+/// comes after 2^64 - 1 reads, each of at least one byte.
 pub fn pump<R: Read, W: Write, F: StreamFilter<A>, A: Allocator + Copy>(
     alloc: A,
     filter: &mut F,
@@ -45,7 +45,7 @@ pub fn pump<R: Read, W: Write, F: StreamFilter<A>, A: Allocator + Copy>(
     }
 }
 
-// The same by way of this chunk, part by part of what `Filters` says.
+// The same by way of this chunk, part by part of the record `Filters`.
 fn filter_all<R: Read, W: Write, F: StreamFilter<A>, A: Allocator + Copy>(
     filter: &mut F,
     reader: &mut Watched<R>,

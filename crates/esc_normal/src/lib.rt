@@ -1,10 +1,11 @@
-//! From a stream to the text of what it means: [`normal_text`], [`normalise`] and [`is_normal`];
-//! the same as it comes, [`normalise_stream`], and chunk by chunk, [`Normaliser`]; and
-//! [`TextSink`], the sink that writes what it takes.
+//! From a stream to the text of its meaning: [`normal_text`], [`normalise`] and [`is_normal`]; the
+//! same as it comes, [`normalise_stream`], and chunk by chunk, [`Normaliser`]; and [`TextSink`],
+//! the sink that writes the actions that it takes.
 //!
-//! What `esc_parse` reads is written as `esc_write` writes it, with no list of actions in between.
-//! [`StreamFilter`] is what takes a stream in chunks and has the text of each, as a normaliser or a
-//! filter, and [`pump`] runs it from a reader to a writer. A part of `escape_stream`.
+//! The parser of `esc_parse` gives its actions to the writer of `esc_write`, with no list of
+//! actions in between. A [`StreamFilter`] takes a stream in chunks and has the text of each, as a
+//! normaliser or a filter, and [`pump`] runs it from a reader to a writer. A part of
+//! `escape_stream`.
 //!
 //! ```text
 //! let mut normaliser = Normaliser::new(alloc, None);

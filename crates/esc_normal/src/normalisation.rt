@@ -1,4 +1,4 @@
-//! From a stream to the text of what it means.
+//! From a stream to the text of its meaning.
 ghost use Rattle.std.specs.Prelude.{◌≡◌, ℕ, List, [], true, Some, IfOk, IfErr, OnOk, OnErr, ◌<◌, length};
 ghost use Rattle.esc_normal.specs.Io.{FailsWith, Writes, WritesPrefix, had};
 ghost use Rattle.esc_normal.specs.Normalising.{normal_form};
@@ -18,13 +18,13 @@ use esc_values::Text;
 use std::alloc::{AllocError, Allocator};
 use std::io::{Read, Write};
 
-/// Reads to the end, then writes what [`encode`](esc_write::encode) writes for the actions of the
-/// bytes that were read. It holds the whole input and its text.
+/// Reads to the end, then writes the text that [`encode`](esc_write::encode) writes for the actions
+/// of the bytes that were read. It holds the whole input and its text.
 ///
 /// After `NormaliseError::Read` or `Memory` nothing was written, after `Write` a prefix of the
-/// text. Where neither had failed before, `Read` comes exactly where the reader has failed, and
-/// `Write` exactly where the writer has. A `write` that takes nothing is a failure. A reader that
-/// never ends leads to `Memory`, once no more bytes can be held.
+/// text. If neither had failed before, `Read` comes exactly if the reader has failed, and `Write`
+/// exactly if the writer has. A `write` that takes nothing is a failure. A reader that never ends
+/// leads to `Memory`, once no more bytes can be held.
 pub fn normalise<R: Read, W: Write, A: Allocator + Copy>(
     alloc: A,
     reader: &mut Watched<R>,
@@ -53,9 +53,9 @@ pub fn normalise_limited<R: Read, W: Write, A: Allocator + Copy>(
 /// Whether the bytes that the reader still has are the text that [`normalise`] writes for them.
 /// Reads to the end. It holds the whole input and its text.
 ///
-/// Of a text that `normalise` wrote for a stream that means a writable list, it is true. The error
-/// is `NormaliseError::Read` or `Memory`. Where the reader had not failed before, `Read` comes
-/// exactly where it has.
+/// It is true for a text that `normalise` wrote for a stream that means a writable list. The error
+/// is `NormaliseError::Read` or `Memory`. If the reader had not failed before, `Read` comes exactly
+/// if it has.
 pub fn is_normal<R: Read, A: Allocator + Copy>(
     alloc: A,
     reader: &mut Watched<R>,
@@ -147,8 +147,8 @@ fn read_by<R: Read, A: Allocator>(
     }
 }
 
-/// The normal form of these bytes: what [`normalise`] writes for them, or under a limit what
-/// [`normalise_limited`] writes. The error says that a request for memory was refused.
+/// The normal form of these bytes: the text that [`normalise`] writes for them, or under a limit
+/// the text of [`normalise_limited`]. The error says that a request for memory was refused.
 pub fn normal_text<A: Allocator + Copy>(
     alloc: A,
     bytes: &[u8],

@@ -12,13 +12,12 @@ use esc_parse::Parser;
 use std::alloc::{AllocError, Allocator, Global};
 use std::mem;
 
-/// Takes a stream in whatever chunks it comes, and has for each the text that it adds to the normal
-/// form of the stream so far. The end of the stream adds none: what is unfinished then gives
-/// nothing.
+/// Takes a stream in any chunks, and has for each the text that it adds to the normal form of the
+/// stream so far. The end of the stream adds none: an unfinished segment gives nothing then.
 ///
-/// It keeps what a parser keeps of an unfinished segment, at most the limit where there is one, the
-/// text of the chunk before, and whether a string terminator that comes next ends a string that was
-/// written already.
+/// It keeps the unfinished segment as a parser does, at most the limit if there is one, the text of
+/// the chunk before, and whether a string terminator that comes next ends a string that was written
+/// already.
 #[derive(Drop)]
 pub struct Normaliser<A: Allocator = Global> {
     parser: Parser<A>,
@@ -43,7 +42,7 @@ impl<A: Allocator + Copy> Normaliser<A> {
         }
     }
 
-    /// Takes `bytes`. What they add to the normal form of the stream so far is then the
+    /// Takes `bytes`. The text that they add to the normal form of the stream so far is then the
     /// [`text`](Normaliser::text).
     ///
     /// `ParseError::Memory` says that a request for memory was refused: the text is empty, and from
@@ -64,7 +63,7 @@ impl<A: Allocator + Copy> Normaliser<A> {
         Ok(())
     }
 
-    /// Begins a new stream, with no text. What is unfinished is dropped, and the limit stays. A
+    /// Begins a new stream, with no text. An unfinished segment is dropped, and the limit stays. A
     /// normaliser that has failed stays so.
     pub fn restart(&mut self)
         ensures fed { After self.old (λ limit s. HasConsumed limit [] self.new) }

@@ -1,4 +1,4 @@
-//! The sink that writes what it takes.
+//! The sink that writes the actions that it takes.
 ghost use Rattle.std.specs.Prelude.{◌≡◌, ◌<◌, ◌++◌, [], Ok, OnErr, OnOk, false, true};
 ghost use Rattle.std.specs.List.{list_all};
 ghost use Rattle.esc_values.specs.Clear.{framed_text};
@@ -20,9 +20,9 @@ use esc_write::short_numbers::ShortNumbers;
 use std::alloc::{AllocError, Allocator, Global};
 use std::str;
 
-/// Appends the text of each action to a text: what [`encode`](esc_write::encode) writes for all of
-/// them, without a list of them. Each action that a string terminator ends gets one string
-/// terminator, and one directly after it in the stream is that one.
+/// Appends the text of each action to a text: the text that [`encode`](esc_write::encode) writes
+/// for all of them, without a list of them. Each action that a string terminator ends gets one
+/// string terminator, and one directly after it in the stream is that one.
 #[derive(Drop)]
 pub struct TextSink<A: Allocator = Global> {
     /// The text so far.
@@ -165,7 +165,7 @@ impl<A: Allocator> Sink<Action<A>> for TextSink<A> {
         Ok(())
     }
 
-    // Appends it where its text is that of its parameters.
+    // Appends the sequence if its text is the text of its parameters.
     fn receive_sequence(
         &mut self,
         params: &[CsiParam],
@@ -187,7 +187,7 @@ impl<A: Allocator> Sink<Action<A>> for TextSink<A> {
         }
     }
 
-    // Appends it where it is written as it came.
+    // Appends the command if it is written as it came.
     fn receive_command(&mut self, text: &[u8]) -> Result<bool, AllocError> {
         let Some(text) = verbatim::<A>(text) else {
             return Ok(false);
@@ -198,8 +198,8 @@ impl<A: Allocator> Sink<Action<A>> for TextSink<A> {
         }
     }
 
-    // What follows is as by default, and written out: at the type of an action, a method that is
-    // taken over from the trait costs a proof some seconds more.
+    // The next methods are as by default, and written out: at the type of an action, a method that
+    // is taken over from the trait costs a proof some seconds more.
     #[inline]
     fn drops_sequences(&self, _control: u8) -> bool {
         false

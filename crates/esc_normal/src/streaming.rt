@@ -1,4 +1,4 @@
-//! From a stream to the text of what it means, as it comes.
+//! From a stream to the text of its meaning, as it comes.
 ghost use Rattle.std.specs.Prelude.{IfSome, IsErrOf, OnErr, OnOk};
 ghost use Rattle.esc_normal.specs.Io.{Writes, WritesPrefix, had};
 ghost use Rattle.esc_normal.specs.Normalising.{normal_form};
@@ -12,18 +12,18 @@ use crate::watched::Watched;
 use std::alloc::Allocator;
 use std::io::{Read, Write};
 
-/// Reads to the end, and writes what [`normalise`](crate::normalise) writes, or under a limit what
-/// [`normalise_limited`](crate::normalise_limited) does, as it reads: after each read the normal
+/// Reads to the end, and writes the text of [`normalise`](crate::normalise), or under a limit the
+/// text of [`normalise_limited`](crate::normalise_limited), as it reads: after each read the normal
 /// form of all that was read so far is written and flushed. It holds a chunk of 64 KiB, the text of
-/// one, and what a parser keeps of an unfinished segment, which is at most the limit.
+/// one, and the bytes that a parser keeps of an unfinished segment, which are at most the limit.
 ///
 /// After an error a prefix of the normal form of the stream was written: after `FilterError::Read`
-/// and `Endless` that of all that was read, after `Memory` that of all but what the last read gave,
-/// at most 64 KiB. Where neither had failed before, `Read` comes exactly where the reader has
-/// failed, and `Write` exactly where the writer has. A `write` that takes nothing is a failure.
-/// `Endless` comes after 2^64 - 1 reads, each of at least one byte.
+/// and `Endless` the normal form of all that was read, after `Memory` the normal form of all but
+/// the last read, which gave at most 64 KiB. If neither had failed before, `Read` comes exactly if
+/// the reader has failed, and `Write` exactly if the writer has. A `write` that takes nothing is a
+/// failure. `Endless` comes after 2^64 - 1 reads, each of at least one byte.
 ///
-/// The output must not be what is read, as a file that is appended to itself: it would not end.
+/// The output must not be the input, as a file that is appended to itself: it would not end.
 pub fn normalise_stream<R: Read, W: Write, A: Allocator + Copy>(
     alloc: A,
     reader: &mut Watched<R>,
