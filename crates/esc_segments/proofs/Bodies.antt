@@ -1,5 +1,5 @@
--- What an opener begins: control sequences, device control strings, and the strings without a
--- header.
+-- The segment that an opener begins: control sequences, device control strings, and the strings
+-- without a header.
 use Rattle.std.proofs.Common.{ℕ, ◌≡◌, ◌+◌, ◌-◌, ◌<◌, ◌≤◌, Bool, true, false, nat_lt, List, [], ◌∷◌, ◌++◌, length, take, drop, get_or}
 use Rattle.std.proofs.Common.{refl, ap, sym, ◌∙◌, append_assoc, length-append, length-drop, arith}
 use Rattle.std.specs.List.{prefix_len}
@@ -130,7 +130,7 @@ all_data : (d : List ℕ) (n : ℕ) → n ≡ prefix_len (λ b. in_data (class_o
     → n ≡ length d
 all_data d n e h = let k = prefix_len-le-length (λ b. in_data (class_of b)) d in omega (arith, e, k)
 
--- whether bytes are left, where the run of data ends
+-- whether bytes are left at the end of the run of data
 data_breaks : (d : List ℕ) (n : ℕ) → n ≡ prefix_len (λ b. in_data (class_of b)) d → (w : Bool)
     → nat_lt n (length d) ≡ w → w ≡ breaks (drop n d)
 data_breaks d n e true l =

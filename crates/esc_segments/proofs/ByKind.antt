@@ -1,4 +1,4 @@
--- What the call for its kind gives the actor, of one segment.
+-- The events of one segment that the call for its kind gives the actor.
 use Rattle.std.proofs.Common.{◌≡◌, true, ℕ, List, Result}
 use Rattle.esc_frame.specs.Events.{Event, Takes}
 use Rattle.esc_frame.specs.Memory.{may_grow}
@@ -8,7 +8,7 @@ use Rattle.esc_segments.specs.Items.{IsItem}
 use Rattle.esc_segments.specs.declared.item.Segment.{Segment as Item}
 use Rattle.esc_segments.proofs.Emitted.{takes_by}
 
--- its events, where the item is this segment; `denied` says that memory was refused
+-- its events, if the item is this segment; `denied` says that memory was refused
 pub record IsGiven {S E : Type 0} (denied : Type 0) (takes refuses : S → Event → S → Type 0)
     (item : Item) (after : List ℕ) (result : Result (Unit {0}) E) (old new : S)
     (s : Segment) : Type 0 where

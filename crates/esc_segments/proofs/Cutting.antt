@@ -1,4 +1,4 @@
--- The first segment of what is left, again and again, is the cut.
+-- The first segment of the rest, again and again, is the cut.
 use Rattle.std.proofs.Common.{ℕ, ◌≡◌, ◌==◌, Bool, true, false, List, [], ◌∷◌, ◌++◌, length, take, drop, refl, ap, sym, ◌∙◌, subst, arith}
 use Rattle.std.specs.Prelude.{None}
 use Rattle.std.specs.Iterator.{Drains, Yields}
@@ -12,7 +12,7 @@ use Rattle.esc_segments.specs.Places.{IsFirst}
 use Rattle.esc_segments.specs.Items.{IsItem, IsHead, AreItems, GivesFirst, left_bytes, item_bytes}
 use Rattle.esc_frame.specs.Segments.{Segment, IsCut, HasShape, AreSegments, joined_bytes, bytes_of, is_finished}
 
--- what `has_cut` and `one_cut` say
+-- the statements of `has_cut` and `one_cut`
 abbrev pub HasCut : Type 0
 HasCut = (stream : List ℕ) → (gs : List Segment) × IsCut stream gs
 
@@ -37,7 +37,7 @@ are_more : (g : Segment) (hs : List Segment) → HasShape g (joined_bytes hs)
 are_more g [] s f a = s
 are_more g (h ∷ hs) s f a = (s, f, a)
 
--- what follows is cut, and what comes before it with it
+-- the rest has a cut, and this segment before it is a cut of the whole
 abbrev Rest : Segment → List ℕ → List ℕ → Type 0
 Rest g s t = (hs : List Segment) × IsCut t hs × IsCut s (g ∷ hs)
 

@@ -1,4 +1,4 @@
--- The events of sequences and strings, from those of their parts.
+-- The events of sequences and strings, from the events of their parts.
 use Rattle.std.proofs.Common.{ℕ, ◌≡◌, ◌+◌, ◌-◌, ◌<◌, Bool, true, false, cond, List, [], ◌∷◌, ◌++◌, length, take, drop, get_or}
 use Rattle.std.proofs.Common.{Result, refl, ap, sym, ◌∙◌, subst, append_assoc, length-append, arith}
 use Rattle.std.specs.List.{FoldsTo, prefix_len}
@@ -150,7 +150,7 @@ header_is body x d f run e a h r =
       room = omega (arith, ap length e, length-append x (f ∷ d));
     }
 
--- what holds of the slices holds of them
+-- a property of the slices is a property of the parts
 pub header_moves : (body x d : List ℕ) (f run : ℕ) → Header body x d f run
     → (P : List ℕ → ℕ → List ℕ → Type 0)
     → P (take run body) (get_or body run 0) (take (length body - (run + 1)) (drop (run + 1) body))

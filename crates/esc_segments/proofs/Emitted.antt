@@ -1,4 +1,4 @@
--- What an actor is given, call after call.
+-- The events that an actor is given, call after call.
 use Rattle.std.proofs.Common.{ℕ, ◌≡◌, ◌+◌, ◌<◌, Bool, true, false, List, [], ◌∷◌, ◌++◌, map, length, take, drop, get_or, Result, Ok, Err, refl, ap, sym, ◌∙◌}
 use Rattle.std.proofs.Common.{subst, take-append-drop}
 use Rattle.std.specs.List.{FoldsTo, filter}
@@ -16,7 +16,7 @@ takes_then own takes refuses (Ok v) xs ys old mid new h t = folds_then takes xs 
 takes_then own takes refuses (Err v) xs ys old mid new h t =
     stops_then own takes refuses xs ys old mid new h t
 
--- where the call stops by itself for no reason, it does so for any
+-- if the call has no reason to stop by itself, the same holds with any reason
 pub takes_by : {S E : Type 0} (own : Type 0) (takes refuses : S → Event → S → Type 0)
     (result : Result (Unit {0}) E) (es : List Event) (old new : S)
     → Takes ⊥ takes refuses result old es new → Takes own takes refuses result old es new

@@ -1,4 +1,4 @@
--- Escape sequences, what ESC opens, and what a control of C1 does.
+-- Escape sequences, the segments that ESC opens, and the effect of a control of C1.
 use Rattle.std.proofs.Common.{ℕ, ◌≡◌, ◌+◌, ◌-◌, ◌<◌, ◌≤◌, Bool, true, false, eqb, eqb-true, true≢false, ◌&&◌, if◌then◌else◌, List, [], ◌∷◌, ◌++◌, length, take, drop, get_or}
 use Rattle.std.proofs.Common.{refl, ap, sym, ◌∙◌, subst, append_assoc, take-append-drop, length-append, length-drop, arith}
 use Rattle.std.specs.List.{prefix_len}
@@ -137,7 +137,7 @@ raw (b ∷ s) x l r =
     first_same (b ∷ take (length (b ∷ s) - 1) s) (b ∷ s) x (1 + x.len) (1 + x.len)
     (ap (λ y. b ∷ y) (take_rest (b ∷ s) 1)) refl (r false)
 
--- ---- what a control of C1 does
+-- ---- the effect of a control of C1
 
 raw_from : (b : ℕ) → 0x80 ≤ b → b ≤ 0x9f → is_raw (class_of b) ≡ true
 unfolding class_of
@@ -154,7 +154,7 @@ raw_high b h = grind (arith, nat_tests)
 pub raw_range : (b : ℕ) → is_raw (class_of b) ≡ true → (0x80 ≤ b) × (b ≤ 0x9f)
 raw_range b h = (raw_low b h, raw_high b h)
 
--- what the class says of the number
+-- a byte has the number that its class says
 abbrev fits : ℕ → Class → Bool
 fits b (Introducer k) = eqb b (letter_of k)
 fits b (Breaks (C1Introducer k)) = eqb b (raw_of k)
@@ -246,7 +246,7 @@ raw_opened b body x h f =
     let l = letter_is (b - 0x40) h in
     subst (λ y. IsRaw y body x) (sym (raw_is b l.0 l.1)) (opened_by l.0 body x (f l.0 l.1))
 
--- ---- what ESC opens
+-- ---- the segments that ESC opens
 
 pub escape_opened : (s : List ℕ) (n : ℕ) (x : Found) → n ≡ prefix_len (λ b. is_noise (class_of b)) s
     → n < length s

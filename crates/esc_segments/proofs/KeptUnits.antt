@@ -1,4 +1,4 @@
--- What is left of the text of an operating system command, unit by unit.
+-- The rest of the text of an operating system command, unit by unit.
 use Rattle.std.proofs.Common.{ℕ, ◌≡◌, ◌<◌, ◌≤◌, true, false, List, [], ◌∷◌, ◌++◌, length, take, drop, get_or, refl, ap, sym, ◌∙◌, subst, append_assoc}
 use Rattle.std.proofs.Common.{take-append-drop, arith}
 use Rattle.std.proofs.lemmas.List.{append-nil, drop_all, drop_at, length-take-le}
@@ -33,7 +33,7 @@ osc_no_lead : (c : Class) → in_osc c ≡ true → is_lead c ≡ true → ⊥
 osc_no_lead Lead h l = absurd cc
 osc_no_lead _ h l = absurd cc
 
--- the same text, and what it keeps
+-- the same text, and the bytes that it keeps
 moved : (kept bytes other after t : List ℕ) → bytes ≡ other → IsLeft kept bytes after t
     → IsLeft kept other after t
 moved kept bytes other after t e l = subst (λ y. IsLeft kept y after t) e l
@@ -181,7 +181,7 @@ lead_unit : (kept text after t : List ℕ) → lead_of text ≡ true → IsLeft 
 lead_unit kept text after t h l =
     lead_by kept text after t l.osc_units l.ending h l.over l.whole l.each l.same
 
--- what the code found is that unit
+-- the code found that unit
 whole_unit : (kept text after t : List ℕ) (n : ℕ)
     → begun text ≡ Complete (take n text) (drop n text) → LeadUnit kept text after t
     → IsLeft (kept ++ take n text) (drop n text) after t

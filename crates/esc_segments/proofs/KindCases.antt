@@ -1,4 +1,4 @@
--- What holds of each segment of a kind. One lemma a kind.
+-- The facts about each segment of a kind. One lemma a kind.
 use Rattle.std.specs.Prelude.{ℕ, ◌≡◌, Bool, List}
 use Rattle.esc_frame.specs.declared.classes.Kind.{Kind}
 use Rattle.esc_frame.specs.Segments.{Segment, Opener, OscUnit, Ending}

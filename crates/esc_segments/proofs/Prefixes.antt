@@ -8,11 +8,11 @@ use Rattle.std.proofs.lemmas.List.Sums.{prefix_len-le-length, prefix_len-drop_ye
 use Rattle.esc_frame.specs.declared.classes.Class.{Class}
 use Rattle.esc_frame.specs.Classes.{class_of, AllOf}
 
--- what a loop that looks for the end of a run needs
+-- the lemmas for a loop that looks for the end of a run
 pub ruleset runs =
     (prefix_len-le-length, prefix_len-drop_yes, prefix_len-drop_no, prefix_len-drop_all)
 
--- the longest prefix of a class, and what is after it
+-- the longest prefix of a class, and the bytes after it
 abbrev pub prefix : (Class → Bool) → List ℕ → List ℕ
 prefix test [] = []
 prefix test (b ∷ s) = if test (class_of b) then b ∷ prefix test s else []
@@ -58,7 +58,7 @@ all_prefix : (test : Class → Bool) (s : List ℕ) → AllOf test (prefix test 
 all_prefix test [] = refl
 all_prefix test (b ∷ s) = all_by test b s (test (class_of b)) refl (all_prefix test s)
 
--- the bytes, split where the run ends
+-- the bytes, split at the end of the run
 pub record Split (test : Class → Bool) (s : List ℕ) (n : ℕ) : Type 0 where
   pub parts : s ≡ take n s ++ drop n s
   pub passes : AllOf test (take n s)
@@ -77,7 +77,7 @@ split test s n e = record {
   drops = ap (λ k. drop k s) e ∙ drop_prefix test s;
 }
 
--- where it ends with the bytes, and before them
+-- if it ends with the bytes, and before them
 pub at_end : (s : List ℕ) (n : ℕ) → n ≡ length s → drop n s ≡ []
 at_end s n e = drop_all n s (omega arith)
 

@@ -57,7 +57,7 @@ run_unit text n e h l =
       ),
     )
 
--- what is no unit of one byte, no bell and no breaker, begins a sequence of UTF-8
+-- a byte that is no unit of one byte, no bell and no breaker begins a sequence of UTF-8
 bell_is : (b : ℕ) → class_of b ≡ Bell → b ≡ 0x07
 unfolding class_of
 bell_is b e = grind (arith, nat_tests)

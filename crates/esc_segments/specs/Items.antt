@@ -1,4 +1,4 @@
--- What an iterator over segments gives: the cut of its bytes, each segment as an item.
+-- The items of an iterator over segments: the cut of its bytes, each segment as an item.
 use Rattle.std.specs.Prelude.{ℕ, ◌≡◌, List, [], ◌∷◌, ◌++◌, Option, MatchOption}
 use Rattle.std.specs.List.{flat_map}
 use Rattle.esc_segments.specs.declared.kind.SegmentKind.{SegmentKind}
@@ -27,7 +27,7 @@ kind_of (CutEscape x) = kinds.CutShort
 kind_of (CutCsi o x) = kinds.CutShort
 kind_of (CutDcs o x) = kinds.CutShort
 
--- the item is this segment, where these bytes follow it
+-- the item is this segment, if these bytes follow it
 pub record IsItem (x : Item) (g : Segment) (after : List ℕ) : Type 0 where
   pub kind : x.kind ≡ kind_of g
   pub bytes : x.bytes.now ≡ bytes_of g
@@ -44,7 +44,7 @@ abbrev pub left_bytes : Segments → List ℕ
 left_bytes s = s.rest.now
 
 -- The item is the first segment of this cut of the bytes, and its bytes come first there; the rest
--- is what follows, and its cut.
+-- is the bytes after it, and their cut.
 pub record IsHead (bytes : List ℕ) (gs : List Segment) (x : Item) (after : List ℕ) : Type 0 where
   pub head : Segment
   pub others : List Segment
@@ -53,8 +53,8 @@ pub record IsHead (bytes : List ℕ) (gs : List Segment) (x : Item) (after : Lis
   pub place : bytes ≡ x.bytes.now ++ after
   pub rest : IsCut after others
 
--- A call gives the first segment of the one cut of what was left, and leaves what follows it; or
--- none, where nothing was left.
+-- A call gives the first segment of the one cut of the bytes that were left, and leaves the bytes
+-- after it; or none, if no bytes were left.
 abbrev pub GivesFirst : Segments → Option Item → Segments → Type 0
 GivesFirst s r t = (gs : List Segment) → IsCut (left_bytes s) gs
     → MatchOption r ((gs ≡ []) × (left_bytes t ≡ []))

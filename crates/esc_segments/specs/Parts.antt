@@ -13,8 +13,8 @@ abbrev pub is_over : Ending → Bool
 is_over (Waits f) = false
 is_over _ = true
 
--- These bytes are left of the text of an OSC, which these bytes follow: with what was kept before
--- them, what they keep is t.
+-- These bytes are left of the text of an OSC, and `after` follows the text: with the bytes that
+-- were kept before, they keep t.
 pub record IsLeft (kept bytes after t : List ℕ) : Type 0 where
   pub osc_units : List OscUnit
   pub ending : Ending
@@ -23,13 +23,13 @@ pub record IsLeft (kept bytes after t : List ℕ) : Type 0 where
   pub each : AreOscUnits osc_units (ending_bytes ending ++ after)
   pub same : kept ++ text_of osc_units ≡ t
 
--- The header is that of these bytes but noise, which have its form.
+-- The header is that of these bytes without noise, which have its form.
 pub record HoldsHeader (header : DcsHeader) (bytes : List ℕ) : Type 0 where
   pub kept : KeepsDcs header (without_noise bytes)
   pub formed : is_dcs_header (without_noise bytes) ≡ true
 
--- An actor was given the events of this segment, where these are its bytes and this is whether it
--- is finished. By itself the call stopped only where `own` holds.
+-- An actor was given the events of a segment of these bytes, which is finished or not, as told. The
+-- call stopped by itself only if `own` holds.
 abbrev pub Emits : {S E : Type 0} → Type 0 → (S → Event → S → Type 0) → (S → Event → S → Type 0)
     → Result (Unit {0}) E → S → S → List ℕ → Bool → Segment
     → Type 0

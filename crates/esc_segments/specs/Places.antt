@@ -1,4 +1,4 @@
--- What is found of the segment that comes first in some bytes. Only private contracts cite it.
+-- The segment that is found first in some bytes. Only private contracts cite it.
 use Rattle.std.specs.Prelude.{ℕ, ◌≡◌, ◌+◌, ◌<◌, ◌≤◌, Bool, true, false, List, [], ◌∷◌, ◌++◌, length, slice_index, take, drop}
 use Rattle.esc_segments.specs.declared.kind.SegmentKind.{SegmentKind}
 use Rattle.esc_segments.specs.declared.found.Found.{Found}
@@ -58,7 +58,7 @@ IsSequence bytes ahead.Pending = is_prefix bytes ≡ true
 IsSequence bytes (ahead.Control b) = (is_raw (class_of b) ≡ true) × (take 2 bytes ≡ 0xc2 ∷ b ∷ [])
     × (2 ≤ length bytes)
 
--- what comes first in the text of an OSC
+-- the first unit in the text of an OSC
 abbrev pub IsUnit : List ℕ → TextUnit → Type 0
 IsUnit text (units.Kept n) =
     (0 < n) × (n ≤ length text) × ((ps : List OscUnit) × (text_bytes ps ≡ take n text)

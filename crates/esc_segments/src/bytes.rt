@@ -4,7 +4,7 @@
 ghost use Rattle.std.specs.Prelude.{◌≡◌};
 ghost use Rattle.esc_frame.specs.Classes.{class_of, is_breaker, is_noise, is_c0, is_text, is_put, in_escape, in_csi, in_osc, opens};
 
-/// Whether the byte ends what comes before it: 18, 1A, 1B, 80 to 9F.
+/// Whether the byte ends the segment before it: 18, 1A, 1B, 80 to 9F.
 #[tactic(auto, unfolding(esc_frame::specs::Classes::class_of))]
 #[inline(always)]
 pub fn is_breaker(b: u8) -> bool

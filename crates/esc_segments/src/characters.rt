@@ -8,7 +8,7 @@ ghost use Rattle.esc_frame.specs.Sequences.{is_sequence, number_of};
 
 use esc_frame::utf8::sequence::{Outcome, Pending};
 
-// What replaces what is no character.
+// The character in place of bytes that are no character.
 const REPLACEMENT: char = '\u{fffd}';
 
 /// The character of the bytes, which are one of 20 to 7F or a well-formed sequence.

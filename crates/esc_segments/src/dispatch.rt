@@ -76,7 +76,7 @@ fn intermediates_of(x: &[u8]) -> Intermediates
     kept
 }
 
-/// A control sequence: the controls inside it, and then its dispatch, where its body has its form.
+/// A control sequence: the controls inside it, and then its dispatch, if its body has its form.
 pub fn csi<V: VTActor>(bytes: &[u8], actor: &mut V) -> Result<()>
     requires { V.is_ready actor.old }
     ensures emitted { (finished : Bool) (o : Opener) (x : List ℕ) (f : ℕ)

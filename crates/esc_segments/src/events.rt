@@ -21,10 +21,10 @@ use std::alloc::{AllocError, Allocator};
 /// Gives an actor the events of a segment, by splitting its bytes: those that a parser gives for
 /// it, wherever it comes in a stream.
 ///
-/// The segment is one that [`Segments`](crate::Segments) gave. Of a segment that is unfinished
-/// these are the events so far. Of any other value of the type nothing is said but that the call
-/// returns. It takes memory only for a string, and only while it runs. `AllocError` says that
-/// memory was refused, here or by the actor, after a prefix of the events.
+/// The segment is one that [`Segments`](crate::Segments) gave. If it is unfinished, these are its
+/// events so far. For any other value of the type, the promise is only that the call returns. It
+/// takes memory only for a string, and only while it runs. `AllocError` says that memory was
+/// refused, here or by the actor, after a prefix of the events.
 pub fn segment_events<A: Allocator + Copy, V: VTActor>(
     alloc: A,
     segment: &Segment<'_>,

@@ -32,7 +32,7 @@ pub fn first(bytes: &[u8]) -> Found
     }
 }
 
-// What a byte C2 to F4 begins.
+// The segment that a byte C2 to F4 begins.
 fn character(bytes: &[u8]) -> Found
     requires { HasLead 0 0xc2 0xf4 bytes.now }
     ensures found { IsFirst bytes.now result }
@@ -47,7 +47,7 @@ fn character(bytes: &[u8]) -> Found
     }
 }
 
-// What a control of C1 begins, after the control.
+// The segment that a control of C1 begins, after the control.
 fn control(b: u8, body: &[u8]) -> Found
     requires low { 0x80 ≤ b }
     requires high { b ≤ 0x9f }
@@ -63,7 +63,7 @@ fn control(b: u8, body: &[u8]) -> Found
     }
 }
 
-// What ESC begins, after it.
+// The segment that ESC begins, after it.
 fn escape(rest: &[u8]) -> Found
     ensures found { IsFirst (0x1b ∷ rest.now) (found_further 1 result) }
     ensures few { result.len ≤ length rest.now }

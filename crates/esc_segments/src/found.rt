@@ -6,8 +6,8 @@ ghost use Rattle.esc_segments.specs.Places.{found_further, found_at};
 
 use crate::kind::SegmentKind;
 
-/// A segment that has been found, or what of it follows its opener: its kind, how many bytes it
-/// takes, and whether it is finished.
+/// A segment that has been found, or the part of it after its opener: its kind, the number of its
+/// bytes, and whether it is finished.
 #[derive(Clone, Copy)]
 pub struct Found {
     pub kind: SegmentKind,

@@ -7,11 +7,11 @@ use crate::kind::SegmentKind;
 /// the iterator.
 #[derive(Clone, Copy, PartialEq, Eq, Debug)]
 pub struct Segment<'a> {
-    /// What it is.
+    /// The kind of the segment.
     pub kind: SegmentKind,
-    /// Its bytes, where they lie in the input. They are never empty.
+    /// Its bytes, at their place in the input. They are never empty.
     pub bytes: &'a [u8],
-    /// Whether it is finished: it ends by itself, or what follows it in the input ends it. All but
-    /// the last segment of the input are finished.
+    /// Whether it is finished: it ends by itself, or the bytes after it in the input end it. All
+    /// but the last segment of the input are finished.
     pub finished: bool,
 }

@@ -8,9 +8,8 @@ use crate::item::Segment;
 use esc_frame::laws;
 use std::iter::FusedIterator;
 
-/// The segments of some bytes, in order: those of the one cut of the stream that they are. It takes
-/// no memory, and looks at each byte of a segment once; a segment that the bytes leave unfinished
-/// comes last.
+/// The segments of some bytes, in order: the segments of the stream's one cut. It takes no memory,
+/// and looks at each byte of a segment once; a segment that the bytes leave unfinished comes last.
 #[derive(Clone, Copy)]
 pub struct Segments<'a> {
     rest: &'a [u8],

@@ -1,4 +1,4 @@
-//! What an operating system command keeps of its text.
+//! The bytes that an operating system command keeps of its text.
 #![tactic(auto)]
 
 ghost use Rattle.std.specs.Prelude.{◌≡◌, ◌<◌, ◌≤◌, ◌++◌, IfOk, List, OnErr, ℕ, drop, length, true};
@@ -13,8 +13,8 @@ use std::alloc::{AllocError, Allocator};
 // U+FFFD, in UTF-8.
 const REPLACEMENT: [u8; 3] = [0xef, 0xbf, 0xbd];
 
-/// What a text keeps whose end is known: its bytes 20 to 7F, its well-formed sequences, and U+FFFD
-/// for each broken one.
+/// The bytes that are kept of a whole text: its bytes 20 to 7F, its well-formed sequences, and
+/// U+FFFD for each broken one.
 pub fn kept_text<A: Allocator>(alloc: A, text: &[u8]) -> Result<Vec<u8, A>, AllocError>
     ensures ok { (ps : List OscUnit) (e : Ending) (after : List ℕ)
         → text.now ≡ text_bytes ps ++ ending_bytes e → AreOscUnits ps (ending_bytes e ++ after)
@@ -29,7 +29,7 @@ pub fn kept_text<A: Allocator>(alloc: A, text: &[u8]) -> Result<Vec<u8, A>, Allo
     Ok(kept)
 }
 
-// Appends what is kept of the unit that comes first, and returns its length.
+// Appends the bytes that are kept of the first unit, and returns its length.
 fn keep_unit<A: Allocator>(kept: &mut Vec<u8, A>, text: &[u8]) -> Result<usize, AllocError>
     requires { 0 < length text.now }
     ensures kept { (after t : List ℕ) → IsLeft kept.old.items text.now after t

@@ -1,7 +1,7 @@
 //! Kinds of segments.
 #![tactic(auto)]
 
-/// What a segment is. Bytes are in hexadecimal.
+/// The kind of a segment. Bytes are in hexadecimal.
 #[derive(Clone, Copy, PartialEq, Eq, Debug)]
 pub enum SegmentKind {
     /// A character: 20 to 7F, or a well-formed sequence of UTF-8 that is no control.
@@ -19,13 +19,13 @@ pub enum SegmentKind {
     Terminator,
     /// An escape sequence: ESC, intermediates 20 to 2F and a final byte 30 to 7E.
     Escape,
-    /// A control sequence (ECMA-48, 5.4): CSI, bytes 20 to 3F and a final byte 40 to 7E, also where
+    /// A control sequence (ECMA-48, 5.4): CSI, bytes 20 to 3F and a final byte 40 to 7E, also if
     /// its parameters and intermediates are out of order.
     Csi,
     /// A device control string (ECMA-48, 5.6, as the other strings): DCS, its header up to a final
-    /// byte 40 to 7E, and its data, also where its header is out of order.
+    /// byte 40 to 7E, and its data, also if its header is out of order.
     Dcs,
-    /// An operating system command: OSC, its text, and the BEL that ends it, where one does.
+    /// An operating system command: OSC, its text, and the BEL that ends it, if one does.
     Osc,
     /// An application program command: APC and its bytes.
     Apc,

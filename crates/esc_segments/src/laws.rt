@@ -1,4 +1,4 @@
-//! What the iterator gives, from the first call to the last.
+//! The items that the iterator gives, from the first call to the last.
 #![tactic(auto)]
 
 ghost use Rattle.std.specs.Prelude.{◌≡◌, ◌++◌, ◌∷◌, List};
@@ -15,8 +15,8 @@ pub fn items_are_the_cut()
         → IsCut (left_bytes s) gs → AreItems xs gs }
 {}
 
-/// Each item lies where its bytes are in the input: the bytes of the items before it, its own, and
-/// those of the items after it are the bytes of the iterator.
+/// Each item lies at the place of its bytes in the input: the bytes of the items before it, its
+/// own, and those of the items after it are the bytes of the iterator.
 pub fn items_lie_in_place()
     ensures { (s : Segments) (before : List Item) (x : Item) (after : List Item)
         → Drains GivesFirst s (before ++ x ∷ after)

@@ -3,7 +3,7 @@
 //! [`Segments`] gives the one cut of a stream of bytes into characters, controls, escape sequences
 //! and strings, as the parser of DEC's terminals (<https://vt100.net/emu/dec_ansi_parser>) and
 //! ECMA-48 have them, without dispatching anything: a pager, a linter or an editor can look at the
-//! bytes of each where they lie. [`laws`] says what a whole iteration gives.
+//! bytes of each at their place. [`laws`] says which items a whole iteration gives.
 //!
 //! ```
 //! for segment in Segments::new(b"\x1b[1mbold") {

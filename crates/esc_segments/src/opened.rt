@@ -13,7 +13,7 @@ use crate::kind::SegmentKind;
 use crate::runs::{data_run, header_run};
 use crate::text::osc;
 
-/// What this letter opens, after the opener.
+/// The segment that this letter opens, after the opener.
 pub fn opened(letter: u8, body: &[u8]) -> Found
     ensures found { (k : Kind) → letter ≡ letter_of k → IsOpened k body.now result }
     ensures few { result.len ≤ length body.now }

@@ -1,11 +1,11 @@
-//! Sequences of UTF-8 where they lie in the bytes.
+//! Sequences of UTF-8 at their place in the bytes.
 #![tactic(auto)]
 
 ghost use Rattle.std.specs.Prelude.{◌≡◌, ◌<◌, true, slice_index};
 ghost use Rattle.esc_frame.specs.Sequences.{is_from, is_second};
 ghost use Rattle.esc_segments.specs.Places.{HasLead, IsSequence};
 
-/// What a byte C2 to F4 begins.
+/// The sequence of UTF-8 that a byte C2 to F4 begins.
 #[derive(Clone, Copy)]
 pub enum Ahead {
     /// A well-formed sequence of so many bytes, no control.

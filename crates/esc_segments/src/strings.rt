@@ -89,7 +89,7 @@ fn text_of<A: Allocator>(alloc: A, content: &[u8]) -> Result<Vec<u8, A>>
     fallible_alloc::collect(alloc, content.iter().copied().filter(|b| is_text(*b)))
 }
 
-/// A device control string: the controls in its opener, and where its header has its form the hook,
+/// A device control string: the controls in its opener, and if its header has its form the hook,
 /// its data byte by byte, and once it is finished the unhook.
 pub fn dcs<A: Allocator + Copy, V: VTActor>(
     alloc: A,
@@ -143,7 +143,7 @@ fn emit_dcs<A: Allocator + Copy, V: VTActor>(
     put_and_end(content, finished, actor)
 }
 
-// What the bytes but noise are as a header.
+// The bytes without noise, as a header.
 fn header_of(x: &[u8]) -> DcsHeader
     ensures { KeepsDcs result (without_noise x.now) }
 {

@@ -11,14 +11,14 @@ use crate::kind::SegmentKind;
 use crate::runs::text_run;
 use crate::sequence::{Ahead, sequence_ahead};
 
-/// What comes first in the text.
+/// The first unit of the text.
 #[derive(Clone, Copy)]
 pub enum Unit {
     /// Whole units of the text, so many bytes.
     Kept(usize),
     /// 07, which ends it.
     Bell,
-    /// What ends it before this.
+    /// A breaker, which ends the text before it.
     Breaker,
     /// All bytes are a prefix of a sequence of UTF-8.
     Pending,
