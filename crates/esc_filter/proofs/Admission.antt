@@ -1,4 +1,4 @@
--- What a policy admits, by groups and by kinds of actions.
+-- The actions that a policy admits, by groups and by kinds of actions.
 pub mod PolicyIsKnown
 pub mod ChoicesAdmit
 pub mod GroupsByKey

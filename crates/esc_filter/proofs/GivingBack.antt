@@ -1,4 +1,4 @@
--- What an output leaves changed of a terminal, and what gives it back.
+-- The changes that an output leaves at a terminal, and the values that undo them.
 pub mod GivingBackRestores
 pub mod GivingBackIsWritable
 pub mod RenditionsAfterSequence

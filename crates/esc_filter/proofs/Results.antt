@@ -12,7 +12,7 @@ stops_for R Q why says p (v ∷ vs) q (inr (inl z)) = says p v q z
 stops_for R Q why says p (v ∷ vs) q (inr (inr (mid, t, rest))) =
     stops_for R Q why says mid vs q rest
 
--- a text that grew where the call that makes it grow did not fail
+-- a text that grew if the call that makes it grow did not fail
 pub pushed : {T E X : Type 0} (r : Result T E) (old more new : List ℕ)
     → new ≡ (if is_ok r then old ++ more else old) → (new ≡ old ++ more → X) → OnOk r X
 pushed (Ok t) old more new e f = f e

@@ -10,8 +10,8 @@ is_link_code [] = false
 is_link_code (b ∷ []) = b == 0x38
 is_link_code (b ∷ c ∷ bs) = false
 
--- the parts of the address of a command that has these parts, and no other reading; none where it
--- is no link
+-- the parts of the address of a command that has these parts, and no other reading; none if it is
+-- no link
 abbrev pub address_in : List (List ℕ) → List (List ℕ)
 address_in [] = []
 address_in (p ∷ []) = []

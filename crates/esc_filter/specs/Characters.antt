@@ -1,4 +1,4 @@
--- What is written of characters that deceive, and of carriage returns.
+-- The values that are written for characters that deceive, and for carriage returns.
 use Rattle.std.specs.Prelude.{ℕ, Bool, true, false, ◌&&◌, ◌||◌, if◌then◌else◌, List, [], ◌∷◌, ◌++◌, map, Option, None, Some}
 use Rattle.unicode_visibility.specs.Characters.{is_deceiving, number_text}
 use Rattle.unicode_visibility.specs.Following.{is_stray, may_follow}
@@ -34,28 +34,28 @@ abbrev pub is_return : ControlCode → Bool
 is_return CarriageReturn = true
 is_return _ = false
 
--- what is written of a character that deceives, where this one was written before it
+-- the values that are written for a character that deceives, if this one was written before it
 abbrev pub replacement_values : {A : Type 0} → Unicode → Option ℕ → ℕ → List (Value A)
 replacement_values Keep b c = print c ∷ []
 replacement_values Join b c = if may_follow b c then print c ∷ [] else map print (number_text c)
 replacement_values Show b c = map print (number_text c)
 replacement_values Drop b c = []
 
--- what is written of a carriage return: `^M` where it is shown
+-- the values that are written for a carriage return: `^M` if it is shown
 abbrev pub in_return : {A : Type 0} → Returns → List (Value A)
 in_return way.Keep = control CarriageReturn ∷ []
 in_return way.Show = map print (0x5e ∷ 0x4d ∷ [])
 in_return way.Drop = []
 
--- what is written of a value, where this character was written before it, or none was
+-- the values that are written for a value, if this character was written before it, or none was
 abbrev pub in_guard : {A : Type 0} → Guard → Option ℕ → Value A → List (Value A)
 in_guard g b (print c) = if is_deceiving c then replacement_values g.characters b c else print c
     ∷ []
 in_guard g b (control c) = if is_return c then in_return g.returns else control c ∷ []
 in_guard g b v = v ∷ []
 
--- the character that comes before what comes after these: of a control, a sequence or a string
--- there is none
+-- the character that comes before the values after these: a control, a sequence or a string leaves
+-- none
 abbrev pub character_of : {A : Type 0} → Value A → Option ℕ
 character_of (print c) = Some c
 character_of _ = None
@@ -64,17 +64,17 @@ abbrev pub last_after : {A : Type 0} → Option ℕ → List (Value A) → Optio
 last_after b [] = b
 last_after b (v ∷ vs) = last_after (character_of v) vs
 
--- what is written of values, one after another, of each by what was written before it
+-- the values that are written for values, one after another; each depends on those before it
 abbrev pub each_in_guard : {A : Type 0} → Guard → Option ℕ → List (Value A) → List (Value A)
 each_in_guard g b [] = []
 each_in_guard g b (v ∷ vs) =
     in_guard g b v ++ each_in_guard g (last_after b (in_guard g b v)) vs
 
--- they themselves where all is kept
+-- they themselves if all is kept
 abbrev pub in_values_after : {A : Type 0} → Guard → Option ℕ → List (Value A) → List (Value A)
 in_values_after g b vs = if keeps_all g then vs else each_in_guard g b vs
 
--- what is written of those of a stream
+-- the values that are written for those of a stream
 abbrev pub in_values : {A : Type 0} → Guard → List (Value A) → List (Value A)
 in_values g vs = in_values_after g None vs
 

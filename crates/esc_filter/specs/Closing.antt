@@ -1,4 +1,4 @@
--- What values leave changed at a terminal, and what gives it back.
+-- The changes that values leave at a terminal, and the values that undo them.
 use Rattle.std.specs.Prelude.{ℕ, ◌≡◌, pos, Bool, true, false, not, ◌==◌, ◌&&◌, if◌then◌else◌, List, [], ◌∷◌, ◌++◌, Option, None, Some}
 use Rattle.esc_sequences.specs.Csis.{CsiValue, csi_of, sgr, unspecified}
 use Rattle.esc_sequences.specs.declared.esc.Esc.{Esc}
@@ -26,7 +26,7 @@ use Rattle.esc_filter.specs.declared.terminal.Screen.{Screen}
 use Rattle.esc_filter.specs.declared.terminal.Screen.TheVariants as screen
 use Rattle.esc_filter.specs.declared.terminal.Terminal.{Terminal}
 
--- ---- what is left changed
+-- ---- the changes that are left
 
 -- after a control sequence that has no name of its own
 abbrev pub after_body : List CsiParam → ℕ → Terminal → Terminal
@@ -62,8 +62,8 @@ lights short.Nothing = true
 lights (short.Pair a b) = true
 lights (short.Palette i) = true
 
--- after a sequence of these parameters, where it is known whether renditions are on then, or its
--- function says what it leaves changed
+-- after a sequence of these parameters, if it is known whether renditions are on then, or its
+-- function says which changes it leaves
 abbrev pub noted_terminal : Option Bool → List CsiParam → ℕ → Terminal → Terminal
 noted_terminal None es f t = after_body es f t
 noted_terminal (Some b) es f t = turned_terminal b t
@@ -88,7 +88,7 @@ abbrev pub opens : {A : Type 0} → Option (Hyperlink A) → Bool
 opens None = false
 opens (Some link) = not (is_empty link.uri)
 
--- a semicolon comes last, where `before` says so of what comes before these bytes
+-- a semicolon comes last; `before` says so of the bytes before these
 abbrev pub ends_in_semicolon : Bool → List ℕ → Bool
 ends_in_semicolon before [] = before
 ends_in_semicolon before (b ∷ s) = ends_in_semicolon (b == 0x3b) s
@@ -116,7 +116,7 @@ abbrev pub after_values : {A : Type 0} → List (Value A) → Terminal → Termi
 after_values [] t = t
 after_values (v ∷ vs) t = after_values vs (after_value v t)
 
--- ---- what gives it back
+-- ---- the values that undo them
 
 -- a private mode of this number is reset, or set
 abbrev pub private_mode : {A : Type 0} → ℕ → ℕ → Value A
@@ -171,7 +171,8 @@ states_back t = joined_lists (
     ∷ []
     )
 
--- the margins, with the cursor where it is where it may be saved and restored, and else at home
+-- the margins; the cursor stays at its place if it may be saved and restored, and goes home
+-- otherwise
 abbrev pub without_margins : {A : Type 0} → Bool → List (Value A)
 without_margins true = escape None 0x37 ∷ csi (unspecified [] false 0x72) ∷ escape None 0x38 ∷ []
 without_margins false = csi (unspecified [] false 0x72) ∷ []
@@ -179,7 +180,8 @@ without_margins false = csi (unspecified [] false 0x72) ∷ []
 abbrev pub margins_back : {A : Type 0} → Bool → Terminal → List (Value A)
 margins_back keeps t = if t.margins then without_margins keeps else []
 
--- what is saved with the cursor of the main screen: it is saved anew, by DECSC or by mode 1048
+-- the state that is saved with the cursor of the main screen: it is saved anew, by DECSC or by mode
+-- 1048
 abbrev pub saved_by : {A : Type 0} → Bool → Value A
 saved_by true = escape None 0x37
 saved_by false = private_mode 1048 0x68
@@ -187,13 +189,13 @@ saved_by false = private_mode 1048 0x68
 abbrev pub saved_back : {A : Type 0} → Bool → Terminal → List (Value A)
 saved_back keeps t = give (is_changed_saved t.saved) (saved_by keeps)
 
--- one part, and then others, of what it leaves
+-- one part, and then others, for the state that it leaves
 abbrev pub next : {A : Type 0} → (Terminal → List (Value A)) → (Terminal → List (Value A))
     → Terminal → List (Value A)
 next first others t = first t ++ others (after_values (first t) t)
 
--- What gives back what is left changed, a part after another, each of what those before it leave.
--- The last two go by whether DECSC and DECRC may be written.
+-- The values that undo the changes that are left, one part after another, each for the state that
+-- those before it leave. The last two go by whether DECSC and DECRC may be written.
 abbrev pub given_back : {A : Type 0} → Bool → Terminal → List (Value A)
 given_back keeps =
     next screen_back (next states_back (next (margins_back keeps) (saved_back keeps)))
@@ -202,17 +204,17 @@ given_back keeps =
 abbrev pub keeps_cursor : {A : Type 0} → (Value A → Bool) → Bool
 keeps_cursor admits = admits (escape None 0x37) && admits (escape None 0x38)
 
--- what gives back what these values leave changed, for a policy that admits what `admits` says
+-- the values that undo the changes of these values, for a policy that admits what `admits` says
 abbrev pub closing : {A : Type 0} → (Value A → Bool) → List (Value A) → List (Value A)
 closing admits vs = given_back (keeps_cursor admits) (after_values vs unchanged)
 
--- values, and what gives back what they leave changed
+-- values, and those that undo the changes that they leave
 abbrev pub closed_values : {A : Type 0} → (Value A → Bool) → List (Value A) → List (Value A)
 closed_values admits vs = vs ++ closing admits vs
 
 -- ---- as at the start
 
--- what a terminal is again, once what is left changed was given back
+-- the state of a terminal, once the changes that were left are undone
 pub record IsAtStart (t : Terminal) : Type 0 where
   pub rendition : t.rendition ≡ false
   pub link : t.link ≡ false

@@ -14,7 +14,7 @@ is_number k (P b) = false
 abbrev pub is_conceal : CsiParam → Bool
 is_conceal e = is_number 8 e
 
--- the colour of characters, of their background or of a line under them, of which numbers follow
+-- the colour of characters, of their background or of a line under them, with numbers after it
 abbrev pub begins_color : CsiParam → Bool
 begins_color e = is_number 38 e || (is_number 48 e || is_number 58 e)
 
@@ -54,7 +54,7 @@ begins_part _ = false
 abbrev pub length_of : CsiParam → List CsiParam → ℕ
 length_of e es = if begins_color e then color_length es else part_length e es
 
--- a colour that is not whole: terminals differ in what they take for its numbers
+-- a colour that is not whole: terminals differ in which numbers they take for it
 abbrev pub breaks_off : CsiParam → List CsiParam → Bool
 breaks_off e es = begins_color e && ((color_length es == 0) && not (begins_part es))
 

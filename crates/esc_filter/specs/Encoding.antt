@@ -1,4 +1,4 @@
--- What an encoder wrote.
+-- The text that an encoder wrote.
 use Rattle.std.specs.Prelude.{ℕ, ◌≡◌, false, List, [], ◌∷◌, ◌++◌}
 use Rattle.esc_actions.specs.Texts.{list_text}
 use Rattle.esc_actions.specs.Values.{Value}
@@ -13,7 +13,7 @@ IsNew e = e.follows_string ≡ false
 abbrev pub HasWritten : {A : Type 0} → List (Value A) → Encoder → Type 0
 HasWritten vs e = e.follows_string ≡ ends_in_string false vs
 
--- a text grows by what the list's text grows by with v at its end
+-- a text grows as the list's text does with v at its end
 abbrev pub AddsTo : {A : Type 0} → List (Value A) → Value A → List ℕ → List ℕ → Type 0
 AddsTo vs v old new = (t : List ℕ) × (list_text (vs ++ v ∷ []) ≡ list_text vs ++ t)
     × (new ≡ old ++ t)

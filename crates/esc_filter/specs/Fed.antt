@@ -1,4 +1,4 @@
--- What a filter was fed.
+-- The bytes that a filter was fed.
 use Rattle.std.specs.Prelude.{ℕ, ◌≡◌, Bool, true, false, List, [], ◌∷◌, ◌++◌, Result, Some}
 use Rattle.std.specs.declared.alloc.AllocError.{AllocError}
 use Rattle.esc_values.specs.declared.csi_param.CsiParam.{CsiParam}
@@ -25,17 +25,17 @@ abbrev pub Takes : {A : Type 0} → (Value A → Bool) → Written A → Action 
 Takes admits p a q = (passes admits (value_of a) ≡ true → Notes p a q)
     × (passes admits (value_of a) ≡ false → q ≡ p)
 
--- one that has a text is refused where memory is
+-- an action that has a text is refused if memory is
 abbrev pub Refuses : {P A : Type 0} → Passing P A → Action A → Passing P A → Type 0
 Refuses p a q = WriteDenies p.written a q.written
 
--- what an action makes of what takes those that pass
+-- the effect of an action on the receiver of those that pass
 abbrev pub TakesBy : {P A : Type 0} → (P → Value A → Bool) → Passing P A → Action A → Passing P A
     → Type 0
 TakesBy allows p a q = Takes (allows p.policy.now) p.written a q.written
     × (q.policy.now ≡ p.policy.now)
 
--- what a call promises that may take the values of a control sequence at once
+-- the promises of a call that may take the values of a control sequence at once
 abbrev pub MayTakeSequence : {P A : Type 0} → (P → Value A → Bool) → Passing P A → List CsiParam
     → ℕ → Result Bool AllocError → Passing P A → Type 0
 MayTakeSequence allows p es f result q =
@@ -48,15 +48,15 @@ MayTakeCommand allows p ps result q =
     TakesAtOnce (λ a c. value_of a ≡ osc (command_meant c)) (TakesBy allows) Refuses result p
     (ps ∷ []) q
 
--- The filter, of this limit and of a policy that admits these values, was fed these bytes, where u
--- says what is written of characters that deceive. Where `by_lines`, they are of one line, whose
--- line feed it drops.
+-- The filter, of this limit and of a policy that admits these values, was fed these bytes; u says
+-- how characters that deceive are written. If `by_lines`, they are of one line, whose line feed it
+-- drops.
 abbrev pub HasConsumedIn : {P A : Type 0} → Guard → Bool → ℕ → (Value A → Bool) → List ℕ
     → Filter P A → Type 0
 HasConsumedIn u by_lines limit admits s f = ParserHasConsumedWithin (Some limit) s f.parser
     × HasNoted by_lines u (passed_as u (Some limit) (in_lines by_lines admits) s) f.written
 
--- of a stream that is one, where they are kept
+-- of a stream that is one, if they are kept
 abbrev pub HasConsumed : {P A : Type 0} → ℕ → (Value A → Bool) → List ℕ → Filter P A → Type 0
 HasConsumed limit admits s f = HasConsumedIn keep_all false limit admits s f
 
@@ -72,8 +72,8 @@ added_by f = f.written.spell.text
 abbrev pub policy_of : {P A : Type 0} → Filter P A → P
 policy_of f = f.policy
 
--- this holds of each stream that the filter may have been fed, its limit, what its policy admits,
--- and what is written of characters that deceive
+-- this holds for each stream that the filter may have been fed, its limit, the values that its
+-- policy admits, and the guard for characters that deceive
 abbrev pub AfterIn : {P A : Type 0} → Bool → Admitter P A → Filter P A
     → (Guard → ℕ → (Value A → Bool) → List ℕ → Type 0) → Type 0
 AfterIn by_lines V f C =
@@ -81,7 +81,7 @@ AfterIn by_lines V f C =
     → HasConsumedIn u by_lines limit (V.admits (policy_of f)) s f
     → C u limit (V.admits (policy_of f)) s
 
--- the same where they are kept
+-- the same if they are kept
 abbrev pub After : {P A : Type 0} → Admitter P A → Filter P A
     → (ℕ → (Value A → Bool) → List ℕ → Type 0) → Type 0
 After V f C =
@@ -99,8 +99,8 @@ abbrev pub TakesIn : {P A : Type 0} → Bool → (Value A → Bool) → ℕ → 
     → Type 0
 TakesIn by_lines admits limit s b f = TakesAs keep_all by_lines admits limit s b f
 
--- the stream s has ended, and the filter has what gives back what it left changed; it is at the
--- beginning of the next
+-- the stream s has ended, and the filter has the values that undo the changes that it left; it is
+-- at the beginning of the next
 abbrev pub EndsAs : {P A : Type 0} → Guard → Bool → (Value A → Bool) → ℕ → List ℕ → Filter P A
     → Type 0
 EndsAs u by_lines admits limit s f = HasConsumedIn u by_lines limit admits [] f

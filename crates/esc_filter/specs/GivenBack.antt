@@ -1,4 +1,4 @@
--- The text of what gives back what is left changed.
+-- The text of the values that undo the changes that are left.
 use Rattle.std.specs.Prelude.{ℕ, Bool, true, false, not, ◌&&◌, ◌||◌, if◌then◌else◌, List, [], ◌∷◌, ◌++◌, codes}
 use Rattle.esc_filter.specs.Closing.{joined_lists}
 use Rattle.esc_filter.specs.Terminal.{is_changed_saved, screen_shown, with_cursor}
@@ -6,7 +6,7 @@ use Rattle.esc_filter.specs.declared.terminal.Screen.{Screen}
 use Rattle.esc_filter.specs.declared.terminal.Screen.TheVariants as screen
 use Rattle.esc_filter.specs.declared.terminal.Terminal.{Terminal}
 
--- the text t, where what it gives back is changed
+-- the text t, if its part is changed
 abbrev pub part : Bool → List ℕ → List ℕ
 part b t = if b then t else []
 
@@ -41,7 +41,8 @@ abbrev pub saved_part : Bool → List ℕ
 saved_part true = escape (codes "7")
 saved_part false = sequence (codes "?1048h")
 
--- what is saved with the cursor is given back where it is changed, and the margins do not already
+-- the state that is saved with the cursor is to be restored if it is changed, and the margins do
+-- not already
 abbrev pub is_saved_due : Bool → Terminal → Bool
 is_saved_due keeps t = is_changed_saved t.saved && not (t.margins && keeps)
 

@@ -1,4 +1,4 @@
--- Groups of actions, and what a choice of groups admits.
+-- Groups of actions, and the decisions of a choice of groups.
 use Rattle.std.specs.Prelude.{ℕ, ◌≡◌, Bool, true, false, not, ◌==◌, ◌&&◌, ◌||◌, if◌then◌else◌, List, [], ◌∷◌, get_or, set, Option, Some, None}
 use Rattle.std.specs.List.{list_all, list_any}
 use Rattle.std.specs.Option.{option_map}
@@ -241,8 +241,8 @@ abbrev pub shows : {A : Type 0} → Bool → Value A → Bool
 shows all (osc c) = (not (is_hyperlink c) || is_link c) || all
 shows all v = true
 
--- what a choice of groups admits: what is of one of them, but for links that lead elsewhere, and
--- those with DEL or a character that deceives where other actions do not pass
+-- the values that a choice of groups admits: those of its groups, but for links that lead
+-- elsewhere, and those with DEL or a character that deceives, if other actions do not pass
 abbrev pub admits_groups : {A : Type 0} → Groups → Value A → Bool
 admits_groups g v = leads g.schemes v && (shows (has g group.Other) v && has g (group_of v))
 

@@ -1,4 +1,4 @@
--- What is known of a policy before it is asked.
+-- The known facts about a policy before it is asked.
 use Rattle.std.specs.Prelude.{◌≡◌, Bool, false, true, IsTrue}
 use Rattle.esc_sequences.specs.Csis.{CsiValue}
 use Rattle.esc_sequences.specs.declared.esc.Esc.{Esc}
@@ -31,7 +31,7 @@ abbrev pub ArePassedLinks : {A : Type 0} → (Value A → Bool) → Type 0
 ArePassedLinks {A} admits = (c : OperatingSystemCommand A) → is_link c ≡ true
     → admits (osc c) ≡ true
 
--- What k says holds of a policy that admits these values: of a kind of them, that
+-- The known facts k about a policy that admits these values: for a kind of values, that
 pub record IsKnown {A : Type 0} (admits : Value A → Bool) (k : Known) : Type 0 where
   -- all pass
   pub text : IsTrue k.text → (v : Value A) → is_text v ≡ true → admits v ≡ true

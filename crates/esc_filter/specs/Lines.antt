@@ -1,5 +1,5 @@
--- What is written of a stream whose lines are streams of their own, where u says what is written of
--- what deceives.
+-- The text that is written for a stream whose lines are streams of their own; u says how characters
+-- that deceive are written.
 use Rattle.std.specs.Prelude.{ℕ, ◌≡◌, ◌<◌, ◌⊎◌, Bool, true, false, not, ◌==◌, ◌&&◌, nat_le, nat_lt, if◌then◌else◌, List, [], ◌∷◌, ◌++◌, Some, codes, string_bytes}
 use Rattle.std.specs.List.{list_any, flat_map}
 use lib.Utf8.{scalar}
@@ -30,7 +30,7 @@ has_line_feed s = list_any is_line_feed s
 abbrev pub IsLine : List ℕ → Type 0
 IsLine l = (x : List ℕ) × (has_line_feed x ≡ false) × (l ≡ x ++ 0x0a ∷ [])
 
--- whether a line feed comes last, where `before` says so of what comes before these bytes
+-- whether a line feed comes last; `before` says so of the bytes before these
 abbrev pub ends_line : Bool → List ℕ → Bool
 ends_line before [] = before
 ends_line before (b ∷ s) = ends_line (is_line_feed b) s
@@ -44,12 +44,12 @@ abbrev pub lines : List ℕ → List (List ℕ)
 lines [] = []
 lines (b ∷ s) = if is_line_feed b then (b ∷ []) ∷ lines s else begin_with b (lines s)
 
--- what comes after the last line feed
+-- the bytes after the last line feed
 abbrev pub last_line : List ℕ → List ℕ
 last_line [] = []
 last_line (b ∷ s) = if has_line_feed (b ∷ s) then last_line s else b ∷ s
 
--- what comes before that: the lines that have ended
+-- the bytes before that: the lines that have ended
 abbrev pub ended_lines : List ℕ → List ℕ
 ended_lines [] = []
 ended_lines (b ∷ s) = if has_line_feed (b ∷ s) then b ∷ ended_lines s else []
@@ -59,7 +59,7 @@ ended_lines (b ∷ s) = if has_line_feed (b ∷ s) then b ∷ ended_lines s else
 abbrev pub is_return : ℕ → Bool
 is_return b = b == 0x0d
 
--- whether a carriage return comes last, where `before` says so of what comes before these bytes
+-- whether a carriage return comes last; `before` says so of the bytes before these
 abbrev pub ends_return : Bool → List ℕ → Bool
 ends_return before [] = before
 ends_return before (b ∷ s) = ends_return (is_return b) s
@@ -74,25 +74,25 @@ abbrev pub held : Bool → List ℕ
 held true = 0x0d ∷ []
 held false = []
 
--- what comes before the line feed of a line: its body, and maybe a carriage return, which is a part
+-- the bytes before the line feed of a line: its body, and maybe a carriage return, which is a part
 -- of its end then
 abbrev pub content : List ℕ → List ℕ
 content [] = []
 content (b ∷ s) = if is_line_feed b then [] else b ∷ content s
 
--- ---- what is written
+-- ---- the text that is written
 
--- what passes of a line but its line feed
+-- the values of a line that pass, but for its line feed
 abbrev pub passed_of_line : {A : Type 0} → Guard → ℕ → (Value A → Bool) → List ℕ → List (Value A)
 passed_of_line u limit admits l = passed_as u (Some limit) (in_lines true admits) l
 
--- what passes of a line with this content: of its body and its line feed
+-- the values that pass of a line with this content: of its body and its line feed
 abbrev pub passed_of_content : {A : Type 0} → Guard → ℕ → (Value A → Bool) → List ℕ
     → List (Value A)
 passed_of_content u limit admits x = passed_of_line u limit admits (body x ++ 0x0a ∷ [])
 
--- the end of a line: a line feed, and before it the carriage return where there is one and these
--- are admitted
+-- the end of a line: a line feed, and before it the carriage return if there is one and these are
+-- admitted
 abbrev pub end_values : {A : Type 0} → (Value A → Bool) → Bool → List (Value A)
 end_values admits r =
     if r && admits (control CarriageReturn)
@@ -101,9 +101,9 @@ end_values admits r =
 abbrev pub end_text : {A : Type 0} → (Value A → Bool) → Bool → List ℕ
 end_text admits r = if r && admits (control CarriageReturn) then 0x0d ∷ 0x0a ∷ [] else 0x0a ∷ []
 
--- What is written of a line, which is a stream of its own: what passes of it, and where its line
--- feed has come, what gives back what that leaves changed, and its end. A carriage return that
--- comes last is not written before the byte after it says whether it is a part of the end.
+-- The text of a line, which is a stream of its own: the values that pass, and if its line feed has
+-- come, those that undo the changes that these leave, and its end. A carriage return that comes
+-- last is not written before the byte after it says whether it is a part of the end.
 abbrev pub line_text : {A : Type 0} → Guard → ℕ → (Value A → Bool) → List ℕ → List ℕ
 line_text u limit admits l =
     if ends_line false l then
@@ -111,7 +111,7 @@ line_text u limit admits l =
     ++ end_text admits (ends_return false (content l))
     else list_text (passed_of_line u limit admits (body l))
 
--- the text of a stream: that of its lines, one after another
+-- the text of a stream: the texts of its lines, one after another
 abbrev pub text_by_lines_as : {A : Type 0} → Guard → ℕ → (Value A → Bool) → List ℕ → List ℕ
 text_by_lines_as {A} u limit admits s = flat_map (line_text {A = A} u limit admits) (lines s)
 
@@ -145,8 +145,8 @@ IsShortRendition x b = (y : List ℕ) × (((x ≡ 0x1b ∷ 0x5b ∷ y) × IsNumb
     ⊎ (((x ≡ 0x1b ∷ 0x5b ∷ (codes "38;5;" ++ y)) ⊎ (x ≡ 0x1b ∷ 0x5b ∷ (codes "48;5;" ++ y)))
     × (b ≡ true) × ((c : Bool) × IsNumber y c)))
 
--- what is written of the last line, without a line feed, once the stream has ended: what passes of
--- all of it, and what gives back what that leaves changed
+-- the values that are written for the last line, without a line feed, once the stream has ended:
+-- the values that pass of all of it, and those that undo the changes that these leave
 abbrev pub last_values : {A : Type 0} → Guard → ℕ → (Value A → Bool) → List ℕ → List (Value A)
 last_values u limit admits s = closed_values admits (passed_of_line u limit admits (last_line s))
 
@@ -155,7 +155,7 @@ abbrev pub closed_by_lines_as : {A : Type 0} → Guard → ℕ → (Value A → 
 closed_by_lines_as u limit admits s =
     text_by_lines_as u limit admits (ended_lines s) ++ list_text (last_values u limit admits s)
 
--- what the text of a line means
+-- the meaning of the text of a line
 abbrev pub line_values : {A : Type 0} → Guard → ℕ → (Value A → Bool) → List ℕ → List (Value A)
 line_values u limit admits l =
     if ends_line false l then normal
@@ -163,7 +163,7 @@ line_values u limit admits l =
     ++ end_values admits (ends_return false (content l))
     else normal (passed_of_line u limit admits (body l))
 
--- the text of a stream that has ended, or goes on, and what it means
+-- the text of a stream that has ended, or goes on, and its meaning
 abbrev pub lines_text_as : {A : Type 0} → Bool → Guard → ℕ → (Value A → Bool) → List ℕ → List ℕ
 lines_text_as true u limit admits s = closed_by_lines_as u limit admits s
 lines_text_as false u limit admits s = text_by_lines_as u limit admits s
@@ -175,18 +175,18 @@ lines_values_as true u limit admits s =
     ++ normal (last_values u limit admits s)
 lines_values_as false u limit admits s = flat_map (line_values u limit admits) (lines s)
 
--- What holds of the text t that a filter wrote for the lines of the stream s, which has ended, or
+-- The facts about the text t that a filter wrote for the lines of the stream s, which has ended, or
 -- goes on:
 pub record IsFilteredByLinesAs {A : Type 0} (has_ended : Bool) (u : Guard) (limit : ℕ)
     (admits : Value A → Bool) (s t : List ℕ) : Type 0 where
-  -- it is the text of what passes of each line
+  -- it is the text of the values that pass of each line
   pub text : t ≡ lines_text_as has_ended u limit admits s
   -- it reads back as that, line by line, and as nothing else
   pub reads_back : meaning t ≡ lines_values_as has_ended u limit admits s
   -- whatever bytes follow it, it reads so, and they read as they do by themselves
   pub whatever_follows : Reads t (lines_values_as has_ended u limit admits s)
 
--- the same where characters that deceive are kept
+-- the same if characters that deceive are kept
 abbrev pub text_by_lines : {A : Type 0} → ℕ → (Value A → Bool) → List ℕ → List ℕ
 text_by_lines limit admits s = text_by_lines_as keep_all limit admits s
 
@@ -201,9 +201,10 @@ abbrev pub IsFilteredByLines : {A : Type 0} → Bool → ℕ → (Value A → Bo
 IsFilteredByLines has_ended limit admits s t =
     IsFilteredByLinesAs has_ended keep_all limit admits s t
 
--- The filter, of this limit and of a policy that admits these values, was fed these bytes, where u
--- says what is written of what deceives: lines that have ended, and then the rest of one, which is
--- all that its filter was fed but for a carriage return that comes last and is held back.
+-- The filter, of this limit and of a policy that admits these values, was fed these bytes; u says
+-- how characters that deceive are written. The bytes are lines that have ended, and then the rest
+-- of one. The inner filter was fed all of the rest, but for a carriage return that comes last and
+-- is held back.
 pub record HasConsumedLines {P A : Type 0} (u : Guard) (limit : ℕ) (admits : Value A → Bool)
     (s : List ℕ) (f : LineFilter P A) : Type 0 where
   pub ended : List ℕ
@@ -215,15 +216,15 @@ pub record HasConsumedLines {P A : Type 0} (u : Guard) (limit : ℕ) (admits : V
   pub holds : f.holds ≡ ends_return false rest
   pub unfailed : f.has_failed ≡ false
 
--- what the bytes fed last added
+-- the text that the bytes fed last added
 abbrev pub added_by : {P A : Type 0} → LineFilter P A → List ℕ
 added_by f = string_bytes f.text
 
 abbrev pub policy_of_lines : {P A : Type 0} → LineFilter P A → P
 policy_of_lines f = policy_of f.filter
 
--- this holds of each stream that the filter may have been fed, its limit, and what its policy
--- admits
+-- this holds for each stream that the filter may have been fed, its limit, and the values that its
+-- policy admits
 abbrev pub AfterLines : {P A : Type 0} → Admitter P A → LineFilter P A
     → (Guard → ℕ → (Value A → Bool) → List ℕ → Type 0) → Type 0
 AfterLines V f C =
@@ -259,8 +260,8 @@ EndsBy u admits limit s old new =
 
 -- ---- the last line
 
--- this holds of each line that the filter of the last one was fed, of its limit, and of what its
--- policy admits
+-- this holds for each line that the filter of the last one was fed, for its limit, and for the
+-- values that its policy admits
 abbrev pub OnLine : {P A : Type 0} → Admitter P A → LineFilter P A
     → (Guard → ℕ → (Value A → Bool) → List ℕ → Type 0) → Type 0
 OnLine V f C =
@@ -268,7 +269,7 @@ OnLine V f C =
     → HasConsumedIn u true limit (V.admits (policy_of_lines f)) l f.filter
     → C u limit (V.admits (policy_of_lines f)) l
 
--- the same of each that may have come, of which a carriage return that comes last is held back
+-- the same for each line that may have come; a carriage return at its end is held back
 abbrev pub OnRest : {P A : Type 0} → Admitter P A → LineFilter P A
     → (Guard → ℕ → (Value A → Bool) → List ℕ → Type 0) → Type 0
 OnRest V f C =
@@ -277,7 +278,7 @@ OnRest V f C =
     → f.holds ≡ ends_return false r → C u limit (V.admits (policy_of_lines f)) r
 
 -- the filter of the last line, which was fed l, was fed more, so that it is m, and the text grew by
--- what that adds
+-- the text that this adds
 abbrev pub GrowsTo : {P A : Type 0} → Guard → (Value A → Bool) → ℕ → List ℕ → List ℕ
     → LineFilter P A → LineFilter P A → Type 0
 GrowsTo {P} {A} u admits limit l m old new =
@@ -292,7 +293,7 @@ abbrev pub GrowsLine : {P A : Type 0} → Guard → (Value A → Bool) → ℕ �
     → LineFilter P A → LineFilter P A → Type 0
 GrowsLine u admits limit l b old new = GrowsTo u admits limit l (l ++ b) old new
 
--- what came of the last line, which was r, is r and x now
+-- the last line so far, which was r, is r and x now
 abbrev pub GrowsRest : {P A : Type 0} → Guard → (Value A → Bool) → ℕ → List ℕ → List ℕ
     → LineFilter P A → LineFilter P A → Type 0
 GrowsRest u admits limit r x old new = GrowsTo u admits limit (body r) (body (r ++ x)) old new
@@ -305,7 +306,8 @@ FillsLine u admits limit r x old new =
     GrowsTo u admits limit (body r) (body (r ++ x) ++ 0x0a ∷ []) old new
     × (new.holds ≡ ends_return false (r ++ x))
 
--- the last line, which was l, is closed, and the text grew by what gives back what it left changed
+-- the last line, which was l, is closed, and the text grew by the text that undoes the changes that
+-- it left
 abbrev pub ClosesLine : {P A : Type 0} → Guard → (Value A → Bool) → ℕ → List ℕ → LineFilter P A
     → LineFilter P A → Type 0
 ClosesLine {P} {A} u admits limit l old new =

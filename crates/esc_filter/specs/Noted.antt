@@ -1,4 +1,4 @@
--- What an action makes of what writes it.
+-- The effect of an action on the writer of actions.
 use Rattle.std.specs.Prelude.{ℕ, ◌≡◌, ◌⊎◌, Bool, false, true, ◌&&◌, if◌then◌else◌, List, [], ◌∷◌, ◌++◌, Option, None}
 use Rattle.std.specs.List.{list_all, list_any}
 use Rattle.esc_values.specs.declared.csi_param.CsiParam.{CsiParam}
@@ -25,32 +25,32 @@ use Rattle.esc_filter.specs.declared.written.Written.{Written}
 abbrev pub without_text : {A : Type 0} → Written A → Written A
 without_text w = record w { spell = record w.spell { text = [] } }
 
--- the text of these values was appended, and what they leave changed noted
+-- the text of these values was appended, and the changes that they leave were noted
 abbrev pub Writes : {A : Type 0} → Written A → List (Value A) → Written A → Type 0
 Writes p vs q = (q.spell.text ≡ p.spell.text ++ texts_after p.spell.follows_string vs)
     × (q.spell.follows_string ≡ ends_in_string p.spell.follows_string vs)
     × (q.left ≡ after_values vs p.left) × (q.by_lines ≡ p.by_lines) × (q.guard ≡ p.guard)
     × (q.before ≡ last_after p.before vs) × (q.pen ≡ pen_after vs p.pen)
 
--- what is written of a value, where this character was written before it: nothing of a line feed
--- where lines are streams of their own
+-- the values that are written for a value, if this character was written before it: none for a line
+-- feed if lines are streams of their own
 abbrev pub written_of : {A : Type 0} → Bool → Guard → Option ℕ → Value A → List (Value A)
 written_of b u before v = if is_line_feed v && b then [] else in_guard u before v
 
--- that was done for what is written of the action
+-- that was done for the values that are written for the action
 abbrev pub Notes : {A : Type 0} → Written A → Action A → Written A → Type 0
 Notes p a q = Writes p (written_of p.by_lines p.guard p.before (value_of a)) q
 
--- each of these characters is written as it is, where this one was written before them
+-- each of these characters is written as it is, if this one was written before them
 abbrev pub AreKept : Guard → Option ℕ → List ℕ → Type 0
 AreKept u b xs = (u.characters ≡ Keep) ⊎ ((list_any is_deceiving xs ≡ false)
     ⊎ ((u.characters ≡ Join) × (has_stray b xs ≡ false)))
 
--- an action that has a text is refused where memory is
+-- an action that has a text is refused if memory is
 abbrev pub WriteDenies : {A : Type 0} → Written A → Action A → Written A → Type 0
 WriteDenies p a q = Denies p.spell a q.spell
 
--- it wrote these values, by lines or not, where u says what is written of characters that deceive
+-- it wrote these values, by lines or not; u says how characters that deceive are written
 abbrev pub HasNoted : {A : Type 0} → Bool → Guard → List (Value A) → Written A → Type 0
 HasNoted b u vs w = (w.spell.follows_string ≡ ends_in_string false vs)
     × (w.left ≡ after_values vs unchanged) × (w.by_lines ≡ b) × (w.guard ≡ u)

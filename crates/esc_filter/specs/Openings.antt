@@ -11,7 +11,7 @@ use Rattle.esc_filter.specs.declared.terminal.Terminal.{Terminal}
 use Rattle.esc_filter.specs.Pens.{pen_after, start_pen, text_of_pen}
 use Rattle.esc_pen.specs.declared.pen.Pen.{Pen}
 
--- the control sequences that make the renditions which are on, where any may be
+-- the control sequences that make the renditions which are on, if any may be
 abbrev pub opening : Terminal → Option Pen → List ℕ
 opening t p = if t.rendition then text_of_pen p else []
 
@@ -28,7 +28,7 @@ abbrev pub is_blank : List ℕ → Bool
 is_blank [] = false
 is_blank (b ∷ s) = is_line_feed b
 
--- those that are on after lines, where these were before them: a blank line leaves them
+-- those that are on after lines, if these were before them: a blank line leaves them
 abbrev pub opening_after : {A : Type 0} → Guard → ℕ → (Value A → Bool) → List ℕ → List (List ℕ)
     → List ℕ
 opening_after u limit admits o [] = o
@@ -36,7 +36,7 @@ opening_after u limit admits o (l ∷ ls) =
     opening_after u limit admits
     (if is_blank l then o else opening_of u limit admits (content l)) ls
 
--- those that are on after the lines of a stream, where they are written again
+-- those that are on after the lines of a stream, if they are written again
 abbrev pub opening_at : {A : Type 0} → Bool → Guard → ℕ → (Value A → Bool) → List ℕ → List ℕ
 opening_at true u limit admits d = opening_after u limit admits [] (lines d)
 opening_at false u limit admits d = []
@@ -48,8 +48,8 @@ abbrev pub opening_before : {A : Type 0} → Bool → Guard → ℕ → (Value A
 opening_before k u limit admits d b =
     if ends_line true d && not (is_line_feed b) then opening_at k u limit admits d else []
 
--- The stream d, and then bytes, where each line but a blank one begins with the renditions that the
--- lines before it, as they are written, leave on; or, where k is false, as they came
+-- The stream d, and then bytes; each line but a blank one begins with the renditions that the lines
+-- before it, as they are written, leave on; or, if k is false, the bytes as they came
 abbrev pub resumed_from : {A : Type 0} → Bool → Guard → ℕ → (Value A → Bool) → List ℕ → List ℕ
     → List ℕ
 resumed_from k u limit admits d [] = d
@@ -59,8 +59,8 @@ resumed_from k u limit admits d (b ∷ s) =
 abbrev pub resumed : {A : Type 0} → Bool → Guard → ℕ → (Value A → Bool) → List ℕ → List ℕ
 resumed k u limit admits s = resumed_from k u limit admits [] s
 
--- What is written of a stream whose lines are streams of their own, and begin with the renditions
--- that go on; and of one that has ended.
+-- The text that is written for a stream whose lines are streams of their own, and begin with the
+-- renditions that go on; and for one that has ended.
 abbrev pub resumed_text : {A : Type 0} → Bool → Guard → ℕ → (Value A → Bool) → List ℕ → List ℕ
 resumed_text {A} k u limit admits s =
     text_by_lines_as {A = A} u limit admits (resumed k u limit admits s)
@@ -69,7 +69,7 @@ abbrev pub resumed_closed : {A : Type 0} → Bool → Guard → ℕ → (Value A
 resumed_closed {A} k u limit admits s =
     closed_by_lines_as {A = A} u limit admits (resumed k u limit admits s)
 
--- lines that have ended, and of which none leaves renditions on, where none were on before them
+-- lines that have ended, none of which leaves renditions on, if none were on before them
 abbrev pub AreQuiet : {A : Type 0} → Guard → ℕ → (Value A → Bool) → List (List ℕ) → Type 0
 AreQuiet u limit admits [] = Unit {0}
 AreQuiet u limit admits (l ∷ ls) =
@@ -80,12 +80,12 @@ abbrev pub IsQuiet : {A : Type 0} → Guard → ℕ → (Value A → Bool) → L
 IsQuiet u limit admits s =
     (ls : List (List ℕ)) × (s ≡ joined_lists ls) × AreQuiet u limit admits ls
 
--- whatever is written of what deceives, and whatever the limit is
+-- whatever is written for characters that deceive, and whatever the limit is
 abbrev pub LeavesNone : {A : Type 0} → (Value A → Bool) → List ℕ → Type 0
 LeavesNone admits s = (u : Guard) (limit : ℕ) → IsQuiet u limit admits s
 
--- Lines that have ended, in UTF-8, which are written as they are wherever all text passes, and
--- where r also all renditions, and which leave none on
+-- Lines that have ended, in UTF-8, which are written as they are if all text passes, and, if r,
+-- also all renditions, and which leave none on
 abbrev pub ArePlainLines : Type 0 → Bool → List ℕ → Type 0
 ArePlainLines A r s = IsUtf8 s × (ends_line true s ≡ true)
     × ((u : Guard) (limit : ℕ) (admits : Value A → Bool) → IsPassedText admits

@@ -1,4 +1,4 @@
--- The renditions that are known to be on, where they are noted.
+-- The renditions that are known to be on, if they are noted.
 use Rattle.std.specs.Prelude.{ℕ, ◌==◌, ◌&&◌, Bool, true, false, if◌then◌else◌, List, [], ◌∷◌, Option, None, Some}
 use Rattle.std.specs.List.{list_all}
 use Rattle.std.specs.Option.{option_map}
@@ -15,7 +15,7 @@ use Rattle.typed_functions.specs.declared.rendition.Rendition.{Rendition}
 use Rattle.typed_functions.specs.declared.rendition.Rendition.TheVariants as rendition
 use Rattle.esc_filter.specs.Rules.{is_plain_param}
 
--- none are at the start; they are noted where lines are streams of their own
+-- none are at the start; they are noted if lines are streams of their own
 abbrev pub start_pen : Bool → Option Pen
 start_pen true = Some plain_pen
 start_pen false = None
@@ -43,7 +43,7 @@ abbrev pub pen_after_sequence : CsiValue → Option Pen → Option Pen
 pen_after_sequence (sgr s) p = pen_with (rendition_of s) p
 pen_after_sequence (unspecified es more f) p = pen_after_body es f p
 
--- after one of which the final byte says whether it is renditions
+-- after a control sequence; its final byte says whether it is renditions
 abbrev pub pen_after_final : List CsiParam → ℕ → Option Pen → Option Pen
 pen_after_final es f p = if f == 0x6d then pen_selected es p else p
 

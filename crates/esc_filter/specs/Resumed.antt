@@ -1,4 +1,4 @@
--- What a filter was fed that writes renditions again which go on over a line feed.
+-- The bytes that a filter was fed, which writes renditions again if they go on over a line feed.
 use Rattle.std.specs.Prelude.{ℕ, ◌≡◌, ◌<◌, Bool, true, false, not, if◌then◌else◌, List, [], ◌++◌, length, string_bytes}
 use Rattle.esc_actions.specs.Values.{Value}
 use Rattle.esc_filter.specs.Lines.{EndsLine, GrowsBy, HasConsumedLines, added_by as added_by_lines, ends_line, passed_of_line, policy_of_lines}
@@ -7,8 +7,8 @@ use Rattle.esc_filter.specs.declared.admit.Admit.{Ghosts as Admitter}
 use Rattle.esc_filter.specs.declared.guard.Guard.{Guard}
 use Rattle.esc_filter.specs.declared.resuming.ResumingFilter.{ResumingFilter}
 
--- Where k, it writes them again: after the stream d it knows whether the last line has begun, and
--- what is written where one begins.
+-- If k, it writes them again: after the stream d it knows whether the last line has begun, and the
+-- renditions to write at the beginning of a line.
 pub record IsMarked {P A : Type 0} (k : Bool) (u : Guard) (limit : ℕ) (admits : Value A → Bool)
     (d : List ℕ) (f : ResumingFilter P A) : Type 0 where
   pub resumes : f.resumes ≡ k
@@ -23,15 +23,15 @@ pub record ResumedHasConsumed {P A : Type 0} (k : Bool) (u : Guard) (limit : ℕ
   pub fed : HasConsumedLines u limit admits (resumed k u limit admits s) f.lines
   pub marks : IsMarked k u limit admits (resumed k u limit admits s) f
 
--- what the bytes fed last added
+-- the text that the bytes fed last added
 abbrev pub added_by : {P A : Type 0} → ResumingFilter P A → List ℕ
 added_by f = added_by_lines f.lines
 
 abbrev pub policy_of_resuming : {P A : Type 0} → ResumingFilter P A → P
 policy_of_resuming f = policy_of_lines f.lines
 
--- this holds of each stream that the filter may have been fed, its limit, and what its policy
--- admits
+-- this holds for each stream that the filter may have been fed, its limit, and the values that its
+-- policy admits
 abbrev pub AfterResumed : {P A : Type 0} → Admitter P A → ResumingFilter P A
     → (Bool → Guard → ℕ → (Value A → Bool) → List ℕ → Type 0) → Type 0
 AfterResumed V f C =
@@ -65,20 +65,20 @@ OnStream V f C =
     → IsMarked k u limit (V.admits (policy_of_resuming f)) d f
     → C k u limit (V.admits (policy_of_resuming f)) d
 
--- the filter of lines, which was fed d, was fed x too, and its text grew by what that adds
+-- the filter of lines, which was fed d, was fed x too, and its text grew by the text that this adds
 abbrev pub GrowsWith : {P A : Type 0} → Bool → Guard → (Value A → Bool) → ℕ → List ℕ → List ℕ
     → ResumingFilter P A → ResumingFilter P A → Type 0
 GrowsWith k u admits limit d x old new =
     GrowsBy u admits limit d x old.lines new.lines × IsMarked k u limit admits (d ++ x) new
 
--- it was fed what comes of these bytes after d
+-- it was fed the bytes that these bytes after d give
 abbrev pub GrowsResumed : {P A : Type 0} → Bool → Guard → (Value A → Bool) → ℕ → List ℕ → List ℕ
     → ResumingFilter P A → ResumingFilter P A → Type 0
 GrowsResumed k u admits limit d b old new = (x : List ℕ)
     × (resumed_from k u limit admits d b ≡ d ++ x) × GrowsWith k u admits limit d x old new
 
--- the last line came to its end by these bytes, after which the renditions are known that it leaves
--- on, where it is not blank
+-- the last line came to its end by these bytes; then the renditions that it leaves on are known, if
+-- it is not blank
 abbrev pub EndsWith : {P A : Type 0} → Guard → (Value A → Bool) → ℕ → List ℕ → List ℕ
     → ResumingFilter P A → ResumingFilter P A → Type 0
 EndsWith u admits limit d b old new = GrowsBy u admits limit d b old.lines new.lines

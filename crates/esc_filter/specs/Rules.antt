@@ -1,4 +1,4 @@
--- What the policies admit.
+-- The actions that the policies admit.
 use Rattle.std.specs.Prelude.{ℕ, ◌≡◌, ◌≢◌, ◌≤◌, Bool, true, false, not, pos, negsuc, ◌==◌, ◌&&◌, ◌||◌, List, [], ◌∷◌, Option, Some, None}
 use Rattle.std.specs.List.{list_all, list_any}
 use Rattle.std.specs.Str.{chars}
@@ -105,7 +105,7 @@ is_color (csi c) = is_rendition c
 is_color (osc c) = is_link c
 is_color _ = false
 
--- Screen: what moves the cursor, erases, scrolls, and changes what is shown.
+-- Screen: actions that move the cursor, erase, scroll, and change the text on the screen.
 
 -- a C0 control that changes the screen alone, or BEL, SO or SI
 abbrev pub is_screen_control : ℕ → Bool
@@ -140,9 +140,9 @@ is_shape [] = false
 is_shape (Integer n ∷ es) = is_lone is_space es
 is_shape (P b ∷ es) = is_lone is_space (P b ∷ es)
 
--- whether a function with these parameters changes the screen alone. Modes do where one is set or
--- reset, and of private ones where all are, of which the table of modes says it; a shape of the
--- cursor where it is one number. Of any other function its row says it, whatever its parameters are
+-- whether a function with these parameters changes the screen alone. Modes do if one is set or
+-- reset, and private modes if the table of modes says so of all; a shape of the cursor does if it
+-- is one number. For any other function its row says it, whatever its parameters are
 unfoldable pub changes_with : ControlFunction → List CsiParam → Bool
 changes_with function.SM es = is_lone is_mode es
 changes_with function.RM es = is_lone is_mode es
@@ -168,7 +168,7 @@ is_common_set (esc_variant.Unspecified i f) = (f == 0x30) || ((f == 0x41) || (f 
 is_common_set (esc_variant.Code c) = false
 
 -- whether an escape sequence of this function changes the screen alone: the designation of G0 to G3
--- where the set is one of these, and any other where its row says it
+-- if the set is one of these, and any other if its row says so
 unfoldable pub escape_changes_with : EscapeFunction → Esc → Bool
 escape_changes_with escape_function.GZD4 e = is_common_set e
 escape_changes_with escape_function.G1D4 e = is_common_set e
@@ -206,7 +206,7 @@ is_screen (csi c) = is_screen_sequence c
 is_screen (osc c) = is_palette c
 is_screen _ = false
 
--- what a policy admits: each all that the one before it does
+-- the values that a policy admits: each admits all that the one before it does
 abbrev pub admits : {A : Type 0} → Policy → Value A → Bool
 admits policy.Text v = is_text v
 admits policy.Color v = is_text v || is_color v

@@ -35,13 +35,13 @@ is_comma b = b == 0x2c
 abbrev pub has_one_scheme : List ℕ → List ℕ → Bool
 has_one_scheme address schemes = list_any (has_scheme address) (slice_split is_comma schemes)
 
--- the same of an address in parts, of which the scheme is in the first; or they are none
+-- the same for an address in parts, with the scheme in the first; or there are no parts
 abbrev pub parts_lead : List (List ℕ) → List ℕ → Bool
 parts_lead [] schemes = true
 parts_lead (u ∷ us) schemes = not (is_address (u ∷ us)) || has_one_scheme u schemes
 
 -- no link, the end of one, as a link without an address is, or a link to an address with one of the
--- schemes, where there are some
+-- schemes, if there are some
 abbrev pub link_leads : {A : Type 0} → Option (Bor (List ℕ)) → OperatingSystemCommand A → Bool
 link_leads (Some schemes) (command.SetHyperlink (Some link)) =
     is_empty link.uri || has_one_scheme link.uri schemes.now

@@ -63,20 +63,20 @@ are_changed_sets s = s.shifted || (s.g0 || (s.g1 || (s.g2 || s.g3)))
 abbrev pub is_changed_saved : Saved → Bool
 is_changed_saved s = s.rendition || (s.origin || are_changed_sets s.sets)
 
--- a mode of what is shown, or margins
+-- a mode of the screen, or margins
 abbrev pub is_changed_mode : Terminal → Bool
 is_changed_mode t =
     t.insert || (t.origin || (t.margins || (t.sides || (t.hidden || (t.reverse || (t.no_wrap
     || t.held))))))
 
--- Whether anything is changed, but for what is saved on the alternate screen and what XTSAVE kept,
--- which only who uses these sees
+-- Whether anything is changed, but for the state saved on the alternate screen and the modes that
+-- XTSAVE kept, which only a user of these sees
 abbrev pub is_changed : Terminal → Bool
 is_changed t =
     t.rendition || (t.link || (not (is_main t.screen) || (is_changed_mode t
     || (are_changed_sets t.sets || is_changed_saved t.saved))))
 
--- ---- what is saved with the cursor (DECSC and DECRC, in the manual of the VT510)
+-- ---- the state that is saved with the cursor (DECSC and DECRC, in the manual of the VT510)
 
 abbrev pub saved_of : Terminal → Saved
 saved_of t = record { rendition = t.rendition; origin = t.origin; sets = t.sets }
@@ -89,7 +89,7 @@ saved_on false t = record t { saved_aside = saved_of t }
 abbrev pub save : Terminal → Terminal
 save t = saved_on (is_main t.screen) t
 
--- not as at the start, where one of two is not
+-- not as at the start, if one of two is not
 abbrev pub either_sets : Sets → Sets → Sets
 either_sets a b = record {
   g0 = a.g0 || b.g0;
@@ -99,7 +99,7 @@ either_sets a b = record {
   shifted = a.shifted || b.shifted;
 }
 
--- Not every terminal saves all of it, so what is changed now is taken to stay so.
+-- Not every terminal saves all of it, so a present change is taken to stay.
 abbrev pub restored_terminal : Saved → Terminal → Terminal
 restored_terminal s t = record t {
   rendition = t.rendition || s.rendition;
@@ -164,7 +164,7 @@ kept_mode n t =
     else if n == 2026 then record t { kept = record t.kept { held = t.held } }
     else t
 
--- whether that of this number is set where XTRESTORE sets it as it was kept
+-- whether the mode of this number is set after XTRESTORE restored the modes that were kept
 abbrev pub was_set : ℕ → Modes → Bool
 was_set n m =
     if n == 5 then m.reverse
@@ -205,8 +205,9 @@ has_params (e ∷ es) = true
 abbrev pub with_renditions : Terminal → Terminal
 with_renditions t = record t { rendition = true }
 
--- After a control sequence of this function. What XTPUSHSGR put aside is not known to XTPOPSGR;
--- DECSTR lets lines wrap no more (VT510), and what else it resets is taken for changed.
+-- After a control sequence of this function. XTPOPSGR does not know the renditions that XTPUSHSGR
+-- put aside; DECSTR lets lines wrap no more (VT510), and all else that it resets is taken for
+-- changed.
 unfoldable pub after_function : ControlFunction → List CsiParam → Terminal → Terminal
 after_function function.SGR es t = with_renditions t
 after_function function.SM es t = after_params (change.Mode true) es t

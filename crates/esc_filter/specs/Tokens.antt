@@ -30,7 +30,7 @@ abbrev pub IsLink : List ℕ → Type 0
 IsLink x = (y : List ℕ) × IsClearText (codes "8;" ++ y) × (list_all is_shown y ≡ true)
     × (x ≡ framed_text (codes "8;" ++ y))
 
--- a piece: a character, and where there is colour also a rendition or a link
+-- a piece: a character, and if there is colour also a rendition or a link
 abbrev pub IsToken : Bool → List ℕ → Type 0
 IsToken false x = IsCharacter x
 IsToken true x = IsCharacter x ⊎ (IsRendition x ⊎ IsLink x)
@@ -45,6 +45,6 @@ IsPlainText t = IsOfTokens false t
 abbrev pub IsColorText : List ℕ → Type 0
 IsColorText t = IsOfTokens true t
 
--- what admits these values admits no more than this policy does
+-- a filter of these values admits no more than this policy does
 abbrev pub AdmitsAtMost : {A : Type 0} → Policy → (Value A → Bool) → Type 0
 AdmitsAtMost {A} p f = (v : Value A) → f v ≡ true → admits p v ≡ true

@@ -20,24 +20,24 @@ use std::alloc::Allocator;
 /// Says which actions may pass a filter: a [`Policy`](crate::Policy), or a rule of the caller's
 /// own.
 ///
-/// A filter asks it only of actions that can be written by themselves. So an implementation cannot
-/// let through what would read back as something else.
+/// A filter asks it only about actions that can be written by themselves. So an implementation
+/// cannot let through an action that would read back as another.
 pub trait Admit<A: Allocator> {
     // the values that it admits
     ghost admits: { Self → Value A → Bool };
 
-    /// Whether the action may pass. It is asked of each action once, in order, but for the
-    /// characters of a run that [`admits_text`](Admit::admits_text) lets through, and those of
-    /// which [`admits_sequence`](Admit::admits_sequence) or
-    /// [`admits_command`](Admit::admits_command) knows it. At the end of a stream, and by lines of
-    /// a line, that leaves margins or something saved with the cursor, it is asked of DECSC and
-    /// DECRC, since these would give it back.
+    /// Whether the action may pass. It is asked about each action once, in order, but for the
+    /// characters of a run that [`admits_text`](Admit::admits_text) lets through, and for actions
+    /// that [`admits_sequence`](Admit::admits_sequence) or
+    /// [`admits_command`](Admit::admits_command) decides. At the end of a stream, and by lines at
+    /// the end of a line, that leaves margins or a state saved with the cursor, it is asked about
+    /// DECSC and DECRC, since these would restore it.
     fn admits(&self, action: &Action<A>) -> bool
         ensures { result ≡ admits self.now (value_of action.now) };
 
-    /// What it does to all actions of a kind. It is not asked of these, and
-    /// [`leaves_out`](Admit::leaves_out) is not shown those that do not pass. It says nothing by
-    /// default, and is asked of each.
+    /// The decisions about all actions of a kind. It is not asked about these, and
+    /// [`leaves_out`](Admit::leaves_out) is not shown those that do not pass. By default there are
+    /// none, and it is asked about each.
     #[inline]
     fn known(&self) -> Known
         ensures { IsKnown (admits self.now) result }
@@ -63,10 +63,10 @@ pub trait Admit<A: Allocator> {
         false
     }
 
-    /// Whether the actions of a control sequence pass, of which no parameter was left out: true
-    /// where each is admitted, and false where none is and [`leaves_out`](Admit::leaves_out) need
-    /// not be shown them. They are not made then. Where it returns `None`, each is made and asked
-    /// of by itself; so it does by default.
+    /// Whether the actions of a control sequence with all its parameters pass: true if each is
+    /// admitted, and false if none is and [`leaves_out`](Admit::leaves_out) need not be shown them.
+    /// They are not made then. If it returns `None`, each is made and asked about by itself; so it
+    /// does by default.
     #[inline]
     fn admits_sequence(&self, _params: &[CsiParam], _control: u8) -> Option<bool>
         ensures passes { result ≡ Some true → list_all (λ c. admits self.now (csi c))
@@ -95,16 +95,16 @@ pub trait Admit<A: Allocator> {
         true
     }
 
-    /// Is shown each action that does not pass, also one that no policy is asked of, and each
-    /// character that [`Unicode::Drop`](crate::Unicode::Drop) leaves out, but for those of which
+    /// Is shown each action that does not pass, also one about which no policy is asked, and each
+    /// character that [`Unicode::Drop`](crate::Unicode::Drop) leaves out, but for actions for which
     /// [`admits_sequence`](Admit::admits_sequence), [`admits_command`](Admit::admits_command) or
     /// [`admits_images`](Admit::admits_images) returns false. It does nothing, unless an
     /// implementation does.
     fn leaves_out(&self, _action: &Action<A>) {}
 }
 
-/// Whether the action passes a filter of this policy, where a parser handed it out: it can be
-/// written by itself, and is admitted.
+/// Whether an action that a parser handed out passes a filter of this policy: it can be written by
+/// itself, and is admitted.
 #[inline]
 pub fn passes<A: Allocator, P: Admit<A>>(policy: &P, action: &Action<A>) -> bool
     ensures { result ≡ passes (P.admits policy.now) (value_of action.now) }
@@ -112,7 +112,7 @@ pub fn passes<A: Allocator, P: Admit<A>>(policy: &P, action: &Action<A>) -> bool
     is_whole(action) && policy.admits(action)
 }
 
-// Whether the action can be written by itself, where a parser handed it out.
+// Whether an action that a parser handed out can be written by itself.
 fn is_whole<A: Allocator>(action: &Action<A>) -> bool
     ensures { result ≡ is_whole (value_of action.now) }
 {

@@ -5,8 +5,8 @@ ghost use Rattle.esc_filter.specs.Concealed.{begins_color, begins_part, breaks_o
 
 use esc_values::CsiParam;
 
-// Whether one of the renditions with these parameters may conceal text: 8 (ECMA-48, 8.3.117), where
-// it is not a number of a colour, as in `38;5;8`, and no part of an item, as in `4:8`.
+// Whether one of the renditions with these parameters may conceal text: 8 (ECMA-48, 8.3.117), if it
+// is not a number of a colour, as in `38;5;8`, and no part of an item, as in `4:8`.
 #[tactic(auto, using(crate::proofs::GivingBack::ConcealedFrom::without_first))]
 pub(crate) fn conceals(params: &[CsiParam]) -> bool
     ensures { result ≡ conceals params.now }
@@ -48,8 +48,8 @@ fn begins_color(param: &CsiParam) -> bool
         || *param == CsiParam::Integer(58)
 }
 
-// Whether it begins a colour that is not whole, so that terminals differ in what they take for its
-// numbers.
+// Whether it begins a colour that is not whole, so that terminals differ in which numbers they take
+// for it.
 fn breaks_off(param: &CsiParam, after: &[CsiParam]) -> bool
     ensures { result ≡ breaks_off param.now after.now }
 {
@@ -68,7 +68,7 @@ fn length_of(param: &CsiParam, after: &[CsiParam]) -> usize
     }
 }
 
-// The same, of what is no number of a colour: a colon has the number after it.
+// The same for a parameter that is no number of a colour: a colon has the number after it.
 fn part_length(param: &CsiParam, after: &[CsiParam]) -> usize
     ensures same { result ≡ part_length param.now after.now }
     ensures within { result ≤ length after.now }
@@ -89,8 +89,8 @@ fn begins_part(params: &[CsiParam]) -> bool
     }
 }
 
-// How many of these parameters say which colour it is: those of `;5;n` and of `;2;r;g;b`; 0 where
-// they are none of both.
+// The number of these parameters that say which colour it is: those of `;5;n` and of `;2;r;g;b`; 0
+// if they are neither.
 fn color_length(params: &[CsiParam]) -> usize
     ensures same { result ≡ color_length params.now }
     ensures within { result ≤ length params.now }

@@ -30,12 +30,12 @@ impl Encoder {
         }
     }
 
-    /// Appends what the action adds to the text of those before it. A string is ended at once, and
-    /// a string terminator directly after it adds nothing.
+    /// Appends the text that the action adds to the text of those before it. A string is ended at
+    /// once, and a string terminator directly after it adds nothing.
     ///
-    /// `EncodeError::Fmt` comes exactly where the action is a sixel image with a value over 63, and
+    /// `EncodeError::Fmt` comes exactly if the action is a sixel image with a value over 63, and
     /// `EncodeError::Memory` says that a request for memory was refused. After an error the text
-    /// and the encoder are as they were, so the text ends where an action ends.
+    /// and the encoder are as they were, so the text ends with an action.
     pub fn append<A: Allocator>(
         &mut self,
         alloc: A,

@@ -26,13 +26,13 @@ use esc_values::Text;
 use std::alloc::{AllocError, Allocator, Global};
 use std::mem;
 
-/// Takes a stream in whatever pieces it comes, and gives for each the text that it adds: that of
-/// the actions which pass the policy. At its end it gives what takes back what these leave changed
-/// at a terminal.
+/// Takes a stream in any pieces, and gives for each the text that it adds: the text of the actions
+/// that pass the policy. At its end it gives the text that undoes the changes that these leave at a
+/// terminal.
 ///
-/// It keeps what a parser keeps of an unfinished segment, at most the limit, the text of the piece
+/// It keeps the unfinished segment as a parser does, at most the limit, the text of the piece
 /// before, whether a string terminator that comes next ends a string that was written already, and
-/// what is left changed.
+/// the changes that are left.
 #[derive(Drop)]
 pub struct Filter<P, A: Allocator = Global> {
     parser: Parser<A>,
@@ -54,8 +54,8 @@ impl<P: Admit<A>, A: Allocator + Copy> Filter<P, A> {
         Filter::with_unicode(alloc, limit, policy, Unicode::Keep)
     }
 
-    /// The same, where `unicode` says what is written of characters that deceive. What is within a
-    /// string, as the address of a link, stays as it is, and so do carriage returns.
+    /// The same; `unicode` says how characters that deceive are written. The text within a string,
+    /// as the address of a link, stays as it is, and so do carriage returns.
     pub fn with_unicode(alloc: A, limit: usize, policy: P, unicode: Unicode) -> Filter<P, A>
         ensures fed { HasConsumedIn (of_unicode unicode) false limit (P.admits policy) [] result }
         ensures policy { policy_of result ≡ policy }
@@ -64,7 +64,7 @@ impl<P: Admit<A>, A: Allocator + Copy> Filter<P, A> {
         Filter::with_guard(alloc, limit, policy, Guard::of_unicode(unicode))
     }
 
-    /// The same, where `guard` says what is written of these, and of carriage returns.
+    /// The same; `guard` says how these are written, and carriage returns.
     pub fn with_guard(alloc: A, limit: usize, policy: P, guard: Guard) -> Filter<P, A>
         ensures fed { HasConsumedIn guard false limit (P.admits policy) [] result }
         ensures policy { policy_of result ≡ policy }
@@ -73,7 +73,7 @@ impl<P: Admit<A>, A: Allocator + Copy> Filter<P, A> {
         Filter::begun(alloc, limit, policy, guard, false)
     }
 
-    /// The same; where `by_lines`, of a line, whose line feed it drops.
+    /// The same; if `by_lines`, for a line, whose line feed it drops.
     pub(crate) fn begun(
         alloc: A,
         limit: usize,
@@ -93,7 +93,7 @@ impl<P: Admit<A>, A: Allocator + Copy> Filter<P, A> {
         }
     }
 
-    /// Takes `bytes`. What they add to the text of the stream so far is then the
+    /// Takes `bytes`. The text that they add to the text of the stream so far is then the
     /// [`text`](Filter::text).
     ///
     /// `ParseError::Memory` says that a request for memory was refused: the text is empty, and from
@@ -125,10 +125,10 @@ impl<P: Admit<A>, A: Allocator + Copy> Filter<P, A> {
         }
     }
 
-    /// Ends the stream, and begins the next. What takes back what it left changed at a terminal is
-    /// then the [`text`](Filter::text): renditions and links, the main screen, margins, the origin,
-    /// that characters are not inserted, the cursor, and the other modes of what is shown. What is
-    /// unfinished is dropped.
+    /// Ends the stream, and begins the next. The text that undoes the changes that it left at a
+    /// terminal is then the [`text`](Filter::text): renditions and links, the main screen, margins,
+    /// the origin, that characters are not inserted, the cursor, and the other modes of the screen.
+    /// An unfinished segment is dropped.
     ///
     /// The error says that a request for memory was refused: the text is empty, and the stream has
     /// not ended.
@@ -154,7 +154,7 @@ impl<P: Admit<A>, A: Allocator + Copy> Filter<P, A> {
         }
     }
 
-    /// Begins a new stream. What is unfinished is dropped.
+    /// Begins a new stream. An unfinished segment is dropped.
     pub(crate) fn restart(&mut self)
         ensures fed { (by_lines : Bool) → AfterIn by_lines P.Admit self.old (λ u limit admits s.
             HasConsumedIn u by_lines limit admits [] self.new) }
@@ -173,7 +173,7 @@ impl<P: Admit<A>, A: Allocator + Copy> Filter<P, A> {
         self.written.left.is_changed()
     }
 
-    /// Appends the renditions that are left on, where they are noted.
+    /// Appends the renditions that are left on, if they are noted.
     pub(crate) fn push_opening(&self, text: &mut String<A>) -> Result<(), AllocError>
         ensures ok { OnOk result (string_bytes text.new
             ≡ string_bytes text.old ++ opening self.now.written.left self.now.written.pen) }

@@ -1,4 +1,4 @@
-//! From a stream to the text of what passes of it.
+//! From a stream to the text of the actions that pass.
 ghost use Rattle.std.specs.Prelude.{IsErrOf, Some};
 ghost use Rattle.esc_normal.specs.Streams.{Filters};
 ghost use Rattle.esc_filter.specs.Lines.{IsFilteredByLines, closed_by_lines};
@@ -14,15 +14,15 @@ use std::alloc::Allocator;
 use std::io::{Read, Write};
 
 /// Reads to the end, and writes the text of the actions that pass the policy, as it reads: after
-/// each read the text of all that was read so far is written and flushed. At the end it writes what
-/// takes back what these left changed at a terminal, as [`Filter::finish`] says; after an error it
-/// does not. It holds a chunk of 64
-/// KiB, the text of one, and at most `limit` bytes of an unfinished segment.
+/// each read the text of all that was read so far is written and flushed. At the end it writes the
+/// text that undoes the changes that these left at a terminal, as [`Filter::finish`] says; after an
+/// error it does not. It holds a chunk of 64 KiB, the text of one, and at most `limit` bytes of an
+/// unfinished segment.
 ///
-/// After `FilterError::Read` the text of all that was read was written, after `Memory` that of all
-/// but what the last read gave, at most 64 KiB, and after `Write` a prefix of it. Where neither had
-/// failed before, `Read` comes exactly where the reader has failed, and `Write` exactly where the
-/// writer has. A `write` that takes nothing is a failure. `Endless` comes after 2^64 - 1 reads,
+/// After `FilterError::Read` the text of all that was read was written; after `Memory` the text of
+/// all but the last read, which gave at most 64 KiB; and after `Write` a prefix of the text. If
+/// neither had failed before, `Read` comes exactly if the reader has failed, and `Write` exactly if
+/// the writer has. A `write` that takes nothing is a failure. `Endless` comes after 2^64 - 1 reads,
 /// each of at least one byte, and the text of all that they gave was written.
 pub fn filter_stream<R: Read, W: Write, P: Admit<A> + Drop, A: Allocator + Copy>(
     alloc: A,

@@ -6,7 +6,7 @@ use crate::group::Group;
 use control_functions::{ControlFunction, EscapeFunction};
 
 // The key of a row of the tables: the bytes of the sequence but its parameters, after a 1; after a
-// 2 where another function has the same bytes and fewer parameters.
+// 2 if another function has the same bytes and fewer parameters.
 macro_rules! key {
     ($c:literal) => {
         0x100 + $c as u32
@@ -19,7 +19,7 @@ macro_rules! key {
     };
 }
 
-// Of control sequences.
+// For control sequences.
 static CURSOR: [u32; 28] = [
     key!(b'A'),
     key!(b'B'),
@@ -84,7 +84,7 @@ static SCROLL: [u32; 7] = [
 
 static MODES: [u32; 4] = [key!(b'h'), key!(b'l'), key!(b'?', b'h'), key!(b'?', b'l')];
 
-// Of escape sequences.
+// For escape sequences.
 static ESCAPE_CURSOR: [u32; 3] = [key!(b'7'), key!(b'8'), key!(b'H')];
 
 static ESCAPE_SCROLL: [u32; 5] = [key!(b'6'), key!(b'9'), key!(b'D'), key!(b'E'), key!(b'M')];

@@ -1,4 +1,4 @@
-//! What gives back what is left changed at a terminal.
+//! The text that undoes the changes that are left at a terminal.
 ghost use Rattle.std.specs.Prelude.{◌≡◌, ◌++◌, ◌&&◌, None, map, OnErr, OnOk};
 ghost use Rattle.esc_actions.specs.Values.{value_of};
 ghost use Rattle.esc_filter.specs.Closing.{escape, joined_lists, keeps_cursor};
@@ -13,7 +13,8 @@ use esc_values::Text;
 use std::alloc::{AllocError, Allocator};
 
 impl Terminal {
-    /// Appends what gives it back, where DECSC and DECRC may be written, or not.
+    /// Appends the text that undoes its changes; `keeps_cursor` says whether DECSC and DECRC may be
+    /// written.
     pub fn give_back<A: Allocator>(
         &self,
         keeps_cursor: bool,
@@ -25,16 +26,16 @@ impl Terminal {
         push_all(text, &self.parts_back(keeps_cursor))
     }
 
-    // Whether what gives it back goes by whether DECSC and DECRC may be written: where there are
-    // margins, or what is saved with the cursor is changed.
+    // Whether the text that undoes its changes depends on whether DECSC and DECRC may be written:
+    // there are margins, or the state that is saved with the cursor is changed.
     fn is_cursor_due(&self) -> bool
         ensures { result ≡ is_cursor_due self.now }
     {
         self.margins || self.saved.is_changed()
     }
 
-    // The texts that give it back, one after another: that of the main screen, and those of what is
-    // changed once that is shown.
+    // The texts that undo its changes, one after another: the text that shows the main screen, and
+    // those for the changes that are left once that is shown.
     fn parts_back(&self, keeps_cursor: bool) -> [&'static str; 17]
         ensures { map (λ s. s.now) result ≡ parts_back keeps_cursor self.now }
     {
@@ -73,7 +74,7 @@ impl Terminal {
         terminal
     }
 
-    // Whether what is saved with the cursor is to be given back, once the margins were.
+    // Whether the state that is saved with the cursor is to be restored, once the margins were.
     fn is_saved_due(&self, keeps_cursor: bool) -> bool
         ensures { result ≡ is_saved_due keeps_cursor self.now }
     {
@@ -82,7 +83,7 @@ impl Terminal {
 }
 
 impl Screen {
-    // What shows the main one.
+    // The text that shows the main screen.
     fn main_part(self) -> &'static str
         ensures { result.now ≡ main_part self }
     {
@@ -95,14 +96,14 @@ impl Screen {
     }
 }
 
-// A text, where what it gives back is changed.
+// A text, if its part is changed.
 fn part(is_changed: bool, back: &'static str) -> &'static str
     ensures { result.now ≡ part is_changed back.now }
 {
     if is_changed { back } else { "" }
 }
 
-// What gives back margins, with the cursor where it is, or at home.
+// The text that resets the margins, with the cursor at its place, or at home.
 fn margins_part(keeps_cursor: bool) -> &'static str
     ensures { result.now ≡ margins_part keeps_cursor }
 {
@@ -113,7 +114,7 @@ fn margins_part(keeps_cursor: bool) -> &'static str
     }
 }
 
-// What saves the cursor.
+// The text that saves the cursor.
 fn saved_part(keeps_cursor: bool) -> &'static str
     ensures { result.now ≡ saved_part keeps_cursor }
 {
@@ -134,8 +135,8 @@ fn push_all<A: Allocator>(text: &mut Text<A>, parts: &[&'static str]) -> Result<
     Ok(())
 }
 
-/// Whether the cursor is to be saved and restored as this terminal is given back: where that goes
-/// by it, and the policy admits DECSC and DECRC.
+/// Whether the cursor is to be saved and restored as this terminal is restored: the text depends on
+/// it, and the policy admits DECSC and DECRC.
 pub(crate) fn keeps_cursor_of<A: Allocator, P: Admit<A>>(terminal: &Terminal, policy: &P) -> bool
     ensures { result ≡ (is_cursor_due terminal.now && keeps_cursor {A = A} (P.admits policy.now)) }
 {

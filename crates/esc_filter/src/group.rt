@@ -16,8 +16,8 @@ use esc_sequences::{CSI, Esc};
 use esc_values::{CsiParam, Items};
 use std::alloc::Allocator;
 
-/// A group of actions. Each action is in one: the groups of what [`Policy::Text`] admits are the
-/// first two, of `Color` the first five, of `Screen` all up to `Palette`, and of `All` all.
+/// A group of actions. Each action is in one. [`Policy::Text`] admits the first two groups, `Color`
+/// the first five, `Screen` all up to `Palette`, and `All` all.
 ///
 /// [`Policy::Text`]: crate::Policy::Text
 #[derive(Clone, Copy, Debug, PartialEq, Eq)]
@@ -28,14 +28,14 @@ pub enum Group {
     Layout,
     /// Graphic renditions (SGR), but those of `Hidden`.
     Sgr,
-    /// Graphic renditions of which one conceals text (SGR 8).
+    /// Graphic renditions, one of which conceals text (SGR 8).
     Hidden,
     /// Hyperlinks (OSC 8), and their ends. An address may have `;` in it. A link with DEL or a
     /// character that deceives ([`is_deceiving`](crate::is_deceiving)) passes only with `Other`.
     Links,
     /// Bell, backspace, line tabulation and form feed.
     Controls,
-    /// Cursor movement, what is saved and restored with the cursor or as renditions, the cursor's
+    /// Cursor movement, states saved and restored with the cursor or as renditions, the cursor's
     /// shape, and tab stops.
     Cursor,
     /// Erasing, inserting, deleting, copying and filling, the renditions of a rectangle, and the
@@ -43,7 +43,7 @@ pub enum Group {
     Erase,
     /// Scrolling, index and next line, and margins.
     Scroll,
-    /// Modes of what is shown.
+    /// Modes of the screen.
     Modes,
     /// Character sets, shift in and shift out, and the size of a line's characters.
     Charsets,

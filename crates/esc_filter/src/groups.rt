@@ -15,19 +15,20 @@ use esc_actions::Action;
 use esc_values::CsiParam;
 use std::alloc::Allocator;
 
-/// A policy by groups: the actions of some groups pass, and no others. Of links it may admit those
-/// alone whose address has one of some schemes, and the ends of links. Where the group `Other` does
+/// A policy by groups: the actions of some groups pass, and no others. It may admit only those
+/// links whose address has one of some schemes, and the ends of links. If the group `Other` does
 /// not pass, links with DEL or characters that deceive do not either.
 #[derive(Clone, Copy, Debug)]
 pub struct Groups<'a> {
     // of each group, in their order, whether it passes
     allowed: [bool; 16],
-    // the schemes of the links that pass, with `,` between them; those of all where there are none
+    // the schemes of the links that pass, with `,` between them; if there are none, all schemes
+    // pass
     schemes: Option<&'a str>,
 }
 
 impl<'a> Groups<'a> {
-    /// The groups of what a policy admits, which together admit the same.
+    /// The groups of the actions that a policy admits, which together admit the same.
     pub fn of(policy: Policy) -> Groups<'a>
         ensures { result ≡ groups_of policy }
     {
@@ -51,9 +52,9 @@ impl<'a> Groups<'a> {
         self.with(group, false)
     }
 
-    /// These groups, where of links those alone pass whose address has one of these schemes, and
-    /// the ends of links. `schemes` has them with `,` between them, as `http,https`. An address has
-    /// a scheme where it begins with it, in whatever case, and a colon (RFC 3986, 3.1).
+    /// These groups; but only those links pass whose address has one of these schemes, and the ends
+    /// of links. `schemes` has them with `,` between them, as `http,https`. An address has a scheme
+    /// if it begins with it, in either case, and a colon (RFC 3986, 3.1).
     pub fn with_schemes(&self, schemes: &'a str) -> Groups<'a>
         ensures { IsWithSchemes self.now schemes.now result }
     {
@@ -82,7 +83,7 @@ impl<'a> Groups<'a> {
         }
     }
 
-    // Whether the actions of a control sequence pass; not known where it is renditions of which one
+    // Whether the actions of a control sequence pass; not known if it is renditions, one of which
     // conceals text, and those pass and others do not, or the other way round.
     #[tactic(auto, using(crate::proofs::Admission::ChoicesAdmit::choices))]
     fn has_sequence(&self, params: &[CsiParam], control: u8) -> Option<bool>
@@ -145,7 +146,7 @@ impl<'a, A: Allocator> Admit<A> for Groups<'a> {
     }
 }
 
-// Of each group whether it is one of this policy.
+// Whether each group is one of this policy.
 fn allowed_by(policy: Policy) -> [bool; 16]
     ensures { result ≡ (groups_of policy).allowed }
 {

@@ -1,9 +1,9 @@
-//! What is known of a policy before it is asked.
+//! The known facts about a policy before it is asked.
 ghost use Rattle.std.specs.Prelude.{◌≡◌};
 ghost use Rattle.esc_filter.specs.Known.{nothing};
 
-/// What a policy does to all actions of a kind, so that it need not be asked of each. Where a field
-/// is false, it is asked.
+/// The decisions of a policy about all actions of a kind, so that it need not be asked about each.
+/// If a field is false, it is asked.
 #[derive(Clone, Copy, Debug, PartialEq, Eq)]
 pub struct Known {
     /// All that [`Policy::Text`](crate::Policy::Text) admits passes: characters but DEL, tab, line

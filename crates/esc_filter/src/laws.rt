@@ -1,5 +1,5 @@
-//! Laws of what passes a filter. Each holds for every allocator `A`, which the type of the actions
-//! names.
+//! Laws of the actions that pass a filter. Each holds for every allocator `A`, which the type of
+//! the actions names.
 ghost use Rattle.std.specs.Prelude.{◌≡◌, ◌++◌, [], ℕ, Bool, List, None, Option, Some, false, map, not, true};
 ghost use Rattle.std.specs.List.{filter};
 ghost use Rattle.esc_actions.specs.Meaning.{yield_within};
@@ -31,8 +31,9 @@ ghost use Rattle.esc_filter.specs.declared.guard.Guard.{Guard};
 use esc_actions::laws;
 use std::alloc::Allocator;
 
-/// The text of what passes of a stream reads back as what passes, whatever is admitted, and so does
-/// that of a stream that has ended, with what gives back what is left changed.
+/// The text of the actions of a stream that pass reads back as these actions, whatever is admitted,
+/// and so does the text of a stream that has ended, with the actions that undo the changes that are
+/// left.
 pub fn passed_reads_back<A: Allocator>()
     ensures goes_on { (limit : Option ℕ) (admits : Value A → Bool) (s : List ℕ)
         → IsFiltered false limit admits s (passed_text limit admits s) }
@@ -42,7 +43,7 @@ pub fn passed_reads_back<A: Allocator>()
     written_reads_back::<A>();
 }
 
-/// The same, whatever is written of what deceives.
+/// The same, whatever is written for characters that deceive.
 pub fn written_reads_back<A: Allocator>()
     ensures goes_on { (u : Guard) (limit : Option ℕ) (admits : Value A → Bool) (s : List ℕ)
         → IsFilteredAs u false limit admits s (passed_text_as u limit admits s) }
@@ -54,15 +55,15 @@ pub fn written_reads_back<A: Allocator>()
     laws::reads_by_itself::<A>();
 }
 
-/// Where characters that deceive are not kept, none of them is written but where it belongs to the
-/// character that is written directly before it: so none that changes the direction of text, and
-/// no tag.
+/// If characters that deceive are not kept, none of them is written unless it belongs to the
+/// character that is written directly before it: so none that changes the direction of text, and no
+/// tag.
 pub fn nothing_strays<A: Allocator>()
     ensures { (u : Guard) (vs : List (Value A)) → keeps_characters u.characters ≡ false
         → some_strays None (in_values u vs) ≡ false }
 {}
 
-/// What passes of a stream passes of each longer one, and comes first in it.
+/// The actions of a stream that pass also pass in each longer one, and come first in it.
 pub fn passed_more<A: Allocator>()
     ensures { (limit : Option ℕ) (admits : Value A → Bool) (s b : List ℕ)
         → passed_values limit admits (s ++ b) ≡ passed_values limit admits s
@@ -72,29 +73,29 @@ pub fn passed_more<A: Allocator>()
     laws::meaning_of_more::<A>();
 }
 
-/// The text of a stream that has ended is the one before its end, and then what gives back what is
-/// left changed.
+/// The text of a stream that has ended is the text before its end, and then the text that undoes
+/// the changes that are left.
 pub fn closing_comes_last<A: Allocator>()
     ensures { (limit : Option ℕ) (admits : Value A → Bool) (s : List ℕ)
         → closed_text limit admits s
         ≡ passed_text limit admits s ++ list_text (closing admits (passed_values limit admits s)) }
 {}
 
-/// Once what gives back what values leave changed is written, the terminal is as at the start,
-/// whatever the values and the policy are.
+/// Once the values that undo the changes are written, the terminal is as at the start, whatever the
+/// values and the policy are.
 pub fn terminal_as_at_the_start<A: Allocator>()
     ensures { (admits : Value A → Bool) (vs : List (Value A))
         → IsAtStart (after_values (closed_values admits vs) unchanged) }
 {}
 
-/// What gives it back leaves nothing to give back.
+/// The values that undo the changes leave nothing to undo.
 pub fn nothing_given_back_twice<A: Allocator>()
     ensures { (admits : Value A → Bool) (vs : List (Value A))
         → closing admits (closed_values admits vs) ≡ [] }
 {}
 
-/// The text of what passes of a stream whose lines are streams of their own reads back as what
-/// passes of them, line by line, whatever is admitted.
+/// If the lines of a stream are streams of their own, the text of the actions that pass reads back
+/// as these actions, line by line, whatever is admitted.
 pub fn lines_read_back<A: Allocator>()
     ensures { (has_ended : Bool) (limit : ℕ) (admits : Value A → Bool) (s : List ℕ)
         → IsFilteredByLines has_ended limit admits s (lines_text has_ended limit admits s) }
@@ -102,7 +103,7 @@ pub fn lines_read_back<A: Allocator>()
     written_lines_read_back::<A>();
 }
 
-/// The same, whatever is written of what deceives.
+/// The same, whatever is written for characters that deceive.
 pub fn written_lines_read_back<A: Allocator>()
     ensures { (has_ended : Bool) (u : Guard) (limit : ℕ) (admits : Value A → Bool) (s : List ℕ)
         → IsFilteredByLinesAs has_ended u limit admits s
@@ -114,7 +115,7 @@ pub fn written_lines_read_back<A: Allocator>()
 
 /// Each line of a stream is written as one line. A line that has ended is written as one that has,
 /// whatever its segments hold; a last line without a line feed is written without one, and so is
-/// what gives back what it leaves changed. So the lines of what is written are the texts of the
+/// the text that undoes the changes that it leaves. So the lines of the output are the texts of the
 /// lines, in order, but for an empty text of the last.
 pub fn lines_written<A: Allocator>()
     ensures ended { (u : Guard) (limit : ℕ) (admits : Value A → Bool) (l : List ℕ) → IsLine l
@@ -146,7 +147,7 @@ pub fn screen_is_not_answered()
         → is_screen_escape s ≡ true → escape_is_answered f ≡ false }
 {}
 
-/// The groups of a policy admit what the policy does.
+/// The groups of a policy admit the values that the policy admits.
 #[tactic(auto, using(crate::proofs::Admission::GroupsAreThePolicy::same))]
 pub fn policies_are_groups<A: Allocator>()
     ensures { (p : Policy) (v : Value A) → admits_groups (groups_of p) v ≡ admits p v }
@@ -195,9 +196,9 @@ pub fn some_groups_admit_less<A: Allocator>()
         → AdmitsAtMost {A = A} p (admits_groups g) }
 {}
 
-/// What follows such a text in another one is such a text, since no character, rendition or link
-/// begins with another. So what a filter adds for bytes that it is fed, and for the end of a
-/// stream, is whole pieces, wherever the bytes are cut.
+/// The rest of such a text after a prefix that is such a text is one too, since no character,
+/// rendition or link begins with another. So a filter adds whole pieces for bytes that it is fed,
+/// and for the end of a stream, wherever the bytes are cut.
 pub fn rest_is_whole()
     ensures plain { (x t : List ℕ) → IsPlainText x → IsPlainText (x ++ t) → IsPlainText t }
     ensures color { (x t : List ℕ) → IsColorText x → IsColorText (x ++ t) → IsColorText t }

@@ -1,4 +1,4 @@
-//! What the actions that pass leave changed at a terminal.
+//! The changes that the actions that pass leave at a terminal.
 ghost use Rattle.std.specs.Prelude.{List, Option, ◌≡◌, ◌≢◌, ◌∷◌, codes, [], false, pos, IfSome, IsTrue};
 ghost use Rattle.esc_values.specs.Clear.{parts_of};
 ghost use Rattle.esc_sequences.specs.Csis.{CsiValue, csi_of, csi_value};
@@ -64,7 +64,7 @@ impl Terminal {
         }
     }
 
-    // Notes an escape sequence of this function, where it has one, with this final byte.
+    // Notes an escape sequence of this function, if it has one, with this final byte.
     fn note_escape_function(&mut self, function: Option<EscapeFunction>, control: u8)
         ensures { self.new ≡ after_named_escape function control self.old }
     {
@@ -154,7 +154,7 @@ impl Terminal {
         }
     }
 
-    /// Notes a control sequence, after which renditions are on, or not, where that is known.
+    /// Notes a control sequence, after which renditions are on, or not, if that is known.
     #[inline]
     pub fn note_sequence(&mut self, is_on: Option<bool>, params: &[CsiParam], control: u8)
         ensures { self.new ≡ noted_terminal is_on params.now control self.old }
@@ -240,7 +240,7 @@ fn is_reset(sgr: Sgr) -> bool
     matches!(sgr, Sgr::Reset)
 }
 
-/// Whether the command of this text leaves all as it was, where that is seen at once.
+/// Whether the command of this text leaves all as it was, if that is seen at once.
 #[tactic(auto, using(crate::proofs::Admission::CommandsAreKnown::other_leaves))]
 #[inline]
 pub(crate) fn leaves_all<A: Allocator>(text: &[u8]) -> bool
@@ -286,8 +286,8 @@ fn first_number(params: &[CsiParam]) -> Option<u64>
     natural(*first)
 }
 
-/// Whether renditions are on after a control sequence, or that its body says what it leaves
-/// changed, where it is seen at once that it is one action.
+/// Whether renditions are on after a control sequence, or that its body says which changes it
+/// leaves, if it is seen at once that it is one action.
 #[inline]
 pub(crate) fn renditions_after(params: &[CsiParam], control: u8) -> Option<Option<bool>>
     ensures { IfSome result (λ is_on. (v : CsiValue) × (csi_of params.now false control ≡ v ∷ [])
@@ -303,7 +303,7 @@ pub(crate) fn renditions_after(params: &[CsiParam], control: u8) -> Option<Optio
     }
 }
 
-// Whether renditions are on after a sequence of these parameters and `m`, where it is seen at once
+// Whether renditions are on after a sequence of these parameters and `m`, if it is seen at once
 // that this is one action.
 #[tactic(auto, using(crate::proofs::GivingBack::RenditionsAfterSequence::turning))]
 #[inline]
@@ -322,7 +322,7 @@ fn are_on(params: &[CsiParam]) -> Option<bool>
     }
 }
 
-// The same, where the sequence has no name of its own.
+// The same, if the sequence has no name of its own.
 fn are_unnamed(params: &[CsiParam]) -> Option<bool>
     ensures { IfSome result (λ b. Turns params.now b) }
 {

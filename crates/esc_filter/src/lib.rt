@@ -1,12 +1,11 @@
-//! A filter for terminal streams of unknown origin: of what a stream means only what a policy
-//! admits is written, as it comes.
+//! A filter for terminal streams of unknown origin: it writes only those actions of a stream that a
+//! policy admits, as they come.
 //!
 //! [`filter_stream`] reads a stream and writes the text of those of its actions that a [`Policy`],
-//! or an [`Admit`] of the caller's own, admits; [`Filter`] does it piece by piece. What is written
-//! reads back as these actions and as nothing else, so no text of the stream becomes a sequence,
-//! however broken it is. A [`Guard`] says what is written of characters and carriage returns that
-//! hide or reorder text.
-//! [`Encoder`] writes actions one at a time.
+//! or an [`Admit`] of the caller's own, admits; [`Filter`] does it piece by piece. The output reads
+//! back as these actions and as nothing else, so no text of the stream becomes a sequence, however
+//! broken it is. A [`Guard`] says how characters and carriage returns that hide or reorder text are
+//! written. [`Encoder`] writes actions one at a time.
 //!
 //! ```text
 //! let mut filter = Filter::new(alloc, 65_536, Policy::Color);

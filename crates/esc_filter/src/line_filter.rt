@@ -14,25 +14,25 @@ use esc_frame::ParseError;
 use memchr::memchr;
 use std::alloc::{AllocError, Allocator, Global};
 
-// The length of a line without its line feed at most, where it is fed from a copy.
+// The length of a line without its line feed at most, if it is fed from a copy.
 const SHORT: usize = 256;
 
-/// Takes a stream in whatever pieces it comes, and gives for each the text that it adds, as
-/// [`Filter`] does; but each line, up to its line feed and with it, is a stream of its own. So a
-/// string that nobody ends hides nothing of the lines after it, and each line of the stream has its
-/// line in the text: where a string takes the line feed away, one is added. What a line leaves
-/// changed at a terminal is taken back before its end.
+/// Takes a stream in any pieces, and gives for each the text that it adds, as [`Filter`] does; but
+/// each line, up to its line feed and with it, is a stream of its own. So a string that nobody ends
+/// hides nothing of the lines after it, and each line of the stream has its line in the text: if a
+/// string takes the line feed away, one is added. The changes that a line leaves at a terminal are
+/// undone before its end.
 ///
 /// A line ends in its line feed, or in a carriage return and that: such a carriage return is
-/// written before the line feed where the policy admits it, also where a string would take it away.
-/// So one that comes last is held back until the next byte says whether it is one. Each other is
-/// bare, and the [`Guard`] says what is written of it.
+/// written before the line feed if the policy admits it, also if a string would take it away. So
+/// one that comes last is held back until the next byte says whether it is one. Each other is bare,
+/// and the [`Guard`] says how it is written.
 ///
-/// It keeps what a [`Filter`] keeps of the last line, and the text of the piece before.
+/// It keeps the last line as a [`Filter`] does, and the text of the piece before.
 #[derive(Drop)]
 pub struct LineFilter<P, A: Allocator = Global> {
     pub(crate) filter: Filter<P, A>,
-    // what the bytes fed last added
+    // the text that the bytes fed last added
     pub(crate) text: String<A>,
     // whether a carriage return came last, which may be a part of the end of its line
     holds: bool,
@@ -52,7 +52,7 @@ impl<P: Admit<A>, A: Allocator + Copy> LineFilter<P, A> {
         LineFilter::with_unicode(alloc, limit, policy, Unicode::Keep)
     }
 
-    /// The same, where `unicode` says what is written of characters that deceive, as
+    /// The same; `unicode` says how characters that deceive are written, as
     /// [`Filter::with_unicode`] does. Bare carriage returns are kept.
     pub fn with_unicode(alloc: A, limit: usize, policy: P, unicode: Unicode) -> LineFilter<P, A>
         ensures fed { HasConsumedLines (of_unicode unicode) limit (P.admits policy) [] result }
@@ -62,7 +62,7 @@ impl<P: Admit<A>, A: Allocator + Copy> LineFilter<P, A> {
         LineFilter::with_guard(alloc, limit, policy, Guard::of_unicode(unicode))
     }
 
-    /// The same, where `guard` says what is written of these, and of bare carriage returns.
+    /// The same; `guard` says how these are written, and bare carriage returns.
     pub fn with_guard(alloc: A, limit: usize, policy: P, guard: Guard) -> LineFilter<P, A>
         ensures fed { HasConsumedLines guard limit (P.admits policy) [] result }
         ensures policy { policy_of_lines result ≡ policy }
@@ -76,7 +76,7 @@ impl<P: Admit<A>, A: Allocator + Copy> LineFilter<P, A> {
         }
     }
 
-    /// Takes `bytes`. What they add to the text of the stream so far is then the
+    /// Takes `bytes`. The text that they add to the text of the stream so far is then the
     /// [`text`](LineFilter::text).
     ///
     /// `ParseError::Memory` says that a request for memory was refused: the text is empty, and from
@@ -105,10 +105,9 @@ impl<P: Admit<A>, A: Allocator + Copy> LineFilter<P, A> {
         }
     }
 
-    /// Ends the stream, and begins the next. What takes back what its last line left changed at a
-    /// terminal, where that has no line feed, is then the [`text`](LineFilter::text), as
-    /// [`Filter::finish`] says, and before it what is written of a carriage return that was held
-    /// back.
+    /// Ends the stream, and begins the next. The text that undoes the changes that its last line
+    /// left at a terminal, if that has no line feed, is then the [`text`](LineFilter::text), as
+    /// [`Filter::finish`] says, and before it the text of a carriage return that was held back.
     ///
     /// `ParseError::Memory` says that a request for memory was refused: the text is empty, and from
     /// then on every call returns `ParseError::Failed`.
@@ -166,8 +165,8 @@ impl<P: Admit<A>, A: Allocator + Copy> LineFilter<P, A> {
         Ok(())
     }
 
-    // Between lines, appends as they are the lines that come first and are written so, where all
-    // text passes. It returns how long they are.
+    // Between lines, appends the first lines as they are, as far as they are written so, if all
+    // text passes. It returns their length.
     pub(crate) fn pass_plain(&mut self, bytes: &[u8]) -> Result<usize, AllocError>
         ensures given { AfterLines P.Admit self.old (λ u limit admits s. ends_line true s ≡ true
             → IfOk result (λ n. GrowsBy u admits limit s (take n bytes.now) self.old self.new)) }
@@ -187,7 +186,7 @@ impl<P: Admit<A>, A: Allocator + Copy> LineFilter<P, A> {
         Ok(lines.len())
     }
 
-    // Takes what ends the last line.
+    // Takes bytes that end the last line.
     pub(crate) fn feed_line(&mut self, bytes: &[u8]) -> Result<(), AllocError>
         requires { IsLine bytes.now }
         ensures given { AfterLines P.Admit self.old (λ u limit admits s.
@@ -202,8 +201,8 @@ impl<P: Admit<A>, A: Allocator + Copy> LineFilter<P, A> {
         }
     }
 
-    // Feeds the filter of the last line what ends that, without a carriage return that is a part of
-    // its end.
+    // Feeds the filter of the last line the bytes that end it, without a carriage return that is a
+    // part of its end.
     pub(crate) fn fill_line(&mut self, bytes: &[u8]) -> Result<(), AllocError>
         requires { IsLine bytes.now }
         ensures given { OnRest P.Admit self.old (λ u limit admits r.
@@ -226,7 +225,7 @@ impl<P: Admit<A>, A: Allocator + Copy> LineFilter<P, A> {
         self.fill_short(&before[..before.len() - 1])
     }
 
-    // The same of what comes before the line feed, in two parts.
+    // The same for the bytes before the line feed, in two parts.
     fn fill_long(&mut self, before: &[u8]) -> Result<(), AllocError>
         ensures given { OnRest P.Admit self.old (λ u limit admits r.
             OnOk result (FillsLine u admits limit r before.now self.old self.new)) }
@@ -241,7 +240,7 @@ impl<P: Admit<A>, A: Allocator + Copy> LineFilter<P, A> {
         }
     }
 
-    // Feeds the filter of the last line these bytes and its line feed, where a carriage return is
+    // Feeds the filter of the last line these bytes and its line feed, if a carriage return is
     // between them, and holds that back: one call, over a copy, costs less than two.
     fn fill_short(&mut self, body: &[u8]) -> Result<(), AllocError>
         requires { length body.now < 256 }
@@ -382,7 +381,7 @@ impl<P: Admit<A>, A: Allocator + Copy> LineFilter<P, A> {
         }
     }
 
-    // Takes back what the last line left changed, and begins a new stream.
+    // Undoes the changes that the last line left, and begins a new stream.
     fn close(&mut self) -> Result<(), AllocError>
         ensures given { OnLine P.Admit self.old (λ u limit admits l. OnOk result
             (ClosesLine u admits limit l self.old self.new)) }
@@ -420,7 +419,7 @@ fn ends_return(bytes: &[u8]) -> bool
     !bytes.is_empty() && bytes[bytes.len() - 1] == b'\r'
 }
 
-/// The length of the line that these bytes begin with, with its line feed. None where they have no
+/// The length of the line that these bytes begin with, with its line feed. None if they have no
 /// line feed.
 pub fn line_length(bytes: &[u8]) -> Option<usize>
     ensures { MatchOption result (has_line_feed bytes.now ≡ false)

@@ -125,7 +125,7 @@ pub(crate) fn has_address<A: Allocator>(parts: &[Items<u8, A>]) -> bool
     }
 }
 
-/// The parts of the address of a link, where the command of these parts has no other reading.
+/// The parts of the address of a link, if the command of these parts has no other reading.
 pub(crate) fn address_in<A: Allocator>(parts: &[Items<u8, A>]) -> &[Items<u8, A>]
     ensures { result.now ≡ address_in parts.now }
 {

@@ -1,4 +1,4 @@
-//! What takes the actions that pass.
+//! The receiver of the actions that pass.
 ghost use Rattle.std.specs.Prelude.{◌≡◌, false, MatchResult, OnErr, OnOk};
 ghost use Rattle.esc_values.specs.Clear.{parts_of};
 ghost use Rattle.esc_actions.specs.Values.{control};
@@ -19,9 +19,9 @@ use std::alloc::{AllocError, Allocator, Global};
 /// Appends the text of each action that passes, and drops the others.
 #[derive(Drop)]
 pub(crate) struct Passing<'p, P, A: Allocator = Global> {
-    /// What writes those that pass.
+    /// The writer of those that pass.
     pub written: Written<A>,
-    /// What admits them.
+    /// The policy that admits them.
     pub policy: &'p P,
 }
 
@@ -45,7 +45,7 @@ impl<'p, P: Admit<A>, A: Allocator> Passing<'p, P, A> {
         self.written.append_control(code)
     }
 
-    // Whether the policy admits a control, of which those that lay out text are the most.
+    // Whether the policy admits a control; most of them lay out text.
     #[inline]
     fn admits_control(&self, code: ControlCode) -> bool
         ensures { result ≡ P.admits self.now.policy.now (control code) }
@@ -89,11 +89,11 @@ impl<'p, P: Admit<A>, A: Allocator> Passing<'p, P, A> {
     }
 }
 
-// Control sequences and commands. What passes is appended from its parameters or its text where
-// that can be, and what does not is passed over; neither is made. Where nothing is known of it,
+// Control sequences and commands. One that passes is appended from its parameters or its text if
+// possible, and one that does not is passed over; neither is made. If nothing is known of it,
 // nothing is done, and it returns false.
 impl<'p, P: Admit<A>, A: Allocator> Passing<'p, P, A> {
-    // Takes a control sequence that ends in `m`, where all renditions pass.
+    // Takes a control sequence that ends in `m`, if all renditions pass.
     #[inline]
     fn take_rendition(&mut self, params: &[CsiParam]) -> Result<bool, AllocError>
         requires { ArePassedRenditions (P.admits self.old.policy.now) }
@@ -117,7 +117,7 @@ impl<'p, P: Admit<A>, A: Allocator> Passing<'p, P, A> {
         }
     }
 
-    // Takes a command, where all links pass.
+    // Takes a command, if all links pass.
     #[inline]
     fn take_link(&mut self, text: &[u8]) -> Result<bool, AllocError>
         requires { ArePassedLinks (P.admits self.old.policy.now) }

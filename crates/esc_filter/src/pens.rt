@@ -1,4 +1,4 @@
-//! The renditions that are known to be on, where they are noted.
+//! The renditions that are known to be on, if they are noted.
 ghost use Rattle.std.specs.Prelude.{◌≡◌, ◌++◌, OnErr, OnOk, string_bytes};
 ghost use Rattle.esc_sequences.specs.Csis.{csi_value};
 ghost use Rattle.esc_actions.specs.Values.{value_of};
@@ -13,7 +13,7 @@ use esc_values::CsiParam;
 use std::alloc::{AllocError, Allocator};
 use typed_functions::Rendition;
 
-/// None at the start. They are noted where lines are streams of their own.
+/// None at the start. They are noted if lines are streams of their own.
 pub(crate) fn start_pen(by_lines: bool) -> Option<Pen>
     ensures { result ≡ start_pen by_lines }
 {
@@ -31,7 +31,7 @@ pub(crate) fn pen_after<A: Allocator>(pen: Option<Pen>, action: &Action<A>) -> O
     }
 }
 
-/// After a control sequence, of which the final byte says whether it is renditions.
+/// After a control sequence; its final byte says whether it is renditions.
 #[inline]
 pub(crate) fn pen_after_final(pen: Option<Pen>, params: &[CsiParam], control: u8) -> Option<Pen>
     ensures { result ≡ pen_after_final params.now control pen }

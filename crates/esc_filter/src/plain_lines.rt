@@ -9,9 +9,9 @@ use std::alloc::Allocator;
 use std::str;
 use unicode_visibility::is_deceiving;
 
-/// The lines that come first and have nothing before their ends but bytes 20 to 7E, tabs,
-/// characters from U+00A0 on that do not deceive and, where `renditions` is true, renditions that
-/// are written as they came, of which the last in a line turns all off.
+/// The first lines that have nothing before their ends but bytes 20 to 7E, tabs, characters from
+/// U+00A0 on that do not deceive and, if `renditions` is true, renditions that are written as they
+/// came; the last one in a line turns all off.
 pub(crate) fn plain_lines<A: Allocator>(bytes: &[u8], renditions: bool) -> &str
     ensures lines { ArePlainLines A renditions result.now }
     ensures first { result.now ≡ take (length result.now) bytes.now }
@@ -88,7 +88,7 @@ fn wide_run(bytes: &[u8]) -> usize
     end
 }
 
-// The length of such a character that comes first; or 0. Of fewer than four bytes none is seen.
+// The length of such a character at the beginning; or 0. In fewer than four bytes none is seen.
 #[inline(always)]
 fn wide_ahead(bytes: &[u8]) -> usize
     ensures few { result ≤ length bytes.now }
@@ -105,7 +105,7 @@ fn wide_ahead(bytes: &[u8]) -> usize
     }
 }
 
-// Whether they are a character of U+00C0 to U+033F or U+0380 to U+05FF, of which none deceives.
+// Whether they are a character of U+00C0 to U+033F or U+0380 to U+05FF, none of which deceives.
 #[inline(always)]
 fn is_plain_two(a: u8, b: u8) -> bool
     ensures { result ≡ is_plain_two a b }
@@ -156,8 +156,8 @@ fn short_rendition(bytes: &[u8]) -> Option<(usize, bool)>
     Some((2 + number.0, number.1))
 }
 
-// The length of the number of up to three digits that comes first, as it is written, with the `m`
-// after it, and whether it is another than 0. Of fewer than four bytes nothing is said.
+// The length of the number of up to three digits at the beginning, as it is written, with the `m`
+// after it, and whether it is another than 0. For fewer than four bytes it is `None`.
 #[inline]
 fn last_number(bytes: &[u8]) -> Option<(usize, bool)>
     ensures { IfSome result (λ r. (r.0 ≤ length bytes.now) × IsNumber (take r.0 bytes.now) r.1) }

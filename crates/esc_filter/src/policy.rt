@@ -24,13 +24,13 @@ pub enum Policy {
     /// And graphic renditions (SGR), and hyperlinks without DEL and characters that deceive
     /// ([`is_deceiving`](crate::is_deceiving)).
     Color,
-    /// And what changes the screen alone: the controls 07 to 0F; cursor movement, erasing,
-    /// inserting, deleting, copying, filling, scrolling, margins and tab stops; modes of what is
-    /// shown, character sets, the cursor's shape, and colours of the palette. Which control and
-    /// escape sequences do so is stated by the tables of `control_functions`. It is a list of what
-    /// is known to be so: nothing that a terminal answers, nothing that changes what keys, mouse or
-    /// terminal send, no title, clipboard, notification, file, directory, print, device control
-    /// string or application program command is on it, and nothing unknown.
+    /// And actions that change the screen alone: the controls 07 to 0F; cursor movement, erasing,
+    /// inserting, deleting, copying, filling, scrolling, margins and tab stops; modes of the
+    /// screen, character sets, the cursor's shape, and colours of the palette. The tables of
+    /// `control_functions` say which control and escape sequences do so. It is a list of actions
+    /// that are known to be so: nothing that a terminal answers, nothing that changes what keys,
+    /// mouse or terminal send, no title, clipboard, notification, file, directory, print, device
+    /// control string or application program command is on it, and nothing unknown.
     Screen,
     /// All that can be written by itself, C1 controls, images and queries too. It keeps broken
     /// input from becoming a sequence, and does not protect from sequences that are there.
@@ -136,8 +136,8 @@ fn is_admitted<A: Allocator>(policy: &Policy, action: &Action<A>) -> bool
     }
 }
 
-// Whether the command of this text is a link; known where it begins with a digit other than 8, and
-// where it is a plain link of bytes 20 to 7E.
+// Whether the command of this text is a link; known if it begins with a digit other than 8, and if
+// it is a plain link of bytes 20 to 7E.
 #[inline]
 fn link_passes<A: Allocator>(text: &[u8]) -> Option<bool>
     ensures { IfSome result (λ b. is_link (command_meant {A = A} (parts_of text.now)) ≡ b) }
@@ -162,7 +162,7 @@ pub(crate) fn has_other_code(text: &[u8]) -> bool
     first.is_ascii_digit() && *first != b'8'
 }
 
-// Whether what a control sequence means is renditions; not known where the final byte is `m` and
+// Whether the values of a control sequence are renditions; not known if the final byte is `m` and
 // the parameters are no plain ones.
 #[tactic(auto, using(crate::proofs::Renditions::SequencesFromParameters::colours))]
 #[inline]
@@ -178,7 +178,7 @@ fn color_passes(params: &[CsiParam], control: u8) -> Option<bool>
     if are_plain(params) { Some(true) } else { None }
 }
 
-// The same, of what changes the screen alone too.
+// The same, also for functions that change the screen alone.
 #[tactic(auto, using(crate::proofs::Renditions::SequencesFromParameters::screens))]
 #[inline]
 fn screen_passes(params: &[CsiParam], control: u8) -> Option<bool>

@@ -10,12 +10,12 @@ use crate::line_filter::{LineFilter, line_length};
 use esc_frame::ParseError;
 use std::alloc::{AllocError, Allocator, Global};
 
-/// Takes a stream as a [`LineFilter`] does, of which each line is a stream of its own, and writes
-/// the renditions again that go on over a line feed: each line but a blank one begins with those
-/// that the lines before it, as they are written, leave on. So a line looks as it does in the
-/// stream, and also by itself.
+/// Takes a stream as a [`LineFilter`] does, with each line as a stream of its own, and writes the
+/// renditions again that go on over a line feed: each line but a blank one begins with those that
+/// the lines before it, as they are written, leave on. So a line looks as it does in the stream,
+/// and also by itself.
 ///
-/// What it writes is what a [`LineFilter`] does of the stream with these renditions in it, and
+/// It writes the text that a [`LineFilter`] writes for the stream with these renditions in it, and
 /// passes the policy as they do. Fonts, frames, and how high and how wide characters are do not go
 /// on, and neither does a link.
 #[derive(Drop)]
@@ -34,7 +34,7 @@ impl<P: Admit<A>, A: Allocator + Copy> ResumingFilter<P, A> {
     ghost use Rattle.esc_filter.specs.Resumed.{AddsResumed, AfterResumed, ClosesWith, EndsResumed, EndsWith, GrowsResumed, OnStream, ResumedHasConsumed, added_by, policy_of_resuming};
 
     /// A filter at the beginning of a stream, as [`LineFilter::with_guard`] says. Renditions are
-    /// written again where `resumes` is true; else it is a [`LineFilter`]. Takes no memory.
+    /// written again if `resumes` is true; else it is a [`LineFilter`]. Takes no memory.
     pub fn new(
         alloc: A,
         limit: usize,
@@ -54,7 +54,7 @@ impl<P: Admit<A>, A: Allocator + Copy> ResumingFilter<P, A> {
         }
     }
 
-    /// Takes `bytes`. What they add to the text of the stream so far is then the
+    /// Takes `bytes`. The text that they add to the text of the stream so far is then the
     /// [`text`](ResumingFilter::text).
     ///
     /// `ParseError::Memory` says that a request for memory was refused: the text is empty, and from
@@ -149,7 +149,7 @@ impl<P: Admit<A>, A: Allocator + Copy> ResumingFilter<P, A> {
         }
     }
 
-    // Takes what ends the last line.
+    // Takes bytes that end the last line.
     fn take_line(&mut self, bytes: &[u8]) -> Result<(), AllocError>
         requires { IsLine bytes.now }
         ensures given { OnStream P.Admit self.old (λ k u limit admits d.
@@ -170,7 +170,7 @@ impl<P: Admit<A>, A: Allocator + Copy> ResumingFilter<P, A> {
         }
     }
 
-    // Takes bytes without a line feed, of which there are some.
+    // Takes bytes without a line feed, at least one.
     fn take_open(&mut self, bytes: &[u8]) -> Result<(), AllocError>
         requires { (0 < length bytes.now) × (has_line_feed bytes.now ≡ false) }
         ensures given { OnStream P.Admit self.old (λ k u limit admits d.
@@ -208,7 +208,7 @@ impl<P: Admit<A>, A: Allocator + Copy> ResumingFilter<P, A> {
         self.lines.feed_rest(opening)
     }
 
-    // Takes what ends the last line, and notes the renditions that it leaves on.
+    // Takes bytes that end the last line, and notes the renditions that it leaves on.
     fn end_line(&mut self, bytes: &[u8]) -> Result<(), AllocError>
         requires { IsLine bytes.now }
         ensures given { AfterLines P.Admit self.old.lines (λ u limit admits d.
@@ -241,7 +241,7 @@ impl<P: Admit<A>, A: Allocator + Copy> ResumingFilter<P, A> {
         }
     }
 
-    // Notes the renditions that the last line leaves on, where they are written again.
+    // Notes the renditions that the last line leaves on, if they are written again.
     fn note_opening(&mut self) -> Result<(), AllocError>
         ensures noted { OnOk result (string_bytes self.new.opening
             ≡ (if self.old.resumes then opening self.old.lines.filter.written.left

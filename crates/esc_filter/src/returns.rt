@@ -1,11 +1,11 @@
-//! What a filter writes of carriage returns.
+//! The way in which a filter writes carriage returns.
 ghost use Rattle.std.specs.Prelude.{◌≡◌, IsTrue, true};
 ghost use Rattle.esc_filter.specs.Characters.{is_return};
 
 use esc_actions::ControlCode;
 
-/// What a filter writes of a carriage return that passes, where it is no part of the end of a line:
-/// at a terminal the text after it hides the text before it.
+/// The way in which a filter writes a carriage return that passes, if it is no part of the end of a
+/// line: at a terminal the text after it hides the text before it.
 #[derive(Clone, Copy, Debug, PartialEq, Eq)]
 pub enum Returns {
     /// The carriage return itself.

@@ -1,8 +1,8 @@
-//! What a terminal saves with its cursor.
+//! The state that a terminal saves with its cursor.
 ghost use Rattle.std.specs.Prelude.{◌≡◌};
 ghost use Rattle.esc_filter.specs.Terminal.{are_changed_sets, either_sets, is_changed_saved};
 
-/// Which character sets are not as at the start, where G0 to G3 are US-ASCII, and whether another
+/// Which character sets are not as at the start, with US-ASCII in G0 to G3, and whether another
 /// than G0 is in use.
 #[derive(Clone, Copy)]
 pub(crate) struct Sets {
@@ -44,7 +44,7 @@ impl Sets {
     }
 }
 
-/// What is saved with a cursor (DECSC), as far as it is not as at the start.
+/// The state that is saved with a cursor (DECSC), as far as it is not as at the start.
 #[derive(Clone, Copy)]
 pub(crate) struct Saved {
     pub rendition: bool,

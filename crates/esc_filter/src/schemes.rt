@@ -60,7 +60,8 @@ fn link_leads<A: Allocator>(schemes: &Option<&str>, command: &OperatingSystemCom
     }
 }
 
-// The same of an address in parts, of which the scheme is in the first; or they are none.
+// Whether an address in these parts, with the scheme in the first part, has one of these schemes.
+// It is true also if they are no address, or if there are none.
 fn parts_lead<A: Allocator>(parts: &[Items<u8, A>], schemes: &[u8]) -> bool
     ensures { result ≡ parts_lead parts.now schemes.now }
 {

@@ -1,4 +1,4 @@
-//! What changes the screen alone: of control and escape sequences, by the tables of
+//! Functions that change the screen alone: control and escape sequences, by the tables of
 //! `control_functions`.
 ghost use Rattle.std.specs.Prelude.{◌≡◌};
 ghost use Rattle.std.specs.List.{list_all};

@@ -1,4 +1,4 @@
-//! A terminal, as far as what passes leaves it changed.
+//! A terminal, as far as the actions that pass leave it changed.
 ghost use Rattle.std.specs.Prelude.{◌≡◌};
 ghost use Rattle.esc_filter.specs.Terminal.{after_change, after_function, after_mode, after_named, after_param, after_params, after_private, mode_restored, are_changed_sets, cursor_kept, is_changed, is_changed_mode, is_changed_saved, is_main, kept_mode, with_renditions, restore, restored_terminal, save, saved_of, screen_shown, unchanged, was_set, with_cursor};
 
@@ -47,15 +47,15 @@ pub(crate) struct Terminal {
     pub sets: Sets,
     /// Its screen.
     pub screen: Screen,
-    /// What is saved with the cursor of the main screen.
+    /// The state that is saved with the cursor of the main screen.
     pub saved: Saved,
-    /// What is saved with that of the alternate one.
+    /// The state that is saved with that of the alternate one.
     pub saved_aside: Saved,
-    /// What XTSAVE kept.
+    /// The modes that XTSAVE kept.
     pub kept: Modes,
 }
 
-/// What a control function does to modes.
+/// The effect of a control function on modes.
 #[derive(Clone, Copy)]
 pub(crate) enum Change {
     /// It sets or resets modes of ECMA-48 (SM, RM).
@@ -100,8 +100,8 @@ impl Terminal {
         }
     }
 
-    /// Whether anything is changed, but for what is saved on the alternate screen and what XTSAVE
-    /// kept.
+    /// Whether anything is changed, but for the state saved on the alternate screen and the modes
+    /// that XTSAVE kept.
     #[inline]
     pub fn is_changed(&self) -> bool
         ensures { result ≡ is_changed self.now }
@@ -165,8 +165,7 @@ impl Terminal {
         }
     }
 
-    // It is restored. Not every terminal saves all of it, so what is changed now is taken to stay
-    // so.
+    // It is restored. Not every terminal saves all of it, so a present change is taken to stay.
     pub fn restore(&mut self)
         ensures { self.new ≡ restore self.old }
     {

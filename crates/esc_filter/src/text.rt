@@ -1,4 +1,4 @@
-//! A text of which the memory is used again.
+//! A text with memory that is used again.
 ghost use Rattle.std.specs.Prelude.{◌≡◌, []};
 
 use esc_values::Text;

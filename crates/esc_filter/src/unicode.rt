@@ -1,19 +1,19 @@
-//! What a filter writes of characters that deceive.
+//! The way in which a filter writes characters that deceive.
 ghost use Rattle.std.specs.Prelude.{◌≡◌, IsTrue, true};
 ghost use Rattle.unicode_visibility.specs.Characters.{is_deceiving};
 
 use unicode_visibility::is_deceiving;
 
-/// What a filter writes of a character that hides or reorders text ([`is_deceiving`]), where the
-/// character passes.
+/// The way in which a filter writes a character that hides or reorders text ([`is_deceiving`]), if
+/// the character passes.
 #[derive(Clone, Copy, Debug, PartialEq, Eq)]
 pub enum Unicode {
     /// The character itself.
     Keep,
-    /// The character itself where it may follow the character that was written before it
+    /// The character itself if it may follow the character that was written before it
     /// ([`may_follow`](unicode_visibility::may_follow)), as variation selectors and joiners in
-    /// emoji and within words do, or, where none was, is a byte order mark; and where it may not,
-    /// its number, as by `Show`.
+    /// emoji and within words do, or, if none was written, is a byte order mark; and otherwise its
+    /// number, as by `Show`.
     Join,
     /// Its number, as `<U+202E>`: in hexadecimal, upper case, with at least four digits.
     Show,

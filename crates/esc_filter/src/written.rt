@@ -1,4 +1,4 @@
-//! What writes the actions that pass, and notes what they leave changed.
+//! The writer of the actions that pass, which notes the changes that they leave.
 ghost use Rattle.std.specs.Prelude.{◌≡◌, ◌∷◌, ◌<◌, [], false, true, length, map, IfOk, IsTrue, MatchResult, None, OnErr, OnOk, Some};
 ghost use Rattle.std.specs.List.{list_all};
 ghost use Rattle.std.specs.Str.{chars};
@@ -33,25 +33,25 @@ use unicode_visibility::{
     has_deceiving, has_stray, is_deceiving, last_char, may_follow, number_text,
 };
 
-/// Appends the text of each action, but of line feeds where lines are streams of their own.
+/// Appends the text of each action, but not of line feeds if lines are streams of their own.
 #[derive(Drop)]
 pub(crate) struct Written<A: Allocator = Global> {
     /// The text of the actions.
     pub spell: TextSink<A>,
-    /// What they left changed.
+    /// The changes that they left.
     pub left: Terminal,
-    /// What is written of what deceives.
+    /// The way in which characters that deceive are written.
     pub guard: Guard,
     /// Whether line feeds are dropped.
     pub by_lines: bool,
-    /// The character that was written last, where a character was.
+    /// The character that was written last, if a character was.
     pub before: Option<char>,
-    /// The renditions that are known to be on, where they are noted.
+    /// The renditions that are known to be on, if they are noted.
     pub pen: Option<Pen>,
 }
 
 impl<A: Allocator> Written<A> {
-    /// Of no action. Takes no memory.
+    /// A writer of no action. Takes no memory.
     pub fn new(alloc: A, by_lines: bool, guard: Guard) -> Written<A>
         ensures text { result.spell.text ≡ [] }
         ensures noted { HasNoted by_lines guard [] result }
@@ -66,7 +66,7 @@ impl<A: Allocator> Written<A> {
         }
     }
 
-    /// The same without its text, of which the memory is used again.
+    /// The same without its text; the memory of the text is used again.
     #[inline]
     pub fn emptied(self) -> Written<A>
         ensures { result ≡ without_text self }
@@ -133,7 +133,7 @@ impl<A: Allocator> Written<A> {
         self.guard.returns.drops(code)
     }
 
-    /// Whether each of the characters is written as it is, where it is seen at once.
+    /// Whether each of the characters is written as it is, if it is seen at once.
     #[inline]
     pub fn keeps(&self, text: &str) -> bool
         ensures { IsTrue result → AreKept self.now.guard self.now.before (chars text.now) }
@@ -163,7 +163,7 @@ impl<A: Allocator> Written<A> {
         }
     }
 
-    // Appends what is written of a character.
+    // Appends the text that is written for a character.
     #[inline]
     fn append_char(&mut self, c: char) -> Result<(), AllocError>
         ensures ok { OnOk result
@@ -179,7 +179,7 @@ impl<A: Allocator> Written<A> {
         self.append_instead(c)
     }
 
-    // Appends what is written in place of a character that deceives.
+    // Appends the text in place of a character that deceives.
     fn append_instead(&mut self, c: char) -> Result<(), AllocError>
         ensures ok { OnOk result (Writes self.old
             (replacement_values self.old.guard.characters self.old.before c) self.new) }
@@ -193,7 +193,7 @@ impl<A: Allocator> Written<A> {
         }
     }
 
-    // Appends a character that deceives where it belongs to the one before it, or else its number.
+    // Appends a character that deceives if it belongs to the one before it, or else its number.
     fn append_joined(&mut self, c: char) -> Result<(), AllocError>
         ensures ok { OnOk result
             (Writes self.old (replacement_values Unicode.Join self.old.before c) self.new) }
@@ -237,9 +237,8 @@ impl<A: Allocator> Written<A> {
         }
     }
 
-    /// Appends a rendition of one number, or a colour of the palette, and notes what it leaves
-    /// changed. Where a sequence of these parameters that ends in `m` is none of both, it returns
-    /// false.
+    /// Appends a rendition of one number, or a colour of the palette, and notes the changes that it
+    /// leaves. If a sequence of these parameters that ends in `m` is neither, it returns false.
     #[inline]
     pub fn append_rendition(&mut self, params: &[CsiParam]) -> Result<bool, AllocError>
         ensures taken { IfOk result (λ b. IsTrue b → WritesRendition self.old params.now self.new) }
@@ -285,7 +284,7 @@ impl<A: Allocator> Written<A> {
         }
     }
 
-    /// Appends a control, but a line feed where these are dropped.
+    /// Appends a control, but no line feed if these are dropped.
     #[inline]
     pub fn append_control(&mut self, code: ControlCode) -> Result<(), AllocError>
         ensures ok { OnOk result (Notes self.old (action.Control code) self.new) }
@@ -308,7 +307,7 @@ impl<A: Allocator> Written<A> {
         }
     }
 
-    // Appends what is written of a carriage return.
+    // Appends the text that is written for a carriage return.
     #[inline]
     fn append_return(&mut self) -> Result<(), AllocError>
         ensures ok { OnOk result (Writes self.old (in_return self.old.guard.returns) self.new) }
@@ -351,8 +350,8 @@ impl<A: Allocator> Written<A> {
         }
     }
 
-    // Appends the text of an action, and notes what it leaves changed, out of the way of the code
-    // that takes characters.
+    // Appends the text of an action, and notes the changes that it leaves, apart from the code that
+    // takes characters.
     #[inline(never)]
     fn append(&mut self, action: Action<A>) -> Result<(), AllocError>
         ensures { MatchResult result (λ _. Writes self.old (value_of action ∷ []) self.new)
@@ -455,8 +454,8 @@ impl<A: Allocator> Sink<Action<A>> for Written<A> {
         self.append_link(text)
     }
 
-    // What follows is as by default, and written out: at the type of an action, a method that is
-    // taken over from the trait costs a proof some seconds more.
+    // The next methods are as by default, and written out: at the type of an action, a method that
+    // is taken over from the trait costs a proof some seconds more.
     #[inline]
     fn drops_sequences(&self, _control: u8) -> bool {
         false
@@ -468,7 +467,7 @@ impl<A: Allocator> Sink<Action<A>> for Written<A> {
     }
 }
 
-// The character that it is, where it is one.
+// The character that it is, if it is one.
 #[inline]
 fn character_of<A: Allocator>(action: &Action<A>) -> Option<char>
     ensures { result ≡ character_of (value_of action.now) }
@@ -479,7 +478,7 @@ fn character_of<A: Allocator>(action: &Action<A>) -> Option<char>
     }
 }
 
-// The last of these characters of ASCII, or the one before them where there are none.
+// The last of these characters of ASCII, or the one before them if there are none.
 #[inline]
 fn last_byte(before: Option<char>, text: &[u8]) -> Option<char>
     ensures { result ≡ last_of before text.now }

@@ -1,5 +1,5 @@
--- What passes a policy that admits no more than `Text` or `Color` does, and what gives back what it
--- leaves changed, is what these admit.
+-- If a policy admits no more than `Text` or `Color`, the values that pass, and those that undo the
+-- changes that they leave, are values that these admit.
 use Rattle.std.proofs.Common.{ℕ, ◌≡◌, ◌⊎◌, inl, inr, Bool, true, false, not, ◌&&◌, ◌||◌, ◌==◌, if◌then◌else◌, List, [], ◌∷◌, ◌++◌, map, Option, None, Some, refl, sym, ap, ◌∙◌, subst, lit<}
 use Rattle.std.specs.List.{filter, list_all}
 use Rattle.std.proofs.lemmas.Bool.{and_parts, eqb-true, true≢false}
@@ -37,7 +37,7 @@ use Rattle.esc_filter.proofs.GivingBack.RenditionsAfterSequence.{plain_lit}
 use Rattle.esc_filter.proofs.ByLine.DataHasNoFeed.{both}
 use Rattle.esc_filter.proofs.Output.AdmittedTextsAreUnits.{all_pieces, least, more_pieces, plain_piece, texts_pieces}
 
--- ---- what passes
+-- ---- the values that pass
 
 text_least : {A : Type 0} (k : Bool) (v : Value A) → is_text v ≡ true → admits (least k) v ≡ true
 text_least false v h = h
@@ -111,7 +111,7 @@ module _ (A : Type 0) (k : Bool) where
       ∙ both is_least (in_guard u b v) (in_values_after u l vs) (shown_value u b v q.0)
       (shown_values u l vs q.1)
 
--- ---- what it leaves changed
+-- ---- the changes that they leave
 
 -- a rendition and a link alone
 abbrev tinted : Bool → Bool → Terminal

@@ -1,4 +1,4 @@
--- What a choice of groups admits of text, of control sequences and of images.
+-- The decisions of a choice of groups about text, control sequences and images.
 use Rattle.std.proofs.Common.{◌≡◌, ℕ, ◌<◌, Bool, true, false, not, ◌==◌, List, [], ◌∷◌, refl, ap, ◌∙◌}
 use Rattle.std.specs.List.{list_all, list_any}
 use Rattle.std.specs.Str.{IsUtf8, chars}
@@ -48,7 +48,7 @@ pub other_stays : (g : Groups) (es : List CsiParam) (f : ℕ) → (f == 0x6d) �
     → has g (of_body es f) ≡ false → list_any (has_sequence g) (csi_of es false f) ≡ false
 other_stays g es f h k = rw (nameless es f h) (rw k refl)
 
--- renditions of which none conceals text
+-- renditions, none of which conceals text
 plain_group : (es : List CsiParam) (f : ℕ) → f ≡ 0x6d → list_all is_plain_param es ≡ true
     → conceals es ≡ false → of_body es f ≡ group.Sgr
 plain_group es f m h k = rw (m, h, k) refl
@@ -96,5 +96,5 @@ images_stay A g (enter e) h k = absurd cc
 images_stay A g (datum b) h k = absurd cc
 images_stay A g exit h k = absurd cc
 
--- what a choice of groups says of a control sequence, for `grind`
+-- the decisions of a choice of groups about a control sequence, for `grind`
 pub ruleset choices = (other_passes, other_stays, renditions_pass, renditions_stay)

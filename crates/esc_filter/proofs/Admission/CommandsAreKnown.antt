@@ -75,7 +75,7 @@ module _ (A : Type 0) where
   no_selected_link (s ∷ t ∷ []) = no_content_link (pointwise nat_eq t (codes "?")) s t
   no_selected_link (s ∷ t ∷ u ∷ ps) = refl
 
-  -- what the code of no link reads
+  -- the reading of a code that is not the code of links
   read_no_link : (c : OperatingSystemCommandCode) (t : List ℕ) (args : List (List ℕ))
       → c ≢ code.SetHyperlink → links {A = A} (reading c t args) ≡ false
   read_no_link code.SetHyperlink t args h = absurd (h refl)
@@ -135,7 +135,7 @@ first_taken : (n b : ℕ) (p : List ℕ) → 1 ≤ n → (q : List ℕ) × (take
 first_taken zero b p some = absurd (omega (arith, some))
 first_taken (suc n) b p some = (take n p, refl)
 
--- the first byte of a text is the first of its lossy one, where it is ASCII
+-- the first byte of a text is the first of its lossy one, if it is ASCII
 whole_lossy : (b : ℕ) (p : List ℕ) → (utf8_valid_len (b ∷ p) == length (b ∷ p)) ≡ true
     → utf8_lossy (b ∷ p) ≡ b ∷ p
 unfolding utf8_lossy
@@ -191,7 +191,7 @@ begun_no_link A b p ps low high other =
     (ap (λ t. links {A = A} (named_command t ps)) l.1 ∙ named_no_link A b l.0 ps low high other)
     (no_address b p ps other)
 
--- a text that begins with another digit than that of the code of links
+-- a text that begins with another digit than the code of links does
 begins_no_link : (A : Type 0) (b : ℕ) (t : List ℕ) → 0x30 ≤ b → b ≤ 0x39 → b ≢ 0x38
     → is_hyperlink (meaning {A = A} (parts_of (b ∷ t))) ≡ false
 begins_no_link A b t low high other =
@@ -201,7 +201,7 @@ begins_no_link A b t low high other =
     (slice_split-cons_no (λ c. c == 0x3b) b t no ∙ first.2)
     ∙ begun_no_link A b first.0 first.1 low high other
 
--- what is no such command is no link, and leaves all as it was
+-- a command that is none of these is no link, and leaves all as it was
 unlinked : {A : Type 0} (c : OperatingSystemCommand A) → is_hyperlink c ≡ false → is_link c ≡ false
 unlinked (command.SetHyperlink l) h = absurd (true≢false h)
 unlinked (command.Unspecified ps) h = ap (λ t. t && list_all is_clean_part ps) h

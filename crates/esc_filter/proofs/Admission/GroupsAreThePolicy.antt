@@ -1,4 +1,4 @@
--- The groups of a policy admit what the policy does.
+-- The groups of a policy admit the values that the policy admits.
 use Rattle.std.proofs.Common.{◌≡◌, ℕ, Bool, true, false, not, ◌&&◌, ◌||◌, ◌==◌, if◌then◌else◌, List, Option, Some, None, refl, sym, ap, ◌∙◌, arith}
 use Rattle.std.proofs.lemmas.Bool.{and_parts}
 use Rattle.std.proofs.lemmas.Bool.Decides.{nat_tests}
@@ -36,7 +36,7 @@ use Rattle.esc_filter.specs.declared.groups.Groups.{Groups}
 use Rattle.esc_filter.specs.declared.policy.Policy.{Policy}
 use Rattle.esc_filter.specs.declared.policy.Policy.TheVariants as policy
 
--- what a policy admits of a value that is text, colour, or changes the screen alone
+-- the decision of a policy about a value that is text, colour, or changes the screen alone
 abbrev rule : Policy → Bool → Bool → Bool → Bool
 rule policy.Text t c s = t
 rule policy.Color t c s = t || c
@@ -176,7 +176,8 @@ control_ruled p n =
     ((n == 0x0e) || (n == 0x0f))
     ∙ ap (rule p (is_layout n) false) (each_control n)
 
--- no function is text or colour, and what changes the screen alone is in a group of that
+-- no function is text or colour, and a function that changes the screen alone is in a group of such
+-- functions
 no_text : (f : ControlFunction) → chosen policy.Text (of_function f) ≡ false
 unfolding place of_function
 no_text = of_each sheet (λ f. chosen policy.Text (of_function f)) (λ f. false) refl
@@ -239,7 +240,8 @@ named_ruled : (p : Policy) (o : Option ControlFunction) (e : List CsiParam)
 named_ruled p None e = other p
 named_ruled p (Some f) e = some_ruled p f e (changes_with f e) refl
 
--- no function is text or colour, and what changes the screen alone is in a group of that
+-- no function is text or colour, and a function that changes the screen alone is in a group of such
+-- functions
 escape_no_text : (f : EscapeFunction) → chosen policy.Text (of_escape_function f) ≡ false
 unfolding place of_escape_function
 escape_no_text =
@@ -360,7 +362,7 @@ same p v =
     (each_leads p v)
     ∙ each_ruled p v ∙ ruled p v
 
--- where more pass, no fewer show what they are
+-- if more pass, no fewer show their kind
 or_more : (x a b : Bool) → (a ≡ true → b ≡ true) → (x || a) ≡ true → (x || b) ≡ true
 or_more true a b some h = refl
 or_more false a b some h = some h

@@ -12,7 +12,7 @@ use Rattle.esc_filter.specs.Rules.{admits, is_text, is_color, is_screen}
 use Rattle.esc_filter.specs.declared.policy.Policy.{Policy}
 use Rattle.esc_filter.specs.declared.policy.Policy.TheVariants as policy
 
--- no image is text, colour or what changes the screen alone
+-- no image is text or colour, or changes the screen alone
 is_none : {A : Type 0} (v : Value A) → is_image v ≡ true → (is_text v ≡ false)
     × (is_color v ≡ false) × (is_screen v ≡ false)
 is_none (print c) h = absurd cc
@@ -43,7 +43,7 @@ module _ {A : Type 0} (p : Policy) (v : Value A) where
       let (t, c, s) = is_none v h in
       subst (λ x. admits x v ≡ false) (sym e) (rw (t, c, s) refl)
 
--- what is not admitted leaves a text as it is
+-- an action that is not admitted leaves a text as it is
 pub passed_over : {A : Type 0} (admits : Value A → Bool) (p : Written A) (a : Action A)
     → admits (value_of a) ≡ false → Takes admits p a p
 passed_over admits p a h =

@@ -1,4 +1,4 @@
--- What passes is writable.
+-- The actions that pass are writable.
 use Rattle.std.proofs.Common.{◌≡◌, ◌⊎◌, inl, inr, ℕ, Bool, true, false, cond, not, if◌then◌else◌, List, [], ◌∷◌, ◌++◌, map, Option, None, refl, sym, subst}
 use Rattle.std.proofs.lemmas.Bool.{and_parts, not-true, true≢false}
 use Rattle.std.specs.List.{filter, list_all}
@@ -20,7 +20,7 @@ use Rattle.esc_filter.specs.declared.unicode.Unicode.TheVariants.{Drop, Join, Ke
 use Rattle.esc_filter.proofs.Output.DeceivingCharacters.{kinds, number_clear}
 use Rattle.esc_values.specs.Clear.{is_clear}
 
--- what is no step of a mode may be where no mode is entered, and enters none
+-- a value that is no step of a mode may come outside of modes, and enters none
 no_step : {A : Type 0} (v : Value A) → is_mode_step v ≡ false → (is_within v ≡ false)
     × (stays_within v ≡ false)
 no_step (print c) e = (refl, refl)
@@ -56,7 +56,7 @@ filtered_writable admits (v ∷ vs) h =
     (outside.0, h.0 (not-true (is_exception v) parts.0), outside.1))
     (filtered_writable admits vs h.1)
 
--- ---- what is written of values is writable where these are
+-- ---- the values that are written for values are writable if these are
 
 prints_writable : {A : Type 0} (xs : List ℕ) (ws : List (Value A)) → list_all is_clear xs ≡ true
     → AreWritable ws → AreWritable (map print xs ++ ws)

@@ -1,4 +1,4 @@
--- What a policy is known to do.
+-- The known decisions of a policy.
 use Rattle.std.proofs.Common.{◌≡◌, ℕ, Bool, true, false, ◌==◌, List, refl}
 use Rattle.std.specs.Prelude.{IsTrue}
 use Rattle.std.specs.List.{list_all, list_any}
@@ -21,7 +21,7 @@ nothing_known admits = record {
 }
 
 module _ {A : Type 0} (admits : Value A → Bool) (k : Known) (known : IsKnown admits k) where
-  -- where nothing but renditions passes, no other sequence does
+  -- if nothing but renditions passes, no other sequence does
   pub functions_stay : IsTrue k.no_functions → (es : List CsiParam) (f : ℕ) → (f == 0x6d) ≡ false
       → list_any (λ c. admits (csi c)) (csi_of es false f) ≡ false
   functions_stay none es f other =
@@ -30,7 +30,7 @@ module _ {A : Type 0} (admits : Value A → Bool) (k : Known) (known : IsKnown a
       known.no_functions none (unspecified es false f) plain in
       rw (nameless es f other) (rw stays refl)
 
--- where all renditions pass, these do
+-- if all renditions pass, these do
 pub renditions_pass : {A : Type 0} (admits : Value A → Bool) (es : List CsiParam)
     → ArePassedRenditions admits → list_all is_plain_param es ≡ true
     → list_all (λ c. admits (csi c)) (csi_of es false 0x6d) ≡ true

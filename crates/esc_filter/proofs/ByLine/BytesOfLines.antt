@@ -68,7 +68,7 @@ no_end (b ∷ x) h = by_head (is_line_feed b) h (no_end x)
 pub line_feed_is : (b : ℕ) → is_line_feed b ≡ true → b ≡ 0x0a
 line_feed_is b h = grind (arith, nat_tests)
 
--- what comes first has none where the whole has none
+-- the first part has none if the whole has none
 feeds_first : (x y : List ℕ) → has_line_feed (x ++ y) ≡ false → has_line_feed x ≡ false
 feeds_first [] y h = refl
 feeds_first (b ∷ x) y h = by_head (is_line_feed b) h (feeds_first x y)
@@ -143,7 +143,7 @@ pub return_append : (before : Bool) (x y : List ℕ)
 return_append before [] y = refl
 return_append before (b ∷ x) y = return_append (is_return b) x y
 
--- more after the rest of a line, of which the body was taken
+-- more bytes after the rest of a line whose body was taken
 pub body_more : (r b : List ℕ) → (c : List ℕ) × (body (r ++ b) ≡ body r ++ c)
 body_more r [] = ([], ap body (append-nil r) ∙ sym (append-nil (body r)))
 body_more r (a ∷ b) = let h = held (ends_return false r) in (
@@ -168,7 +168,7 @@ pub last_return : (x : List ℕ) → 0 < length x
 last_return [] h = absurd (omega (arith, h))
 last_return (b ∷ x) h = sym (return_last false b x)
 
--- what comes before the last byte
+-- the bytes before the last one
 pub first_taken : (x : List ℕ) (b : ℕ) → take (length (x ++ b ∷ []) - 1) (x ++ b ∷ []) ≡ x
 first_taken [] b = refl
 first_taken (a ∷ x) b =
@@ -187,7 +187,7 @@ pub before_feed : (l : List ℕ) → IsLine l → take (length l - 1) l ≡ cont
 before_feed l line =
     ap (λ z. take (length z - 1) z) (whole_line l line) ∙ first_taken (content l) 0x0a
 
--- the body of bytes of which a carriage return comes last
+-- the body of bytes with a carriage return at their end
 pub body_taken : (x : List ℕ) → ends_return false x ≡ true → body x ≡ take (length x - 1) x
 body_taken x h =
     sym (first_taken (body x) 0x0d)

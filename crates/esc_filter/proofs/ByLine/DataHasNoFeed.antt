@@ -1,4 +1,4 @@
--- Of a line no data of a short control has a line feed: where one comes, the control is unfinished.
+-- In a line, the data of a short control has no line feed: if one comes, the control is unfinished.
 use Rattle.std.proofs.Common.{ℕ, ℤ, ◌≡◌, Bool, true, false, not, ◌&&◌, ◌||◌, if◌then◌else◌, List, [], ◌∷◌, ◌++◌, length, map, Option, Some, None, ◌⊎◌, inl, inr, refl, sym, ap, ◌∙◌, subst}
 use Rattle.std.specs.List.{list_all}
 use Rattle.std.proofs.lemmas.Bool.{and_parts}
@@ -40,7 +40,7 @@ both p [] ys h k = k
 both p (x ∷ xs) ys h k =
     let q = and_parts (p x) (list_all p xs) h in rw (q.0, both p xs ys q.1 k) refl
 
--- what comes before more has no line feed where both have none
+-- the first part has no line feed if both together have none
 parts : (x y : List ℕ) → has_line_feed (x ++ y) ≡ false
     → (has_line_feed x ≡ false) × (has_line_feed y ≡ false)
 parts [] y h = (refl, h)

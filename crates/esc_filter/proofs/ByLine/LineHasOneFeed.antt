@@ -1,4 +1,4 @@
--- What is written of a line has no line feed but its own.
+-- The text written for a line has no line feed but its own.
 use Rattle.std.proofs.Common.{ℕ, ◌≡◌, Bool, true, false, not, ◌&&◌, if◌then◌else◌, List, [], ◌∷◌, ◌++◌, map, Option, None, Some, ◌⊎◌, inl, inr, refl, sym, ap, ◌∙◌, subst, append-nil, append_assoc}
 use Rattle.std.specs.List.{filter, flat_map, list_all}
 use Rattle.std.proofs.lemmas.Bool.{and_parts}
@@ -39,7 +39,7 @@ use Rattle.esc_filter.proofs.Output.DeceivingCharacters.{in_more, in_none, kinds
 use Rattle.esc_filter.proofs.ByLine.DataHasNoFeed.{IsAnyLine, both, is_free, line_free}
 use Rattle.esc_filter.proofs.ByLine.TextsHaveNoFeed.{Feedless, is_fine, texts_feedless}
 
--- ---- what passes of a line
+-- ---- the values of a line that pass
 
 fine_by : (e m f n a : Bool) → ((not e && not m) && (not n && a)) ≡ true → f ≡ true
     → (not n && (not m && f)) ≡ true
@@ -181,7 +181,8 @@ are_lines (b ∷ s) = by (is_line_feed b) refl (are_lines s)
     by true e a = inl (([], refl, ap (λ c. c ∷ []) (line_feed_is b e)), a)
     by false e a = begin_lines b (lines s) e a
 
--- what makes a line of each line, and of an open one no line feed, makes of lines the same lines
+-- a function that makes a line of each line, and text without a line feed of an open one, makes the
+-- same lines of lines
 module _ (T : List ℕ → List ℕ) (ended : (l : List ℕ) → IsLine l → IsLine (T l))
     (unended : (l : List ℕ) → has_line_feed l ≡ false → has_line_feed (T l) ≡ false) where
   abbrev Some_lines : List (List ℕ) → List (List ℕ)

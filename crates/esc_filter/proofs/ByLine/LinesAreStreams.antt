@@ -30,7 +30,7 @@ module _ {A : Type 0} (u : Guard) (limit : ℕ) (admits : Value A → Bool) wher
   abbrev T : List ℕ → List ℕ
   T s = list_text (V s)
 
-  -- what gives back what a line leaves changed
+  -- the values that undo the changes that a line leaves
   abbrev C : List ℕ → List ℕ
   C s = list_text (closing admits (V s))
 
@@ -96,7 +96,7 @@ module _ {A : Type 0} (u : Guard) (limit : ℕ) (admits : Value A → Bool) wher
       ∙ sym (append_assoc (By d) x (t ++ C r))
       ∙ ap (λ z. z ++ (t ++ C r)) (sym so_far)
 
-  -- what the end of a stream adds to the text of what came
+  -- the values that the end of a stream adds to the text so far
   pub closed_longer : (s : List ℕ)
       → (t : List ℕ) × (closed_by_lines_as {A = A} u limit admits s ≡ By s ++ t)
   closed_longer s = by (split_open s)
@@ -381,7 +381,7 @@ module _ {A : Type 0} (u : Guard) (limit : ℕ) (admits : Value A → Bool) wher
     unfailed = n;
   }
 
-  -- the text that was handed out is no part of what was fed
+  -- the text that was handed out is no part of the state that was fed
   pub fed_same : {P : Type 0} (s : List ℕ) (f h : LineFilter P A) → h.filter ≡ f.filter
       → h.holds ≡ f.holds → h.has_failed ≡ f.has_failed
       → HasConsumedLines u limit admits s f → HasConsumedLines u limit admits s h
@@ -412,7 +412,7 @@ module _ {A : Type 0} (u : Guard) (limit : ℕ) (admits : Value A → Bool) wher
   )
 
 module _ {A : Type 0} (u : Guard) (limit : ℕ) (admits : Value A → Bool) where
-  -- what a line adds to what passes of its beginning, and the lines after it
+  -- the text that a line adds to the text of its beginning, and the lines after it
   rest_longer : (r b : List ℕ) → has_line_feed r ≡ false
       → (t : List ℕ) × (text_by_lines_as {A = A} u limit admits (r ++ b)
       ≡ T u limit admits (body r) ++ t)

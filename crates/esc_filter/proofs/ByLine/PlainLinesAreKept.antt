@@ -185,7 +185,7 @@ module _ (A : Type 0) (u : Guard) (limit : ℕ) (admits : Value A → Bool)
       let q = and_parts (is_wide c) (list_all is_wide cs) h in
       joined (wide c q.0) (wides cs q.1)
 
-  -- a rendition, where all pass
+  -- a rendition, if all pass
   admitted : (c : CsiValue) → ArePassedRenditions admits → is_rendition c ≡ true
       → (es : List CsiParam) → csi_of es false 0x6d ≡ c ∷ []
       → passes (in_lines true admits) (csi c) ≡ true
@@ -245,7 +245,7 @@ module _ (A : Type 0) (u : Guard) (limit : ℕ) (admits : Value A → Bool)
   end_same true = rw (texts (control CarriageReturn) refl) refl
   end_same false = refl
 
-  -- what passes of a line
+  -- the values of a line that pass
   line_passes : (x : List ℕ) (vs : List (Value A)) → Passed x vs
       → passed_of_line {A = A} u limit admits (x ++ 0x0a ∷ []) ≡ vs
   line_passes x vs p =
@@ -378,7 +378,7 @@ module _ (A : Type 0) (u : Guard) (limit : ℕ) (admits : Value A → Bool)
 
 -- ---- between lines they are appended
 
--- nothing is unfinished where a line ends
+-- nothing is unfinished at the end of a line
 no_rest : (d r : List ℕ) → has_line_feed r ≡ false → ends_line true (d ++ r) ≡ true → r ≡ []
 no_rest d [] none ends = refl
 no_rest d (b ∷ r) none ends =

@@ -21,7 +21,7 @@ use Rattle.esc_filter.proofs.Output.RunsOfText.{all_more}
 use Rattle.esc_filter.proofs.Renditions.ShortRenditionsMean.{is_inner, shade_of}
 use Rattle.esc_filter.proofs.ByLine.PlainLinesAreKept.{Begun, Passed, begun_feed, begun_more, feed_ended, quiet_ended, rendition, run, run_leaves, tab, wides}
 
--- what has been read, after which renditions are on or not
+-- the bytes that have been read, after which renditions are on or not
 abbrev pub HasRead : Type 0 → Bool → Bool → List ℕ → Type 0
 HasRead A r on s = IsUtf8 s
     × ((u : Guard) (limit : ℕ) (admits : Value A → Bool) (texts : IsPassedText admits)
@@ -63,7 +63,7 @@ module _ (A : Type 0) (r : Bool) where
             (begun u limit admits texts all) (tab A u limit admits texts) refl,
       )
 
-  -- the end of a line, where none is on
+  -- the end of a line, if no rendition is on
   read_end : (x : List ℕ) (h : Bool) → HasRead A r false x
       → HasRead A r false (x ++ (held h ++ 0x0a ∷ []))
       × ArePlainLines A r (x ++ (held h ++ 0x0a ∷ []))
@@ -131,7 +131,7 @@ module _ (A : Type 0) (r : Bool) where
             (begun u limit admits texts all),
       )
 
-  -- a rendition, where all pass
+  -- a rendition, if all pass
   pub read_rendition : (on lit : Bool) (s : List ℕ) (i n : ℕ) → r ≡ true
       → IsShortRendition (take n (take (length s - i) (drop i s))) lit
       → HasRead A r on (take i s) → HasRead A r lit (take (i + n) s)

@@ -215,7 +215,7 @@ those_feedless (b ∷ x) h =
         rest (or_parts (is_line_feed b) (has_line_feed (bytes_of_class is_c0 x)) g).1
     by false e false k g rest = rest g
 
--- what ends a sequence is no line feed
+-- the final byte of a sequence is no line feed
 end_of_escape : (f : ℕ) → ends_escape (class_of f) ≡ true → Feedless (f ∷ [])
 unfolding class_of
 end_of_escape f h = by (is_line_feed f) refl

@@ -62,7 +62,7 @@ sequence_inner (a ∷ b ∷ c ∷ d ∷ []) h =
     )
 sequence_inner (a ∷ b ∷ c ∷ d ∷ e ∷ x) h = absurd (none_five a b c d e x h)
 
--- what is known of such a character
+-- the facts about such a character
 pub record Wide (c : ℕ) : Type 0 where
   pub is : IsCharacter (encode_utf8 c) c
   pub shown : is_shown c ≡ true

@@ -1,4 +1,4 @@
--- What writes actions and notes what they leave changed, of runs, sequences and commands.
+-- A writer of actions notes the changes that they leave: for runs, sequences and commands.
 use Rattle.std.proofs.Common.{◌≡◌, ℕ, Bool, false, List, [], ◌∷◌, ◌++◌, map, append-nil, Option, None, Some, refl, sym, subst, ap, ◌∙◌, inl, inr, IfOk, OnErr, Result}
 use Rattle.std.specs.Prelude.{IsTrue}
 use Rattle.std.specs.List.{FoldsTo}
@@ -168,7 +168,7 @@ module _ {A : Type 0} where
       → OnErr r (StopsAt ⊥ (By IsSequence Notes) (By IsSequence WriteDenies) p vs q)
   sequence_denied r vs p q s t = on_err_weaker r (sequence_stops vs p q s) t
 
-  -- one whose text is that of its parameters is refused where memory is
+  -- a sequence whose text is the text of its parameters is refused if memory is
   pub plain_denied : (p q : Written A) (es : List CsiParam) (f : ℕ) → IsPlain es false f
       → Refused A
       → StopsAt ⊥ (By IsSequence Notes) (By IsSequence WriteDenies) p (csi_of es false f) q

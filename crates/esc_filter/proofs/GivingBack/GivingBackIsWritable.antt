@@ -1,4 +1,4 @@
--- What gives back what is left changed: it can be written, and its text.
+-- The values that undo the changes that are left: they can be written, and have this text.
 use Rattle.std.proofs.Common.{◌≡◌, ℕ, pos, Bool, true, false, not, ◌&&◌, ◌||◌, if◌then◌else◌, List, [], ◌∷◌, ◌++◌, None, codes, refl, sym, subst, ap, ◌∙◌, append-nil}
 use Rattle.std.specs.List.{list_all}
 use Rattle.std.proofs.Math.Bool.{and-false, and-true}
@@ -258,7 +258,7 @@ module _ (A : Type 0) where
       ≡ part t.margins (margins_part k) ++ (part (is_saved_due k t) (saved_part k) ++ []))
       (sym h) (last_text k t.margins t f)
 
-  -- a state, then others, and then what comes after these
+  -- a state, then others, and then the values after these
   grow : (b : Bool) (v : Value A) (t : List ℕ) (vs ws : List (Value A)) (u : List ℕ)
       → is_terminator v ≡ false → whole_text v ≡ t → ((f : Bool) → texts_after f (vs ++ ws) ≡ u)
       → (f : Bool) → texts_after f ((give b v ++ vs) ++ ws) ≡ part b t ++ u
@@ -299,7 +299,7 @@ module _ (A : Type 0) where
       (λ g. ap (λ x. texts_after g (rest x)) (screen_is A t)
       ∙ states_text k (on_main t) (main_shown t.screen t refl) g) f
 
--- ---- whether the cursor may be saved is asked where it matters
+-- ---- the policy is asked whether the cursor may be saved only if the answer matters
 
 or_no : (a b : Bool) → (a || b) ≡ false → (a ≡ false) × (b ≡ false)
 or_no false b h = (refl, h)

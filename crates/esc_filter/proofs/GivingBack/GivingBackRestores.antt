@@ -1,4 +1,4 @@
--- What gives back what is left changed leaves the terminal as at the start.
+-- The values that undo the changes that are left leave the terminal as at the start.
 use Rattle.std.proofs.Common.{ℕ, pos, ◌≡◌, Bool, true, false, not, ◌||◌, if◌then◌else◌, List, [], ◌∷◌, ◌++◌, None, refl, sym, subst, ap, ◌∙◌}
 use Rattle.esc_sequences.specs.Csis.{sgr, unspecified}
 use Rattle.esc_sequences.specs.declared.sgr.Sgr.TheVariants.{Reset}
@@ -123,7 +123,7 @@ main_shown screen.Cleared t h = refl
 main_shown screen.WithCursor t h = refl
 
 module _ (A : Type 0) where
-  -- ---- what each value does
+  -- ---- the effect of each value
 
   reset : (n : ℕ) (t : Terminal)
       → after_value (private_mode {A = A} n 0x6c) t ≡ after_private n false t
@@ -232,7 +232,7 @@ module _ (A : Type 0) where
       (step t.sets.g3 (ascii_in 0x2b) [] m n n (ascii_3 m)
       (ap (λ x. record m { sets = record m.sets { g3 = x } })) refl)))))))))))))
 
-  -- ---- margins, and what is saved with the cursor
+  -- ---- margins, and the state that is saved with the cursor
 
   saved_as : (k : Bool) (t : Terminal) → after_value (saved_by {A = A} k) t ≡ save t
   saved_as true t = saves t
@@ -306,7 +306,7 @@ module _ (A : Type 0) where
       subst IsAtStart (sym (after_more vs (closing admits vs) unchanged))
       (all_back (keeps_cursor admits) (after_values vs unchanged))
 
-  -- ---- nothing is given back where nothing is changed
+  -- ---- nothing is undone if nothing is changed
 
   one_by_one : (first others : Terminal → List (Value A)) (t : Terminal) → first t ≡ []
       → others t ≡ [] → next first others t ≡ []
@@ -342,6 +342,6 @@ module _ (A : Type 0) where
       nothing_if (keeps_cursor admits) (after_values (closed_values admits vs) unchanged)
       (at_start admits vs)
 
-  -- nothing is given back where nothing is left changed
+  -- nothing is undone if no changes are left
   pub nothing_back : (k : Bool) (t : Terminal) → is_changed t ≡ false → given_back {A = A} k t ≡ []
   nothing_back k t h = nothing_if k t (start_if t h)

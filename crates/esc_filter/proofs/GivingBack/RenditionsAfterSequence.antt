@@ -352,5 +352,5 @@ module _ (A : Type 0) where
       ap (λ c. after_command {A = A} c t) (sym (back (command.SetHyperlink None) end_writable))
       ∙ ap (λ y. after_command (meaning {A = A} (parts_of y)) t) (sym e)
 
--- what a sequence of no parameter, of one and of some turns, for `grind`
+-- the changes by a sequence of no parameter, of one and of some, for `grind`
 pub ruleset turning = (nothing_turns, lone_turns, first_turns)

@@ -1,4 +1,4 @@
--- What changes the screen alone, by the tables of functions.
+-- The functions that change the screen alone, by the tables of functions.
 use Rattle.std.proofs.Common.{◌≡◌, ◌≢◌, ℕ, ◌+◌, ◌-◌, ◌<◌, ◌≤◌, true, false, ◌==◌, ◌||◌, nat_le, List, [], ◌∷◌, length, map, get_or, Option, Some, None, refl, sym, subst, ap, ◌∙◌, arith, inl, inr}
 use Rattle.std.specs.List.{list_all, range_with_len}
 use Rattle.std.proofs.lemmas.Bool.{and_parts, cases_Bool, leb-true, ne_eqb}
@@ -100,7 +100,7 @@ other_escape escape_function.G2D4 s a b c d = absurd (c refl)
 other_escape escape_function.G3D4 s a b c d = absurd (d refl)
 other_escape f s a b c d = refl
 
--- what changes the screen alone is not what a terminal answers
+-- a terminal gives no answer to a function that changes the screen alone
 row_unanswered : (f : ControlFunction) → changes_screen f ≡ true → is_answered f ≡ false
 row_unanswered f h =
     elim (cases_Bool (is_answered f)) [

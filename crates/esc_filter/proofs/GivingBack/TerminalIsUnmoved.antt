@@ -8,7 +8,7 @@ use Rattle.control_functions.specs.declared.escape_function.EscapeFunction.TheVa
 use Rattle.esc_filter.specs.Terminal.{after_escape_function, after_function}
 use Rattle.esc_filter.specs.declared.terminal.Terminal.{Terminal}
 
--- what a function does, named as another
+-- the effect of a function that is named as another
 pub function_is : (f g : ControlFunction) (es : List CsiParam) (t : Terminal) → f ≡ g
     → after_function g es t ≡ after_function f es t
 function_is f g es t e = sym (ap (λ x. after_function x es t) e)

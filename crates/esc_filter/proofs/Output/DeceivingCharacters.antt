@@ -1,4 +1,4 @@
--- Characters that deceive, and what is written of them.
+-- Characters that deceive, and the values that are written for them.
 use Rattle.std.proofs.Common.{◌≡◌, ℕ, zero, suc, ◌+◌, length, get_or, ◌<◌, ◌/◌, ◌%◌, ◌&&◌, ◌||◌, ◌⊎◌, inl, inr, arith, Bool, true, false, nat_lt, if◌then◌else◌, not, List, [], ◌∷◌, ◌++◌, map, Option, None, Some, refl, sym, ap, ◌∙◌, subst, append_assoc}
 use Rattle.std.specs.Fmt.{digit_glyph}
 use Rattle.std.specs.List.{filter, list_all, list_any}
@@ -48,7 +48,7 @@ kinds (enter e) = inr (inr (λ u b. refl))
 kinds (datum b) = inr (inr (λ u b. refl))
 kinds exit = inr (inr (λ u b. refl))
 
--- ---- what is kept
+-- ---- the characters that are kept
 
 instead_kept : {A : Type 0} (k : Unicode) (b : Option ℕ) (c : ℕ) (t : Bool)
     → keeps_characters k ≡ true
@@ -71,7 +71,7 @@ return_kept way.Keep c true is e = ap (λ x. control x ∷ []) (sym (return_is c
 return_kept way.Show c true is e = absurd (true≢false (sym e))
 return_kept way.Drop c true is e = absurd (true≢false (sym e))
 
--- what is written of a value where all is kept
+-- the values that are written for a value if all is kept
 pub keep_one : {A : Type 0} (u : Guard) (b : Option ℕ) (v : Value A) → keeps_all u ≡ true
     → in_guard u b v ≡ v ∷ []
 keep_one {A} u b v e = by (kinds v)
@@ -164,7 +164,7 @@ character_kept : {A : Type 0} (u : Guard) (b : Option ℕ) (x : ℕ) → u.chara
     → in_guard {A = A} u b (print x) ≡ print x ∷ []
 character_kept u b x e = instead_kept u.characters b x (is_deceiving x) (ap keeps_characters e)
 
--- one that is not stray, where those are shown
+-- a character that is not stray, if stray ones are shown
 joined_one : {A : Type 0} (u : Guard) (b : Option ℕ) (x : ℕ) → u.characters ≡ Join
     → (is_deceiving x && not (may_follow b x)) ≡ false
     → in_guard {A = A} u b (print x) ≡ print x ∷ []
@@ -234,7 +234,8 @@ digit_clear d h = grind (arith, nat_tests)
 sixteenth : (n : ℕ) → n % 16 < 16
 sixteenth n = omega arith
 
--- what holds of each hexadecimal digit, and of the other characters, holds of the whole form
+-- if a test holds for each hexadecimal digit, and for the other characters, it holds for the whole
+-- form
 module _ (t : ℕ → Bool) (digit : (d : ℕ) → d < 16 → t (digit_glyph true d) ≡ true) where
   one : (p c : ℕ) → t (digit_at p c) ≡ true
   one p c = digit (c / p % 16) (sixteenth (c / p))

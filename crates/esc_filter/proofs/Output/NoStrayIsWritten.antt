@@ -1,4 +1,4 @@
--- Of characters that deceive none is written that does not belong to the one before it.
+-- A character that deceives is written only if it belongs to the one before it.
 use Rattle.std.proofs.Common.{◌≡◌, ℕ, ◌<◌, Bool, true, false, not, ◌&&◌, ◌||◌, if◌then◌else◌, List, [], ◌∷◌, ◌++◌, map, Option, None, Some, refl, sym, ap, ◌∙◌, arith}
 use Rattle.std.specs.List.{list_all}
 use Rattle.std.proofs.lemmas.Bool.{and_parts, true≢false}
@@ -45,7 +45,7 @@ module _ (A : Type 0) where
   alone true e = absurd cc
   alone false e = refl
 
-  -- what is written in place of a character
+  -- the values that are written in place of a character
   joined_stays : (b : Option ℕ) (c : ℕ) (d f : Bool) → is_deceiving c ≡ d → may_follow b c ≡ f
       → some_strays {A = A} b (if f then print c ∷ [] else map print (number_text c)) ≡ false
   joined_stays b c d true e g = alone (is_deceiving c && not (may_follow b c))

@@ -1,4 +1,5 @@
--- What follows pieces in a text of pieces is of pieces: no piece begins another.
+-- The rest of a text of pieces after some of its pieces is a text of pieces: no piece begins
+-- another.
 use Rattle.std.proofs.Common.{ℕ, ◌≡◌, ◌≢◌, ◌<◌, ◌==◌, inl, inr, Bool, true, false, List, [], ◌∷◌, ◌++◌, length, drop, get_or, Option, Some, None, refl, sym, ap, ◌∙◌, subst, arith, lit<, append_assoc, length-append}
 use Rattle.std.specs.Char.{encode_utf8}
 use Rattle.std.specs.List.{All, list_all}
@@ -13,7 +14,7 @@ use Rattle.esc_values.proofs.Cutting.{Free, cut_there, encode_free, free_append,
 use Rattle.esc_filter.specs.Closing.{joined_lists}
 use Rattle.esc_filter.specs.Tokens.{IsOfTokens, IsToken, is_plain}
 
--- ---- what ends at the first byte of a kind
+-- ---- a run that ends at the first byte of a kind
 
 abbrev after_cut : Option (List ℕ × List ℕ) → List ℕ
 after_cut None = []
@@ -55,7 +56,7 @@ link_rest x y a b h k e =
 
 -- ---- two pieces that begin two equal texts
 
--- what begins with ESC is no character
+-- bytes that begin with ESC are no character
 no_character : (c : ℕ) (a r : List ℕ) → is_plain c ≡ true → encode_utf8 c ++ a ≡ 0x1b ∷ r → ⊥
 no_character c a r h e =
     let esc : 0x1b ∷ r ≡ encode_utf8 0x1b ++ r =

@@ -1,4 +1,4 @@
--- A filter that was fed nothing, as what takes a stream, and what holds of the texts that it
+-- A filter that was fed nothing, as a filter of streams, and the facts about the texts that it
 -- writes.
 use Rattle.std.proofs.Common.{ℕ, ◌≡◌, Bool, true, false, List, [], Result, None, Some, refl, sym, subst, ap, ◌∙◌}
 use Rattle.std.specs.List.{filter}
@@ -78,8 +78,8 @@ nothing u limit admits =
     ap (λ vs. list_text (in_values u (filter (passes admits) vs))) (meaning_nil (Some limit))
     ∙ ap list_text (in_none u None)
 
--- What holds of each stream and its text holds of what was written. (A contract cannot say so of
--- whatever holds.)
+-- If a statement holds for each stream and its text, it holds for the text that was written. (A
+-- contract cannot say so for every statement.)
 ended_text : (m : List ℕ → List ℕ) (Is : Bool → List ℕ → List ℕ → Type 0)
     → ((s : List ℕ) → Is true s (m s)) → (s t : List ℕ) → IsText m s t → Is true s t
 ended_text m Is is s t e = subst (Is true s) (sym e) (is s)

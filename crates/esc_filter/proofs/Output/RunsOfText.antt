@@ -20,7 +20,7 @@ use Rattle.esc_filter.specs.Rules.{admits, is_shown, is_text}
 use Rattle.esc_filter.specs.declared.policy.Policy.{Policy}
 use Rattle.esc_filter.specs.declared.policy.Policy.TheVariants as policy
 
--- all are shown where none is DEL
+-- all are shown if none is DEL
 neither : (a b : Bool) → not (a || b) ≡ (not a && not b)
 neither true b = refl
 neither false b = refl
@@ -110,7 +110,7 @@ run_passes allows (x ∷ xs) p s h (j, t, rest) =
       run_passes allows xs (record p { written = j }) s k.1 rest,
     )
 
--- a run of which one is refused
+-- a run with a character that is refused
 run_why : {A : Type 0} (xs : List ℕ) (p q : Written A)
     → StopsAt ⊥ Notes WriteDenies p (map action.Print xs) q → Refused A
 run_why [] p q e = absurd e.0

@@ -18,7 +18,7 @@ use Rattle.esc_filter.proofs.Output.DeceivingCharacters.{in_both, last_more}
 use Rattle.esc_normal.proofs.Texts.{ends_more, texts_more}
 use Rattle.esc_normal.specs.Texts.{ends_in_string}
 
--- what passes of a longer stream
+-- the values of a longer stream that pass
 pub passed_longer : {A : Type 0} (limit : Option ℕ) (admits : Value A → Bool) (s b : List ℕ)
     → passed_values limit admits (s ++ b) ≡ passed_values limit admits s ++ filter (passes admits)
     (yield_within limit s b)
@@ -26,7 +26,7 @@ passed_longer limit admits s b =
     ap (filter (passes admits)) (sym (meaning_more limit s b))
     ∙ filter-append (passes admits) (meaning_within limit s) (yield_within limit s b)
 
--- what is written of a longer stream
+-- the values that are written for a longer stream
 abbrev pub added_as : {A : Type 0} → Guard → Option ℕ → (Value A → Bool) → List ℕ → List ℕ
     → List (Value A)
 added_as u limit admits s b = in_values_after u (last_after None (passed_as u limit admits s))
@@ -62,7 +62,7 @@ end_longer u limit admits s b =
     ap (ends_in_string false) (written_longer u limit admits s b)
     ∙ ends_more false (passed_as u limit admits s) (added_as u limit admits s b)
 
--- what is left changed after one list and another
+-- the changes that are left after one list and another
 pub after_more : {A : Type 0} (vs ws : List (Value A)) (o : Terminal)
     → after_values (vs ++ ws) o ≡ after_values ws (after_values vs o)
 after_more [] ws o = refl

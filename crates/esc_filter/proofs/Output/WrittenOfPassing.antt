@@ -1,4 +1,4 @@
--- What was written of the values that pass, and noted of them.
+-- The text that was written for the values that pass, and the changes that were noted.
 use Rattle.std.proofs.Common.{◌≡◌, Option, ℕ, Bool, true, false, not, ◌&&◌, cond, if◌then◌else◌, List, [], ◌∷◌, ◌++◌, refl, sym, subst, ap, ◌∙◌, append_assoc, append-nil}
 use Rattle.std.specs.List.{FoldsTo, filter}
 use Rattle.esc_parse.specs.Given.{At}
@@ -68,7 +68,7 @@ module _ {A : Type 0} where
   ways_same true p j ws w = let h = w.0 refl in (h.3, h.4)
   ways_same false p j ws w = (ap (λ x. x.by_lines) (w.1 refl), ap (λ x. x.guard) (w.1 refl))
 
--- what passes, but a line feed that is dropped
+-- the values that pass, but for a line feed that is dropped
 but_feeds : (b w f a : Bool) → (w && (not f && a)) ≡ ((w && a) && not (f && true))
 but_feeds b true true true = refl
 but_feeds b true true false = refl
@@ -90,7 +90,7 @@ passes_lines false false admits v e = all_of (is_whole v) (is_line_feed v) (admi
 passes_lines true false admits v e = absurd cc
 passes_lines false true admits v e = absurd cc
 
--- the text of a piece, where the text of those before it ended so
+-- the text of a piece, if the text of those before it ended so
 fed_more : {A : Type 0} (u : Guard) (limit : Option ℕ) (b : Bool) (admits : Value A → Bool)
     (s bs : List ℕ) (p q : Written A) → p.spell.text ≡ []
     → HasNoted b u (passed_as u limit admits s) p
@@ -114,7 +114,7 @@ fed_more u limit b admits s bs p q none (e, o, l, c, k, m) g =
           ∙ ap (λ x. texts_after x vs) e)),
     )
 
--- All of them: a receiver S holds what writes them and a policy K, which stays.
+-- All of them: a receiver S holds the writer of the actions and a policy K, which stays.
 module _ {S K A : Type 0} (admits : K → Value A → Bool) (policy : S → K) (written : S → Written A)
     (b : Bool) (u : Guard) where
   abbrev pub TakesBy : S → Action A → S → Type 0
@@ -123,7 +123,7 @@ module _ {S K A : Type 0} (admits : K → Value A → Bool) (policy : S → K) (
   abbrev kept_by : K → Option ℕ → List (Value A) → List (Value A)
   kept_by k l vs = in_values_after u l (filter (passes (in_lines b (admits k))) vs)
 
-  -- what an action makes of it, by what the action is, and how it writes
+  -- the effect of an action on the writer, by the kind of the action, and how it writes
   taken_as : (k : K) (p j : Written A) (a : Action A) (v : Value A) → value_of a ≡ v
       → p.by_lines ≡ b → p.guard ≡ u → Takes (admits k) p a j
       → (passes (admits k) v ≡ true → Writes p (written_of b u p.before v) j)
@@ -168,7 +168,7 @@ module _ {S K A : Type 0} (admits : K → Value A → Bool) (policy : S → K) (
             r.1),
       )
 
-  -- what a call adds
+  -- the text that a call adds
   pub fed_all : (limit : Option ℕ) (s bs : List ℕ) (p q : S) → (written p).spell.text ≡ []
       → HasNoted b u (passed_as u limit (in_lines b (admits (policy p))) s) (written p)
       → FoldsTo (At value_of TakesBy) p (yield_within limit s bs) q

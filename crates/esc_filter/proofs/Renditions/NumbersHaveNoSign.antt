@@ -1,4 +1,4 @@
--- The numbers of what a control sequence means have no sign: its parameters are runs of digits.
+-- The numbers in the values of a control sequence have no sign: its parameters are runs of digits.
 use Rattle.std.proofs.Common.{ℕ, suc, zero, pos, negsuc, ◌≡◌, ◌<◌, ◌-◌, ◌*◌, ◌+◌, ◌/◌, ◌%◌, Bool, true, false, not, ◌&&◌, ◌||◌, ◌==◌, if◌then◌else◌, List, [], ◌∷◌, ◌++◌, map, take, Option, Some, None, refl, sym, ap, ◌∙◌, arith, lit<}
 use Rattle.std.specs.Prelude.{unwrap_or}
 use Rattle.std.specs.Char.{encode_utf8}
@@ -75,13 +75,13 @@ kept_natural : (x : List ℕ) → list_all is_natural (kept_csi_params x) ≡ tr
 unfolding kept_csi_params
 kept_natural x = some_pass is_natural 256 (csi_params x) (read_natural None x)
 
--- ---- what a control sequence is
+-- ---- the value of a control sequence
 
 abbrev has_naturals : CsiValue → Bool
 has_naturals (sgr s) = true
 has_naturals (unspecified es more f) = list_all is_natural es
 
--- renditions, or another value where these parameters are none
+-- renditions, or another value if these parameters are none
 named_natural : (whole : List CsiValue) → list_all has_naturals whole ≡ true
     → (is : List (List CsiParam))
     → list_all has_naturals (unwrap_or (renditions is) whole) ≡ true
@@ -206,7 +206,7 @@ module _ (A : Type 0) where
       (given_natural m e q.0)
       (values_natural (mode_after m e) es q.1)
 
-  -- what is read of one segment alone
+  -- the value that is read from one segment alone
   pub one_natural : (t : List ℕ) (es : List Event) (c : CsiValue) → IsOneSegment t es
       → values_from {A = A} None plain es ≡ csi c ∷ [] → has_naturals c ≡ true
   one_natural t es c (g, bytes, ends, shape, e) gives =

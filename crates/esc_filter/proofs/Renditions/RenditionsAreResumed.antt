@@ -85,7 +85,7 @@ module _ {P A : Type 0} (k : Bool) (u : Guard) (limit : ℕ) (admits : Value A �
         ),
       )
 
-  -- what the filters are after that
+  -- the state of the filters after that
   pub fed_grown : (d b : List ℕ) (old new : ResumingFilter P A)
       → (g : GrowsResumed k u admits limit d b old new)
       → HasConsumedLines u limit admits (d ++ g.0) new.lines
@@ -97,7 +97,7 @@ module _ {P A : Type 0} (k : Bool) (u : Guard) (limit : ℕ) (admits : Value A �
     ap (ends_line true) (sym e) ∙ from_ends u limit admits k d b,
   )
 
-  -- the text that was handed out is no part of what was fed
+  -- the text that was handed out is no part of the state that was fed
   pub marks_same : (d : List ℕ) (f h : ResumingFilter P A) → h.resumes ≡ f.resumes
       → h.is_open ≡ f.is_open → string_bytes h.opening ≡ string_bytes f.opening
       → IsMarked k u limit admits d f → IsMarked k u limit admits d h

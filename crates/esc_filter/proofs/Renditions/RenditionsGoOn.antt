@@ -239,7 +239,7 @@ module _ {A : Type 0} (u : Guard) (limit : ℕ) (admits : Value A → Bool) wher
       let o = Before k d b ++ b ∷ [] in
       let (x, e) = from_longer k (d ++ o) s in (o ++ x, e ∙ append_assoc d o x)
 
-  -- a line ends in it where one ends in the stream itself
+  -- a line ends in it if one ends in the stream itself
   pub from_ends : (k : Bool) (d s : List ℕ)
       → ends_line true (From k d s) ≡ ends_line true (d ++ s)
   from_ends k d [] = ap (ends_line true) (sym (append-nil d))

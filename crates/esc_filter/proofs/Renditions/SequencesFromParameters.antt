@@ -29,7 +29,7 @@ use Rattle.esc_filter.specs.declared.passing.Passing.{Passing}
 use Rattle.esc_filter.specs.Fed.{Refuses, TakesBy}
 use Rattle.fallible_alloc.specs.Refusals.{Refused}
 
--- a test that renditions pass, and a sequence of no name, passes what parameters mean
+-- if a test passes renditions and a sequence of no name, it passes the values of any parameters
 module _ (t : CsiValue → Bool) (named : (s : Sgr) → t (sgr s) ≡ true) where
   each_put : (o : Option Sgr) (more : Option (List CsiValue)) (vs : List CsiValue)
       → ((ws : List CsiValue) → more ≡ Some ws → list_all t ws ≡ true)
@@ -213,7 +213,7 @@ module _ {P A : Type 0} (allows : P → Value A → Bool) where
             p.written (v ∷ vs) s e,
       ))
 
-  -- what is said of a call on the text holds of the receiver
+  -- a statement about a call on the text holds for the receiver
   pub passes_taken : {E : Type 0} (r : Result Bool E) (es : List CsiParam) (more : Bool) (f : ℕ)
       (p : Passing P A) (s : Written A) → more ≡ false
       → list_all (λ c. allows p.policy.now (csi c)) (csi_of es false f) ≡ true
@@ -309,7 +309,7 @@ module _ {P A : Type 0} (allows : P → Value A → Bool) where
             p.written (ps ∷ []) s e,
       ))) t
 
--- what a policy admits of control sequences
+-- the decisions of a policy about control sequences
 pub text_sequences : (A : Type 0) (p : Policy) (vs : List CsiValue) → p ≡ policy.Text
     → list_any (λ c. admits {A = A} p (csi c)) vs ≡ false
 text_sequences A p vs e = subst (λ x. list_any (λ c. admits {A = A} x (csi c)) vs ≡ false) (sym e)
@@ -324,7 +324,7 @@ pub all_sequences : (A : Type 0) (p : Policy) (vs : List CsiValue) → p ≡ pol
 all_sequences A p vs e = subst (λ x. list_all (λ c. admits {A = A} x (csi c)) vs ≡ true) (sym e)
     (every vs)
 
--- renditions pass, and so does what changes the screen alone
+-- renditions pass, and so do functions that change the screen alone
 pub renditions_pass : (es : List CsiParam) (f : ℕ) → f ≡ 0x6d → list_all is_plain_param es ≡ true
     → list_all is_rendition (csi_of es false f) ≡ true
 renditions_pass es f m h = each_of is_rendition (λ s. refl) es f (rw (m, h) refl)
@@ -346,8 +346,8 @@ pub screen_none : (es : List CsiParam) (f : ℕ) → (f == 0x6d) ≡ false → i
     → list_any (λ c. is_rendition c || is_screen_sequence c) (csi_of es false f) ≡ false
 screen_none es f h k = rw (nameless es f h, h, k) refl
 
--- what passes as a colour, for `grind`
+-- sequences that pass as a colour, for `grind`
 pub ruleset colours = (renditions_pass, no_rendition)
 
--- what passes as what changes the screen, for `grind`
+-- sequences that pass as changes of the screen, for `grind`
 pub ruleset screens = (screen_all, screen_one, screen_none)

@@ -1,5 +1,5 @@
--- Renditions of one number, and colours of the palette: what their texts mean, and what is written
--- of that.
+-- Renditions of one number, and colours of the palette: the meaning of their texts, and the values
+-- that are written for it.
 use Rattle.std.proofs.Common.{ℕ, suc, pos, ◌≡◌, ◌+◌, ◌-◌, ◌*◌, ◌/◌, ◌%◌, get_or, ◌<◌, ◌≤◌, ◌^◌, ◌==◌, length, drop, take, Bool, true, false, not, ◌&&◌, ◌||◌, List, [], ◌∷◌, ◌++◌, codes, Option, None, inl, inr, arith, refl, ap, sym, ◌∙◌, subst, append-nil, lit≤}
 use Rattle.std.specs.Prelude.{nat_eq, nat_lt}
 use Rattle.std.specs.Char.{encode_utf8}
@@ -81,7 +81,8 @@ dispatched y es h is few =
     let more : nat_lt 256 (length es) ≡ false = grind (arith, nat_tests) in
     rw (form y h, is, take_all 256 es few, more) refl
 
--- ---- what is known of one that is written as it came, after which renditions are on, or not
+-- ---- the facts about a rendition that is written as it came, after which renditions are on, or
+-- not
 
 pub record Shade (x : List ℕ) (b : Bool) : Type 0 where
   pub value : CsiValue

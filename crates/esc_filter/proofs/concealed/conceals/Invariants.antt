@@ -2,7 +2,7 @@ use Rattle.std.proofs.Common.{◌≡◌, length}
 use Rattle.esc_filter.specs.Concealed.{conceals}
 use Rattle.esc_filter.proofs.concealed.conceals.Given as goal
 
--- what is left conceals text exactly where the whole does
+-- the rest conceals text exactly if the whole does
 abbrev pub invariant-loop-first : goal.invariant-loop-first
 invariant-loop-first l = conceals l.rest ≡ conceals l.initial.rest
 
