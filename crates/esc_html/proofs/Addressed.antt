@@ -72,7 +72,7 @@ fewer_parts p (q ∷ ps) =
 last_part : (p q : List ℕ) → value_size q ≤ parts_size (p ∷ q ∷ [])
 last_part p q = omega (arith, fewer_parts p (q ∷ []), ap value_size (append-nil q))
 
--- those of an address alone
+-- the parts of an address alone
 fewer_in : (ps : List (List ℕ)) → parts_size (address_in ps) ≤ parts_size ps
 fewer_in [] = omega arith
 fewer_in (p ∷ []) = omega arith
@@ -269,7 +269,7 @@ module _ (A : Type 0) (n : ℕ) where
       )
   or_within (Some c) ps most h = h
 
--- what parts mean
+-- the meaning of parts
 pub meant_within : (A : Type 0) (ps : List (List ℕ))
     → command_size (meaning {A = A} ps) ≤ capped (parts_size ps)
 meant_within A ps =

@@ -10,7 +10,7 @@ use Rattle.esc_style.specs.Styles.{style_text, styles_text}
 use Rattle.esc_style.specs.declared.class.Class.{Class}
 use Rattle.esc_style.specs.declared.style.Style.{Style}
 
--- ---- what is present of a longer list
+-- ---- the present members of a longer list
 
 abbrev one : {X : Type 0} → Option X → List X
 one None = []
@@ -73,7 +73,7 @@ styles_next (d ∷ ss) (Some s) =
 
 -- ---- one more of them
 
--- f of what is present, and what one more adds
+-- f of the present members, and the text that one more adds
 pub grow_next : {X : Type 0} (f : List X → List ℕ) (g : Bool → Option X → List ℕ)
     → ((ps : List X) (o : Option X) → f (ps ++ one o) ≡ f ps ++ g (is_empty ps) o)
     → (before old new : List ℕ) (first : Bool) (xs : List (Option X)) (i : ℕ) (d : Option X)

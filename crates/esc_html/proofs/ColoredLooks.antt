@@ -51,7 +51,7 @@ marks k false false false underline.Curly b v c t o g d e = not_so e
 marks k false false false underline.Dotted b v c t o g d e = not_so e
 marks k false false false underline.Dashed b v c t o g d e = not_so e
 
--- the same, where its colour is known by a proof
+-- the same, if its colour is known by a proof
 pub colored_same : (l : Look) (k : AnsiColor) → l.foreground ≡ Named k
     → is_colored_alone l ≡ true
     → page_part_text (span false (colored k)) ≡ page_part_text (span false l)

@@ -1,6 +1,6 @@
--- How much a page grows by a step: by no more than the step pays, with what was paid before. What
--- is paid is kept for the tags that are not open, for the end tags of those that are, and for each
--- line on which a link may be opened again.
+-- The growth of a page by a step: by no more than the step pays, with the credit that was paid
+-- before. The credit is kept for the tags that are not open, for the end tags of those that are,
+-- and for each line on which a link may be opened again.
 use Rattle.std.proofs.Common.{ℕ, zero, suc, ◌≡◌, ◌≤◌, ◌+◌, ◌-◌, ◌*◌, Bool, true, false, ◌==◌, if◌then◌else◌, List, [], ◌∷◌, ◌++◌, codes, length, map, Option, Some, None, is_some, refl, ap, arith, true≢false}
 use Rattle.std.specs.Char.{encode_utf8}
 use Rattle.std.specs.List.{flat_map}
@@ -40,7 +40,7 @@ pub times_all : (n z : ℕ) → times n z ≡ n * z
 times_all zero z = omega arith
 times_all (suc n) z = grind (arith, times_all n z)
 
--- ---- what is kept
+-- ---- the credit that is kept
 
 abbrev pub address_size : Option (List ℕ) → ℕ
 address_size None = 0
@@ -154,7 +154,7 @@ ending_most Open p =
       ends_most (is_plain p.look) (is_some p.link),
     )
 
--- where an address takes no more than z, and so many lines may follow
+-- if an address takes no more than z, and so many lines may follow
 times_most : (m n y z : ℕ) → m ≤ n → y ≤ z → times m y ≤ times n z
 times_most zero n y z h k = omega arith
 times_most (suc m) zero y z h k = absurd (omega (arith, h))
@@ -178,7 +178,7 @@ held_most t p z h k =
 
 -- ---- characters
 
--- what opens the tags before a character of n bytes
+-- the tags that are opened before a character of n bytes
 open_pays : (t : Tags) (p : Pen) (n : ℕ) → n ≤ 6
     → length (html_text (opening t p)) + n + (ending Open p + held Open p)
     ≤ ending t p + held t p + reserve t + 150

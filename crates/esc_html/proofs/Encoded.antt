@@ -1,4 +1,4 @@
--- The UTF-8 of what is written of characters is what is written of their UTF-8.
+-- The UTF-8 of the text that is written for characters is the text that is written for their UTF-8.
 use Rattle.std.proofs.Common.{ℕ, ◌≡◌, ◌<◌, Bool, true, false, nat_le, ◌==◌, inl, inr, List, [], ◌∷◌, ◌++◌, codes, map, get_or, if◌then◌else◌, not, ◌&&◌, refl, ap, sym, ◌∙◌, arith}
 use Rattle.std.specs.Char.{encode_utf8}
 use Rattle.std.specs.List.{flat_map, list_all}
@@ -55,7 +55,7 @@ escape_one mark c small =
           true≢false (sym p ∙ ap (is_byte3 0x26 0x3c mark) (sym same) ∙ failed)))
     ]
 
--- what a character is written as
+-- the text that a character is written as
 pub referenced : (c : ℕ) → needs_reference c ≡ true
     → reference_text c ≡ flat_map escape_text (encode_utf8 c)
 referenced c h =

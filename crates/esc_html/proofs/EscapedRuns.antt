@@ -1,4 +1,4 @@
--- What is written run by run is written character by character.
+-- A text that is written run by run is the one that is written character by character.
 use Rattle.std.proofs.Common.{ℕ, zero, suc, ◌≡◌, ◌≤◌, ◌<◌, ◌+◌, true, if◌then◌else◌, List, [], ◌∷◌, ◌++◌, length, take, drop, get_or, Result, Ok, Err, is_ok, OnOk, Some, refl, ap, sym, ◌∙◌, subst, append_assoc, arith}
 use Rattle.std.specs.List.{flat_map, list_all}
 use Rattle.std.specs.Str.{IsUtf8}
@@ -81,7 +81,7 @@ pub grown_ok : {X E : Type 0} (r : Result X E) (old new y want : List ℕ)
 grown_ok (Ok x) old new y want i k = i ∙ k
 grown_ok (Err x) old new y want i k = tt
 
--- what came before is still there, and can be cut off again
+-- the earlier text is still there, and can be cut off again
 pub cut_back : (before after : List ℕ) → Grows before after
     → IsSplitPoint after (length before) × (take (length before) after ≡ before)
 cut_back before after (x, u, e) =

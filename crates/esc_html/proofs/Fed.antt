@@ -1,4 +1,4 @@
--- What a page was given of values.
+-- The values that a page was given.
 use Rattle.std.proofs.Common.{ℕ, ◌≡◌, List, [], ◌∷◌, ◌++◌, Option, Some, inl, inr, ap, sym, subst, ◌∙◌, append_assoc, append-nil, refl, true}
 use Rattle.std.specs.List.{FoldsTo}
 use Rattle.std.proofs.lemmas.Grind.{flat_map-append}
@@ -77,7 +77,7 @@ fed_more {A} limit y s b p q none at same f =
       subst (IsBoundedPagePart b) (sym text) (page_part_bounded A limit y s b),
     )
 
--- what closes the tags of a writer
+-- the tags that close those of a writer
 pub closing_same : {A : Type 0} (limit : ℕ) (y : Layout) (s : List ℕ) (w : HtmlWriter A)
     → HasConsumed limit y s w → closing_of w ≡ closing_text A (Some limit) y s
 closing_same limit y s w h = ap (λ g. html_text (closed g)) h.state

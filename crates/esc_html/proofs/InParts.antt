@@ -83,7 +83,7 @@ safe_in_parts (u ∷ us) h =
     let t = both_texts u (separated_parts us) (part_text u p.0) (separated_text us p.1) in
     (rw (f.0, safe_scheme_more u (separated_parts us) f.1, t.1) refl, t.0)
 
--- what is left of the parts of a command, but the first two, is the address
+-- the rest of the parts of a command, after the first two, is the address
 pub joined_is : (ps : List (List ℕ)) → is_safe_in_parts (address_in ps) ≡ true
     → utf8_of (joined (drop 1 (remove ps 0))) ≡ Some (joined (address_in ps))
 joined_is [] h = absurd (true≢false (sym h))

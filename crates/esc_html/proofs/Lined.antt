@@ -53,7 +53,7 @@ part_in_line n (b ∷ s) t h =
     let q = and_parts (stays b) (list_all stays s) h in
     rw (not-true (b == 0x0a) q.0) (ap (λ x. b ∷ x) (part_in_line n s t q.1))
 
--- where something comes, the line is begun
+-- if a byte comes, the line is begun
 pub begun_line : (n : ℕ) (o : Bool) (b : ℕ) (t : List ℕ)
     → lined_page n o (b ∷ t) ≡ begin_unless o n ++ lined_page n true (b ∷ t)
 begun_line n o b t = refl
@@ -85,7 +85,7 @@ part_open o (b ∷ s) h =
         let q = and_parts (stays c) (list_all stays s) h in
         rw (not-true (c == 0x0a) q.0) (stays_open s q.1)
 
--- a line with its line feed, and what follows
+-- a line with its line feed, and the rest
 pub line_lined : (n : ℕ) (o : Bool) (s t : List ℕ) → list_all stays s ≡ true
     → lined_page n o (s ++ 0x0a ∷ t)
     ≡ (begin_unless o n ++ (s ++ codes "\n</span>")) ++ lined_page (next_number n) false t
@@ -136,7 +136,7 @@ begin_size n =
 abbrev ended : ℕ → Bool → List ℕ → List ℕ
 ended n o t = lined_page n o t ++ end_if (open_after o t)
 
--- where a line is open, and where none is
+-- with a line that is open, and with none
 shut_size : (n : ℕ) (t : List ℕ) → length (ended n true t) ≤ length t + 126 * feeds t + 7
     → length (ended n false t) ≤ length t + 126 * feeds t + 126
 shut_size n [] h = leb-true 0 126 refl

@@ -27,7 +27,7 @@ use Rattle.esc_html.proofs.LinedReading.{begin_tokens, is_feed, is_unbroken_page
 use Rattle.esc_html.proofs.Reading.{page_parts_read_back}
 use Rattle.esc_html.proofs.Safe.{char_passes, page_passes, unbroken_kept}
 
--- ---- what is listed
+-- ---- the tokens that are listed
 
 abbrev Listed : List Token → Type 0
 Listed ts = All IsListedInLines ts
@@ -122,7 +122,7 @@ marks_out p (v ∷ vs) =
     (step_out p s)
     ∙ marks_out (pen_by true p s) vs
 
--- ---- what closes
+-- ---- the tokens that close
 
 abbrev names : List Element → List (List ℕ)
 names es = map (λ e. e.0) es
@@ -145,7 +145,7 @@ past_start : (ns : List (List ℕ)) (m : List ℕ) (ats : List (List ℕ × List
 past_start [] m ats ts = refl
 past_start (n ∷ ns) m ats ts = refl
 
--- where a line is open, so is one that is begun
+-- if a line is open, so is one that is begun
 shut : (n : ℕ) (ts : List Token) → closes in_line (lined_tokens n true ts) ≡ true
     → closes [] (lined_tokens n false ts) ≡ true
 shut n [] h = refl
@@ -190,7 +190,7 @@ lined_closes n (e ∷ es) (end_tag m ∷ ts) h k =
 lined_closes n [] (stray ∷ ts) h k = absurd cc
 lined_closes n (e ∷ es) (stray ∷ ts) h k = absurd cc
 
--- ---- what is shown
+-- ---- the characters that are shown
 
 shut_shown : (n : ℕ) (ts : List Token) (ms : List (ℕ × List Element))
     → shown_characters (line_element n ∷ []) (lined_tokens n true ts) ≡ ms

@@ -1,4 +1,4 @@
--- What a browser's tokenizer reads of a page with its lines in elements.
+-- The tokens that a browser's tokenizer reads from a page with its lines in elements.
 use Rattle.std.proofs.Common.{ℕ, suc, ◌≡◌, ◌≤◌, ◌<◌, ◌==◌, Bool, true, false, not, ◌&&◌, ◌||◌, if◌then◌else◌, inl, inr, List, [], ◌∷◌, ◌++◌, codes, length, get_or, map, min, refl, ap, sym, ◌∙◌, append_assoc, arith}
 use Rattle.std.specs.List.{flat_map, list_all}
 use Rattle.std.proofs.lemmas.Bool.{and_parts, cases_Bool, eqb-true, not-true}
@@ -209,7 +209,7 @@ lined_tokens n o (t ∷ ts) = begin_tokens o n ++ (t ∷ (if is_feed t
 abbrev ended : ℕ → Bool → List ℕ → List ℕ
 ended n o t = lined_page n o t ++ end_if (open_after o t)
 
--- it is begun, where something comes
+-- it is begun, if a byte comes
 opens : (n : ℕ) (o : Bool) (b : ℕ) (t : List ℕ) (ts : List Token)
     → tokens_from data_state (ended n true (b ∷ t)) ≡ ts
     → tokens_from data_state (ended n o (b ∷ t)) ≡ begin_tokens o n ++ ts

@@ -1,4 +1,4 @@
--- What a writer of lines has of a text.
+-- The state of a writer of lines after a text.
 use Rattle.std.proofs.Common.{ℕ, zero, suc, ◌≡◌, ◌≤◌, ◌<◌, ◌+◌, ◌^◌, min, false, true, Bool, List, [], ◌∷◌, ◌++◌, codes, length, take, drop, get_or, Some, Result, Ok, Err, OnOk, refl, ap, sym, ◌∙◌, append_assoc, string_bytes, arith}
 use Rattle.std.specs.Fmt.{decimal}
 use Rattle.std.specs.List.{list_all}
@@ -40,7 +40,7 @@ cut_at (b ∷ x) (suc n) l e =
     more : (n : ℕ) → suc n + 1 ≡ suc (n + 1)
     more n = omega arith
 
--- a line that was added, and what is left
+-- a line that was added, and the rest
 module _ (rest : List ℕ) (at : ℕ) (f : IsFirstByte (is_byte 0x0a) rest (Some at)) where
   run_stays : list_all stays (take at rest) ≡ true
   run_stays = first_stay rest at f.0.high f.0.before
@@ -65,7 +65,7 @@ module _ (rest : List ℕ) (at : ℕ) (f : IsFirstByte (is_byte 0x0a) rest (Some
 pub feed_small : (b : ℕ) → is_byte 0x0a b ≡ true → b < 128
 feed_small b h = grind (arith, nat_tests)
 
--- where a line was added, what is left has the rest of the text
+-- if a line was added, the writer still has the rest of the text
 pub line_taken : {A : Type 0} (v w : LineWriter A) (rest run later want : List ℕ) (at : ℕ)
     → IsFirstByte (is_byte 0x0a) rest (Some at) → run ≡ take at rest
     → later ≡ drop (at + 1) rest

@@ -1,4 +1,4 @@
--- What is read of parts is on the list, and nests where the parts do.
+-- The tokens that are read from parts are on the list, and nest if the parts do.
 use Rattle.std.proofs.Common.{ℕ, ◌≡◌, ◌&&◌, not, true, inl, inr, List, [], ◌∷◌, ◌++◌, codes, map, refl, ap, sym, ◌∙◌, subst}
 use Rattle.std.specs.List.{All, list_all}
 use Rattle.std.proofs.lemmas.Bool.{and_parts}

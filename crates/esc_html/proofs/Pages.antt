@@ -137,7 +137,7 @@ pages_nest pl g (v ∷ vs) =
     ap (nests (nesting g)) (append_assoc (page_parts_by pl g s) rest last)
     ∙ nests_step pl g s (rest ++ last) ∙ pages_nest pl (state_by pl g s) vs
 
--- ---- what is shown
+-- ---- the characters that are shown
 
 abbrev open_elements : Tags → Pen → List Element
 open_elements Closed p = []

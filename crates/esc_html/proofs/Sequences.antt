@@ -24,7 +24,7 @@ use Rattle.fallible_alloc.specs.Refusals.{Refused}
 abbrev IsSequence : {A : Type 0} → Action A → CsiValue → Type 0
 IsSequence a c = value_of a ≡ csi c
 
--- what such an action does
+-- the effect of such an action
 abbrev AddsFor : {A : Type 0} → Page A → CsiValue → Page A → Type 0
 AddsFor p v q = Adds p (function_step (state_of p).pen (of_csi v)) q
 
@@ -76,7 +76,7 @@ sequence_refused p q vs es more f e r =
       r,
     )))
 
--- a rendition by itself does what one of all does
+-- a rendition by itself has the effect of a sequence of all
 pub same_rendition : (p : Pen) (s : Sgr)
     → restyles (look_by p.look (rendition_of s)) ≡ function_step p (of_csi (sgr s))
 same_rendition p known.Reset = refl

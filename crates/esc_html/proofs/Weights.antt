@@ -1,5 +1,5 @@
--- How many bytes of a page the events of a stream pay for, byte by byte: what is unfinished keeps
--- what the bytes of it paid and no event has used yet.
+-- The number of bytes of a page that the events of a stream pay for, byte by byte: an unfinished
+-- segment keeps the credit that its bytes paid and no event has used yet.
 use Rattle.std.proofs.Common.{ℕ, ◌≡◌, ◌≤◌, ◌+◌, ◌*◌, Bool, true, false, ◌&&◌, ◌||◌, if◌then◌else◌, List, [], ◌∷◌, ◌++◌, length, Option, refl, ap, ◌∙◌, arith}
 use Rattle.std.proofs.lemmas.Bool.{leb-true}
 use Rattle.std.proofs.lemmas.Grind.{flat_map-append}
@@ -28,9 +28,9 @@ use Rattle.esc_values.specs.Clear.{parts_of}
 use Rattle.esc_html.proofs.Addressed.{capped, capped_less, parts_size, parts_within}
 use Rattle.esc_html.proofs.Sizes.{value_added, value_size, value_small}
 
--- what an event uses: a character that is shown, an escape sequence that may begin a line, a
--- control sequence that may change the look, and a command that may have an address, which may be
--- written sixteen times
+-- the credit that an event uses: a character that is shown, an escape sequence that may begin a
+-- line, a control sequence that may change the look, and a command that may have an address, which
+-- may be written sixteen times
 abbrev pub weight : Event → ℕ
 weight (Print c) = 150
 weight (Execute b) = 150
@@ -50,7 +50,7 @@ pub weights_added : (es fs : List Event) → weights (es ++ fs) ≡ weights es +
 weights_added [] fs = omega arith
 weights_added (e ∷ es) fs = omega (arith, weights_added es fs)
 
--- what is kept of what is unfinished
+-- the credit that is kept for an unfinished segment
 abbrev pub unused : Unfinished → ℕ
 unused Ground = 0
 unused (Pending f) = 150
@@ -81,7 +81,7 @@ used m = weights m.1 + unused m.0
 emitting_used : (es : List Event) (m : Move) → used (emitting es m) ≡ weights es + used m
 emitting_used es m = omega (arith, weights_added es m.1)
 
--- ---- where nothing is unfinished
+-- ---- if nothing is unfinished
 
 opened_used : (k : Kind) (o : Opener) → unused (unfinished_at_opener k o) ≤ 144
 opened_used kind.Csi o = leb-true 0 144 refl

@@ -1,4 +1,4 @@
--- The page of a stream, with what closes it.
+-- The page of a stream, with the tags that close it.
 use Rattle.std.proofs.Common.{ℕ, ◌≡◌, true, List, [], ◌++◌, Option, refl, ap, sym, subst, ◌∙◌}
 use Rattle.std.specs.List.{All, list_all}
 use Rattle.std.proofs.lemmas.Bool.{and_parts}

@@ -6,7 +6,7 @@ use Rattle.esc_values.specs.Clear.{joined}
 use Rattle.esc_values.specs.Scalars.{utf8_of}
 use Rattle.esc_html.specs.Characters.{is_character}
 
--- Whether an address begins with a scheme and what follows it, given in lower case: letters of
+-- Whether an address begins with a scheme and the text after it, given in lower case: letters of
 -- ASCII may be of either case (RFC 3986, 3.1).
 abbrev pub has_scheme : List ℕ → List ℕ → Bool
 has_scheme s a = nat_le (length s) (length a)
@@ -45,8 +45,8 @@ is_link_code [] = false
 is_link_code (b ∷ []) = b == 0x38
 is_link_code (b ∷ c ∷ bs) = false
 
--- the parts of the address of a command that has these parts, and no other reading; none where it
--- is no link
+-- the parts of the address of a command that has these parts, and no other reading; none if it is
+-- no link
 abbrev pub address_in : List (List ℕ) → List (List ℕ)
 address_in [] = []
 address_in (p ∷ []) = []

@@ -10,12 +10,12 @@ abbrev pub is_empty : {X : Type 0} → List X → Bool
 is_empty [] = true
 is_empty (x ∷ xs) = false
 
--- the attribute `class` without the quote that ends it, where there are classes
+-- the attribute `class` without the quote that ends it, if there are classes
 abbrev pub begun_classes : List Class → List ℕ
 begun_classes [] = []
 begun_classes (c ∷ cs) = codes " class=\"" ++ span_names (c ∷ cs)
 
--- what a class adds to it: its name with the prefix
+-- the text that a class adds to it: its name with the prefix
 abbrev pub class_opener : Bool → List ℕ
 class_opener first = if first then codes " class=\"es-" else codes " es-"
 
@@ -35,6 +35,6 @@ abbrev pub next_style : Bool → Option Style → List ℕ
 next_style first None = []
 next_style first (Some s) = style_opener first ++ style_text s
 
--- the quote that ends an attribute, where it was begun
+-- the quote that ends an attribute, if it was begun
 abbrev pub ending_quote : Bool → List ℕ
 ending_quote absent = if absent then [] else codes "\""

@@ -12,7 +12,7 @@ is_character c = not (is_noncharacter c)
 abbrev pub shown_as : ℕ → ℕ
 shown_as c = if is_noncharacter c then 0xfffd else c
 
--- a byte of the UTF-8 of characters before U+F000 alone, of which none is a noncharacter
+-- a byte of the UTF-8 of characters before U+F000 alone, none of which is a noncharacter
 abbrev pub is_low_byte : ℕ → Bool
 is_low_byte b = nat_lt b 0xef
 

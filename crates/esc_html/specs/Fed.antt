@@ -1,4 +1,4 @@
--- What a page was fed.
+-- The bytes that a page was fed.
 use Rattle.std.specs.Prelude.{ℕ, ◌≡◌, ◌==◌, Bool, not, false, List, [], ◌∷◌, ◌++◌, Some}
 use Rattle.std.specs.List.{flat_map}
 use Rattle.esc_actions.specs.Values.{value_of}
@@ -13,7 +13,7 @@ use Rattle.esc_html.specs.declared.layout.Layout.{Layout}
 use Rattle.esc_html.specs.declared.page.Page.{Page}
 use Rattle.esc_html.specs.declared.tags.Tags.TheVariants.{Open}
 
--- what a page is at
+-- the state of a page
 abbrev pub state_of : {A : Type 0} → Page A → State
 state_of p = record {
   pen = record {
@@ -37,7 +37,7 @@ with_text p (b ∷ t) = record p {
   tags = Open;
 }
 
--- any character but DEL, of which terminals show nothing
+-- any character but DEL, for which terminals show nothing
 abbrev pub is_visible : ℕ → Bool
 is_visible c = not (c == 0x7f)
 
@@ -47,7 +47,7 @@ pub record Adds {A : Type 0} (p : Page A) (s : Step) (q : Page A) : Type 0 where
   pub state : state_of q ≡ state_by p.layout.per_line (state_of p) s
   pub layout : q.layout ≡ p.layout
 
--- an action adds those of its value
+-- an action adds the parts of its value
 abbrev pub Takes : {A : Type 0} → Page A → Action A → Page A → Type 0
 Takes p a q = Adds p (step_of (state_of p).pen (value_of a)) q
 
@@ -73,7 +73,7 @@ IsBroken w = IsBrokenParser w.parser
 abbrev pub added_by : {A : Type 0} → HtmlWriter A → List ℕ
 added_by w = text_of w.page
 
--- what closes the tags that are open
+-- the tags that close those that are open
 abbrev pub closing_of : {A : Type 0} → HtmlWriter A → List ℕ
 closing_of w = html_text (closed (state_of w.page))
 

@@ -77,8 +77,8 @@ background_style c = style.BackgroundColor c.0 c.1 c.2
 abbrev pub decoration_style : ℕ × ℕ × ℕ → Style
 decoration_style c = style.TextDecorationColor c.0 c.1 c.2
 
--- the colour of the characters, where this is around them: transparent where they are concealed;
--- where both are the page's own and exchanged, the keyword for that
+-- the colour of the characters, with this around them: transparent if they are concealed; if both
+-- are the page's own and exchanged, the keyword for that
 abbrev pub foreground_text : Bool → Bool → Color → Color → List ℕ
 foreground_text concealed inverse t g =
     if concealed then codes "color:transparent;"
@@ -94,7 +94,7 @@ background_text inverse t g = declared_as background_style
 abbrev pub decoration_text : Color → List ℕ
 decoration_text c = declared_as decoration_style [] (rgb_of c)
 
--- what a call says of a colour
+-- the declaration that a call gives for a colour
 abbrev pub declared_text : Declared → List ℕ
 declared_text (Keyword t) = t.now
 declared_text (Numbers s) = style_text s

@@ -1,4 +1,4 @@
--- What a page shows of which each line is an element.
+-- The characters that a page shows with each line in an element.
 use Rattle.std.specs.Prelude.{ℕ, ◌≡◌, ◌≤◌, ◌+◌, ◌*◌, ◌==◌, ◌⊎◌, true, if◌then◌else◌, List, [], ◌∷◌, ◌++◌, codes, length, Option}
 use Rattle.std.specs.List.{All, flat_map}
 use Rattle.esc_actions.specs.Meaning.{meaning_within}
@@ -31,27 +31,27 @@ IsLineTag (character c) = ⊥
 IsLineTag (end_tag n) = ⊥
 IsLineTag stray = ⊥
 
--- what a page may hold, or such a tag
+-- a token of a page, or such a tag
 abbrev pub IsListedInLines : Token → Type 0
 IsListedInLines t = IsListed t ⊎ IsLineTag t
 
 abbrev pub line_element : ℕ → Element
 line_element n = (codes "span", line_attributes n)
 
--- characters, each with the elements around it, and around these the element of its line, where
--- this number is that of the first
+-- characters, each with the elements around it, and around these the element of its line; this
+-- number is that of the first
 abbrev pub with_lines : ℕ → List (ℕ × List Element) → List (ℕ × List Element)
 with_lines n [] = []
 with_lines n (m ∷ ms) = (m.0, m.1 ++ line_element n ∷ [])
     ∷ with_lines (if m.0 == 0x0a then next_number n else n) ms
 
--- What holds of the text t of a page that was made of the stream s, with each line in an element,
--- of which the first has the number n:
+-- The facts about the text t of a page that was made of the stream s, with each line in an element,
+-- the first of which has the number n:
 pub record IsLinedPage (A : Type 0) (limit : Option ℕ) (n : ℕ) (y : Layout) (s t : List ℕ)
     : Type 0 where
   -- it is that text
   pub text : t ≡ in_lines n (page_text A limit y s ++ closing_text A limit y s)
-  -- a browser's tokenizer reads nothing but what a page may hold, and the tags of lines
+  -- a browser's tokenizer reads nothing but the tokens of a page, and the tags of lines
   pub listed : All IsListedInLines (tokens t)
   -- each start tag has its end tag, the last one first
   pub closes : closes [] (tokens t) ≡ true

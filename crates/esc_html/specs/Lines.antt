@@ -12,8 +12,8 @@ numeral n = decimal (min n highest)
 abbrev pub next_number : ℕ → ℕ
 next_number n = min (n + 1) highest
 
--- What begins a line: an element with an id, as L13, and in it an empty link to that, where a style
--- sheet shows the number.
+-- The beginning of a line: an element with an id, as L13, and in it an empty link to that, in which
+-- a style sheet shows the number.
 abbrev pub line_begin : ℕ → List ℕ
 line_begin n = codes "<span class=\"es-line\" id=\"L"
     ++ (numeral n ++ (codes "\"><a href=\"#L"
@@ -32,8 +32,8 @@ abbrev pub end_if : Bool → List ℕ
 end_if true = line_end
 end_if false = []
 
--- A text with each line in an element, where this number is that of its first line, of which the
--- element may be open. A line feed is in the element of the line that it ends.
+-- A text with each line in an element; this number is that of its first line, whose element may be
+-- open. A line feed is in the element of the line that it ends.
 abbrev pub lined_page : ℕ → Bool → List ℕ → List ℕ
 lined_page n begun [] = []
 lined_page n begun (b ∷ t) = begin_unless begun n ++ (b ∷ (if b == 0x0a

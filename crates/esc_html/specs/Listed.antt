@@ -1,4 +1,4 @@
--- What a page may hold: characters, and the two elements of parts with their attributes.
+-- The tokens that a page may hold: characters, and the two elements of parts with their attributes.
 use Rattle.std.specs.Prelude.{ℕ, ◌≡◌, ◌⊎◌, Bool, true, false, not, ◌&&◌, ◌||◌, List, [], ◌∷◌, codes}
 use Rattle.std.specs.Str.{bytes_eq}
 use Rattle.esc_html.specs.Addresses.{is_safe_address}
@@ -37,8 +37,8 @@ abbrev pub has_open_link : List (List ℕ) → Bool
 has_open_link [] = false
 has_open_link (n ∷ ns) = bytes_eq n (codes "a") || has_open_link ns
 
--- Each start tag has its end tag, the last one first, where these elements are open at the
--- beginning; and no link begins in a link, which would end the outer one (13.2.6.4.7).
+-- Each start tag has its end tag, the last one first, if these elements are open at the beginning;
+-- and no link begins in a link, which would end the outer one (13.2.6.4.7).
 abbrev pub closes : List (List ℕ) → List Token → Bool
 closes [] [] = true
 closes (n ∷ ns) [] = false

@@ -16,9 +16,8 @@ use Rattle.esc_style.specs.Looks.{look_by_all, plain_look}
 use Rattle.esc_html.specs.PageParts.{is_unbroken}
 use Rattle.esc_style.specs.declared.look.Look.{Look}
 
--- what holds for the characters that come: their look, the address that they lead to, on how many
--- more lines they may, where tags are closed at the end of each, and whether looks are declarations
--- alone
+-- the state for the next characters: their look, the address that they lead to, on how many more
+-- lines they may, if tags are closed at the end of each, and whether looks are declarations alone
 pub record Pen : Type 0 where
   pub look : Look
   pub link : Option (List ℕ)
@@ -42,31 +41,31 @@ abbrev pub address_if : Bool → List ℕ → Option (List ℕ)
 address_if true a = Some a
 address_if false a = None
 
--- where a link of the stream leads in the page: nowhere, where its address is not safe
+-- the target of a link of the stream in the page: none, if its address is not safe
 abbrev pub address_of : {A : Type 0} → Option (Hyperlink A) → Option (List ℕ)
 address_of None = None
 address_of (Some h) = address_if (is_page_address h.uri) h.uri
 
--- where the characters lead that come after a link with an address of these parts, if there are any
+-- the target of the characters after a link with an address of these parts, if there are any
 abbrev pub lead_to : List (List ℕ) → Option (Option (List ℕ))
 lead_to [] = None
 lead_to (u ∷ us) = Some (address_if (is_safe_in_parts (u ∷ us)) (joined (u ∷ us)))
 
--- where the characters lead that come after a command, if it says that
+-- the target of the characters after a command, if it says one
 abbrev pub lead_by : {A : Type 0} → OperatingSystemCommand A → Option (Option (List ℕ))
 lead_by (command.SetHyperlink h) = Some (address_of h)
 lead_by (command.Unspecified ps) = lead_to (address_in ps)
 lead_by _ = None
 
--- what a value does: another look holds from here on, or another address, a character is shown, or
--- nothing
+-- the effect of a value: another look holds from here on, or another address, a character is shown,
+-- or nothing
 pub data Step : Type 0 where
   restyles : Look → Step
   redirects : Option (List ℕ) → Step
   shows : ℕ → Step
   nothing : Step
 
--- what is printed is shown, with U+FFFD in the place of noncharacters, but not DEL, of which
+-- a printed character is shown, with U+FFFD in the place of noncharacters, but not DEL, for which
 -- terminals show nothing
 abbrev pub print_step : ℕ → Step
 print_step c = if c == 0x7f then nothing else shows (shown_as c)
@@ -92,15 +91,15 @@ escape_step e = if escape_begins_line e then shows 0x0a else nothing
 abbrev pub with_look : Pen → Look → Pen
 with_look p l = record p { look = l }
 
--- on how many more lines than its first one a link is opened, where tags are closed at the end of
--- each line
+-- the number of lines after its first one on which a link is opened, if tags are closed at the end
+-- of each line
 abbrev pub more_lines : ℕ
 more_lines = 15
 
 abbrev pub with_link : Pen → Option (List ℕ) → Pen
 with_link p k = record p { link = k; lines = more_lines }
 
--- at the beginning of the next line, where tags are closed at the end of each
+-- at the beginning of the next line, if tags are closed at the end of each
 abbrev pub next_line : Pen → Pen
 next_line p = if p.lines == 0 then record p { link = None } else record p { lines = p.lines - 1 }
 
@@ -123,7 +122,7 @@ step_of p (csi c) = function_step p (of_csi c)
 step_of p (osc c) = command_step p c
 step_of p _ = nothing
 
--- ---- what leaves something in a page
+-- ---- values that leave something in a page
 
 abbrev pub is_shown_control : ℕ → Bool
 is_shown_control n = n == 0x09 || begins_line n
@@ -153,7 +152,7 @@ is_shown _ = false
 
 -- ---- values, one after another
 
--- a line feed ends a line, where what is open is closed at the end of each
+-- a line feed ends a line, if the open tags are closed at the end of each
 abbrev pub ends_line : Bool → ℕ → Bool
 ends_line per_line c = per_line && c == 0x0a
 
@@ -181,7 +180,7 @@ marked_character per_line p (restyles l) = []
 marked_character per_line p (redirects k) = []
 marked_character per_line p nothing = []
 
--- the characters of values with what holds for each, where this pen holds before them
+-- the characters of values with the state for each, if this pen holds before them
 abbrev pub marks : {A : Type 0} → Bool → Pen → List (Value A) → List (ℕ × Pen)
 marks per_line p [] = []
 marks per_line p (v ∷ vs) =

@@ -1,5 +1,5 @@
--- The parts of which a text in HTML is made, what they are written as, and what a browser reads.
--- The characters are those of Unicode or, in the same way, the bytes of UTF-8.
+-- The parts of which a text in HTML is made, the text that they are written as, and the tokens that
+-- a browser reads. The characters are those of Unicode or, in the same way, the bytes of UTF-8.
 use Rattle.std.specs.Prelude.{ℕ, ◌==◌, Bool, true, false, not, ◌&&◌, ◌||◌, if◌then◌else◌, List, [], ◌∷◌, ◌++◌, codes, map}
 use Rattle.std.specs.List.{flat_map, list_all}
 use Rattle.std.specs.Str.{encode_utf8_all}
@@ -31,7 +31,7 @@ reference_text c = if c == 0x26 then codes "&amp;"
     else if c == 0x3e then codes "&gt;"
     else codes "&quot;"
 
--- what a character is written as, where `&`, `<` and this one have to be references
+-- the text of a character, if `&`, `<` and this one have to be references
 abbrev pub escape : ℕ → ℕ → List ℕ
 escape mark c = if c == 0x26 || c == 0x3c || c == mark then reference_text c else c ∷ []
 
@@ -46,8 +46,8 @@ escape_text c = escape 0x3e c
 abbrev pub escape_value : ℕ → List ℕ
 escape_value c = escape 0x22 c
 
--- the attributes of a span: its declarations alone; or its classes where there are some, and its
--- styles where there are some
+-- the attributes of a span: its declarations alone; or its classes if there are some, and its
+-- styles if there are some
 abbrev pub class_attribute : List Class → List (List ℕ × List ℕ)
 class_attribute [] = []
 class_attribute (c ∷ cs) = (codes "class", span_names (c ∷ cs)) ∷ []
@@ -68,7 +68,7 @@ attribute_text a = 0x20 ∷ (a.0 ++ (codes "=\"" ++ (a.1 ++ codes "\"")))
 abbrev pub attributes_text : List (List ℕ × List ℕ) → List ℕ
 attributes_text xs = flat_map attribute_text xs
 
--- what a part is written as
+-- the text of a part
 abbrev pub page_part_text : PagePart → List ℕ
 page_part_text (text t) = flat_map escape_text t
 page_part_text (span b l) = codes "<span" ++ (attributes_text (span_attributes b l) ++ codes ">")
@@ -108,7 +108,7 @@ is_kept_page_part span_end = true
 is_kept_page_part (link a) = list_all is_kept a
 is_kept_page_part link_end = true
 
--- what is open: spans and links
+-- an open element: a span or a link
 pub data Open : Type 0 where
   open_span : Open
   open_link : Open
@@ -119,8 +119,8 @@ has_link [] = false
 has_link (open_span ∷ os) = has_link os
 has_link (open_link ∷ os) = true
 
--- Each span and link that began ends, the last one first, where these are open at the beginning;
--- and no link begins in a link.
+-- Each span and link that began ends, the last one first, if these are open at the beginning; and
+-- no link begins in a link.
 abbrev pub nests : List Open → List PagePart → Bool
 nests [] [] = true
 nests (o ∷ os) [] = false

@@ -11,7 +11,7 @@ use Rattle.esc_html.specs.declared.layout.Layout.{Layout}
 use Rattle.esc_html.specs.declared.tags.Tags.{Tags}
 use Rattle.esc_html.specs.declared.tags.Tags.TheVariants.{Closed, Link, Open}
 
--- what a page is at: the pen, and which tags of it are open
+-- the state of a page: the pen, and which tags of it are open
 pub record State : Type 0 where
   pub pen : Pen
   pub tags : Tags
@@ -30,7 +30,7 @@ abbrev pub link_end_if : Bool → List PagePart
 link_end_if true = link_end ∷ []
 link_end_if false = []
 
--- a span, where the look is not plain
+-- a span, if the look is not plain
 abbrev pub span_unless : Bool → Bool → Look → List PagePart
 span_unless b true l = []
 span_unless b false l = span b l ∷ []
@@ -39,19 +39,19 @@ abbrev pub span_end_unless : Bool → List PagePart
 span_end_unless true = []
 span_end_unless false = span_end ∷ []
 
--- The tags of a pen: a link, and in it a span. What opens those that are not open:
+-- The tags of a pen: a link, and in it a span. The tags that open those that are not open:
 abbrev pub opening : Tags → Pen → List PagePart
 opening Closed p = link_opening p.link ++ span_unless p.inline (is_plain p.look) p.look
 opening Link p = span_unless p.inline (is_plain p.look) p.look
 opening Open p = []
 
--- what closes those that are open
+-- the tags that close those that are open
 abbrev pub closing : Tags → Pen → List PagePart
 closing Closed p = []
 closing Link p = link_end_if (is_some p.link)
 closing Open p = span_end_unless (is_plain p.look) ++ link_end_if (is_some p.link)
 
--- and what closes the span alone, so that the link stays open
+-- and the tags that close the span alone, so that the link stays open
 abbrev pub span_closing : Tags → Pen → List PagePart
 span_closing Closed p = []
 span_closing Link p = []
@@ -83,7 +83,7 @@ after_character true g = record {
 }
 after_character false g = with_tags g Open
 
--- what comes before it
+-- the tags before it
 abbrev pub before_character : Bool → State → List PagePart
 before_character true g = closed g
 before_character false g = opening_tags g
@@ -120,7 +120,7 @@ abbrev pub state_from : {A : Type 0} → Bool → State → List (Value A) → S
 state_from per_line g [] = g
 state_from per_line g (v ∷ vs) = state_from per_line (state_by per_line g (step_of g.pen v)) vs
 
--- those of a stream, of which no more than the limit is kept of a segment
+-- those of a stream, if no more than the limit is kept of a segment
 abbrev pub page_parts_of : Type 0 → Option ℕ → Layout → List ℕ → List PagePart
 page_parts_of A limit y s =
     page_parts_from {A = A} y.per_line (first_state y.inline) (meaning_within limit s)
@@ -133,6 +133,6 @@ state_of_stream A limit y s =
 abbrev pub page_text : Type 0 → Option ℕ → Layout → List ℕ → List ℕ
 page_text A limit y s = html_text (page_parts_of A limit y s)
 
--- what closes the tags that are open after it
+-- the tags that close those that are open after it
 abbrev pub closing_text : Type 0 → Option ℕ → Layout → List ℕ → List ℕ
 closing_text A limit y s = html_text (closed (state_of_stream A limit y s))

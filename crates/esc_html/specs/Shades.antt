@@ -1,6 +1,6 @@
 -- Colours without a style sheet, by numbers: those of a light page, and of grounds, on which text
--- can be read: with a contrast of 4.5 to 1 where what is around it is the page, a colour that has a
--- name, or one of the palette (WCAG 2.2, 1.4.3).
+-- can be read: with a contrast of 4.5 to 1 if the ground is the page, a colour that has a name, or
+-- one of the palette (WCAG 2.2, 1.4.3).
 use Rattle.std.specs.Prelude.{ℕ, ◌+◌, ◌*◌, nat_lt, Bool, true, false, not, ◌&&◌, if◌then◌else◌, Option, Some, None}
 use Rattle.esc_html.specs.Plain.{is_own}
 use Rattle.esc_style.specs.Colors.{palette}
@@ -92,7 +92,7 @@ deep_rgb ansi.BrightMagenta = (0x5b, 0x1b, 0x42)
 deep_rgb ansi.BrightCyan = (0x04, 0x3a, 0x42)
 deep_rgb ansi.BrightWhite = (0xf6, 0xf8, 0xfa)
 
--- a ground on which neither white nor black is what the other is on white and black
+-- the ground for black on black, and for white on white
 abbrev pub gray_rgb : ℕ × ℕ × ℕ
 gray_rgb = (0x6e, 0x76, 0x80)
 
@@ -110,7 +110,7 @@ is_black _ = false
 abbrev pub is_deep : ℕ × ℕ × ℕ → Bool
 is_deep c = nat_lt (3 * (c.0 * c.0) + 10 * (c.1 * c.1) + c.2 * c.2) 184801
 
--- the same of what is around characters: of the page's own where it is exchanged with its text
+-- the same for the ground of characters: for the page's own if it is exchanged with its text
 abbrev pub is_dark : Bool → Color → Bool
 is_dark inverse Default = inverse
 is_dark inverse (Named c) = not (is_white c)

@@ -1,4 +1,4 @@
--- What a page shows: each character with the elements that are open around it.
+-- The characters that a page shows, each with the elements that are open around it.
 use Rattle.std.specs.Prelude.{ℕ, ◌≡◌, Bool, true, false, List, [], ◌∷◌, ◌++◌, codes, map, Option, Some, None}
 use Rattle.std.specs.Char.{encode_utf8}
 use Rattle.std.specs.List.{All, flat_map}
@@ -18,7 +18,7 @@ abbrev pub Element : Type 0
 Element = List ℕ × List (List ℕ × List ℕ)
 
 -- each character of these tokens, with the elements that are open around it, the inner one first,
--- where these are open before
+-- if these are open before
 abbrev pub shown_characters : List Element → List Token → List (ℕ × List Element)
 shown_characters es [] = []
 shown_characters es (character c ∷ ts) = (c, es) ∷ shown_characters es ts
@@ -27,7 +27,7 @@ shown_characters [] (end_tag n ∷ ts) = shown_characters [] ts
 shown_characters (e ∷ es) (end_tag n ∷ ts) = shown_characters es ts
 shown_characters es (stray ∷ ts) = shown_characters es ts
 
--- the elements of a pen: a span where the look is not plain, in a link where there is one
+-- the elements of a pen: a span if the look is not plain, in a link if there is one
 abbrev pub link_elements : Option (List ℕ) → List Element
 link_elements None = []
 link_elements (Some a) =
@@ -44,7 +44,7 @@ elements p = span_elements_unless p.inline (is_plain p.look) p.look ++ link_elem
 abbrev pub marked_bytes : ℕ × Pen → List (ℕ × List Element)
 marked_bytes m = map (λ b. (b, elements m.1)) (encode_utf8 m.0)
 
--- What holds of the text t of a page that was made of the stream s, with what closes it:
+-- The facts about the text t of a page that was made of the stream s, with the tags that close it:
 pub record IsPage (A : Type 0) (limit : Option ℕ) (y : Layout) (s t : List ℕ) : Type 0 where
   -- it is that text
   pub text : t ≡ page_text A limit y s ++ closing_text A limit y s

@@ -1,12 +1,12 @@
--- How a browser cuts a text into tokens: the tokenizer of WHATWG HTML, 13.2.5, for the states that
--- the text of parts reaches. It goes from character to character and looks for characters of ASCII
--- alone, so it reads the bytes of UTF-8 in the same way. Where the standard goes to a state that is
--- not here, or replaces NUL, this one is lost: it says no more of what follows, and gives the token
+-- The tokens that a browser cuts a text into: the tokenizer of WHATWG HTML, 13.2.5, for the states
+-- that the text of parts reaches. It goes from character to character and looks for characters of
+-- ASCII alone, so it reads the bytes of UTF-8 in the same way. If the standard goes to a state that
+-- is not here, or replaces NUL, this one is lost: it says no more of the rest, and gives the token
 -- `stray` at the end.
 use Rattle.std.specs.Prelude.{ℕ, ◌==◌, ◌+◌, nat_le, Bool, true, false, ◌&&◌, ◌||◌, if◌then◌else◌, List, [], ◌∷◌, ◌++◌, codes, Option, Some, None}
 use Rattle.std.specs.Str.{bytes_eq}
 
--- a tag of which a part is read
+-- a tag that is partly read
 pub record Tag : Type 0 where
   pub is_end : Bool
   pub name : List ℕ
@@ -19,10 +19,11 @@ pub data Token : Type 0 where
   start_tag : List ℕ → List (List ℕ × List ℕ) → Token
   -- an end tag: its name
   end_tag : List ℕ → Token
-  -- what the states here do not read
+  -- text that the states here do not read
   stray : Token
 
--- where a character reference is: in text, or in the value of an attribute, of which this is read
+-- the place of a character reference: in text, or in the value of an attribute, of which this is
+-- read
 pub data Place : Type 0 where
   in_text : Place
   in_value : Tag → List ℕ → List ℕ → Place

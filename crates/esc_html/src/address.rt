@@ -15,8 +15,8 @@ pub(crate) const LONGEST_ADDRESS: usize = 2083;
 
 /// Whether a link may lead to this address: its scheme is `http` or `https` with `//`, or `mailto`,
 /// in letters of either case (RFC 3986, 3.1), and it has no control, no space and no noncharacter.
-/// A browser leaves out tabs, line ends and what comes before the scheme, and takes what has no
-/// `//` for an address of the page's own host (WHATWG URL, 4.4): so such an address is refused. So
+/// A browser leaves out tabs, line ends and the text before the scheme, and takes an address
+/// without `//` for one of the page's own host (WHATWG URL, 4.4): so such an address is refused. So
 /// is one of more than 2,083 bytes, as in VTE and iTerm2.
 pub fn is_safe_address(address: &str) -> bool
     ensures { result ≡ is_safe_address address.now }
@@ -41,7 +41,7 @@ pub(crate) fn has_safe_scheme(address: &[u8]) -> bool
         || has_scheme(address, b"mailto:")
 }
 
-// Whether these bytes begin with a scheme and what follows it.
+// Whether these bytes begin with a scheme and the text after it.
 fn has_scheme(address: &[u8], scheme: &[u8]) -> bool
     ensures { result ≡ has_scheme scheme.now address.now }
 {
@@ -67,7 +67,7 @@ fn is_address_char(c: char) -> bool
     '\u{20}' < c && (c < '\u{7f}' || '\u{9f}' < c) && !is_noncharacter(c)
 }
 
-// Where a link leads in a page: nowhere, where its address is not safe.
+// The target of a link in a page: none, if its address is not safe.
 pub(crate) fn address_of<A: Allocator>(link: Option<Hyperlink<A>>) -> Option<Text<A>>
     ensures { result ≡ address_of link }
 {

@@ -48,7 +48,7 @@ fn lead_of<A: Allocator>(
     }
 }
 
-/// The parts of the address of a link, where the command of these parts has no other reading.
+/// The parts of the address of a link, if the command of these parts has no other reading.
 pub(crate) fn address_in<A: Allocator>(parts: &[Items<u8, A>]) -> &[Items<u8, A>]
     ensures { result.now ≡ address_in parts.now }
 {

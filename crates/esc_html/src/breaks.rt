@@ -1,4 +1,4 @@
-//! What begins a line.
+//! Actions that begin a line.
 ghost use Rattle.std.specs.Prelude.{◌≡◌};
 ghost use Rattle.esc_html.specs.Marks.{begins_line, escape_begins_line};
 

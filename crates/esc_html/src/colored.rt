@@ -10,7 +10,7 @@ use esc_style::{Color, Look};
 use std::alloc::{AllocError, Allocator};
 use typed_functions::AnsiColor;
 
-/// Begins a span; where memory is refused, a part of the tag may be written.
+/// Begins a span; if memory is refused, a part of the tag may be written.
 #[inline]
 pub(crate) fn push_any_span<A: Allocator>(
     html: &mut String<A>,
@@ -26,7 +26,7 @@ pub(crate) fn push_any_span<A: Allocator>(
     }
 }
 
-// The start tag of a span of this look, where it is one of them.
+// The start tag of a span of this look, if it is one of them.
 fn colored_tag(look: &Look) -> Option<&'static str>
     ensures { IfSome result (λ t. t.now ≡ page_part_text (span false look.now)) }
 {

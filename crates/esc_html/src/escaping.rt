@@ -9,7 +9,7 @@ ghost use Rattle.fallible_alloc.specs.Refusals.{Refused};
 use memchr::memchr3;
 use std::alloc::{AllocError, Allocator};
 
-// Appends `more`, of which `&`, `<` and `mark` are written as references, run by run.
+// Appends `more`, with `&`, `<` and `mark` as references, run by run.
 pub(crate) fn push_escaped<A: Allocator>(
     html: &mut String<A>,
     more: &str,

@@ -10,16 +10,16 @@ use esc_parse::Parser;
 use std::alloc::{Allocator, Global};
 use std::mem;
 
-/// Takes a stream in whatever parts it comes, and gives for each the HTML that it adds: the
-/// characters of the stream but DEL, with U+FFFD in the place of noncharacters, tabs, and a line
-/// feed for each control that begins a line (LF, VT, FF, IND and NEL), in spans of their looks and
-/// in links to safe addresses, as the [`Layout`] says. All other actions show nothing. A link stays
-/// open where the look changes in it.
+/// Takes a stream in any parts, and gives for each the HTML that it adds: the characters of the
+/// stream but DEL, with U+FFFD in the place of noncharacters, tabs, and a line feed for each
+/// control that begins a line (LF, VT, FF, IND and NEL), in spans of their looks and in links to
+/// safe addresses, as the [`Layout`] says. All other actions show nothing. A link stays open if the
+/// look changes in it.
 ///
 /// All texts together are at most 150 times as long as the stream, and 150 bytes more; and one is
 /// at most 150 times as long as its part, and 401,000 bytes more, whatever came before it.
 ///
-/// It keeps what a parser keeps of an unfinished segment, at most the limit, the text of the part
+/// It keeps the unfinished segment as a parser does, at most the limit, the text of the part
 /// before, and the look and the address that hold.
 #[derive(Drop)]
 pub struct HtmlWriter<A: Allocator = Global> {
@@ -58,7 +58,8 @@ impl<A: Allocator + Copy> HtmlWriter<A> {
         }
     }
 
-    /// Takes `bytes`. What they add to the page of the stream so far is then [`html`](Self::html).
+    /// Takes `bytes`. The text that they add to the page of the stream so far is then
+    /// [`html`](Self::html).
     ///
     /// `ParseError::Memory` says that a request for memory was refused: the text is empty, and from
     /// then on every call returns `ParseError::Failed`.
@@ -89,8 +90,8 @@ impl<A: Allocator + Copy> HtmlWriter<A> {
         self.page.html.as_str()
     }
 
-    /// What closes the tags that are open. With it the text of all parts is a page, in which each
-    /// tag is closed.
+    /// The tags that close those that are open. With them the text of all parts is a page, in which
+    /// each tag is closed.
     pub fn closing(&self) -> &'static str
         ensures text { result.now ≡ closing_of self.now }
         ensures closes { After self.now (λ limit y s.

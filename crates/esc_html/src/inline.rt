@@ -12,16 +12,16 @@ use esc_style::{Color, Look, Style, palette};
 use esc_values::RgbColor;
 use std::alloc::{AllocError, Allocator};
 
-// What is declared of a colour.
+// The declaration of a colour.
 #[derive(Clone, Copy)]
 pub(crate) enum Declared {
-    // This declaration, or none where it is empty.
+    // This declaration, or none if it is empty.
     Keyword(&'static str),
     // A colour by numbers.
     Numbers(Style),
 }
 
-// Begins a span; where memory is refused, a part of the tag may be written.
+// Begins a span; if memory is refused, a part of the tag may be written.
 pub(crate) fn push_inline_span<A: Allocator>(
     html: &mut String<A>,
     look: &Look,
@@ -66,7 +66,7 @@ fn push_colors<A: Allocator>(html: &mut String<A>, look: &Look) -> Result<(), Al
     Ok(())
 }
 
-// What is declared of a colour.
+// Appends the declaration of a colour.
 fn push_declared<A: Allocator>(html: &mut String<A>, declared: Declared) -> Result<(), AllocError>
     ensures ok { OnOk result (string_bytes html.new
         ≡ string_bytes html.old ++ declared_text declared) }

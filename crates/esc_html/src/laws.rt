@@ -1,4 +1,4 @@
-//! The laws of what is written.
+//! The laws of the HTML that is written.
 ghost use Rattle.std.specs.Prelude.{◌≡◌, ◌++◌, ℕ, List, [], Option, map, true};
 ghost use Rattle.std.specs.List.{All, list_all};
 ghost use Rattle.std.specs.Str.{encode_utf8_all};
@@ -23,7 +23,7 @@ pub fn page_parts_read_back()
 {}
 
 /// It reads nothing but characters, spans with names of the list of classes or with declarations of
-/// fixed lists, and links to safe addresses, where those of the parts are safe: no other element,
+/// fixed lists, and links to safe addresses, if those of the parts are safe: no other element,
 /// attribute or scheme.
 pub fn page_parts_are_listed()
     ensures { (ps : List PagePart) → list_all is_kept_page_part ps ≡ true
@@ -42,12 +42,12 @@ pub fn page_parts_encoded()
     ensures { (ps : List PagePart) → encode_utf8_all (html_text ps) ≡ html_text (map encoded ps) }
 {}
 
-/// Of any stream, what an [`HtmlWriter`](crate::HtmlWriter) hands out for its parts and what
-/// closes it are a page: a browser's tokenizer reads nothing but characters, spans and links to
-/// safe addresses; all tags are closed; it shows exactly the characters of the stream, with U+FFFD
-/// in the place of noncharacters, each in the elements of its look and its link; and it is at most
-/// 150 times as long as the stream, and 150 bytes more. It holds for every allocator `A`, which the
-/// type of the actions names.
+/// For any stream, the texts that an [`HtmlWriter`](crate::HtmlWriter) hands out for its parts and
+/// the tags that close it are a page: a browser's tokenizer reads nothing but characters, spans and
+/// links to safe addresses; all tags are closed; it shows exactly the characters of the stream,
+/// with U+FFFD in the place of noncharacters, each in the elements of its look and its link; and it
+/// is at most 150 times as long as the stream, and 150 bytes more. It holds for every allocator
+/// `A`, which the type of the actions names.
 pub fn streams_are_pages<A: Allocator>()
     ensures { (limit : Option ℕ) (y : Layout) (s : List ℕ) → IsPage A limit y s
         (page_text A limit y s ++ closing_text A limit y s) }
@@ -55,10 +55,10 @@ pub fn streams_are_pages<A: Allocator>()
     handed_out::<A>();
 }
 
-/// The same of a page in a layout with `per_line`, of which a [`LineWriter`](crate::LineWriter) has
-/// made an element of each line: the tags of lines are on the list too, and close; each character
-/// is in the element of its line, of which the first has the number `n`; and a line is at most 126
-/// bytes longer.
+/// The same for a page in a layout with `per_line`, if a [`LineWriter`](crate::LineWriter) has made
+/// an element of each line: the tags of lines are on the list too, and close; each character is in
+/// the element of its line, the first of which has the number `n`; and a line is at most 126 bytes
+/// longer.
 pub fn lines_are_elements<A: Allocator>()
     ensures { (limit : Option ℕ) (n : ℕ) (y : Layout) (s : List ℕ) → y.per_line ≡ true
         → IsLinedPage A limit n y s

@@ -11,10 +11,10 @@
 //! writer.closing()    // "</span>"
 //! ```
 //!
-//! What is written is the text of parts: runs of characters, spans whose classes are of a fixed
-//! list and whose styles are colours by numbers, and links. The laws in [`laws`] say that a
-//! browser's tokenizer reads from it these parts and nothing else, whatever the stream is, and
-//! that the page shows exactly the characters of the stream with their looks and links.
+//! The output is the text of parts: runs of characters, spans whose classes are of a fixed list and
+//! whose styles are colours by numbers, and links. The laws in [`laws`] say that a browser's
+//! tokenizer reads from it these parts and nothing else, whatever the stream is, and that the page
+//! shows exactly the characters of the stream with their looks and links.
 #![tactic(auto)]
 
 mod address;

@@ -31,8 +31,7 @@ pub struct LineWriter<A: Allocator = Global> {
 impl<A: Allocator> LineWriter<A> {
     ghost use Rattle.esc_html.specs.Lining.{AfterLines, EndsLines, TakesLines, WasLined, added_in};
 
-    /// A writer at the beginning of a page, of which the first line has this number. Takes no
-    /// memory.
+    /// A writer at the beginning of a page whose first line has this number. Takes no memory.
     pub fn new(alloc: A, first: u64) -> LineWriter<A>
         ensures given { WasLined first [] result }
         ensures empty { added_in result ≡ [] }
@@ -44,8 +43,8 @@ impl<A: Allocator> LineWriter<A> {
         }
     }
 
-    /// Takes more of the page. What that adds is then [`html`](Self::html). The error is that
-    /// memory was refused: then the page cannot be gone on with.
+    /// Takes more of the page. The text that this adds is then [`html`](Self::html). The error is
+    /// that memory was refused: then the page cannot be gone on with.
     pub fn feed(&mut self, page: &str) -> Result<(), AllocError>
         ensures given { AfterLines self.old (λ first s.
             OnOk result (TakesLines first s page.now self.new)) }
@@ -111,7 +110,7 @@ impl<A: Allocator> LineWriter<A> {
         fallible_alloc::push_str(&mut self.text, part)
     }
 
-    // Begins a line, where none is open.
+    // Begins a line, if none is open.
     fn begin(&mut self) -> Result<(), AllocError>
         ensures ok { OnOk result (string_bytes self.new.text ≡ string_bytes self.old.text
             ++ begin_unless self.old.is_open self.old.number) }

@@ -14,8 +14,8 @@ use esc_style::Look;
 use std::alloc::{AllocError, Allocator, Global};
 use std::marker::Model;
 
-/// A text in HTML. Contracts see its bytes. Where memory is refused, a part of what was to be
-/// appended may be there.
+/// A text in HTML. Contracts see its bytes. If memory is refused, a part of the text to append may
+/// be there.
 #[derive(Drop)]
 pub(crate) struct Markup<A: Allocator = Global> {
     string: String<A>,
@@ -51,7 +51,7 @@ impl<A: Allocator> Markup<A> {
         self.string.clear()
     }
 
-    /// Appends what is HTML already.
+    /// Appends a text that is HTML already.
     pub fn push_html(&mut self, html: &str) -> Result<(), AllocError>
         ensures ok { OnOk result (self.new ≡ self.old ++ html.now) }
         ensures refused { OnErr result (Refused A) }

@@ -1,4 +1,4 @@
-//! What writes a page, action by action.
+//! The writer of a page, action by action.
 ghost use Rattle.std.specs.Prelude.{◌≡◌, ◌++◌, [], OnErr, OnOk, map, true};
 ghost use Rattle.std.specs.List.{filter, list_all};
 ghost use Rattle.std.specs.Str.{chars};
@@ -36,11 +36,11 @@ use memchr::memchr;
 use std::alloc::{AllocError, Allocator, Global};
 use typed_functions::{Function, Rendition, Renditions};
 
-// On how many more lines than its first one a link is opened, where tags are closed at the end of
-// each line.
+// The number of lines after its first one on which a link is opened, if tags are closed at the end
+// of each line.
 const MORE_LINES: u8 = 15;
 
-/// The text of a page so far, and what holds for the characters that come.
+/// The text of a page so far, and the state for the next characters.
 #[derive(Drop)]
 pub(crate) struct Page<A: Allocator = Global> {
     /// The text that was added last.
@@ -49,7 +49,7 @@ pub(crate) struct Page<A: Allocator = Global> {
     pub look: Look,
     /// The address that they lead to.
     pub link: Option<Text<A>>,
-    /// On how many more lines they may, where tags are closed at the end of each.
+    /// On how many more lines they may, if tags are closed at the end of each.
     pub lines: u8,
     /// Which tags are open.
     pub tags: Tags,
@@ -84,7 +84,7 @@ impl<A: Allocator> Page<A> {
         self
     }
 
-    // Opens a link, where there is one.
+    // Opens a link, if there is one.
     fn open_link(&mut self) -> Result<(), AllocError>
         ensures ok { OnOk result (text_of self.new
             ≡ text_of self.old ++ html_text (link_opening (state_of self.old).pen.link)) }
@@ -98,7 +98,7 @@ impl<A: Allocator> Page<A> {
         }
     }
 
-    // Opens a span, where the look is not plain.
+    // Opens a span, if the look is not plain.
     fn open_span(&mut self) -> Result<(), AllocError>
         ensures ok { OnOk result (text_of self.new
             ≡ text_of self.old ++ html_text
@@ -160,7 +160,7 @@ impl<A: Allocator> Page<A> {
         Ok(())
     }
 
-    /// What closes the tags that are open.
+    /// The tags that close those that are open.
     pub fn closing(&self) -> &'static str
         ensures { result.now ≡ html_text (closed (state_of self.now)) }
     {
@@ -171,7 +171,7 @@ impl<A: Allocator> Page<A> {
         }
     }
 
-    // What closes the span.
+    // The tag that closes the span.
     fn span_closing(&self) -> &'static str
         ensures { result.now ≡ html_text (span_closed (state_of self.now)) }
     {
@@ -223,8 +223,8 @@ impl<A: Allocator> Page<A> {
         self.html.push_char(c)
     }
 
-    // Shows what is printed, but DEL, of which terminals show nothing, and U+FFFD in the place of a
-    // noncharacter.
+    // Shows a printed character, but not DEL, for which terminals show nothing, and U+FFFD in the
+    // place of a noncharacter.
     fn take_print(&mut self, c: char) -> Result<(), AllocError>
         ensures ok { OnOk result (Adds self.old (print_step c) self.new) }
         ensures refused { OnErr result (Refused A) }
@@ -294,7 +294,7 @@ impl<A: Allocator> Page<A> {
         self.show_run(rest)
     }
 
-    // Shows what is printed, character by character.
+    // Shows the printed characters, one by one.
     fn take_each(&mut self, text: &str) -> Result<(), AllocError>
         ensures { Receives ⊥ Takes (λ p a q. Refused A) result self.old
             (map Print (chars text.now)) self.new }
@@ -308,7 +308,7 @@ impl<A: Allocator> Page<A> {
         Ok(())
     }
 
-    // Shows a tab, a line feed where a control begins a line, and no other control.
+    // Shows a tab, a line feed if a control begins a line, and no other control.
     fn take_control(&mut self, c: char) -> Result<(), AllocError>
         ensures ok { OnOk result (Adds self.old (control_step c) self.new) }
         ensures refused { OnErr result (Refused A) }
@@ -322,7 +322,7 @@ impl<A: Allocator> Page<A> {
         }
     }
 
-    // Shows a line feed where an escape sequence begins a line.
+    // Shows a line feed if an escape sequence begins a line.
     fn take_escape(&mut self, esc: Esc) -> Result<(), AllocError>
         ensures ok { OnOk result (Adds self.old (escape_step esc) self.new) }
         ensures refused { OnErr result (Refused A) }
@@ -419,7 +419,7 @@ impl<A: Allocator> Page<A> {
     }
 }
 
-/// Each action adds what it shows to the text.
+/// Each action adds the characters that it shows to the text.
 impl<A: Allocator> Sink<Action<A>> for Page<A> {
     ghost is_ready = { λ _. Unit {0} };
 
@@ -458,8 +458,8 @@ impl<A: Allocator> Sink<Action<A>> for Page<A> {
         }
     }
 
-    // Takes it with no action made, where it is one: renditions of which each is a sequence by
-    // itself are several.
+    // Takes it with no action made, if it is one: renditions that are sequences by themselves are
+    // several.
     #[inline]
     fn receive_sequence(
         &mut self,
@@ -482,8 +482,8 @@ impl<A: Allocator> Sink<Action<A>> for Page<A> {
         true
     }
 
-    // What follows is as by default, and written out: at the type of an action, a method that is
-    // taken over from the trait costs a proof some seconds more.
+    // The next methods are as by default, and written out: at the type of an action, a method that
+    // is taken over from the trait costs a proof some seconds more.
     #[inline]
     fn receive_command(&mut self, _text: &[u8]) -> Result<bool, AllocError> {
         Ok(false)

@@ -11,7 +11,7 @@ use esc_sequences::Sgr;
 use esc_values::CsiParam;
 use typed_functions::{Function, Rendition};
 
-/// The rendition that a control sequence of these parameters asks for, where it has one number and
+/// The rendition that a control sequence of these parameters asks for, if it has one number and
 /// nothing else, as most have; it is read without its function's name.
 #[inline]
 pub(crate) fn lone_rendition(
@@ -57,7 +57,7 @@ pub(crate) fn rendition_of(rendition: Sgr) -> Rendition
     }
 }
 
-/// What a control sequence of these parameters asks for.
+/// The function that a control sequence of these parameters asks for.
 pub(crate) fn function_of(
     params: &[CsiParam],
     parameters_truncated: bool,

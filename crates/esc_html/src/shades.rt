@@ -7,7 +7,7 @@ use esc_style::{Color, palette};
 use esc_values::RgbColor;
 use typed_functions::AnsiColor;
 
-/// The colour of text, by numbers, where this is around it; the page's own has none.
+/// The colour of text, by numbers, with this around it; the page's own has none.
 pub(crate) fn text_rgb(inverse: bool, text: Color, around: Color) -> Option<RgbColor>
     ensures { result ≡ text_rgb inverse text around }
 {
@@ -115,7 +115,7 @@ fn is_page(around: &Color) -> bool
     }
 }
 
-// Whether white can be read better than black on what is around text.
+// Whether white can be read better than black on the ground of text.
 fn is_dark(inverse: bool, around: &Color) -> bool
     ensures { result ≡ is_dark inverse around.now }
 {

@@ -13,9 +13,9 @@ use esc_osc::OperatingSystemCommand;
 use std::alloc::Allocator;
 use typed_functions::Function;
 
-/// Whether a page shows an action, or what it changes of looks and links: a character but DEL, a
-/// tab, a control that begins a line, renditions, and a link to a safe address or the end of one.
-/// All other actions leave nothing in a page.
+/// Whether a page shows an action, or its change of looks and links: a character but DEL, a tab, a
+/// control that begins a line, renditions, and a link to a safe address or the end of one. All
+/// other actions leave nothing in a page.
 pub fn is_shown<A: Allocator>(action: &Action<A>) -> bool
     ensures { result ≡ is_shown (value_of action.now) }
 {

@@ -13,7 +13,7 @@ use esc_style::{Class, Look, Style};
 use std::alloc::{AllocError, Allocator};
 use std::str;
 
-// Begins a span; where memory is refused, a part of the tag may be written.
+// Begins a span; if memory is refused, a part of the tag may be written.
 pub(crate) fn push_span<A: Allocator>(html: &mut String<A>, look: &Look) -> Result<(), AllocError>
     ensures ok { OnOk result (string_bytes html.new
         ≡ string_bytes html.old ++ page_part_text (span false look.now)) }
@@ -26,7 +26,7 @@ pub(crate) fn push_span<A: Allocator>(html: &mut String<A>, look: &Look) -> Resu
     fallible_alloc::push_str(html, ">")
 }
 
-// The attribute `class`, where there are classes.
+// The attribute `class`, if there are classes.
 fn push_class_attribute<A: Allocator>(
     html: &mut String<A>,
     classes: &[Option<Class>],
@@ -43,8 +43,8 @@ fn push_class_attribute<A: Allocator>(
     end_attribute(html, is_first)
 }
 
-// A class, where it is there, with a prefix: before the first comes the attribute's name, and
-// before any other a space. Whether the next is the first still.
+// A class, if it is there, with a prefix: before the first comes the attribute's name, and before
+// any other a space. Returns whether the next is still the first.
 fn push_next_class<A: Allocator>(
     html: &mut String<A>,
     is_first: bool,
@@ -65,7 +65,7 @@ fn push_next_class<A: Allocator>(
     Ok(false)
 }
 
-// The entry of the palette that the name of a class ends in, where it does.
+// The entry of the palette that the name of a class ends in, if it does.
 fn push_index<A: Allocator>(html: &mut String<A>, index: Option<u8>) -> Result<(), AllocError>
     ensures ok { OnOk result (string_bytes html.new
         ≡ string_bytes html.old ++ index_text index) }
@@ -93,14 +93,14 @@ fn push_digits<A: Allocator>(html: &mut String<A>, index: u8) -> Result<(), Allo
     }
 }
 
-// What comes before the name of a class: a prefix of its own, too.
+// The text before the name of a class: a prefix of its own, too.
 fn class_opener(is_first: bool) -> &'static str
     ensures { result.now ≡ class_opener is_first }
 {
     if is_first { " class=\"es-" } else { " es-" }
 }
 
-// The attribute `style`, where there are styles.
+// The attribute `style`, if there are styles.
 fn push_style_attribute<A: Allocator>(
     html: &mut String<A>,
     styles: &[Option<Style>],
@@ -117,7 +117,7 @@ fn push_style_attribute<A: Allocator>(
     end_attribute(html, is_first)
 }
 
-// A style, where it is there. Whether the next is the first still.
+// A style, if it is there. Returns whether the next is still the first.
 fn push_next_style<A: Allocator>(
     html: &mut String<A>,
     is_first: bool,
@@ -153,7 +153,7 @@ pub(crate) fn push_style<A: Allocator>(
     fallible_alloc::push_str(html, as_str(&code))
 }
 
-// What comes before a style.
+// The text before a style.
 fn style_opener(is_first: bool) -> &'static str
     ensures { result.now ≡ style_opener is_first }
 {
@@ -168,7 +168,7 @@ fn as_str(code: &[u8]) -> &str
     unsafe { str::from_utf8_unchecked(code) }
 }
 
-// Ends an attribute, where it was begun.
+// Ends an attribute, if it was begun.
 fn end_attribute<A: Allocator>(html: &mut String<A>, is_absent: bool) -> Result<(), AllocError>
     ensures ok { OnOk result (string_bytes html.new ≡ string_bytes html.old
         ++ ending_quote is_absent) }
@@ -178,7 +178,7 @@ fn end_attribute<A: Allocator>(html: &mut String<A>, is_absent: bool) -> Result<
     fallible_alloc::push_str(html, attribute_end(is_absent))
 }
 
-// The quote that ends an attribute, where it was begun.
+// The quote that ends an attribute, if it was begun.
 fn attribute_end(is_absent: bool) -> &'static str
     ensures { result.now ≡ ending_quote is_absent }
 {

@@ -3,7 +3,7 @@ ghost use Rattle.std.specs.Prelude.{◌≡◌, ◌++◌};
 ghost use Rattle.esc_html.specs.Pages.{link_end_if, span_end_unless, without_span};
 ghost use Rattle.esc_html.specs.PageParts.{html_text};
 
-/// Which tags of a page are open: those of a link, and in it those of a span, where there are such.
+/// Which tags of a page are open: those of a link, and in it those of a span, if there are such.
 #[derive(Clone, Copy)]
 pub(crate) enum Tags {
     /// None.
@@ -33,7 +33,7 @@ pub(crate) fn span_end(is_plain: bool) -> &'static str
     if is_plain { "" } else { "</span>" }
 }
 
-/// The end tag of a link, where there is one.
+/// The end tag of a link, if there is one.
 pub(crate) fn link_end(has_link: bool) -> &'static str
     ensures { result.now ≡ html_text (link_end_if has_link) }
 {

@@ -86,7 +86,7 @@ pub fn close_link<A: Allocator>(html: &mut String<A>) -> Result<(), AllocError>
     fallible_alloc::push_str(html, "</a>")
 }
 
-// Begins a link; where memory is refused, a part of the tag may be written.
+// Begins a link; if memory is refused, a part of the tag may be written.
 pub(crate) fn push_link<A: Allocator>(html: &mut String<A>, address: &str) -> Result<(), AllocError>
     ensures ok { OnOk result (string_bytes html.new
         ≡ string_bytes html.old ++ page_part_text (link address.now)) }

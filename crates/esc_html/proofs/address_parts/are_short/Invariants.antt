@@ -3,7 +3,7 @@ use Rattle.esc_values.specs.Clear.{joined, separated_parts}
 use Rattle.esc_html.specs.Addresses.{is_short}
 use Rattle.esc_html.proofs.address_parts.are_short.Given as goal
 
--- the whole is short exactly where what is left of it is no longer than there is room
+-- the whole is short exactly if the rest of it is no longer than there is room
 abbrev pub invariant-loop-part : goal.invariant-loop-part
 invariant-loop-part g l =
     is_short (joined l.fn.parts) ≡ nat_le (length (separated_parts l.rest)) l.left
