@@ -12,7 +12,7 @@ use Rattle.esc_values.proofs.Where.{Where, where_map, where_then, where_both, ut
 abbrev pub IsClearPair : List ℕ × List ℕ → Type 0
 IsClearPair e = BothClear e × FirstFree 0x3d e
 
--- what holds of both sides of the first `=` holds of the key and the value
+-- a property of both sides of the first `=` is one of the key and the value
 pub key_keeps : (P : List ℕ × List ℕ → Type 0) (t : List ℕ) → Where P (cut_at 0x3d t)
     → Where P (key_and_value t)
 key_keeps P t h =

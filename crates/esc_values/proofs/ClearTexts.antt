@@ -45,7 +45,7 @@ part_append x y (cs, all, e) (ds, more, f) = (
   encodes-append cs ds ∙ ap (λ t. t ++ encode_utf8_all ds) e ∙ ap (λ t. x ++ t) f,
 )
 
--- what follows the first character, where that is ASCII
+-- the text after the first character, if that is ASCII
 after_first : (c b : ℕ) (ds r : List ℕ) → b < 128 → c ≡ b
     → encode_utf8 c ++ encode_utf8_all ds ≡ b ∷ r → encode_utf8_all ds ≡ r
 after_first c b ds r small same e =

@@ -58,7 +58,7 @@ free_passes b f fails (x ∷ t) h =
       | inr failed ↦ free_more b x t failed (free_passes b f fails t q.1)
     ]
 
--- what comes before a cut is without its byte
+-- the bytes before a cut are without its byte
 abbrev pub FirstFree : ℕ → List ℕ × List ℕ → Type 0
 FirstFree b p = Free b p.0
 
@@ -71,7 +71,7 @@ cut_lacks b (x ∷ t) =
           free_more b x p.0 failed h) (cut_at b t) (cut_lacks b t))
     ]
 
--- what is without a byte is so on both sides of a cut
+-- a text without a byte is without it on both sides of a cut
 abbrev pub BothFree : ℕ → List ℕ × List ℕ → Type 0
 BothFree a p = Free a p.0 × Free a p.1
 
@@ -90,7 +90,7 @@ cut_keeps a b (x ∷ t) h =
 abbrev pub BothClear : List ℕ × List ℕ → Type 0
 BothClear p = IsClearPart p.0 × IsClearPart p.1
 
--- what comes before the cut, with x before it
+-- the bytes before the cut, with x before them
 abbrev After : List ℕ → Option (List ℕ × List ℕ) → Option (List ℕ × List ℕ)
 After x o = option_map (λ (p : List ℕ × List ℕ). (x ++ p.0, p.1)) o
 
@@ -111,7 +111,7 @@ cut_after b (a ∷ x) r h = let q = free_parts b a x h in
 cut_here : (b : ℕ) (r : List ℕ) → cut_at b (b ∷ r) ≡ Some ([], r)
 cut_here b r = rw (eq-eqb b b refl) refl
 
--- what was put together is cut there
+-- bytes that were put together are cut there
 pub cut_there : (b : ℕ) (x r : List ℕ) → Free b x → cut_at b (x ++ b ∷ r) ≡ Some (x, r)
 cut_there b x r h =
     let f : List ℕ → Option (List ℕ × List ℕ) = λ t. Some (t, r) in
@@ -162,7 +162,7 @@ abbrev pub AreStretchs : ℕ → List (List ℕ) → Type 0
 AreStretchs b [] = Unit {0}
 AreStretchs b (p ∷ ps) = IsStretch b p × AreStretchs b ps
 
--- the stretchs of a text between the bytes b: at least one
+-- the slices of a text between the bytes b: at least one
 abbrev pub SplitsAt : ℕ → List ℕ → Type 0
 SplitsAt b t = (p : List ℕ) × (ps : List (List ℕ)) × (slice_split (λ c. c == b) t ≡ p ∷ ps)
     × IsStretch b p × AreStretchs b ps

@@ -1,4 +1,4 @@
--- What is written of fields reads back, and what is read fits: one proof for all structs.
+-- The text of fields reads back, and the values that are read fit: one proof for all structs.
 use Rattle.std.proofs.Common.{ℕ, ◌≡◌, nat_eq, Bool, true, false, ◌&&◌, if◌then◌else◌, List, [], ◌∷◌, Option, Some, None}
 use Rattle.std.proofs.Common.{refl, sym, ◌∙◌, inl, inr}
 use Rattle.std.proofs.lemmas.Bool.{and_parts, cases_Bool}
@@ -47,7 +47,7 @@ values_found k found (e ∷ es) =
 pub written_values : (es : List Entry) → values_of (written es) ≡ (λ k. find k es)
 written_values es = fun_ext (λ k. values_found k None es ∙ later_none (find k es))
 
--- keys of which one is written are not bare
+-- keys, one of which is written, are not bare
 bare_with : (n : List ℕ) (v : Option (List ℕ)) (es : Pairs) → is_bare es ≡ false
     → is_bare (with_value n v es) ≡ false
 bare_with n None es h = h
@@ -113,8 +113,8 @@ order_passes test (e ∷ es) h =
     let q = and_parts (test e) (list_all test es) h in
     with_passes test e (in_order es) q.0 (order_passes test es q.1)
 
--- What a format proves of its kinds: what fits reads back, what is read fits, and the text of what
--- fits passes a test.
+-- The facts that a format proves about its kinds: fitting values read back, values that are read
+-- fit, and the text of fitting values passes a test.
 pub record AreLawful (K : Kinds) (test : Option (List ℕ) → Bool) : Type 0 where
   pub back : (k : K.Kind) (x : K.Of k) → K.Fits k x → K.read_as k (K.text_as k x) ≡ Some x
   pub fits : (k : K.Kind) (o : Option (List ℕ)) → Where (λ x. K.Fits k x) (K.read_as k o)
@@ -130,7 +130,7 @@ abbrev pub texts_at : {K : Kinds} {S : Type 0} → List (Field K S) → Values
 texts_at [] v = []
 texts_at (f ∷ fs) v = v f.key ∷ texts_at fs v
 
--- what is made of the fields of a struct
+-- the value that is made of the fields of a struct
 abbrev pub made_of : {K : Kinds} {S R : Type 0} → (fs : List (Field K S)) → Makes fs R → S → R
 made_of [] make s = make
 made_of (f ∷ fs) make s = made_of fs (make (f.get s)) s
@@ -138,7 +138,7 @@ made_of (f ∷ fs) make s = made_of fs (make (f.get s)) s
 heads : {X : Type 0} (x y : X) (xs ys : List X) → x ∷ xs ≡ y ∷ ys → (x ≡ y) × (xs ≡ ys)
 heads x y xs ys h = (cc, cc)
 
--- what is written of a struct that fits reads back
+-- the text of a struct that fits reads back
 pub reads_back : {K : Kinds} {test : Option (List ℕ) → Bool} {S R : Type 0} → AreLawful K test
     → (fs : List (Field K S)) (make : Makes fs R) (s : S) (v : Values)
     → FitAll fs s → texts_at fs v ≡ texts fs s
@@ -148,7 +148,7 @@ reads_back {K = K} laws (f ∷ fs) make s v h e =
     let q = heads (v f.key) (K.text_as f.kind (f.get s)) (texts_at fs v) (texts fs s) e in
     rw (q.0, laws.back f.kind (f.get s) h.0) (reads_back laws fs (make (f.get s)) s v h.1 q.1)
 
--- what is read of all keys, one value after another, and that all of it fits
+-- the values that are read from all keys, one after another, and that all of them fit
 abbrev pub AllOf : {K : Kinds} {S : Type 0} → List (Field K S) → Type 0
 AllOf [] = Unit {0}
 AllOf {K = K} (f ∷ fs) = K.Of f.kind × AllOf fs
@@ -162,7 +162,7 @@ abbrev pub make_all : {K : Kinds} {S R : Type 0} → (fs : List (Field K S)) →
 make_all [] make xs = make
 make_all (f ∷ fs) make xs = make_all fs (make xs.0) xs.1
 
--- what is read fits; at a struct the premise is `λ xs h. h`
+-- a struct that is read fits; at a struct the premise is `λ xs h. h`
 pub read_fits : {K : Kinds} {test : Option (List ℕ) → Bool} {S R : Type 0} → AreLawful K test
     → (fs : List (Field K S)) (make : Makes fs R) (v : Values) (P : R → Type 0)
     → ((xs : AllOf fs) → AllFit fs xs → P (make_all fs make xs))
@@ -173,7 +173,7 @@ read_fits {K = K} laws (f ∷ fs) make v P h =
     (λ x hx. read_fits laws fs (make x) v P (λ xs hxs. h (x, xs) (hx, hxs)))
     (K.read_as f.kind (v f.key)) (laws.fits f.kind (v f.key))
 
--- the entries of what fits pass a test, where their names do
+-- the entries of a fitting struct pass a test, if their names do
 abbrev pub is_entry_of : (List ℕ → Bool) → (Option (List ℕ) → Bool) → Entry → Bool
 is_entry_of name test e = name e.0 && test e.1
 

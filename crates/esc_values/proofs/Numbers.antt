@@ -1,4 +1,4 @@
--- What `parse` returns, as `number_of`.
+-- The result of `parse`, as `number_of`.
 use Rattle.std.proofs.Common.{◌≡◌, ℕ, zero, suc, ◌^◌, ◌<◌, true, ◌&&◌, nat_lt, nat_eq, List, [], ◌∷◌, length, None, Result, Ok, Err}
 use Rattle.std.proofs.Common.{arith, lt-ltb, inl, inr}
 use Rattle.std.specs.Result.{result_ok}

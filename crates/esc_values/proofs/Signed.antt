@@ -1,4 +1,4 @@
--- Signed numbers: what `parse` returns, as `signed_of`; their texts read back.
+-- Signed numbers: the result of `parse`, as `signed_of`; their texts read back.
 use Rattle.std.proofs.Common.{ℕ, suc, ◌-◌, ◌^◌, ◌≡◌, ◌≢◌, ◌<◌, Bool, true, false, ◌&&◌, nat_lt, nat_eq, List, [], ◌∷◌, length, get_or, Some, None}
 use Rattle.std.proofs.Common.{Result, Ok, Err, ℤ, pos, negsuc, neg_ℤ, refl, ap, arith, lt-ltb, inl, inr}
 use Rattle.std.specs.Fmt.{decimal, signed_decimal}

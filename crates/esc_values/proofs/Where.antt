@@ -1,4 +1,4 @@
--- What holds of a value where there is one.
+-- The facts about a value if there is one.
 use Rattle.std.proofs.Common.{ℕ, ◌≡◌, ◌<◌, ◌^◌, Bool, true, false, if◌then◌else◌, ◌&&◌, nat_lt, inl, inr, List, length, Option, Some, None, refl}
 use Rattle.std.specs.Option.{option_map}
 use Rattle.std.specs.Prelude.{IfSome}

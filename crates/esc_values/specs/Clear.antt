@@ -1,5 +1,5 @@
 -- Clear characters, the texts that are made of them, and the parts into which such texts split at
--- `;`. A terminal takes each clear character for what it is: none of them controls, opens or ends
+-- `;`. A terminal shows each clear character as itself: none of them controls, opens or ends
 -- anything.
 use Rattle.std.specs.Prelude.{ℕ, ◌≡◌, ◌≢◌, Bool, true, not, nat_le, ◌==◌, ◌||◌, ◌&&◌, List, [], ◌∷◌, ◌++◌}
 use Rattle.std.specs.List.{slice_split, list_all, flat_map}
@@ -31,7 +31,7 @@ abbrev pub AreClearParts : List (List ℕ) → Type 0
 AreClearParts [] = Unit {0}
 AreClearParts (p ∷ ps) = IsClearPart p × AreClearParts ps
 
--- the stretchs between `;`; none where the text is empty
+-- the slices between `;`; none if the text is empty
 abbrev pub parts_of : List ℕ → List (List ℕ)
 parts_of [] = []
 parts_of (b ∷ text) = slice_split (λ c. c == 0x3b) (b ∷ text)
@@ -45,7 +45,7 @@ abbrev pub joined : List (List ℕ) → List ℕ
 joined [] = []
 joined (p ∷ ps) = p ++ separated_parts ps
 
--- clear parts, but not one empty part: what a clear text splits into
+-- clear parts, but not one empty part: the parts into which a clear text splits
 abbrev pub AreTextParts : List (List ℕ) → Type 0
 AreTextParts ps = AreClearParts ps × (ps ≢ [] ∷ [])
 

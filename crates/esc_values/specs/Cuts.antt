@@ -5,7 +5,7 @@ use Rattle.std.specs.List.{filter}
 use Rattle.std.specs.Option.{option_map}
 use Rattle.esc_values.specs.Scalars.{and_then, utf8_of}
 
--- what comes before and after the first c
+-- the bytes before and after the first c
 abbrev pub cut_at : ℕ → List ℕ → Option (List ℕ × List ℕ)
 cut_at c [] = None
 cut_at c (b ∷ bs) = if b == c then Some ([], bs) else option_map (λ (p : List ℕ
@@ -24,16 +24,16 @@ pair_text e = e.0 ++ 0x3d ∷ e.1
 abbrev pub Pairs : Type 0
 Pairs = List (List ℕ × List ℕ)
 
--- the stretchs as keys and values, where each is one
+-- the slices as keys and values, if each is one
 abbrev pub pairs_in : List (List ℕ) → Option Pairs
 pairs_in [] = Some []
 pairs_in (p ∷ ps) = and_then (key_and_value p) (λ e. option_map (λ es. e ∷ es) (pairs_in ps))
 
--- the stretchs that are not empty
+-- the slices that are not empty
 abbrev pub without_empty : List (List ℕ) → List (List ℕ)
 without_empty ps = filter (λ p. not (length p == 0)) ps
 
--- the value of the last pair with this key; where there is none, the one found before
+-- the value of the last pair with this key; if there is none, the one found before
 abbrev pub last_value : List ℕ → Option (List ℕ) → Pairs → Option (List ℕ)
 last_value k found [] = found
 last_value k found (e ∷ es) = last_value k (if pointwise nat_eq e.0 k then Some e.1 else found) es

@@ -7,7 +7,7 @@ use Rattle.std.specs.Ordering.{is_lt, nat_cmp}
 use Rattle.esc_values.specs.Cuts.{Pairs, last_value}
 use Rattle.esc_values.specs.Scalars.{and_then}
 
--- from a key to its value, where the key is there
+-- from a key to its value, if the key is there
 abbrev pub Values : Type 0
 Values = List ℕ → Option (List ℕ)
 
@@ -15,7 +15,7 @@ Values = List ℕ → Option (List ℕ)
 abbrev pub values_of : Pairs → Values
 values_of es k = last_value k None es
 
--- a key, and its value where it is written
+-- a key, and its value if it is written
 abbrev pub Entry : Type 0
 Entry = List ℕ × Option (List ℕ)
 
@@ -51,8 +51,8 @@ in_order [] = []
 in_order (e ∷ es) = with_entry e (in_order es)
 
 -- The kinds of values that a format has. `Of` is the type of a kind's values; `read_as` gives the
--- value of a text, or of none where the key is absent, if there is one; `text_as` the text, unless
--- the value is that of an absent key; `Fits` says which values read back.
+-- value of a text, or of none if the key is absent, if there is one; `text_as` the text, unless the
+-- value is that of an absent key; `Fits` says which values read back.
 pub record Kinds : Type 1 where
   pub Kind : Type 0
   pub Of : Kind → Type 0
@@ -81,7 +81,7 @@ abbrev pub Makes : {K : Kinds} {S : Type 0} → List (Field K S) → Type 0 → 
 Makes [] R = R
 Makes {K = K} (f ∷ fs) R = K.Of f.kind → Makes fs R
 
--- what it makes of the values that keys are read as; none where one is not read
+-- the value that it makes of the values that keys are read as; none if one is not read
 abbrev pub read_with : {K : Kinds} {S R : Type 0} → (fs : List (Field K S)) → Makes fs R → Values
     → Option R
 read_with [] make v = Some make

@@ -40,7 +40,7 @@ abbrev pub after_private_prefix : List ℕ → List ℕ
 after_private_prefix [] = []
 after_private_prefix (b ∷ x) = if is_private_prefix b then x else b ∷ x
 
--- what follows the longest prefix of bytes that pass
+-- the bytes after the longest prefix of bytes that pass
 abbrev pub drop_while : (ℕ → Bool) → List ℕ → List ℕ
 drop_while p x = drop (prefix_len p x) x
 
@@ -57,8 +57,8 @@ abbrev pub value_after : ℕ → List ℕ → ℕ
 value_after n [] = n
 value_after n (b ∷ bs) = value_after (10 * n + (b - 0x30)) bs
 
--- the parameters of a CSI's body, where n is the number of the run of digits before them, if there
--- is one: each run of digits is its number, every other byte is itself
+-- the parameters of a CSI's body, if n is the number of the run of digits before them, if there is
+-- one: each run of digits is its number, every other byte is itself
 abbrev pub csi_params_after : Option ℕ → List ℕ → List CsiParam
 csi_params_after None [] = []
 csi_params_after (Some n) [] = Integer (pos (capped_at_i64 n)) ∷ []

@@ -3,12 +3,12 @@ use Rattle.std.specs.Prelude.{ℕ, ℤ, pos, negsuc, ◌-◌, ◌^◌, ◌<◌, 
 use Rattle.std.specs.Str.{all_ascii_digits, is_utf8}
 use Rattle.std.specs.Str.Parse.{without_leading_plus, without_leading_sign, digits_value, signed_digits_value}
 
--- what f returns for the value, where there is one
+-- the result of f for the value, if there is one
 abbrev pub and_then : {X Y : Type 0} → Option X → (X → Option Y) → Option Y
 and_then None f = None
 and_then (Some x) f = f x
 
--- x, where the test holds
+-- x, if the test holds
 abbrev pub some_if : {X : Type 0} → Bool → X → Option X
 some_if b x = if b then Some x else None
 
@@ -16,7 +16,7 @@ some_if b x = if b then Some x else None
 abbrev pub utf8_of : List ℕ → Option (List ℕ)
 utf8_of bs = some_if (is_utf8 bs) bs
 
--- the number of at least one digit, where it has k bits
+-- the number of at least one digit, if it has k bits
 abbrev pub number_in : ℕ → List ℕ → Option ℕ
 number_in k ds =
     some_if (nat_lt 0 (length ds) && all_ascii_digits ds && nat_lt (digits_value 10 ds) (2 ^ k))

@@ -36,14 +36,14 @@ impl<T: Drop, A: Allocator> Boxed<T, A> {
 }
 
 impl<T, A: Allocator> Boxed<T, A> {
-    /// The value of a `Box`, which stays where it is.
+    /// The value of a `Box`, which stays at its place.
     pub fn from_box(held: Box<T, A>) -> Boxed<T, A>
         ensures { result ≡ held.value }
     {
         Boxed { held }
     }
 
-    /// The `Box` of this value, which stays where it is.
+    /// The `Box` of this value, which stays at its place.
     pub fn into_box(self) -> Box<T, A>
         ensures { result.value ≡ self }
     {

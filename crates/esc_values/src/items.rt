@@ -102,7 +102,7 @@ impl<T, A: Allocator> Items<T, A> {
         Ok(())
     }
 
-    /// Appends an item, where there is one, and takes memory only then. The error is that it was
+    /// Appends an item, if there is one, and takes memory only then. The error is that it was
     /// refused, and the items stay as they were.
     pub fn push_optional(&mut self, item: Option<T>) -> Result<(), AllocError>
     where
@@ -118,8 +118,8 @@ impl<T, A: Allocator> Items<T, A> {
         }
     }
 
-    /// Appends an item, and another, where there is one. Memory for both is taken first. The error
-    /// is that it was refused, and the items stay as they were.
+    /// Appends an item, and another, if there is one. Memory for both is taken first. The error is
+    /// that it was refused, and the items stay as they were.
     pub fn push_two(&mut self, first: T, second: Option<T>) -> Result<(), AllocError>
     where
         T: Drop,
@@ -136,9 +136,9 @@ impl<T, A: Allocator> Items<T, A> {
         Ok(())
     }
 
-    /// Drops all items, and then has the one that is given, where there is one. Memory for it is
-    /// taken first, and none where there is none. The error is that it was refused, and the items
-    /// stay as they were.
+    /// Drops all items, and then has the one that is given, if there is one. Memory for it is taken
+    /// first, and none if there is none. The error is that it was refused, and the items stay as
+    /// they were.
     pub fn restart(&mut self, item: Option<T>) -> Result<(), AllocError>
     where
         T: Drop,

@@ -97,8 +97,8 @@ impl<A: Allocator> Text<A> {
         fallible_alloc::push_str(&mut self.string, s)
     }
 
-    /// Appends what Display writes of `value`. The error is that memory was refused, or that its
-    /// Display erred; a part of its text may have been appended then.
+    /// Appends the text that Display writes for `value`. The error is that memory was refused, or
+    /// that its Display erred; a part of its text may have been appended then.
     pub fn push_display<T: fmt::Display>(&mut self, value: &T) -> Result<(), AllocError>
         ensures text { IfSome (T.output value.now) (λ t. OnOk result (self.new ≡ self.old ++ t)) }
         ensures refused { OnErr result (Refused A) }
@@ -203,7 +203,7 @@ impl<A: Allocator> Eq for Text<A> {
     ghost laws = { nat_list_eq_equiv };
 }
 
-/// The order of the bytes, which is that of the characters.
+/// The order of the bytes, which is also the order of the characters.
 impl<A: Allocator> PartialOrd for Text<A> {
     ghost partial_cmp = { λ x y. Some (slice_cmp nat_cmp x y) };
 
@@ -228,7 +228,7 @@ impl<A: Allocator> Ord for Text<A> {
     }
 }
 
-/// Feeds what the `str` does.
+/// Feeds the same as the `str`.
 impl<A: Allocator> Hash for Text<A> {
     ghost hash_input = { fed.str };
 
