@@ -57,7 +57,7 @@ parameters_are (b ∷ x) =
     ap (list_all is_intermediate_byte) (drop_while_by is_csi_parameter b x (is_csi_parameter b))
     ∙ parameters_by b x (is_csi_parameter b) (parameters_are x)
 
--- a private prefix, where there is one, and then these
+-- a private prefix, if there is one, and then these
 abbrev marked : List ℕ → Bool
 marked [] = true
 marked (b ∷ x) = if is_private_prefix b then parameters x else parameters (b ∷ x)

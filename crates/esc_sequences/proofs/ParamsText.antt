@@ -81,7 +81,7 @@ body_is_ascii b h = grind (arith, nat_tests)
 byte_text : (b : ℕ) (r : List ℕ) → is_body_byte b ≡ true → encode_utf8 b ++ r ≡ b ∷ r
 byte_text b r h = ap (λ t. t ++ r) (encode_ascii b (body_is_ascii b h))
 
--- a byte that is no digit, and what follows
+-- a byte that is no digit, and the bytes after it
 other_is : (b : ℕ) (es : List CsiParam) → is_body_byte b ≡ true → is_digit b ≡ false
     → csi_params (csi_params_text es) ≡ es
     → csi_params (csi_params_text (P b ∷ es)) ≡ P b ∷ es

@@ -14,8 +14,8 @@ use Rattle.esc_sequences.specs.declared.sgr.Sgr.TheVariants.{Reset, Intensity, I
 use Rattle.esc_sequences.specs.declared.underline.Underline.TheVariants as underline
 use Rattle.esc_values.specs.Params.{is_body_byte, is_csi_body, csi_params, csi_params_text}
 
--- a control sequence, without where it lies in memory: a rendition, or parameters, whether there
--- are more, and a final byte
+-- a control sequence, without its place in memory: a rendition, or parameters, whether there are
+-- more, and a final byte
 pub data CsiValue : Type 0 where
   sgr : Sgr → CsiValue
   unspecified : List CsiParam → Bool → ℕ → CsiValue
@@ -68,7 +68,7 @@ abbrev pub put_first : Option Sgr → Option (List CsiValue) → Option (List Cs
 put_first None more = None
 put_first (Some s) more = option_map (λ vs. sgr s ∷ vs) more
 
--- the renditions of these items, where each item is one
+-- the renditions of these items, if each item is one
 abbrev pub renditions : List (List CsiParam) → Option (List CsiValue)
 renditions [] = Some []
 renditions (i ∷ is) = put_first (rendition i) (renditions is)
@@ -78,9 +78,9 @@ abbrev pub is_separator : CsiParam → Bool
 is_separator (Integer n) = false
 is_separator (P b) = b == 0x3b
 
--- What parameters, whether there were more of them, and a final byte are: with the final byte `m`,
--- where none was left out and the items between `;` are all renditions, these; else one sequence as
--- it is. No parameter is one empty item.
+-- The values of parameters, of whether there were more of them, and of a final byte: with the final
+-- byte `m`, if none was left out and the items between `;` are all renditions, these; else one
+-- sequence as it is. No parameter is one empty item.
 abbrev pub csi_of : List CsiParam → Bool → ℕ → List CsiValue
 csi_of params truncated control =
     let whole = unspecified params truncated control ∷ [] in
@@ -107,7 +107,7 @@ sgr_body (Underline underline.Dashed) = codes "4:5"
 abbrev pub sgr_text : Sgr → List ℕ
 sgr_text s = 0x1b ∷ 0x5b ∷ (sgr_body s ++ 0x6d ∷ [])
 
--- what comes between `ESC [` and the final byte
+-- the bytes between `ESC [` and the final byte
 abbrev pub csi_body : CsiValue → List ℕ
 csi_body (sgr s) = sgr_body s
 csi_body (unspecified es more f) = csi_params_text es
@@ -117,7 +117,7 @@ abbrev pub csi_text : CsiValue → List ℕ
 csi_text (sgr s) = sgr_text s
 csi_text (unspecified es more f) = 0x1b ∷ 0x5b ∷ (csi_params_text es ++ encode_utf8 f)
 
--- the body of a control sequence, of which no parameter is left out
+-- the body of a control sequence with no parameter left out
 abbrev pub IsWholeBody : List ℕ → Type 0
 IsWholeBody x = (list_all is_body_byte x ≡ true) × (is_csi_body x ≡ true)
     × (length (csi_params x) ≤ 256)

@@ -5,7 +5,7 @@ use Rattle.esc_sequences.specs.declared.esc.Esc.{Esc}
 use Rattle.esc_sequences.specs.declared.esc.Esc.TheVariants as esc
 use Rattle.esc_sequences.specs.declared.esc_code.EscCode.TheVariants as code
 
--- what an intermediate and a final byte are: with no intermediate `\`, `H` and `k` have names
+-- the value of an intermediate and a final byte: with no intermediate `\`, `H` and `k` have names
 abbrev pub esc_of : Option ℕ → ℕ → Esc
 esc_of None c = if c == 0x5c then esc.Code code.StringTerminator
     else if c == 0x48 then esc.Code code.HorizontalTabSet
@@ -13,7 +13,7 @@ esc_of None c = if c == 0x5c then esc.Code code.StringTerminator
     else esc.Unspecified None c
 esc_of (Some i) c = esc.Unspecified (Some i) c
 
--- what follows ESC
+-- the bytes after ESC
 abbrev pub final_text : Esc → List ℕ
 final_text (esc.Code code.StringTerminator) = 0x5c ∷ []
 final_text (esc.Code code.HorizontalTabSet) = 0x48 ∷ []

@@ -17,7 +17,7 @@ use std::fmt::Display;
 /// A control sequence, or an item of one that has several: `ESC [`, a body of parameter and
 /// intermediate bytes, and a final byte (ECMA-48, 5.4; xterm's list of control sequences).
 ///
-/// Contracts see it by `csi_value`, which leaves out where it lies in memory.
+/// Contracts see it by `csi_value`, which leaves out its place in memory.
 #[derive(Drop)]
 #[derive_where(Debug, PartialEq)]
 pub enum CSI<A: Allocator = Global> {
@@ -27,9 +27,9 @@ pub enum CSI<A: Allocator = Global> {
     Unspecified(Boxed<Unspecified<A>, A>),
 }
 
-/// Whether what [`parse`](CSI::parse) returns for these parameters is one `Unspecified` of them,
-/// which needs no value to be written: a [`BorrowedSequence`](crate::BorrowedSequence) is written
-/// as it is.
+/// Whether [`parse`](CSI::parse) returns for these parameters one `Unspecified` of them, which
+/// needs no value to be written: a [`BorrowedSequence`](crate::BorrowedSequence) is written as it
+/// is.
 pub fn is_unspecified(params: &[CsiParam], parameters_truncated: bool, control: u8) -> bool
     ensures { IsTrue result
         → csi_of params.now parameters_truncated control
@@ -38,8 +38,8 @@ pub fn is_unspecified(params: &[CsiParam], parameters_truncated: bool, control: 
     control != b'm' || parameters_truncated || !are_renditions(params)
 }
 
-/// The rendition that [`parse`](CSI::parse) returns, where the body is one number or nothing and
-/// this names one. It takes no memory. After `None` nothing is said of the sequence.
+/// The rendition that [`parse`](CSI::parse) returns, if the body is one number or nothing and this
+/// names one. It takes no memory. `None` says nothing about the sequence.
 #[inline]
 pub fn short_rendition(params: &[CsiParam], parameters_truncated: bool, control: u8) -> Option<Sgr>
     ensures { IfSome result (λ s. csi_of params.now parameters_truncated control ≡ sgr s ∷ []) }
@@ -63,7 +63,7 @@ fn lone_param(params: &[CsiParam]) -> Option<Sgr>
 }
 
 impl<A: Allocator + Copy> CSI<A> {
-    /// What the parameters of a body and a final byte are. Where the final byte is `m`, no
+    /// The values of the parameters of a body and of a final byte. If the final byte is `m`, no
     /// parameter was left out, and the parameters are items between `;` that are all renditions,
     /// these renditions, in order; no parameter is one empty item. Anything else is one
     /// `Unspecified` of the same parameters. The error is that memory was refused.
@@ -94,9 +94,8 @@ impl<A: Allocator + Copy> CSI<A> {
         Ok(read)
     }
 
-    /// What [`parse`](CSI::parse) returns, where that is one value, with no list made for it;
-    /// `None` where there are several. The error is that memory was refused, which renditions do
-    /// not want.
+    /// The value that [`parse`](CSI::parse) returns, if it is one, with no list made for it; `None`
+    /// if there are several. The error is that memory was refused, which renditions do not want.
     #[inline]
     pub fn parse_one(
         alloc: A,
@@ -141,7 +140,7 @@ pub fn as_it_came<A: Allocator + Copy>(
     Ok(CSI::Unspecified(Boxed::new(alloc, kept)?))
 }
 
-// The rendition, where there is one item.
+// The rendition, if there is one item.
 fn lone_rendition(params: &[CsiParam]) -> Option<Sgr>
     ensures one { IfSome result (λ s. renditions (slice_split is_separator params.now)
         ≡ Some (sgr s ∷ [])) }
@@ -173,7 +172,7 @@ fn are_renditions(params: &[CsiParam]) -> bool
     }
 }
 
-// The renditions of the items between `;`, where each item is one.
+// The renditions of the items between `;`, if each item is one.
 fn read_renditions<A: Allocator + Copy>(
     alloc: A,
     params: &[CsiParam],
@@ -209,7 +208,7 @@ fn item_len(params: &[CsiParam]) -> usize
     len
 }
 
-// What follows an item of this many parameters and the `;` that ends it.
+// The parameters after an item of this many parameters and the `;` that ends it.
 fn after_item(params: &[CsiParam], len: usize) -> &[CsiParam]
     requires { len < length params.now }
     ensures { result.now ≡ drop (len + 1) params.now }

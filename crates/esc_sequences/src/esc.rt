@@ -13,7 +13,7 @@ pub enum Esc {
     Code(EscCode),
     /// Any other.
     Unspecified {
-        /// The intermediate byte, 20 to 2F (hexadecimal), where there is one.
+        /// The intermediate byte, 20 to 2F (hexadecimal), if there is one.
         intermediate: Option<u8>,
         /// The final byte, 30 to 7E (hexadecimal).
         control: u8,
@@ -49,8 +49,8 @@ impl Esc {
     }
 }
 
-/// Writes ESC, the intermediate where there is one, and the final byte. A byte is written as the
-/// character of the same number. Where it returns `Ok`, all of it was written.
+/// Writes ESC, the intermediate if there is one, and the final byte. A byte is written as the
+/// character of the same number. If it returns `Ok`, all of it was written.
 impl fmt::Display for Esc {
     ghost output = { λ e. Some (esc_text e) };
 
@@ -60,7 +60,7 @@ impl fmt::Display for Esc {
     }
 }
 
-// What follows ESC.
+// Writes the bytes after ESC.
 fn write_final<W: fmt::Write>(esc: Esc, f: &mut fmt::Formatter<W>) -> fmt::Result
     ensures { DisplaysOnOk W.write_str_gives f.old result (Some (final_text esc)) f.new }
 {

@@ -1,4 +1,4 @@
-//! Laws of control sequences: what is read of them reads back.
+//! Laws of control sequences: a sequence that is read reads back.
 ghost use Rattle.std.specs.Prelude.{◌≡◌, ◌<◌, ◌≤◌, ℕ, true, false, List, [], ◌∷◌, length};
 ghost use Rattle.std.specs.List.{list_all};
 ghost use Rattle.esc_sequences.specs.Csis.{csi_of, ReadBack, unspecified};
@@ -23,7 +23,7 @@ pub fn csi_reads_back()
         → ReadBack f (csi_of (csi_params x) false f) }
 {}
 
-/// Where parameters are left out, what is read is one sequence as it is.
+/// If parameters are left out, the value is one sequence as it is.
 #[tactic(auto, using(crate::proofs::CsisBack::truncated))]
 pub fn csi_truncated()
     ensures { (es : List CsiParam) (f : ℕ) → csi_of es true f ≡ unspecified es true f ∷ [] }

@@ -50,7 +50,7 @@ pub struct BorrowedSequence<'a> {
     pub control: u8,
 }
 
-/// Writes what [`Unspecified`] of the same parameters writes.
+/// Writes the text that [`Unspecified`] of the same parameters writes.
 impl<'a> fmt::Display for BorrowedSequence<'a> {
     ghost output = { λ u.
         Some (csi_text (unspecified u.params.now u.parameters_truncated u.control)) };

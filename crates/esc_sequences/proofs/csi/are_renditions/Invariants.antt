@@ -3,7 +3,7 @@ use Rattle.std.specs.List.{slice_split}
 use Rattle.esc_sequences.specs.Csis.{is_separator, renditions}
 use Rattle.esc_sequences.proofs.csi.are_renditions.Given as goal
 
--- what is left decides
+-- the rest decides
 abbrev pub invariant-items : goal.invariant-items
 invariant-items l =
     (length l.left ≤ length l.fn.params)

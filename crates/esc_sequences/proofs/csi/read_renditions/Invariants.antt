@@ -4,7 +4,7 @@ use Rattle.std.specs.Option.{option_map}
 use Rattle.esc_sequences.specs.Csis.{csi_value, is_separator, renditions}
 use Rattle.esc_sequences.proofs.csi.read_renditions.Given as goal
 
--- what is left, after what was read, is the whole
+-- the rest, after the items that were read, is the whole
 abbrev pub invariant-items : goal.invariant-items
 invariant-items g l =
     (length l.rest ≤ length l.fn.params)
