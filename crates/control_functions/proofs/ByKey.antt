@@ -19,7 +19,7 @@ all-take p (suc n) (x ∷ xs) h =
     let parts = and_parts (p x) (list_all p xs) h in
     rw parts.0 (all-take p n xs parts.1)
 
--- what is found is of a row that has the key
+-- the row that is found by a key has the key
 pub record Found {R F : Type 0} (key : R → ℕ) (of : R → F) (p : R → Bool) (k : ℕ) (f : F)
     : Type 0 where
   pub row : R

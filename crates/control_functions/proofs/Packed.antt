@@ -5,7 +5,7 @@ use Rattle.esc_values.specs.declared.csi_param.CsiParam.{CsiParam}
 use Rattle.control_functions.specs.Rows.{packed}
 use Rattle.control_functions.specs.Functions.{mark_of, marks, put_mark}
 
--- what a parameter adds
+-- the mark that a parameter adds
 packed_next : (p : ℕ) (es : List CsiParam) (i : ℕ) (e : CsiParam) → i < length es
     → packed p (marks (drop i es))
     ≡ packed p (put_mark (mark_of (get_or es i e)) (marks (drop (i + 1) es)))

@@ -32,7 +32,7 @@ pub has_its_number : (n : ℕ) (m : PrivateMode) → mode_of n ≡ Some m → nu
 unfolding mode_of
 has_its_number = tables.keyed_in sheet
 
--- what is so of each number of a list is so of one that is on it
+-- a fact about each number of a list is one about a number that is on it
 pub listed_fact : (t : ℕ → Bool) (ks : List ℕ) (n : ℕ) → list_all t ks ≡ true
     → list_any (λ k. n == k) ks ≡ true → t n ≡ true
 listed_fact t [] n all h = cc

@@ -29,7 +29,7 @@ row_has rows of place T f d =
     ∙ ap (λ t. get_or t (place f) 0) T.in_order
     ∙ get_or-range_with_len 0 (length rows) (place f) 0 (T.below f) ∙ zero-add (place f))
 
--- what is so of each row is so of a variant's row
+-- a fact about each row is one about a variant's row
 pub row_fact : {R F A : Type 0} (rows : List R) (of : R → F) (place : F → ℕ)
     → Table rows of place → (g h : R → A) → map g rows ≡ map h rows → (f : F) (d : R)
     → g (get_or rows (place f) d) ≡ h (get_or rows (place f) d)
@@ -45,8 +45,8 @@ pub variant_fact : {R F A : Type 0} (rows : List R) (of : R → F) (place : F �
 variant_fact rows of place T g h e f d =
     row_fact rows of place T g (λ r. h (of r)) e f d ∙ ap h (row_has rows of place T f d)
 
--- what is so of the rows of a table: each has the key of what it is of, and the effect says whether
--- that changes the screen alone
+-- the facts about the rows of a table: each has the key of its function, and the effect says
+-- whether that changes the screen alone
 pub record Sheet {R F : Type 0} (rows : List R) (key : R → ℕ) (of : R → F) (does : R → Effect)
     (place key_of : F → ℕ) (screen : F → Bool) : Type 0 where
   pub table : Table rows of place
@@ -90,7 +90,7 @@ some_row f = record {
 pub some_mode : {M : Type 0} → M → ModeRow M
 some_mode m = record { mode = m; number = 0; effect = effect.Other }
 
--- what the row in a variant's place has
+-- the parts of the row in a variant's place
 pub row_of : {R F : Type 0} {rows : List R} {key : R → ℕ} {of : R → F} {does : R → Effect}
     {place key_of : F → ℕ} {screen : F → Bool} → Sheet rows key of does place key_of screen
     → (f : F) (d : R) → of (get_or rows (place f) d) ≡ f
@@ -133,7 +133,8 @@ not_both {rows = rows} {place = place} S answers f h =
     sym (row_screen S f (S.some f))
     ∙ apart (get_or rows (place f) (S.some f)).effect (row_answered S answers f (S.some f) ∙ h)
 
--- what is so of what each row is of, or of its key, is so of each function, or of its key
+-- a fact about the function of each row, or about its key, is one about each function, or about its
+-- key
 pub of_each : {R F A : Type 0} {rows : List R} {key : R → ℕ} {of : R → F} {does : R → Effect}
     {place key_of : F → ℕ} {screen : F → Bool} → Sheet rows key of does place key_of screen
     → (g h : F → A) → map (λ r. g (of r)) rows ≡ map (λ r. h (of r)) rows
@@ -150,7 +151,7 @@ of_each_key {rows = rows} {key = key} {of = of} {place = place} S g h each f =
     ap g (sym (row_key S f (S.some f)))
     ∙ variant_fact rows of place S.table (λ r. g (key r)) h each f (S.some f)
 
--- what is found by a key has it
+-- a row that is found by a key has it
 same_keys : {R : Type 0} (f g : R → ℕ) (rs : List R) → map f rs ≡ map g rs
     → list_all (λ r. g r == f r) rs ≡ true
 same_keys f g [] e = refl

@@ -18,7 +18,7 @@ key_of c = get_or (map (λ r. r.key) ROWS) (place c) 0
 abbrev pub code_of : C0 → ℕ
 code_of c = key_of c - 256
 
--- its name, and what it is in words
+-- its name, and its meaning in words
 unfoldable pub name_of : C0 → List ℕ
 name_of c = get_or (map (λ n. n.now) NAMES) (place c) []
 

@@ -1,4 +1,4 @@
--- What control functions change, by their names.
+-- The effects of control functions, by their names.
 use Rattle.std.specs.Prelude.{Bool, true, false}
 use Rattle.control_functions.specs.declared.effect.Effect.{Effect}
 use Rattle.control_functions.specs.declared.effect.Effect.TheVariants as effect

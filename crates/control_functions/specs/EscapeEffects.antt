@@ -1,4 +1,4 @@
--- What escape sequences and C1 controls change, by their names.
+-- The effects of escape sequences and C1 controls, by their names.
 use Rattle.std.specs.Prelude.{Bool, true, false}
 use Rattle.control_functions.specs.declared.escape_function.EscapeFunction.{EscapeFunction}
 use Rattle.control_functions.specs.declared.escape_function.EscapeFunction.TheVariants as variant

@@ -20,7 +20,7 @@ place f = tag_of the_type f
 unfoldable pub key_of : EscapeFunction → ℕ
 key_of f = get_or (map (λ r. r.key) ROWS) (place f) 0
 
--- its name, and what it does in words
+-- its name, and its description in words
 unfoldable pub name_of : EscapeFunction → List ℕ
 name_of f = get_or (map (λ n. n.now) NAMES) (place f) []
 
@@ -46,13 +46,13 @@ abbrev pub sequence_key : Option ℕ → ℕ → ℕ
 sequence_key None last = 256 + last
 sequence_key (Some i) last = if designates i then 256 + i else (256 + i) * 256 + last
 
--- after `$` another intermediate says as what a set of several bytes is designated, and after `%`
--- that a coding system is designated without a return
+-- after `$` another intermediate says as which of G0 to G3 a set of several bytes is designated,
+-- and after `%` that a coding system is designated without a return
 abbrev pub leads : ℕ → Bool
 leads i = (i == 0x24) || (i == 0x25)
 
--- the key of an escape sequence with these two intermediates: where the first designates a set, the
--- second is a part of the set's name, and of any other sequence nobody knows a function
+-- the key of an escape sequence with these two intermediates: if the first designates a set, the
+-- second is a part of the set's name; nobody knows a function of any other sequence
 abbrev pub two_key : ℕ → ℕ → ℕ
 two_key i j = if leads i then (256 + i) * 256 + j else if designates i then 256 + i else 0
 

@@ -19,7 +19,7 @@ place f = tag_of the_type f
 unfoldable pub key_of : ControlFunction → ℕ
 key_of f = get_or (map (λ r. r.key) ROWS) (place f) 0
 
--- its name, and what it does in words
+-- its name, and its description in words
 unfoldable pub name_of : ControlFunction → List ℕ
 name_of f = get_or (map (λ n. n.now) NAMES) (place f) []
 
@@ -55,7 +55,7 @@ abbrev pub is_long : ℕ → ℕ → Bool
 is_long last n = ((last == 0x54) && nat_le 2 n)
     || (((last == 0x73) || (last == 0x75)) && nat_le 1 n)
 
--- what the key of a sequence begins with, of its marks, packed, its count of parameters and its
+-- the beginning of the key of a sequence, by its marks, packed, its count of parameters and its
 -- final byte
 abbrev pub lead : ℕ → ℕ → ℕ → ℕ
 lead m n last = if (m == 1) && is_long last n then 2 else m
@@ -67,8 +67,8 @@ key_with m n last = 256 * lead m n last + last
 abbrev pub sequence_key : List CsiParam → ℕ → ℕ
 sequence_key es last = key_with (packed 1 (marks es)) (length es) last
 
--- the function of a control sequence; none where parameters were left out, since an intermediate
--- may be among them
+-- the function of a control sequence; none if parameters were left out, since an intermediate may
+-- be among them
 abbrev pub function_of_csi : CsiValue → Option ControlFunction
 function_of_csi (sgr s) = Some variant.SGR
 function_of_csi (unspecified es more last) = if more then None

@@ -5,7 +5,7 @@ use Rattle.control_functions.specs.declared.parameter.Parameter.TheVariants as p
 use Rattle.control_functions.specs.declared.parameters.Parameters.{Parameters}
 use Rattle.control_functions.specs.declared.parameters.Parameters.TheVariants as has
 
--- what stands for a parameter that is left out, where something does
+-- the default of a parameter that is left out, if there is one
 abbrev pub default_of : Parameter → Option ℕ
 default_of parameter.Count = Some 1
 default_of parameter.Line = Some 1

@@ -16,7 +16,7 @@ place m = tag_of the_type m
 unfoldable pub number_of : PrivateMode → ℕ
 number_of m = get_or (map (λ r. r.number) ROWS) (place m) 0
 
--- its name, and what is set and reset, in words
+-- its name, and the setting that is set and reset, in words
 unfoldable pub name_of : PrivateMode → List ℕ
 name_of m = get_or (map (λ n. n.now) NAMES) (place m) []
 

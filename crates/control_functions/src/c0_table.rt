@@ -3,9 +3,8 @@
 //! The names are those of ECMA-48, fifth edition, 8.3
 //! (<https://ecma-international.org/publications-and-standards/standards/ecma-48/>), but for FS,
 //! GS, RS and US, which are IS4 to IS1 there, and DEL, which is a fixed character of ECMA-35, sixth
-//! edition, 6.2
-//! (<https://ecma-international.org/publications-and-standards/standards/ecma-35/>). What a
-//! terminal does with them is in the VT510's manual
+//! edition, 6.2 (<https://ecma-international.org/publications-and-standards/standards/ecma-35/>).
+//! Their effect on a terminal is in the VT510's manual
 //! (<https://vt100.net/docs/vt510-rm/chapter4.html>).
 ghost use Rattle.std.specs.Prelude.{◌≡◌, ◌<◌};
 ghost use Rattle.control_functions.specs.Controls.{changes_screen, control_of, is_answered, is_screen, key_of, name_of, place, words_of};
@@ -20,7 +19,7 @@ use crate::row::Row;
 use crate::standard::Standard;
 use crate::table_macros::{key, name, names, row, rows, words};
 
-// A row a line: the control, its code, what it changes, which standard has it, its name in full.
+// A row a line: the control, its code, its effect, its standard, its name in full.
 //
 // The rows are in the order of the codes, and in that of `C0`.
 macro_rules! controls {
@@ -70,8 +69,8 @@ static NAMES: [&str; 33] = controls!(names);
 static WORDS: [&str; 33] = controls!(words);
 
 impl C0 {
-    /// The control of this code: 00 to 1F (hexadecimal), or 7F, which is DEL. Of another code
-    /// `None`.
+    /// The control of this code: 00 to 1F (hexadecimal), or 7F, which is DEL. `None` for another
+    /// code.
     #[tactic(auto, using(crate::proofs::Controls::deleted, crate::proofs::Controls::no_control))]
     #[inline]
     pub fn of(code: u8) -> Option<C0>

@@ -1,13 +1,13 @@
 //! The table of control functions.
 //!
-//! The names are those of ECMA-48, fifth edition, 8.3
-//! (<https://ecma-international.org/publications-and-standards/standards/ecma-48/>); of DEC's
+//! The names come from ECMA-48, fifth edition, 8.3
+//! (<https://ecma-international.org/publications-and-standards/standards/ecma-48/>); from DEC's
 //! manuals of the VT220, VT420, VT510 (<https://vt100.net/docs/vt510-rm/chapter4.html>) and VT525,
-//! which begin with DEC; of xterm's list of control sequences
-//! (<https://invisible-island.net/xterm/ctlseqs/ctlseqs.html>), which begin with XT or SCO; and, of
-//! what kitty (<https://sw.kovidgoyal.net/kitty/protocol-extensions/>), mintty
+//! which begin with DEC; from xterm's list of control sequences
+//! (<https://invisible-island.net/xterm/ctlseqs/ctlseqs.html>), which begin with XT or SCO; and,
+//! for the functions that kitty (<https://sw.kovidgoyal.net/kitty/protocol-extensions/>), mintty
 //! (<https://github.com/mintty/mintty/wiki/CtrlSeqs>) and Microsoft's terminal
-//! (<https://github.com/microsoft/terminal>, doc/specs, #4999) added, of their own words.
+//! (<https://github.com/microsoft/terminal>, doc/specs, #4999) added, from their own words.
 ghost use Rattle.std.specs.Prelude.{◌≡◌, ◌<◌, ◌+◌, ◌*◌, []};
 ghost use Rattle.esc_sequences.specs.Csis.{csi_value};
 ghost use Rattle.control_functions.specs.Effects.{changes_screen, is_answered, is_screen_effect, is_answered_effect};
@@ -26,9 +26,9 @@ use esc_sequences::CSI;
 use esc_values::CsiParam;
 use std::alloc::Allocator;
 
-// A row a line: the function, and its name where that is another; the bytes of its sequence but its
-// parameters; what it changes; what parameters it has; which standard has it; what it does. `long`
-// is of the second function of its final byte, which has more parameters.
+// A row a line: the function, and its name if that is another; the bytes of its sequence but its
+// parameters; its effect; its parameters; its standard; its description. `long` marks the second
+// function of its final byte, which has more parameters.
 //
 // The rows are in the order of the final bytes, each without private prefix and intermediates
 // first, and in that of `ControlFunction`.
@@ -297,8 +297,8 @@ static STARTS: [u16; 64] = starts![ControlFunction;
 ];
 
 impl ControlFunction {
-    /// The function of a control sequence. `None` where it has no name, and where parameters were
-    /// left out, since an intermediate may be among them.
+    /// The function of a control sequence. `None` if it has no name, and if parameters were left
+    /// out, since an intermediate may be among them.
     pub fn of<A: Allocator>(csi: &CSI<A>) -> Option<ControlFunction>
         ensures { result ≡ function_of_csi (csi_value csi.now) }
     {
@@ -314,8 +314,8 @@ impl ControlFunction {
         }
     }
 
-    /// The function of a control sequence with all of these parameters and this final byte, where
-    /// it has a name.
+    /// The function of a control sequence with all of these parameters and this final byte, if it
+    /// has a name.
     #[tactic(auto, using(crate::proofs::Functions::no_function_with))]
     #[inline]
     pub fn of_csi_params(csi_params: &[CsiParam], last: u8) -> Option<ControlFunction>
@@ -328,7 +328,7 @@ impl ControlFunction {
     }
 
     /// The function of a control sequence with this private prefix, this intermediate and this
-    /// final byte, and with no parameters, where it has a name.
+    /// final byte, and with no parameters, if it has a name.
     pub fn of_bytes(
         private_prefix: Option<u8>,
         intermediate: Option<u8>,
@@ -342,7 +342,7 @@ impl ControlFunction {
     }
 
     /// The function of a control sequence with this private prefix, this intermediate, so many
-    /// parameters and separators between them, and this final byte, where it has a name.
+    /// parameters and separators between them, and this final byte, if it has a name.
     pub fn of_parts(
         private_prefix: Option<u8>,
         intermediate: Option<u8>,
@@ -374,7 +374,7 @@ impl ControlFunction {
         text_in(&NAMES, place(self))
     }
 
-    /// What it does, in words.
+    /// Its description, in words.
     #[tactic(auto, unfolding(crate::specs::Functions::words_of))]
     pub fn words(self) -> &'static str
         ensures { result.now ≡ words_of self }

@@ -1,18 +1,18 @@
-//! What a function changes.
+//! The effect of a function.
 ghost use Rattle.std.specs.Prelude.{◌≡◌};
 ghost use Rattle.control_functions.specs.Effects.{is_answered_effect, is_screen_effect};
 
-/// What a control function changes, and whether a terminal answers it.
+/// The effect of a control function, and whether a terminal answers it.
 #[derive(Clone, Copy, Debug, PartialEq, Eq)]
 pub enum Effect {
-    /// It changes the screen alone: what is shown, the cursor, margins, tab stops and renditions.
+    /// It changes the screen alone: the text on it, the cursor, margins, tab stops and renditions.
     Screen,
     /// A terminal answers it, with some of its parameters or with all.
     Answered,
     /// A terminal sends it, as an answer or because of a key, the mouse or the window.
     Report,
-    /// Anything else: what keys, mouse or terminal send, modes, character sets and shifts between
-    /// them, the bell, printers, memory, and what no terminal is known to do.
+    /// Anything else: the input that keys, mouse or terminal send, modes, character sets and shifts
+    /// between them, the bell, printers, memory, and functions that no terminal is known to do.
     Other,
 }
 

@@ -1,11 +1,11 @@
 //! The table of control functions of escape sequences.
 //!
-//! The names are those of ECMA-48, fifth edition, 5.3, 5.5 and 8.3
-//! (<https://ecma-international.org/publications-and-standards/standards/ecma-48/>), of ECMA-35,
+//! The names come from ECMA-48, fifth edition, 5.3, 5.5 and 8.3
+//! (<https://ecma-international.org/publications-and-standards/standards/ecma-48/>), from ECMA-35,
 //! sixth edition, 13 and 14
-//! (<https://ecma-international.org/publications-and-standards/standards/ecma-35/>), of the VT510's
-//! manual (<https://vt100.net/docs/vt510-rm/chapter4.html>), which begin with DEC, and of xterm's
-//! list (<https://invisible-island.net/xterm/ctlseqs/ctlseqs.html>).
+//! (<https://ecma-international.org/publications-and-standards/standards/ecma-35/>), from the
+//! VT510's manual (<https://vt100.net/docs/vt510-rm/chapter4.html>), which begin with DEC, and from
+//! xterm's list (<https://invisible-island.net/xterm/ctlseqs/ctlseqs.html>).
 ghost use Rattle.std.specs.Prelude.{◌≡◌, ◌<◌};
 ghost use Rattle.control_functions.specs.Effects.{is_answered_effect, is_screen_effect};
 ghost use Rattle.control_functions.specs.EscapeEffects.{changes_screen, is_answered};
@@ -20,9 +20,9 @@ use crate::standard::Standard;
 use crate::table_macros::{key, name, names, row, rows, starts, words};
 use esc_sequences::{Esc, EscCode};
 
-// A row a line: the function, and its name where that is another; the bytes of its sequence after
-// ESC; what it changes; which standard has it; what it does. One with intermediates alone
-// designates a set or a coding system, which the bytes after them name.
+// A row a line: the function, and its name if that is another; the bytes of its sequence after ESC;
+// its effect; its standard; its description. One with intermediates alone designates a set or a
+// coding system, which the bytes after them name.
 //
 // The rows are in the order of their last bytes, and in that of `EscapeFunction`.
 macro_rules! functions {
@@ -138,7 +138,7 @@ static STARTS: [u16; 96] = starts![EscapeFunction;
 ];
 
 impl EscapeFunction {
-    /// The function of an escape sequence, where it has a name.
+    /// The function of an escape sequence, if it has a name.
     pub fn of(esc: Esc) -> Option<EscapeFunction>
         ensures { result ≡ escape_of_name esc }
     {
@@ -154,7 +154,7 @@ impl EscapeFunction {
     }
 
     /// The function of an escape sequence with this intermediate, if there is one, and this final
-    /// byte, where it has a name.
+    /// byte, if it has a name.
     pub fn of_bytes(intermediate: Option<u8>, last: u8) -> Option<EscapeFunction>
         ensures { result ≡ function_of (sequence_key intermediate last) }
     {
@@ -170,9 +170,9 @@ impl EscapeFunction {
         }
     }
 
-    /// The function of an escape sequence with all of these intermediates and this final byte,
-    /// where it has a name (ECMA-35, 14.3.2 and 15.4.2): of two intermediates both count, as in
-    /// `ESC $ ) C`, which designates a set of several bytes as G1, and `ESC ( % 6`, which
+    /// The function of an escape sequence with all of these intermediates and this final byte, if
+    /// it has a name (ECMA-35, 14.3.2 and 15.4.2). If there are two intermediates, both count, as
+    /// in `ESC $ ) C`, which designates a set of several bytes as G1, and `ESC ( % 6`, which
     /// designates one of the sets of 94 characters as G0. An [`Esc`] keeps no second intermediate.
     pub fn of_intermediates(intermediates: &[u8], last: u8) -> Option<EscapeFunction>
         ensures { result ≡ function_of (intermediates_key intermediates.now last) }
@@ -187,7 +187,7 @@ impl EscapeFunction {
     }
 
     /// The function of a C1 control, 80 to 9F (hexadecimal): that of ESC and the byte 40 less
-    /// (ECMA-48, 5.3). Of another code `None`.
+    /// (ECMA-48, 5.3). `None` for another code.
     pub fn of_c1(code: u8) -> Option<EscapeFunction>
         ensures { result ≡ named_c1 code }
     {
@@ -219,7 +219,7 @@ impl EscapeFunction {
         text_in(&NAMES, place(self))
     }
 
-    /// What it does, in words.
+    /// Its description, in words.
     #[tactic(auto, unfolding(crate::specs::Escapes::words_of))]
     pub fn words(self) -> &'static str
         ensures { result.now ≡ words_of self }

@@ -3,7 +3,7 @@ ghost use Rattle.std.specs.Prelude.{◌≡◌, ℕ};
 
 /// A row of a table, which is found by its key.
 pub(crate) trait Keyed {
-    /// What the row is of.
+    /// The function or mode of the row.
     type Of;
 
     ghost has_key: { Self → ℕ };
@@ -14,7 +14,7 @@ pub(crate) trait Keyed {
     fn key(&self) -> u32
         ensures { result ≡ has_key self.now };
 
-    /// What it is of.
+    /// The function or mode of this row.
     fn of(&self) -> Self::Of
         ensures { result ≡ is_of self.now };
 }

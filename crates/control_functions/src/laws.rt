@@ -20,7 +20,7 @@ pub fn found_by_key()
     ensures { (f : ControlFunction) → function_of (key_of f) ≡ Some f }
 {}
 
-/// What is found by a key has this key.
+/// The function that is found by a key has this key.
 #[tactic(auto, using(crate::proofs::Functions::has_its_key))]
 pub fn has_its_key()
     ensures { (k : ℕ) (f : ControlFunction) → function_of k ≡ Some f → key_of f ≡ k }
@@ -38,7 +38,7 @@ pub fn escape_found_by_key()
     ensures { (f : EscapeFunction) → escape_function_of (escape_key_of f) ≡ Some f }
 {}
 
-/// What is found by a key has this key.
+/// The function that is found by a key has this key.
 #[tactic(auto, using(crate::proofs::Escapes::has_its_key))]
 pub fn escape_has_its_key()
     ensures { (k : ℕ) (f : EscapeFunction) → escape_function_of k ≡ Some f → escape_key_of f ≡ k }
@@ -56,7 +56,7 @@ pub fn control_found()
     ensures { (c : C0) → control_of (code_of c) ≡ Some c }
 {}
 
-/// What is found by a code has this code.
+/// The control that is found by a code has this code.
 #[tactic(auto, using(crate::proofs::Controls::has_its_code))]
 pub fn control_has_its_code()
     ensures { (n : ℕ) (c : C0) → control_of n ≡ Some c → code_of c ≡ n }
@@ -74,7 +74,7 @@ pub fn mode_found()
     ensures { (m : Mode) → mode_of (number_of m) ≡ Some m }
 {}
 
-/// What is found by a number has this number.
+/// The mode that is found by a number has this number.
 #[tactic(auto, using(crate::proofs::Modes::has_its_number))]
 pub fn mode_has_its_number()
     ensures { (n : ℕ) (m : Mode) → mode_of n ≡ Some m → number_of m ≡ n }
@@ -86,7 +86,7 @@ pub fn private_mode_found()
     ensures { (m : PrivateMode) → private_mode_of (private_number_of m) ≡ Some m }
 {}
 
-/// What is found by a number has this number.
+/// The mode that is found by a number has this number.
 #[tactic(auto, using(crate::proofs::PrivateModes::has_its_number))]
 pub fn private_mode_has_its_number()
     ensures { (n : ℕ) (m : PrivateMode) → private_mode_of n ≡ Some m → private_number_of m ≡ n }

@@ -1,5 +1,5 @@
-//! Control functions by name: tables of what controls, control sequences and escape sequences ask
-//! for, and of modes.
+//! Control functions by name: tables of controls, control sequences and escape sequences with their
+//! functions, and of modes.
 //!
 //! The standards: ECMA-48
 //! (<https://ecma-international.org/publications-and-standards/standards/ecma-48/>), DEC's manual
@@ -7,7 +7,7 @@
 //! sequences (<https://invisible-island.net/xterm/ctlseqs/ctlseqs.html>) and kitty's protocols
 //! (<https://sw.kovidgoyal.net/kitty/protocol-extensions/>).
 //!
-//! Of `ESC [ 3 ; 4 H` the parameters are `3`, `;` and `4`, and
+//! The parameters of `ESC [ 3 ; 4 H` are `3`, `;` and `4`, and
 //! `ControlFunction::of_csi_params(parameters, b'H')` is `Some(ControlFunction::CUP)`, whose
 //! `words` are "cursor position" and whose `row` says that it changes the screen alone and has two
 //! parameters, a line and a column.

@@ -5,8 +5,8 @@ ghost use Rattle.control_functions.specs.Rows.{packed};
 
 use esc_values::CsiParam;
 
-// The marks of these parameters, as digits to the base 256 after a 1. `None` where there are more
-// than two, which no function has.
+// The marks of these parameters, as digits to the base 256 after a 1. `None` if there are more than
+// two, which no function has.
 #[tactic(auto, using(crate::proofs::Packed::no_mark, crate::proofs::Packed::one_mark, crate::proofs::Packed::third_mark))]
 #[inline]
 pub(crate) fn packed_marks(csi_params: &[CsiParam]) -> Option<u32>
@@ -26,7 +26,7 @@ pub(crate) fn packed_marks(csi_params: &[CsiParam]) -> Option<u32>
     Some(packed)
 }
 
-// The byte of the parameter, where it is no number and separates no two.
+// The byte of the parameter, if it is no number and separates no two.
 #[inline]
 fn mark_of(entry: CsiParam) -> Option<u8>
     ensures { result ≡ mark_of entry }
@@ -59,7 +59,7 @@ pub(crate) fn key_with(marks: u32, count: usize, last: u8) -> u32
     lead(marks, count, last) * 0x100 + last as u32
 }
 
-// What that key begins with.
+// The beginning of that key.
 #[inline]
 fn lead(marks: u32, count: usize, last: u8) -> u32
     requires { marks < 2 ^ 24 }

@@ -1,8 +1,8 @@
 //! The table of modes of ECMA-48.
 //!
-//! The names are those of ECMA-48, fifth edition, 7.2, of its fourth edition (EBM, LNM), of the
-//! VT510's manual (CRM, <https://vt100.net/docs/vt510-rm/chapter4.html>), and of VTE's list of modes
-//! (WYSTCURM and WYULCURM, which are Wyse's).
+//! The names come from ECMA-48, fifth edition, 7.2, from its fourth edition (EBM, LNM), from the
+//! VT510's manual (CRM, <https://vt100.net/docs/vt510-rm/chapter4.html>), and from VTE's list of
+//! modes (WYSTCURM and WYULCURM, which are Wyse's).
 ghost use Rattle.std.specs.Prelude.{◌≡◌, ◌<◌};
 ghost use Rattle.control_functions.specs.Modes.{changes_screen, is_screen, mode_of, name_of, number_of, place, words_of};
 
@@ -12,8 +12,8 @@ use crate::mode::Mode;
 use crate::mode_row::ModeRow;
 use crate::table_macros::{mode_rows, name, names, words};
 
-// A row a line: the mode, its number, whether it changes the screen alone, and what is set and
-// reset. The rows are in the order of the numbers, and in that of `Mode`.
+// A row a line: the mode, its number, whether it changes the screen alone, and the setting that is
+// set and reset. The rows are in the order of the numbers, and in that of `Mode`.
 macro_rules! modes {
     ($each:ident) => {
         $each![Mode;
@@ -52,7 +52,7 @@ static NAMES: [&str; 24] = modes!(names);
 static WORDS: [&str; 24] = modes!(words);
 
 impl Mode {
-    /// The mode of this number, where it has a name.
+    /// The mode of this number, if it has a name.
     #[tactic(auto, unfolding(crate::specs::Modes::mode_of))]
     pub fn of_number(number: u32) -> Option<Mode>
         ensures { result ≡ mode_of number }
@@ -75,7 +75,8 @@ impl Mode {
         text_in(&NAMES, place(self))
     }
 
-    /// What is set and reset, in words: a noun, which reads true after "set" and after "reset".
+    /// The setting that is set and reset, in words: a noun, which reads true after "set" and after
+    /// "reset".
     #[tactic(auto, unfolding(crate::specs::Modes::words_of))]
     pub fn words(self) -> &'static str
         ensures { result.now ≡ words_of self }

@@ -1,8 +1,8 @@
-//! What a parameter is.
+//! The kinds of parameters.
 ghost use Rattle.std.specs.Prelude.{◌≡◌};
 ghost use Rattle.control_functions.specs.Parameters.{default_of};
 
-/// What a parameter of a control function is.
+/// The kind of a parameter of a control function.
 #[derive(Clone, Copy, Debug, PartialEq, Eq)]
 pub enum Parameter {
     /// How often, from 1 on.
@@ -11,9 +11,9 @@ pub enum Parameter {
     Line,
     /// A column, from 1 on.
     Column,
-    /// A line, from 1 on; where it is left out, the last.
+    /// A line, from 1 on; if it is left out, the last.
     LastLine,
-    /// A column, from 1 on; where it is left out, the last.
+    /// A column, from 1 on; if it is left out, the last.
     LastColumn,
     /// A page, from 1 on.
     Page,
@@ -23,7 +23,7 @@ pub enum Parameter {
     GivenColumn,
     /// A page, from 1 on, that no standard has a default of.
     GivenPage,
-    /// A choice from a list; where it is left out, this one.
+    /// A choice from a list; if it is left out, this one.
     Selector(u16),
     /// A choice from a list that no standard has a default of.
     Choice,
@@ -33,16 +33,16 @@ pub enum Parameter {
     PrivateMode,
     /// A rendition, or a part of one.
     Rendition,
-    /// Any other number; where it is left out, this one.
+    /// Any other number; if it is left out, this one.
     Amount(u16),
     /// Any other number, that no standard has a default of.
     Number,
 }
 
 impl Parameter {
-    /// What is meant where the parameter is left out: 1 for a count, a line, a column and a page, 0
-    /// for a rendition, and of a choice or another number its own. `None` where the size of the
-    /// screen decides, and where no standard says it: there the parameter has to be given.
+    /// The default of the parameter if it is left out: 1 for a count, a line, a column and a page,
+    /// 0 for a rendition, and for a choice or another number its own. `None` if the size of the
+    /// screen decides, and if no standard says it: there the parameter has to be given.
     pub fn default_value(self) -> Option<u16>
         ensures { result ≡ default_of self }
     {

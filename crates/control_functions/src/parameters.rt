@@ -31,24 +31,23 @@ pub enum Parameters {
     TwoNumbers,
     /// Numbers.
     Numbers,
-    /// A number, and 0 where it is left out.
+    /// A number, and 0 if it is left out.
     Amount,
-    /// Two sizes in percent, and 100 where they are left out.
+    /// Two sizes in percent, and 100 if they are left out.
     Percentages,
-    /// The place of a tab stop, and the number of a character, which is a space where it is left
-    /// out.
+    /// The place of a tab stop, and the number of a character, which is a space if it is left out.
     CenteredStop,
-    /// A choice, and 0 where it is left out.
+    /// A choice, and 0 if it is left out.
     Selector,
-    /// A choice, and 1 where it is left out.
+    /// A choice, and 1 if it is left out.
     SelectorOrOne,
-    /// A choice, and 2 where it is left out.
+    /// A choice, and 2 if it is left out.
     SelectorOrTwo,
-    /// Two choices, and 0 where they are left out.
+    /// Two choices, and 0 if they are left out.
     TwoSelectors,
-    /// Three choices, and 0 where they are left out.
+    /// Three choices, and 0 if they are left out.
     ThreeSelectors,
-    /// Choices, and 0 where one is left out.
+    /// Choices, and 0 if one is left out.
     Selectors,
     /// A choice without a default.
     Choice,
@@ -56,7 +55,7 @@ pub enum Parameters {
     TwoChoices,
     /// Choices without a default.
     Choices,
-    /// What is set, and its number.
+    /// The setting, and its number.
     ChoiceAndNumber,
     /// A level, and whether controls have seven bits or eight.
     Conformance,
@@ -90,9 +89,9 @@ pub enum Parameters {
     Fill,
     /// The number of the request, a page and a rectangle.
     Checksum,
-    /// What is done to the window, and its numbers.
+    /// The operation on the window, and its numbers.
     Window,
-    /// An attribute, what is done to it, and its values.
+    /// An attribute, the operation on it, and its values.
     Graphics,
     /// Whether to track, where, and the first and the last line.
     Highlight,
@@ -104,13 +103,13 @@ pub enum Parameters {
     Extent,
     /// A key and its modifiers.
     Key,
-    /// A key, its modifiers with the event, and its text, in each of which there may be colons.
+    /// A key, its modifiers with the event, and its text, each of which may have colons.
     KeyEvent,
     /// Flags, and whether they are set, added or taken away.
     KeyboardFlags,
-    /// The shape of cursors, and where they are, in which there are colons.
+    /// The shape of cursors, and their places, which have colons.
     ExtraCursors,
-    /// What is coloured, and two colours.
+    /// The thing that is coloured, and two colours.
     Colors,
     /// A volume, a duration, and notes.
     Sound,

@@ -1,7 +1,7 @@
 //! Private modes.
 
 /// A private mode that `CSI ? h` sets and `CSI ? l` resets, by the abbreviation of its name in the
-/// manuals, and where it has none by a name that is ours. [`number`](PrivateMode::number),
+/// manuals, and if it has none by a name that is ours. [`number`](PrivateMode::number),
 /// [`name`](PrivateMode::name) and [`words`](PrivateMode::words) say the rest; the whole table is
 /// in docs/FUNCTIONS.md.
 #[derive(Clone, Copy, PartialEq, Eq)]

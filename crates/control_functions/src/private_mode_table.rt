@@ -1,7 +1,7 @@
 //! The table of private modes.
 //!
-//! The names that begin with DEC are those of the manuals of the VT131, VT340, VT510
-//! (<https://vt100.net/docs/vt510-rm/chapter4.html>) and VT525. From 1000 on the modes are those of
+//! The names that begin with DEC come from the manuals of the VT131, VT340, VT510
+//! (<https://vt100.net/docs/vt510-rm/chapter4.html>) and VT525. From 1000 on the modes come from
 //! xterm (<https://invisible-island.net/xterm/ctlseqs/ctlseqs.html>, "DEC Private Mode Set"), rxvt,
 //! readline, iTerm2, VTE, contour (<https://contour-terminal.org/vt-extensions/>), kitty and, from
 //! 7700 on, mintty (<https://github.com/mintty/mintty/wiki/CtrlSeqs>), TeraTerm and Windows.
@@ -14,8 +14,8 @@ use crate::mode_row::ModeRow;
 use crate::private_mode::PrivateMode;
 use crate::table_macros::{mode_rows, name, names, words};
 
-// A row a line: the mode, its number, whether it changes the screen alone, and what is set and
-// reset. The rows are in the order of the numbers, and in that of `PrivateMode`.
+// A row a line: the mode, its number, whether it changes the screen alone, and the setting that is
+// set and reset. The rows are in the order of the numbers, and in that of `PrivateMode`.
 macro_rules! modes {
     ($each:ident) => {
         $each![PrivateMode;
@@ -170,7 +170,7 @@ static NAMES: [&str; 138] = modes!(names);
 static WORDS: [&str; 138] = modes!(words);
 
 impl PrivateMode {
-    /// The mode of this number, where it has a name.
+    /// The mode of this number, if it has a name.
     #[tactic(auto, unfolding(crate::specs::PrivateModes::mode_of))]
     pub fn of_number(number: u32) -> Option<PrivateMode>
         ensures { result ≡ mode_of number }
@@ -193,7 +193,8 @@ impl PrivateMode {
         text_in(&NAMES, place(self))
     }
 
-    /// What is set and reset, in words: a noun, which reads true after "set" and after "reset".
+    /// The setting that is set and reset, in words: a noun, which reads true after "set" and after
+    /// "reset".
     #[tactic(auto, unfolding(crate::specs::PrivateModes::words_of))]
     pub fn words(self) -> &'static str
         ensures { result.now ≡ words_of self }

@@ -11,10 +11,10 @@ pub struct Row<F> {
     /// The function.
     pub function: F,
     /// The bytes of its sequence but its parameters, with no `ESC` and no `[`, or the code of a C0
-    /// control, as digits to the base 256 after a 1; after a 2 where another function has the same
+    /// control, as digits to the base 256 after a 1; after a 2 if another function has the same
     /// bytes and fewer parameters.
     pub key: u32,
-    /// What it changes, and whether a terminal answers it.
+    /// Its effect, and whether a terminal answers it.
     pub effect: Effect,
     /// Its parameters.
     pub parameters: Parameters,

@@ -7,7 +7,7 @@ pub enum Standard {
     Ecma35,
     /// ECMA-43, 8-bit coded character set, third edition.
     Ecma43,
-    /// ECMA-48, control functions, fifth edition; where it left some out, the fourth.
+    /// ECMA-48, control functions, fifth edition; for those that it left out, the fourth.
     Ecma48,
     /// RFC 1345, which has the names of a draft of ISO 10646 that no edition of ECMA-48 took over.
     Rfc1345,

@@ -1,4 +1,4 @@
-//! What the tables have in common: the parts of their rows.
+//! The parts of rows that the tables have in common.
 
 // The rows of a table of functions, of its lines.
 macro_rules! rows {
@@ -35,7 +35,7 @@ macro_rules! mode_rows {
     };
 }
 
-// The names of a table, of its lines: each that of its variant, or another.
+// The names of a table, from its lines: each that of its variant, or another.
 macro_rules! names {
     ($of:ident; $($f:ident $(= $name:literal)?, $code:tt, $($field:ident,)+
         $words:literal);+ $(;)?) => {
@@ -67,7 +67,7 @@ macro_rules! starts {
     };
 }
 
-// The key of a sequence of these bytes; of the longer of two where it begins with `long`.
+// The key of a sequence of these bytes; of the longer of two if it begins with `long`.
 macro_rules! key {
     ($c:literal) => {
         0x100 + $c as u32

@@ -2,7 +2,7 @@ use Rattle.std.proofs.Common.{◌≡◌, drop}
 use Rattle.control_functions.specs.Rows.{first_keyed}
 use Rattle.control_functions.proofs.find.first_with.Given as goal
 
--- what is left decides
+-- the rest decides
 abbrev pub invariant-loop-row : goal.invariant-loop-row
 invariant-loop-row g l =
     first_keyed g.R.Keyed.has_key g.R.Keyed.is_of l.rows l.key
