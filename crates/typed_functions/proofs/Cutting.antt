@@ -84,7 +84,7 @@ there_by n e es false s h below =
     let one : suc m + 1 ≡ suc (m + 1) = omega arith in
     rw (passed n e es s, one) (h n (omega (arith, passed n e es s, below)))
 
--- where more follows, a `;` comes first
+-- if more follows, a `;` comes first
 there : (es : List CsiParam) (n : ℕ) → len_before n es < length es
     → drop (len_before n es) es ≡ P 0x3b ∷ drop (len_before n es + 1) es
 there [] n below = absurd (omega (arith, below))

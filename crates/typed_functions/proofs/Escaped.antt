@@ -1,4 +1,4 @@
--- What is written of an escape sequence's typed value reads back, and no two sequences have one.
+-- The text of an escape sequence's typed value reads back, and no two sequences have one value.
 use Rattle.std.proofs.Common.{ℕ, ◌≡◌, ◌≢◌, ◌+◌, ◌-◌, ◌*◌, ◌/◌, ◌%◌, ◌<◌, ◌==◌, Bool, true, false, nat_le, zero, suc, if◌then◌else◌, List, [], ◌∷◌, length, map, get_or, Option, Some, None, Result, Ok, Err}
 use Rattle.std.proofs.Common.{refl, ap, sym, ◌∙◌, arith, zero-add}
 use Rattle.std.specs.List.{range_with_len}
@@ -43,7 +43,7 @@ same_at [] i c d lt = absurd (omega (arith, lt))
 same_at (x ∷ xs) zero c d lt = refl
 same_at (x ∷ xs) (suc i) c d lt = same_at xs i c d (omega (arith, lt))
 
--- what is so of each function of the table is so of a value's function
+-- a fact about each function of the table is one about a value's function
 fact : {A : Type 0} (g h : EscapeFunction → A) → map g FUNCTIONS ≡ map h FUNCTIONS
     → (e : Escape) → g (function_for e) ≡ h (function_for e)
 unfolding function_for
@@ -52,7 +52,7 @@ fact g h q e =
     ∙ ap (λ t. get_or t (place e) (g functions.ST)) q
     ∙ get_or-map h FUNCTIONS (place e) functions.ST (g functions.ST) (below e)
 
--- what the tables have at a place, whatever they have past their ends
+-- the entry of the tables at a place, whatever they have past their ends
 pub function_at : (e : Escape) (d : EscapeFunction) → get_or FUNCTIONS (place e) d ≡ function_for e
 unfolding function_for
 function_at e d = same_at FUNCTIONS (place e) d functions.ST (below e)

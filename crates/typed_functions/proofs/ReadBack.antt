@@ -24,7 +24,7 @@ use Rattle.typed_functions.specs.Renditions.{IsRendition, AreRenditions, normal_
 use Rattle.typed_functions.specs.Selections.{first_len, separators, cut_entries, joined_entries, selection_of, selections, spelled_rendition}
 use Rattle.typed_functions.proofs.Cutting.{first_cut, last_cut}
 
--- what is to be shown of each rendition: it reads back, and so does where it ends
+-- the facts to show about each rendition: it reads back, and so does its end
 pub record Back (r : Rendition) : Type 0 where
   pub read : rendition_of (normal_params r) ≡ Some r
   pub last : first_len (normal_params r) ≡ length (normal_params r)

@@ -1,4 +1,4 @@
--- What is written of a typed value reads back as this value.
+-- The text of a typed value reads back as this value.
 use Rattle.std.proofs.Common.{ℕ, ◌≡◌, ◌+◌, ◌-◌, ◌<◌, ◌==◌, Bool, true, false, nat_le, List, [], ◌∷◌, ◌++◌, length, Option, Some, None, Ok}
 use Rattle.std.proofs.Common.{refl, ap, sym, ◌∙◌, arith}
 use Rattle.std.specs.List.{list_all}
@@ -69,7 +69,7 @@ first_is n e = ap at_place (sym (eqb-true n.zero_based 0 e))
 word_back : (n : ℕ) → n < 0x1_0000_0000 → nat_le n 0xffff_ffff ≡ true
 word_back n h = le-leb n 0xffff_ffff (omega (arith, h))
 
--- ---- what follows parameters: intermediates alone
+-- ---- the entries after parameters: intermediates alone
 
 pub record IsTail (t : List CsiParam) : Type 0 where
   pub ends : list_all is_intermediate t ≡ true
@@ -284,7 +284,7 @@ private_between_back p f a m last v h i mark prefix found kind made =
     back_by f (private_between p a m last) v (ap function_of key ∙ found) kind
     (ap (arguments (kind_for a)) inner ∙ b.read) made
 
--- one choice, where there may be several
+-- one choice, if there may be several
 choice_back : (f : ControlFunction) (n last : ℕ) (v : Value) → n < 256
     → function_of (key_with 1 (length (entries (plain (args.Selector n) last))) last) ≡ Some f
     → kind_of f ≡ Some kind.Selectors → made f (args.Selector n) ≡ v

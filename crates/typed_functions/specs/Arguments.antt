@@ -15,7 +15,7 @@ use Rattle.typed_functions.specs.declared.unfit.Unfit.TheVariants as unfit
 use Rattle.typed_functions.specs.Counts.{one_based, one_based_of}
 use Rattle.typed_functions.specs.Renditions.{number}
 
--- f of a value, where there is one
+-- f of a value, if there is one
 abbrev pub then_read : {X Y : Type 0} → Result X Unfit → (X → Result Y Unfit) → Result Y Unfit
 then_read (Ok x) f = f x
 then_read (Err e) f = Err e
@@ -30,7 +30,7 @@ abbrev pub is_intermediate : CsiParam → Bool
 is_intermediate (Integer n) = false
 is_intermediate (P b) = is_intermediate_byte b
 
--- the number that comes first, where one does, and what follows
+-- the first number, if one comes first, and the rest
 abbrev pub number_first : List CsiParam → Option ℕ × List CsiParam
 number_first [] = (None, [])
 number_first (Integer (pos n) ∷ es) = (Some n, es)
@@ -42,15 +42,15 @@ after_semicolon [] = Err unfit.NoNumbers
 after_semicolon (Integer n ∷ es) = Err unfit.NoNumbers
 after_semicolon (P b ∷ es) = if b == 0x3b then Ok (Some es) else Err unfit.NoNumbers
 
--- what follows a number: intermediates alone, or `;` and more
+-- the rest after a number: intermediates alone, or `;` and more
 abbrev pub more : List CsiParam → Result (Option (List CsiParam)) Unfit
 more es = if list_all is_intermediate es then Ok None else after_semicolon es
 
--- the next parameter, a number or nothing, and what follows its `;`
+-- the next parameter, a number or nothing, and the rest after its `;`
 abbrev pub next : List CsiParam → Result (Option ℕ × Option (List CsiParam)) Unfit
 next es = let n = number_first es in then_read (more n.1) (λ rest. Ok (n.0, rest))
 
--- x, where no more parameters follow
+-- x, if no more parameters follow
 abbrev pub no_more : {X : Type 0} → Option (List CsiParam) → X → Result X Unfit
 no_more None x = Ok x
 no_more (Some es) x = Err unfit.TooMany
@@ -64,7 +64,7 @@ abbrev pub one_more : Option ℕ → Option (List CsiParam)
 one_more first None = Ok (first, None)
 one_more first (Some es) = then_read (one es) (λ second. Ok (first, second))
 
--- the only two, of which the second may be missing
+-- the only two; the second may be missing
 abbrev pub two : List CsiParam → Result (Option ℕ × Option ℕ) Unfit
 two es = then_read (next es) (λ a. one_more a.0 a.1)
 
@@ -91,7 +91,7 @@ place l c =
     then_read (in_range (one_based_of l)) (λ l.
     then_read (in_range (one_based_of c)) (λ c. Ok (args.Place l c)))
 
--- the last line or column is that of the screen, where there is none, and where it is 0
+-- the last line or column is that of the screen, if there is none, and if it is 0
 abbrev pub last_of : Option ℕ → Result (Option Ordinal) Unfit
 last_of None = Ok None
 last_of (Some n) = if n == 0 then Ok None
@@ -110,7 +110,7 @@ abbrev pub byte_or : ℕ → Option ℕ → Result ℕ Unfit
 byte_or d None = Ok d
 byte_or d (Some n) = if nat_le n 255 then Ok n else Err unfit.OutOfRange
 
--- flags are 0 where they are left out, and what is done with them is 1
+-- flags are 0 if they are left out, and the operation on them is 1
 abbrev pub flags : Option ℕ → Option ℕ → Result Arguments Unfit
 flags a b =
     then_read (byte_or 0 a) (λ a. then_read (byte_or 1 b) (λ b. Ok (args.Flags a b)))
@@ -140,7 +140,7 @@ more_words a b c =
     then_read (word_of b) (λ b.
     then_read (word_of c) (λ c. Ok (args.Numbers a b c))))
 
--- the only three, of which those after the first may be missing
+-- the only three; those after the first may be missing
 abbrev pub two_more : Option ℕ → Option (List CsiParam)
     → Result (Option ℕ × Option ℕ × Option ℕ) Unfit
 two_more first None = Ok (first, None, None)

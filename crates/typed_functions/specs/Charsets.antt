@@ -203,7 +203,7 @@ abbrev pub one_or_two : ℕ → Option ℕ → List ℕ
 one_or_two i None = i ∷ []
 one_or_two i (Some j) = i ∷ j ∷ []
 
--- the sequence that designates it, where it has one intermediate
+-- the sequence that designates it, if it has one intermediate
 abbrev pub sequence_of : List ℕ → ℕ → Option Esc
 sequence_of [] b = Some (esc_of None b)
 sequence_of (i ∷ []) b = Some (esc_of (Some i) b)

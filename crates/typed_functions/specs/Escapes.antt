@@ -44,7 +44,7 @@ escape_bytes e = bytes_of_key (key_of (function_for e))
 abbrev pub escape_sequence : Escape → Esc
 escape_sequence e = esc_of (escape_bytes e).0 (escape_bytes e).1
 
--- what a function designates by this final byte
+-- the set that a function designates by this final byte
 abbrev pub designated : EscapeFunction → ℕ → Result Charset Unfit
 designated functions.GZD4 b = in_range (option_map charsets.G0 (charset94_at b))
 designated functions.G1D4 b = in_range (option_map charsets.G1 (charset94_at b))
@@ -56,7 +56,8 @@ designated functions.G3D6 b = in_range (option_map charsets.G3Of96 (charset96_at
 designated functions.GZDM4 b = in_range (option_map charsets.G0Multibyte (short_at b))
 designated _ b = Err unfit.Untyped
 
--- what one of two intermediates designates by its second intermediate and this final byte
+-- the set that a function of two intermediates designates by its second intermediate and this final
+-- byte
 abbrev pub multibyte_designated : EscapeFunction → ℕ → Result Charset Unfit
 multibyte_designated functions.GZDM4_LONG b =
     in_range (option_map charsets.G0Multibyte (multibyte_at b))
@@ -96,8 +97,8 @@ abbrev pub of_two : Option EscapeFunction → ℕ → ℕ → Value
 of_two None j b = other unfit.Unnamed
 of_two (Some f) j b = set_of (designated_by_two f j b)
 
--- the value of an escape sequence of these intermediates and this final byte: of two intermediates
--- it is not that of the second alone
+-- the value of an escape sequence of these intermediates and this final byte: if there are two, it
+-- is not that of the second alone
 abbrev pub of_intermediates : List ℕ → ℕ → Value
 of_intermediates [] b = of_bytes None b
 of_intermediates (i ∷ []) b = of_bytes (Some i) b
@@ -114,7 +115,7 @@ of_escape (esc.Unspecified i b) = of_bytes i b
 abbrev pub of_c1 : ℕ → Value
 of_c1 c = if is_from 0x80 0x9f c then of_bytes None (c - 0x40) else other unfit.Unnamed
 
--- bytes, of which the first may be missing
+-- bytes; the first may be missing
 abbrev pub AreBytes : Option ℕ → ℕ → Type 0
 AreBytes None b = b < 256
 AreBytes (Some i) b = (i < 256) × (b < 256)

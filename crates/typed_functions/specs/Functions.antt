@@ -46,7 +46,7 @@ use Rattle.typed_functions.specs.Renditions.{number}
 use Rattle.typed_functions.specs.Selections.{left, modes_left, mode_numbers, selections, whole_entries}
 use Rattle.typed_functions.specs.Windows.{operation}
 
--- a typed value, without where its parameters lie in memory
+-- a typed value, without the place of its parameters in memory
 pub data Value : Type 0 where
   cursor : Cursor → Value
   edit : Edit → Value
@@ -77,7 +77,7 @@ value_of (function.Tabs c ns) = tabs c (modes_left ns)
 value_of (function.Sgr r) = renditions (left r)
 value_of (function.Other u) = other u
 
--- which parameters a function has, where it has a typed value
+-- the parameters of a function, if it has a typed value
 abbrev pub kind_of : ControlFunction → Option Kind
 kind_of control.CUU = Some kind.Count
 kind_of control.CUD = Some kind.Count
@@ -201,7 +201,7 @@ bounded control.DECSTBM a b = cursor (cursors.SetTopAndBottomMargins a b)
 bounded control.DECSLRM a b = cursor (cursors.SetLeftAndRightMargins a b)
 bounded _ a b = other unfit.Untyped
 
--- what a choice makes, where there is one
+-- the value of a choice, if there is one
 abbrev pub chosen_value : {X : Type 0} → (X → Value) → Option X → Value
 chosen_value f None = other unfit.OutOfRange
 chosen_value f (Some x) = f x
@@ -244,7 +244,7 @@ asked s None None = mode_status s
 asked s None (Some c) = other unfit.TooMany
 asked s (Some b) c = other unfit.TooMany
 
--- the state of a mode, of which nothing more is reported
+-- the state of a mode, if nothing more is reported
 abbrev pub state_of : Option ℕ → Option ℕ → Result ModeState Unfit
 state_of None c = Err unfit.TooFew
 state_of (Some b) None = in_range (mode_state_at b)
@@ -274,7 +274,7 @@ made f (args.Flags a b) = flagged f a b
 made f (args.Report a b c) = reported f a b c
 made f (args.Numbers a b c) = listed f a b c
 
--- what is done to modes
+-- the operation on modes
 abbrev pub change_of : ControlFunction → ModeChange
 change_of control.SM = change.SetMode
 change_of control.RM = change.ResetMode
@@ -287,7 +287,7 @@ abbrev pub made_of : ControlFunction → Result Arguments Unfit → Value
 made_of f (Ok a) = made f a
 made_of f (Err u) = other u
 
--- what is done to tab stops
+-- the operation on tab stops
 abbrev pub tab_change_of : ControlFunction → TabChange
 tab_change_of control.CTC = tab.Control
 tab_change_of _ = tab.Clear
@@ -333,9 +333,9 @@ abbrev pub of_whole : Option (List CsiParam) → ℕ → Value
 of_whole None last = other unfit.Truncated
 of_whole (Some es) last = of_params es last
 
--- The value of a control sequence of which more entries were left out than these: nobody knows it,
--- since an intermediate may be among them, but for renditions, of which those that are whole are
--- read.
+-- The value of a control sequence with more entries than these: nobody knows it, since an
+-- intermediate may be among those that were left out, but for renditions; of these the whole ones
+-- are read.
 abbrev pub of_kept : List CsiParam → ℕ → Value
 of_kept es last = if last == 0x6d then of_whole (whole_entries es) last else other unfit.Truncated
 

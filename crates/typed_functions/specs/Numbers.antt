@@ -127,7 +127,7 @@ decorated n = if n == 50 then Some (Proportional false)
     else if n == 75 then Some (VerticalAlign align.BaseLine)
     else None
 
--- those of 30 to 49, but for 38 and 48, which more follows
+-- those of 30 to 49, but for 38 and 48, which have more after them
 abbrev pub painted : ℕ → Option Rendition
 painted n = if is_from 30 37 n then Some (AnsiForeground (ansi_color_at (n - 30)))
     else if n == 39 then Some (Foreground color.Default)
@@ -154,7 +154,7 @@ numbered n = if nat_le n 9 then switched_on n
 abbrev pub ansi_number : ℕ → ℕ → ℕ
 ansi_number black n = if nat_le n 7 then black + n else black + 52 + n
 
--- the number that asks for a rendition, where one does
+-- the number that asks for a rendition, if one does
 abbrev pub number_of : Rendition → Option ℕ
 number_of Reset = Some 0
 number_of (Intensity intensity.Bold) = Some 1

@@ -23,14 +23,14 @@ abbrev pub is_byte : ℕ → CsiParam → Bool
 is_byte s (Integer n) = false
 is_byte s (P b) = b == s
 
--- the number after a separator, at most 255, and what follows
+-- the number after a separator, at most 255, and the rest
 abbrev pub byte_after : ℕ → List CsiParam → Option (ℕ × List CsiParam)
 byte_after s [] = None
 byte_after s (m ∷ []) = None
 byte_after s (m ∷ e ∷ es) =
     if is_byte s m then option_map (λ n. (n, es)) (byte_of e) else None
 
--- x, where nothing follows
+-- x, if nothing follows
 abbrev pub at_end : {X : Type 0} → List CsiParam → X → Option X
 at_end [] x = Some x
 at_end (e ∷ es) x = None
@@ -39,7 +39,7 @@ at_end (e ∷ es) x = None
 abbrev pub indexed : ℕ → List CsiParam → Option ColorSpec
 indexed s es = and_then (byte_after s es) (λ n. at_end n.1 (color.PaletteIndex n.0))
 
--- `r;g;b`, and what follows
+-- `r;g;b`, and the rest
 abbrev pub three : ℕ → List CsiParam → Option ((ℕ × ℕ × ℕ) × List CsiParam)
 three s es =
     and_then (byte_after s es) (λ r.
@@ -51,7 +51,7 @@ after_number [] = []
 after_number (Integer n ∷ es) = es
 after_number (P b ∷ es) = P b ∷ es
 
--- what follows a field, where one comes: a colon, and a number or nothing
+-- the rest after a field, if one comes: a colon, and a number or nothing
 abbrev pub after_field : List CsiParam → List CsiParam
 after_field [] = []
 after_field (m ∷ es) = if is_byte 0x3a m then after_number es else m ∷ es
@@ -60,9 +60,9 @@ after_field (m ∷ es) = if is_byte 0x3a m then after_number es else m ∷ es
 abbrev pub bare_direct : ℕ → List CsiParam → Option ColorSpec
 bare_direct s es = and_then (three s es) (λ c. at_end c.1 (color.TrueColor c.0))
 
--- The same after the field of a colour space, which may be empty, and before at most three fields,
--- of which the second is a tolerance and the third that one's colour space (ITU-T T.416, 13.1.8):
--- they say nothing of the colour.
+-- The same after the field of a colour space, which may be empty, and before at most three fields;
+-- the second is a tolerance and the third the tolerance's colour space (ITU-T T.416, 13.1.8): they
+-- say nothing of the colour.
 abbrev pub direct_in_space : List CsiParam → Option ColorSpec
 direct_in_space es =
     and_then (three 0x3a (after_field es)) (λ c.
@@ -78,7 +78,7 @@ abbrev pub direct : ℕ → List CsiParam → Option ColorSpec
 direct s es =
     or_else (bare_direct s es) (if s == 0x3a then direct_in_space es else None)
 
--- the colour of what follows 38, 48 or 58, with this separator: `5;n` or `2;r;g;b`
+-- the colour by the entries after 38, 48 or 58, with this separator: `5;n` or `2;r;g;b`
 abbrev pub color_with : ℕ → List CsiParam → Option ColorSpec
 color_with s es =
     and_then (byte_after s es) (λ k. if k.0 == 5 then indexed s k.1
@@ -107,7 +107,7 @@ underline_number underline.Curly = 3
 underline_number underline.Dotted = 4
 underline_number underline.Dashed = 5
 
--- the underline of what follows 4
+-- the underline by the entries after 4
 abbrev pub underlined : List CsiParam → Option UnderlineKind
 underlined es =
     and_then (byte_after 0x3a es) (λ k. and_then (at_end k.1 k.0) underline_at)
@@ -120,7 +120,7 @@ abbrev pub on_target : ℕ → ColorSpec → Rendition
 on_target n c = if n == 38 then Foreground c else if n == 48 then Background c
     else UnderlineColor c
 
--- the rendition of a number and what follows it
+-- the rendition of a number and the entries after it
 abbrev pub with_more : ℕ → List CsiParam → Option Rendition
 with_more n [] = numbered n
 with_more n (m ∷ es) = if n == 4 then option_map Underline (underlined (m ∷ es))
@@ -156,9 +156,9 @@ abbrev pub normal_by : Option ℕ → Rendition → List CsiParam
 normal_by (Some n) r = number n ∷ []
 normal_by None r = more_entries r
 
--- One number, where one asks for it, and 0 for a reset; `4:3` to `4:5`; and `38;5;n`, `38;2;r;g;b`
--- and the same of 48. After 58 there are colons, since a terminal that does not know them would
--- take the numbers after `;` for renditions.
+-- One number, if one asks for it, and 0 for a reset; `4:3` to `4:5`; and `38;5;n`, `38;2;r;g;b` and
+-- the same of 48. After 58 there are colons, since a terminal that does not know them would take
+-- the numbers after `;` for renditions.
 abbrev pub normal_params : Rendition → List CsiParam
 normal_params r = normal_by (number_of r) r
 

@@ -11,7 +11,7 @@ use Rattle.typed_functions.specs.declared.renditions.Renditions.{Renditions}
 use Rattle.typed_functions.specs.declared.selection.Selection.{Selection}
 use Rattle.typed_functions.specs.Renditions.{byte_of, is_byte, is_target, normal_params, rendition_of}
 
--- how many entries come before the `;` after n others, or in all where there is none
+-- the number of entries before the `;` after n others, or in all if there is none
 abbrev pub len_before : ℕ → List CsiParam → ℕ
 len_before n [] = 0
 len_before zero (e ∷ es) = if is_separator e then 0 else suc (len_before zero es)
@@ -23,14 +23,14 @@ abbrev pub separator_count : List CsiParam → ℕ
 separator_count [] = 0
 separator_count (e ∷ es) = if is_separator e then suc (separator_count es) else separator_count es
 
--- the entries before the last `;`, where there is one: those of items that are whole, where more
--- entries came after these
+-- the entries before the last `;`, if there is one: those of items that are whole, if more entries
+-- came after these
 abbrev pub whole_entries : List CsiParam → Option (List CsiParam)
 whole_entries es = if separator_count es == 0 then None
     else Some (take (len_before (separator_count es - 1) es) es)
 
--- how many `;` a colour has after its target: two before an entry of the palette, four before three
--- intensities, and all where its kind is another, since nobody can say where that ends
+-- the number of `;` that a colour has after its target: two before an entry of the palette, four
+-- before three intensities, and all if its kind is another, since nobody can say where that ends
 abbrev pub kind_separators : Option ℕ → ℕ → ℕ
 kind_separators None all = all
 kind_separators (Some k) all = if k == 5 then 2 else if k == 2 then 4 else all
@@ -39,7 +39,7 @@ abbrev pub color_separators : List CsiParam → ℕ
 color_separators [] = 1
 color_separators (k ∷ es) = kind_separators (byte_of k) (length es + 2)
 
--- after a number, what follows it has these
+-- after a number, the entries after it have these
 abbrev pub more_separators : List CsiParam → ℕ
 more_separators [] = 0
 more_separators (m ∷ es) = if is_byte 0x3b m then color_separators es else 0
@@ -53,8 +53,8 @@ abbrev pub separators : List CsiParam → ℕ
 separators [] = 0
 separators (e ∷ es) = number_separators (byte_of e) es
 
--- how many entries come before the `;` that ends the first part, where this says how many others
--- the part has
+-- the number of entries before the `;` that ends the first part, if this says how many others the
+-- part has
 abbrev pub len_with : (List CsiParam → ℕ) → List CsiParam → ℕ
 len_with s es = len_before (s es) es
 
@@ -78,14 +78,14 @@ cut_with s es = cut_after s 0 es
 abbrev pub cut_entries : List CsiParam → List (List CsiParam)
 cut_entries es = cut_with separators es
 
--- the entries of each parameter: what is between two `;`
+-- the entries of each parameter: those between two `;`
 abbrev pub no_separators : List CsiParam → ℕ
 no_separators es = 0
 
 abbrev pub parameters : List CsiParam → List (List CsiParam)
 parameters es = cut_with no_separators es
 
--- a rendition, where it is known, and its entries
+-- a rendition, if it is known, and its entries
 abbrev pub selection_of : List CsiParam → Option Rendition × List CsiParam
 selection_of es = (rendition_of es, es)
 
@@ -93,7 +93,7 @@ selection_of es = (rendition_of es, es)
 abbrev pub selections : List CsiParam → List (Option Rendition × List CsiParam)
 selections es = map selection_of (cut_entries es)
 
--- what an iterator has left
+-- the items that an iterator has left
 abbrev pub left_with : {X : Type 0} → (List CsiParam → ℕ) → (List CsiParam → X)
     → Option (List CsiParam) → List X
 left_with s f None = []
@@ -102,7 +102,7 @@ left_with s f (Some es) = map f (cut_with s es)
 abbrev pub left : Renditions → List (Option Rendition × List CsiParam)
 left s = left_with separators selection_of (option_map (λ es. es.now) s.rest)
 
--- the number of a mode, where a parameter is one, and its entries
+-- the number of a mode, if a parameter is one, and its entries
 abbrev pub mode_number : List CsiParam → Option ℕ
 mode_number [] = None
 mode_number (Integer (pos n) ∷ []) = Some n
@@ -121,7 +121,7 @@ modes_left s = left_with no_separators mode_of (option_map (λ es. es.now) s.res
 abbrev pub mode_seen : ModeNumber → Option ℕ × List CsiParam
 mode_seen x = (x.number, x.entries.now)
 
--- what a caller sees of an item
+-- the parts of an item that a caller sees
 abbrev pub seen_item : Selection → Option Rendition × List CsiParam
 seen_item x = (x.rendition, x.entries.now)
 

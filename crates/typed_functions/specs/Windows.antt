@@ -17,7 +17,7 @@ moved None y = Err unfit.TooFew
 moved (Some x) None = Err unfit.TooFew
 moved (Some x) (Some y) = Ok (window.MoveWindow x y)
 
--- 5 and 6 raise and lower it, and report a size where one follows
+-- 5 and 6 raise and lower it, and report a size if one follows
 abbrev pub raised : Option ℕ → Option ℕ → Result Window Unfit
 raised None None = Ok window.RaiseWindow
 raised None (Some w) = Err unfit.TooFew

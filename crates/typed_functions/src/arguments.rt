@@ -19,7 +19,7 @@ pub(crate) enum Kind {
     Selector,
     // one such choice, or several, which are read one by one
     Selectors,
-    // flags, and what is done with them
+    // flags, and the operation on them
     Flags,
     // a button, a column and a line
     Report,

@@ -47,8 +47,8 @@ pub enum Charset {
 }
 
 impl Charset {
-    /// The escape sequence that designates it. `None` where that has two intermediates, of which an
-    /// [`Esc`] has one.
+    /// The escape sequence that designates it. `None` if that has two intermediates; an [`Esc`] has
+    /// one.
     pub fn sequence(self) -> Option<Esc>
         ensures { result ≡ charset_sequence self }
     {
@@ -83,7 +83,7 @@ impl Charset {
     }
 }
 
-// The bytes that designate a set of several bytes as G0: without `(` where that was so first.
+// The bytes that designate a set of several bytes as G0: without `(` if that was so first.
 fn multibyte_as_g0(set: MultibyteCharset) -> (u8, Option<u8>, u8)
     ensures { charset_bytes (Charset.G0Multibyte set) ≡ (one_or_two result.0 result.1, result.2) }
 {
@@ -105,7 +105,7 @@ impl fmt::Display for Charset {
     }
 }
 
-// Writes what follows ESC.
+// Writes the bytes after ESC.
 fn write_bytes<W: fmt::Write>(
     first: u8,
     second: Option<u8>,

@@ -68,7 +68,7 @@ impl Charset94 {
         self as u8
     }
 
-    /// The set that a final byte names, where there is one.
+    /// The set that a final byte names, if there is one.
     pub fn of_final_byte(byte: u8) -> Option<Charset94>
         ensures { result ≡ charset94_at byte }
     {

@@ -35,7 +35,7 @@ impl Charset96 {
         self as u8
     }
 
-    /// The set that a final byte names, where there is one.
+    /// The set that a final byte names, if there is one.
     pub fn of_final_byte(byte: u8) -> Option<Charset96>
         ensures { result ≡ charset96_at byte }
     {

@@ -10,7 +10,7 @@ use esc_values::CsiParam::{Integer, P};
 use esc_values::{CsiParam, RgbColor};
 use std::fmt;
 
-// The colour of what follows 38, 48 or 58.
+// The colour by the entries after 38, 48 or 58.
 pub(crate) fn color_of(entries: &[CsiParam]) -> Option<ColorSpec>
     ensures { result ≡ color_of entries.now }
 {
@@ -82,7 +82,7 @@ fn direct_in_space(entries: &[CsiParam]) -> Option<ColorSpec>
     }
 }
 
-// The colour, where nothing follows.
+// The colour, if nothing follows.
 fn at_end(entries: &[CsiParam], color: RgbColor) -> Option<ColorSpec>
     ensures { result ≡ at_end entries.now (ColorSpec.TrueColor color) }
 {
@@ -93,7 +93,7 @@ fn at_end(entries: &[CsiParam], color: RgbColor) -> Option<ColorSpec>
     }
 }
 
-// Three intensities, and what follows.
+// Three intensities, and the rest.
 fn three(separator: u8, entries: &[CsiParam]) -> Option<(RgbColor, &[CsiParam])>
     ensures some { IfSome result (λ p. three separator entries.now ≡ Some (p.0, p.1.now)) }
     ensures none { IfNone result (three separator entries.now ≡ None) }
@@ -110,7 +110,7 @@ fn three(separator: u8, entries: &[CsiParam]) -> Option<(RgbColor, &[CsiParam])>
     Some((RgbColor::new_8bpc(red, green, blue), rest))
 }
 
-// What follows a field, where one comes.
+// The rest after a field, if one comes.
 fn after_field(entries: &[CsiParam]) -> &[CsiParam]
     ensures { result.now ≡ after_field entries.now }
 {
@@ -124,7 +124,7 @@ fn after_field(entries: &[CsiParam]) -> &[CsiParam]
     }
 }
 
-// What follows a number, where one comes.
+// The rest after a number, if one comes.
 fn after_number(entries: &[CsiParam]) -> &[CsiParam]
     ensures { result.now ≡ after_number entries.now }
 {

@@ -11,7 +11,7 @@ use crate::spelling::{Spelling, write_spelling};
 use crate::tabulation_clear::TabulationClear;
 use std::fmt;
 
-/// What is asked of the cursor and of what bounds it, by the names of termwiz.
+/// A request about the cursor and its bounds, by the names of termwiz.
 #[derive(Clone, Copy, Debug)]
 pub enum Cursor {
     /// `CSI .. A`, CUU: up so many lines.
@@ -68,13 +68,13 @@ pub enum Cursor {
     /// `CSI .. SP q`, DECSCUSR: its look.
     CursorStyle(CursorStyle),
     /// `CSI .. r`, DECSTBM: the first and the last line that scroll; the last is that of the screen
-    /// where there is none.
+    /// if there is none.
     SetTopAndBottomMargins {
         top: Ordinal,
         bottom: Option<Ordinal>,
     },
     /// `CSI .. s`, DECSLRM: the first and the last column that scroll; the last is that of the
-    /// screen where there is none.
+    /// screen if there is none.
     SetLeftAndRightMargins {
         left: Ordinal,
         right: Option<Ordinal>,

@@ -30,7 +30,7 @@ impl CursorStyle {
         self as u8
     }
 
-    /// The choice of a number, where there is one.
+    /// The choice of a number, if there is one.
     #[inline]
     pub fn of_number(number: u8) -> Option<CursorStyle>
         ensures { result ≡ cursor_style_at number }

@@ -1,4 +1,4 @@
-//! What an escape sequence asks for, by its function and its final byte.
+//! The request of an escape sequence, by its function and its final byte.
 ghost use Rattle.std.specs.Prelude.{◌≡◌, Some};
 ghost use Rattle.typed_functions.specs.Charsets.{short_at};
 ghost use Rattle.typed_functions.specs.Escapes.{designated, designated_by_two, multibyte_designated, of_function, of_two};
@@ -14,7 +14,7 @@ use crate::pair_charset::PairCharset;
 use crate::unfit::Unfit;
 use control_functions::EscapeFunction;
 
-// What a function with this final byte asks for.
+// The request of a function with this final byte.
 pub(crate) fn of_function<'a>(function: EscapeFunction, last: u8) -> Function<'a>
     ensures { value_of result ≡ of_function (Some function) last }
 {
@@ -79,7 +79,7 @@ fn short_at(last: u8) -> Option<MultibyteCharset>
     }
 }
 
-// What a function with this second intermediate and this final byte asks for.
+// The request of a function with this second intermediate and this final byte.
 pub(crate) fn of_two<'a>(function: EscapeFunction, second: u8, last: u8) -> Function<'a>
     ensures { value_of result ≡ of_two (Some function) second last }
 {

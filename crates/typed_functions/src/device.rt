@@ -8,10 +8,10 @@ use crate::arguments::Arguments;
 use crate::spelling::{Spelling, write_spelling};
 use std::fmt;
 
-/// What is asked of the terminal itself, by the names of termwiz.
+/// A request to the terminal itself, by the names of termwiz.
 #[derive(Clone, Copy, Debug)]
 pub enum Device {
-    /// `CSI .. c`, DA1: what it is, in its primary attributes.
+    /// `CSI .. c`, DA1: its kind, in its primary attributes.
     RequestPrimaryDeviceAttributes,
     /// `CSI > .. c`, DA2: the same, in its secondary attributes.
     RequestSecondaryDeviceAttributes,
@@ -21,7 +21,7 @@ pub enum Device {
     RequestTerminalNameAndVersion,
     /// `CSI .. n`, DSR: a report of its status, by 5.
     StatusReport,
-    /// `CSI .. ! p`, DECSTR: a reset of what applications set.
+    /// `CSI .. ! p`, DECSTR: a reset of the settings that applications change.
     SoftReset,
 }
 

@@ -10,7 +10,7 @@ use crate::one_based::Ordinal;
 use crate::spelling::{Spelling, write_spelling};
 use std::fmt;
 
-/// What is inserted, deleted, erased and scrolled, by the names of termwiz.
+/// Requests to insert, delete, erase and scroll, by the names of termwiz.
 #[derive(Clone, Copy, Debug)]
 pub enum Edit {
     /// `CSI .. @`, ICH: so many characters are inserted.
@@ -41,9 +41,9 @@ pub enum Edit {
     EraseInDisplay(EraseInDisplay),
     /// `CSI .. K`, EL: some of the line is erased.
     EraseInLine(EraseInLine),
-    /// `CSI ? .. J`, DECSED: the same of the screen, of what is not protected.
+    /// `CSI ? .. J`, DECSED: the same for the characters of the screen that are not protected.
     SelectiveEraseInDisplay(EraseInDisplay),
-    /// `CSI ? .. K`, DECSEL: the same of the line, of what is not protected.
+    /// `CSI ? .. K`, DECSEL: the same for the characters of the line that are not protected.
     SelectiveEraseInLine(EraseInLine),
 }
 

@@ -33,7 +33,7 @@ pub(crate) fn is_byte(byte: u8, entry: CsiParam) -> bool
     }
 }
 
-// The number after a separator, at most 255, and what follows.
+// The number after a separator, at most 255, and the rest.
 pub(crate) fn byte_after(separator: u8, entries: &[CsiParam]) -> Option<(u8, &[CsiParam])>
     ensures some { IfSome result (λ p. byte_after separator entries.now ≡ Some (p.0, p.1.now)) }
     ensures none { IfNone result (byte_after separator entries.now ≡ None) }

@@ -1,8 +1,8 @@
-//! What is erased of the screen.
+//! The part of the screen that is erased.
 ghost use Rattle.std.specs.Prelude.{◌≡◌};
 ghost use Rattle.typed_functions.specs.Choices.{erase_in_display_at, erase_in_display_number};
 
-/// What is erased of the screen (ECMA-48, 8.3.39, ED; xterm's list for 3).
+/// The part of the screen that is erased (ECMA-48, 8.3.39, ED; xterm's list for 3).
 #[derive(Clone, Copy, Debug, PartialEq, Eq)]
 pub enum EraseInDisplay {
     /// 0: from the cursor to the end.
@@ -24,7 +24,7 @@ impl EraseInDisplay {
         self as u8
     }
 
-    /// The choice of a number, where there is one.
+    /// The choice of a number, if there is one.
     #[inline]
     pub fn of_number(number: u8) -> Option<EraseInDisplay>
         ensures { result ≡ erase_in_display_at number }

@@ -1,8 +1,8 @@
-//! What is erased of the line.
+//! The part of the line that is erased.
 ghost use Rattle.std.specs.Prelude.{◌≡◌};
 ghost use Rattle.typed_functions.specs.Choices.{erase_in_line_at, erase_in_line_number};
 
-/// What is erased of the line (ECMA-48, 8.3.41, EL).
+/// The part of the line that is erased (ECMA-48, 8.3.41, EL).
 #[derive(Clone, Copy, Debug, PartialEq, Eq)]
 pub enum EraseInLine {
     /// 0: from the cursor to the end.
@@ -22,7 +22,7 @@ impl EraseInLine {
         self as u8
     }
 
-    /// The choice of a number, where there is one.
+    /// The choice of a number, if there is one.
     #[inline]
     pub fn of_number(number: u8) -> Option<EraseInLine>
         ensures { result ≡ erase_in_line_at number }

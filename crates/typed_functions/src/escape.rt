@@ -6,8 +6,8 @@ ghost use Rattle.typed_functions.specs.Escapes.{escape_bytes, escape_sequence};
 use esc_sequences::Esc;
 use std::fmt;
 
-/// What an escape sequence asks for that is none of [`Charset`](crate::Charset), by the names of
-/// termwiz where it has one (ECMA-48, 5.3, 5.5 and 8.3; ECMA-35, 13 and 14; DEC's VT510; xterm's
+/// The request of an escape sequence that is none of [`Charset`](crate::Charset), by the names of
+/// termwiz if it has one (ECMA-48, 5.3, 5.5 and 8.3; ECMA-35, 13 and 14; DEC's VT510; xterm's
 /// list). Those of `ESC @` to `ESC _` are also C1 controls, 80 to 9F (hexadecimal).
 ///
 /// Those that begin a control sequence or a control string, CSI, DCS, OSC, SOS, PM and APC, are no
@@ -34,7 +34,7 @@ pub enum Escape {
     DecForwardIndex,
     /// `ESC <`: the mode of a VT52 ends.
     ExitVt52Mode,
-    /// `ESC =`, DECKPAM: the keypad sends what applications ask for.
+    /// `ESC =`, DECKPAM: the keypad sends the sequences that applications ask for.
     DecApplicationKeyPad,
     /// `ESC >`, DECKPNM: the keypad sends its characters.
     DecNormalKeyPad,
@@ -60,7 +60,7 @@ pub enum Escape {
     EndOfSelectedArea,
     /// `ESC SP G`, S8C1T: the terminal sends C1 controls as one byte.
     EightBitControls,
-    /// `ESC % G`, DOCS: what follows is UTF-8.
+    /// `ESC % G`, DOCS: the rest is UTF-8.
     Utf8CharacterSet,
     /// `ESC H`, HTS: a tab stop is set at the column.
     HorizontalTabSet,
@@ -68,9 +68,9 @@ pub enum Escape {
     HorizontalTabWithJustification,
     /// `ESC J`, VTS: a tab stop is set at the line.
     VerticalTabSet,
-    /// `ESC K`, PLD: what follows is a subscript.
+    /// `ESC K`, PLD: the next characters are a subscript.
     PartialLineForward,
-    /// `ESC L`, PLU: what follows is a superscript.
+    /// `ESC L`, PLU: the next characters are a superscript.
     PartialLineBackward,
     /// `ESC SP L`, ACS: level 1 of ECMA-43.
     ConformanceLevelOne,
@@ -100,7 +100,7 @@ pub enum Escape {
     EndOfGuardedArea,
     /// `ESC Y`, SGC: the next byte is a character.
     SingleGraphicCharacter,
-    /// `ESC Z`, DECID: the terminal is asked what it is.
+    /// `ESC Z`, DECID: the terminal is asked for its kind.
     ReturnTerminalId,
     /// `ESC \`, ST: a control string ends.
     StringTerminator,

@@ -1,6 +1,6 @@
 //! Frames round characters.
 
-/// What is drawn round characters (ECMA-48, 8.3.117, SGR: parameters 51, 52 and 54).
+/// The frame round characters (ECMA-48, 8.3.117, SGR: parameters 51, 52 and 54).
 #[derive(Clone, Copy, Debug, PartialEq, Eq)]
 pub enum Frame {
     /// SGR 54: nothing.

@@ -32,12 +32,12 @@ use esc_sequences::{CSI, Esc, EscCode, Intensity, Sgr, Underline};
 use esc_values::CsiParam;
 use std::alloc::Allocator;
 
-/// What a control sequence, an escape sequence or a C1 control asks for, with its parameters as
-/// numbers. The default of a parameter that is left out, or that is 0 where terminals count from 1,
-/// is filled in.
+/// The request of a control sequence, an escape sequence or a C1 control, with its parameters as
+/// numbers. The default of a parameter that is left out, or that is 0 if terminals count from 1, is
+/// filled in.
 #[derive(Clone, Copy, Debug)]
 pub enum Function<'a> {
-    /// Something of the cursor, or of what bounds it.
+    /// A request about the cursor, or its bounds.
     Cursor(Cursor),
     /// Something is inserted, deleted, erased or scrolled.
     Edit(Edit),
@@ -66,8 +66,8 @@ pub enum Function<'a> {
 }
 
 impl<'a> Function<'a> {
-    /// What this control sequence asks for. Where entries of it were left out, since it had more
-    /// than are kept, it is what [`of_kept`](Function::of_kept) returns.
+    /// The request of this control sequence. If entries of it were left out, since it had more than
+    /// are kept, it is the result of [`of_kept`](Function::of_kept).
     pub fn of<A: Allocator>(csi: &'a CSI<A>) -> Function<'a>
         ensures { value_of result ≡ of_csi (csi_value csi.now) }
     {
@@ -84,7 +84,7 @@ impl<'a> Function<'a> {
         }
     }
 
-    /// What a control sequence with all of these parameters and this final byte asks for.
+    /// The request of a control sequence with all of these parameters and this final byte.
     pub fn of_params(params: &'a [CsiParam], last: u8) -> Function<'a>
         ensures { value_of result ≡ of_params params.now last }
     {
@@ -94,10 +94,10 @@ impl<'a> Function<'a> {
         }
     }
 
-    /// What a control sequence asks for that has more parameters than these, which were kept, and
-    /// this final byte. An intermediate may be among those that were left out, so its function is
-    /// not known; but with the final byte `m` the renditions are read that are whole, those before
-    /// the last `;`, as terminals read the first ones.
+    /// The request of a control sequence with more parameters than these, which were kept, and this
+    /// final byte. An intermediate may be among those that were left out, so its function is not
+    /// known; but with the final byte `m` the renditions are read that are whole, those before the
+    /// last `;`, as terminals read the first ones.
     pub fn of_kept(params: &'a [CsiParam], last: u8) -> Function<'a>
         ensures { value_of result ≡ of_kept params.now last }
     {
@@ -110,7 +110,7 @@ impl<'a> Function<'a> {
         }
     }
 
-    /// What this escape sequence asks for.
+    /// The request of this escape sequence.
     pub fn of_escape(esc: Esc) -> Function<'a>
         ensures { value_of result ≡ of_escape esc }
     {
@@ -125,8 +125,8 @@ impl<'a> Function<'a> {
         }
     }
 
-    /// What an escape sequence with this intermediate, if there is one, and this final byte asks
-    /// for.
+    /// The request of an escape sequence with this intermediate, if there is one, and this final
+    /// byte.
     pub fn of_escape_bytes(intermediate: Option<u8>, last: u8) -> Function<'a>
         ensures { value_of result ≡ of_bytes intermediate last }
     {
@@ -136,8 +136,8 @@ impl<'a> Function<'a> {
         }
     }
 
-    /// What an escape sequence with all of these intermediates and this final byte asks for. Of two
-    /// intermediates both count, as in `ESC $ ) C` and `ESC ( % 6`.
+    /// The request of an escape sequence with all of these intermediates and this final byte. If
+    /// there are two, both count, as in `ESC $ ) C` and `ESC ( % 6`.
     pub fn of_intermediates(intermediates: &[u8], last: u8) -> Function<'a>
         ensures { value_of result ≡ of_intermediates intermediates.now last }
     {
@@ -153,7 +153,7 @@ impl<'a> Function<'a> {
         }
     }
 
-    /// What a C1 control asks for, 80 to 9F (hexadecimal): the same as ESC and the byte 40 less
+    /// The request of a C1 control, 80 to 9F (hexadecimal): the same as ESC and the byte 40 less
     /// (ECMA-48, 5.3). Any other code has no name.
     pub fn of_c1(code: u8) -> Function<'a>
         ensures { value_of result ≡ of_c1 code }
@@ -166,7 +166,7 @@ impl<'a> Function<'a> {
     }
 }
 
-// What a function with these parameters asks for.
+// The request of a function with these parameters.
 fn of_function(function: ControlFunction, params: &[CsiParam]) -> Function<'_>
     ensures { value_of result ≡ of_named (Some function) params.now }
 {
@@ -184,7 +184,7 @@ fn of_function(function: ControlFunction, params: &[CsiParam]) -> Function<'_>
     }
 }
 
-// What one choice makes, or several.
+// The value of one choice, or of several.
 fn several(function: ControlFunction, params: &[CsiParam]) -> Function<'_>
     ensures { value_of result ≡ several function params.now (arguments Kind.Selector params.now) }
 {
@@ -195,7 +195,7 @@ fn several(function: ControlFunction, params: &[CsiParam]) -> Function<'_>
     }
 }
 
-// What a function with these parameters makes.
+// The value of a function with these parameters.
 fn made<'a>(function: ControlFunction, arguments: Arguments) -> Function<'a>
     ensures { value_of result ≡ made function arguments }
 {

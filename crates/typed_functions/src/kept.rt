@@ -7,8 +7,8 @@ use crate::entries::is_byte;
 use crate::renditions::len_before;
 use esc_values::CsiParam;
 
-// The entries before the last `;`: those of items that are whole, where more entries came after
-// these. `None` where there is no `;`.
+// The entries before the last `;`: those of items that are whole, if more entries came after these.
+// `None` if there is no `;`.
 pub(crate) fn whole_entries(entries: &[CsiParam]) -> Option<&[CsiParam]>
     ensures { option_map (λ x. x.now) result ≡ whole_entries entries.now }
 {

@@ -10,7 +10,7 @@ use crate::one_based::Ordinal;
 use crate::spelling::{Spelling, write_spelling};
 use std::fmt;
 
-/// What is asked of how keys are reported, by the names of termwiz.
+/// A request about the reports of keys, by the names of termwiz.
 #[derive(Clone, Copy, Debug)]
 pub enum Keyboard {
     /// `CSI ? .. u`, KITTYQUERY: which flags are set.

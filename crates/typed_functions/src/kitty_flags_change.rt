@@ -1,8 +1,8 @@
-//! What is done with flags of kitty's keyboard protocol.
+//! The operation on flags of kitty's keyboard protocol.
 ghost use Rattle.std.specs.Prelude.{◌≡◌};
 ghost use Rattle.typed_functions.specs.Choices.{kitty_flags_change_at, kitty_flags_change_number};
 
-/// What is done with flags of kitty's keyboard protocol (its page, `CSI = flags ; mode u`).
+/// The operation on flags of kitty's keyboard protocol (its page, `CSI = flags ; mode u`).
 #[derive(Clone, Copy, Debug, PartialEq, Eq)]
 pub enum KittyFlagsChange {
     /// 1: these are set and all others are not.
@@ -22,7 +22,7 @@ impl KittyFlagsChange {
         self as u8
     }
 
-    /// The choice of a number, where there is one.
+    /// The choice of a number, if there is one.
     #[inline]
     pub fn of_number(number: u8) -> Option<KittyFlagsChange>
         ensures { result ≡ kitty_flags_change_at number }

@@ -1,4 +1,4 @@
-//! Laws of typed values: nothing of renditions is lost, and what is written reads back.
+//! Laws of typed values: nothing of renditions is lost, and a value that is written reads back.
 ghost use Rattle.std.specs.Prelude.{◌≡◌, ℕ, List, ◌∷◌, map, Option, Some};
 ghost use Rattle.esc_values.specs.declared.csi_param.CsiParam.{CsiParam};
 ghost use Rattle.typed_functions.specs.declared.mouse.Mouse.{Mouse};
@@ -47,49 +47,50 @@ pub fn list_reads_back()
         ≡ map spelled_rendition (r ∷ rs) }
 {}
 
-/// What is written of the cursor, in its normal spelling, is read as the same.
+/// A request about the cursor, written in its normal spelling, is read as the same.
 #[tactic(auto, using(crate::proofs::Spelled::cursor_back))]
 pub fn cursor_reads_back()
     ensures { (c : Cursor) → AreArguments (cursor_spelling c).arguments
         → of_params (entries (cursor_spelling c)) (cursor_spelling c).last ≡ cursor c }
 {}
 
-/// What is written of an edit, in its normal spelling, is read as the same.
+/// An edit, written in its normal spelling, is read as the same.
 #[tactic(auto, using(crate::proofs::Spelled::edit_back))]
 pub fn edit_reads_back()
     ensures { (e : Edit) → AreArguments (edit_spelling e).arguments
         → of_params (entries (edit_spelling e)) (edit_spelling e).last ≡ edit e }
 {}
 
-/// What is asked of the terminal itself, in its normal spelling, is read as the same.
+/// A request to the terminal itself, written in its normal spelling, is read as the same.
 #[tactic(auto, using(crate::proofs::Spelled::device_back))]
 pub fn device_reads_back()
     ensures { (d : Device) → AreArguments (device_spelling d).arguments
         → of_params (entries (device_spelling d)) (device_spelling d).last ≡ device d }
 {}
 
-/// What is asked of how keys are reported, in its normal spelling, is read as the same.
+/// A request about the reports of keys, written in its normal spelling, is read as the same.
 #[tactic(auto, using(crate::proofs::Spelled::keyboard_back))]
 pub fn keyboard_reads_back()
     ensures { (d : Keyboard) → AreArguments (keyboard_spelling d).arguments
         → of_params (entries (keyboard_spelling d)) (keyboard_spelling d).last ≡ keyboard d }
 {}
 
-/// What is reported of the mouse, in its normal spelling, is read as the same.
+/// A report of the mouse, written in its normal spelling, is read as the same.
 #[tactic(auto, using(crate::proofs::Spelled::mouse_back))]
 pub fn mouse_reads_back()
     ensures { (m : Mouse) → AreArguments (mouse_spelling m).arguments
         → of_params (entries (mouse_spelling m)) (mouse_spelling m).last ≡ mouse m }
 {}
 
-/// What is asked or reported of the window, in its normal spelling, is read as the same.
+/// A request or a report about the window, written in its normal spelling, is read as the same.
 #[tactic(auto, using(crate::proofs::Spelled::window_back))]
 pub fn window_reads_back()
     ensures { (w : Window) → IsWindow w → AreArguments (window_spelling w).arguments
         → of_params (entries (window_spelling w)) (window_spelling w).last ≡ window w }
 {}
 
-/// What is asked or reported of the state of a mode, in its normal spelling, is read as the same.
+/// A request or a report about the state of a mode, written in its normal spelling, is read as the
+/// same.
 #[tactic(auto, using(crate::proofs::Spelled::mode_status_back))]
 pub fn mode_status_reads_back()
     ensures { (s : ModeStatus) → AreArguments (mode_status_spelling s).arguments

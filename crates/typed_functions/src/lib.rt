@@ -1,5 +1,5 @@
 //! Typed values of control sequences, escape sequences and C1 controls, for callers that match
-//! them: a [`Function`] is what one asks for, with its parameters as numbers, and [`Renditions`]
+//! them: a [`Function`] is the request of one, with its parameters as numbers, and [`Renditions`]
 //! gives those of SGR one after another. The standards: ECMA-48
 //! (<https://ecma-international.org/publications-and-standards/standards/ecma-48/>), ISO 8613-6 for
 //! the parts of colours, DEC's manual of the VT510

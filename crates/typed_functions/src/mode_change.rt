@@ -1,7 +1,7 @@
-//! What is done to modes.
+//! The operation on modes.
 
-/// What a control sequence does to modes (ECMA-48, 8.3.125 and 8.3.106, SM and RM; DEC's VT510,
-/// DECSET and DECRST; xterm's list, XTSAVE and XTRESTORE).
+/// The operation of a control sequence on modes (ECMA-48, 8.3.125 and 8.3.106, SM and RM; DEC's
+/// VT510, DECSET and DECRST; xterm's list, XTSAVE and XTRESTORE).
 #[derive(Clone, Copy, Debug, PartialEq, Eq)]
 pub enum ModeChange {
     /// `CSI .. h`, SM: modes of ECMA-48 are set.

@@ -7,7 +7,7 @@ use esc_values::CsiParam;
 #[derive(Clone, Copy, Debug, PartialEq)]
 pub struct ModeNumber<'a> {
     /// The number of the mode, as those of `PrivateMode` and `Mode` of `control_functions`, or of
-    /// the choice. `None` where the parameter is no number; for a choice that is left out 0 holds.
+    /// the choice. `None` if the parameter is no number; a choice that is left out is 0.
     pub number: Option<u64>,
     /// The parameter, as it came.
     pub entries: &'a [CsiParam],

@@ -2,7 +2,7 @@
 ghost use Rattle.std.specs.Prelude.{◌≡◌};
 ghost use Rattle.typed_functions.specs.Choices.{mode_state_at, mode_state_number};
 
-/// What a terminal reports of a mode (DEC's VT510, DECRPM).
+/// The state of a mode that a terminal reports (DEC's VT510, DECRPM).
 #[derive(Clone, Copy, Debug, PartialEq, Eq)]
 pub enum ModeState {
     /// 0: it does not know the mode.
@@ -26,7 +26,7 @@ impl ModeState {
         self as u8
     }
 
-    /// The state of a number, where there is one.
+    /// The state of a number, if there is one.
     #[inline]
     pub fn of_number(number: u32) -> Option<ModeState>
         ensures { result ≡ mode_state_at number }

@@ -8,8 +8,8 @@ use crate::mode_state::ModeState;
 use crate::spelling::{Spelling, write_spelling};
 use std::fmt;
 
-/// What is asked and reported of a mode. Its number is that of a `Mode` or a `PrivateMode` of
-/// `control_functions`, where it has a name.
+/// A request or a report about a mode. Its number is that of a `Mode` or a `PrivateMode` of
+/// `control_functions`, if it has a name.
 #[derive(Clone, Copy, Debug)]
 pub enum ModeStatus {
     /// `CSI .. $ p`, DECRQM: the state of this mode of ECMA-48 is asked for.

@@ -50,7 +50,7 @@ impl<'a> Iterator for Modes<'a> {
 
 impl<'a> FusedIterator for Modes<'a> {}
 
-// The number of a parameter, where it is one.
+// The number of a parameter, if it is one.
 fn mode_number(entries: &[CsiParam]) -> Option<u64>
     ensures { result ≡ mode_number entries.now }
 {

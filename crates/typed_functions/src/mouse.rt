@@ -8,7 +8,7 @@ use crate::one_based::Ordinal;
 use crate::spelling::{Spelling, write_spelling};
 use std::fmt;
 
-/// What a terminal reports of the mouse. The button is xterm's number, with the modifiers in it.
+/// A report of the mouse. The button is xterm's number, with the modifiers in it.
 #[derive(Clone, Copy, Debug)]
 pub enum Mouse {
     /// `CSI < .. M`, MOUSE: a button is pressed, or the pointer moved.

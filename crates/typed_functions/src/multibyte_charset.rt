@@ -56,7 +56,7 @@ impl MultibyteCharset {
         self.final_byte() <= b'B'
     }
 
-    /// The set that a final byte names, where there is one.
+    /// The set that a final byte names, if there is one.
     pub fn of_final_byte(byte: u8) -> Option<MultibyteCharset>
         ensures { result ≡ multibyte_at byte }
     {

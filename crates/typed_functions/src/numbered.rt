@@ -112,7 +112,7 @@ fn bright(number: u8) -> Option<Rendition>
     }
 }
 
-// The number that asks for a rendition, where one does.
+// The number that asks for a rendition, if one does.
 pub(crate) fn number_of(rendition: Rendition) -> Option<u8>
     ensures { result ≡ number_of rendition }
 {

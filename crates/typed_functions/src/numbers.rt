@@ -95,7 +95,7 @@ fn margins(first: Option<u64>, last: Option<u64>) -> Result<Arguments, Unfit>
     Ok(Arguments::Margins(first, last_of(last)?))
 }
 
-// The last line or column, where there is one.
+// The last line or column, if there is one.
 fn last_of(number: Option<u64>) -> Result<Option<Ordinal>, Unfit>
     ensures { result ≡ last_of number }
 {
@@ -134,7 +134,7 @@ fn byte_or(default: u8, number: Option<u64>) -> Result<u8, Unfit>
     }
 }
 
-// Flags, and what is done with them.
+// Flags, and the operation on them.
 fn flags(bits: Option<u64>, change: Option<u64>) -> Result<Arguments, Unfit>
     ensures { result ≡ flags bits change }
 {
@@ -180,7 +180,7 @@ fn first_word(number: Option<u64>) -> Result<u32, Unfit>
     }
 }
 
-// Such a number, where there is one.
+// Such a number, if there is one.
 fn word_of(number: Option<u64>) -> Result<Option<u32>, Unfit>
     ensures { result ≡ word_of number }
 {
@@ -240,7 +240,7 @@ fn two(entries: &[CsiParam]) -> Result<(Option<u64>, Option<u64>), Unfit>
     }
 }
 
-// The next parameter, a number or nothing, and what follows its `;`.
+// The next parameter, a number or nothing, and the rest after its `;`.
 fn next(entries: &[CsiParam]) -> Result<(Option<u64>, Option<&[CsiParam]>), Unfit>
     ensures ok { IfOk result (λ p.
         next entries.now ≡ Ok (p.0, option_map (λ es. es.now) p.1)) }
@@ -250,7 +250,7 @@ fn next(entries: &[CsiParam]) -> Result<(Option<u64>, Option<&[CsiParam]>), Unfi
     Ok((number, more(rest)?))
 }
 
-// The number that comes first, where one does, and what follows.
+// The first number, if one comes first, and the rest.
 fn number_first(entries: &[CsiParam]) -> (Option<u64>, &[CsiParam])
     ensures { number_first entries.now ≡ (result.0, result.1.now) }
 {
@@ -266,7 +266,7 @@ fn number_first(entries: &[CsiParam]) -> (Option<u64>, &[CsiParam])
     }
 }
 
-// What follows a number: intermediates alone, or `;` and more.
+// The rest after a number: intermediates alone, or `;` and more.
 fn more(entries: &[CsiParam]) -> Result<Option<&[CsiParam]>, Unfit>
     ensures ok { IfOk result (λ o. more entries.now ≡ Ok (option_map (λ es. es.now) o)) }
     ensures err { IfErr result (λ u. more entries.now ≡ Err u) }

@@ -69,7 +69,7 @@ impl PairCharset {
         }
     }
 
-    /// The set that an intermediate and a final byte name, where there is one.
+    /// The set that an intermediate and a final byte name, if there is one.
     pub fn of_bytes(intermediate: u8, last: u8) -> Option<PairCharset>
         ensures { result ≡ pair_at intermediate last }
     {

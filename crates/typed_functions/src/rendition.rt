@@ -19,8 +19,8 @@ use esc_sequences::{Intensity, Underline};
 use esc_values::CsiParam;
 use std::fmt;
 
-/// How characters are shown from here on: one of what the control function Select Graphic Rendition
-/// asks for.
+/// The look of the next characters: one of the renditions that the control function Select Graphic
+/// Rendition asks for.
 #[derive(Clone, Copy, Debug, PartialEq, Eq)]
 pub enum Rendition {
     /// 0, or nothing: each rendition as at first.
@@ -53,7 +53,7 @@ pub enum Rendition {
     Background(ColorSpec),
     /// 58 or 59: the colour of their underline.
     UnderlineColor(ColorSpec),
-    /// 51, 52 or 54: what is drawn round them.
+    /// 51, 52 or 54: the frame round them.
     Frame(Frame),
     /// 53 or 55: whether they have a line above.
     Overline(bool),
@@ -64,8 +64,8 @@ pub enum Rendition {
 }
 
 impl Rendition {
-    /// The rendition of its entries, which are those between two `;`, or, of a colour after 38, 48
-    /// or 58, those up to the `;` after its last number. `None` where none is known.
+    /// The rendition of its entries, which are those between two `;`, or, for a colour after 38, 48
+    /// or 58, those up to the `;` after its last number. `None` if none is known.
     #[inline]
     pub fn of_entries(entries: &[CsiParam]) -> Option<Rendition>
         ensures { result ≡ rendition_of entries.now }
@@ -80,7 +80,7 @@ impl Rendition {
     }
 }
 
-// The rendition of a number and what follows it.
+// The rendition of a number and the entries after it.
 fn with_more(number: u8, rest: &[CsiParam]) -> Option<Rendition>
     ensures { result ≡ with_more number rest.now }
 {
@@ -123,7 +123,7 @@ fn on_target(number: u8, color: ColorSpec) -> Rendition
     }
 }
 
-// The underline of what follows 4.
+// The underline by the entries after 4.
 fn underlined(entries: &[CsiParam]) -> Option<Underline>
     ensures { result ≡ underlined entries.now }
 {
@@ -166,10 +166,10 @@ fn underline_number(kind: Underline) -> u8
     }
 }
 
-/// Writes the parameters that ask for it, in one normal spelling: one number, where one asks for
-/// it, and 0 for a reset; `4:3` to `4:5`; `38;5;n` and `38;2;r;g;b`, and the same of 48; `58:5:n`
-/// and `58:2:r:g:b`. Several renditions are written with `;` between them, after `ESC [` and before
-/// `m`. Where it returns `Ok`, all of it was written.
+/// Writes the parameters that ask for it, in one normal spelling: one number, if one asks for it,
+/// and 0 for a reset; `4:3` to `4:5`; `38;5;n` and `38;2;r;g;b`, and the same of 48; `58:5:n` and
+/// `58:2:r:g:b`. Several renditions are written with `;` between them, after `ESC [` and before
+/// `m`. If it returns `Ok`, all of it was written.
 impl fmt::Display for Rendition {
     ghost output = { λ r. Some (csi_params_text (normal_params r)) };
 

@@ -11,10 +11,11 @@ use std::iter::FusedIterator;
 
 /// The renditions of the parameters of a control sequence SGR, in order. It takes no memory.
 ///
-/// What is between two `;` is one rendition, and nothing there is a reset (ECMA-48, 5.4.2). After
-/// 38, 48 or 58 and `;` a colour goes on: with 5 and one number, or with 2 and three. Of any other
-/// kind nobody can say where it ends, so all that is left is one item without a rendition. An item
-/// keeps its entries: those of all items, with `;` between them, are the parameters.
+/// The entries between two `;` are one rendition, and no entry there is a reset (ECMA-48, 5.4.2).
+/// After 38, 48 or 58 and `;` a colour goes on: with 5 and one number, or with 2 and three. Nobody
+/// can say where a colour of any other kind ends, so the whole rest is one item without a
+/// rendition. An item keeps its entries: those of all items, with `;` between them, are the
+/// parameters.
 #[derive(Clone, Copy, Debug)]
 pub struct Renditions<'a> {
     rest: Option<&'a [CsiParam]>,
@@ -55,7 +56,7 @@ impl<'a> Iterator for Renditions<'a> {
 
 impl<'a> FusedIterator for Renditions<'a> {}
 
-// What follows so many entries and a `;`, where there is more.
+// The rest after so many entries and a `;`, if there is more.
 pub(crate) fn after(entries: &[CsiParam], len: usize) -> Option<&[CsiParam]>
     requires { len ≤ length entries.now }
     ensures { option_map (λ x. x.now) result
@@ -76,7 +77,7 @@ fn first_len(entries: &[CsiParam]) -> usize
     len_before(separators(entries), entries)
 }
 
-// How many entries come before the `;` after so many others, or in all where there is none.
+// The number of entries before the `;` after so many others, or in all if there is none.
 pub(crate) fn len_before(count: usize, entries: &[CsiParam]) -> usize
     ensures len { result ≡ len_before count entries.now }
     ensures few { result ≤ length entries.now }

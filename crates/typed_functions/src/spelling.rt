@@ -94,7 +94,7 @@ pub(crate) fn write_spelling<W: fmt::Write>(
     f.write_char(char::from(spelling.last))
 }
 
-// Writes a private prefix or an intermediate, where there is one.
+// Writes a private prefix or an intermediate, if there is one.
 fn write_mark<W: fmt::Write>(mark: Option<u8>, f: &mut fmt::Formatter<W>) -> fmt::Result
     ensures { DisplaysOnOk W.write_str_gives f.old result
         (Some (csi_params_text (mark_entries mark))) f.new }

@@ -1,6 +1,6 @@
-//! What is done to tab stops.
+//! The operation on tab stops.
 
-/// What a control sequence with several choices does to tab stops.
+/// The operation of a control sequence with several choices on tab stops.
 #[derive(Clone, Copy, Debug, PartialEq, Eq)]
 pub enum TabChange {
     /// `CSI .. g`, TBC (ECMA-48, 8.3.154): they are cleared. A choice is that of

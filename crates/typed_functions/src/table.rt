@@ -1,4 +1,4 @@
-//! The tables of typed values: what a control function makes of its parameters.
+//! The tables of typed values: the value that a control function makes of its parameters.
 ghost use Rattle.std.specs.Prelude.{◌≡◌};
 ghost use Rattle.typed_functions.specs.Functions.{asked, bare, bounded, change_of, counted, flagged, kind_of, listed, placed, reported, selected, state_of, tab_change_of, value_of};
 
@@ -24,7 +24,7 @@ use crate::unfit::Unfit;
 use crate::window_operations::operation;
 use control_functions::ControlFunction;
 
-// Which parameters a function has, where it has a typed value.
+// The parameters of a function, if it has a typed value.
 pub(crate) fn kind_of(function: ControlFunction) -> Option<Kind>
     ensures { result ≡ kind_of function }
 {
@@ -220,7 +220,7 @@ pub(crate) fn selected<'a>(function: ControlFunction, n: u8) -> Function<'a>
     }
 }
 
-// Functions with flags and what is done with them.
+// Functions with flags and the operation on them.
 pub(crate) fn flagged<'a>(function: ControlFunction, a: u8, b: u8) -> Function<'a>
     ensures { value_of result ≡ flagged function a b }
 {
@@ -290,7 +290,7 @@ fn asked<'a>(status: ModeStatus, b: Option<u32>, c: Option<u32>) -> Function<'a>
     }
 }
 
-// The state of a mode, of which nothing more is reported.
+// The state of a mode, if nothing more is reported.
 fn state_of(b: Option<u32>, c: Option<u32>) -> Result<ModeState, Unfit>
     ensures { result ≡ state_of b c }
 {
@@ -315,7 +315,7 @@ fn status_asked<'a>(n: u8) -> Function<'a>
     }
 }
 
-// What is done to tab stops.
+// The operation on tab stops.
 pub(crate) fn tab_change_of(function: ControlFunction) -> TabChange
     ensures { result ≡ tab_change_of function }
 {
@@ -325,7 +325,7 @@ pub(crate) fn tab_change_of(function: ControlFunction) -> TabChange
     }
 }
 
-// What is done to modes.
+// The operation on modes.
 pub(crate) fn change_of(function: ControlFunction) -> ModeChange
     ensures { result ≡ change_of function }
 {

@@ -28,7 +28,7 @@ impl TabulationClear {
         self as u8
     }
 
-    /// The choice of a number, where there is one.
+    /// The choice of a number, if there is one.
     #[inline]
     pub fn of_number(number: u8) -> Option<TabulationClear>
         ensures { result ≡ tabulation_clear_at number }

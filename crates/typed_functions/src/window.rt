@@ -7,8 +7,8 @@ use crate::arguments::Arguments;
 use crate::spelling::{Spelling, write_spelling};
 use std::fmt;
 
-/// What is asked or reported of the window, `CSI .. t`, by the names of termwiz. Sizes are in
-/// pixels or, where the name says so, in cells.
+/// A request or a report about the window, `CSI .. t`, by the names of termwiz. Sizes are in pixels
+/// or, if the name says so, in cells.
 ///
 /// A terminal reports that a window is open or iconified as `DeIconify` and `Iconify`, its place as
 /// `MoveWindow`, and its sizes as `ResizeWindowPixels` and `ResizeWindowCells`: no other sequence
@@ -24,7 +24,8 @@ pub enum Window {
         x: u32,
         y: u32,
     },
-    /// 4: it is given this size. What is left out stays as it is, and 0 is the size of the screen.
+    /// 4: it is given this size. A size that is left out stays as it is, and 0 is the size of the
+    /// screen.
     ResizeWindowPixels {
         height: Option<u32>,
         width: Option<u32>,
@@ -45,8 +46,8 @@ pub enum Window {
     },
     /// 7: it is drawn again.
     RefreshWindow,
-    /// 8: its text area is given this size. What is left out stays as it is, and 0 is the size of
-    /// the screen.
+    /// 8: its text area is given this size. A size that is left out stays as it is, and 0 is the
+    /// size of the screen.
     ResizeWindowCells {
         height: Option<u32>,
         width: Option<u32>,

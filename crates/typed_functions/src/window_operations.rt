@@ -1,4 +1,4 @@
-//! What a control sequence of the window asks for, by its numbers.
+//! The request of a control sequence of the window, by its numbers.
 ghost use Rattle.std.specs.Prelude.{◌≡◌};
 ghost use Rattle.typed_functions.specs.Windows.{alone, filled, lowered, maximized, moved, operation, operation_below, placed, popped, popped_title, pushed, pushed_title, raised, reports, sized};
 

@@ -2,7 +2,7 @@ use Rattle.std.proofs.Common.{length, drop, ◌-◌, ◌≡◌, ◌≤◌, ◌+�
 use Rattle.typed_functions.specs.Selections.{len_before}
 use Rattle.typed_functions.proofs.renditions.len_before.Given as goal
 
--- what is left decides
+-- the rest decides
 abbrev pub invariant-loop-len : goal.invariant-loop-len
 invariant-loop-len l =
     (l.len ≤ length l.entries)
