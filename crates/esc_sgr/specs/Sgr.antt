@@ -63,7 +63,7 @@ colors_text l = color_text 30 (codes ";38;5") (codes ";38;2") l.foreground
     ++ (color_text 40 (codes ";48;5") (codes ";48;2") l.background
     ++ underline_color_text l.underline_color)
 
--- what makes the look, whatever held before
+-- the text that makes the look, whatever held before
 abbrev pub look_text : Look → List ℕ
 look_text l = 0x1b ∷ codes "[0"
     ++ (weight_text l.bold l.faint ++ (underline_text l.underline
@@ -111,6 +111,6 @@ same_look a b = underline_code a.underline == underline_code b.underline && same
     && same_color a.foreground b.foreground && same_color a.background b.background
     && same_color a.underline_color b.underline_color
 
--- what makes a look where another holds: nothing, where they are the same
+-- the text that makes a look when another holds: nothing, if they are the same
 abbrev pub change_text : Look → Look → List ℕ
 change_text a b = if same_look a b then [] else look_text b

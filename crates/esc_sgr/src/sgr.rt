@@ -10,7 +10,7 @@ use esc_style::{Color, Look};
 use esc_values::RgbColor;
 use std::alloc::{AllocError, Allocator};
 
-/// Appends what makes a look where another holds: nothing, where they are the same.
+/// Appends the text that makes a look when another holds: nothing, if they are the same.
 #[inline]
 pub fn push_change<A: Allocator>(
     text: &mut String<A>,
@@ -27,7 +27,7 @@ pub fn push_change<A: Allocator>(
     push_look(text, to)
 }
 
-// Appends what makes a look, whatever held before.
+// Appends the text that makes a look, whatever held before.
 fn push_look<A: Allocator>(text: &mut String<A>, look: &Look) -> Result<(), AllocError>
     ensures ok { OnOk result (string_bytes text.new
         ≡ string_bytes text.old ++ look_text look.now) }

@@ -24,7 +24,7 @@ color_name ansi.BrightMagenta = codes "bright-magenta"
 color_name ansi.BrightCyan = codes "bright-cyan"
 color_name ansi.BrightWhite = codes "bright-white"
 
--- the class of a colour of characters, of what is around them, and of their underline
+-- the class of a colour of characters, of their background, and of their underline
 abbrev pub foreground_name : AnsiColor → List ℕ
 foreground_name c = codes "fg-" ++ color_name c
 

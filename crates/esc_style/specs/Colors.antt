@@ -1,4 +1,4 @@
--- Colours of characters, of what is around them, and of their underline.
+-- Colours of characters, of their background, and of their underline.
 use Rattle.std.specs.Prelude.{ℕ, ◌+◌, ◌-◌, ◌*◌, ◌/◌, ◌%◌, ◌==◌, Bool, nat_le, nat_lt, if◌then◌else◌, List, [], ◌∷◌, ◌++◌}
 use Rattle.typed_functions.specs.Numbers.{ansi_color_at}
 use Rattle.typed_functions.specs.declared.color_spec.ColorSpec.{ColorSpec}

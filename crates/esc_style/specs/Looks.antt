@@ -77,7 +77,7 @@ abbrev pub look_by_all : Look → List (Option Rendition × List CsiParam) → L
 look_by_all l [] = l
 look_by_all l (r ∷ rs) = look_by_all (look_by_optional l r.0) rs
 
--- after what a control sequence asks for: any but SGR leaves it
+-- after the request of a control sequence: any but SGR leaves it
 abbrev pub look_for : Look → Value → Look
 look_for l (renditions rs) = look_by_all l rs
 look_for l _ = l
@@ -125,7 +125,7 @@ abbrev pub underline_color_style : Color → Option Style
 underline_color_style (color.Direct c) = Some (style.TextDecorationColor c.0 c.1 c.2)
 underline_color_style _ = None
 
--- the colour in which characters are shown, and the one around them: exchanged where it is inverse
+-- the colour in which characters are shown, and the one around them: exchanged if it is inverse
 abbrev pub shown_foreground : Look → Color
 shown_foreground l = if l.inverse then l.background else l.foreground
 

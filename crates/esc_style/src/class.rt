@@ -36,13 +36,13 @@ pub enum Class {
     Overline,
     /// SGR 30 to 37 and 90 to 97: the colour of the characters.
     Foreground(AnsiColor),
-    /// SGR 40 to 47 and 100 to 107: the colour of what is around them.
+    /// SGR 40 to 47 and 100 to 107: the colour of their background.
     Background(AnsiColor),
     /// `58;5;0` to `58;5;15`: the colour of the underline.
     UnderlineColor(AnsiColor),
     /// `38;5;16` to `38;5;255`: the colour of the characters, an entry of the palette.
     PaletteForeground(u8),
-    /// `48;5;16` to `48;5;255`: that of what is around them.
+    /// `48;5;16` to `48;5;255`: that of their background.
     PaletteBackground(u8),
     /// `58;5;16` to `58;5;255`: that of the underline.
     PaletteUnderline(u8),

@@ -5,7 +5,7 @@ ghost use Rattle.esc_style.specs.Colors.{color_at, color_code, color_of, hex_dig
 use esc_values::RgbColor;
 use typed_functions::{AnsiColor, ColorSpec};
 
-/// A colour of characters, of what is around them, or of their underline.
+/// A colour of characters, of their background, or of their underline.
 #[derive(Clone, Copy, Debug, PartialEq, Eq)]
 pub enum Color {
     /// The page's own.
@@ -19,7 +19,7 @@ pub enum Color {
 }
 
 impl Color {
-    /// The colour that a rendition asks for. Of the palette of 256 colours, the first 16 are those
+    /// The colour that a rendition asks for. The first 16 colours of the palette of 256 are those
     /// with names.
     pub fn of(color: ColorSpec) -> Color
         ensures { result ≡ color_of color }

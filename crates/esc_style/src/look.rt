@@ -63,8 +63,8 @@ impl Look {
         }
     }
 
-    /// Takes what a control sequence asks for: its renditions, one after another, where its
-    /// function is SGR. Any other leaves it, and so does a rendition that is not known.
+    /// Takes the request of a control sequence: its renditions, one after another, if its function
+    /// is SGR. Any other leaves it, and so does a rendition that is not known.
     pub fn apply<A: Allocator>(&mut self, csi: &CSI<A>)
         ensures { self.new ≡ look_after self.old (csi_value csi.now) }
     {
@@ -125,7 +125,7 @@ impl Look {
         }
     }
 
-    // Takes one, where it is known.
+    // Takes one, if it is known.
     fn select_optional(&mut self, rendition: Option<Rendition>)
         ensures { self.new ≡ look_by_optional self.old rendition }
     {

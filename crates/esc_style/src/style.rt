@@ -12,7 +12,7 @@ use esc_values::RgbColor;
 pub enum Style {
     /// `color`: that of the characters.
     Color(u8, u8, u8),
-    /// `background-color`: that of what is around them.
+    /// `background-color`: that of their background.
     BackgroundColor(u8, u8, u8),
     /// `text-decoration-color`: that of their underline.
     TextDecorationColor(u8, u8, u8),
