@@ -1,4 +1,4 @@
--- What the header events of any stream give.
+-- The values of the header events of any stream.
 use Rattle.std.proofs.Common.{ℕ, ℤ, pos, ◌≡◌, ◌≤◌, ◌==◌, nat_lt, Bool, true, false, if◌then◌else◌, List, [], ◌∷◌, length, map, take}
 use Rattle.std.proofs.Common.{refl, ap, sym, ◌∙◌, subst, arith, inl, inr, take_all}
 use Rattle.std.specs.List.{list_all, list_any, take_while}
@@ -29,7 +29,7 @@ header_natural : (x : List ℕ) → AreNatural (dcs_params x)
 unfolding dcs_params
 header_natural x = are_natural (parts_of (take_while is_dcs_parameter (after_private_prefix x)))
 
--- what a header event says of its header
+-- the parts of its header that a header event has
 pub hook_parts : (f g : ℕ) (ps qs : List ℤ) (is js : List ℕ) (s t : Bool)
     → DcsHook f ps is s ≡ DcsHook g qs js t → (f ≡ g) × (ps ≡ qs) × (is ≡ js) × (s ≡ t)
 hook_parts f g ps qs is js s t e = (cc, cc, cc, cc)

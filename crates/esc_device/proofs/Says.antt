@@ -1,4 +1,4 @@
--- What the texts of device control strings say.
+-- The meaning of the texts of device control strings.
 use Rattle.std.proofs.Common.{ℕ, ℤ, ◌≡◌, ◌≤◌, ◌<◌, nat_lt, Bool, true, false, if◌then◌else◌, List, [], ◌∷◌, ◌++◌, length, take, Some, None}
 use Rattle.std.proofs.Common.{append-nil, append_assoc, take_all, refl, ap, sym, ◌∙◌, subst, arith}
 use Rattle.std.specs.List.{list_all}
@@ -56,7 +56,7 @@ hook_is x is f ps e k few =
     ∙ ap (λ js. DcsHook f ps js (nat_lt 2 (length is))) (take_all 2 is few)
     ∙ ap (DcsHook f ps is) (not_more is few)
 
--- such a string, where the text and the header's event have other names
+-- such a string, if the text and the header's event have other names
 says_as : (x d t is : List ℕ) (f : ℕ) (ps : List ℤ) → list_all is_body_byte x ≡ true
     → is_dcs_header x ≡ true → is_final f ≡ true → AreData d
     → string_text x f d ≡ t → dcs_params x ≡ ps → dcs_intermediates x ≡ is → length is ≤ 2

@@ -1,9 +1,9 @@
--- What a header of a device control string opens.
+-- The string that a header of a device control string opens.
 use Rattle.std.specs.Prelude.{ℕ, ◌==◌, Bool, true, false, if◌then◌else◌, List, [], ◌∷◌}
 use Rattle.esc_device.specs.declared.kind.StringKind.{StringKind}
 use Rattle.esc_device.specs.declared.kind.StringKind.TheVariants as kind
 
--- by the intermediates, where the final byte is `q`: none, `+`, `$`, others
+-- by the intermediates, if the final byte is `q`: none, `+`, `$`, others
 abbrev pub query_kind : List ℕ → StringKind
 query_kind [] = kind.Sixel
 query_kind (i ∷ []) =

@@ -1,4 +1,4 @@
--- What a builder was pushed.
+-- The bytes that a builder was pushed.
 use Rattle.std.specs.Prelude.{ℕ, ℤ, ◌≡◌, List, [], ◌∷◌, ◌++◌}
 use Rattle.esc_device.specs.Values.{short_of}
 use Rattle.esc_device.specs.declared.builder.ShortBuilder.{ShortBuilder}

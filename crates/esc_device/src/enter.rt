@@ -20,10 +20,10 @@ pub struct EnterDeviceControlMode<A: Allocator = Global> {
     pub byte: u8,
     /// The parameters. One that the header leaves out is 0.
     pub params: Items<i64, A>,
-    /// The intermediates: one from 3C to 3F, where the header begins with it, and those from 20 to
-    /// 2F (hexadecimal).
+    /// The intermediates: one from 3C to 3F, if the header begins with it, and those from 20 to 2F
+    /// (hexadecimal).
     pub intermediates: Items<u8, A>,
-    /// Whether the header has more than two intermediates, of which only the first two are kept.
+    /// Whether the header has more than two intermediates; only the first two are kept.
     pub ignored_extra_intermediates: bool,
 }
 
@@ -53,7 +53,7 @@ impl<A: Allocator + Copy> EnterDeviceControlMode<A> {
 /// Writes `ESC P`, the intermediates from 3C to 3F, the parameters with `;` between them, the other
 /// intermediates and the final byte. A byte is written as the character of the same number.
 ///
-/// Takes no memory, and errs only where the formatter's writer errs.
+/// Takes no memory, and errs only if the formatter's writer errs.
 impl<A: Allocator> Display for EnterDeviceControlMode<A> {
     ghost output = { λ e. Some (enter_text e) };
 

@@ -1,8 +1,8 @@
-//! What a header of a device control string opens.
+//! The string that a header of a device control string opens.
 ghost use Rattle.std.specs.Prelude.{◌≡◌};
 ghost use Rattle.esc_device.specs.Kinds.{kind_of};
 
-/// What the data of a device control string is.
+/// The kind of the data of a device control string.
 #[derive(Clone, Copy, Debug, PartialEq, Eq)]
 pub enum StringKind {
     /// A sixel image.
@@ -16,10 +16,10 @@ pub enum StringKind {
 }
 
 impl StringKind {
-    /// What a header with this final byte and these intermediates opens: with `q` a sixel image
-    /// where it has no intermediates, a termcap query where `+` is the only one, and a short
-    /// control where `$` is. Every other header, and each of which intermediates were left out,
-    /// enters a mode. Takes no memory.
+    /// The string that a header with this final byte and these intermediates opens: with `q` a
+    /// sixel image if it has no intermediates, a termcap query if `+` is the only one, and a short
+    /// control if `$` is. Every other header, and each with intermediates left out, enters a mode.
+    /// Takes no memory.
     pub fn of_header(
         byte: u8,
         intermediates: &[u8],

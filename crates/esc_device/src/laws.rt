@@ -1,5 +1,5 @@
-//! Laws of device control strings: the header that is written is read, what is written says its own
-//! header and data, whatever follows it, and what is read can be written.
+//! Laws of device control strings: a header that is written is read, a text that is written has its
+//! own header and data, whatever follows it, and a string that is read can be written.
 ghost use Rattle.std.specs.Prelude.{◌≡◌, ℕ, ℤ, Bool, true, false, List};
 ghost use Rattle.std.specs.List.{list_all, list_any};
 ghost use Rattle.esc_values.specs.Params.{is_intermediate_byte};

@@ -1,6 +1,6 @@
 //! Device control strings that are neither sixel images nor termcap queries, as a part of
-//! `escape_stream`: modes that a string enters, short controls that are given whole, and which of
-//! these a header opens. The standards: ECMA-48, 5.6
+//! `escape_stream`: modes that a string enters, short controls that are given whole, and the string
+//! that a header opens. The standards: ECMA-48, 5.6
 //! (<https://ecma-international.org/publications-and-standards/standards/ecma-48/>); for a header
 //! <https://vt100.net/emu/dec_ansi_parser>; for the short control xterm's DECRQSS
 //! (<https://invisible-island.net/xterm/ctlseqs/ctlseqs.html>, "Device-Control functions"), by

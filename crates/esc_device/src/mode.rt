@@ -1,4 +1,4 @@
-//! What device control strings give, but for images and termcap queries.
+//! The actions of device control strings, but for images and termcap queries.
 ghost use Rattle.std.specs.Prelude.{Some};
 ghost use Rattle.esc_device.specs.Texts.{mode_text};
 
@@ -28,7 +28,7 @@ pub enum DeviceControlMode<A: Allocator = Global> {
 /// Writes the header, the short control with its string terminator, or the character of the byte's
 /// number; of `Exit` nothing.
 ///
-/// Takes no memory, and errs only where the formatter's writer errs.
+/// Takes no memory, and errs only if the formatter's writer errs.
 impl<A: Allocator> Display for DeviceControlMode<A> {
     ghost output = { λ m. Some (mode_text m) };
 

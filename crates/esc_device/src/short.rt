@@ -17,9 +17,9 @@ use std::fmt::{Debug, Display};
 pub struct ShortDeviceControl<A: Allocator = Global> {
     /// The parameters. One that the header leaves out is 0.
     pub params: Items<i64, A>,
-    /// The intermediates. Of a string that was read this is `$`.
+    /// The intermediates. In a string that was read this is `$`.
     pub intermediates: Items<u8, A>,
-    /// The final byte. Of a string that was read this is `q`.
+    /// The final byte. In a string that was read this is `q`.
     pub byte: u8,
     /// The data before the string terminator.
     pub content: Items<u8, A>,
@@ -28,7 +28,7 @@ pub struct ShortDeviceControl<A: Allocator = Global> {
 /// Writes `ESC P`, the parameters with `;` between them, the intermediates, the final byte, the
 /// data and the string terminator `ESC \`. A byte is written as the character of the same number.
 ///
-/// Takes no memory, and errs only where the formatter's writer errs.
+/// Takes no memory, and errs only if the formatter's writer errs.
 impl<A: Allocator> Display for ShortDeviceControl<A> {
     ghost output = { λ s. Some (short_text s) };
 
