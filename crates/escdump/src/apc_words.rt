@@ -36,7 +36,7 @@ fn add_row(row: Row, text: &[u8], to: &mut Phrase) {
     }
 }
 
-// Adds a command of kitty's graphics protocol, or what a terminal answers to one: its keys, and its
+// Adds a command of kitty's graphics protocol, or a terminal's answer to one: its keys, and its
 // data, which are in base64, but for an answer.
 fn add_image(fields: &'static str, text: &[u8], to: &mut Phrase) {
     let (keys, data) = cut(text, b';');
@@ -80,7 +80,7 @@ fn has_key(keys: &[u8], wanted: &[u8]) -> bool {
     false
 }
 
-// Whether keys say what is deleted, as `d=i`.
+// Whether keys say which images are deleted, as `d=i`.
 fn has_kind(keys: &[u8]) -> bool {
     let mut rest = Some(keys);
     for _ in 0..u64::MAX {

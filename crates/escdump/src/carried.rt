@@ -1,11 +1,12 @@
-//! What tmux passes on.
+//! Streams that tmux passes on.
 
 use crate::item::Item;
 use crate::kind::Kind;
 
-/// Whether tmux passes on what comes: a device control string that begins with `tmux;` holds a
-/// stream, in which each ESC comes twice, up to a string terminator (tmux(1), "allow-passthrough").
-/// Its ESC ends it for any other terminal, so what it holds comes as segments of its own.
+/// Whether tmux passes on the segments that come: a device control string that begins with `tmux;`
+/// holds a stream, in which each ESC comes twice, up to a string terminator (tmux(1),
+/// "allow-passthrough"). Its ESC ends it for any other terminal, so its stream comes as segments of
+/// its own.
 #[derive(Clone, Copy, Drop)]
 pub struct Carried {
     is_on: bool,

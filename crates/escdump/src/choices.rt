@@ -1,4 +1,4 @@
-//! What the first number of a control sequence chooses, by the standard that its function is of:
+//! The choices of the first number of a control sequence, by the standard that its function is of:
 //! ECMA-48, fifth edition, 8.3
 //! (<https://ecma-international.org/publications-and-standards/standards/ecma-48/>), the VT510's
 //! manual (<https://vt100.net/docs/vt510-rm/chapter4.html>), or xterm's list
@@ -96,7 +96,7 @@ const WINDOW: &str = "\
 20 ask for icon label
 21 ask for title";
 
-// The functions of which the first number chooses, and what.
+// The functions whose first number is a choice, and their choices.
 static CHOICES: [(ControlFunction, &str); 10] = [
     (ControlFunction::ED, IN_DISPLAY),
     (ControlFunction::DECSED, IN_DISPLAY),
@@ -110,7 +110,8 @@ static CHOICES: [(ControlFunction, &str); 10] = [
     (ControlFunction::XTWINOPS, WINDOW),
 ];
 
-/// What this number chooses, where it is the first of a sequence of this function and has words.
+/// The words for the choice of this number, if it is the first of a sequence of this function and
+/// has words.
 pub fn chosen_words(function: ControlFunction, number: i64) -> &'static str {
     for (chosen, words) in &CHOICES {
         if *chosen == function {

@@ -1,8 +1,8 @@
 //! Numbers of operating system commands.
 
 /// The number that the text of an operating system command begins with, up to a `;` or its end, as
-/// it comes: so it is known also where the text is longer than what is kept. Controls and bytes
-/// past 7F inside a number are passed over, as terminals do, and zeros may come first.
+/// it comes: so it is known also if the text is longer than the limit. Controls and bytes past 7F
+/// inside a number are passed over, as terminals do, and zeros may come first.
 #[derive(Clone, Copy, Drop)]
 pub struct Code {
     number: u64,
@@ -47,7 +47,7 @@ impl Code {
         }
     }
 
-    /// The number, where there is one.
+    /// The number, if there is one.
     pub fn number(&self) -> Option<u64> {
         if self.has_digit {
             Some(self.number)

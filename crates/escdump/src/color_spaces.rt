@@ -8,8 +8,8 @@ use crate::entries::{number_at, part_at};
 use dump_page::Phrase;
 use esc_values::CsiParam;
 
-// Kinds of colours: their numbers, with what comes before each of their components, or the words
-// of one that has none.
+// Kinds of colours: their numbers, with the words before each of their components, or the words of
+// one that has none.
 static KINDS: [(i64, &[&str]); 5] = [
     (0, &["defined by the terminal"]),
     (1, &["transparent"]),
@@ -28,7 +28,8 @@ const TOLERANCE_SPACE: usize = 8;
 // The places in a parameter after these are none of a colour.
 const PARTS: usize = 9;
 
-/// Adds the colour of a parameter by its parts, and what has it; returns whether it is one.
+/// Adds the colour of a parameter by its parts, and the thing that has it; returns whether it is
+/// one.
 pub fn add_spaced(entries: &[CsiParam], to: &mut Phrase) -> bool {
     let target = match number_at(entries, 0) {
         Some(38) => "foreground ",
@@ -43,7 +44,7 @@ pub fn add_spaced(entries: &[CsiParam], to: &mut Phrase) -> bool {
     }
 }
 
-// Adds a colour of red, green and blue, where each has two hexadecimal digits.
+// Adds a colour of red, green and blue, if each has two hexadecimal digits.
 fn add_channels(target: &'static str, entries: &[CsiParam], to: &mut Phrase) -> bool {
     match (
         channel(entries, 3),
@@ -80,7 +81,7 @@ fn add_kind(target: &'static str, kind: i64, entries: &[CsiParam], to: &mut Phra
     false
 }
 
-// Adds the components of a colour after these words, where each is given.
+// Adds the components of a colour after these words, if each is given.
 fn add_components(
     target: &'static str,
     words: &'static [&'static str],
@@ -128,7 +129,7 @@ pub fn add_space(entries: &[CsiParam], to: &mut Phrase) {
     add_beyond(PARTS, entries, to);
 }
 
-// Adds the whole parameter, where it has a part at this place: nobody says what that is.
+// Adds the whole parameter, if it has a part at this place: nobody gives a meaning to that part.
 fn add_beyond(place: usize, entries: &[CsiParam], to: &mut Phrase) {
     if part_at(entries, 0, place).is_some() {
         to.add(", of");

@@ -4,8 +4,8 @@ use dump_page::Phrase;
 use esc_values::RgbColor;
 use typed_functions::ColorSpec;
 
-/// Adds what has a colour, and the colour: `default`, `palette` and its place there, or `#` and its
-/// red, green and blue, each as two hexadecimal digits.
+/// Adds the thing that has a colour, and the colour: `default`, `palette` and its place there, or
+/// `#` and its red, green and blue, each as two hexadecimal digits.
 pub fn add_color(what: &'static str, color: ColorSpec, to: &mut Phrase) {
     to.add(what);
     match color {

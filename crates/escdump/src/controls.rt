@@ -45,7 +45,7 @@ fn add_c0(code: u8, to: &mut Phrase) {
     }
 }
 
-/// Adds a control of these bytes by its name, where it has one: of C0, or of C1 as one byte or two.
+/// Adds a control of these bytes by its name, if it has one: of C0, or of C1 as one byte or two.
 pub fn add_control(bytes: &[u8], to: &mut Phrase) {
     match bytes {
         [.., code] if *code < 0x20 => add_c0(*code, to),
@@ -54,8 +54,8 @@ pub fn add_control(bytes: &[u8], to: &mut Phrase) {
     }
 }
 
-// Adds a C1 control, 80 to 9F (hexadecimal). Those that no edition of ECMA-48 has are those of a
-// draft of ISO/IEC 10646 (RFC 1345).
+// Adds a C1 control, 80 to 9F (hexadecimal). Those that no edition of ECMA-48 has come from a draft
+// of ISO/IEC 10646 (RFC 1345).
 fn add_c1(code: u8, to: &mut Phrase) {
     match code {
         0x80 => return to.begin("control", "PAD", "padding character"),

@@ -7,9 +7,9 @@
 //! keyboard protocol (<https://sw.kovidgoyal.net/kitty/keyboard-protocol/>) and Windows Terminal's
 //! (<https://github.com/microsoft/terminal/blob/main/doc/specs/>, "#4999").
 //!
-//! A row is a line, with `^` between: the private prefix and the intermediates; what the parameters
-//! begin with; words, or nothing where they are those of the function; the fields of what is left
-//! of the parameters; and a name, where the library has none. The special ones come first.
+//! A row is a line, with `^` between: the private prefix and the intermediates; the beginning of
+//! the parameters; words, or nothing if they are those of the function; the fields of the rest of
+//! the parameters; and a name, if the library has none. The special ones come first.
 
 /// The table of the sequences of this final byte, if there is one.
 pub fn table_of(last: u8) -> &'static str {

@@ -13,7 +13,7 @@ use control_functions::{ControlFunction, Effect, Parameter, Parameters};
 use dump_page::Phrase;
 use esc_values::CsiParam;
 
-/// Adds a control sequence by its name, where it has one.
+/// Adds a control sequence by its name, if it has one.
 pub fn add_sequence(params: &[CsiParam], is_truncated: bool, last: u8, to: &mut Phrase) {
     let function = ControlFunction::of_csi_params(params, last);
     let table = table_of(last);
@@ -72,7 +72,7 @@ fn add_by_row(
     }
 }
 
-// Adds the name and the words of a row, or of the function, where the row has none.
+// Adds the name and the words of a row, or of the function, if the row has none.
 fn begin_row(row: Row, function: Option<ControlFunction>, to: &mut Phrase) {
     match function {
         Some(function) => {
@@ -98,7 +98,7 @@ fn add_marks(params: &[CsiParam], to: &mut Phrase) {
     }
 }
 
-// A text, where it is not empty.
+// A text, if it is not empty.
 fn not_empty(text: Option<&[u8]>) -> Option<&[u8]> {
     match text {
         Some([]) | None => None,
@@ -106,7 +106,7 @@ fn not_empty(text: Option<&[u8]>) -> Option<&[u8]> {
     }
 }
 
-// Adds a function by what its parameters are, where it has a name.
+// Adds a function by the kinds of its parameters, if it has a name.
 fn add_named(function: Option<ControlFunction>, params: &[CsiParam], last: u8, to: &mut Phrase) {
     let Some(function) = function else {
         to.begin("CSI", "", "without a name, of the final byte ");
@@ -206,8 +206,8 @@ fn add_one(params: &[CsiParam], to: &mut Phrase) {
     add_entries(after_first(params, 1), to);
 }
 
-// A function that does one thing or another: the words of it where the number at a place is left
-// out, and where it is given. Of none, its parameters are words enough.
+// A function that does one thing or another: its words if the number at a place is left out, and if
+// it is given. If they are empty, its parameters are words enough.
 #[derive(Clone, Copy)]
 struct Said(ControlFunction, usize, &'static str, &'static str);
 
@@ -256,8 +256,8 @@ static SAID: [Said; 12] = [
     ),
 ];
 
-// What the function does, in words: those of its row, but of one that asks or reports, by its
-// parameters.
+// The description of the function in words: that of its row, or for a function that asks or
+// reports, by its parameters.
 fn function_words(function: ControlFunction, params: &[CsiParam]) -> &'static str {
     for Said(said, place, asked, reported) in &SAID {
         if *said == function {
@@ -271,8 +271,8 @@ fn function_words(function: ControlFunction, params: &[CsiParam]) -> &'static st
     function.words()
 }
 
-// Adds the parameters of a function, each by what it is, with those that are left out where the
-// standard says what they are; those that come after them by their numbers.
+// Adds the parameters of a function, each by its kind, with those that are left out if the standard
+// has a default; those that come after them by their numbers.
 fn add_parameters(
     function: ControlFunction,
     each: &[Parameter],
@@ -289,7 +289,7 @@ fn add_parameters(
     }
 }
 
-// Adds the parameters from this place on, each by what it is.
+// Adds the parameters from this place on, each by its kind.
 fn add_each(
     each: &[Parameter],
     first: usize,
@@ -310,7 +310,7 @@ fn add_each(
     }
 }
 
-// Adds a rectangle and the page that it is copied from, and where it is put.
+// Adds a rectangle and the page that it is copied from, and the place that it is copied to.
 fn add_copy(each: &[Parameter], params: &[CsiParam], to: &mut Phrase) {
     let (from, put) = each.split_at(each.len().min(5));
     add_each(from, 0, false, params, " ", to);
@@ -368,7 +368,7 @@ fn without_marks(params: &[CsiParam]) -> &[CsiParam] {
     params
 }
 
-// Adds a parameter after a separator; returns what separates the next from it.
+// Adds a parameter after a separator; returns the separator of the next one.
 fn add_parameter(
     parameter: Parameter,
     number: Option<i64>,
@@ -390,7 +390,7 @@ fn add_parameter(
     }
 }
 
-// What comes before a parameter.
+// The words before a parameter.
 fn label_of(parameter: Parameter) -> &'static str {
     match parameter {
         Parameter::Line | Parameter::GivenLine => "line ",
@@ -402,7 +402,7 @@ fn label_of(parameter: Parameter) -> &'static str {
     }
 }
 
-// What a parameter is where it is left out and the size of the screen decides.
+// The words for a parameter that is left out if the size of the screen decides.
 fn last_words(parameter: Parameter) -> &'static str {
     match parameter {
         Parameter::LastLine => ", to the last line",
@@ -411,7 +411,7 @@ fn last_words(parameter: Parameter) -> &'static str {
     }
 }
 
-// What a parameter is where it is left out, of one that counts from 1.
+// The default of a parameter that is left out and counts from 1.
 fn first_of(parameter: Parameter) -> Option<i64> {
     match parameter {
         Parameter::Line | Parameter::Column | Parameter::Page | Parameter::Count => Some(1),
@@ -441,13 +441,13 @@ fn counts_from_one(parameter: Parameter) -> bool {
     }
 }
 
-/// Adds the numbers of some parameters and what separates them, after a space where they begin with
-/// a number.
+/// Adds the numbers of some parameters and their separators, after a space if they begin with a
+/// number.
 pub fn add_entries(params: &[CsiParam], to: &mut Phrase) {
     add_entries_after(" ", params, to);
 }
 
-// The same, after this where they begin with a number.
+// The same, after this text if they begin with a number.
 fn add_entries_after(before: &'static str, params: &[CsiParam], to: &mut Phrase) {
     let mut space = before;
     for param in params {

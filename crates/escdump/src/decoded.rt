@@ -3,8 +3,8 @@
 use crate::values::cut;
 use dump_page::Phrase;
 
-/// Adds the bytes of a text in base64 (RFC 4648, 4), between quotes. What is no digit of base64 is
-/// passed over, as terminals do, and so is what is left of the last digits.
+/// Adds the bytes of a text in base64 (RFC 4648, 4), between quotes. A byte that is no digit of
+/// base64 is passed over, as terminals do, and so is the rest of the last digits.
 pub fn add_base64(text: &[u8], to: &mut Phrase) {
     let mut bytes = Vec::new(to.alloc());
     let mut bits: u32 = 0;
@@ -88,7 +88,7 @@ fn hex_digit_of(byte: u8) -> Option<u8> {
     }
 }
 
-/// Adds a name, and its value after `=`, where it has one, both in hexadecimal digits.
+/// Adds a name, and its value after `=`, if it has one, both in hexadecimal digits.
 pub fn add_hex_pair(text: &[u8], to: &mut Phrase) {
     let (name, value) = cut(text, b'=');
     add_hex_text(name, to);

@@ -8,8 +8,8 @@ use esc_sixel::SixelBuilder;
 use std::alloc::AllocError;
 use string_commands::{Begin, Row, StringKind, find};
 
-// A device control string, taken apart: its parameters, its private prefix and intermediates, of
-// which two are kept, its final byte, and its data.
+// The parts of a device control string: its parameters, its private prefix and intermediates, two
+// of which are kept, its final byte, and its data.
 #[derive(Clone, Copy)]
 struct Parts<'t> {
     params: &'t [u8],
@@ -40,7 +40,7 @@ impl Parts<'_> {
     }
 }
 
-// The parts of a device control string of these bytes, where its header is whole.
+// The parts of a device control string of these bytes, if its header is whole.
 fn parts_of(text: &[u8]) -> Option<Parts<'_>> {
     let mut parts = Parts {
         params: &[],
@@ -63,7 +63,7 @@ fn parts_of(text: &[u8]) -> Option<Parts<'_>> {
     None
 }
 
-// The parameters of a header: from the first digit on, up to what is no parameter.
+// The parameters of a header: from the first digit on, up to a byte that is no parameter.
 fn digits_in(header: &[u8]) -> &[u8] {
     let header = match header {
         [0x3c..=0x3f, rest @ ..] => rest,
@@ -78,8 +78,8 @@ fn digits_in(header: &[u8]) -> &[u8] {
 }
 
 /// Adds a device control string of these bytes in words: by the row of its final byte with its
-/// intermediates, of which some are told apart by their data or their parameters. Of a sixel image
-/// that is whole only the size is said. Returns its name.
+/// intermediates; the data or the parameters tell some rows apart. For a whole sixel image it says
+/// only the size. Returns its name.
 pub fn add_device(text: &[u8], is_whole: bool, to: &mut Phrase) -> Name {
     let Some(parts) = parts_of(text) else {
         to.begin("DCS", "", "device control string");
@@ -144,7 +144,7 @@ fn row_of(parts: Parts<'_>) -> Option<Row> {
     }
 }
 
-// What the data have after what a row begins with.
+// The rest of the data after the beginning that a row has.
 fn data_rest(row: Row, data: &[u8]) -> &[u8] {
     if row.told.begin == Begin::Bytes {
         &data[row.start.len().min(data.len())..]

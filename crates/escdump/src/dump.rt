@@ -25,7 +25,7 @@ use std::mem;
 pub struct Dump<'n> {
     alloc: Global,
     options: Options<'n>,
-    // The name of the stream, where it is named.
+    // The name of the stream, if it is named.
     name: Option<&'n str>,
     framer: VTParser,
     words: Words,
@@ -39,10 +39,10 @@ pub struct Dump<'n> {
     vt52: Vt52,
     begun: Vec<u8>,
     known: usize,
-    // The kind of what is begun.
+    // The kind of the segment that is begun.
     unfinished: SegmentKind,
-    // Whether what is begun may be a key; whether nothing comes after it; and whether a paste goes
-    // on.
+    // Whether the begun bytes may be a key; whether nothing comes after them; and whether a paste
+    // goes on.
     is_waiting: bool,
     is_last: bool,
     is_pasting: bool,
@@ -77,7 +77,7 @@ impl<'n> Dump<'n> {
         dump
     }
 
-    // Adds the line of the stream's name, where it is named. Objects have it each.
+    // Adds the line of the stream's name, if it is named. Objects have it each.
     fn add_head(&mut self) {
         match (self.name, self.options.form) {
             (None, _) | (_, Form::Json) => {}
@@ -91,7 +91,7 @@ impl<'n> Dump<'n> {
         }
     }
 
-    /// What comes now comes at this time.
+    /// The next bytes come at this time.
     pub fn set_time(&mut self, time: u64) {
         self.item.now = Some(time);
     }
@@ -113,7 +113,7 @@ impl<'n> Dump<'n> {
         }
     }
 
-    // Takes the segments of these bytes, of which the first ones are known already.
+    // Takes the segments of these bytes, the first of which are known already.
     fn take_segments(&mut self, bytes: &[u8]) {
         let mut known = self.known;
         self.known = 0;
@@ -140,7 +140,7 @@ impl<'n> Dump<'n> {
     }
 
     // Takes the characters of one byte that come first, and the ends of lines between them, and
-    // returns what is after them. What a terminal sends has keys in the place of these ends.
+    // returns the rest. The input that a terminal sends has keys in the place of these ends.
     fn take_shown<'b>(&mut self, bytes: &'b [u8]) -> &'b [u8] {
         let mut rest = bytes;
         for _ in 0..u64::MAX {
@@ -159,8 +159,8 @@ impl<'n> Dump<'n> {
         rest
     }
 
-    // Takes what comes first that is no segment of its own, and returns what is after it: what a
-    // terminal sends, or cursor positions of its VT52 mode.
+    // Takes a part at the beginning that is no segment of its own, and returns the rest: the input
+    // that a terminal sends, or cursor positions of its VT52 mode.
     fn take_joined<'b>(&mut self, bytes: &'b [u8]) -> &'b [u8] {
         if self.options.is_input {
             self.take_sent(bytes)
@@ -171,8 +171,8 @@ impl<'n> Dump<'n> {
         }
     }
 
-    // Takes the cursor positions of the VT52 that come first, and text between them. What may be
-    // one waits for more bytes.
+    // Takes the cursor positions of the VT52 that come first, and text between them. Bytes that may
+    // become one wait for more.
     fn take_addresses<'b>(&mut self, bytes: &'b [u8]) -> &'b [u8] {
         let mut rest = bytes;
         for _ in 0..u64::MAX {
@@ -195,7 +195,7 @@ impl<'n> Dump<'n> {
     }
 
     // Takes the keys and other things that a terminal sends which come first, and text between
-    // them, and returns what is after them. What may be one waits for more bytes.
+    // them, and returns the rest. Bytes that may become one wait for more.
     fn take_sent<'b>(&mut self, bytes: &'b [u8]) -> &'b [u8] {
         let mut rest = bytes;
         for _ in 0..u64::MAX {
@@ -221,7 +221,7 @@ impl<'n> Dump<'n> {
         rest
     }
 
-    // Adds the line of what a terminal sends.
+    // Adds the line of the input that a terminal sends.
     fn add_sent(&mut self, sent: Sent, bytes: &[u8]) {
         self.end_text();
         let limit = self.options.limit;
@@ -276,8 +276,8 @@ impl<'n> Dump<'n> {
         self.page.note(self.begun.extend_from_slice(bytes).is_err());
     }
 
-    /// Adds the line of what the stream leaves unfinished, and those of what it holds, where they
-    /// are asked for.
+    /// Adds the line of the segment that the stream leaves unfinished, and those of the counts, if
+    /// they are asked for.
     pub fn finish(&mut self) {
         self.end_waiting();
         let begun = mem::replace(&mut self.begun, Vec::new(self.alloc));
@@ -297,7 +297,7 @@ impl<'n> Dump<'n> {
         }
     }
 
-    // Takes what waits to be a key, after which nothing comes.
+    // Takes the bytes that wait to be a key, after which nothing comes.
     fn end_waiting(&mut self) {
         if self.is_waiting {
             self.is_last = true;
@@ -315,7 +315,7 @@ impl<'n> Dump<'n> {
         }
     }
 
-    // Adds some bytes of a segment, after what comes before it.
+    // Adds some bytes of a segment, after the items before it.
     fn add_piece(&mut self, kind: SegmentKind, bytes: &[u8]) {
         self.end_string();
         if kind != SegmentKind::Character {
@@ -325,9 +325,9 @@ impl<'n> Dump<'n> {
         self.page.note(!self.item.add(kind, bytes, limit));
     }
 
-    // Takes the last bytes of a segment. They are given to the framer where those before them were,
-    // or where controls may be among them. A cancel, which cannot be part of any segment but its
-    // own, ends what it means where its last byte does not.
+    // Takes the last bytes of a segment. They are given to the framer if those before them were, or
+    // if controls may be among them. A cancel, which cannot be part of any segment but its own,
+    // ends the segment's meaning if its last byte does not.
     fn take_last(&mut self, kind: SegmentKind, bytes: &[u8]) {
         if self.is_closing && is_terminator(bytes) {
             self.page.note(!self.item.close(bytes));
@@ -345,7 +345,7 @@ impl<'n> Dump<'n> {
         }
     }
 
-    // Ends what a segment means, where its last byte does not.
+    // Ends the meaning of a segment, if its last byte does not.
     fn end_frame(&mut self, kind: SegmentKind) {
         self.is_framed = false;
         if is_left_open(kind) {
@@ -405,7 +405,7 @@ impl<'n> Dump<'n> {
         self.words.clear();
     }
 
-    // Whether a line is printed of the item: by its kind, or where names are asked for, by its name
+    // Whether a line is printed for the item: by its kind, or if names are asked for, by its name
     // too.
     fn is_selected(&mut self) -> bool {
         let only = self.options.only;
@@ -419,7 +419,7 @@ impl<'n> Dump<'n> {
         only.has(&self.item, name) && !skip.has(&self.item, name)
     }
 
-    // Adds the line of what is selected, or counts it.
+    // Adds the line of the selected item, or counts it.
     fn add_selected(&mut self, is_finished: bool) {
         match self.options.form {
             Form::Stats => {
@@ -463,8 +463,8 @@ fn is_terminator(bytes: &[u8]) -> bool {
     }
 }
 
-// How many bytes come first that are characters of one byte: they are segments of their own, where
-// nothing before them is unfinished.
+// The number of bytes at the beginning that are characters of one byte: they are segments of their
+// own, if nothing before them is unfinished.
 fn shown_run(bytes: &[u8]) -> usize
     ensures { result ≤ length bytes.now }
 {

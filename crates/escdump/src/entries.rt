@@ -2,13 +2,13 @@
 
 use esc_values::CsiParam;
 
-/// The number at this place, from 0 on, where there is one: the first of its parts, where it has
-/// several with `:` between them.
+/// The number at this place, from 0 on, if there is one: the first of its parts, if it has several
+/// with `:` between them.
 pub fn number_at(params: &[CsiParam], place: usize) -> Option<i64> {
     part_at(params, place, 0)
 }
 
-/// The part of the parameter at this place, both from 0 on, where there is one.
+/// The part of the parameter at this place, both from 0 on, if there is one.
 pub fn part_at(params: &[CsiParam], place: usize, part: usize) -> Option<i64> {
     let mut places_left = place;
     let mut parts_left = part;
@@ -39,8 +39,8 @@ pub fn part_at(params: &[CsiParam], place: usize, part: usize) -> Option<i64> {
     None
 }
 
-/// What comes after the first parameters, so many, with the `;` before it; nothing, where there are
-/// no more.
+/// The parameters after the first ones, so many, with the `;` before them; nothing, if there are no
+/// more.
 pub fn after_first(params: &[CsiParam], count: usize) -> &[CsiParam] {
     let mut left = count;
     for at in 0..params.len() {

@@ -5,8 +5,8 @@ use control_functions::EscapeFunction;
 use dump_page::Phrase;
 use esc_sequences::Esc;
 
-// The bytes of an escape sequence after ESC: its intermediates, of which two are kept, how many
-// there are, and its final byte.
+// The bytes of an escape sequence after ESC: its intermediates, two of which are kept, their
+// number, and its final byte.
 #[derive(Clone, Copy)]
 struct Parts {
     first: u8,
@@ -60,7 +60,7 @@ pub fn add_escape(letter: u8, rest: &[u8], to: &mut Phrase) {
     }
 }
 
-// Adds a sequence of at most one intermediate by its name, where it has one.
+// Adds a sequence of at most one intermediate by its name, if it has one.
 fn add_function(intermediate: Option<u8>, last: u8, to: &mut Phrase) {
     if intermediate == Some(b'%') && last == b'8' {
         return to.begin("ESC", "DOCS", "UTF-8, obsolete");
@@ -78,7 +78,7 @@ fn add_function(intermediate: Option<u8>, last: u8, to: &mut Phrase) {
     }
 }
 
-// What a function does. `ESC Y` is in no terminal but as that of the VT52.
+// The description of a function. No terminal has `ESC Y` but as that of the VT52.
 fn escape_words(function: EscapeFunction) -> &'static str {
     match function {
         EscapeFunction::SGC => {
@@ -88,13 +88,13 @@ fn escape_words(function: EscapeFunction) -> &'static str {
     }
 }
 
-// What a set of characters is that no table has.
+// The words for a set of characters that no table has.
 const OTHER: &str = "another character set";
 
 // The same of controls.
 const OTHER_CONTROLS: &str = "another set of controls";
 
-// The sets of which a function designates one, and what any other is.
+// The sets, one of which a function designates, and the words for any other.
 fn sets_of(function: EscapeFunction) -> Option<(&'static str, &'static str)> {
     let sets = match function {
         EscapeFunction::GZD4 | EscapeFunction::G1D4 | EscapeFunction::G2D4 | EscapeFunction::G3D4 =>
@@ -109,7 +109,7 @@ fn sets_of(function: EscapeFunction) -> Option<(&'static str, &'static str)> {
 }
 
 // Sequences of two intermediates by both or by the first (ECMA-35, 14.3.2 and 15.4): a line each,
-// with `^` between these, the name and what it does.
+// with `^` between these, the name and the description.
 static DOUBLES: &str = "\
 $(^GZDM4^designate G0, a set of several bytes
 $)^G1DM4^designate G1, a set of several bytes
@@ -158,7 +158,7 @@ fn double_in(bytes: &[u8]) -> Option<(&'static str, &'static str)> {
     None
 }
 
-// The name of the set of these bytes, or these words, where none has them.
+// The name of the set of these bytes, or these words, if none has them.
 fn set_in(sets: &'static str, bytes: &[u8], other: &'static str) -> &'static str {
     for line in sets.lines() {
         if let Some((key, name)) = line.split_once(' ') {

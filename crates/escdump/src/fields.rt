@@ -1,9 +1,9 @@
 //! Fields of a text in words, as the row of a table says.
 //!
-//! A row has a field a part, with `|` between them. Each is a letter, a `:`, what is said before
-//! the part, and, after a `?`, words for its values, with `/` between them and `~` within: so
-//! `n:, status` is a number, and `v:?1~on/0~off` one of two. What comes after a `*` goes on
-//! repeating. What the text has after its fields is shown too.
+//! A row has a field a part, with `|` between them. Each is a letter, a `:`, the words before the
+//! part, and, after a `?`, words for its values, with `/` between them and `~` within: so `n:,
+//! status` is a number, and `v:?1~on/0~off` one of two. The fields after a `*` go on repeating. The
+//! rest of the text after its fields is shown too.
 
 use crate::decoded::{add_base64, add_hex_pair, add_hex_text};
 use crate::values::{
@@ -12,7 +12,7 @@ use crate::values::{
 };
 use dump_page::Phrase;
 
-// What a field is.
+// The kind of a field.
 #[derive(Clone, Copy, PartialEq, Eq)]
 enum Kind {
     // A number; any other text is quoted.
@@ -25,7 +25,7 @@ enum Kind {
     Rest,
     // One of the values that have words; any other is quoted.
     Value,
-    // A colour, or `?` where it is asked for.
+    // A colour, or `?` if it is asked for.
     Color,
     // A text in base64.
     Base64,
@@ -39,11 +39,11 @@ enum Kind {
     ColonPairs,
     // The same with `,` between them, up to a `;`.
     CommaPairs,
-    // All that is left, of which only the length is said.
+    // The whole rest, for which only the length is said.
     Length,
-    // Bits, of which the words are given.
+    // Bits, with their words.
     Bits,
-    // One more than the bits of modifiers, and what became of the key.
+    // One more than the bits of modifiers, and the event of the key.
     Modifiers,
     // The code of a character.
     Character,
@@ -83,7 +83,7 @@ fn kind_of(letter: &str) -> Kind {
     }
 }
 
-/// Adds the fields of a text in words, where there is one.
+/// Adds the fields of a text in words, if there is one.
 pub fn add_fields(fields: &'static str, text: Option<&[u8]>, to: &mut Phrase) {
     let (once, again) = match fields.split_once('*') {
         Some(halves) => halves,
@@ -102,7 +102,7 @@ pub fn add_fields(fields: &'static str, text: Option<&[u8]>, to: &mut Phrase) {
     }
 }
 
-// Adds the fields again and again, and returns what they leave.
+// Adds the fields again and again, and returns the text that they leave.
 fn add_again<'t>(
     fields: &'static str,
     text: Option<&'t [u8]>,
@@ -118,7 +118,7 @@ fn add_again<'t>(
     rest
 }
 
-// Adds each of the fields, and returns what they leave.
+// Adds each of the fields, and returns the text that they leave.
 fn add_each<'t>(fields: &'static str, text: Option<&'t [u8]>, to: &mut Phrase) -> Option<&'t [u8]> {
     let mut rest = text;
     for field in fields.split('|') {
@@ -129,7 +129,7 @@ fn add_each<'t>(fields: &'static str, text: Option<&'t [u8]>, to: &mut Phrase) -
     rest
 }
 
-// Adds the field that a text begins with, and returns what is after it.
+// Adds the field that a text begins with, and returns the rest.
 fn add_field<'t>(field: &'static str, text: &'t [u8], to: &mut Phrase) -> Option<&'t [u8]> {
     let Some((letter, rest)) = field.split_once(':') else {
         return Some(text);
@@ -150,7 +150,7 @@ fn add_field<'t>(field: &'static str, text: &'t [u8], to: &mut Phrase) -> Option
     rest
 }
 
-// What separates the pairs of a field.
+// The separator of the pairs of a field.
 fn separator_of(kind: Kind) -> Option<u8> {
     match kind {
         Kind::Pairs => Some(b';'),
@@ -187,7 +187,7 @@ fn add_part(kind: Kind, label: &'static str, values: &'static str, part: &[u8], 
     }
 }
 
-/// Adds words, but for a comma that they begin with where no words are before them.
+/// Adds words, without a comma that they begin with if no words are before them.
 pub fn add_label(label: &'static str, to: &mut Phrase) {
     match label.strip_prefix(',') {
         Some(rest) if !to.has_words() => to.add(rest),

@@ -1,4 +1,4 @@
-//! What is given to the framer.
+//! The bytes that are given to the framer.
 
 use crate::item::Item;
 use esc_segments::SegmentKind;

@@ -5,24 +5,24 @@ use crate::kind::Kind;
 use esc_segments::SegmentKind;
 use std::alloc::Global;
 
-/// What comes now: a run of text, or a segment.
+/// The item that comes now: a run of text, or a segment.
 #[derive(Drop)]
 pub struct Item {
     /// How many bytes of the stream come before it.
     pub place: u64,
     /// How many bytes of it came.
     pub length: u64,
-    /// When its first byte came, in microseconds, where the stream has times.
+    /// The time of its first byte, in microseconds, if the stream has times.
     pub time: Option<u64>,
-    /// When what comes now comes.
+    /// The time of the bytes that come now.
     pub now: Option<u64>,
-    /// The kind of what came of it last.
+    /// The kind of its last part.
     pub segment: SegmentKind,
-    /// Its number, where it is an operating system command.
+    /// Its number, if it is an operating system command.
     pub code: Code,
-    // What a terminal sends by it, where its segment does not say that.
+    // The kind of the input that a terminal sends by it, if its segment does not say that.
     sent: Option<Kind>,
-    // The letter that opens it, as `]`; 0, where it has not come.
+    // The letter that opens it, as `]`; 0, if it has not come.
     letter: u8,
     // How many of its bytes come up to that letter.
     opened: usize,
@@ -72,8 +72,8 @@ impl Item {
         self.sent = Some(kind);
     }
 
-    /// Adds some bytes, of which as many are kept as the limit allows, and of a run of text all;
-    /// returns whether memory was there for them.
+    /// Adds some bytes; it keeps as many as the limit allows, and of a run of text all. Returns
+    /// whether memory was there for them.
     pub fn add(&mut self, segment: SegmentKind, bytes: &[u8], limit: usize) -> bool {
         if self.length == 0 {
             self.time = self.now;
@@ -106,9 +106,9 @@ impl Item {
         self.bytes.extend_from_slice(bytes).is_ok()
     }
 
-    // Looks for the letter that opens it: the first byte 20 to 7E, where it begins with ESC, with
-    // controls and bytes past 7F before it; or that which a control of C1 has after ESC. Returns
-    // what comes after it.
+    // Looks for the letter that opens it: the first byte 20 to 7E, if it begins with ESC, with
+    // controls and bytes past 7F before it; or the letter that a control of C1 has after ESC.
+    // Returns the rest.
     fn open<'b>(&mut self, bytes: &'b [u8]) -> &'b [u8] {
         for at in 0..bytes.len() {
             let byte = bytes[at];
@@ -135,8 +135,8 @@ impl Item {
         &self.bytes
     }
 
-    /// Those that come after what opens a sequence or a string, without the BEL or the final byte
-    /// that ends one.
+    /// The bytes after the opener of a sequence or a string, without the BEL or the final byte that
+    /// ends one.
     pub fn body(&self) -> &[u8] {
         if self.letter == 0 || self.opened > self.bytes.len() {
             return &[];
@@ -166,7 +166,7 @@ impl Item {
         self.length > self.bytes.len() as u64
     }
 
-    /// What comes next has its place after it.
+    /// The next item has its place after it.
     pub fn end(&mut self) {
         self.place = self.place.saturating_add(self.length);
         self.length = 0;

@@ -144,7 +144,7 @@ static FLAGS: &str = "\
 1~disambiguate escape codes/2~report event types/4~report alternate keys/\
 8~report all keys as escape codes/16~report text";
 
-// What is done with flags (the same page).
+// The operation on flags (the same page).
 static CHANGES: &str = "\
 1 all others are reset
 2 the others stay
@@ -181,7 +181,7 @@ pub fn add_function_key(params: &[CsiParam], to: &mut Phrase) {
     }
 }
 
-/// Adds a key that kitty reports, the modifiers that are held with it, and what became of it.
+/// Adds a key that kitty reports, the modifiers that are held with it, and its event.
 pub fn add_key(params: &[CsiParam], to: &mut Phrase) {
     to.add(" ");
     add_pressed(number_at(params, 0).unwrap_or(1), number_at(params, 1), to);
@@ -198,10 +198,10 @@ pub fn add_key(params: &[CsiParam], to: &mut Phrase) {
     }
 }
 
-// The most characters of a text that a key has; a sequence of more is past what the parser keeps.
+// The most characters of a text that a key has; a sequence of more has more than the parser keeps.
 const MOST_TEXT: usize = 256;
 
-// Adds the character of a code after these words, where there is one.
+// Adds the character of a code after these words, if there is one.
 fn add_code_after(before: &'static str, code: Option<i64>, to: &mut Phrase) {
     if let Some(code) = code {
         to.add(before);
@@ -209,7 +209,7 @@ fn add_code_after(before: &'static str, code: Option<i64>, to: &mut Phrase) {
     }
 }
 
-// Adds what became of a key.
+// Adds the event of a key.
 fn add_event_words(event: Option<i64>, pressed: &'static str, to: &mut Phrase) {
     match event {
         Some(2) => to.add(", repeated"),
@@ -218,7 +218,7 @@ fn add_event_words(event: Option<i64>, pressed: &'static str, to: &mut Phrase) {
     }
 }
 
-/// Adds what became of a key, where it is given.
+/// Adds the event of a key, if it is given.
 pub fn add_event(event: Option<&[u8]>, to: &mut Phrase) {
     if let Some(event) = event {
         add_event_words(number_in(event), ", pressed", to);
@@ -283,7 +283,7 @@ fn has_bit(number: i64, text: &str) -> bool {
     }
 }
 
-/// Adds flags of kitty's keyboard, and what is done with them.
+/// Adds flags of kitty's keyboard, and the operation on them.
 pub fn add_flags(function: ControlFunction, params: &[CsiParam], to: &mut Phrase) {
     let Some(number) = number_at(params, 0).or(least_flags(function)) else {
         return;
@@ -302,7 +302,7 @@ pub fn add_flags(function: ControlFunction, params: &[CsiParam], to: &mut Phrase
     }
 }
 
-// The flags where they are left out; none of a query, which asks for them.
+// The flags if they are left out; none for a query, which asks for them.
 fn least_flags(function: ControlFunction) -> Option<i64> {
     if function == ControlFunction::KITTYQUERY {
         return None;
@@ -310,7 +310,7 @@ fn least_flags(function: ControlFunction) -> Option<i64> {
     Some(0)
 }
 
-/// Adds a report of the mouse: the button and what became of it, the modifiers, and the place.
+/// Adds a report of the mouse: the button and its event, the modifiers, and the place.
 pub fn add_mouse(function: ControlFunction, params: &[CsiParam], to: &mut Phrase) {
     let number = number_at(params, 0).unwrap_or(0);
     if number & 32 != 0 {

@@ -2,7 +2,7 @@
 
 use esc_segments::SegmentKind;
 
-/// What a line is of.
+/// The kind of a line.
 #[derive(Clone, Copy, PartialEq, Eq)]
 pub enum Kind {
     /// A run of text.
@@ -97,7 +97,7 @@ impl Kind {
         }
     }
 
-    /// What it is, where its name does not say it.
+    /// Words for its kind, if its name does not say it.
     pub fn words(self) -> &'static str {
         match self {
             Kind::Escape => "escape sequence",

@@ -27,7 +27,7 @@ const STATE: usize = 45;
 
 const SEGMENT: usize = 56;
 
-// How many columns the seconds of a time have, and the whole time with what comes after it.
+// The number of columns of the seconds of a time, and of the whole time with the text after it.
 const SECONDS: usize = 6;
 
 const TIME: usize = 15;
@@ -58,7 +58,7 @@ pub fn add_line(
     page.end_line();
 }
 
-// The time, where there is one, and the place.
+// The time, if there is one, and the place.
 fn add_place(item: &Item, page: &mut Page) {
     let start = time_columns(item);
     if let Some(time) = item.time {
@@ -99,13 +99,13 @@ fn add_segment(item: &Item, is_finished: bool, width: usize, page: &mut Page) {
     push_bytes(item, width, page);
 }
 
-// What a kind is, in words.
+// The words for a kind.
 fn full_name(kind: Kind) -> &'static str {
     let words = kind.words();
     if words.is_empty() { kind.name() } else { words }
 }
 
-// The bytes that are kept, in so many columns, and `..` where not all are.
+// The bytes that are kept, in so many columns, and `..` if not all are.
 fn push_bytes(item: &Item, width: usize, page: &mut Page) {
     page.color(Color::Bytes);
     page.words().add_bytes(item.bytes(), width);
@@ -134,8 +134,8 @@ fn add_words(item: &Item, words: &mut Words, is_finished: bool, page: &mut Page)
     page.push(&words.phrase);
 }
 
-// The bytes and the words of a common control, where nothing else is in its line, and its place
-// has not more digits than its column.
+// The bytes and the words of a common control, if nothing else is in its line, and its place has
+// not more digits than its column.
 fn columns_of(item: &Item, words: &Words, page: &Page) -> &'static str {
     if item.kind() == Kind::Control
         && !words.is_carried
@@ -175,7 +175,7 @@ fn add_text(item: &Item, words: &mut Words, page: &mut Page) {
     page.push(&words.phrase);
 }
 
-// The first bytes. What is past the column is not read.
+// The first bytes. Bytes past the column are not read.
 fn add_first(item: &Item, page: &mut Page) {
     let bytes = item.bytes();
     let most = bytes.len().min(WIDEST * ROOM + WIDEST);
@@ -227,7 +227,8 @@ pub fn add_said(item: &Item, words: &mut Words) {
     }
 }
 
-// What a sequence that is cut short may be: screen passes on what comes after ESC P.
+// The words for a sequence that is cut short and may be another: screen passes on the bytes after
+// ESC P.
 fn cut_words(item: &Item) -> &'static str {
     match item.letters() {
         (b'P', []) => ", or what comes next is passed on by screen",
@@ -235,7 +236,7 @@ fn cut_words(item: &Item) -> &'static str {
     }
 }
 
-// Adds what is said of a segment that is longer than the limit, or unfinished.
+// Adds the words for a segment that is longer than the limit, or unfinished.
 fn add_state(item: &Item, is_finished: bool, phrase: &mut Phrase) {
     if item.is_cut() {
         phrase.add(", longer than the limit");

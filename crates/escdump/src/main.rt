@@ -139,8 +139,8 @@ fn is_dumb(rt: &HostRuntime) -> bool {
     }
 }
 
-// How many bytes the words of a line may have: on a terminal 4 KiB, and any elsewhere, where it is
-// not given.
+// The number of bytes that the words of a line may have, if it is not given: on a terminal 4 KiB,
+// and any elsewhere.
 fn width_of(rt: &HostRuntime, width: Option<usize>) -> usize {
     match width {
         Some(width) => width,
@@ -149,7 +149,7 @@ fn width_of(rt: &HostRuntime, width: Option<usize>) -> usize {
     }
 }
 
-// Does what the words ask for.
+// Does the task that the words ask for.
 fn done(rt: &HostRuntime, task: &Task<'_>, options: Options<'_>) -> u8 {
     match task.kind {
         Kind::Dump => dump_task(rt, options, task),
@@ -164,7 +164,7 @@ fn said(rt: &HostRuntime, texts: &[&'static str]) -> u8 {
     last_status(ended(done, OUTPUT, &mut rt.stderr()))
 }
 
-// Reads the timing file, where there is one, and prints the streams.
+// Reads the timing file, if there is one, and prints the streams.
 fn dump_task(rt: &HostRuntime, options: Options<'_>, task: &Task<'_>) -> u8 {
     let Some(name) = task.timing else {
         return dump_all(rt, options, task.explained, &task.files);
@@ -187,7 +187,7 @@ fn timed<'a>(options: Options<'a>, timing: &'a [u8]) -> Options<'a> {
     Options { timing, ..options }
 }
 
-// Prints what is to be explained, and one file after another.
+// Prints the explanation that is asked for, and one file after another.
 fn dump_all(rt: &HostRuntime, options: Options<'_>, explained: Option<&str>, files: &[&str]) -> u8 {
     let mut dumping = Dumping {
         alloc: rt.alloc(),
@@ -204,7 +204,7 @@ fn dump_all(rt: &HostRuntime, options: Options<'_>, explained: Option<&str>, fil
     work_through(rt, PROGRAM, files, &mut dumping, &mut rt.stderr())
 }
 
-// Prints what a stream is that stands in the program's words.
+// Prints the lines of a stream that stands in the program's words.
 fn explain<W: Write, E: Write>(text: &str, dumping: &mut Dumping<'_, W, E>) -> Ended {
     match bytes_of(dumping.alloc, text) {
         Ok(bytes) => dumping.take_stream("--explain", bytes.as_slice()),

@@ -6,8 +6,8 @@ use control_functions::{ControlFunction, Mode, PrivateMode};
 use dump_page::Phrase;
 use esc_values::CsiParam;
 
-// What happens where a private mode is set, and where it is reset, of those that people meet, the
-// commonest first (xterm's list, "DEC Private Mode Set"; the VT510's manual).
+// The effects of private modes that people meet, if one is set, and if it is reset, the commonest
+// first (xterm's list, "DEC Private Mode Set"; the VT510's manual).
 #[derive(Clone, Copy)]
 struct Phrases(i64, &'static str, &'static str);
 
@@ -152,7 +152,7 @@ static PHRASES: [Phrases; 46] = [
     ),
 ];
 
-// What a report of a mode says of it (the VT510's manual, DECRPM).
+// The state in a report of a mode (the VT510's manual, DECRPM).
 static STATES: &str = "\
 0 not recognised
 1 set
@@ -195,8 +195,8 @@ fn add_mode(function: ControlFunction, number: i64, to: &mut Phrase) {
     }
 }
 
-// What happens where a mode is set or reset, of those that terminals have (xterm's list, "Set Mode"
-// and "Reset Mode"), or these words, of another mode or function.
+// The effect of setting or resetting a mode that terminals have (xterm's list, "Set Mode" and
+// "Reset Mode"), or these words, for another mode or function.
 fn effect_of(function: ControlFunction, number: i64, words: &'static str) -> &'static str {
     match number {
         2 => chosen(function, "lock the keyboard", "unlock the keyboard", words),
@@ -212,7 +212,7 @@ fn effect_of(function: ControlFunction, number: i64, words: &'static str) -> &'s
     }
 }
 
-/// Adds private modes by their numbers, each with what this function does to it.
+/// Adds private modes by their numbers, each with the operation of this function on it.
 pub fn add_private_modes(function: ControlFunction, params: &[CsiParam], to: &mut Phrase) {
     let mut separator = " ";
     for param in params {
@@ -224,8 +224,8 @@ pub fn add_private_modes(function: ControlFunction, params: &[CsiParam], to: &mu
     }
 }
 
-// Adds a private mode by its number, by its name where a manual has it, each of which begins with
-// DEC, and what the function does to it.
+// Adds a private mode by its number, by its name if a manual has it, each of which begins with DEC,
+// and the operation of the function on it.
 fn add_private_mode(function: ControlFunction, number: i64, to: &mut Phrase) {
     to.add_integer("", number);
     let mode = PrivateMode::of_number(short(number));
@@ -250,7 +250,7 @@ fn add_private_mode(function: ControlFunction, number: i64, to: &mut Phrase) {
     }
 }
 
-// What the function does to a mode, where its own words do not say it.
+// The operation of the function on a mode, if its own words do not say it.
 fn verb_of(function: ControlFunction) -> &'static str {
     chosen(function, "set", "reset", "")
 }
@@ -297,7 +297,7 @@ pub fn add_state(function: ControlFunction, params: &[CsiParam], to: &mut Phrase
     }
 }
 
-// The number of a mode; one that no mode has, where it is longer than any.
+// The number of a mode; one that no mode has, if it is longer than any.
 fn short(number: i64) -> u32 {
     u32::try_from(number).unwrap_or(u32::MAX)
 }

@@ -1,7 +1,7 @@
 //! Words for numbers.
 
-/// The words of this number in a table, or these others, where it has none. A table is a text with
-/// a line for each number: the number, a space and its words.
+/// The words of this number in a table, or these others, if it has none. A table is a text with a
+/// line for each number: the number, a space and its words.
 pub fn words_of(table: &'static str, number: i64, others: &'static str) -> &'static str {
     for line in table.lines() {
         if let Some((key, words)) = line.split_once(' ') {

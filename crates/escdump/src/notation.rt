@@ -20,7 +20,7 @@ pub fn bytes_of(alloc: Global, word: &str) -> Result<Vec<u8>, AllocError> {
     Ok(bytes)
 }
 
-// Takes what a text begins with, and returns what comes after it.
+// Takes the byte that a text begins with, and returns the rest.
 fn take<'t>(text: &'t [u8], bytes: &mut Vec<u8>) -> Result<&'t [u8], AllocError> {
     match text {
         [b'\\', rest @ ..] if !rest.is_empty() => take_escape(rest, bytes),
@@ -55,7 +55,7 @@ fn take_byte<'t>(first: u8, text: &'t [u8], bytes: &mut Vec<u8>) -> Result<&'t [
     }
 }
 
-// Takes what comes after a `\`.
+// Takes the byte after a `\`.
 fn take_escape<'t>(text: &'t [u8], bytes: &mut Vec<u8>) -> Result<&'t [u8], AllocError> {
     match text {
         [b'x', rest @ ..] => take_number(16, 2, text, rest, bytes),
@@ -86,7 +86,7 @@ fn control_of(letter: u8) -> u8 {
     }
 }
 
-// A number that a text begins with, and what comes after it.
+// A number that a text begins with, and the rest.
 #[derive(Clone, Copy)]
 struct Counted<'t> {
     number: u32,
@@ -119,7 +119,7 @@ fn number_of(base: u32, most: usize, text: &[u8]) -> Counted<'_> {
     found
 }
 
-// Takes a byte by its number; the letter before it, where there is none.
+// Takes a byte by its number; the letter before it, if there is none.
 fn take_number<'t>(
     base: u32,
     most: usize,

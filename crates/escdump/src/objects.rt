@@ -9,7 +9,7 @@ use crate::words::Words;
 use dump_page::{Member, Page, Phrase};
 use std::str;
 
-/// Adds the object of an item with these words, of the file of this name, where it is named.
+/// Adds the object of an item with these words, of the file of this name, if it is named.
 pub fn add_object(
     item: &Item,
     words: &mut Words,
@@ -41,7 +41,7 @@ pub fn add_object(
 }
 
 // Adds the place, the time, the length, the kind, whether it is finished, whether it is cut, and
-// what comes before the name.
+// the words before the name.
 fn add_head(item: &Item, kind: Kind, is_finished: bool, object: &mut Phrase) {
     object.add_digits(item.place);
     if let Some(time) = item.time {
@@ -68,7 +68,7 @@ fn bool_words(is_so: bool) -> &'static str {
     if is_so { "true" } else { "false" }
 }
 
-// Adds the name: as the words have it, where that is it.
+// Adds the name: as the words have it, if that is it.
 fn add_name(words: &mut Words, object: &mut Phrase) {
     if words.string.is_none() && object.add_plain_string(words.phrase.name_bytes()) {
         return;
@@ -95,7 +95,7 @@ fn add_text(phrase: &Phrase, object: &mut Phrase) {
     }
 }
 
-// Adds the texts that words have between quotes, as they are there, where they have any.
+// Adds the texts that words have between quotes, as they are there, if they have any.
 fn add_values(words: &[u8], object: &mut Phrase) {
     let mut rest = words;
     let mut is_next = false;
@@ -136,8 +136,8 @@ fn quoted_length(bytes: &[u8]) -> usize {
     bytes.len()
 }
 
-// Adds the fields of a control sequence, of which they have digits and colons alone, or of a
-// string: what has `;` between.
+// Adds the fields of a control sequence, which have digits and colons alone, or of a string: the
+// texts between `;`.
 fn add_fields(kind: Kind, body: &[u8], phrase: &mut Phrase, object: &mut Phrase) {
     object.add_member(Member::Fields);
     if kind == Kind::Csi {

@@ -1,10 +1,10 @@
-//! What the program's words ask for.
+//! The task that the program's words ask for.
 
 use crate::selection::{Listed, near_kind};
 use command_line::{Found, Given, Known, Takes, Wrong, read};
 use std::alloc::Global;
 
-/// What a line is printed of.
+/// The unit that has a line of its own.
 #[derive(Clone, Copy)]
 pub enum Form {
     /// A run of text, or a sequence with its words.
@@ -19,7 +19,7 @@ pub enum Form {
     Stats,
 }
 
-/// What the bytes of a file are.
+/// The form of the bytes of a file.
 #[derive(Clone, Copy)]
 pub enum Recorded {
     /// A stream.
@@ -45,11 +45,11 @@ pub enum When {
 /// How streams are printed.
 #[derive(Clone, Copy)]
 pub struct Options<'a> {
-    /// What a line is printed of.
+    /// The unit that has a line of its own.
     pub form: Form,
-    /// What the bytes of a file are.
+    /// The form of the bytes of a file.
     pub recorded: Recorded,
-    /// Whether a stream is what a terminal sends, and not what it gets.
+    /// Whether a stream is the input that a terminal sends, and not the output that it gets.
     pub is_input: bool,
     /// The timing of a typescript.
     pub timing: &'a [u8],
@@ -67,27 +67,27 @@ pub struct Options<'a> {
     pub skip: Listed<'a>,
 }
 
-/// What the program does.
+/// The work of the program.
 #[derive(Clone, Copy)]
 pub enum Kind {
-    /// It prints files, or standard input where there is none.
+    /// It prints files, or standard input if there is none.
     Dump,
-    /// It prints what it does.
+    /// It prints its help.
     Help,
     /// It prints its version.
     Version,
 }
 
-/// What the program's words ask for.
+/// The task that the program's words ask for.
 #[derive(Drop)]
 pub struct Task<'a> {
-    /// What the program does.
+    /// The work of the program.
     pub kind: Kind,
     /// How streams are printed.
     pub options: Options<'a>,
     /// When lines have colours.
     pub colors: When,
-    /// How many bytes the words of a line may have, where that is given.
+    /// The number of bytes that the words of a line may have, if that is given.
     pub width: Option<usize>,
     /// The timing file of a typescript.
     pub timing: Option<&'a str>,
@@ -237,7 +237,7 @@ impl<'a> Task<'a> {
     }
 }
 
-// How streams are printed where the words do not say.
+// The way in which streams are printed if the words do not say.
 const DEFAULT: Options<'static> = Options {
     form: Form::Words,
     recorded: Recorded::Stream,

@@ -35,7 +35,7 @@ pub fn add_command(number: Option<u64>, text: &[u8], is_whole: bool, to: &mut Ph
     }
 }
 
-// Adds a command of this number. What it does without a text is said of a whole one.
+// Adds a command of this number. Only for a whole one it says the effect without a text.
 fn add_numbered(name: Name, number: u64, rest: Option<&[u8]>, is_whole: bool, to: &mut Phrase) {
     match row_of(number, rest.unwrap_or(b"")) {
         Some(row) => add_row(name, row, rest, is_whole, to),
@@ -56,7 +56,7 @@ fn row_of(number: u64, rest: &[u8]) -> Option<Row> {
     }
 }
 
-// Adds the command of a row: its words, and the fields that come after what it begins with.
+// Adds the command of a row: its words, and the fields after the beginning that it has.
 fn add_row(name: Name, row: Row, rest: Option<&[u8]>, is_whole: bool, to: &mut Phrase) {
     let fields = fields_after(row, rest);
     if row.alone.is_empty() || !is_empty(fields) {
@@ -69,7 +69,7 @@ fn add_row(name: Name, row: Row, rest: Option<&[u8]>, is_whole: bool, to: &mut P
     }
 }
 
-// What a text has after what a row begins with, and the byte after that.
+// The rest of a text after the beginning that a row has, and the byte after that.
 fn fields_after(row: Row, rest: Option<&[u8]>) -> Option<&[u8]> {
     match rest {
         Some(text) if row.told.begin == Begin::Part => {
@@ -140,8 +140,8 @@ fn add_params(params: &[u8], to: &mut Phrase) {
     }
 }
 
-// The clipboard: what is copied to it, or that it is asked for or cleared. Its text is shown as the
-// bytes that it stands for.
+// The clipboard: the text that is copied to it, or that it is asked for or cleared. Its text is
+// shown as the bytes that it stands for.
 fn add_clipboard(name: Name, rest: Option<&[u8]>, is_whole: bool, to: &mut Phrase) {
     to.begin_named(name, "clipboard");
     let (selection, text) = cut(rest.unwrap_or(b""), b';');

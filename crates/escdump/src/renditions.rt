@@ -140,7 +140,7 @@ fn add_rendition(rendition: Rendition, entries: &[CsiParam], to: &mut Phrase) {
     }
 }
 
-// Adds a colour, and what has it.
+// Adds a colour, and the thing that has it.
 fn add_colored(what: &'static str, color: ColorSpec, entries: &[CsiParam], to: &mut Phrase) {
     add_color(what, color, to);
     add_space(entries, to);

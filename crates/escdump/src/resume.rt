@@ -62,8 +62,8 @@ pub fn held_back(segment: Segment<'_>) -> usize {
     }
 }
 
-// How many bytes the text of an operating system command has from its last byte on that begins a
-// character, where that is one of the last three.
+// The number of bytes of an operating system command's text from the last one on that begins a
+// character, if that is one of the last three.
 fn begun_character(bytes: &[u8]) -> usize {
     let opener = match bytes {
         [0xc2, ..] => 2,

@@ -5,13 +5,13 @@ use crate::values::cut;
 /// A row of a table, which is a line with `^` between its parts.
 #[derive(Clone, Copy)]
 pub struct Row {
-    /// What a text begins with, as [`key_rest`] reads it.
+    /// The beginning of a text, as [`key_rest`] reads it.
     pub key: &'static str,
-    /// What it does.
+    /// The description.
     pub words: &'static str,
     /// The fields of the rest of the text, as [`add_fields`](crate::fields::add_fields) reads them.
     pub fields: &'static str,
-    /// What else the table has of it.
+    /// The other fields of the row.
     pub more: &'static str,
 }
 
@@ -31,8 +31,8 @@ fn row_of(line: &'static str) -> Option<Row> {
     })
 }
 
-/// The first row of a table that begins with this and fits a text, and what the text has after its
-/// key.
+/// The first row of a table that begins with this and fits a text, and the rest of the text after
+/// its key.
 pub fn find_row<'t>(
     table: &'static str,
     head: &[u8],
@@ -48,7 +48,7 @@ pub fn find_row<'t>(
     None
 }
 
-// The row of a line, where it begins with this.
+// The row of a line, if it begins with this.
 fn headed(line: &'static str, head: &[u8]) -> Option<Row> {
     match line.split_once('^') {
         Some((found, rest)) if found.as_bytes() == head => row_of(rest),
@@ -56,7 +56,7 @@ fn headed(line: &'static str, head: &[u8]) -> Option<Row> {
     }
 }
 
-/// What a text has after a key, where it begins with that: after a `;` or a `=`, or nothing. A key
+/// The rest of a text after a key, if it begins with that: after a `;` or a `=`, or nothing. A key
 /// `-` is that of no text, `++` of one of three parts or more, one that ends with `+` of a text
 /// that has more after it, and one that ends with `.` of a text that has not.
 pub fn key_rest<'t>(key: &'static str, text: Option<&'t [u8]>) -> Option<Option<&'t [u8]>> {
@@ -100,7 +100,7 @@ fn has_two(text: &[u8]) -> bool {
     }
 }
 
-// What a text has after a key that it begins with.
+// The rest of a text after a key that it begins with.
 fn after_key<'t>(key: &[u8], text: &'t [u8]) -> Option<Option<&'t [u8]>> {
     if text == key {
         return Some(None);

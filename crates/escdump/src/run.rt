@@ -15,7 +15,7 @@ use std::io::{ErrorKind, Read, Write};
 /// The program's name.
 pub const PROGRAM: &str = "escdump";
 
-/// What hinders the program at a stream.
+/// A fault that stops the program at a stream.
 #[derive(Clone, Copy)]
 pub enum Fault {
     /// A read failed, for this reason.
@@ -31,13 +31,13 @@ pub enum Fault {
 // How much is read at a call.
 const CHUNK: usize = 4096;
 
-/// What prints streams to one output.
+/// Prints streams to one output.
 #[derive(Drop)]
 pub struct Dumping<'a, W, E> {
     pub alloc: Global,
     pub options: Options<'a>,
     pub output: W,
-    /// Where what hinders goes.
+    /// The output for faults.
     pub faults: E,
 }
 
@@ -73,11 +73,11 @@ impl<'a, W: Write, E: Write> Work for Dumping<'a, W, E> {
 }
 
 /// Prints a line on `output` for each segment of `input`, a stream of this name, in the form that
-/// the options ask for, and those of what one read gave before the next read.
+/// the options ask for, and the lines of one read before the next read.
 ///
-/// What it prints is a page: none of it is a control or an escape sequence that came from `input`.
-/// Where a read, a write or memory is refused, a line on `faults` says so; but where nobody reads
-/// the output any more, none is written. The lines before it are printed.
+/// Its output is a page: none of it is a control or an escape sequence that came from `input`. If a
+/// read, a write or memory is refused, a line on `faults` says so; but if nobody reads the output
+/// any more, none is written. The lines before it are printed.
 pub fn dump_named<R: Read, W: Write, E: Write>(
     alloc: Global,
     options: Options<'_>,
@@ -93,7 +93,7 @@ pub fn dump_named<R: Read, W: Write, E: Write>(
     ended(done, name, faults)
 }
 
-/// Prints the lines of these texts. The error is what hinders it.
+/// Prints the lines of these texts. The error is the fault that stops it.
 pub fn say<W: Write>(alloc: Global, texts: &[&'static str], output: &mut W) -> Result<(), Fault>
     ensures { OnOk result (AppendsPage (W.contents output.old) (W.contents output.new)) }
 {
@@ -111,8 +111,8 @@ fn push_lines(text: &'static str, page: &mut Page) {
     }
 }
 
-/// How the stream of this name ended, where this hindered it. A line on `faults` says what; but
-/// where nobody reads the output any more, none is written.
+/// The end of the stream of this name, after this result. A line on `faults` says the fault; but if
+/// nobody reads the output any more, none is written.
 pub fn ended<E: Write>(done: Result<(), Fault>, name: &str, faults: &mut E) -> Ended
     ensures { result ≡ Ended.Whole → done ≡ Ok tt }
 {
@@ -191,8 +191,8 @@ pub fn read_some<R: Read>(input: &mut R, chunk: &mut [u8]) -> Result<usize, Faul
     Err(Fault::Read(Reason::of(&io::Error::from(ErrorKind::TimedOut))))
 }
 
-// Prints the lines, flushes and drops them, also where memory was refused after them, or the
-// recording that they are of is not read on.
+// Prints the lines, flushes and drops them, also if memory was refused after them, or the recording
+// that they are of is not read on.
 #[tactic(auto, using(dump_page::proofs::PagesMore::page_printed))]
 fn print<W: Write>(
     page: &mut Page,

@@ -10,7 +10,7 @@ use dump_page::{Key, Name};
 pub struct Listed<'a> {
     // The bits of its kinds.
     kinds: u64,
-    // The list; nothing where it has no names.
+    // The list; nothing if it has no names.
     names: &'a str,
 }
 
@@ -53,7 +53,7 @@ impl<'a> Listed<'a> {
         self.kinds & kind.bit() != 0
     }
 
-    /// Whether it has the kind or the name of an item, of which this is the name.
+    /// Whether it has the kind or the name of an item, which has this name.
     pub fn has(self, item: &Item, name: Name) -> bool {
         if self.has_kind(item.kind()) {
             return true;
@@ -92,7 +92,7 @@ fn is_name(word: &str) -> bool {
     false
 }
 
-/// The kind of which the word begins with this one, or the other way round.
+/// The kind whose word begins with this one, or the other way round.
 pub fn near_kind(word: &str) -> Option<&'static str> {
     if word.is_empty() {
         return None;
@@ -133,7 +133,7 @@ fn is_named(word: &str, own: &'static str, item: &Item) -> bool {
     }
 }
 
-// What comes in a word after this one and a space; nothing, where it is the whole.
+// The rest of a word after this one and a space; nothing, if it is the whole.
 fn after<'w>(word: &'w str, first: &'static str) -> Option<&'w str> {
     let rest = word.strip_prefix(first)?;
     if rest.is_empty() {
@@ -145,7 +145,7 @@ fn after<'w>(word: &'w str, first: &'static str) -> Option<&'w str> {
     }
 }
 
-// Whether this is what a key is, or nothing.
+// Whether this is the kind of a key, or nothing.
 fn is_key(word: &str, key: Key) -> bool {
     if word.is_empty() {
         return true;
@@ -199,8 +199,8 @@ fn has_parameter(item: &Item, word: &str) -> bool {
     false
 }
 
-/// The parameters of a control sequence, without the private prefix before them, and with what
-/// comes after them.
+/// The parameters of a control sequence, without the private prefix before them, and with the bytes
+/// after them.
 pub fn numbers_of(item: &Item) -> &[u8] {
     without_prefix(item.body())
 }

@@ -10,9 +10,8 @@ use std::alloc::{AllocError, Global};
 // How many numbers and other entries the parameters may have.
 const MOST: usize = 256;
 
-/// Adds a setting in words: it is reported as the control sequence that sets it, without what
-/// opens that (the VT510's manual, DECRPSS). Any other text, also of a sequence without a name, is
-/// quoted.
+/// Adds a setting in words: it is reported as the control sequence that sets it, without its opener
+/// (the VT510's manual, DECRPSS). Any other text, also of a sequence without a name, is quoted.
 pub fn add_setting(label: &'static str, text: &[u8], to: &mut Phrase) {
     let Some((first, last)) = halves_of(text) else {
         add_label(label, to);
@@ -30,7 +29,7 @@ pub fn add_setting(label: &'static str, text: &[u8], to: &mut Phrase) {
     }
 }
 
-// What comes before the final byte of a control sequence, and that byte.
+// The bytes before the final byte of a control sequence, and that byte.
 fn halves_of(text: &[u8]) -> Option<(&[u8], u8)> {
     match text {
         [first @ .., last @ 0x40..=0x7e] => Some((first, *last)),
@@ -38,7 +37,7 @@ fn halves_of(text: &[u8]) -> Option<(&[u8], u8)> {
     }
 }
 
-// The entries of these bytes, where they are the parameters and the intermediates of a control
+// The entries of these bytes, if they are the parameters and the intermediates of a control
 // sequence. The error is that memory was refused.
 fn params_of(text: &[u8], alloc: Global) -> Result<Option<Vec<CsiParam>>, AllocError> {
     let mut params = Vec::new(alloc);
@@ -76,7 +75,7 @@ fn with_digit(number: Option<i64>, digit: u8) -> i64 {
         .saturating_add(i64::from(digit.saturating_sub(b'0')))
 }
 
-// Adds a number, where there is one.
+// Adds a number, if there is one.
 fn push_number(number: Option<i64>, params: &mut Vec<CsiParam>) -> Result<(), AllocError> {
     match number {
         Some(number) => Ok(params.push(CsiParam::Integer(number))?),

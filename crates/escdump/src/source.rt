@@ -5,11 +5,11 @@ use crate::options::{Options, Recorded};
 use dump_time::{Cast, TimeError, Typescript};
 use std::alloc::Global;
 
-/// What reads the bytes of a file as they come.
+/// Reads the bytes of a file as they come.
 #[derive(Drop)]
 pub struct Source<'t> {
     recorded: Recorded,
-    // Whether what was typed is asked for.
+    // Whether the typed input is asked for.
     is_input: bool,
     cast: Cast,
     typescript: Typescript<'t>,
@@ -75,7 +75,7 @@ fn take_lines(
     Ok(())
 }
 
-// Gives the dump the text of a line, where that is of the direction that is asked for.
+// Gives the dump the text of a line, if its direction is the one that is asked for.
 fn take_line(cast: &mut Cast, is_input: bool, dump: &mut Dump<'_>) -> Result<(), TimeError> {
     if let Some(heard) = cast.heard()? {
         if heard.is_input == is_input {

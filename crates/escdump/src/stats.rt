@@ -1,4 +1,4 @@
-//! What a stream holds.
+//! The counts of a stream's items.
 
 use crate::item::Item;
 use crate::selection::numbers_of;
@@ -17,10 +17,11 @@ struct Row {
     first: u64,
 }
 
-// The most rows of names with a number or bytes. What has another such name is counted by its kind.
+// The most rows of names with a number or bytes. An item with another such name is counted by its
+// kind.
 const MOST: u64 = 500;
 
-// Whether what has this name sets or resets modes, or saves or restores them.
+// Whether a sequence of this name sets, resets, saves or restores modes, or asks for one.
 fn has_modes(name: Name) -> bool {
     let Name(kind, word, _) = name;
     if kind != "CSI" {
@@ -54,7 +55,7 @@ impl Stats {
     }
 
     /// Counts an item of this name, and returns whether memory was there for it. A run of text goes
-    /// on with one that ended where it begins. Of modes that are set or reset each has a row.
+    /// on with one that ended at its beginning. Each mode that is set or reset has a row.
     pub fn add(&mut self, item: &Item, name: Name) -> bool {
         if has_modes(name) {
             self.add_modes(item, name)
@@ -63,7 +64,7 @@ impl Stats {
         }
     }
 
-    // Counts an item by each of its modes that is a number, or where none is, by its name.
+    // Counts an item by each of its modes that is a number, or if none is, by its name.
     fn add_modes(&mut self, item: &Item, name: Name) -> bool {
         let Name(kind, word, _) = name;
         let mut rest = Some(numbers_of(item));
@@ -120,7 +121,7 @@ impl Stats {
         self.has_row(other) || self.rows.push(other).is_ok()
     }
 
-    // Joins a run of text with the one that ended where it begins.
+    // Joins a run of text with the one that ended at its beginning.
     fn join_text(&mut self, row: &mut Row) {
         if row.first == self.text_end {
             row.count = 0;
@@ -143,8 +144,8 @@ impl Stats {
         false
     }
 
-    /// Adds a line for each name, under a line that says what its numbers are: the commonest first,
-    /// and of those that came equally often that which came first.
+    /// Adds a line for each name, under a line that names the columns of numbers: the commonest
+    /// first, and among those that came equally often the one that came first.
     pub fn add_lines(&mut self, page: &mut Page) {
         page.push_line("   count       bytes     largest       first  name");
         page.note(self.rows.sort_by_key(|row| u64::MAX - row.count).is_err());

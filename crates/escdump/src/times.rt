@@ -5,8 +5,8 @@ use dump_page::Phrase;
 // The decimal digits.
 static DIGITS: [&str; 10] = ["0", "1", "2", "3", "4", "5", "6", "7", "8", "9"];
 
-/// Adds so many microseconds as seconds, with six digits after the point, after spaces where there
-/// are fewer digits before it than this.
+/// Adds so many microseconds as seconds, with six digits after the point, after spaces if there are
+/// fewer digits before it than this.
 pub fn add_seconds(micros: u64, width: usize, to: &mut Phrase) {
     to.add_number(micros / 1_000_000, width, 0);
     to.add(".");

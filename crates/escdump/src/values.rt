@@ -5,7 +5,7 @@ use crate::fields::add_label;
 use crate::key_words::{add_bits, add_code, add_event, add_modifiers};
 use dump_page::Phrase;
 
-/// The text up to a byte, and what is after that byte, where it has one.
+/// The text up to a byte, and the text after that byte, if it has one.
 pub fn cut(text: &[u8], byte: u8) -> (&[u8], Option<&[u8]>) {
     for at in 0..text.len() {
         if text[at] == byte {
@@ -50,7 +50,7 @@ fn digits_in(text: &[u8]) -> Option<i64> {
     Some(number)
 }
 
-/// The words of a value: what is after its `~`.
+/// The words of a value: the text after its `~`.
 pub fn words_in(values: &'static str, value: &[u8]) -> Option<&'static str> {
     for entry in values.split('/') {
         if let Some((key, words)) = entry.split_once('~') {
@@ -102,7 +102,7 @@ pub fn add_character(part: &[u8], to: &mut Phrase) {
     }
 }
 
-/// Adds the words of bits, or the modifiers of a key and what became of it.
+/// Adds the words of bits, or the modifiers of a key and its event.
 pub fn add_held(
     is_key: bool,
     label: &'static str,
@@ -157,7 +157,7 @@ fn add_pair(values: &'static str, pair: &[u8], to: &mut Phrase) {
     }
 }
 
-// Adds the words of a key and its value, which is in base64 where the words begin with `$`.
+// Adds the words of a key and its value, which is in base64 if the words begin with `$`.
 fn add_keyed(words: &'static str, value: &[u8], to: &mut Phrase) {
     match words.strip_prefix('$') {
         Some(words) => {

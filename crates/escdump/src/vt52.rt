@@ -7,7 +7,7 @@ use crate::selection::numbers_of;
 use crate::values::cut;
 use dump_page::{Key, Name, Phrase};
 
-/// Whether a terminal is in its VT52 mode: from where DECANM is reset up to where it is set, or to
+/// Whether a terminal is in its VT52 mode: from the reset of DECANM up to its next setting, or to
 /// `ESC <`.
 #[derive(Clone, Copy, Drop)]
 pub struct Vt52 {
@@ -51,12 +51,12 @@ fn is_of_mode(item: &Item) -> bool {
     false
 }
 
-/// What stands first in some bytes, where a terminal is in its VT52 mode.
+/// The first part of some bytes, if a terminal is in its VT52 mode.
 #[derive(Clone, Copy)]
 pub enum Address {
     /// A cursor position, of four bytes.
     Whole,
-    /// What may become one.
+    /// Bytes that may become one.
     Begun,
     /// Something else.
     Other,
@@ -72,7 +72,7 @@ pub fn address_in(bytes: &[u8], is_last: bool) -> Address {
     }
 }
 
-// A line for each sequence: its letter, a space and what it does.
+// A line for each sequence: its letter, a space and its description.
 static WORDS: &str = "\
 A cursor up
 B cursor down
@@ -107,7 +107,7 @@ pub fn add_vt52(letter: u8, rest: &[u8], to: &mut Phrase) -> bool {
     false
 }
 
-// Adds a line and a column, where there are both. The first of each is a space.
+// Adds a line and a column, if there are both. The first of each is a space.
 fn add_place(bytes: &[u8], to: &mut Phrase) {
     if let [line, column, ..] = bytes {
         to.add_integer(" line ", i64::from(line.saturating_sub(0x1f)));

@@ -5,11 +5,11 @@ use command_line::{Ended, Work};
 use std::alloc::Global;
 use std::io::{Read, Write};
 
-/// What keeps the bytes of a file.
+/// Keeps the bytes of a file.
 #[derive(Drop)]
 pub struct Whole<E> {
     bytes: Vec<u8>,
-    // Where what hinders goes.
+    // The output for faults.
     faults: E,
 }
 
@@ -35,7 +35,7 @@ impl<E: Write> Work for Whole<E> {
     }
 }
 
-// Reads to the end, and adds what is read.
+// Reads to the end, and adds the bytes that are read.
 fn read_all<R: Read>(input: &mut R, bytes: &mut Vec<u8>) -> Result<(), Fault> {
     let mut chunk = [0u8; 4096];
     for _ in 0..u64::MAX {

@@ -23,7 +23,7 @@ pub struct Words {
     pub is_unfinished: bool,
     /// Whether all of them are.
     pub is_whole: bool,
-    /// Whether tmux passes on what they are of.
+    /// Whether tmux passes on their segment.
     pub is_carried: bool,
     /// The name of a string in whose words a control sequence may be named after it.
     pub string: Option<Name>,
@@ -151,7 +151,7 @@ impl VTActor for Words {
         Ok(())
     }
 
-    // The controls inside a control sequence come before what it does.
+    // The controls inside a control sequence come before its words.
     fn csi_dispatch(
         &mut self,
         params: &[CsiParam],
