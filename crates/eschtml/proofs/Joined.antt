@@ -65,7 +65,7 @@ module _ {F A : Type 0} (G : Feeder F A) (held : ℕ) (filter : F) (m c : List �
       let (t, f) = h.adds.end (joined s) in
       (t, end_is ∙ f ∙ ap (λ y. y ++ t) (sym (text_is s)))
 
-  -- the filter was fed what some bytes add
+  -- the filter was fed the bytes that some bytes add
   pub joins_fed : (b x t : List ℕ) (after : ℕ) (new : F) → x ≡ joined_after held b
       → after ≡ held_after held b → G.gives new h.inner h.inner_end (joined s ++ x)
       → h.inner (joined s ++ x) ≡ h.inner (joined s) ++ t

@@ -1,4 +1,4 @@
--- What is left of the lines of a stream, as HTML.
+-- The final lines of a stream, as HTML.
 use Rattle.std.proofs.Common.{ℕ, ◌≡◌, false, List, [], ◌++◌, Option, Result, Some, ap, refl, subst, sym, ◌∙◌, append_assoc}
 use Rattle.esc_actions.specs.Texts.{list_text, texts_after}
 use Rattle.esc_filter.proofs.Output.NothingWasFed.{nothing}
@@ -34,7 +34,7 @@ pages_add A limit y = record {
   end = λ s. (closing_text A (Some limit) y s, refl);
 }
 
--- what changes the screen has no text where there is nothing, and only grows
+-- the actions that change the screen have no text if there are none, and it only grows
 pub no_screen : (A : Type 0) (limit : ℕ) → screen_text A limit [] ≡ []
 no_screen A limit = nothing {A = A} keep_all limit (admits Screen)
 
@@ -52,7 +52,7 @@ screen_longer A limit s =
     let vs = passed_values {A = A} (Some limit) (admits Screen) s in
     (list_text (closing (admits Screen) vs), closed_more (admits Screen) vs)
 
--- the same of the HTML of what is left of it
+-- the same for the HTML of its final lines
 module _ (A : Type 0) (limit : ℕ) (y : Layout) (z : Size) where
   pub no_html : composed (page_text A (Some limit) y) (final_after A z (screen_text A limit)) []
       ≡ []
@@ -94,7 +94,7 @@ module _ (A : Type 0) (limit : ℕ) (y : Layout) (z : Size) where
       (composed (page_of A limit y) (left_after A z (whole_screen A limit)))
   html_adds = record { more = html_more; end = html_longer }
 
--- where these rows may be written again
+-- if these rows may be written again
 pub by_rows : {R W X : Type 0} {Rd : Reader R} {Wr : Writer W} (A : Type 0) (o : Options)
     (r q : Option ℕ) (result : Result X FilterError) (reader : Borrowed R) (writer : Borrowed W)
     → r ≡ q → Filters Rd Wr (html_with A o q) (IsHtmlWith A o q) result reader writer

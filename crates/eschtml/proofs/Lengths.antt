@@ -1,4 +1,4 @@
--- What is revealed of a stream, and the page of it, are no longer than the stream allows.
+-- The revealed text of a stream, and its page, are no longer than the stream allows.
 use Rattle.std.proofs.Common.{ℕ, zero, suc, ◌≡◌, ◌≤◌, ◌<◌, ◌+◌, ◌*◌, ◌-◌, ◌==◌, ◌||◌, ◌&&◌, Bool, true, false, nat_lt, if◌then◌else◌, List, [], ◌∷◌, ◌++◌, length, map, Option, None, Some, Result, Ok, Err, OnOk, refl, ap, sym, subst, ◌∙◌, arith}
 use Rattle.std.specs.Char.{encode_utf8}
 use Rattle.std.specs.List.{flat_map}
@@ -96,7 +96,7 @@ character_most x h = by (is_shown (number_of x))
     by true = omega arith
     by false = sequence_most x h
 
--- what a byte shows and leaves begun
+-- the text that a byte shows and the bytes that it leaves begun
 first_most : (b : ℕ) → length (first_text b) + 4 * length (first_begun b) ≤ 4
 first_most b = by (is_prefix (b ∷ []))
   where
@@ -141,13 +141,14 @@ visible_most s =
       settled_most [] s,
     )
 
--- ---- what is revealed in reverse video, which goes on over neighbours: at most 7 bytes for each
+-- ---- the text that is revealed in reverse video, which goes on over neighbours: at most 7 bytes
+-- for each
 
 -- so many bytes are written of a text after these that are held back, or are held back then
 abbrev total : ℕ → List ℕ → ℕ
 total k t = length (joined_after k t) + held_after k t
 
--- what is put by for SGR 7 and 27 of what is shown next: nothing after SGR 27
+-- the bytes that are put by for SGR 7 and 27 of the text that is shown next: none after SGR 27
 abbrev left_by : ℕ → ℕ
 left_by k = if k == 5 then 0 else 6
 
@@ -349,7 +350,7 @@ feeds_append : (s t : List ℕ) → feeds (s ++ t) ≡ feeds s + feeds t
 feeds_append [] t = omega arith
 feeds_append (b ∷ s) t = omega (arith, feeds_append s t)
 
--- no line feed of a text is left out where its lines are elements
+-- no line feed of a text is left out if its lines are elements
 more_feeds : (n : ℕ) (t : List ℕ) (x : Bool) → feeds t ≤ feeds (lined_page (next_number n) false t)
     → feeds t ≤ feeds (lined_page n true t)
     → feeds t ≤ feeds (if x then line_end ++ lined_page (next_number n) false t

@@ -17,7 +17,7 @@ use Rattle.eschtml.specs.declared.options.Options.{Options}
 
 -- ---- more of a stream
 
--- what a text adds that comes after another
+-- the text that a text adds after another
 abbrev more_lines : ℕ → List ℕ → List ℕ → List ℕ
 more_lines n s t = lined_page (number_after n s) (open_after false s) t
 
@@ -61,7 +61,7 @@ module _ {F A : Type 0} (V : Feeder F A) (f : Lined F A) (m c : List ℕ → Lis
       let (t, e) = (lines_add h.first h.inner h.inner_end h.adds).end s in
       (t, ended s ∙ e ∙ ap (λ x. x ++ t) (sym (goes_on s)))
 
-  -- where the filter adds x, and the lines have taken that
+  -- if the filter adds x, and the lines have taken that
   pub lines_fed : (b x : List ℕ) (g : F) (w : LineWriter A) (z : Lined F A)
       → z ≡ record { filter = g; lines = w } → V.gives g h.inner h.inner_end (s ++ b)
       → h.inner (s ++ b) ≡ h.inner s ++ x → TakesLines h.first (h.inner s) x w

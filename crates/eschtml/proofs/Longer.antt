@@ -8,7 +8,7 @@ use Rattle.esc_html.specs.Pages.{first_state, page_text, page_parts_from, state_
 use Rattle.esc_html.specs.PageParts.{html_text, page_part_text}
 use Rattle.esc_html.specs.declared.layout.Layout.{Layout}
 
--- what bytes more add to it
+-- the text that more bytes add to it
 abbrev pub text_more : Type 0 → Option ℕ → Layout → List ℕ → List ℕ → List ℕ
 text_more A limit y s b = html_text (page_parts_from {A = A} y.per_line
     (state_from {A = A} y.per_line (first_state y.inline) (meaning_within limit s))

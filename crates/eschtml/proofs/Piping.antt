@@ -1,4 +1,4 @@
--- What a filter of the text of another adds.
+-- The text that a filter of the text of another adds.
 use Rattle.std.proofs.Common.{ℕ, ◌≡◌, List, ◌++◌, ap, sym, ◌∙◌, append_assoc}
 use Rattle.esc_normal.specs.declared.feeding.StreamFilter.{Ghosts as Feeder}
 use Rattle.eschtml.specs.Piped.{Pipes}
@@ -11,7 +11,7 @@ module _ {F G A : Type 0} (V : Feeder F A) (W : Feeder G A) (f : F) (g : G)
   ended : (x : List ℕ) → c x ≡ h.second_ended (h.first_ended x)
   ended x = ap (λ k. k x) h.ended
 
-  -- where the first adds a, and the second adds t of that
+  -- if the first adds a, and the second adds t for that
   pub piped_more : (b a t : List ℕ) → h.of_first (s ++ b) ≡ h.of_first s ++ a
       → h.of_second (h.of_first s ++ a) ≡ h.of_second (h.of_first s) ++ t
       → m (s ++ b) ≡ m s ++ t
@@ -23,7 +23,7 @@ module _ {F G A : Type 0} (V : Feeder F A) (W : Feeder G A) (f : F) (g : G)
   piped_longer b (a, first) =
       let (t, second) = h.adds.more (h.of_first s) a in (t, piped_more b a t first second)
 
-  -- the same at the end, where its end adds u
+  -- the same at the end, if its end adds u
   pub piped_end : (a t u : List ℕ) → h.first_ended s ≡ h.of_first s ++ a
       → h.of_second (h.of_first s ++ a) ≡ h.of_second (h.of_first s) ++ t
       → h.second_ended (h.of_first s ++ a) ≡ h.of_second (h.of_first s ++ a) ++ u

@@ -1,4 +1,4 @@
--- What was filtered, of texts that are equal.
+-- The filtered text, for texts that are equal.
 use Rattle.std.proofs.Common.{ℕ, ◌≡◌, Bool, true, false, List, Result, Ok, Err, OnOk, subst, ◌∙◌}
 use Rattle.std.proofs.lemmas.Result.{on_err_weaker}
 use Rattle.std.specs.declared.io.traits.Read.{Ghosts as Reader}

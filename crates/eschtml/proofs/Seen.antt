@@ -1,4 +1,4 @@
--- What of a stream becomes HTML where what is left out is shown.
+-- The text of a stream that becomes HTML if the actions that are left out are shown.
 use Rattle.std.proofs.Common.{ℕ, suc, ◌≡◌, ◌≤◌, ◌<◌, Bool, true, false, List, [], ◌∷◌, length, get_or, refl, ap, ◌∙◌, arith}
 use Rattle.std.specs.List.{list_all}
 use Rattle.std.proofs.lemmas.Bool.{false_from_ne_true}
@@ -19,7 +19,7 @@ use Rattle.caret_notation.specs.declared.reveal.Rule.{Rule}
 use Rattle.eschtml.specs.Joined.{joined}
 use Rattle.eschtml.specs.Written.{going_in, is_kept, whole_in}
 
--- where nothing is shown
+-- if nothing is shown
 pub whole_same : (A : Type 0) (b : Bool) (limit : ℕ) (moves : Bool) → b ≡ false → (s : List ℕ)
     → s ≡ whole_in A b limit moves s
 whole_same A true limit moves e s = absurd cc
@@ -30,7 +30,7 @@ pub going_same : (A : Type 0) (b : Bool) (limit : ℕ) (moves : Bool) → b ≡ 
 going_same A true limit moves e s = absurd cc
 going_same A false limit moves e s = refl
 
--- where what is left out is, by this rule
+-- if the actions that are left out are shown, by this rule
 module _ {P A : Type 0} (V : Admitter P A) (rule : Rule P) (limit : ℕ) (moves : Bool)
     (kept : rule.limit ≡ limit)
     (lines : (rule.by_lines ≡ false) × (rule.marking ≡ marking.Reversed))
@@ -61,7 +61,7 @@ module _ {P A : Type 0} (V : Admitter P A) (rule : Rule P) (limit : ℕ) (moves 
   going_shown true e s = ap joined (going_is s)
   going_shown false e s = absurd cc
 
--- what is revealed of a stream, and then becomes HTML
+-- the text that is revealed of a stream, and then becomes HTML
 pub through_adds : {P A : Type 0} (V : Admitter P A) (rule : Rule P) (m e : List ℕ → List ℕ)
     → OnlyAdds m e → OnlyAdds (through V rule m) (through_whole V rule e)
 through_adds V rule m e only = record {
@@ -91,7 +91,7 @@ nothing_decoded Utf8 = refl
 nothing_decoded EightBit = refl
 nothing_decoded (CodePage p) = refl
 
--- what has no text of nothing has none of what is seen of it
+-- a filter that has no text for nothing has none for the revealed text of nothing
 no_sight_of : (m : List ℕ → List ℕ) (A : Type 0) (shows : Bool) (limit : ℕ) (moves : Bool)
     → m [] ≡ [] → m (going_in A shows limit moves []) ≡ []
 no_sight_of m A true limit moves h = ap (λ s. m (joined s)) (rest_none marking.Reversed limit) ∙ h

@@ -1,4 +1,4 @@
--- A text in which reverse video that ends where it begins again goes on.
+-- A text without ends of reverse video after which it begins again at once.
 use Rattle.std.specs.Prelude.{ℕ, suc, ◌≡◌, ◌==◌, ◌&&◌, Bool, true, false, not, nat_le, if◌then◌else◌, List, [], ◌∷◌, ◌++◌, get_or, take}
 use Rattle.esc_decode.specs.Decodings.{OnlyAdds}
 use Rattle.esc_normal.specs.declared.feeding.StreamFilter.{Ghosts as Feeder}
@@ -7,9 +7,9 @@ use Rattle.esc_normal.specs.declared.feeding.StreamFilter.{Ghosts as Feeder}
 abbrev pub pair : List ℕ
 pair = 0x1b ∷ 0x5b ∷ 0x32 ∷ 0x37 ∷ 0x6d ∷ 0x1b ∷ 0x5b ∷ 0x37 ∷ 0x6d ∷ []
 
--- Of a text so many of its first bytes are held back, while they are the beginning of such a pair.
--- How many are after a byte more: a whole pair is left out, and within a pair another one may
--- begin, with `ESC [` or with ESC.
+-- So many of the first bytes of a text are held back, while they are the beginning of such a pair.
+-- This is their number after one more byte: a whole pair is left out, and within a pair another one
+-- may begin, with `ESC [` or with ESC.
 abbrev pub next_held : ℕ → ℕ → ℕ
 next_held k b = if b == get_or pair k 0 then (if nat_le 8 k then 0 else suc k)
     else if (k == 7) && (b == 0x32) then 3
@@ -30,7 +30,7 @@ goes_on k b = if b == get_or pair k 0 then false
 abbrev pub gone : ℕ → ℕ → List ℕ
 gone k b = take (let_go k b) pair ++ (if goes_on k b then b ∷ [] else [])
 
--- what bytes add that come after those that are held back, and how many are then
+-- the bytes that bytes add after those that are held back, and the number held back then
 abbrev pub joined_after : ℕ → List ℕ → List ℕ
 joined_after k [] = []
 joined_after k (b ∷ t) = gone k b ++ joined_after (next_held k b) t
@@ -39,12 +39,12 @@ abbrev pub held_after : ℕ → List ℕ → ℕ
 held_after k [] = k
 held_after k (b ∷ t) = held_after (next_held k b) t
 
--- A text without these pairs. What is held back at its end is left out: it is the beginning of a
--- sequence, or ends reverse video, and shows nothing.
+-- A text without these pairs. The bytes that are held back at its end are left out: they are the
+-- beginning of a sequence, or end reverse video, and show nothing.
 abbrev pub joined : List ℕ → List ℕ
 joined t = joined_after 0 t
 
--- the text of a stream, where this is that of a joined one
+-- the text of a stream, if this is that of a joined one
 abbrev pub through_joined : (List ℕ → List ℕ) → List ℕ → List ℕ
 through_joined m s = m (joined s)
 

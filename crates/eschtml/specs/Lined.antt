@@ -1,4 +1,4 @@
--- A filter of which the text is a page, and elements of its lines.
+-- A filter whose text is a page, and elements of its lines.
 use Rattle.std.specs.Prelude.{ℕ, ◌≡◌, List, false}
 use Rattle.esc_decode.specs.Decodings.{OnlyAdds}
 use Rattle.esc_html.specs.Lines.{in_lines, lined_page}

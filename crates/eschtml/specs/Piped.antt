@@ -13,8 +13,8 @@ NewAdding V f C = (m c : List ℕ → List ℕ) → V.gives f m c [] → m [] �
 abbrev pub composed : (List ℕ → List ℕ) → (List ℕ → List ℕ) → List ℕ → List ℕ
 composed g f s = g (f s)
 
--- The first was fed this stream, and the second its text: the text of both is that of the second,
--- of the text of the first.
+-- The first was fed this stream, and the second its text: the text of both is the text of the
+-- second for the text of the first.
 pub record Pipes {F G A : Type 0} (V : Feeder F A) (W : Feeder G A) (f : F) (g : G)
     (m c : List ℕ → List ℕ) (s : List ℕ) : Type 0 where
   pub of_first : List ℕ → List ℕ

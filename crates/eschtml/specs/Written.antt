@@ -1,4 +1,4 @@
--- What is written of a stream.
+-- The output for a stream.
 use Rattle.std.specs.Prelude.{ℕ, ◌≡◌, Bool, true, false, not, ◌&&◌, ◌||◌, if◌then◌else◌, List, ◌++◌, Option, None, Some, is_some, max}
 use Rattle.esc_actions.specs.Values.{Value, csi}
 use Rattle.esc_decode.specs.Decodings.{decoded_stream}
@@ -22,13 +22,13 @@ use Rattle.eschtml.specs.declared.options.Options.{Options}
 
 -- ---- pages
 
--- where lines are elements, no tag goes on over lines
+-- if lines are elements, no tag goes on over lines
 abbrev pub layout_by : Option ℕ → Layout → Layout
 layout_by None y = y
 layout_by (Some n) y = record y { per_line = true }
 
--- the text of a page that goes on, and of one that has ended, with its lines in elements, where
--- this is the number of the first
+-- the text of a page that goes on, and of one that has ended, with its lines in elements; this is
+-- the number of the first
 abbrev pub going_by : Option ℕ → List ℕ → List ℕ
 going_by None t = t
 going_by (Some n) t = lined_page n false t
@@ -44,45 +44,45 @@ page_of A limit y s = page_text A (Some limit) y s ++ closing_text A (Some limit
 abbrev pub html_of : Type 0 → Options → List ℕ → List ℕ
 html_of A o s = ended_by o.first (page_of A o.limit (layout_by o.first o.layout) s)
 
--- The text t is the HTML of the stream s: where it has ended, a page, with its lines in elements or
+-- The text t is the HTML of the stream s: if it has ended, a page, with its lines in elements or
 -- not.
 abbrev pub IsPageBy : Type 0 → Option ℕ → ℕ → Layout → List ℕ → List ℕ → Type 0
 IsPageBy A None limit y s t = IsPage A (Some limit) y s t
 IsPageBy A (Some n) limit y s t = IsLinedPage A (Some limit) n y s t
 
--- And where it goes on, what comes first in one.
+-- And if it goes on, the first part of one.
 abbrev pub IsHtml : Type 0 → Options → Bool → List ℕ → List ℕ → Type 0
 IsHtml A o true s t = IsPageBy A o.first o.limit (layout_by o.first o.layout) s t
 IsHtml A o false s t =
     t ≡ going_by o.first (page_text A (Some o.limit) (layout_by o.first o.layout) s)
 
--- ---- what is shown of what is left out
+-- ---- the text that shows actions that are left out
 
 -- a look that text has which is shown, or which is not seen
 abbrev pub has_disguise : Look → Bool
 has_disguise l = l.inverse || l.concealed
 
--- a look that has both, and one of which reverse video was ended, but not by a reset
+-- a look that has both, and one whose reverse video was ended, but not by a reset
 abbrev pub disguised_look : Look
 disguised_look = record plain_look { inverse = true; concealed = true }
 
 abbrev pub is_uncovered : Look → Bool
 is_uncovered l = l.concealed && not l.inverse
 
--- a control sequence after which plain text is in reverse video, as what is shown is, or concealed;
--- or one that ends reverse video, as what comes after text that is shown does
+-- a control sequence after which plain text is in reverse video, as shown text is, or concealed; or
+-- one that ends reverse video, as the end of shown text does
 abbrev pub disguises : {A : Type 0} → Value A → Bool
 disguises (csi c) =
     has_disguise (look_after plain_look c) || is_uncovered (look_after disguised_look c)
 disguises _ = false
 
--- what stays as it is: what a page shows, and where what is left of lines is shown, what changes
--- the screen too; but for what disguises
+-- actions that stay as they are: those that a page shows, and if the final lines are shown, those
+-- that change the screen too; but for those that disguise
 abbrev pub is_kept : {A : Type 0} → Bool → Value A → Bool
 is_kept moves v = not (disguises v) && (is_shown v || (moves && admits Screen v))
 
--- a stream that goes on; or, where what is left out is shown, what is revealed of it, in reverse
--- video, which goes on over neighbours
+-- a stream that goes on; or, if the actions that are left out are shown, its revealed text, in
+-- reverse video, which goes on over neighbours
 abbrev pub going_in : Type 0 → Bool → ℕ → Bool → List ℕ → List ℕ
 going_in A shows limit moves s =
     if shows then joined (revealed_as {A = A} Reversed false limit (is_kept moves) s) else s
@@ -92,36 +92,37 @@ abbrev pub whole_in : Type 0 → Bool → ℕ → Bool → List ℕ → List ℕ
 whole_in A shows limit moves s =
     if shows then joined (revealed_whole_as {A = A} Reversed false limit (is_kept moves) s) else s
 
--- of what the stream becomes by its encoding
+-- for the text that the stream becomes by its encoding
 abbrev pub seen_by : Type 0 → Options → Bool → Bool → List ℕ → List ℕ
 seen_by A o moves true s = whole_in A o.shows o.limit moves (decoded_stream o.encoding s)
 seen_by A o moves false s = going_in A o.shows o.limit moves (decoded_stream o.encoding s)
 
--- ---- what is left of lines
+-- ---- the final lines
 
 -- a screen of so many rows, and of as many columns as the options say
 abbrev pub size_of : Options → ℕ → Size
 size_of o n = window_size (max n 1) o.columns
 
--- what changes the screen of a stream, as text, of one that goes on, and of one that has ended
+-- the text of the actions of a stream that change the screen, for one that goes on, and for one
+-- that has ended
 abbrev pub screen_text : Type 0 → ℕ → List ℕ → List ℕ
 screen_text A limit s = passed_text {A = A} (Some limit) (admits Screen) s
 
 abbrev pub whole_screen : Type 0 → ℕ → List ℕ → List ℕ
 whole_screen A limit s = closed_text {A = A} (Some limit) (admits Screen) s
 
--- the stream; or, where so many rows may be written again, what is left of the lines of what
--- changes the screen
+-- the stream; or, if so many rows may be written again, the final lines of the text that changes
+-- the screen
 abbrev pub shown_of : Type 0 → Options → Option ℕ → Bool → List ℕ → List ℕ
 shown_of A o None b s = s
 shown_of A o (Some n) true s = left_after A (size_of o n) (whole_screen A o.limit) s
 shown_of A o (Some n) false s = final_after A (size_of o n) (screen_text A o.limit) s
 
--- what becomes HTML of a stream that goes on or has ended
+-- the text that becomes HTML, of a stream that goes on or has ended
 abbrev pub content_by : Type 0 → Options → Option ℕ → Bool → List ℕ → List ℕ
 content_by A o rows b s = shown_of A o rows b (seen_by A o (is_some rows) b s)
 
--- ---- what is written
+-- ---- the output
 
 -- the text of a stream that has ended
 abbrev pub html_with : Type 0 → Options → Option ℕ → List ℕ → List ℕ

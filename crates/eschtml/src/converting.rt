@@ -24,10 +24,10 @@ use std::io::{Read, Write};
 pub struct Converting<'a, W, E> {
     pub alloc: Global,
     pub options: Options<'a>,
-    /// What the output is called.
+    /// The name of the output.
     pub output_name: &'a str,
     pub output: &'a mut W,
-    /// Where what hinders goes.
+    /// The output for faults.
     pub faults: E,
     /// Whether the name of a stream is a heading of the page.
     pub is_headed: bool,
@@ -74,7 +74,7 @@ impl<'a, W: Write, E: Write> Converting<'a, W, E> {
         }
     }
 
-    // Writes these lines of a stream of this name, with what comes before and after them.
+    // Writes these lines of a stream of this name, with the text before and after them.
     fn take_on_page<R: Read + Drop>(
         &mut self,
         name: &str,
@@ -100,7 +100,7 @@ impl<'a, W: Write, E: Write> Converting<'a, W, E> {
         (self.flush(ended), window)
     }
 
-    // Writes these lines of a stream of this name, and says what a string took of them.
+    // Writes these lines of a stream of this name, and says which of them a string took.
     fn take_window<R: Read + Drop>(&mut self, name: &str, window: Window<R>) -> (Ended, Window<R>) {
         let before = window.before();
         let input = Heeding::new(self.alloc, self.options.encoding, window);
@@ -148,7 +148,7 @@ impl<'a, W: Write, E: Write> Converting<'a, W, E> {
         ended
     }
 
-    // Writes what comes next: the beginning or the end of a group, or text. None at the end.
+    // Writes the next part: the beginning or the end of a group, or text. None at the end.
     fn take_part<R: Read + Drop>(
         &mut self,
         name: &str,
@@ -217,7 +217,7 @@ impl<'a, W: Write, E: Write> Converting<'a, W, E> {
         Ended::Whole
     }
 
-    // Writes what comes next: an image, or text. None at the end.
+    // Writes the next part: an image, or text. None at the end.
     fn take_next<R: Read + Drop>(
         &mut self,
         name: &str,
@@ -248,7 +248,7 @@ impl<'a, W: Write, E: Write> Converting<'a, W, E> {
         )
     }
 
-    // Writes the HTML of what this reads, of a stream of this name.
+    // Writes the HTML of the text that this reads, for a stream of this name.
     fn write<R: Read + Drop>(&mut self, name: &str, input: R) -> Ended {
         let options = self.numbered();
         let mut reader = Watched::new(ErrorCapture::new(input));
@@ -333,8 +333,8 @@ impl<'a, W: Write, E: Write> Converting<'a, W, E> {
         options
     }
 
-    // Says what a string of the stream of this name took, which nothing ended, unless it is shown;
-    // so many lines come before what was read.
+    // Says how much a string of the stream of this name took, which nothing ended, unless it is
+    // shown; so many lines come before those that were read.
     fn note_lost(&mut self, name: &str, ended: Ended, before: u64, lost: Option<Lost>) -> Ended {
         let Some(lost) = lost else {
             return ended;

@@ -8,7 +8,7 @@ use std::alloc::Global;
 use std::io;
 use std::io::Read;
 
-/// A reader around another, which follows the strings of what it reads.
+/// A reader around another, which follows the strings in the text that it reads.
 #[derive(Drop)]
 pub struct Heeding<R> {
     inner: R,
@@ -24,7 +24,7 @@ impl<R: Read + Drop> Heeding<R> {
         }
     }
 
-    /// The string that is unfinished where the stream has ended, and the other reader.
+    /// The string that is unfinished at the end of the stream, and the other reader.
     pub fn end(self) -> (Option<Lost>, R) {
         let Heeding { inner, strings } = self;
         (strings.lost(), inner)

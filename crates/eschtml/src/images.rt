@@ -26,7 +26,7 @@ fn push_image(text: &mut String, picture: &Picture, is_inline: bool) -> Result<(
     fallible_alloc::push_str(text, "\">")
 }
 
-// The name of an image, or what it is.
+// The name of an image, or its kind.
 fn push_name(text: &mut String, name: &str) -> Result<(), AllocError> {
     if name.is_empty() {
         return fallible_alloc::push_str(text, "image");

@@ -1,4 +1,4 @@
-//! Reverse video that ends where it begins again, as one.
+//! Reverse video that ends and begins again at once, as one.
 ghost use Rattle.std.specs.Prelude.{[], ◌∷◌, ◌≡◌, ◌++◌, ◌<◌, ◌≤◌, ℕ, List, if◌then◌else◌, IfOk, OnErr, OnOk, get_or, length, take};
 ghost use Rattle.esc_decode.specs.Decodings.{OnlyAdds};
 ghost use Rattle.eschtml.specs.Joined.{Joins, goes_on, gone, held_after, joined_after, let_go, next_held, pair, through_joined};
@@ -8,16 +8,17 @@ use esc_filter::StreamFilter;
 use memchr::memchr;
 use std::alloc::{AllocError, Allocator, Global};
 
-/// Feeds a text to a filter without each `ESC [27m ESC [7m` in it: reverse video that ends where it
-/// begins again goes on, so that neighbours share one element.
+/// Feeds a text to a filter without each `ESC [27m ESC [7m` in it: reverse video that ends and
+/// begins again at once goes on, so that neighbours share one element.
 ///
-/// It keeps how much of such a pair came last, and what the last call made of its bytes.
+/// It keeps the length of such a pair that came last, and the text that the last call made of its
+/// bytes.
 #[derive(Drop)]
 pub struct Joining<F, A: Allocator = Global> {
     filter: F,
     // how many bytes of a pair came last
     held: usize,
-    // what goes to the filter of the last bytes
+    // the part of the last bytes that goes to the filter
     chunk: Vec<u8, A>,
 }
 
@@ -60,7 +61,8 @@ impl<F: StreamFilter<A>, A: Allocator + Copy> StreamFilter<A> for Joining<F, A> 
     }
 }
 
-// What bytes add that come after those that are held back, as `chunk`; and how many are then.
+// The bytes that bytes add after those that are held back, as `chunk`; and the number held back
+// then.
 fn join<A: Allocator>(
     chunk: &mut Vec<u8, A>,
     held: usize,
@@ -85,7 +87,8 @@ fn first_of_pair(count: usize) -> &'static [u8]
     }
 }
 
-// Appends what bytes add that come after those that are held back, and returns how many are then.
+// Appends the bytes that bytes add after those that are held back, and returns the number held back
+// then.
 fn push_joined<A: Allocator>(
     text: &mut Vec<u8, A>,
     held: usize,
@@ -125,7 +128,7 @@ fn push_some<A: Allocator>(
     }
 }
 
-// The same where nothing is held back.
+// The same if nothing is held back.
 fn push_plain<A: Allocator>(
     text: &mut Vec<u8, A>,
     bytes: &[u8],
@@ -186,7 +189,7 @@ fn push_one<A: Allocator>(text: &mut Vec<u8, A>, held: usize, byte: u8) -> Resul
     Ok(next)
 }
 
-// Appends the byte, where it goes on.
+// Appends the byte, if it goes on.
 fn push_if<A: Allocator>(text: &mut Vec<u8, A>, goes: bool, byte: u8) -> Result<(), AllocError>
     ensures ok { OnOk result
         (text.new.items ≡ text.old.items ++ (if goes then byte ∷ [] else [])) }

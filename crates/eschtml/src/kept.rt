@@ -1,4 +1,4 @@
-//! What of a stream stays where what a page leaves out is shown.
+//! The actions that stay if those that a page leaves out are shown.
 ghost use Rattle.std.specs.Prelude.{◌≡◌};
 ghost use Rattle.esc_actions.specs.Values.{value_of};
 ghost use Rattle.esc_sequences.specs.Csis.{csi_value};
@@ -12,12 +12,12 @@ use esc_sequences::CSI;
 use memchr::memchr;
 use std::alloc::Allocator;
 
-/// Admits what a page shows, but for renditions after which text looks as what is shown or is not
-/// seen, and for those that end reverse video, as what comes after text that is shown does; and
-/// where what is left of lines is shown, what changes the screen, since it decides what is left.
+/// Admits the actions that a page shows, but for renditions after which text looks as shown text or
+/// is not seen, and for those that end reverse video, as the end of shown text does; and if the
+/// final lines are shown, actions that change the screen, since these decide them.
 #[derive(Clone, Copy)]
 pub struct Kept {
-    /// Whether what changes the screen stays.
+    /// Whether actions that change the screen stay.
     pub moves: bool,
 }
 
@@ -39,7 +39,7 @@ impl<A: Allocator> Admit<A> for Kept {
     }
 }
 
-// Whether plain text is in reverse video after an action, as what is shown is, or concealed; or the
+// Whether plain text is in reverse video after an action, as shown text is, or concealed; or the
 // action ends reverse video, and is no reset.
 fn disguises<A: Allocator>(action: &Action<A>) -> bool
     ensures { result ≡ disguises (value_of action.now) }

@@ -8,7 +8,7 @@ use esc_filter::StreamFilter;
 use esc_html::LineWriter;
 use std::alloc::{AllocError, Allocator, Global};
 
-/// Feeds a stream to a filter, of which the text is a page, and makes elements of its lines.
+/// Feeds a stream to a filter whose text is a page, and makes elements of its lines.
 #[derive(Drop)]
 pub struct Lined<F, A: Allocator = Global> {
     filter: F,
@@ -16,7 +16,7 @@ pub struct Lined<F, A: Allocator = Global> {
 }
 
 impl<F: StreamFilter<A>, A: Allocator + Copy> Lined<F, A> {
-    /// This filter, and lines of which the first has this number. Takes no memory.
+    /// This filter, and lines, the first of which has this number. Takes no memory.
     pub fn new(alloc: A, first: u64, filter: F) -> Lined<F, A>
         ensures filter { result.filter ≡ filter }
         ensures begins { (m c : List ℕ → List ℕ) → F.gives filter m c [] → m [] ≡ []

@@ -98,7 +98,7 @@ Status: 0 all was written, 1 a fault, 2 usage, 141 the output was closed.";
 
 const VERSION: &str = "eschtml 0.1.0";
 
-// What the name of a new file ends in, until it takes its place.
+// The end of the name of a new file, until it takes its place.
 const NEW: &str = ".eschtml";
 
 fn main(rt: HostRuntime) -> ExitCode {
@@ -114,7 +114,7 @@ fn main(rt: HostRuntime) -> ExitCode {
     ExitCode::from(status)
 }
 
-// Does what the words ask for.
+// Does the task that the words ask for.
 fn done(rt: &HostRuntime, task: &Task<'_>) -> u8 {
     match task.kind {
         Kind::Convert => match wrong_apart(rt, task.apart) {
@@ -172,7 +172,7 @@ fn output_of(rt: &HostRuntime, name: Option<&str>) -> Result<Output, FileFault<'
     }
 }
 
-// Writes the files to an output of this name, as a page where one is asked for.
+// Writes the files to an output of this name, as a page if one is asked for.
 fn convert(
     rt: &HostRuntime,
     options: Options<'_>,

@@ -1,4 +1,4 @@
-//! What the program's words ask for.
+//! The task that the program's words ask for.
 
 use crate::palettes::{PALETTES, Palette};
 use command_line::{Apart, Found, Given, Known, Takes, Wrong, read};
@@ -13,9 +13,9 @@ use std::alloc::Global;
 pub struct Options<'a> {
     /// Whether a whole page is written, and not a fragment.
     pub is_page: bool,
-    /// The title of the page, where it is given.
+    /// The title of the page, if it is given.
     pub title: Option<&'a str>,
-    /// The address of the style sheet of the page, where it is not the program's.
+    /// The address of the style sheet of the page, if it is not the program's.
     pub css: Option<&'a str>,
     /// The language of the page, as `en`.
     pub lang: &'a str,
@@ -25,15 +25,15 @@ pub struct Options<'a> {
     pub palette: Option<Palette>,
     /// Whether long lines of the page are broken.
     pub wraps: bool,
-    /// The number of the first line, where each line is an element.
+    /// The number of the first line, if each line is an element.
     pub first: Option<u64>,
     /// How the HTML is laid out.
     pub layout: Layout,
-    /// Whether what is left out is shown in place.
+    /// Whether the actions that are left out are shown in place.
     pub shows: bool,
-    /// Whether the HTML says what a string took that nothing ends.
+    /// Whether the HTML says how much a string took that nothing ends.
     pub marks_lost: bool,
-    /// How many rows may be written again, where what is left of them is written.
+    /// The number of rows that may be written again, if the final rows are written.
     pub rows: Option<usize>,
     /// How many columns these rows have.
     pub columns: usize,
@@ -49,7 +49,7 @@ pub struct Options<'a> {
     pub images: bool,
     /// Whether a stream is a recording of asciinema.
     pub is_cast: bool,
-    /// Which byte of a unit comes first, where a stream is in UTF-16; then it is read as UTF-8.
+    /// The byte of a unit that comes first, if a stream is in UTF-16; then it is read as UTF-8.
     pub order: Option<ByteOrder>,
     /// How the bytes of a stream are read.
     pub encoding: Encoding,
@@ -146,27 +146,27 @@ impl Theme {
     }
 }
 
-/// What the program does.
+/// The work of the program.
 #[derive(Clone, Copy)]
 pub enum Kind {
-    /// It writes files, or standard input where there is none, as HTML.
+    /// It writes files, or standard input if there is none, as HTML.
     Convert,
     /// It prints the style sheet.
     Style,
-    /// It prints what it does.
+    /// It prints its help.
     Help,
     /// It prints its version.
     Version,
 }
 
-/// What the program's words ask for.
+/// The task that the program's words ask for.
 #[derive(Drop)]
 pub struct Task<'a> {
-    /// What the program does.
+    /// The work of the program.
     pub kind: Kind,
     /// How streams become HTML.
     pub options: Options<'a>,
-    /// The file that the output goes to; standard output, where there is none.
+    /// The file that the output goes to; standard output, if there is none.
     pub output: Option<&'a str>,
     /// The files.
     pub files: Vec<&'a str>,
@@ -182,7 +182,7 @@ const MOST_ROWS: usize = 4096;
 
 const MOST_COLUMNS: usize = 16_384;
 
-// What the value of `--head` and `--tail` is called.
+// The name of the value of `--head` and `--tail`.
 const LINES: &str = "number of lines";
 
 // And that of `--columns`.
@@ -357,7 +357,7 @@ impl<'a> Task<'a> {
     }
 }
 
-// What the options so far ask for.
+// The choices of the options so far.
 #[derive(Clone, Copy)]
 struct Choices<'a> {
     kind: Kind,
@@ -403,7 +403,7 @@ impl<'a> Choices<'a> {
     }
 }
 
-// What is wrong with the value of an option, where anything is.
+// The fault of the value of an option, if it has one.
 fn wrong_value<'a>(given: &Given<'a>) -> Option<Wrong<'a>> {
     let (kind, is_right) = match given.name {
         "--final-lines" => ("number of rows", rows_of(given.word).is_some()),
@@ -418,7 +418,7 @@ fn wrong_value<'a>(given: &Given<'a>) -> Option<Wrong<'a>> {
     Some(Wrong::Value(given.name, kind, given.word, None))
 }
 
-// The word after this option, where it could take it, and takes what follows `=` alone.
+// The word after this option, if it could take it, and takes only a value after `=`.
 fn apart_of<'a>(given: &Given<'a>) -> Option<Apart<'a>> {
     if given.next.is_empty() || rows_of(given.next).is_none() {
         return None;
@@ -439,7 +439,7 @@ fn is_language(word: &str) -> bool {
     !word.is_empty()
 }
 
-// How many rows a word names; where it is empty, the default.
+// The number of rows that a word names; if it is empty, the default.
 fn rows_of(word: &str) -> Option<usize> {
     if word.is_empty() {
         return Some(DEFAULT_ROWS);
@@ -452,7 +452,7 @@ fn columns_of(word: &str) -> Option<usize> {
     number_of(word, MOST_COLUMNS)
 }
 
-// The number that a word names, where it is from 1 to this one.
+// The number that a word names, if it is from 1 to this one.
 fn number_of(word: &str, most: usize) -> Option<usize> {
     match word.parse::<usize>() {
         Ok(number) if 0 < number && number <= most => Some(number),

@@ -1,4 +1,4 @@
-//! What comes before and after a stream in a whole page.
+//! The text before and after a stream in a whole page.
 
 use crate::options::{Options, Theme};
 use crate::palettes::Palette;
@@ -8,7 +8,7 @@ use esc_html::push_text;
 use page_input::Mark;
 use std::alloc::{AllocError, Global};
 
-// What is allowed to a page: its own styles, and nothing that a browser would load or run.
+// The permissions of a page: its own styles, and nothing that a browser would load or run.
 const OWN_STYLES: &str = "default-src 'none'; style-src 'unsafe-inline'; base-uri 'none'; \
                           form-action 'none'";
 
@@ -19,7 +19,7 @@ const ANY_STYLES: &str = "default-src 'none'; style-src 'unsafe-inline' 'self' f
 // And images that are in the page.
 const IMAGES: &str = "; img-src data:";
 
-// A text that was made, where it was made whole.
+// A text, if it was made whole.
 fn whole(text: String, made: Result<(), AllocError>) -> Result<String, AllocError> {
     match made {
         Ok(()) => Ok(text),
@@ -27,7 +27,7 @@ fn whole(text: String, made: Result<(), AllocError>) -> Result<String, AllocErro
     }
 }
 
-/// What a page begins with: its title, and its style sheet or a link to that of the options. The
+/// The beginning of a page: its title, and its style sheet or a link to that of the options. The
 /// error is that memory was refused.
 pub fn head(alloc: Global, title: &str, options: &Options<'_>) -> Result<String, AllocError> {
     let mut text = String::new(alloc);
@@ -58,7 +58,7 @@ fn push_head(text: &mut String, title: &str, options: &Options<'_>) -> Result<()
 }
 
 // Appends a title, with U+FFFD in the place of controls and noncharacters: some are no HTML, and
-// controls are obeyed where the page is printed on a terminal.
+// controls are obeyed if the page is printed on a terminal.
 fn push_title(text: &mut String, title: &str) -> Result<(), AllocError> {
     let shown = as_characters(*text.allocator(), title)?;
     push_text(text, shown.as_str())
@@ -89,7 +89,7 @@ fn is_noncharacter(c: char) -> bool {
     ('\u{fdd0}' <= c && c <= '\u{fdef}') || c as u32 & 0xfffe == 0xfffe
 }
 
-// What is allowed to a page with the style sheet of this address, or with its own.
+// The permissions of a page with the style sheet of this address, or with its own.
 fn allowed(css: Option<&str>) -> &'static str {
     match css {
         Some(_) => ANY_STYLES,
@@ -97,8 +97,8 @@ fn allowed(css: Option<&str>) -> &'static str {
     }
 }
 
-// Whether the page is light or dark, and its palette: light, with none, where it has the colours of
-// a light one by themselves.
+// Whether the page is light or dark, and its palette: light, with none, if it has the colours of a
+// light one by themselves.
 fn colors_of(options: &Options<'_>) -> (Theme, Option<Palette>) {
     if options.layout.inline {
         (Theme::Light, None)
@@ -145,7 +145,7 @@ fn push_value(text: &mut String, value: &str) -> Result<(), AllocError> {
     Ok(())
 }
 
-/// What a page ends with.
+/// The end of a page.
 pub const END: &str = "</main>\n</body>\n</html>\n";
 
 /// On which side of the lines that are written others are left out.
@@ -167,14 +167,14 @@ impl Side {
     }
 }
 
-/// What so many lines are called.
+/// The word for so many lines.
 pub fn counted(lines: u64) -> &'static str {
     if lines == 1 { "line" } else { "lines" }
 }
 
-/// What comes before a stream of this name, of which so many lines before those that are written
-/// are left out: a heading, where it has a number, which is in the id of the heading. The error is
-/// that memory was refused.
+/// The text before a stream of this name, if so many lines before those that are written are left
+/// out: a heading, if it has a number, which is in the id of the heading. The error is that memory
+/// was refused.
 pub fn heading(
     alloc: Global,
     name: &str,
@@ -202,7 +202,7 @@ fn push_heading(
     push_left_out(text, left_out, Side::Before)
 }
 
-/// What comes before text of a stream of this name, after so many lines of the page. A browser
+/// The text before the HTML of a stream of this name, after so many lines of the page. A browser
 /// leaves out the line feed after `<pre>`. The error is that memory was refused.
 pub fn before(
     alloc: Global,
@@ -226,11 +226,11 @@ fn push_before(
     fallible_alloc::push_str(text, "\">\n")
 }
 
-/// What comes after it.
+/// The text after it.
 pub const AFTER: &str = "</pre></div>\n";
 
-// What it begins with, up to the name. Where not all lines are shown as such, the numbers of the
-// others are counted from the first of them on.
+// Its beginning, up to the name. If not all lines are shown as such, the numbers of the others are
+// counted from the first of them on.
 fn push_opening(text: &mut String, lines: u64, options: &Options<'_>) -> Result<(), AllocError> {
     fallible_alloc::push_str(text, "<div class=\"es-stream")?;
     if options.wraps {
@@ -248,15 +248,15 @@ fn push_opening(text: &mut String, lines: u64, options: &Options<'_>) -> Result<
     fallible_alloc::push_str(text, " aria-label=\"")
 }
 
-/// What comes after a stream, of which so many lines after those that are written are left out. The
-/// error is that memory was refused.
+/// The text after a stream, if so many lines after those that are written are left out. The error
+/// is that memory was refused.
 pub fn ending(alloc: Global, left_out: u64) -> Result<String, AllocError> {
     let mut text = String::new(alloc);
     let made = push_left_out(&mut text, left_out, Side::After);
     whole(text, made)
 }
 
-/// What begins or ends a group of lines. The error is that memory was refused.
+/// The beginning or the end of a group of lines. The error is that memory was refused.
 pub fn group(alloc: Global, mark: &Mark) -> Result<String, AllocError> {
     let mut text = String::new(alloc);
     let made = push_group(&mut text, mark);
@@ -274,7 +274,7 @@ fn push_group(text: &mut String, mark: &Mark) -> Result<(), AllocError> {
     }
 }
 
-/// What says that a string which nothing ended, from this line on, took so many bytes: a span, on a
+/// A note that a string which nothing ended, from this line on, took so many bytes: a span, on a
 /// page in a note. The error is that memory was refused.
 pub fn lost_note(alloc: Global, is_page: bool, lost: Lost) -> Result<String, AllocError> {
     let mut text = String::new(alloc);
@@ -327,7 +327,7 @@ fn note_end(is_page: bool) -> &'static str {
     }
 }
 
-// What begins a group, up to its title.
+// The beginning of a group, up to its title.
 fn opening_of(is_closed: bool) -> &'static str {
     if is_closed {
         "<details><summary>"
@@ -336,7 +336,7 @@ fn opening_of(is_closed: bool) -> &'static str {
     }
 }
 
-// Appends how many lines are left out on this side, where any are.
+// Appends the number of lines that are left out on this side, if any are.
 fn push_left_out(text: &mut String, lines: u64, side: Side) -> Result<(), AllocError> {
     if lines == 0 {
         return Ok(());

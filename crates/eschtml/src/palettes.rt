@@ -24,11 +24,11 @@ pub const PALETTES: &[&str] = &["xterm", "vga", "solarized", "tango", "one-half"
 /// The colours of a light or of a dark page.
 #[derive(Clone, Copy)]
 pub struct Scheme {
-    /// Of text.
+    /// The colour of text.
     pub text: Rgb,
     /// Around it.
     pub page: Rgb,
-    /// Of numbers of lines and notes.
+    /// The colour of numbers of lines and notes.
     pub dim: Rgb,
     /// Around the line that an address leads to.
     pub mark: Rgb,
@@ -112,7 +112,7 @@ const VGA: [Rgb; 16] = [
     (0xff, 0xff, 0xff),
 ];
 
-// Of Ethan Schoonover, as its table for terminals has them.
+// The colours of Ethan Schoonover, as his table for terminals has them.
 const SOLARIZED: [Rgb; 16] = [
     (0x07, 0x36, 0x42),
     (0xdc, 0x32, 0x2f),
@@ -132,7 +132,7 @@ const SOLARIZED: [Rgb; 16] = [
     (0xfd, 0xf6, 0xe3),
 ];
 
-// Of the Tango Desktop Project, as GNOME Terminal has them.
+// The colours of the Tango Desktop Project, as GNOME Terminal has them.
 const TANGO: [Rgb; 16] = [
     (0x2e, 0x34, 0x36),
     (0xcc, 0x00, 0x00),
@@ -152,7 +152,7 @@ const TANGO: [Rgb; 16] = [
     (0xee, 0xee, 0xec),
 ];
 
-// Of Son A. Pham, after Atom's One Light; the bright ones are the same.
+// The colours of Son A. Pham, after Atom's One Light; the bright ones are the same.
 const ONE_HALF_LIGHT: [Rgb; 16] = [
     (0x38, 0x3a, 0x42),
     (0xe4, 0x56, 0x49),

@@ -12,7 +12,7 @@ pub struct Piped<F, G, A: Allocator = Global> {
     first: F,
     /// The second filter.
     pub second: G,
-    // what the last call added
+    // the text that the last call added
     text: String<A>,
 }
 

@@ -13,18 +13,18 @@ const MOST_DIGITS: usize = 12;
 /// Whether a text begins with a time.
 #[derive(Clone, Copy)]
 pub enum Stamp {
-    /// It does: with so many bytes, of which the last is a space.
+    /// It does: with so many bytes, the last of which is a space.
     Ends(usize),
-    /// It may, where more follows.
+    /// It may, if more follows.
     More,
     /// It does not.
     No,
 }
 
-/// Whether a text begins with a time and a space, as `ts` of moreutils writes it, journalctl, dmesg
-/// and what prefixes logs of containers and of CI: `Nov 29 10:18:01`, `10:18:01.250`,
-/// `2026-11-29T10:18:01Z`, `1764411481.250000`, each in square brackets or not, and in these any
-/// number of seconds, as `[    1.500000]`.
+/// Whether a text begins with a time and a space, as it is written by `ts` of moreutils,
+/// journalctl, dmesg and the tools that prefix logs of containers and of CI: `Nov 29 10:18:01`,
+/// `10:18:01.250`, `2026-11-29T10:18:01Z`, `1764411481.250000`, each in square brackets or not, and
+/// in these any number of seconds, as `[    1.500000]`.
 pub fn stamp_of(text: &[u8]) -> Stamp {
     let mut cursor = Cursor {
         text,
@@ -45,7 +45,7 @@ pub fn stamp_of(text: &[u8]) -> Stamp {
 struct Cursor<'a> {
     text: &'a [u8],
     at: usize,
-    // whether it ended where a byte was asked for
+    // whether it ended when a byte was asked for
     is_short: bool,
 }
 
@@ -76,7 +76,7 @@ impl<'a> Cursor<'a> {
         seconds <= digits && self.takes(b'.') && 0 < self.digits()
     }
 
-    // Takes what comes after the year: a month, a day, and what is before the time.
+    // Takes the text after the year: a month, a day, and the separator before the time.
     fn takes_date(&mut self) -> bool {
         self.digits() == 2
             && self.takes(b'-')
@@ -108,7 +108,7 @@ impl<'a> Cursor<'a> {
         true
     }
 
-    // Takes a zone, where there is one.
+    // Takes a zone, if there is one.
     fn takes_zone(&mut self) -> bool {
         if self.takes(b'Z') {
             return true;
@@ -145,7 +145,7 @@ impl<'a> Cursor<'a> {
         self.at.saturating_sub(start)
     }
 
-    // Takes this byte, where it comes next.
+    // Takes this byte, if it comes next.
     fn takes(&mut self, byte: u8) -> bool {
         let comes = self.next() == byte;
         if comes {
@@ -154,7 +154,7 @@ impl<'a> Cursor<'a> {
         comes
     }
 
-    // The byte that comes next; a line feed where none does.
+    // The byte that comes next; a line feed if none does.
     fn next(&mut self) -> u8 {
         match self.text.get(self.at) {
             Some(byte) => *byte,

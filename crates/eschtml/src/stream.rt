@@ -35,7 +35,7 @@ struct Marked<A: Allocator = Global> {
 }
 
 impl<A: Allocator + Copy> Marked<A> {
-    // Of nothing. Takes no memory.
+    // A writer of nothing. Takes no memory.
     fn new(alloc: A, limit: usize, layout: Layout) -> Marked<A>
         ensures { HasConsumed limit layout [] result.writer }
     {
@@ -78,10 +78,11 @@ impl<A: Allocator + Copy> StreamFilter<A> for Marked<A> {
     }
 }
 
-/// Writes on `writer` the HTML of what the stream that `reader` reads becomes by its encoding, as
-/// it comes, and at its end what closes the tags that are open; by the options, what is left out of
-/// it is shown in place, and of the lines that is written which is left of them. It returns what
-/// [`pump`] does. Where no lines are, the HTML is bounded by the length of the stream.
+/// Writes on `writer` the HTML of the text that the stream that `reader` reads becomes by its
+/// encoding, as it comes, and at its end the tags that close those that are open. By the options,
+/// the actions that are left out are shown in place, and only the final lines are written. It
+/// returns the result of [`pump`]. If no lines are kept, the HTML is bounded by the length of the
+/// stream.
 pub fn write_html<A: Allocator + Copy, R: Read, W: Write>(
     alloc: A,
     options: &Options<'_>,
@@ -101,7 +102,7 @@ pub fn write_html<A: Allocator + Copy, R: Read, W: Write>(
     }
 }
 
-// Of the whole stream.
+// Writes the HTML of the whole stream.
 fn write_whole<A: Allocator + Copy, R: Read, W: Write>(
     alloc: A,
     options: &Options<'_>,
@@ -120,7 +121,7 @@ fn write_whole<A: Allocator + Copy, R: Read, W: Write>(
     write_lined(alloc, options, false, marked, reader, writer)
 }
 
-// Of what is left of the lines, of which so many may be written again.
+// Writes the HTML of the final lines; so many may be written again.
 fn write_left<A: Allocator + Copy, R: Read, W: Write>(
     alloc: A,
     options: &Options<'_>,
@@ -147,7 +148,7 @@ fn write_left<A: Allocator + Copy, R: Read, W: Write>(
     write_lined(alloc, options, true, piped, reader, writer)
 }
 
-// The layout of the page: where lines are elements, no tag of it goes on over lines.
+// The layout of the page: if lines are elements, no tag of it goes on over lines.
 fn layout_by(options: &Options<'_>) -> Layout
     ensures { result ≡ layout_by options.now.first options.now.layout }
 {
@@ -160,8 +161,8 @@ fn layout_by(options: &Options<'_>) -> Layout
     }
 }
 
-// The same as `write_seen`, where this filter has the text of a page, of which each line is made an
-// element, where the options ask for that.
+// The same as `write_seen`, if this filter has the text of a page; each of its lines is made an
+// element, if the options ask for that.
 fn write_lined<A: Allocator + Copy, R: Read, W: Write, F: StreamFilter<A> + Drop>(
     alloc: A,
     options: &Options<'_>,
@@ -187,9 +188,9 @@ fn write_lined<A: Allocator + Copy, R: Read, W: Write, F: StreamFilter<A> + Drop
     }
 }
 
-// Writes on `writer` by this filter, which was fed nothing, what is written of what that becomes by
-// its encoding that `reader` reads, or where what is left out is shown, of that; `moves` says that
-// what changes the screen is not.
+// Writes on `writer` by this filter, which was fed nothing, the text of the stream that `reader`
+// reads, after its encoding; or, if the actions that are left out are shown, of that with these
+// shown; `moves` says that actions that change the screen are not.
 fn write_seen<A: Allocator + Copy, R: Read, W: Write, F: StreamFilter<A> + Drop>(
     alloc: A,
     options: &Options<'_>,

@@ -1,4 +1,4 @@
-//! Strings of a stream that do not end, and so take what follows them from a page.
+//! Strings of a stream that do not end, and so take the text after them from a page.
 
 use esc_decode::{CodePage, Encoding, Mask};
 use esc_frame::{VTActor, VTParser};
@@ -11,7 +11,7 @@ const ESC: u8 = 0x1b;
 // How many bytes are looked at one by one.
 const NEAR: usize = 16;
 
-/// What is unfinished at the end of a stream.
+/// The string that is unfinished at the end of a stream.
 #[derive(Clone, Copy)]
 pub struct Lost {
     /// The line that it begins in, from 1.
@@ -20,8 +20,8 @@ pub struct Lost {
     pub bytes: u64,
 }
 
-/// Follows the strings of a stream by its framing, in the stream's encoding; what comes between
-/// them is looked through for what opens one.
+/// Follows the strings of a stream by its framing, in the stream's encoding; the bytes between them
+/// are searched for an opener of a string.
 #[derive(Drop)]
 pub struct Strings {
     encoding: Encoding,
@@ -34,7 +34,7 @@ pub struct Strings {
 }
 
 impl Strings {
-    /// Of a stream in this encoding, at its beginning. Takes no memory.
+    /// Those of a stream in this encoding, at its beginning. Takes no memory.
     pub fn new(alloc: Global, encoding: Encoding) -> Strings {
         Strings {
             encoding,
@@ -71,7 +71,7 @@ impl Strings {
         }
     }
 
-    // Passes text up to what may open a string, which it begins with; how many bytes that are.
+    // Passes text up to bytes that may open a string, which it begins with; returns its length.
     fn pass(&mut self, bytes: &[u8]) -> usize {
         let at = self.passed(bytes).min(bytes.len());
         self.count_lines(bytes.get(..at).unwrap_or(bytes));
@@ -84,7 +84,7 @@ impl Strings {
         at.saturating_add(self.follow(here))
     }
 
-    // How many bytes come before what may open a string.
+    // The number of bytes before those that may open a string.
     fn passed(&self, bytes: &[u8]) -> usize {
         let mut rest = bytes;
         while !rest.is_empty() {
@@ -140,7 +140,7 @@ impl Strings {
         };
     }
 
-    // Frames what a byte becomes; whether memory was there.
+    // Frames the bytes that a byte becomes; returns whether memory was there.
     fn frame(&mut self, byte: u8) -> bool {
         let mut seen = Seen { any: false };
         let framed = match self.encoding {
@@ -189,7 +189,7 @@ fn first_of_any(bytes: &[u8]) -> Option<usize> {
     None
 }
 
-// Whether these bytes begin with two that open no string, and of which the second is not looked at
+// Whether these bytes begin with two that open no string, the second of which is not looked at
 // again: a control sequence, an escape sequence or, in UTF-8, another character.
 fn is_other(bytes: &[u8]) -> bool {
     match bytes {

@@ -54,9 +54,8 @@ const OWN_GROUNDS: &str = "\
 ";
 
 // The rules for each class that a span can have, all below `.es-stream`, with names of their own. A
-// line through, over or under characters adds to the others; what blinks does not. A link has a
-// dashed line, lower than that of a rendition. What stands on the ground of a line touches the one
-// of the next.
+// line through, over or under characters adds to the others; a blinking one does not. A link has a
+// dashed line, lower than that of a rendition. The ground of a line touches that of the next.
 const RULES: &str = "\
 .es-stream { color: var(--es-text); background-color: var(--es-page);
   font: 0.875rem/1.45 ui-monospace, SFMono-Regular, Menlo, Consolas, monospace; }
@@ -91,7 +90,7 @@ const RULES: &str = "\
 .es-stream .es-inverse { color: var(--es-page); background-color: var(--es-text); }
 ";
 
-// What characters with a colour that has a name have on any ground: lighter colours.
+// The rule for characters with a colour that has a name on any ground: lighter colours.
 const ON_GROUNDS: &str = "\
 .es-stream [class*=\"es-bg-\"] {
   --es-black: #000000; --es-white: #ffffff; --es-bright-white: #ffffff;
@@ -101,7 +100,7 @@ const ON_GROUNDS: &str = "\
   --es-bright-magenta: #d2a8ff; --es-bright-cyan: #56d4dd; }
 ";
 
-// What grounds on which black can be read better have, after their names: darker colours.
+// The rule for grounds on which black can be read better, after their names: darker colours.
 const ON_LIGHT: &str = " {
   --es-red: #b3261e; --es-green: #116329; --es-yellow: #7d4e00; --es-blue: #0550ae;
   --es-magenta: #8250df; --es-cyan: #0b6b75; --es-bright-black: #57606a; --es-bright-red: #cf222e;
@@ -180,7 +179,7 @@ const COLORS: &str = "\
 .es-stream .es-ul-bright-white { text-decoration-color: var(--es-bright-white); }
 ";
 
-// What holds for all of them.
+// The rules for all of them.
 const LAST_RULES: &str = "\
 .es-stream .es-concealed { color: transparent !important; }
 .es-stream [class*=\"es-bg-\"], .es-stream .es-inverse, .es-stream [style*=\"background-color\"] {
@@ -196,7 +195,7 @@ const LAST_RULES: &str = "\
 }
 ";
 
-// What any whole page has beside it.
+// The rules that any whole page has beside it.
 const PAGE: &str = "\
 body { margin: 0; }
 main { counter-reset: es-line; }
@@ -207,10 +206,10 @@ details > details, details > div { margin-left: 1.5rem; }
 @media print { details::details-content { content-visibility: visible; height: auto; } }
 ";
 
-// What holds where the reader's setting is dark.
+// The beginning of the rules for a reader with a dark setting.
 const IF_DARK: &str = "@media (prefers-color-scheme: dark) {\n";
 
-// The colours of text and of what is around it, where they are the program's own.
+// The colours of text and of its background, if they are the program's own.
 const LIGHT_PAGE: (Rgb, Rgb) = ((0x1f, 0x23, 0x28), (0xff, 0xff, 0xff));
 
 const DARK_PAGE: (Rgb, Rgb) = ((0xe6, 0xed, 0xf3), (0x0d, 0x11, 0x17));
@@ -236,7 +235,7 @@ const NAMES: [&str; 16] = [
 ];
 
 /// Appends the style sheet, light or dark, with the colours of a palette or the program's own: for
-/// a `div` of class `es-stream` and what is in it.
+/// a `div` of class `es-stream` and its contents.
 pub fn push_style(
     text: &mut String,
     theme: Theme,
@@ -331,7 +330,7 @@ fn push_own(text: &mut String, theme: Theme) -> Result<(), AllocError> {
     fallible_alloc::push_str(text, GROUNDS)
 }
 
-/// Appends what a whole page has beside it.
+/// Appends the rules that a whole page has beside it.
 pub fn push_page_style(
     text: &mut String,
     theme: Theme,
@@ -354,12 +353,12 @@ pub fn push_page_style(
     fallible_alloc::push_str(text, PAGE)
 }
 
-// The colours of text and of what is around it.
+// The colours of text and of its background.
 fn page_of(scheme: &Scheme) -> (Rgb, Rgb) {
     (scheme.text, scheme.page)
 }
 
-// Appends the rule of what is around all.
+// Appends the rule of the element around all.
 fn push_root(text: &mut String, first: &str, colors: (Rgb, Rgb)) -> Result<(), AllocError> {
     fallible_alloc::push_str(text, ":root { ")?;
     fallible_alloc::push_str(text, first)?;
@@ -432,7 +431,7 @@ fn push_rule(
     fallible_alloc::push_str(text, "}\n")
 }
 
-// What is declared of text on a ground: it is black or white.
+// The declaration for text on a ground: it is black or white.
 fn text_on(color: RgbColor) -> &'static str {
     if is_deep(color) {
         "color:#ffffff;"

@@ -10,10 +10,10 @@ use std::io::Write;
 // How many bytes of a line are looked at.
 const MOST: usize = 48;
 
-// What a time stands in, where the page has a style sheet.
+// The start tag of a time, if the page has a style sheet.
 const BEGIN: &[u8] = b"<span class=\"es-time\">";
 
-// And where it has none.
+// And if it has none.
 const INLINE: &[u8] = b"<span style=\"color:#6e7781;-webkit-user-select:none;user-select:none;\">";
 
 const END: &[u8] = b"</span>";
@@ -55,7 +55,7 @@ impl<W: Write> Timing<W> {
         }
     }
 
-    // What is written of these bytes, after what was kept.
+    // The text that is written for these bytes, after those that were kept.
     fn timed(&mut self, bytes: &[u8]) -> Result<Vec<u8>, AllocError> {
         let mut all = fallible_alloc::copied(self.alloc, self.held.as_slice())?;
         self.held.clear();
@@ -96,7 +96,7 @@ impl<W: Write> Timing<W> {
         Ok(n)
     }
 
-    // Takes what a line begins with, or keeps it.
+    // Takes the beginning of a line, or keeps it.
     fn take_begin(&mut self, bytes: &[u8], text: &mut Vec<u8>) -> Result<usize, AllocError> {
         if bytes.starts_with(b"<") {
             self.place = Place::Tag;
@@ -116,7 +116,7 @@ impl<W: Write> Timing<W> {
         }
     }
 
-    // Writes a time of this length, with what is around it.
+    // Writes a time of this length, with the tags around it.
     fn push_stamp(
         &mut self,
         first: &[u8],
@@ -133,7 +133,7 @@ impl<W: Write> Timing<W> {
 }
 
 impl<W: Write + Drop> Timing<W> {
-    /// Writes what was kept.
+    /// Writes the bytes that were kept.
     pub fn end(self) -> io::Result<()> {
         let Timing {
             mut inner,
@@ -165,7 +165,7 @@ impl<W: Write> Write for Timing<W> {
     }
 }
 
-// What comes before a tag or the end of the line, of the bytes that are looked at.
+// The bytes before a tag or the end of the line, among those that are looked at.
 fn first_of(bytes: &[u8]) -> &[u8] {
     let first = &bytes[..MOST.min(bytes.len())];
     let end = memchr2(b'<', b'\n', first).unwrap_or(first.len());
