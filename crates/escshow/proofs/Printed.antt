@@ -1,4 +1,4 @@
--- What a flush keeps, and the text of a sheet that is printed.
+-- The value that a flush keeps, and the text of a sheet that is printed.
 use Rattle.std.proofs.Common.{ℕ, List, ◌∙◌}
 use Rattle.std.specs.Prelude.{Option, Some, None, Result, Ok, Err, OnOk}
 use Rattle.std.specs.Io.KnownBytes.{Appends, Keeps}

@@ -17,10 +17,10 @@ use std::io::{Read, Write};
 pub struct Differing<'a, W, E> {
     pub alloc: Global,
     pub options: Options,
-    /// What the output is called.
+    /// The name of the output.
     pub output_name: &'a str,
     pub output: &'a mut W,
-    /// Where what hinders goes.
+    /// The output for faults.
     pub faults: E,
     /// The terminal of the first.
     pub first: Option<Terminal>,

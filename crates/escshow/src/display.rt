@@ -8,7 +8,7 @@ use std::alloc::{AllocError, Global};
 // Ends a sequence that is unfinished (CAN), and shows the main screen.
 const TO_MAIN: &[u8] = b"\x18\x1b[?47l";
 
-/// A terminal, and the lines that it leaves, where they are asked for.
+/// A terminal, and the lines that it leaves, if they are asked for.
 #[derive(Drop)]
 pub struct Display {
     /// The terminal.
@@ -52,7 +52,7 @@ impl Display {
         result
     }
 
-    /// Adds the rows of the main screen to the lines, where they are asked for.
+    /// Adds the rows of the main screen to the lines, if they are asked for.
     pub fn end(&mut self) -> Result<(), AllocError> {
         let Some(log) = &mut self.log else {
             return Ok(());

@@ -1,4 +1,4 @@
-//! What hinders the program.
+//! The faults that stop the program.
 ghost use Rattle.std.specs.Prelude.{◌≡◌};
 
 use command_line::{Ended, Reason, Shown, tell, unwritten};
@@ -8,7 +8,7 @@ use std::io::Write;
 /// The program's name.
 pub const PROGRAM: &str = "escshow";
 
-/// What hinders the program at a stream.
+/// A fault that stops the program at a stream.
 #[derive(Clone, Copy)]
 pub enum Fault {
     /// A read failed, for this reason.
@@ -27,8 +27,8 @@ impl From<AllocError> for Fault {
     }
 }
 
-/// How the stream of this name ended, where this hindered it. A line on `faults` says what; but
-/// where nobody reads the output of this name any more, none is written.
+/// The end of the stream of this name, after this result. A line on `faults` says the fault; but if
+/// nobody reads the output of this name any more, none is written.
 pub fn ended<E: Write>(
     done: Result<(), Fault>,
     name: &str,

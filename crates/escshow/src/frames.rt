@@ -1,4 +1,4 @@
-//! What takes the screens of a recording while it is played.
+//! Takes the screens of a recording while it is played.
 
 use crate::display::Display;
 use crate::fault::Fault;

@@ -3,7 +3,7 @@
 use esc_html::{HtmlWriter, Layout};
 use std::alloc::{AllocError, Allocator};
 
-/// What a page begins with. A browser loads nothing for it, and runs nothing.
+/// The beginning of a page. A browser loads nothing for it, and runs nothing.
 pub const HEAD: &str = "<!DOCTYPE html>\n<meta charset=\"utf-8\">\n\
     <meta http-equiv=\"Content-Security-Policy\" \
     content=\"default-src 'none'; style-src 'unsafe-inline'\">\n<title>Screen</title>\n";

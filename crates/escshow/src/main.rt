@@ -60,7 +60,7 @@ are the same, 1 they differ, 2 a fault or usage.";
 
 const VERSION: &str = "escshow 0.1.0";
 
-// What the name of a new file ends in, until it takes its place.
+// The end of the name of a new file, until it takes its place.
 const NEW: &str = ".escshow";
 
 fn main(rt: HostRuntime) -> ExitCode {
@@ -76,7 +76,7 @@ fn main(rt: HostRuntime) -> ExitCode {
     ExitCode::from(status)
 }
 
-// Does what the words ask for.
+// Does the task that the words ask for.
 fn done(rt: &HostRuntime, task: &Task<'_>) -> u8 {
     match task.kind {
         Kind::Show => show_to(rt, task),
@@ -139,7 +139,7 @@ fn show_all<W: Write>(rt: &HostRuntime, task: &Task<'_>, output_name: &str, outp
     work_through(rt, PROGRAM, &task.files, &mut showing, &mut rt.stderr())
 }
 
-// What `compare` returns where two screens differ: no status of a program is this.
+// The result of `compare` if two screens differ: no status of a program is this.
 const DIFFERENT: u8 = 255;
 
 // Compares two files.
@@ -160,8 +160,8 @@ fn compare<W: Write>(rt: &HostRuntime, task: &Task<'_>, output_name: &str, outpu
     status
 }
 
-// The status of the program that compared files, where this is what `compare` returned: 1 where
-// they differ, and 2 for any fault.
+// The status of the program that compared files, if this is the result of `compare`: 1 if they
+// differ, and 2 for any fault.
 fn compared(status: u8) -> u8 {
     match status {
         DIFFERENT => FAULT,

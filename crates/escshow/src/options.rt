@@ -1,4 +1,4 @@
-//! What the program's words ask for.
+//! The task that the program's words ask for.
 
 use command_line::{Found, Given, Known, Takes, Wrong, read};
 use std::alloc::Global;
@@ -30,7 +30,7 @@ pub struct Size {
 pub struct Options {
     /// How a screen is written.
     pub form: Form,
-    /// How many columns and rows it has, where that is given.
+    /// The number of columns and rows that it has, if that is given.
     pub size: Option<Size>,
     /// Whether the lines that a terminal leaves are written, and not its screen alone.
     pub is_log: bool,
@@ -38,41 +38,41 @@ pub struct Options {
     pub has_new_lines: bool,
     /// Whether a file is a recording.
     pub is_cast: bool,
-    /// The time of a recording at which its screen is shown, in seconds; at its end, where there is
+    /// The time of a recording at which its screen is shown, in seconds; at its end, if there is
     /// none.
     pub at: Option<f64>,
-    /// The seconds of each stretch of a recording of which a screen is shown; one screen alone is
-    /// shown, where there is none.
+    /// The seconds between the screens of a recording that are shown; one screen alone is shown, if
+    /// there is none.
     pub every: Option<f64>,
 }
 
-/// What the program does.
+/// The work of the program.
 #[derive(Clone, Copy)]
 pub enum Kind {
-    /// It shows files, or standard input where there is none.
+    /// It shows files, or standard input if there is none.
     Show,
     /// It compares the screens of two.
     Compare,
-    /// It prints what it does.
+    /// It prints its help.
     Help,
     /// It prints its version.
     Version,
 }
 
-/// What the program's words ask for.
+/// The task that the program's words ask for.
 #[derive(Drop)]
 pub struct Task<'a> {
-    /// What the program does.
+    /// The work of the program.
     pub kind: Kind,
     /// How streams are shown.
     pub options: Options,
-    /// The file that the output goes to; standard output, where there is none.
+    /// The file that the output goes to; standard output, if there is none.
     pub output: Option<&'a str>,
     /// The files.
     pub files: Vec<&'a str>,
 }
 
-/// The size of a screen where none is given.
+/// The size of a screen if none is given.
 pub const DEFAULT_SIZE: Size = Size {
     columns: 80,
     rows: 24,
@@ -264,7 +264,7 @@ impl<'a> Task<'a> {
         Ok(())
     }
 
-    // The task, where it has two files.
+    // The task, if it has two files.
     fn with_two_files(mut self) -> Result<Task<'a>, Wrong<'a>> {
         self.options.take_diff();
         match self.files.as_slice() {

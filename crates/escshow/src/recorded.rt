@@ -17,7 +17,7 @@ pub struct Recorded {
     alloc: Global,
     options: Options,
     scratch: Scratch,
-    // what came of the line that is unfinished
+    // the bytes so far of the line that is unfinished
     line: Vec<u8>,
     // how many lines were taken
     count: u64,
@@ -72,7 +72,7 @@ impl Recorded {
         Ok(())
     }
 
-    /// Takes the last line, where it has no line feed.
+    /// Takes the last line, if it has no line feed.
     pub fn end<F: Frames>(&mut self, frames: &mut F) -> Result<(), Fault> {
         if self.line.is_empty() {
             return Ok(());
@@ -88,7 +88,7 @@ impl Recorded {
         }
     }
 
-    // Takes the line, where the recording goes on.
+    // Takes the line, if the recording goes on.
     fn end_line<F: Frames>(&mut self, frames: &mut F) -> Result<(), Fault> {
         self.count = self.count.saturating_add(1);
         let line = mem::replace(&mut self.line, Vec::new(self.alloc));
@@ -123,8 +123,8 @@ impl Recorded {
         }
     }
 
-    // Gives the terminal a text, where that is not too late. Before it, the screen goes to `frames`
-    // where the text is the first of another stretch of time.
+    // Gives the terminal a text, if that is not too late. Before it, the screen goes to `frames` if
+    // the text is the first of another stretch of time.
     fn print<F: Frames>(&mut self, text: &str, frames: &mut F) -> Result<(), Fault> {
         if self.clock.is_over {
             return Ok(());

@@ -21,10 +21,10 @@ use std::io::{Read, Write};
 pub struct Showing<'a, W, E> {
     pub alloc: Global,
     pub options: Options,
-    /// What the output is called.
+    /// The name of the output.
     pub output_name: &'a str,
     pub output: &'a mut W,
-    /// Where what hinders goes.
+    /// The output for faults.
     pub faults: E,
     /// Whether nothing was written yet.
     pub is_first: bool,
@@ -47,7 +47,7 @@ impl<'a, W: Write, E: Write> Frames for Showing<'a, W, E> {
 }
 
 impl<'a, W: Write, E: Write> Showing<'a, W, E> {
-    // Writes the lines that a terminal leaves, where they are asked for, or its screen.
+    // Writes the lines that a terminal leaves, if they are asked for, or its screen.
     fn write(&mut self, display: &Display) -> Result<(), Fault> {
         if let Some(log) = &display.log {
             return self.write_sheet(log.sheet());
@@ -57,7 +57,7 @@ impl<'a, W: Write, E: Write> Showing<'a, W, E> {
         self.write_sheet(&sheet)
     }
 
-    // Writes the time of a screen of a recording, where one screen after another is written, other
+    // Writes the time of a screen of a recording, if one screen after another is written, other
     // than as JSON.
     fn write_heading(&mut self, time: Option<f64>) -> Result<(), Fault> {
         match (self.options.every, time) {
@@ -73,7 +73,7 @@ impl<'a, W: Write, E: Write> Showing<'a, W, E> {
         }
     }
 
-    // Writes what a page begins with, where nothing of it was written yet.
+    // Writes the beginning of a page, if nothing of it was written yet.
     fn write_head(&mut self) -> Result<(), Fault> {
         if self.options.form != Form::Html || !self.is_first {
             return Ok(());
@@ -93,7 +93,7 @@ impl<'a, W: Write, E: Write> Showing<'a, W, E> {
     }
 }
 
-/// What is seen of a terminal's screen, with looks or without.
+/// The view of a terminal's screen, with looks or without.
 pub fn view_of(terminal: &Terminal, has_looks: bool) -> Result<View<'_>, AllocError> {
     match (terminal.screen(), terminal.styles()) {
         (Some(screen), Some(styles)) => Ok(View {
@@ -106,7 +106,7 @@ pub fn view_of(terminal: &Terminal, has_looks: bool) -> Result<View<'_>, AllocEr
     }
 }
 
-// The sheet of a terminal's screen in this form; for HTML, that of which it is made.
+// The sheet of a terminal's screen in this form; for HTML, the sheet from which it is made.
 fn sheet_of(alloc: Global, terminal: &Terminal, form: Form) -> Result<Sheet, AllocError> {
     let mut sheet = Sheet::new(alloc);
     match form {
