@@ -1,4 +1,4 @@
--- What the program's words ask for.
+-- The task that the program's words ask for.
 use Rattle.std.specs.Prelude.{ℕ, ◌≡◌, ◌≢◌, ◌<◌, IfSome, nat_eq, if◌then◌else◌, List, [], ◌∷◌, codes, Option, Some, None}
 use Rattle.std.specs.Cmp.Lexicographic.{pointwise}
 use Rattle.std.specs.Option.{option_map}
@@ -27,14 +27,14 @@ task_of [] = Some (Normalise None)
 task_of (w ∷ ws) = if pointwise nat_eq w (codes "--check") then check_of ws else option_map (λ n.
     Normalise (Some n)) (limit_of (w ∷ ws))
 
--- the status n after a check of the bytes s under this limit: 0 where they are their own normal
--- form, 3 where they are not, 1 where a fault came in between
+-- the status n after a check of the bytes s under this limit: 0 if they are their own normal form,
+-- 3 if they are not, 1 if a fault came in between
 pub record IsVerdict (A : Type 0) (limit : Option ℕ) (s : List ℕ) (n : ℕ) : Type 0 where
   pub equal : n ≡ 0 → list_text (meaning_within {A = A} limit s) ≡ s
   pub different : n ≡ 3 → list_text (meaning_within {A = A} limit s) ≢ s
   pub others : n ≢ 0 → n ≢ 3 → n ≡ 1
 
--- the status n after normalising under this limit: 0 where all was read and its normal form was
+-- the status n after normalising under this limit: 0 if all was read and its normal form was
 -- written, and otherwise 1
 pub record IsNormalised (A : Type 0) (limit : Option ℕ) (stream left before after : Option (List ℕ))
     (n : ℕ)

@@ -33,7 +33,7 @@ fn main(rt: HostRuntime) -> ExitCode {
     ExitCode::from(status)
 }
 
-// When to write: once all is read where standard output is the file that is read, which would have
+// The time to write: once all is read if standard output is the file that is read, which would have
 // no end otherwise.
 fn order(rt: &HostRuntime) -> Order {
     if is_output(rt, metadata(rt, "/dev/stdin")) {

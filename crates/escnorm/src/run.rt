@@ -1,4 +1,4 @@
-//! What the program does.
+//! The work of the program.
 ghost use Rattle.std.specs.Prelude.{◌≡◌, ◌<◌, ℕ, Option, IfOk, IfSome, None, OnOk, Some, map, string_bytes};
 ghost use Rattle.std.specs.Io.KnownBytes.{Appends, IsAtEnd};
 ghost use Rattle.escnorm.specs.Tasks.{IsNormalised, IsVerdict, task_of};
@@ -29,19 +29,18 @@ const DIFFERENT: u8 = 3;
 pub enum Order {
     /// As it reads.
     AsItReads,
-    /// Once it has read all, for an output that is what it reads: the input has an end then.
+    /// Once it has read all, if the output is also the input: the input has an end then.
     OnceRead,
 }
 
-/// What the program does with these words, its arguments, and the status it ends with.
+/// Does the task of these words, the program's arguments, and returns the status it ends with.
 ///
 /// Without words it normalises `input` to `output`, in this order: status 0. With `--check` it
-/// compares `input` with its normal form, and writes nothing: status 0 where they are equal, 3
-/// where they differ. With `--limit` and a number after these it does so through a parser that
-/// keeps no more bytes of a segment. Where that is hindered, status 1, with a line on `faults` that
-/// names the fault; then a prefix of the normal form was written. Any other words are status 2,
-/// with the usage on `faults`, and nothing is read or written. Where a line cannot be written the
-/// status stays.
+/// compares `input` with its normal form, and writes nothing: status 0 if they are equal, 3 if they
+/// differ. With `--limit` and a number after these it does so through a parser that keeps no more
+/// bytes of a segment. If a fault stops that, status 1, with a line on `faults` that names the
+/// fault; then a prefix of the normal form was written. Any other words are status 2, with the
+/// usage on `faults`, and nothing is read or written. If a line cannot be written the status stays.
 pub fn run<A: Allocator + Copy, R: Read, W: Write, E: Write>(
     alloc: A,
     words: &[String],

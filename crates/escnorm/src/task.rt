@@ -1,11 +1,11 @@
-//! What the program is asked to do.
+//! The task that the program is asked to do.
 ghost use Rattle.std.specs.Prelude.{◌≡◌, map, string_bytes};
 ghost use Rattle.escnorm.specs.Tasks.{limit_of, task_of};
 
 use esc_values::scalar::read_usize;
 
-/// What the program is asked to do, where at most so many bytes are kept of a segment; `None` is no
-/// limit.
+/// The task that the program is asked to do, if at most so many bytes are kept of a segment; `None`
+/// is no limit.
 #[derive(Clone, Copy)]
 pub enum Task {
     /// To write the input in normal form.
@@ -33,7 +33,7 @@ impl Task {
     }
 }
 
-// The number after `--limit`, where these two words are all.
+// The number after `--limit`, if these two words are all.
 fn limit_in(words: &[String]) -> Option<usize>
     ensures { result ≡ limit_of (map string_bytes words.now) }
 {
