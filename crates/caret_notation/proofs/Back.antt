@@ -1,4 +1,4 @@
--- What is revealed of a stream is read back as the stream.
+-- The revealed text of a stream is read back as the stream.
 use Rattle.std.proofs.Common.{ℕ, ◌≡◌, ◌||◌, ◌==◌, not, Bool, true, false, if◌then◌else◌, List, [], ◌∷◌, ◌++◌, refl, ap, sym, ◌∙◌, subst, append_assoc}
 use Rattle.std.specs.List.{flat_map, list_all, list_any}
 use Rattle.std.proofs.lemmas.Bool.{and_parts}
@@ -41,7 +41,7 @@ feed_read after = refl
 
 -- ---- bytes that are told from marks
 
--- bytes, which have no mark where a piece of them may stay
+-- bytes, which have no mark if a piece of them may stay
 abbrev Fits : Marking → List ℕ → Type 0
 Fits m p = (list_all is_byte p ≡ true) × (lets_stay m p ≡ true → has_mark p ≡ false)
 

@@ -1,4 +1,4 @@
--- A reveal and a filter at the beginning of a stream, as what takes one.
+-- A reveal and a filter at the beginning of a stream, as a filter of one.
 use Rattle.std.proofs.Common.{ℕ, ◌≡◌, List, [], ◌++◌, ap, ◌∙◌, append_assoc}
 use Rattle.esc_filter.specs.declared.admit.Admit.{Ghosts as Admitter}
 use Rattle.caret_notation.proofs.Cutting.{rest_none}

@@ -96,7 +96,7 @@ module _ {A : Type 0} (m : Marking) (by_lines : Bool) (limit : ℕ) (admits : Va
       ∙ append_assoc f g (rest_text m limit (rest_after by_lines r (x ++ y)))
       ∙ ap (λ z. f ++ (g ++ rest_text m limit z)) (rest_append by_lines r x y)
 
-  -- what grew by a prefix, and then by the rest
+  -- a text that grew by a prefix, and then by the rest
   pub grows_more : (r x y a b c : List ℕ) → Grows a b (rest_text m limit r) (all r x)
       → Grows b c (rest_text m limit (rest_after by_lines r x)) (all (rest_after by_lines r x) y)
       → Grows a c (rest_text m limit r) (all r (x ++ y))
@@ -152,7 +152,7 @@ feed_is by_lines b h = is_feed b (and_parts by_lines (is_line_feed b) h).1
 
 module _ {A : Type 0} (m : Marking) (by_lines : Bool) (limit : ℕ) (admits : Value A → Bool)
     (r : List ℕ) (b : ℕ) where
-  -- where a line feed ends the piece
+  -- if a line feed ends the piece
   pub line_ends : (by_lines && is_line_feed b) ≡ true
       → (rest_after by_lines r (b ∷ []) ≡ [])
       × (revealed_after {A = A} m by_lines limit admits r (b ∷ []) ≡ shown_text m r ++ b ∷ [])
@@ -169,7 +169,7 @@ module _ {A : Type 0} (m : Marking) (by_lines : Bool) (limit : ℕ) (admits : Va
       )
 
   module _ (no : (by_lines && is_line_feed b) ≡ false) where
-    -- where no segment is unfinished after it
+    -- if no segment is unfinished after it
     pub ground_ends : is_at_ground (r ++ b ∷ []) ≡ true
         → (rest_after by_lines r (b ∷ []) ≡ [])
         × (revealed_after {A = A} m by_lines limit admits r (b ∷ [])
@@ -185,7 +185,7 @@ module _ {A : Type 0} (m : Marking) (by_lines : Bool) (limit : ℕ) (admits : Va
               else if is_kept m limit admits p then p else shown_text m p) goes,
         )
 
-    -- where one is
+    -- if one is
     pub goes_on : is_at_ground (r ++ b ∷ []) ≡ false
         → (rest_after by_lines r (b ∷ []) ≡ r ++ b ∷ [])
         × (revealed_after {A = A} m by_lines limit admits r (b ∷ [])

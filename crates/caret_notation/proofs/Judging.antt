@@ -1,4 +1,4 @@
--- What a judge of actions finds.
+-- The verdict of a judge of actions.
 use Rattle.std.proofs.Common.{ℕ, ◌≡◌, ◌+◌, ◌&&◌, ◌||◌, ◌==◌, not, Bool, true, false, if◌then◌else◌, List, [], ◌∷◌, ◌++◌, length, map, Option, Some, None, Result, Ok, Err, OnErr, arith, refl, ap, sym, ◌∙◌, subst, inl, inr}
 use Rattle.std.specs.Prelude.{unwrap_or}
 use Rattle.std.specs.List.{FoldsTo, count_by, list_all, list_any, slice_split}
@@ -64,7 +64,7 @@ folded_some : {A : Type 0} (admits : Value A → Bool) (k : Verdict) (vs : List 
 folded_some admits k [] h = h
 folded_some admits k (v ∷ vs) h = folded_true admits (judged admits k v) vs refl
 
--- what a judge that was asked of nothing before finds
+-- the verdict of a judge that was asked about nothing before
 pub finds : {A : Type 0} (admits : Value A → Bool) (k : Verdict) (vs : List (Value A))
     → k ≡ folded_verdict admits begun vs → (k.some && k.all) ≡ are_kept admits vs
 finds admits k vs h =
@@ -73,7 +73,7 @@ finds admits k vs h =
     ∙ ap (λ b. b && j.all) (folded_some admits begun vs refl)
     ∙ ap (λ b. is_some vs && b) (folded_all admits begun vs)
 
--- ---- what a judge was given
+-- ---- the actions that a judge was given
 
 module _ {P A : Type 0} (admits_by : P → Value A → Bool) where
   abbrev pub Asks : Judge P → Action A → Judge P → Type 0
@@ -94,12 +94,12 @@ module _ {P A : Type 0} (admits_by : P → Value A → Bool) where
         k.1 ∙ same,
       )
 
--- what holds of an error holds after any call
+-- a fact about an error is one about any call
 pub on_any : {T E X : Type 0} (r : Result T E) → X → OnErr r X
 on_any (Ok t) x = tt
 on_any (Err e) x = x
 
--- who refuses nothing stops only where memory was refused
+-- a receiver that refuses nothing stops only if memory was refused
 pub stops_refused : {P V : Type 0} (R Q : P → V → P → Type 0) (own why : Type 0)
     → ((p : P) (v : V) (q : P) → Q p v q → ⊥) → (p : P) (vs : List V) (q : P)
     → StopsAt (own × why) R Q p vs q → why

@@ -1,4 +1,4 @@
--- What is written of a stream stays as the stream grows, and as it ends.
+-- The text of a stream stays as the stream grows, and as it ends.
 use Rattle.std.proofs.Common.{ℕ, ◌≡◌, Bool, true, false, nat_le, if◌then◌else◌, List, [], ◌∷◌, ◌++◌, length, refl, ap, sym, ◌∙◌, append_assoc}
 use Rattle.std.specs.List.{flat_map}
 use Rattle.std.proofs.lemmas.Bool.{and_parts}
@@ -108,7 +108,7 @@ module _ (m : Marking) (limit : ℕ) where
                   ∙ sym (append-nil (rest_text m limit (r ++ b ∷ []))),
             )
 
-    -- after a prefix, and what the rest makes of it
+    -- after a prefix, and the text of the rest
     all_then : (r x y : List ℕ)
         → Longer (rest_text m limit (rest_after by_lines r x)) (all (rest_after by_lines r x) y)
         → Longer (all r x) (all r (x ++ y))

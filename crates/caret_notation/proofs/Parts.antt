@@ -1,4 +1,4 @@
--- What holds of the text of each part of some bytes holds of their text.
+-- A fact about the text of each part of some bytes is one about their text.
 use Rattle.std.proofs.Common.{ℕ, ◌≡◌, ◌<◌, ◌≤◌, ◌⊎◌, inl, inr, Bool, true, false, if◌then◌else◌, List, [], ◌∷◌, ◌++◌, arith, refl, ap, sym, ◌∙◌, subst, append_assoc}
 use Rattle.std.specs.List.{list_all}
 use Rattle.std.proofs.lemmas.Bool.Decides.{nat_tests}
@@ -35,7 +35,7 @@ prefix_high (a ∷ b ∷ c ∷ []) h = (
 )
 prefix_high (a ∷ b ∷ c ∷ d ∷ x) h = absurd cc
 
--- what has begun: nothing, or a prefix of a sequence
+-- the begun bytes: none, or a prefix of a sequence
 abbrev pub HasBegun : List ℕ → Type 0
 HasBegun f = (f ≡ []) ⊎ (is_prefix f ≡ true)
 

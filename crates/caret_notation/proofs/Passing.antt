@@ -89,7 +89,7 @@ character x h = by_tests (is_shown (number_of x)) (is_pair x) refl refl
       append-nil (encode_utf8 (number_of x)) ∙ q.1,
     )
 
--- ---- what passes of it
+-- ---- the values of it that pass
 
 chars_mean : {A : Type 0} (limit : ℕ) (cs : List ℕ) → list_all is_clear cs ≡ true
     → meaning_within {A = A} (Some limit) (encode_utf8_all cs) ≡ map print cs

@@ -17,7 +17,7 @@ use Rattle.caret_notation.specs.Runs.{IsPart, has_line_end}
 use Rattle.caret_notation.specs.Visible.{rest_text, shown_text}
 use Rattle.caret_notation.specs.declared.marking.Marking.{Marking}
 
--- ---- what a framer says of it
+-- ---- the state of a framer after it
 
 no_ground : (s : List ℕ) → (IsAtGround s → ⊥) → is_at_ground s ≡ false
 no_ground s h = by_ground (is_at_ground s) refl
@@ -57,7 +57,7 @@ later true n x h = by_any n x h
     by_any (suc n) [] h = refl
     by_any (suc n) (b ∷ x) h = by_any n x (by_head (is_line_feed b) (has_line_feed x) h)
 
--- before the first one there is none, nor where there is none at all
+-- before the first one there is none, and there is none if there is none at all
 pub feedless_before : (by_lines : Bool) (x : List ℕ) (n : ℕ) → n < length x
     → ((k : ℕ) → 0 ≤ k → k < n → is_line_feed (get_or x k 0) ≡ true → ⊥)
     → has_line_end by_lines (take n x) ≡ false
@@ -90,7 +90,7 @@ part_of by_lines limit r x n some few none quiet = record {
       (no_ground (r ++ take k x) (quiet k l less).1);
 }
 
--- the same where nothing was unfinished
+-- the same if nothing was unfinished
 pub part_to : (by_lines : Bool) (x : List ℕ) (n : ℕ) → 0 < n → n ≤ length x
     → has_line_end by_lines x ≡ false → IsQuietTo n x → IsPart by_lines [] (take n x)
 part_to by_lines x n some few none quiet = record {
@@ -122,7 +122,7 @@ quiet_more limit x at n before here more k l m = elim (cases_lt k at) [
         (no_ground (take at x ++ take (suc i) (take (length x - at) (drop at x)))
         (more (suc i) (omega arith) (omega (arith, e, m))).1)
 
--- ---- what it makes of the text
+-- ---- the text after it
 
 module _ {A : Type 0} (m : Marking) (by_lines : Bool) (limit : ℕ) (admits : Value A → Bool) where
   abbrev all : List ℕ → List ℕ → List ℕ

@@ -54,7 +54,7 @@ short_within limit r x h = by_length (length (r ++ x)) (omega (arith, h, length-
     by_length : (n : ℕ) → n ≤ limit → nat_le n limit ≡ true
     by_length n l = grind (arith, nat_tests)
 
--- ---- what is written of a rest
+-- ---- the text that is written for a rest
 
 pub rest_whole : (m : Marking) (limit : ℕ) (r : List ℕ) → nat_le (length r) limit ≡ true
     → rest_text m limit r ≡ []
@@ -64,7 +64,7 @@ pub rest_over : (m : Marking) (limit : ℕ) (r : List ℕ) → nat_le (length r)
     → rest_text m limit r ≡ opening m ++ settled_text [] r
 rest_over m limit r h = rw h refl
 
--- what is longer than the limit is some bytes
+-- a rest that is longer than the limit has some bytes
 pub shown_over : (m : Marking) (limit : ℕ) (r : List ℕ) → nat_le (length r) limit ≡ false
     → shown_text m r ≡ opening m ++ (visible_text r ++ closing m)
 shown_over m limit [] h = absurd (some limit h)
@@ -129,7 +129,7 @@ module _ {A : Type 0} (m : Marking) (limit : ℕ) (r : List ℕ) (k : Kept A) (t
           ),
         )
 
-    -- where they were kept whole, and are not any more
+    -- if they were kept whole, and are not any more
     pub overflows : Keeps limit r k → k.is_over ≡ false → limit < length r + length x
         → (f to tm : List ℕ) → f ≡ begun_after [] k.piece.items
         → prefix_of new.begun ≡ begun_after f x → to ≡ t0 ++ opening m
@@ -156,7 +156,7 @@ module _ {A : Type 0} (m : Marking) (limit : ℕ) (r : List ℕ) (k : Kept A) (t
           ),
         )
 
-    -- where they are kept whole
+    -- if they are kept whole
     pub extends_whole : KeepsBy limit r k false → length k.piece.items + length x ≤ limit
         → new.piece.items ≡ k.piece.items ++ x
         → KeepsBy limit (r ++ x) new false

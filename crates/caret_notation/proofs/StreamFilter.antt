@@ -1,4 +1,4 @@
--- What a reveal was fed, and what its text grew by.
+-- The bytes that a reveal was fed, and the growth of its text.
 use Rattle.std.proofs.Common.{ℕ, Vec, ◌≡◌, ◌≤◌, ◌&&◌, Bool, true, false, nat_le, if◌then◌else◌, Some, length, List, [], ◌∷◌, ◌++◌, ap, sym, ◌∙◌, subst, append_assoc}
 use Rattle.std.specs.List.{flat_map}
 use Rattle.esc_actions.specs.Meaning.{meaning_within}
@@ -19,7 +19,7 @@ use Rattle.caret_notation.specs.Spelled.{is_spelled}
 use Rattle.caret_notation.specs.declared.reveal.Reveal.{Reveal}
 use Rattle.caret_notation.specs.declared.reveal.Rule.{Rule}
 
--- the text is no part of what was fed
+-- the text is no part of the state that was fed
 pub at_text : {P A : Type 0} (r : List ℕ) (f : Reveal P A) (t : Vec ℕ A) → AtRest r f
     → AtRest r (record f { text = t })
 at_text r f t h = record {
@@ -58,7 +58,7 @@ module _ {P A : Type 0} (V : Admitter P A) (rule : Rule P) (r x : List ℕ)
   abbrev q : List ℕ
   q = r ++ x
 
-  -- where no segment is unfinished after it
+  -- if no segment is unfinished after it
   pub end_grows : is_at_ground q ≡ true
       → Grows t0 t1 (rest_text rule.marking rule.limit r) (closed_text V rule q) → AtRest [] new
       → GrowsBy V rule r x t0 t1 new
@@ -68,7 +68,7 @@ module _ {P A : Type 0} (V : Admitter P A) (rule : Rule P) (r x : List ℕ)
         subst (Grows t0 t1 (rest_text rule.marking rule.limit r)) (sym ends.1) grown,
       )
 
-  -- where one is
+  -- if one is
   pub more_grows : is_at_ground q ≡ false
       → Grows t0 t1 (rest_text rule.marking rule.limit r) (rest_text rule.marking rule.limit q)
       → AtRest q new
@@ -92,11 +92,11 @@ module _ {P A : Type 0} (V : Admitter P A) (rule : Rule P) (x : List ℕ) where
     e,
   )
 
-  -- all of its bytes are in the text of what it means
+  -- all of its bytes are in the text of its meaning
   abbrev spelled : Bool
   spelled = is_spelled x (normal_form A (Some rule.limit) x)
 
-  -- it is short enough, and has no marks where these are shown
+  -- it is short enough, and has no marks if these are shown
   abbrev fits : Bool
   fits = nat_le (length x) rule.limit && lets_stay rule.marking x
 

@@ -51,7 +51,7 @@ feedless true x h = h
 
 -- ---- one character
 
--- what is known of its bytes
+-- the facts about its bytes
 record IsOne (x : List ℕ) : Type 0 where
   feed : has_line_feed x ≡ false
   quiet : (k : ℕ) → 0 < k → k < length x → is_at_ground (take k x) ≡ false

@@ -1,4 +1,4 @@
--- What a filter writes of a piece that stays.
+-- The text that a filter writes for a piece that stays.
 use Rattle.std.proofs.Common.{ℕ, ◌≡◌, ◌&&◌, Bool, true, false, if◌then◌else◌, List, [], ◌∷◌, ◌++◌, Some, refl, ap, sym, ◌∙◌, subst, true≢false}
 use Rattle.std.specs.List.{filter}
 use Rattle.std.proofs.lemmas.Bool.{and_parts}
@@ -30,7 +30,7 @@ module _ {A : Type 0} (admits : Value A → Bool) where
   abbrev some : List (Value A) → List (Value A)
   some vs = filter (passes admits) vs
 
-  -- what goes through after no string is no terminator, and passes
+  -- a value that goes through after no string is no terminator, and passes
   goes_first : (t p : Bool) → (if t then false else p) ≡ true → (t ≡ false) × (p ≡ true)
   goes_first true p h = absurd (true≢false (sym h))
   goes_first false p h = (refl, h)
@@ -88,7 +88,7 @@ module _ {A : Type 0} (admits : Value A → Bool) where
           ap (λ p. texts_after follows (if p then v ∷ some vs else some vs)) (goes false e)
           ∙ ap (λ x. text_after follows v ++ x) (more (is_string v) parts.1)
 
-  -- all of it is in what a filter writes
+  -- all of it is in the text that a filter writes
   pub kept_written : (m : Marking) (limit : ℕ) (p : List ℕ) → is_kept m limit admits p ≡ true
       → is_spelled p (passed_text (Some limit) admits p) ≡ true
   kept_written m limit p h =

@@ -1,4 +1,4 @@
--- What a judge of actions knows.
+-- The state of a judge of actions.
 use Rattle.std.specs.Prelude.{ℕ, ◌≡◌, ◌<◌, Bool, true, false, ◌&&◌, List, [], ◌∷◌, Some, take}
 use Rattle.esc_actions.specs.Meaning.{meaning_within, mode_from}
 use Rattle.esc_actions.specs.Texts.{is_string}
@@ -13,11 +13,11 @@ use Rattle.caret_notation.specs.Revealed.{are_kept, goes_through}
 use Rattle.caret_notation.specs.declared.judge.Judge.{Judge}
 use Rattle.caret_notation.specs.declared.judge.Verdict.{Verdict}
 
--- what is known of no action
+-- the state after no action
 abbrev pub begun : Verdict
 begun = record { some = false; all = true; follows = false }
 
--- what is known after one more
+-- the state after one more
 abbrev pub judged : {A : Type 0} → (Value A → Bool) → Verdict → Value A → Verdict
 judged admits k v = record {
   some = true;
@@ -39,8 +39,8 @@ abbrev pub folded_verdict : {A : Type 0} → (Value A → Bool) → Verdict → 
 folded_verdict admits k [] = k
 folded_verdict admits k (v ∷ vs) = folded_verdict admits (judged admits k v) vs
 
--- Both were fed this stream, which begins where the judge knew of no action: it knows of what the
--- stream means.
+-- Both were fed this stream, which begins when the judge had no action: it knows the meaning of the
+-- stream.
 pub record HasJudged {P A : Type 0} (V : Admitter P A) (limit : ℕ) (s : List ℕ)
     (framer : VTParser A) (performer : Performer (Judge P) A) : Type 0 where
   pub framed : HasConsumedWithin (Some limit) s framer
@@ -53,14 +53,14 @@ pub record HasJudged {P A : Type 0} (V : Admitter P A) (limit : ℕ) (s : List �
 abbrev pub IsQuietTo : ℕ → List ℕ → Type 0
 IsQuietTo n s = (k : ℕ) → 0 < k → k < n → is_at_ground (take k s) ≡ false
 
--- Of the bytes b, which come first in a piece, some were judged: how many, and whether they mean
--- something, all of which passes.
+-- Some of the bytes b, which come first in a piece, were judged: their number, and whether they
+-- mean something, all of which passes.
 pub record HasJudgedSome {P A : Type 0} (V : Admitter P A) (policy : P) (limit : ℕ) (b : List ℕ)
     (framer : VTParser A) (verdict : ℕ × Bool) : Type 0 where
   -- they were framed
   pub framed : HasConsumedWithin (Some limit) (take verdict.0 b) framer
   -- no fewer of them end the piece
   pub quiet : IsQuietTo verdict.0 b
-  -- and this is what they mean
+  -- and this is their meaning
   pub judged : verdict.1
       ≡ are_kept (V.admits policy) (meaning_within (Some limit) (take verdict.0 b))

@@ -1,4 +1,4 @@
--- Pieces of a stream: what lies between two places where no segment is unfinished.
+-- Pieces of a stream: the bytes between two places with no segment unfinished.
 use Rattle.std.specs.Prelude.{ℕ, Bool, false, ◌&&◌, ◌||◌, if◌then◌else◌, List, [], ◌∷◌, ◌++◌}
 use Rattle.esc_filter.specs.Lines.{ends_line}
 use Rattle.esc_frame.specs.Leads.Unfinished.{Ground}
@@ -13,12 +13,12 @@ abbrev pub ends_in_line : Bool → List ℕ → Bool
 ends_in_line by_lines p = by_lines && ends_line false p
 
 -- These bytes, which follow the end of a piece, are a piece: no segment of them is unfinished, or
--- where `by_lines` a line feed ends them.
+-- if `by_lines` a line feed ends them.
 abbrev pub is_piece : Bool → List ℕ → Bool
 is_piece by_lines p = ends_in_line by_lines p || is_at_ground p
 
--- the pieces that s ends or brings, where r is what is unfinished of a piece before it; and what is
--- unfinished of one after it
+-- the pieces that s ends or brings, if r is the unfinished rest of a piece before it; and the
+-- unfinished rest of one after it
 abbrev pub pieces_after : Bool → List ℕ → List ℕ → List (List ℕ)
 pieces_after by_lines r [] = []
 pieces_after by_lines r (b ∷ s) =

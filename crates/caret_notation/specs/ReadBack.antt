@@ -1,8 +1,8 @@
--- The bytes of which a visible text is the text.
+-- The bytes that a visible text shows.
 use Rattle.std.specs.Prelude.{ℕ, ◌+◌, ◌-◌, ◌*◌, Bool, nat_lt, ◌==◌, if◌then◌else◌, List, [], ◌∷◌, ◌++◌}
 use Rattle.std.specs.Char.{encode_utf8}
 
--- what was read last: nothing of the notation, `^`, or `<` and what follows it
+-- the last part that was read: none of the notation, `^`, or `<` and the characters after it
 pub data Reading : Type 0 where
   Plain : Reading
   Caret : Reading
@@ -16,7 +16,7 @@ abbrev pub value_after : ℕ → List ℕ → ℕ
 value_after n [] = n
 value_after n (d ∷ ds) = value_after (n * 16 + digit_value d) ds
 
--- what stands between `<` and `>`: `U+` and the number of a character, or the number of a byte
+-- the text between `<` and `>`: `U+` and the number of a character, or the number of a byte
 abbrev pub meant_bytes : List ℕ → List ℕ
 meant_bytes [] = []
 meant_bytes (a ∷ []) = []
@@ -39,7 +39,7 @@ after_name n c = if c == 0x3e then Plain else Name (n ++ c ∷ [])
 abbrev pub name_bytes : List ℕ → ℕ → List ℕ
 name_bytes n c = if c == 0x3e then meant_bytes n else []
 
--- what a byte of the text leaves, and the bytes that it completes
+-- the state that a byte of the text leaves, and the bytes that it completes
 abbrev pub after_read : Reading → ℕ → Reading
 after_read Plain c = after_plain c
 after_read Caret c = Plain

@@ -11,12 +11,11 @@ use Rattle.caret_notation.specs.declared.marking.Marking.{Marking}
 use Rattle.caret_notation.specs.declared.marking.Marking.TheVariants as marking
 use Rattle.caret_notation.specs.Spelled.{is_spelled}
 
--- the value passes; a string terminator exactly where a string comes directly before it, which it
--- ends
+-- the value passes; a string terminator exactly if a string comes directly before it, which it ends
 abbrev pub goes_through : {A : Type 0} → (Value A → Bool) → Bool → Value A → Bool
 goes_through admits follows v = if is_terminator v then follows else passes admits v
 
--- each of them does, where `follows` says whether a string comes before them
+-- each of them does; `follows` says whether a string comes before them
 abbrev pub all_through : {A : Type 0} → (Value A → Bool) → Bool → List (Value A) → Bool
 all_through admits follows [] = true
 all_through admits follows (v ∷ vs) =
@@ -30,9 +29,8 @@ is_some (_ ∷ _) = true
 abbrev pub are_kept : {A : Type 0} → (Value A → Bool) → List (Value A) → Bool
 are_kept admits vs = is_some vs && all_through admits false vs
 
--- a piece that stays as it is: of at most so many bytes, without marks where
--- these are shown; it means values, each of which passes; and
--- all of its bytes are in the text of these
+-- a piece that stays as it is: of at most so many bytes, without marks if these are shown; it means
+-- values, each of which passes; and all of its bytes are in the text of these
 abbrev pub is_kept : {A : Type 0} → Marking → ℕ → (Value A → Bool) → List ℕ → Bool
 is_kept {A = A} m limit admits p =
     (nat_le (length p) limit && lets_stay m p)
@@ -45,21 +43,21 @@ but_last [] = []
 but_last (b ∷ []) = []
 but_last (b ∷ c ∷ s) = b ∷ but_last (c ∷ s)
 
--- What is written of a piece: the piece itself, or its visible text. A line feed that ends one is
--- written, and what of the piece comes before it was unfinished.
+-- The text of a piece: the piece itself, or its visible text. A line feed that ends one is written,
+-- and the part of the piece before it was unfinished.
 abbrev pub piece_text : {A : Type 0} → Marking → Bool → ℕ → (Value A → Bool) → List ℕ → List ℕ
 piece_text m by_lines limit admits p =
     if ends_in_line by_lines p then shown_text m (but_last p) ++ 0x0a ∷ []
     else if is_kept m limit admits p then p else shown_text m p
 
--- what is written of s and what r before it is unfinished
+-- the text of s and the unfinished rest r before it
 abbrev pub revealed_after : {A : Type 0} → Marking → Bool → ℕ → (Value A → Bool) → List ℕ → List ℕ
     → List ℕ
 revealed_after m by_lines limit admits r s =
     flat_map (piece_text m by_lines limit admits) (pieces_after by_lines r s)
     ++ rest_text m limit (rest_after by_lines r s)
 
--- A stream that goes on, and one that has ended, of which the rest is shown.
+-- A stream that goes on, and one that has ended, whose rest is shown.
 abbrev pub revealed_as : {A : Type 0} → Marking → Bool → ℕ → (Value A → Bool) → List ℕ → List ℕ
 revealed_as m by_lines limit admits s = revealed_after m by_lines limit admits [] s
 
@@ -69,7 +67,7 @@ revealed_whole_as m by_lines limit admits s =
     flat_map (piece_text m by_lines limit admits) (pieces by_lines s)
     ++ shown_text m (rest by_lines s)
 
--- the same where what is shown is not told from other text
+-- the same if shown text is not told from other text
 abbrev pub revealed_text : {A : Type 0} → Bool → ℕ → (Value A → Bool) → List ℕ → List ℕ
 revealed_text by_lines limit admits s = revealed_as marking.Plain by_lines limit admits s
 

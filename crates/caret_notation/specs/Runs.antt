@@ -21,7 +21,7 @@ pub record IsOpenRun (by_lines : Bool) (x : List ℕ) : Type 0 where
   pub some : 0 < length x
   pub lineless : has_line_end by_lines x ≡ false
 
--- Where r is what is unfinished of a piece, x is more of the same piece, at most up to its end.
+-- If r is the unfinished rest of a piece, x is more of the same piece, at most up to its end.
 pub record IsPart (by_lines : Bool) (r x : List ℕ) : Type 0 where
   pub some : 0 < length x
   pub lineless : has_line_end by_lines x ≡ false

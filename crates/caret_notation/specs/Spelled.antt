@@ -1,4 +1,4 @@
--- Whether all of a piece is in the text of what it means.
+-- Whether all of a piece is in the text of its meaning.
 use Rattle.std.specs.Prelude.{ℕ, ◌+◌, ◌-◌, nat_le, nat_lt, Bool, true, false, ◌&&◌, ◌||◌, ◌==◌, if◌then◌else◌, List, [], ◌∷◌, Option, Some, None, length, take, drop, get_or, slice_range, bytes_eq}
 use Rattle.esc_values.specs.Params.{is_body_byte, is_digit, is_final}
 
@@ -14,7 +14,7 @@ is_single p = (length p == 1) && nat_lt (get_or p 0 0) 0x80
 abbrev pub most_digits : ℕ
 most_digits = 18
 
--- how many digits come last after this byte, where so many did before it; none where it is no byte
+-- the number of last digits after this byte, if there were so many before it; none if it is no byte
 -- of a body, or there are too many digits in a row
 abbrev pub digits_after : ℕ → ℕ → Option ℕ
 digits_after n b = if is_digit b then (if nat_lt n most_digits then Some (n + 1) else None)
@@ -48,13 +48,13 @@ is_end _ = false
 abbrev pub ends_in_bell : List ℕ → Bool
 ends_in_bell p = get_or p (length p - 1) 0 == 0x07
 
--- The text is these bytes, or where BEL ends them, these with `ESC \` in its place.
+-- The text is these bytes, or if BEL ends them, these with `ESC \` in its place.
 abbrev pub is_text_of : List ℕ → List ℕ → Bool
 is_text_of p t = bytes_eq t p
     || (ends_in_bell p
     && (is_end (drop (length t - 2) t)
     && bytes_eq (take (length t - 2) t) (take (length p - 1) p)))
 
--- All of these bytes, of which this is the text of what they mean, are in it.
+-- All of these bytes are in this text, which is the text of their meaning.
 abbrev pub is_spelled : List ℕ → List ℕ → Bool
 is_spelled p t = is_single p || (is_control_sequence p || is_text_of p t)

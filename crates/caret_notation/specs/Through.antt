@@ -1,4 +1,4 @@
--- A filter that is fed what a reveal makes of a stream.
+-- A filter that is fed the revealed text of a stream.
 use Rattle.std.specs.Prelude.{ℕ, ◌≡◌, List, ◌++◌}
 use Rattle.esc_filter.specs.declared.admit.Admit.{Ghosts as Admitter}
 use Rattle.esc_normal.specs.declared.feeding.StreamFilter.{Ghosts as Feeder}
@@ -14,7 +14,7 @@ pub record OnlyAdds {F A : Type 0} (G : Feeder F A) (m c : List ℕ → List ℕ
   pub end : (f : F) (s b : List ℕ) → G.gives f m c s
       → (t : List ℕ) × (c (s ++ b) ≡ m (s ++ b) ++ t)
 
--- the texts of streams through this rule, where these are the filter's
+-- the texts of streams through this rule, if these are the filter's
 abbrev pub through : {P A : Type 0} → Admitter P A → Rule P → (List ℕ → List ℕ) → List ℕ → List ℕ
 through V rule m x = m (text_by V rule x)
 
@@ -22,8 +22,8 @@ abbrev pub through_whole : {P A : Type 0} → Admitter P A → Rule P → (List 
     → List ℕ
 through_whole V rule c x = c (whole_by V rule x)
 
--- Both were fed this stream: the reveal itself, and the filter what that makes of it. The text of a
--- stream is the filter's, of what is revealed of it.
+-- Both were fed this stream: the reveal itself, and the filter its revealed text. The text of a
+-- stream is the filter's text of the revealed text.
 pub record GivesThrough {F P A : Type 0} (G : Feeder F A) (V : Admitter P A) (reveal : Reveal P A)
     (filter : F) (m c : List ℕ → List ℕ) (s : List ℕ) : Type 0 where
   pub inner : List ℕ → List ℕ

@@ -32,7 +32,7 @@ ascii_text b = if nat_lt b 0x20 then 0x5e ∷ (0x40 + b) ∷ [] else printed_tex
 abbrev pub single_text : ℕ → List ℕ
 single_text b = if nat_lt b 0x80 then ascii_text b else hex_byte b
 
--- a character of two to four bytes: as it is, where it shows as itself
+-- a character of two to four bytes: as it is, if it shows as itself
 abbrev pub character_text : List ℕ → List ℕ
 character_text x = if is_shown (number_of x) then x else number_text (number_of x)
 
@@ -40,15 +40,15 @@ character_text x = if is_shown (number_of x) then x else number_text (number_of 
 abbrev pub stray_text : List ℕ → List ℕ
 stray_text f = flat_map hex_byte f
 
--- A byte where no character has begun: what it shows, and what has begun after it. What has begun
--- is the first bytes of a well-formed character.
+-- A byte after no begun character: the text that it shows, and the bytes that are begun after it.
+-- The begun bytes are the first bytes of a well-formed character.
 abbrev pub first_text : ℕ → List ℕ
 first_text b = if is_prefix (b ∷ []) then [] else single_text b
 
 abbrev pub first_begun : ℕ → List ℕ
 first_begun b = if is_prefix (b ∷ []) then b ∷ [] else []
 
--- the same of a byte after these, by what it makes of them
+-- the same for a byte after these, by the outcome for them
 abbrev pub next_text : List ℕ → ℕ → Outcome → List ℕ
 next_text f b Whole = character_text (f ++ b ∷ [])
 next_text f b More = []
@@ -59,7 +59,7 @@ next_begun f b Whole = []
 next_begun f b More = f ++ b ∷ []
 next_begun f b Broken = first_begun b
 
--- of bytes after these: what is shown whatever follows, and what has begun at the end
+-- for bytes after these: the text that is shown whatever follows, and the begun bytes at the end
 abbrev pub settled_text : List ℕ → List ℕ → List ℕ
 settled_text f [] = []
 settled_text f (b ∷ s) = next_text f b (outcome f b)
@@ -73,15 +73,15 @@ begun_after f (b ∷ s) = begun_after (next_begun f b (outcome f b)) s
 abbrev pub visible_text : List ℕ → List ℕ
 visible_text s = settled_text [] s ++ stray_text (begun_after [] s)
 
--- ---- what is told from other text
+-- ---- text that is told from other text
 
--- a piece of these bytes may stay: where marks are shown, one without any
+-- a piece of these bytes may stay: if marks are shown, one without any
 abbrev pub lets_stay : Marking → List ℕ → Bool
 lets_stay marking.Plain p = true
 lets_stay marking.Escaped p = not (list_any is_mark p)
 lets_stay marking.Reversed p = true
 
--- what comes before bytes that are shown, and after them: `ESC [7m` and `ESC [27m`, or nothing
+-- the text before bytes that are shown, and after them: `ESC [7m` and `ESC [27m`, or nothing
 abbrev pub opening : Marking → List ℕ
 opening marking.Plain = []
 opening marking.Escaped = []
@@ -92,7 +92,7 @@ closing marking.Plain = []
 closing marking.Escaped = []
 closing marking.Reversed = 0x1b ∷ 0x5b ∷ 0x32 ∷ 0x37 ∷ 0x6d ∷ []
 
--- what is written of bytes that are shown
+-- the text of bytes that are shown
 abbrev pub shown_text : Marking → List ℕ → List ℕ
 shown_text m [] = []
 shown_text m (b ∷ p) = opening m ++ (visible_text (b ∷ p) ++ closing m)

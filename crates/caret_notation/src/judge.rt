@@ -20,7 +20,7 @@ use esc_parse::unfinished::Unfinished;
 use esc_values::CsiParam;
 use std::alloc::{AllocError, Allocator};
 
-/// What is known of the actions so far.
+/// The verdict about the actions so far.
 #[derive(Clone, Copy)]
 pub(crate) struct Verdict {
     /// Whether there are any.
@@ -32,7 +32,7 @@ pub(crate) struct Verdict {
 }
 
 impl Verdict {
-    // Of no action.
+    // The verdict about no action.
     fn begun() -> Verdict
         ensures { result ≡ begun }
     {
@@ -43,7 +43,8 @@ impl Verdict {
         }
     }
 
-    // Of more of them, which pass or do not, the last of which is a string or is not.
+    // The verdict after more of them, which pass or do not, the last of which is a string or is
+    // not.
     fn with(self, passes: bool, is_string: bool) -> Verdict
         ensures { result ≡ noted_verdict passes is_string self }
     {
@@ -65,9 +66,9 @@ impl Verdict {
 /// Asks a policy of each action.
 #[derive(Drop)]
 pub(crate) struct Judge<'p, P> {
-    /// What is known so far.
+    /// The verdict so far.
     pub verdict: Verdict,
-    /// What admits them.
+    /// The policy that admits them.
     pub policy: &'p P,
 }
 
@@ -122,8 +123,8 @@ impl<'p, P: Admit<A>, A: Allocator> Sink<Action<A>> for Judge<'p, P> {
         Ok(true)
     }
 
-    // What follows is as by default, and written out: at the type of an action, a method that is
-    // taken over from the trait costs a proof some seconds more.
+    // The next methods are as by default, and written out: at the type of an action, a method that
+    // is taken over from the trait costs a proof some seconds more.
     #[inline]
     fn drops_sequences(&self, _control: u8) -> bool {
         false
@@ -135,7 +136,7 @@ impl<'p, P: Admit<A>, A: Allocator> Sink<Action<A>> for Judge<'p, P> {
     }
 }
 
-// What asks this policy of actions, of which it was given none.
+// A performer that asks this policy about actions, and was given none.
 fn unasked<P, A: Allocator + Copy>(alloc: A, policy: &P, limit: usize) -> Performer<Judge<'_, P>, A>
     ensures hooks { Hooks (Some limit) result.unfinished plain }
     ensures verdict { result.sink.verdict ≡ begun }
@@ -151,8 +152,8 @@ fn unasked<P, A: Allocator + Copy>(alloc: A, policy: &P, limit: usize) -> Perfor
     }
 }
 
-/// Frames the bytes that come first, where no segment is unfinished, up to the end of a piece or to
-/// the last byte, and asks the policy of what they mean. It returns how many they are, and whether
+/// Frames the bytes that come first, if no segment is unfinished, up to the end of a piece or to
+/// the last byte, and asks the policy about their meaning. It returns their number, and whether
 /// they mean something, all of which passes.
 pub(crate) fn judge_piece<P: Admit<A>, A: Allocator + Copy>(
     alloc: A,
@@ -182,7 +183,7 @@ pub(crate) fn judge_piece<P: Admit<A>, A: Allocator + Copy>(
     Ok((at, performer.sink.verdict.keeps()))
 }
 
-// Whether the control that comes first passes. None where none does.
+// Whether the control that comes first passes. None if none comes first.
 fn judge_control<P: Admit<A>, A: Allocator>(
     framer: &VTParser<A>,
     policy: &P,

@@ -1,4 +1,4 @@
-//! What is kept of a piece that has not ended.
+//! The bytes that are kept of a piece that has not ended.
 ghost use Rattle.std.specs.Prelude.{◌<◌, ◌+◌, ◌≡◌, ◌++◌, ◌↔◌, ℕ, List, [], length, nat_le, true, false, IsTrue, MatchOption, OnErr, OnOk};
 ghost use Rattle.caret_notation.specs.Grown.{Grows, Keeps};
 ghost use Rattle.caret_notation.specs.Visible.{rest_text, shown_text};
@@ -10,8 +10,8 @@ use crate::visible::push_stray;
 use esc_frame::utf8::sequence::Pending;
 use std::alloc::{AllocError, Allocator, Global};
 
-/// The bytes of a piece, as long as they are within a limit. Of a longer piece, which was shown
-/// already, only the first bytes of a character that has begun.
+/// The bytes of a piece, as long as they are within a limit. A longer piece was shown already, and
+/// only the first bytes of a begun character are kept.
 #[derive(Drop)]
 pub(crate) struct Kept<A: Allocator = Global> {
     piece: Vec<u8, A>,
@@ -39,7 +39,7 @@ impl<A: Allocator> Kept<A> {
         !self.is_over && self.piece.is_empty()
     }
 
-    /// Takes bytes more. Of a piece that is longer than the limit now they are shown at once.
+    /// Takes more bytes. If the piece is longer than the limit now they are shown at once.
     pub fn extend(
         &mut self,
         marking: Marking,
@@ -87,7 +87,7 @@ impl<A: Allocator> Kept<A> {
         Ok(())
     }
 
-    /// The bytes, where the piece is within the limit.
+    /// The bytes, if the piece is within the limit.
     pub fn piece(&self) -> Option<&[u8]>
         ensures { (limit : ℕ) (r : List ℕ) → Keeps limit r self.now → MatchOption result
             (nat_le (length r) limit ≡ false)
@@ -100,7 +100,7 @@ impl<A: Allocator> Kept<A> {
         }
     }
 
-    /// Shows what of the piece was not shown yet, in this way. Nothing is kept then.
+    /// Shows the part of the piece that was not shown yet, in this way. Nothing is kept then.
     pub fn show(&mut self, marking: Marking, text: &mut Vec<u8, A>) -> Result<(), AllocError>
         ensures given { (limit : ℕ) (r : List ℕ) → Keeps limit r self.old → OnOk result
             (Keeps limit [] self.new

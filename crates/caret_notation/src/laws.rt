@@ -30,7 +30,7 @@ pub fn shows_characters()
     ensures { (s : List ℕ) → list_all is_byte s ≡ true → IsTextOf is_shown (visible_text s) }
 {}
 
-/// A piece ends where no segment of the stream is unfinished.
+/// A piece ends at a place with no segment of the stream unfinished.
 #[tactic(auto, using(crate::proofs::Means::ground_both))]
 pub fn pieces_end_at_ground()
     ensures { (s : List ℕ) → (is_at_ground s ≡ true) ↔ IsAtGround s }
@@ -43,15 +43,15 @@ pub fn pieces_are_all()
         → flat_map (λ p. p) (pieces by_lines s) ++ rest by_lines s ≡ s }
 {}
 
-/// A stream means what its pieces mean, each a stream of its own, and its rest. So what is shown of
-/// one piece changes nothing of what another means.
+/// A stream means the values of its pieces, each a stream of its own, and of its rest. So showing
+/// one piece does not change the meaning of another.
 #[tactic(auto, using(crate::proofs::Means::means_pieces))]
 pub fn pieces_are_streams<A: Allocator>()
     ensures { (limit : Option ℕ) (s : List ℕ) → meaning_within {A = A} limit s
         ≡ flat_map (meaning_within limit) (pieces false s) ++ meaning_within limit (rest false s) }
 {}
 
-/// What is revealed of a stream that has ended, where marks are shown, can be read back as the
+/// The revealed text of a stream that has ended, if marks are shown, can be read back as the
 /// stream, byte for byte, whatever is admitted and however it is cut.
 #[tactic(auto, using(crate::proofs::Back::escaped_reads))]
 pub fn escaped_reads_back<A: Allocator>()
@@ -68,8 +68,8 @@ pub fn unmarked_reads_back<A: Allocator>()
         → read_back (revealed_whole by_lines limit admits s) ≡ s }
 {}
 
-/// All bytes of a piece that stays are in what a filter writes of it: that is the piece, or the
-/// piece with another end of its string, or another spelling of a control sequence.
+/// All bytes of a piece that stays are in the text that a filter writes for it: that is the piece,
+/// or the piece with another end of its string, or another spelling of a control sequence.
 #[tactic(auto, using(crate::proofs::Written::kept_written))]
 pub fn kept_is_written<A: Allocator>()
     ensures { (m : Way) (limit : ℕ) (admits : Value A → Bool) (p : List ℕ)

@@ -1,8 +1,9 @@
-//! What a filter would not admit, shown in place.
+//! Actions that a filter would not admit, shown in place.
 //!
-//! A filter that drops what it does not admit loses what a log is read for. [`Reveal`] rewrites a
-//! stream before it is filtered: each piece of it that a policy does not admit becomes visible
-//! text, in the notation of `less` and `cat -v`, and the rest stays as it came.
+//! A filter that drops all that it does not admit loses the very parts for which people read a log.
+//! [`Reveal`] rewrites a stream before it is filtered: each piece of it that a policy does not
+//! admit becomes visible text, in the notation of `less` and `cat -v`, and the rest stays as it
+//! came.
 //!
 //! ```text
 //! let mut reveal = Reveal::new(alloc, 65_536, Policy::Color, true);

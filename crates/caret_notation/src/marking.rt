@@ -1,14 +1,14 @@
-//! How what is shown is told from other text.
+//! The way in which shown text is told from other text.
 ghost use Rattle.std.specs.Prelude.{◌≡◌, not};
 ghost use Rattle.std.specs.List.{list_any};
 ghost use Rattle.caret_notation.specs.Visible.{closing, is_mark, lets_stay, opening};
 
 use crate::visible::is_mark;
 
-/// How what is shown is told from text that stays.
+/// The way in which shown text is told from text that stays.
 #[derive(Clone, Copy)]
 pub enum Marking {
-    /// It is not: text of the stream may look as what is shown.
+    /// It is not: text of the stream may look as shown text does.
     Plain,
     /// `^` and `<`, with which the notation begins, are shown wherever they are, as `<5E>` and
     /// `<3C>`. So all that is written can be read back as the stream.
@@ -28,7 +28,7 @@ impl Marking {
         }
     }
 
-    /// What comes before bytes that are shown.
+    /// The text before bytes that are shown.
     pub(crate) fn opening(self) -> &'static [u8]
         ensures { result.now ≡ opening self }
     {
@@ -38,7 +38,7 @@ impl Marking {
         }
     }
 
-    /// What comes after them.
+    /// The text after them.
     pub(crate) fn closing(self) -> &'static [u8]
         ensures { result.now ≡ closing self }
     {

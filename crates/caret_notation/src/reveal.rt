@@ -1,4 +1,4 @@
-//! A stream in which what is not admitted is shown.
+//! A stream with the actions shown that are not admitted.
 ghost use Rattle.std.specs.Prelude.{◌≡◌, ◌++◌, ◌∷◌, ◌<◌, ◌≤◌, ◌&&◌, ℕ, List, [], OnErr, OnOk, length, take, slice_index, IfOk, Some, nat_le, true, false};
 ghost use Rattle.esc_actions.specs.Meaning.{meaning_within};
 ghost use Rattle.esc_filter.specs.Lines.{is_line_feed};
@@ -23,42 +23,42 @@ use std::alloc::{AllocError, Allocator, Global};
 // How many bytes a character has at most.
 const MOST_BYTES: usize = 4;
 
-/// What is kept of a stream: how long a piece may be, whether a line feed ends one, and what is
-/// admitted.
+/// The rule for a stream: the length of the longest piece, whether a line feed ends one, and the
+/// actions that are admitted.
 #[derive(Drop)]
 pub(crate) struct Rule<P> {
-    /// What admits actions.
+    /// The policy that admits actions.
     pub policy: P,
     /// How many bytes a piece that is kept has at most.
     pub limit: usize,
     /// Whether a line feed ends a piece.
     pub by_lines: bool,
-    /// How what is shown is told from text that stays.
+    /// The way in which shown text is told from text that stays.
     pub marking: Marking,
 }
 
-/// Takes a stream in whatever pieces it comes, and gives for each the text that it adds: the stream
-/// itself, but that what a policy does not admit of it is visible text, as
+/// Takes a stream in any pieces, and gives for each the text that it adds: the stream itself, but
+/// with visible text for the actions that a policy does not admit, as
 /// [`push_visible`](crate::push_visible) writes it.
 ///
-/// The stream is cut where no segment is unfinished, so a string and its terminator are one piece.
-/// A piece stays as it is where it means something, each of its actions passes a filter of the
-/// policy, and what the filter writes of them is the piece itself, or the same with `ESC \` in the
-/// place of the BEL that ends a string. A control sequence with no control in it stays also where
-/// its numbers and renditions are spelled otherwise. Any other piece is shown whole. One that is
-/// longer than the limit is shown as it comes, and so is, at the end of the stream, one that has
-/// not ended. Where `by_lines`, a line feed always ends a piece: it stays, and what was unfinished
-/// before it is shown.
+/// The stream is cut at each place with no segment unfinished, so a string and its terminator are
+/// one piece. A piece stays as it is if it means something, each of its actions passes a filter of
+/// the policy, and the filter writes for them the piece itself, or the same with `ESC \` in the
+/// place of the BEL that ends a string. A control sequence with no control in it stays also if its
+/// numbers and renditions are spelled otherwise. Any other piece is shown whole. One that is longer
+/// than the limit is shown as it comes, and so is, at the end of the stream, one that has not
+/// ended. If `by_lines`, a line feed always ends a piece: it stays, and the unfinished part before
+/// it is shown.
 ///
-/// Of the stream it keeps the piece that has not ended, at most the limit, and what a
-/// [`VTParser`](esc_frame::VTParser) of this limit keeps of a segment that has not ended.
+/// It keeps the piece of the stream that has not ended, at most the limit, and as much of a segment
+/// that has not ended as a [`VTParser`](esc_frame::VTParser) of this limit.
 #[derive(Drop)]
 pub struct Reveal<P, A: Allocator = Global> {
     rule: Rule<P>,
     framer: VTParser<A>,
     alloc: A,
     kept: Kept<A>,
-    // what the last call added
+    // the text that the last call added
     text: Vec<u8, A>,
     has_failed: bool,
 }
@@ -66,8 +66,8 @@ pub struct Reveal<P, A: Allocator = Global> {
 impl<P: Admit<A>, A: Allocator + Copy> Reveal<P, A> {
     ghost use Rattle.caret_notation.specs.Fed.{AddsTo, AtPieceEnd, AtRest, EndsAs, FailsForGood, GrowsTo, Holds, IsFramed, TakesSome, HasConsumed, added_by, by_lines_of, closed_text, limit_of, marking_of, policy_of};
 
-    /// One at the beginning of a stream, of which a piece of at most `limit` bytes is kept. Takes
-    /// no memory.
+    /// One at the beginning of a stream, which keeps a piece of at most `limit` bytes. Takes no
+    /// memory.
     pub fn new(alloc: A, limit: usize, policy: P, by_lines: bool) -> Reveal<P, A>
         ensures fed { HasConsumed [] result }
         ensures limit { limit_of result ≡ limit }
@@ -77,7 +77,7 @@ impl<P: Admit<A>, A: Allocator + Copy> Reveal<P, A> {
         Reveal::with_marking(alloc, limit, policy, by_lines, Marking::Plain)
     }
 
-    /// The same, where what is shown is told from text that stays in this way.
+    /// The same, if shown text is told from text that stays in this way.
     pub fn with_marking(
         alloc: A,
         limit: usize,
@@ -105,7 +105,7 @@ impl<P: Admit<A>, A: Allocator + Copy> Reveal<P, A> {
         }
     }
 
-    /// Takes `bytes`. What they add to the text of the stream so far is then [`added`].
+    /// Takes `bytes`. The text that they add to the text of the stream so far is then [`added`].
     ///
     /// The error says that a request for memory was refused: nothing was added, and from then on
     /// every call returns this error.
@@ -183,8 +183,8 @@ impl<P: Admit<A>, A: Allocator + Copy> Reveal<P, A> {
         Ok(())
     }
 
-    // Takes the bytes before the first line feed that ends a piece, or this line feed, where it
-    // comes first, and returns how many they are.
+    // Takes the bytes before the first line feed that ends a piece, or this line feed, if it comes
+    // first, and returns their number.
     fn take_line(&mut self, bytes: &[u8]) -> Result<usize, AllocError>
         requires { 0 < length bytes.now }
         ensures { TakesSome P.Admit AtRest self.old bytes.now result self.new }
@@ -248,8 +248,8 @@ impl<P: Admit<A>, A: Allocator + Copy> Reveal<P, A> {
         Ok(run)
     }
 
-    // The length of a run of characters that comes first and stays as it is, where no segment is
-    // unfinished; 0 where none is seen at once.
+    // The length of a run of characters that comes first and stays as it is, if no segment is
+    // unfinished; 0 if none is seen at once.
     fn text_run(&self, bytes: &[u8]) -> usize
         requires { 0 < length bytes.now }
         ensures few { result ≤ length bytes.now }
@@ -263,8 +263,8 @@ impl<P: Admit<A>, A: Allocator + Copy> Reveal<P, A> {
         admitted_run(&self.rule.policy, self.rule.marking, bytes)
     }
 
-    // Takes bytes up to the end of a piece, or all, where no segment is unfinished, and returns how
-    // many.
+    // Takes bytes up to the end of a piece, or all, if no segment is unfinished, and returns their
+    // number.
     fn take_first(&mut self, bytes: &[u8]) -> Result<usize, AllocError>
         requires { IsOpenRun (by_lines_of self.old) bytes.now }
         ensures { TakesSome P.Admit AtPieceEnd self.old bytes.now result self.new }
@@ -395,7 +395,7 @@ impl<P: Admit<A>, A: Allocator + Copy> Reveal<P, A> {
         self.kept.write(&mut self.text)
     }
 
-    // Shows what of the piece was not shown yet, and begins anew.
+    // Shows the part of the piece that was not shown yet, and begins anew.
     fn show(&mut self) -> Result<(), AllocError>
         ensures given { (r : List ℕ) → AtRest r self.old → OnOk result
             (Holds [] (rest_text (marking_of self.old) (limit_of self.old) r)

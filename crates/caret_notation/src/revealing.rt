@@ -1,4 +1,4 @@
-//! A filter, of what a reveal makes of a stream.
+//! A filter of the revealed text of a stream.
 ghost use Rattle.std.specs.Prelude.{◌≡◌, ℕ, List, [], string_bytes};
 ghost use Rattle.caret_notation.specs.Fed.{HasConsumed};
 ghost use Rattle.caret_notation.specs.Through.{GivesThrough, OnlyAdds, through, through_whole};
@@ -7,18 +7,18 @@ use crate::reveal::Reveal;
 use esc_filter::{Admit, StreamFilter};
 use std::alloc::{AllocError, Allocator, Global};
 
-/// Takes a stream, and gives a filter what a [`Reveal`] makes of it. So what the filter writes is
+/// Takes a stream, and gives a filter the text that a [`Reveal`] makes of it. So the filter writes
 /// its own text of a stream, whatever the reveal does: nothing is written that it would not write.
 #[derive(Drop)]
 pub struct Revealing<F, P, A: Allocator = Global> {
     reveal: Reveal<P, A>,
     filter: F,
-    // what the last call added
+    // the text that the last call added
     text: String<A>,
 }
 
 impl<F: StreamFilter<A>, P: Admit<A>, A: Allocator + Copy> Revealing<F, P, A> {
-    /// This filter, of what this reveal makes; both are at the beginning of a stream. Takes no
+    /// This filter of the text of this reveal; both are at the beginning of a stream. Takes no
     /// memory.
     pub fn new(alloc: A, reveal: Reveal<P, A>, filter: F) -> Revealing<F, P, A>
         ensures reveal { result.reveal ≡ reveal }

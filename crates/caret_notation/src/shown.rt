@@ -27,7 +27,7 @@ pub fn push_visible<A: Allocator>(text: &mut Vec<u8, A>, bytes: &[u8]) -> Result
     push_stray(text, last)
 }
 
-/// Appends what is written of bytes that are shown so: nothing of none.
+/// Appends the text of bytes that are shown so: nothing for none.
 pub(crate) fn push_shown<A: Allocator>(
     text: &mut Vec<u8, A>,
     marking: Marking,
@@ -44,8 +44,8 @@ pub(crate) fn push_shown<A: Allocator>(
     fallible_alloc::extend(text, marking.closing())
 }
 
-/// Appends the text that `bytes` after `begun` show whatever follows, and returns what has begun at
-/// their end. Runs of characters of ASCII that show as themselves are appended at once.
+/// Appends the text that `bytes` after `begun` show whatever follows, and returns the begun bytes
+/// at their end. Runs of characters of ASCII that show as themselves are appended at once.
 pub(crate) fn push_runs<A: Allocator>(
     text: &mut Vec<u8, A>,
     begun: Pending,
@@ -87,7 +87,7 @@ fn push_some<A: Allocator>(
     }
 }
 
-// The same where no character has begun.
+// The same if no character has begun.
 fn push_plain<A: Allocator>(
     text: &mut Vec<u8, A>,
     bytes: &[u8],

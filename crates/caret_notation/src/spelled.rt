@@ -1,4 +1,4 @@
-//! Whether all of a piece is in the text of what it means.
+//! Whether all of a piece is in the text of its meaning.
 ghost use Rattle.std.specs.Prelude.{◌≡◌, ◌&&◌, ◌≤◌, IfOk, OnErr, Some, length, nat_le};
 ghost use Rattle.esc_normal.specs.Normalising.{normal_form};
 ghost use Rattle.caret_notation.specs.Spelled.{digits_after, ends_in_bell, is_body, is_end, is_control_sequence, is_single, is_spelled, is_text_of, most_digits};
@@ -13,7 +13,7 @@ use std::alloc::{AllocError, Allocator};
 // Digits that a number of 64 bits holds, whatever they are.
 const MOST_DIGITS: usize = 18;
 
-/// Whether the piece stays, where each value that it means passes, or does not.
+/// Whether the piece stays, if each value that it means passes, or does not.
 pub(crate) fn may_stay<A: Allocator + Copy>(
     alloc: A,
     marking: Marking,
@@ -33,7 +33,7 @@ pub(crate) fn may_stay<A: Allocator + Copy>(
     }
 }
 
-/// Whether all bytes of the piece are in the text of what it means. That is made where the piece is
+/// Whether all bytes of the piece are in the text of its meaning. That text is made if the piece is
 /// neither a byte of ASCII nor a control sequence.
 pub(crate) fn is_spelled<A: Allocator + Copy>(
     alloc: A,
@@ -88,7 +88,7 @@ fn is_body(bytes: &[u8]) -> bool
     true
 }
 
-// How many digits come last after this byte, where so many did before it.
+// The number of last digits after this byte, if there were so many before it.
 fn digits_after(digits: usize, byte: u8) -> Option<usize>
     ensures { result ≡ digits_after digits byte }
 {

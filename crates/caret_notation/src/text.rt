@@ -14,7 +14,7 @@ use simdutf8::basic::from_utf8;
 use std::alloc::Allocator;
 
 /// The length of a run of characters that comes first, each of which the policy admits: of ASCII,
-/// 20 to 7F, or in UTF-8, without marks where these are shown. It is 0 where none is seen at once.
+/// 20 to 7F, or in UTF-8, without marks if these are shown. It is 0 if none is seen at once.
 #[inline]
 pub(crate) fn admitted_run<P: Admit<A>, A: Allocator>(
     policy: &P,
@@ -35,7 +35,7 @@ pub(crate) fn admitted_run<P: Admit<A>, A: Allocator>(
     }
 }
 
-// Of ASCII.
+// The same for a run of ASCII.
 #[inline]
 fn ascii_admitted<P: Admit<A>, A: Allocator>(policy: &P, marking: Marking, bytes: &[u8]) -> usize
     ensures few { result ≤ length bytes.now }
@@ -79,7 +79,7 @@ fn unmarked_run(marking: Marking, bytes: &[u8], run: usize) -> usize
     }
 }
 
-// The place of the first `^` or `<`, or the length where there is none.
+// The place of the first `^` or `<`, or the length if there is none.
 fn mark_at(bytes: &[u8]) -> usize
     ensures few { result ≤ length bytes.now }
     ensures unmarked { list_any is_mark (take result bytes.now) ≡ false }

@@ -1,4 +1,4 @@
-//! The visible text of a byte, and of what has begun before it.
+//! The visible text of a byte, and of the begun bytes before it.
 ghost use Rattle.std.specs.Prelude.{◌≡◌, ◌<◌, ◌++◌, ◌∷◌, [], IfOk, OnErr, OnOk, true};
 ghost use Rattle.esc_frame.specs.Machine.Prefixes.{prefix_of};
 ghost use Rattle.esc_frame.specs.Sequences.{is_prefix, is_sequence, outcome};
@@ -9,8 +9,8 @@ use esc_frame::utf8::sequence::{Outcome, Pending, lies_from};
 use std::alloc::{AllocError, Allocator};
 use unicode_visibility::{hex_digit, is_shown, number_text};
 
-// Appends the text that a byte after `begun` shows whatever follows, and returns what has begun
-// then.
+// Appends the text that a byte after `begun` shows whatever follows, and returns the bytes that are
+// begun then.
 pub(crate) fn push_next<A: Allocator>(
     text: &mut Vec<u8, A>,
     begun: Pending,
@@ -34,7 +34,7 @@ pub(crate) fn push_next<A: Allocator>(
     }
 }
 
-// A byte where no character has begun.
+// A byte after no begun character.
 #[tactic(auto, unfolding(esc_frame::specs::Sequences::is_prefix))]
 fn push_first<A: Allocator>(text: &mut Vec<u8, A>, byte: u8) -> Result<Pending, AllocError>
     ensures ok { IfOk result (λ p. (text.new.items ≡ text.old.items ++ first_text byte)
@@ -128,7 +128,7 @@ pub(crate) fn push_stray<A: Allocator>(
     }
 }
 
-// A character, of which these bytes had begun, and this is the last.
+// A character: these bytes of it had begun, and this is the last.
 fn push_character<A: Allocator>(
     text: &mut Vec<u8, A>,
     begun: Pending,

@@ -24,7 +24,7 @@ loop-at-init g c = record {
   quiet = λ h. (λ k a b. absurd (omega (arith, b)), λ a. absurd (omega (arith, a)));
 }
 
--- what is known of the bytes so far, and of those that came now
+-- the facts about the bytes so far, and about those that came now
 pub loop-at-preserved : goal.loop-at-preserved
 loop-at-preserved g c =
     let bs = c.args.bytes.now in
