@@ -68,7 +68,7 @@ one_part (b ∷ v) h = elim (cases_Bool (b == 0x2c)) [
       rw (is, one_part v rest) refl
 ]
 
--- another is what comes before the first, and the parts of what follows
+-- another is the text before the first, and the parts of the rest
 pub more_parts : (v p m : List ℕ) → position_or_len (λ b. b == 0x2c) v < length v
     → p ≡ before_first (λ b. b == 0x2c) v → m ≡ after_first (λ b. b == 0x2c) v
     → parts v ≡ p ∷ parts m

@@ -1,4 +1,4 @@
--- Sizes and what ends them.
+-- Sizes and their units.
 use Rattle.std.proofs.Common.{arith, ℕ, zero, suc, SomeIff, ◌≡◌, ◌<◌, ◌*◌, ◌-◌, ◌^◌, Bool, true, false, List, [], ◌∷◌, Option, None, Some, Bor, length, take, nat_eq, nat_lt, refl, sym, subst, ◌∙◌, if◌then◌else◌, inl, inr}
 use Rattle.std.specs.List.{ends_with, list_all}
 use Rattle.std.specs.Option.{MatchOption, option_map}
@@ -11,7 +11,7 @@ use Rattle.std.proofs.lemmas.Bool.Decides.{nat_tests}
 use Rattle.std.proofs.lemmas.Str.Pattern.{ends_text}
 use Rattle.command_line.specs.Sizes.{cut, is_numeral, is_size, number_in, size_value, units, with_factor, without_unit}
 
--- what is left of a text before another, where it ends with it
+-- the rest of a text before another, if it ends with it
 pub cut_is : (n s : List ℕ) (r : Option (Bor (List ℕ)))
     → MatchOption r (FindsTextSuffix n s None) (λ x. StripsSuffix (FindsTextSuffix n) s x.now)
     → option_map (λ x. x.now) r

@@ -1,4 +1,4 @@
--- What one word adds to the options and to the files.
+-- The options and the files that one word adds.
 use Rattle.std.proofs.Common.{◌≡◌, ℕ, Bool, true, false, if◌then◌else◌, List, [], ◌∷◌, ◌++◌, Option, None, Some, Bor, drop, length, map, nat_eq, refl, sym, subst, ap, ◌∙◌, inl, inr}
 use Rattle.std.specs.List.{starts_with}
 use Rattle.std.specs.Option.{MatchOption, option_map}
@@ -14,7 +14,7 @@ use Rattle.command_line.specs.Words.{are_right, ends_options, files_of, given_by
 abbrev pub taken : List Known → List ℕ → ℕ
 taken known w = if takes_next known w then 1 else 0
 
--- where an option takes the next word, what is left is after it
+-- if an option takes the next word, the rest is after it
 options_left : (known : List Known) (t : Bool) (ws : List (List ℕ))
     → options_of known t ws ≡ options_of known false (drop (if t then 1 else 0) ws)
 options_left known false ws = refl
@@ -96,7 +96,7 @@ right_left known false ws = refl
 right_left known true [] = refl
 right_left known true (w ∷ ws) = refl
 
--- where a file or an option is right, those that are left decide
+-- if a file or an option is right, the other words decide
 right_next : (known : List Known) (w : List ℕ) (ws rest : List (List ℕ)) → ends_options w ≡ false
     → (is_file w ≡ true → rest ≡ ws) → (is_file w ≡ false → rest ≡ drop (taken known w) ws)
     → (if is_file w then true else is_right known w ws) ≡ true
@@ -120,7 +120,7 @@ right_step text known w x all after rest t a e f o r =
     ∙ ap (λ v. are_right known false (v ∷ map text after)) t
     ∙ ap (λ us. are_right known false (map text us)) (sym a)
 
--- what is left of a text after another, where it begins with it
+-- the rest of a text after another, if it begins with it
 pub strip_is : (n s : List ℕ) (r : Option (Bor (List ℕ)))
     → MatchOption r (FindsTextPrefix n s None) (λ x. StripsPrefix (FindsTextPrefix n) s x.now)
     → option_map (λ x. x.now) r

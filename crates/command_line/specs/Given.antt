@@ -1,4 +1,4 @@
--- What an option is given, and what it takes.
+-- The value that an option is given, and the values that it takes.
 use Rattle.std.specs.Prelude.{ℕ, nat_lt, nat_eq, ◌+◌, ◌/◌, ◌%◌, ◌^◌, ◌==◌, ◌&&◌, ◌||◌, Bool, false, not, if◌then◌else◌, List, [], ◌∷◌, length, bit_or, is_some, Option, Some, None}
 use denote.Ref.{Bor}
 use Rattle.std.specs.Cmp.Lexicographic.{pointwise}
@@ -11,7 +11,7 @@ use Rattle.command_line.specs.declared.table.Takes.TheVariants as takes
 
 -- ---- words of a list
 
--- the place of a word in a list of which the first has this place: that of the first that it is
+-- the place of a word in a list whose first word has this place: that of the first that it is
 abbrev pub place_from : ℕ → List (Bor (List ℕ)) → List ℕ → Option ℕ
 place_from n [] w = None
 place_from n (x ∷ xs) w = if pointwise nat_eq x.now w then Some n else place_from (n + 1) xs w
@@ -59,7 +59,7 @@ is_value (takes.Maybe c ws) v = is_one_of ws.now v
 is_value (takes.MaybeSome c ws) v =
     not (length v == 0) && list_all (is_among ws.now) (parts v)
 
--- the word that is given, where one or several of some are taken
+-- the word that is given, if one or several of some are taken
 abbrev pub word_given : Takes → List ℕ → List ℕ
 word_given takes.Nothing v = []
 word_given takes.Size v = []
@@ -68,7 +68,7 @@ word_given (takes.SomeOf c ws) v = v
 word_given (takes.Maybe c ws) v = v
 word_given (takes.MaybeSome c ws) v = v
 
--- the size that is given, where one is taken
+-- the size that is given, if one is taken
 abbrev pub size_given : Takes → List ℕ → ℕ
 size_given takes.Nothing v = 0
 size_given takes.Size v = size_value v
@@ -77,7 +77,7 @@ size_given (takes.SomeOf c ws) v = 0
 size_given (takes.Maybe c ws) v = 0
 size_given (takes.MaybeSome c ws) v = 0
 
--- the bits of the words that are given, where several of some are taken
+-- the bits of the words that are given, if several of some are taken
 abbrev pub some_given : Takes → List ℕ → ℕ
 some_given takes.Nothing v = 0
 some_given takes.Size v = 0

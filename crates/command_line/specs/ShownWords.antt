@@ -1,4 +1,4 @@
--- What is written of a word of unknown origin.
+-- The text that is written for a word of unknown origin.
 use Rattle.std.specs.Prelude.{ℕ, ◌≡◌, ◌/◌, ◌%◌, ◌==◌, ◌&&◌, Bool, true, false, not, if◌then◌else◌, List, [], ◌∷◌, ◌++◌, codes}
 use Rattle.std.specs.Char.{encode_utf8}
 use Rattle.std.specs.Fmt.{digit_glyph, digits}
@@ -23,7 +23,7 @@ escaped_character c =
 abbrev pub byte_shown : ℕ → List ℕ
 byte_shown b = codes "\\x" ++ digit_glyph false (b / 16 % 16) ∷ digit_glyph false (b % 16) ∷ []
 
--- a character of a word, where it is said whether it stands for a byte: U+0000 comes before such a
+-- a character of a word, if it is said whether it stands for a byte: U+0000 comes before such a
 -- one, and is not written
 abbrev pub shown_character : Bool → ℕ → List ℕ
 shown_character is_byte c =
@@ -32,7 +32,7 @@ shown_character is_byte c =
     else if is_plain c then encode_utf8 c
     else escaped_character c
 
--- characters, of which the first may stand for a byte
+-- characters, the first of which may stand for a byte
 abbrev pub shown_from : Bool → List ℕ → List ℕ
 shown_from is_byte [] = []
 shown_from is_byte (c ∷ cs) = shown_character is_byte c ++ shown_from ((c == 0) && not is_byte) cs
@@ -40,6 +40,6 @@ shown_from is_byte (c ∷ cs) = shown_character is_byte c ++ shown_from ((c == 0
 abbrev pub word_shown : List ℕ → List ℕ
 word_shown w = shown_from false (chars w)
 
--- a text of which each character shows as itself
+-- a text, each character of which shows as itself
 abbrev pub IsShown : List ℕ → Type 0
 IsShown t = (cs : List ℕ) × (list_all is_shown cs ≡ true) × (encode_utf8_all cs ≡ t)

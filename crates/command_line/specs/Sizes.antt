@@ -10,11 +10,11 @@ units =
     (codes "KiB", 0x400) ∷ (codes "MiB", 0x100000) ∷ (codes "GiB", 0x40000000)
     ∷ (codes "K", 0x400) ∷ (codes "M", 0x100000) ∷ (codes "G", 0x40000000) ∷ []
 
--- what comes before this unit, where a text ends with it
+-- the text before this unit, if a text ends with it
 abbrev pub cut : List ℕ → List ℕ → Option (List ℕ)
 cut u t = if ends_with nat_eq t u then Some (take (length t - length u) t) else None
 
--- that with the unit's factor, or else what is there
+-- that with the unit's factor, or else the result so far
 abbrev pub with_factor : Option (List ℕ) → ℕ → List ℕ × ℕ → List ℕ × ℕ
 with_factor None f next = next
 with_factor (Some t) f next = (t, f)
@@ -28,7 +28,7 @@ without_unit (u ∷ us) t = with_factor (cut u.0 t) u.1 (without_unit us t)
 abbrev pub is_numeral : List ℕ → Bool
 is_numeral ds = nat_lt 0 (length ds) && list_all (λ c. nat_lt (digit_value c) 10) ds
 
--- what comes before the unit, without a `+` in front of it
+-- the text before the unit, without a `+` in front of it
 abbrev pub number_in : List ℕ → List ℕ
 number_in t = without_leading_plus (without_unit units t).0
 

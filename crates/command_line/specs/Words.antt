@@ -62,7 +62,7 @@ abbrev pub first_of : List (List ℕ) → List ℕ
 first_of [] = []
 first_of (w ∷ ws) = w
 
--- the value of an option of this word, before these words: what follows `=`, or the next word where
+-- the value of an option of this word, before these words: the text after `=`, or the next word if
 -- the option takes it
 abbrev pub value_of : List Known → List ℕ → List (List ℕ) → List ℕ
 value_of known w ws =
@@ -78,22 +78,22 @@ abbrev pub is_joined : Known → List ℕ → List ℕ → Bool
 is_joined o n w = may_take o.takes && not (length o.letter.now == 0) && not (lacks_dash o n)
     && starts_with nat_eq w o.letter.now
 
--- what is: what follows the letter
+-- the joined value: the text after the letter
 abbrev pub joined : Known → List ℕ → List ℕ → Option (List ℕ)
 joined o n w = if is_joined o n w then Some (drop (length o.letter.now) w) else None
 
--- an option with its value, or else what is there
+-- an option with its value, or else the result so far
 abbrev pub with_value : Known → Option (List ℕ) → Option (Known × List ℕ)
     → Option (Known × List ℕ)
 with_value o None next = next
 with_value o (Some v) next = Some (o, v)
 
--- the first option to whose letter something is joined, and what is
+-- the first option with a value joined to its letter, and the value
 abbrev pub option_joined : List Known → List ℕ → List ℕ → Option (Known × List ℕ)
 option_joined [] n w = None
 option_joined (o ∷ os) n w = with_value o (joined o n w) (option_joined os n w)
 
--- what an option is given, with this value
+-- the record of an option that is given with this value
 abbrev pub given_of : Option Known → List ℕ → List (List ℕ × List ℕ × ℕ × ℕ)
 given_of None v = []
 given_of (Some o) v = said_by o v ∷ []
@@ -112,8 +112,7 @@ given_by known w ws =
     given_or (option_named known (name_in w)) (value_of known w ws)
     (option_joined known (name_in w) w)
 
--- what the options that these words name are given, of which an option takes the first where that
--- is said
+-- the records of the options that these words name; an option takes the first word if that is said
 abbrev pub options_of : List Known → Bool → List (List ℕ) → List (List ℕ × List ℕ × ℕ × ℕ)
 options_of known is_taken [] = []
 options_of known true (w ∷ ws) = options_of known false ws
@@ -122,7 +121,7 @@ options_of known false (w ∷ ws) =
     else if is_file w then options_of known false ws
     else given_by known w ws ++ options_of known (takes_next known w) ws
 
--- the files that these words name, of which an option takes the first where that is said
+-- the files that these words name; an option takes the first word if that is said
 abbrev pub files_of : List Known → Bool → List (List ℕ) → List (List ℕ)
 files_of known is_taken [] = []
 files_of known true (w ∷ ws) = files_of known false ws
@@ -137,26 +136,26 @@ abbrev pub first_is_value : Takes → List (List ℕ) → Bool
 first_is_value t [] = false
 first_is_value t (w ∷ ws) = is_value t w
 
--- whether an option, without a value of its own, has one in the first of these words, where it
--- takes one
+-- whether an option, without a value of its own, has one in the first of these words, if it takes
+-- one
 abbrev pub next_is_right : Known → List (List ℕ) → Bool
 next_is_right o ws = if takes_value o.takes then first_is_value o.takes ws else true
 
--- whether the option that a word has the name or the letter of takes what the word, or the first of
--- these, gives it; or else the one to whose letter its value is joined
+-- whether the option that a word has the name or the letter of takes the value that the word, or
+-- the first of these, gives it; or else the one to whose letter its value is joined
 abbrev pub right_or : Option Known → List ℕ → List (List ℕ) → Option (Known × List ℕ) → Bool
 right_or (Some o) w ws j =
     if has_value w then is_value o.takes (after_first (λ b. b == 0x3d) w) else next_is_right o ws
 right_or None w ws None = false
 right_or None w ws (Some j) = is_value j.0.takes j.1
 
--- whether a word names an option, before these words, and gives it what it takes
+-- whether a word names an option, before these words, and gives it a value that it takes
 abbrev pub is_right : List Known → List ℕ → List (List ℕ) → Bool
 is_right known w ws =
     right_or (option_named known (name_in w)) w ws (option_joined known (name_in w) w)
 
--- whether each of these words is a file or a right option, of which an option takes the first where
--- that is said
+-- whether each of these words is a file or a right option; an option takes the first word if that
+-- is said
 abbrev pub are_right : List Known → Bool → List (List ℕ) → Bool
 are_right known is_taken [] = true
 are_right known true (w ∷ ws) = are_right known false ws
@@ -165,7 +164,7 @@ are_right known false (w ∷ ws) =
     else if is_file w then are_right known false ws
     else is_right known w ws && are_right known (takes_next known w) ws
 
--- The result is no error where this holds, and where it does not there is one; that memory was
--- refused may come in either case.
+-- The result is no error if this holds, and if it does not there is one; that memory was refused
+-- may come in either case.
 abbrev pub Decides : {X : Type 0} → Bool → Result X Wrong → Type 0
 Decides holds r = MatchResult r (λ _. holds ≡ true) (λ e. e ≢ wrong.Memory → holds ≡ false)

@@ -3,7 +3,7 @@
 use crate::wrong::Wrong;
 use std::fs::{Files, metadata};
 
-/// A word after an option that could take it, and takes what follows `=` alone: so it is the name
+/// A word after an option that could take it, and takes only a value after `=`: so it is the name
 /// of a file.
 #[derive(Clone, Copy)]
 pub struct Apart<'a> {
@@ -13,8 +13,8 @@ pub struct Apart<'a> {
     pub word: &'a str,
 }
 
-/// What is wrong with such a word, where there is one: that it is the name of no file, so that it
-/// was meant for the option.
+/// The fault of such a word, if there is one: that it is the name of no file, so that it was meant
+/// for the option.
 pub fn wrong_apart<'a, F: Files>(files: &F, apart: Option<Apart<'a>>) -> Option<Wrong<'a>> {
     let Apart { option, word } = apart?;
     match metadata(files, word) {

@@ -5,7 +5,7 @@ use std::env::{Env, FillError};
 use std::io;
 use std::io::ErrorKind;
 
-/// What a program says of a file whose name is no text, since the toolchain's library opens none.
+/// The message about a file whose name is no text, since the toolchain's library opens none.
 pub const NO_TEXT: &str = "its name is not UTF-8: it can be read as standard input alone";
 
 // The longest argument that Linux hands to a program, with its end.

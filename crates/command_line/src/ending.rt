@@ -1,4 +1,4 @@
-//! How a stream ends, and what a program says and returns of it.
+//! The ends of a stream, and the messages and the status of a program for each.
 ghost use Rattle.std.specs.Prelude.{◌≡◌};
 ghost use Rattle.command_line.specs.Endings.{last_status, status_after};
 
@@ -9,7 +9,7 @@ use std::fmt::Display;
 use std::io;
 use std::io::Write;
 
-/// The status of a program that did what it was asked for.
+/// The status of a program that did its task.
 pub const DONE: u8 = 0;
 
 /// That of one which a file, its output or memory hindered.
@@ -24,17 +24,17 @@ const CLOSED: u8 = 141;
 /// How a stream ended.
 #[derive(Clone, Copy, PartialEq, Eq)]
 pub enum Ended {
-    /// It was read to its end, and what comes of it was written.
+    /// It was read to its end, and its output was written.
     Whole,
     /// It could not be read to its end, or memory was refused.
     Unread,
-    /// What comes of it could not be written.
+    /// Its output could not be written.
     Unwritten,
-    /// Nobody reads what is written any more.
+    /// Nobody reads the output any more.
     Closed,
 }
 
-/// The status after a stream that ended so, where it was this one before. An error where no further
+/// The status after a stream that ended so, if it was this one before. An error if no further
 /// stream can be written.
 pub fn status_after(ended: Ended, status: u8) -> Result<u8, u8>
     ensures { result ≡ status_after ended status }
@@ -47,7 +47,7 @@ pub fn status_after(ended: Ended, status: u8) -> Result<u8, u8>
     }
 }
 
-/// The status after a stream that ended so, where none follows.
+/// The status after a stream that ended so, if none follows.
 pub fn last_status(ended: Ended) -> u8
     ensures { result ≡ last_status ended }
 {
@@ -57,8 +57,8 @@ pub fn last_status(ended: Ended) -> u8
     }
 }
 
-/// The status of a program whose words are wrong. A line on `faults` says what is, and where it is
-/// not memory that was refused, another which option says the right ones.
+/// The status of a program whose words are wrong. A line on `faults` says which, and if it is not
+/// memory that was refused, another which option says the right ones.
 pub fn refused<E: Write>(program: &str, wrong: Wrong<'_>, faults: &mut E) -> u8 {
     let _ = writeln!(faults, "{program}: {wrong}");
     if wrong.is_fault() {
@@ -69,8 +69,8 @@ pub fn refused<E: Write>(program: &str, wrong: Wrong<'_>, faults: &mut E) -> u8 
 }
 
 /// The status of a program that only had to write a text to the output of this name, with this
-/// outcome. Where it could not, a line on `faults` says why; but where nobody reads the output any
-/// more, none is written.
+/// outcome. If it could not, a line on `faults` says why; but if nobody reads the output any more,
+/// none is written.
 pub fn status_of_text<E: Write>(
     program: &str,
     output: &str,
@@ -83,8 +83,8 @@ pub fn status_of_text<E: Write>(
     }
 }
 
-/// The status of a program that cannot write the file of this name. A line on `faults` says what
-/// hindered it.
+/// The status of a program that cannot write the file of this name. A line on `faults` says the
+/// fault.
 pub fn unwritable<D: Display + Drop, E: Write>(
     program: &str,
     name: &str,
@@ -95,8 +95,7 @@ pub fn unwritable<D: Display + Drop, E: Write>(
     FAULT
 }
 
-/// How a stream of this name ended that could not be read. A line on `faults` says what hindered
-/// it.
+/// The end of a stream of this name that could not be read. A line on `faults` says the fault.
 pub fn unread<D: Display + Drop, E: Write>(
     program: &str,
     name: &str,
@@ -107,9 +106,9 @@ pub fn unread<D: Display + Drop, E: Write>(
     Ended::Unread
 }
 
-/// How a stream ended of which nothing more can be written, since a write to the output of this
-/// name failed for this reason. A line on `faults` says so; but where nobody reads the output any
-/// more, none is written.
+/// The end of a stream that cannot be written any further, since a write to the output of this name
+/// failed for this reason. A line on `faults` says so; but if nobody reads the output any more,
+/// none is written.
 pub fn unwritten<E: Write>(program: &str, output: &str, reason: Reason, faults: &mut E) -> Ended
     ensures { result ≡ Ended.Whole → ⊥ }
 {
@@ -129,9 +128,9 @@ pub enum Place<'a> {
     Output(&'a str),
 }
 
-/// How a stream ended, with this outcome of a program's work on it. An error came at this place,
-/// where the last error of its reader and writer had this reason. A line on `faults` says what
-/// hindered it; but where nobody reads the output any more, none is written.
+/// The end of a stream, with this outcome of a program's work on it. An error came at this place,
+/// and the last error of its reader and writer had this reason. A line on `faults` says the fault;
+/// but if nobody reads the output any more, none is written.
 pub fn ended_by<D: Display + Drop, E: Write>(
     program: &str,
     outcome: Result<(), D>,
@@ -174,7 +173,7 @@ fn hindered<D: Display + Drop, E: Write>(
     }
 }
 
-/// Writes a line on `faults`: what hindered a program at the stream of this name.
+/// Writes a line on `faults`: the fault of a program at the stream of this name.
 pub fn tell<D: Display + Drop, E: Write>(program: &str, name: &str, hindrance: D, faults: &mut E) {
     let name = Shown(name);
     let _ = writeln!(faults, "{program}: {name}: {hindrance}");

@@ -9,22 +9,22 @@ use std::fs::{File, Files, OpenFile, metadata};
 use std::io::{Input, Read, Write};
 use std::os::unix::fs::FileExt;
 
-/// What standard input is called.
+/// The name of standard input.
 pub const INPUT: &str = "standard input";
 
-/// What standard output is called.
+/// The name of standard output.
 pub const OUTPUT: &str = "standard output";
 
-/// What a program does with each stream that it reads.
+/// The work of a program on each stream that it reads.
 pub trait Work {
-    /// Does it with a stream that has this name, and returns how that ended. What hindered it was
-    /// said.
+    /// Does it with a stream that has this name, and returns how that ended. A fault was said
+    /// already.
     fn take<R: Read + Drop>(&mut self, name: &str, input: R) -> Ended;
 }
 
 /// Does a program's work with each of these files, one after another, each a stream of its own, and
 /// returns the status. `-` is standard input, and so is no file at all. After one that cannot be
-/// read the others follow; where nothing can be written, none does.
+/// read the others follow; if nothing can be written, none does.
 ///
 /// A file is not read that is standard output, or compressed, or whose name is no text. A line on
 /// `faults` says so, and why a file cannot be opened.
@@ -49,7 +49,7 @@ where
     status
 }
 
-// Does it with the file of this name, or with standard input where it is `-`.
+// Does it with the file of this name, or with standard input if it is `-`.
 fn work_on<R: Files + Input, W: Work, E: Write>(
     rt: &R,
     program: &str,
@@ -77,7 +77,7 @@ where
 }
 
 /// Does a program's work with a file of this name that was opened, and returns how that ended. One
-/// that is compressed is not read: a line on `faults` says so, and how to read what is in it.
+/// that is compressed is not read: a line on `faults` says so, and how to read its content.
 pub fn take_opened<F: Read + OpenFile + FileExt + Drop, W: Work, E: Write>(
     program: &str,
     name: &str,

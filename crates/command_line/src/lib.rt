@@ -1,5 +1,5 @@
-//! What the programs have in common: how their words are read, how a word is shown, which streams
-//! they read, and how one ends and why.
+//! The parts that the programs have in common: the reading of their words, the text of a word, the
+//! streams that they read, and the ways in which one ends and why.
 #![tactic(auto)]
 
 mod apart;

@@ -19,7 +19,7 @@ const NONE: Nearest = Nearest {
 };
 
 impl Nearest {
-    // This one, or the right word where it is nearer.
+    // This one, or the right word if it is nearer.
     fn or(self, right: &'static str, wrong: &str) -> Nearest {
         let edits = edits(right, wrong);
         if edits >= self.edits {
@@ -32,9 +32,8 @@ impl Nearest {
     }
 }
 
-/// That of these words which is nearest to the wrong one, the first of several, where one is near:
-/// where at most two bytes of each, in one place, make the difference, or the wrong one is how it
-/// begins.
+/// The word among these that is nearest to the wrong one, the first of several, if one is near: if
+/// at most two bytes of each, in one place, make the difference, or the wrong one is its beginning.
 pub fn nearest_word(words: &[&'static str], wrong: &str) -> Option<&'static str> {
     let mut nearest = NONE;
     for word in words {
@@ -43,7 +42,7 @@ pub fn nearest_word(words: &[&'static str], wrong: &str) -> Option<&'static str>
     nearest.word
 }
 
-/// The name of an option that is nearest to the wrong one, where one is near.
+/// The name of an option that is nearest to the wrong one, if one is near.
 pub fn nearest_name(known: &[Known], wrong: &str) -> Option<&'static str> {
     let mut nearest = NONE;
     for option in known {
@@ -52,8 +51,8 @@ pub fn nearest_name(known: &[Known], wrong: &str) -> Option<&'static str> {
     nearest.word
 }
 
-// How many bytes, in one place, have to change where a word is meant; all but too many where a
-// beginning of it was given.
+// The number of bytes, in one place, that have to change to give the right word; one less than too
+// many if the wrong one is a beginning of it.
 fn edits(right: &str, wrong: &str) -> usize {
     if !wrong.is_empty() && right.starts_with(wrong) {
         return FAR - 1;
@@ -66,7 +65,7 @@ fn edits(right: &str, wrong: &str) -> usize {
     right.len().max(wrong.len())
 }
 
-// What is left of two texts without the bytes that both begin with.
+// The rest of two texts without the bytes that both begin with.
 fn without_start<'a>(mut one: &'a [u8], mut other: &'a [u8]) -> (&'a [u8], &'a [u8]) {
     while let (Some((a, more)), Some((b, others))) = (one.split_first(), other.split_first()) {
         if a != b {
@@ -78,7 +77,7 @@ fn without_start<'a>(mut one: &'a [u8], mut other: &'a [u8]) -> (&'a [u8], &'a [
     (one, other)
 }
 
-// What is left of two texts without the bytes that both end with.
+// The rest of two texts without the bytes that both end with.
 fn without_end<'a>(mut one: &'a [u8], mut other: &'a [u8]) -> (&'a [u8], &'a [u8]) {
     while let (Some((a, more)), Some((b, others))) = (one.split_last(), other.split_last()) {
         if a != b {

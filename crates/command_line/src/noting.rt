@@ -17,7 +17,7 @@ pub struct ErrorCapture<T> {
 }
 
 impl<T> ErrorCapture<T> {
-    /// A reader or a writer around `inner`, of which no call has failed.
+    /// A reader or a writer around `inner`, none of whose calls has failed.
     pub fn new(inner: T) -> ErrorCapture<T> {
         ErrorCapture {
             inner,
@@ -73,7 +73,7 @@ impl<W: Write> Write for ErrorCapture<W> {
     }
 }
 
-// One read, made again where a signal interrupted it.
+// One read, made again if a signal interrupted it.
 fn uninterrupted_read<R: Read>(reader: &mut R, buf: &mut [u8]) -> io::Result<usize>
     ensures bound { ReadsAtMost result buf.new }
     ensures bytes { ReadConsumes (R.remaining reader.old) (R.remaining reader.new) result buf.new }
@@ -92,7 +92,7 @@ fn uninterrupted_read<R: Read>(reader: &mut R, buf: &mut [u8]) -> io::Result<usi
     Err(io::Error::from(ErrorKind::TimedOut))
 }
 
-// One write, made again where a signal interrupted it.
+// One write, made again if a signal interrupted it.
 fn uninterrupted_write<W: Write>(writer: &mut W, buf: &[u8]) -> io::Result<usize>
     ensures bound { WritesAtMost result buf.now }
     ensures bytes { WriteAppends (W.contents writer.old) (W.contents writer.new) result buf.now }
@@ -111,7 +111,7 @@ fn uninterrupted_write<W: Write>(writer: &mut W, buf: &[u8]) -> io::Result<usize
     Err(io::Error::from(ErrorKind::TimedOut))
 }
 
-// Notes the reason, where the outcome is an error.
+// Notes the reason, if the outcome is an error.
 fn note<V>(reason: &mut Option<Reason>, outcome: &io::Result<V>) {
     if let Err(error) = outcome {
         *reason = Some(Reason::of(error));

@@ -26,7 +26,7 @@ pub enum Packed {
 }
 
 impl Packed {
-    // The form of a file that begins with these bytes, where it is compressed.
+    // The form of a file that begins with these bytes, if it is compressed.
     fn of(bytes: &[u8]) -> Option<Packed>
         ensures { result ≡ packed_by bytes.now }
     {
@@ -45,7 +45,7 @@ impl Packed {
         None
     }
 
-    // The program that makes it, and the one that writes what is in it.
+    // The program that makes it, and the one that writes its content.
     fn programs(self) -> (&'static str, &'static str) {
         match self {
             Packed::Gzip => ("gzip", "zcat"),
@@ -56,7 +56,7 @@ impl Packed {
     }
 }
 
-/// That a file is compressed, and how a program reads what is in it.
+/// That a file is compressed, and how a program reads its content.
 #[derive(Clone, Copy)]
 pub struct PackedFile<'a> {
     /// The form.
@@ -76,8 +76,7 @@ impl<'a> Display for PackedFile<'a> {
     }
 }
 
-/// The form of a regular file that is compressed, by its first bytes. Its position stays where it
-/// is.
+/// The form of a regular file that is compressed, by its first bytes. Its position stays as it is.
 pub fn packed_in<F: OpenFile + FileExt>(file: &F) -> Option<Packed> {
     match file.metadata() {
         Ok(known) => packed_of(file, &known),
@@ -85,7 +84,7 @@ pub fn packed_in<F: OpenFile + FileExt>(file: &F) -> Option<Packed> {
     }
 }
 
-// The same of a file of which this is known. One of no length, as in /proc, may be another each
+// The same for a file of which this is known. One of no length, as in /proc, may be another each
 // time that it is read.
 fn packed_of<F: FileExt>(file: &F, known: &Metadata) -> Option<Packed> {
     if !known.is_file() || known.len() == 0 {

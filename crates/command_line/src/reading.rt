@@ -25,16 +25,16 @@ pub struct Found<'a, A: Allocator = Global> {
 pub struct Given<'a> {
     /// Its name in the table.
     pub name: &'static str,
-    /// The word that it takes, one of those in the table where there are some, or a list of them;
-    /// empty where it takes none.
+    /// The word that it takes, one of those in the table if there are some, or a list of them;
+    /// empty if it takes none.
     pub word: &'a str,
-    /// The size that it takes; 0 where it takes none.
+    /// The size that it takes; 0 if it takes none.
     pub size: usize,
-    /// Which words it takes, where it takes some: a bit each, that of the first word 1, of the next
+    /// The words that it takes, if it takes some: a bit each, that of the first word 1, of the next
     /// 2, of the next 4.
     pub some: u64,
-    /// The word after it, where it may take one and has none; empty where there is none. It takes
-    /// what follows `=` alone, so this is another option or a file.
+    /// The word after it, if it may take one and has none; empty if there is none. It takes only a
+    /// value after `=`, so this is another option or a file.
     pub next: &'a str,
 }
 
@@ -42,13 +42,12 @@ pub struct Given<'a> {
 /// options; or the first word that is wrong.
 ///
 /// A word that begins with `-` is an option, but for `-` itself, which is a file, and `--`, after
-/// which all words are files. What an option takes is the next word, whatever it is, or follows the
-/// name after `=`; what it may take follows `=`. Either may be joined to the option's letter, as in
-/// `-ofile`, but in a word that is the option's name without the first `-`.
+/// which all words are files. The value that an option takes is the next word, whatever it is, or
+/// follows the name after `=`; a value that it may take follows `=`. Either may be joined to the
+/// option's letter, as in `-ofile`, but in a word that is the option's name without the first `-`.
 ///
-/// The error is [`Wrong::Memory`] where memory was refused, and another exactly where a word is
-/// wrong: where it names no option, or gives one a value that it does not take, or none where it
-/// takes one.
+/// The error is [`Wrong::Memory`] if memory was refused, and another exactly if a word is wrong: if
+/// it names no option, or gives one a value that it does not take, or none if it takes one.
 pub fn read<'a, A: Allocator + Copy>(
     alloc: A,
     known: &[Known],
@@ -94,8 +93,8 @@ fn read_into<'a, A: Allocator + Copy>(
     Ok(())
 }
 
-// Adds the option or the file that a word names, with what it takes of the words after it; returns
-// the words after these.
+// Adds the option or the file that a word names, with the words after it that it takes; returns the
+// words after these.
 fn add_word<'a, A: Allocator + Copy>(
     found: &mut Found<'a, A>,
     known: &[Known],
@@ -146,8 +145,7 @@ fn add_files<'a, A: Allocator + Copy>(
     Ok(())
 }
 
-// The option that a word names, with what it takes of the words after it, and the words after
-// these.
+// The option that a word names, with the words after it that it takes, and the words after these.
 fn option_of<'a>(
     known: &[Known],
     word: &'a str,
@@ -174,7 +172,7 @@ fn option_of<'a>(
     }
 }
 
-// An option with what it takes of the words after it, and the words after these.
+// An option with the words after it that it takes, and the words after these.
 fn given_before<'a>(
     option: Known,
     after: &'a [String],
@@ -298,8 +296,8 @@ fn place_in(words: &[&'static str], text: &str) -> Option<usize>
     None
 }
 
-/// Which bits an option has that takes some of these words: that of the word at each place below 64
-/// where one of the parts between `,` is that word.
+/// The bits of an option that takes some of these words: that of the word at each place below 64 if
+/// one of the parts between `,` is that word.
 pub fn bits_are_words()
     ensures { (words : List (Bor (List ℕ))) (given : List (List ℕ)) (i : ℕ) → i < 64
         → has_bit i (bits_of words given)
@@ -319,7 +317,7 @@ fn taken<'a>(option: Known, word: &'a str, size: usize) -> Given<'a>
     }
 }
 
-// The option without what it may take, before these words.
+// The option without the value that it may take, before these words.
 fn followed<'a>(option: Known, after: &'a [String]) -> Given<'a>
     ensures { said_option result ≡ (option.name.now, [], 0, 0) }
 {

@@ -45,7 +45,7 @@ static WORDS: [(i32, &str); 33] = [
 /// as `No such file or directory`.
 #[derive(Clone, Copy)]
 pub struct Reason {
-    // The system's number of the error, where it is one of the system.
+    // The system's number of the error, if it is one of the system.
     number: Option<i32>,
     kind: ErrorKind,
 }
@@ -59,7 +59,7 @@ impl Reason {
         }
     }
 
-    /// Whether it is that nobody reads any more what is written.
+    /// Whether it is that nobody reads the output any more.
     pub fn is_closed(self) -> bool {
         self.kind == ErrorKind::BrokenPipe
     }
@@ -74,7 +74,7 @@ impl Display for Reason {
     }
 }
 
-// Writes what the system's error of this number is.
+// Writes the name of the system's error of this number.
 fn write_number<W: fmt::Write>(number: i32, f: &mut fmt::Formatter<W>) -> fmt::Result {
     match words_of(number) {
         Some(words) => f.write_str(words),
@@ -82,7 +82,7 @@ fn write_number<W: fmt::Write>(number: i32, f: &mut fmt::Formatter<W>) -> fmt::R
     }
 }
 
-// The words of the system's error of this number, where it is in the table.
+// The words of the system's error of this number, if it is in the table.
 fn words_of(number: i32) -> Option<&'static str> {
     for (known, words) in &WORDS {
         if *known == number {

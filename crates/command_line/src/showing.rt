@@ -27,13 +27,13 @@ impl<'a> Display for Shown<'a> {
     }
 }
 
-/// Each character of what is written of a word shows as itself: so none of it is a control, or
-/// hides or reorders text, whatever the word is.
+/// Each character of the text of a word shows as itself: so none of it is a control, or hides or
+/// reorders text, whatever the word is.
 pub fn words_are_shown()
     ensures { (w : List ℕ) → IsShown (word_shown w) }
 {}
 
-// Writes a character of a word, which stands for a byte where it is said so.
+// Writes a character of a word, which stands for a byte if it is said so.
 fn write_shown<W: fmt::Write>(is_byte: bool, c: char, f: &mut fmt::Formatter<W>) -> fmt::Result
     ensures { DisplaysOnOk W.write_str_gives f.old result (Some (shown_character is_byte c)) f.new }
 {

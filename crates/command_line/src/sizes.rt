@@ -14,7 +14,7 @@ const UNITS: [(&str, usize); 6] = [
 ];
 
 /// The size that a text names: a number in decimal, and no unit, or `K`, `M` or `G`, with or
-/// without `iB` after it, for 2^10, 2^20 or 2^30 bytes. None where it is another text, or the size
+/// without `iB` after it, for 2^10, 2^20 or 2^30 bytes. None if it is another text, or the size
 /// does not fit a `usize`.
 pub fn size_of(text: &str) -> Option<usize>
     ensures { MatchOption result (is_size text.now ≡ false)
@@ -40,7 +40,7 @@ fn without_unit<'a>(units: &[(&str, usize)], text: &'a str) -> (&'a str, usize)
     (text, 1)
 }
 
-// What comes before this unit, where a text ends with it.
+// The text before this unit, if a text ends with it.
 fn cut<'a>(unit: &str, text: &'a str) -> Option<&'a str>
     ensures { option_map (λ t. t.now) result ≡ cut unit.now text.now }
 {

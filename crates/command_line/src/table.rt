@@ -8,9 +8,9 @@ ghost use Rattle.command_line.specs.Words.{joined, lacks_dash, may_take, option_
 pub struct Known {
     /// Its name, as `--limit`.
     pub name: &'static str,
-    /// Its letter, as `-h`; empty where it has none.
+    /// Its letter, as `-h`; empty if it has none.
     pub letter: &'static str,
-    /// What it takes.
+    /// The value that it takes.
     pub takes: Takes,
 }
 
@@ -22,7 +22,7 @@ impl Known {
         takes: Takes::OneOf("file", &[]),
     };
 
-    /// What the program is for, and its options.
+    /// The purpose of the program, and its options.
     pub const HELP: Known = Known {
         name: "--help",
         letter: "-h",
@@ -37,18 +37,18 @@ impl Known {
     };
 }
 
-/// What an option takes.
+/// The value that an option takes.
 #[derive(Clone, Copy)]
 pub enum Takes {
     /// Nothing.
     Nothing,
     /// A size, in bytes.
     Size,
-    /// One of these words, or any where there are none; and what they are called.
+    /// One of these words, or any if there are none; and their name.
     OneOf(&'static str, &'static [&'static str]),
-    /// Some of these words, at most 64, with `,` between them, and what each is called.
+    /// Some of these words, at most 64, with `,` between them, and the name of each.
     SomeOf(&'static str, &'static [&'static str]),
-    /// One of these words after `=`, or any where there are none, or nothing.
+    /// One of these words after `=`, or any if there are none, or nothing.
     Maybe(&'static str, &'static [&'static str]),
     /// Some of these words, as above, after `=`, or nothing.
     MaybeSome(&'static str, &'static [&'static str]),
@@ -66,8 +66,8 @@ pub fn option_named(known: &[Known], name: &str) -> Option<Known>
     None
 }
 
-// The first option to whose letter something is joined in this word, which has this name before
-// `=`, and what is.
+// The first option with a value joined to its letter in this word, which has this name before `=`,
+// and the value.
 pub fn option_joined<'a>(known: &[Known], name: &str, word: &'a str) -> Option<(Known, &'a str)>
     ensures { option_map (λ x. (x.0, x.1.now)) result ≡ option_joined known.now name.now word.now }
 {
@@ -79,7 +79,7 @@ pub fn option_joined<'a>(known: &[Known], name: &str, word: &'a str) -> Option<(
     None
 }
 
-// What is joined to the option's letter in this word, which has this name before `=`.
+// The value that is joined to the option's letter in this word, which has this name before `=`.
 fn joined<'a>(option: &Known, name: &str, word: &'a str) -> Option<&'a str>
     ensures { option_map (λ v. v.now) result ≡ joined option.now name.now word.now }
 {

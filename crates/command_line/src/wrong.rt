@@ -1,16 +1,16 @@
-//! What is wrong with a program's words.
+//! The faults of a program's words.
 
 use crate::showing::Shown;
 use std::fmt;
 use std::fmt::Display;
 
-/// What is wrong with a program's words: the first wrong one.
+/// The fault of a program's words: the first wrong one.
 #[derive(Clone, Copy)]
 pub enum Wrong<'a> {
-    /// No option has this name. The nearest one that there is, where one is near.
+    /// No option has this name. The nearest one that there is, if one is near.
     Name(&'a str, Option<&'static str>),
-    /// This option does not take this value. What its values are called, and the nearest one, where
-    /// one is near.
+    /// This option does not take this value. The name of its values, and the nearest one, if one is
+    /// near.
     Value(&'static str, &'static str, &'a str, Option<&'static str>),
     /// This option takes a size, and this value is none.
     Size(&'static str, &'a str),
@@ -24,7 +24,7 @@ pub enum Wrong<'a> {
     Memory,
 }
 
-/// What a size is called.
+/// The name of a size.
 pub const A_SIZE: &str = "size, as 64K";
 
 impl<'a> Wrong<'a> {

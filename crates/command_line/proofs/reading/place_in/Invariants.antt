@@ -2,7 +2,7 @@ use Rattle.std.proofs.Common.{◌≡◌, drop}
 use Rattle.command_line.specs.Given.{place_from}
 use Rattle.command_line.proofs.reading.place_in.Given as goal
 
--- what is left decides
+-- the rest decides
 abbrev pub invariant-loop-word : goal.invariant-loop-word
 invariant-loop-word l =
     (l.place ≡ l.word-index)

@@ -3,8 +3,8 @@ use Rattle.command_line.specs.Given.{said_option}
 use Rattle.command_line.specs.Words.{are_right, files_of, options_of}
 use Rattle.command_line.proofs.reading.read_into.Given as goal
 
--- the files and the options so far, and those of the words that are left, are those of all words;
--- and those that are left decide whether all are right
+-- the files and the options so far, and those of the other words, are those of all words; and the
+-- other words decide whether all are right
 abbrev pub invariant-loop-word : goal.invariant-loop-word
 invariant-loop-word g l =
     (map (λ f. f.now) l.found.files.items ++ files_of l.known false (map string_bytes l.rest)

@@ -2,7 +2,7 @@ use Rattle.std.proofs.Common.{◌≡◌, drop}
 use Rattle.command_line.specs.Words.{option_joined}
 use Rattle.command_line.proofs.table.option_joined.Given as goal
 
--- what is left decides
+-- the rest decides
 abbrev pub invariant-loop-option : goal.invariant-loop-option
 invariant-loop-option l =
     option_joined l.known l.name l.word

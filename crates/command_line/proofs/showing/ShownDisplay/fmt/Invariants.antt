@@ -5,7 +5,7 @@ use Rattle.std.specs.Str.Iter.{chars_rest}
 use Rattle.command_line.specs.ShownWords.{shown_from, word_shown}
 use Rattle.command_line.proofs.showing.ShownDisplay.fmt.Given as goal
 
--- what is written so far, and what is to be written of the characters that are left
+-- the text so far, and the text of the characters that are left
 abbrev pub invariant-loop-c : goal.invariant-loop-c
 invariant-loop-c g l = (done : List ℕ)
     × (word_shown l.self.0.now ≡ done ++ shown_from l.is_byte (chars (chars_rest l.c-iterator)))
