@@ -9,7 +9,7 @@ use Rattle.page_input.specs.Lines.{feeds, first_lines, first_of}
 
 -- ---- up to the next line feed
 
--- where there is none
+-- if there is none
 pub none_first : (n : ℕ) (s : List ℕ)
     → ((k : ℕ) → 0 ≤ k → k < length s → is_byte 0x0a (get_or s k 0) ≡ true → ⊥)
     → (feeds s ≡ 0) × (first_lines (suc n) s ≡ s)
@@ -23,7 +23,7 @@ none_first n (b ∷ s) h =
           ∙ ap (λ t. b ∷ t) g,
     )
 
--- where one is at this place
+-- if one is at this place
 pub next_first : (n at : ℕ) (s : List ℕ) → at < length s
     → ((k : ℕ) → 0 ≤ k → k < at → is_byte 0x0a (get_or s k 0) ≡ true → ⊥)
     → is_byte 0x0a (get_or s at 0) ≡ true
@@ -108,7 +108,7 @@ first_split (suc n) (b ∷ x) y =
         ∙ ap (λ m. b ∷ (first_lines (suc n) x ++ first_lines m y))
         (same (feeds (first_lines (suc n) x)))
 
--- some bytes of it were read into a buffer, of which these come first
+-- some bytes of it were read into a buffer, the first of which are these
 pub first_consumed : (n count first : ℕ) (old new : Option (List ℕ)) (s : List ℕ)
     → Consumes old new (take count s) → first ≤ count
     → take first (take count s) ≡ first_lines n (take count s)
@@ -122,7 +122,7 @@ first_consumed n count first (Some x) (Some y) s read within is =
     ∙ ap (λ u. u ++ first_lines (n - feeds u) y) (sym is)
     ∙ ap (λ u. u ++ first_lines (n - feeds (take first t)) y) (take-take first count s within)
 
--- none were, where something may be
+-- none were, if something may be
 pub none_read : (n : ℕ) (t : List ℕ) → 0 < n → [] ≡ first_lines n t → t ≡ []
 none_read zero t l h = absurd (omega (arith, l))
 none_read (suc n) [] l h = refl

@@ -26,7 +26,7 @@ has_host a = begins_with (codes "http://") a || begins_with (codes "https://") a
 abbrev pub longest : ℕ
 longest = 2083
 
--- what ends a sentence
+-- the bytes that end a sentence
 abbrev pub is_stop : ℕ → Bool
 is_stop b = list_any (λ c. c == b) (codes ".,;:!?'")
 
@@ -42,7 +42,7 @@ pub record IsAddress (a : List ℕ) : Type 0 where
 
 -- ---- in a text
 
--- the byte before a place in a text, where this one comes before the text
+-- the byte before a place in a text, if this one comes before the text
 abbrev pub byte_before : ℕ → List ℕ → ℕ → ℕ
 byte_before previous s n =
     if n == 0 || nat_lt (length s) n then previous else slice_index s (n - 1)

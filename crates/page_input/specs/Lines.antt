@@ -6,7 +6,7 @@ abbrev pub feeds : List ℕ → ℕ
 feeds [] = 0
 feeds (b ∷ s) = (if b == 0x0a then 1 else 0) + feeds s
 
--- whether bytes come after the last one, where before these some do or not
+-- whether bytes come after the last one, if before these some do or not
 abbrev pub open_after : Bool → List ℕ → Bool
 open_after begun s =
     if length s == 0 then begun else not (slice_index s (length s - 1) == 0x0a)
@@ -17,8 +17,8 @@ first_lines zero s = []
 first_lines (suc n) [] = []
 first_lines (suc n) (b ∷ s) = b ∷ (if b == 0x0a then first_lines n s else first_lines (suc n) s)
 
--- what a reader has of what another has, where these are known: all of it, or the lines that come
--- first
+-- the part that a reader has of the bytes of another, if these are known: all of them, or the lines
+-- that come first
 abbrev pub first_of : Option ℕ → Option (List ℕ) → Option (List ℕ)
 first_of None known = known
 first_of (Some n) None = None

@@ -12,8 +12,8 @@ weight l = length l.made.items + 4 * length l.held.items
 abbrev pub owed : {R : Type 0} → Linking R → ℕ
 owed l = (length l.linker.made.items - l.at) + 4 * length l.linker.held.items
 
--- While a reader read on, of which this was left and then that, where both are known, the second
--- number grew by at most four for each byte that was read.
+-- While a reader read on, with this left and then that, if both are known, the second number grew
+-- by at most four for each byte that was read.
 abbrev pub IsPaid : Option (List ℕ) → Option (List ℕ) → ℕ → ℕ → Type 0
 IsPaid None new m n = ⊤
 IsPaid (Some xs) None m n = ⊥

@@ -19,8 +19,8 @@ pub(crate) struct Place {
 
 /// The first address in a text that comes after this byte: `http://` or `https://`, in letters of
 /// either case, after no letter, digit or `_`, and a letter or digit, with all that may be in an
-/// address (RFC 3986, 2), but for what ends a sentence and brackets that it does not open. One that
-/// is longer than a link may be is none.
+/// address (RFC 3986, 2), without the stops that end a sentence and brackets that it does not open.
+/// One that is longer than a link may be is none.
 pub(crate) fn first_address(text: &[u8], previous: u8) -> Option<Place>
     ensures { IfSome result (HasAddress previous text.now) }
 {
@@ -39,7 +39,7 @@ pub(crate) fn first_address(text: &[u8], previous: u8) -> Option<Place>
     None
 }
 
-// How long the scheme is that a text ends in, `http` or `https`; 0 where there is none.
+// The length of the scheme that a text ends in, `http` or `https`; 0 if there is none.
 fn scheme_length(text: &[u8]) -> usize {
     if ends_in(text, b"http") {
         4
@@ -84,7 +84,7 @@ fn byte_before(text: &[u8], at: usize, previous: u8) -> u8
     }
 }
 
-// How long the address is that a text begins with; 0 where there is none, or a longer one than a
+// The length of the address that a text begins with; 0 if there is none, or a longer one than a
 // link may have.
 fn address_length(text: &[u8]) -> usize
     ensures within { result ≤ length text.now }
@@ -114,7 +114,8 @@ fn begins_with(address: &[u8], scheme: &[u8]) -> bool
         && address[scheme.len()].is_ascii_alphanumeric()
 }
 
-// An address without what ends a sentence, and without closing brackets that it does not open.
+// An address without the stops that end a sentence, and without closing brackets that it does not
+// open.
 fn without_end(address: &[u8]) -> &[u8]
     ensures begins { result.now ≡ take (length result.now) address.now }
     ensures within { length result.now ≤ length address.now }

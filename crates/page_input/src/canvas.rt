@@ -7,7 +7,7 @@ use std::alloc::{AllocError, Global};
 // How many pixels are above one another in a band.
 const BAND: usize = 6;
 
-/// Pixels, each with the number of its colour; 0 where none was drawn.
+/// Pixels, each with the number of its colour; 0 if none was drawn.
 #[derive(Drop)]
 pub(crate) struct Canvas {
     /// How many are beside one another.
@@ -16,13 +16,13 @@ pub(crate) struct Canvas {
     pub height: usize,
     /// They, line after line.
     pub cells: Vec<u16>,
-    // where the next six are drawn: so many from the left, and so many from the top
+    // the place of the next six: so many from the left, and so many from the top
     x: usize,
     y: usize,
 }
 
 impl Canvas {
-    /// So many pixels, of which none is drawn.
+    /// So many pixels, none of which is drawn.
     pub fn new(alloc: Global, width: usize, height: usize) -> Result<Canvas, AllocError> {
         let mut cells = Vec::new(alloc);
         let mut line = Vec::new(alloc);
@@ -41,7 +41,7 @@ impl Canvas {
         })
     }
 
-    /// Draws these, in these colours. False where there are too many colours.
+    /// Draws these, in these colours. False if there are too many colours.
     pub fn draw(&mut self, content: &[SixelData], colors: &mut Colors) -> Result<bool, AllocError> {
         for item in content {
             let is_drawn = match item {
@@ -106,8 +106,8 @@ impl Canvas {
     }
 }
 
-/// How many pixels an image has beside one another, and how many lines: as many as its raster
-/// attributes or all of its sixels say, and where it draws more, as many as it draws.
+/// The number of pixels of an image beside one another, and of its lines: as many as its raster
+/// attributes or all of its sixels say, and if it draws more, as many as it draws.
 pub(crate) fn size_of(sixel: &Sixel) -> (usize, usize) {
     let (width, height) = sixel.dimensions();
     let mut extent = Extent {

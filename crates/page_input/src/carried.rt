@@ -1,4 +1,4 @@
-//! Renditions that go on where a stream is cut.
+//! Renditions that go on at the place of a stream's cut.
 
 use crate::leads::{Lead, Sieve, lead_of};
 use esc_decode::Encoding;

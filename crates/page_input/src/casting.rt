@@ -16,7 +16,7 @@ const BYTES: usize = 8192;
 // How many microseconds a millisecond has.
 const MILLI: u64 = 1000;
 
-/// What is read of a recording.
+/// The part of a recording that is read.
 #[derive(Clone, Copy)]
 pub struct Recorded {
     /// Whether the stream is a recording; else all of it is read as it is.
@@ -31,7 +31,7 @@ pub struct Recorded {
 /// version 2 or 3, which are lines of JSON. A line that is none ends it:
 /// [`wrong`](Casting::wrong) has its number then.
 ///
-/// It keeps a line of the recording, and what came of what was read at once.
+/// It keeps a line of the recording, and the text of the lines that were read at once.
 #[derive(Drop)]
 pub struct Casting<R> {
     inner: R,
@@ -44,7 +44,7 @@ pub struct Casting<R> {
     wrong: Option<u64>,
 }
 
-// The text, and where it goes on.
+// The text, and the place from which it goes on.
 #[derive(Drop)]
 struct Timed {
     alloc: Global,
@@ -55,7 +55,7 @@ struct Timed {
 }
 
 impl<R: Read> Casting<R> {
-    /// A reader of what this one reads, from its beginning. Takes no memory.
+    /// A reader of the text of this one, from its beginning. Takes no memory.
     pub fn new(alloc: Global, recorded: Recorded, inner: R) -> Casting<R> {
         Casting {
             inner,
@@ -75,12 +75,12 @@ impl<R: Read> Casting<R> {
         }
     }
 
-    /// The number of the line that is no line of a recording, where one came.
+    /// The number of the line that is no line of a recording, if one came.
     pub fn wrong(&self) -> Option<u64> {
         self.wrong
     }
 
-    // Hands out what was made, as much as there is room for.
+    // Hands out the text that was made, as much as there is room for.
     fn hand_out(&mut self, buf: &mut [u8]) -> usize
         ensures { result ≤ length buf.new }
     {
@@ -93,7 +93,7 @@ impl<R: Read> Casting<R> {
         count
     }
 
-    // Reads more, in place of what was handed out.
+    // Reads more, in place of the text that was handed out.
     fn refill(&mut self) -> io::Result<()> {
         let mut bytes = [0; BYTES];
         let count = self.inner.read(&mut bytes)?;
@@ -127,7 +127,7 @@ impl<R: Read> Casting<R> {
         Ok(())
     }
 
-    // Takes the end, where the last line may have no line feed.
+    // Takes the end, if the last line may have no line feed.
     fn end(&mut self) -> Result<(), TimeError> {
         self.has_ended = true;
         if self.cast.has_rest() {
@@ -137,7 +137,7 @@ impl<R: Read> Casting<R> {
         }
     }
 
-    // Takes what a line tells.
+    // Takes the event of a line.
     fn hear(&mut self) -> Result<(), TimeError> {
         let Some(heard) = self.cast.heard()? else {
             return Ok(());
@@ -203,7 +203,7 @@ impl Timed {
         fallible_alloc::extend(&mut self.made, renditions.as_str().as_bytes())
     }
 
-    // Appends a number of so many digits at least, and what comes after it.
+    // Appends a number of so many digits at least, and the byte after it.
     fn push_number(&mut self, number: u64, digits: usize, after: u8) -> Result<(), AllocError> {
         let mut reversed = [b'0'; 20];
         let mut left = number;

@@ -41,7 +41,7 @@ const FIRST: u16 = 15;
 pub(crate) struct Colors {
     // the number of the colour of each register
     registers: Vec<u16>,
-    // the colours, of which the first is that of no pixel
+    // the colours, the first of which is that of no pixel
     found: Vec<Rgb>,
     selected: u16,
 }
@@ -71,7 +71,7 @@ impl Colors {
         true
     }
 
-    /// Gives a register a colour, and selects it. False where there are too many colours.
+    /// Gives a register a colour, and selects it. False if there are too many colours.
     pub fn define(&mut self, register: u16, color: Rgb) -> Result<bool, AllocError> {
         self.selected = register;
         if self.color(self.of_register(register)) == color {
@@ -95,7 +95,7 @@ impl Colors {
         self.of_register(self.selected)
     }
 
-    /// The number of the colour of the background, where that is drawn.
+    /// The number of the colour of the background, if that is drawn.
     pub fn background(&self) -> u16 {
         self.of_register(0)
     }
@@ -126,8 +126,8 @@ pub(crate) fn rgb_of(color: RgbColor) -> Rgb {
     color.to_tuple_rgb8()
 }
 
-/// A colour by its hue, where 0 is blue, 120 red and 240 green, and its lightness and saturation in
-/// percent (VT330/VT340 Programmer Reference Manual, volume 2, chapter 14).
+/// A colour by its hue, with 0 for blue, 120 for red and 240 for green, and its lightness and
+/// saturation in percent (VT330/VT340 Programmer Reference Manual, volume 2, chapter 14).
 pub(crate) fn hls(hue: u16, lightness: u8, saturation: u8) -> Rgb {
     let light = u32::from(lightness.min(100));
     let full = u32::from(saturation.min(100));

@@ -19,12 +19,12 @@ pub(crate) enum Loss {
     Other,
 }
 
-/// What a command is.
+/// The kind of a command.
 #[derive(Drop)]
 pub(crate) enum Command {
     /// It shows this image.
     Shows(Picture),
-    /// A part of an image, of which more follows.
+    /// A part of an image; more parts follow.
     Part,
     /// It shows an image that is left out.
     Lost(Loss),
@@ -32,7 +32,7 @@ pub(crate) enum Command {
     Other,
 }
 
-/// The image of kitty that is unfinished: what it is, and its bytes so far.
+/// The image of kitty that is unfinished: its kind, and its bytes so far.
 #[derive(Drop)]
 pub(crate) struct Unfinished {
     format: KittyImageFormat,
@@ -41,7 +41,7 @@ pub(crate) struct Unfinished {
     bytes: Vec<u8>,
 }
 
-/// The command that shows an image, where there is one.
+/// The command that shows an image, if there is one.
 pub(crate) fn shown(picture: Option<Picture>) -> Command {
     match picture {
         Some(picture) => Command::Shows(picture),
@@ -49,7 +49,7 @@ pub(crate) fn shown(picture: Option<Picture>) -> Command {
     }
 }
 
-/// What a command of sixels is, of which this comes after what opens it, without what ends it.
+/// The kind of a command of sixels with this text between its opener and its end.
 pub(crate) fn sixel_command(alloc: Global, text: &[u8]) -> Result<Command, AllocError> {
     let length = header_length(text).min(text.len());
     let (header, data) = text.split_at(length);
@@ -94,8 +94,7 @@ pub(crate) fn has_key(text: &[u8], end: u8, comma: u8, key: &'static [u8]) -> bo
     rest == key
 }
 
-/// What a command of kitty is, of which this comes after what opens it, where this image is
-/// unfinished.
+/// The kind of a command of kitty with this text after its opener, if this image is unfinished.
 /// Parts of it come in more commands, up to one that says no more follow.
 pub(crate) fn image_command(
     alloc: Global,
@@ -121,7 +120,7 @@ pub(crate) fn image_command(
     }
 }
 
-// The image that a command begins, where it is not compressed and lies in the stream.
+// The image that a command begins, if it is not compressed and lies in the stream.
 fn begun(alloc: Global, transmit: &KittyImageTransmit) -> Option<Unfinished> {
     if transmit.compression != KittyImageCompression::None {
         return None;
@@ -134,7 +133,7 @@ fn begun(alloc: Global, transmit: &KittyImageTransmit) -> Option<Unfinished> {
     })
 }
 
-// Adds what a command has of an image.
+// Adds the part of an image that a command has.
 fn take_part(
     alloc: Global,
     unfinished: &mut Option<Unfinished>,
@@ -159,7 +158,7 @@ fn take_part(
     finished(alloc, image)
 }
 
-// The image, of which all is there.
+// The image, which is all there.
 fn finished(alloc: Global, image: Unfinished) -> Result<Command, AllocError> {
     let Unfinished {
         format,

@@ -10,7 +10,7 @@ use std::alloc::{AllocError, Global};
 /// The first bytes of a command of iTerm2, after its opener.
 pub(crate) const PROPRIETARY: &[u8] = b"1337;";
 
-// What one with a file begins with after that, and those that begin, go on with and end a file
+// The beginning of one with a file after that, and the words that begin, go on with and end a file
 // that comes in more commands.
 const FILE: &[u8] = b"File=";
 
@@ -20,15 +20,14 @@ const PART: &[u8] = b"FilePart=";
 
 const END: &[u8] = b"FileEnd";
 
-/// A file that is unfinished: its name, and so far what is its content in base64.
+/// A file that is unfinished: its name, and the part of its content in base64 so far.
 #[derive(Drop)]
 pub(crate) struct Parts {
     name: String,
     text: Vec<u8>,
 }
 
-/// Whether a command of iTerm2 has a file or a part of one, of which this comes after what opens
-/// it.
+/// Whether a command of iTerm2 with this text after its opener has a file or a part of one.
 pub(crate) fn begins_file(text: &[u8]) -> bool {
     match after(text, PROPRIETARY) {
         Some(text) => {
@@ -41,7 +40,7 @@ pub(crate) fn begins_file(text: &[u8]) -> bool {
     }
 }
 
-/// Whether it may have one, of which this is the beginning.
+/// Whether it may have one, if this is its beginning.
 pub(crate) fn may_begin_file(text: &[u8]) -> bool {
     match after(text, PROPRIETARY) {
         Some(text) => {
@@ -70,8 +69,8 @@ fn is_shown(keys: &[u8]) -> bool {
     has_key(keys, b':', b';', b"inline=1")
 }
 
-/// What a command of iTerm2 is, of which this comes after its number, without what ends it, where
-/// this file is unfinished. Parts of it come in more commands, up to one that ends it.
+/// The kind of a command of iTerm2 with this text between its number and its end, if this file is
+/// unfinished. Parts of it come in more commands, up to one that ends it.
 pub(crate) fn file_command(
     alloc: Global,
     unfinished: &mut Option<Parts>,
@@ -92,7 +91,7 @@ pub(crate) fn file_command(
     }
 }
 
-// What comes after this, where a text begins with it.
+// The rest after this, if a text begins with it.
 fn after<'t>(text: &'t [u8], first: &'static [u8]) -> Option<&'t [u8]> {
     if text.starts_with(first) {
         text.get(first.len()..)
@@ -135,7 +134,7 @@ fn begin(
     }
 }
 
-// Adds what a command has of a file.
+// Adds the part of a file that a command has.
 fn take_part(
     unfinished: &mut Option<Parts>,
     limit: usize,
@@ -150,7 +149,7 @@ fn take_part(
     Ok(Command::Part)
 }
 
-// The file, of which all is there.
+// The file, which is all there.
 fn finished(alloc: Global, file: Option<Parts>) -> Result<Command, AllocError> {
     let Some(Parts { name, text }) = file else {
         return Ok(Command::Other);
@@ -161,7 +160,7 @@ fn finished(alloc: Global, file: Option<Parts>) -> Result<Command, AllocError> {
     }
 }
 
-// The file of a command, where it can be read.
+// The file of a command, if it can be read.
 fn parsed(alloc: Global, text: &[u8]) -> Result<Option<ITermFileData>, AllocError> {
     let mut parts = Vec::new(alloc);
     let mut rest = text;

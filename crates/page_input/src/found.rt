@@ -11,10 +11,11 @@ const CAN: u8 = 0x18;
 
 const SUB: u8 = 0x1a;
 
-// How many bytes the parameters of a device control string have at most, where it is an image.
+// The most bytes of the parameters of a device control string, if it is an image.
 const MOST_HEADER: usize = 64;
 
-/// What a command may have: a file of iTerm2 or a part of one, an image of kitty, or sixels.
+/// The content that a command may have: a file of iTerm2 or a part of one, an image of kitty, or
+/// sixels.
 #[derive(Clone, Copy, PartialEq, Eq)]
 pub(crate) enum Kind {
     File,
@@ -22,13 +23,12 @@ pub(crate) enum Kind {
     Sixels,
 }
 
-/// What bytes begin with.
+/// The part that bytes begin with.
 #[derive(Clone, Copy)]
 pub(crate) enum Found {
     /// So many bytes of text.
     Text(usize),
-    /// A command of so many bytes, of which one place and another are after what opens it and
-    /// before what ends it.
+    /// A command of so many bytes; the two places are after its opener and before its end.
     Command {
         kind: Kind,
         from: usize,
@@ -41,7 +41,7 @@ pub(crate) enum Found {
     More,
 }
 
-// What comes after what opens a string.
+// The string that begins after an opener.
 #[derive(Clone, Copy)]
 enum Begun {
     // the beginning of a command of this kind
@@ -52,8 +52,8 @@ enum Begun {
     More,
 }
 
-/// What bytes of a stream in this encoding begin with, of which nothing may follow; and so many
-/// bytes of a command were looked through for its end then. Before these bytes it does not end.
+/// The part that bytes of a stream in this encoding begin with; nothing may follow them. So many
+/// bytes of a command were searched for its end already: before these bytes it does not end.
 pub(crate) fn found_in(
     bytes: &[u8],
     encoding: Encoding,
@@ -88,7 +88,7 @@ pub(crate) fn found_in(
     (text_or(bytes.len(), Found::More), 0)
 }
 
-// So many bytes of text, or where there are none, this.
+// So many bytes of text, or if there are none, this.
 fn text_or(length: usize, other: Found) -> Found {
     if length == 0 {
         other
@@ -97,7 +97,7 @@ fn text_or(length: usize, other: Found) -> Found {
     }
 }
 
-// What comes after ESC and this letter.
+// The string that begins after ESC and this letter.
 fn begun_by(letter: u8, text: &[u8]) -> Begun {
     match letter {
         b']' if begins_file(text) => Begun::Command(Kind::File),
@@ -119,7 +119,7 @@ fn begun_by(letter: u8, text: &[u8]) -> Begun {
     }
 }
 
-// A command of this kind, from this place on, where what ends it is there.
+// A command of this kind, from this place on, if its end is there.
 fn command_in(
     bytes: &[u8],
     kind: Kind,
@@ -157,7 +157,7 @@ fn command_in(
     }
 }
 
-// How long what ends a command is, which comes first; or 0.
+// The length of the end of a command that comes first; or 0.
 fn end_length(bytes: &[u8], kind: Kind, encoding: Encoding) -> usize {
     match bytes.first() {
         Some(byte) if *byte == BEL && kind == Kind::File => 1,
@@ -183,8 +183,8 @@ fn end_of(bytes: &[u8], kind: Kind, from: usize) -> usize {
     at
 }
 
-/// Whether a command of this kind shows an image, of which this is the beginning, where one of this
-/// kind is unfinished or not.
+/// Whether a command of this kind with this beginning shows an image, if one of this kind is
+/// unfinished or not.
 pub(crate) fn shows(kind: Kind, text: &[u8], is_unfinished: bool) -> bool {
     match kind {
         Kind::File => shows_file(text, is_unfinished),

@@ -8,10 +8,10 @@ pub(crate) const ESC: u8 = 0x1b;
 // The first byte of the controls of C1 in UTF-8.
 const LEAD: u8 = 0xc2;
 
-// What neither ends a sequence nor is a part of it, as a byte past ASCII.
+// A byte that neither ends a sequence nor is a part of it, as a byte past ASCII.
 const DEL: u8 = 0x7f;
 
-/// What bytes begin with.
+/// The part that bytes begin with.
 #[derive(Clone, Copy)]
 pub(crate) enum Lead {
     /// So many bytes in which nothing begins.
@@ -22,7 +22,7 @@ pub(crate) enum Lead {
     More,
 }
 
-/// What bytes of a stream in this encoding begin with, at the beginning of a character.
+/// The part that bytes of a stream in this encoding begin with, at the beginning of a character.
 pub(crate) fn lead_of(bytes: &[u8], encoding: Encoding) -> Lead {
     match bytes {
         [] | [ESC] => Lead::More,
@@ -36,7 +36,7 @@ pub(crate) fn lead_of(bytes: &[u8], encoding: Encoding) -> Lead {
     }
 }
 
-// The same of bytes of which the first is not ASCII, and may be a control or the first of one.
+// The same for bytes, the first of which is not ASCII, and may be a control or the first of one.
 fn lead_past_ascii(bytes: &[u8], encoding: Encoding) -> Lead {
     let in_utf8 = matches!(encoding, Encoding::Utf8 | Encoding::EightBit);
     match bytes {
@@ -48,7 +48,7 @@ fn lead_past_ascii(bytes: &[u8], encoding: Encoding) -> Lead {
     }
 }
 
-// What a character is that begins with this byte, before these; or what there is of it.
+// The character that begins with this byte, before these; or the part of it that is there.
 fn character(first: u8, rest: &[u8]) -> Lead {
     let most = match first {
         0..=0xdf => 1,
@@ -90,8 +90,8 @@ fn first_of_any(bytes: &[u8]) -> Option<usize> {
     None
 }
 
-/// How many bytes the string terminator has that comes first in a stream in this encoding, or 0
-/// where none does.
+/// The number of bytes of the string terminator that comes first in a stream in this encoding, or 0
+/// if none does.
 pub(crate) fn terminator_length(bytes: &[u8], encoding: Encoding) -> usize {
     match lead_of(bytes, encoding) {
         Lead::Control(b'\\', length) => length,
@@ -99,7 +99,7 @@ pub(crate) fn terminator_length(bytes: &[u8], encoding: Encoding) -> usize {
     }
 }
 
-/// Makes a stream one that the framing reads the same way, where it reads all of it as UTF-8 with
+/// Makes a stream one that the framing reads the same way, which reads all of it as UTF-8 with
 /// controls of C1 as bytes: a byte past ASCII that is no part of such a control becomes DEL.
 #[derive(Clone, Copy)]
 pub(crate) struct Sieve {
@@ -126,7 +126,7 @@ impl Sieve {
         }
     }
 
-    /// What the next byte becomes.
+    /// The byte that the next byte becomes.
     pub fn take(&mut self, byte: u8) -> u8 {
         let follows = self.follows;
         let masked = self.mask.take(byte);

@@ -1,7 +1,7 @@
 // SPDX-License-Identifier: MIT
 //! Readers that stand before a page of a log: of its first or last lines ([`Window`]), with links
-//! where addresses are in its text ([`Linking`]), group after group ([`Sections`]), up to each
-//! image in it ([`Pictures`]), and of the text of a recording ([`Casting`]).
+//! around addresses in its text ([`Linking`]), group after group ([`Sections`]), up to each image
+//! in it ([`Pictures`]), and of the text of a recording ([`Casting`]).
 #![tactic(auto)]
 
 mod address;

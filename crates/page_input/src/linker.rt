@@ -22,12 +22,12 @@ pub(crate) struct Linker {
     // the end of the text, which may be in an address, and the byte before it
     held: Vec<u8>,
     previous: u8,
-    /// What was made.
+    /// The text that was made.
     pub made: Vec<u8>,
 }
 
 impl Linker {
-    /// Of a stream in this encoding, at its beginning. Takes no memory.
+    /// A linker of a stream in this encoding, at its beginning. Takes no memory.
     pub fn new(alloc: Global, encoding: Encoding) -> Linker
         ensures { weight result ≡ 0 }
     {
@@ -127,7 +127,7 @@ impl Linker {
     }
 }
 
-// Appends text after this byte, with links where addresses are; what the byte before more text is.
+// Appends text after this byte, with links around addresses; returns the byte before more text.
 fn push_linked(made: &mut Vec<u8>, previous: u8, text: &[u8]) -> Result<u8, AllocError>
     ensures { OnOk result
         (length made.new.items ≤ length made.old.items + 4 * length text.now) }

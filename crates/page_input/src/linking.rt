@@ -12,28 +12,28 @@ use std::io::{ErrorKind, Read};
 // How many bytes are read at once.
 const BYTES: usize = 8192;
 
-/// Reads what another reader does, a stream, with the commands that begin and end a link (OSC 8)
-/// around each address in its text: `http://` or `https://`, after no letter, digit or `_`, and
-/// what comes after it up to a byte that may not be in one (RFC 3986, 2). Of what ends a sentence,
-/// and of brackets that it does not open, none is the end of it. It has at most 2,083 bytes, and
-/// stands in no link of the stream.
+/// Reads the stream of another reader, with the commands that begin and end a link (OSC 8) around
+/// each address in its text: `http://` or `https://`, after no letter, digit or `_`, and the bytes
+/// after it up to one that may not be in an address (RFC 3986, 2). The stops that end a sentence,
+/// and brackets that it does not open, are not its end. It has at most 2,083 bytes, and stands in
+/// no link of the stream.
 ///
 /// All that is read is at most four times as long as the stream. It keeps a word that may be an
-/// address up to its end, but at most 4 KiB. Where no links are asked for, it reads what the other
-/// reader does.
+/// address up to its end, but at most 4 KiB. If no links are asked for, it reads the stream of the
+/// other reader.
 #[derive(Drop)]
 pub struct Linking<R> {
     inner: R,
     is_on: bool,
     linker: Linker,
-    // how much of what was made was handed out
+    // the length of the text that was handed out
     at: usize,
     has_ended: bool,
 }
 
 impl<R: Read> Linking<R> {
-    /// A reader of what this one reads, in this encoding, from its beginning; with links, or not.
-    /// Takes no memory.
+    /// A reader of the stream of this one, in this encoding, from its beginning; with links, or
+    /// not. Takes no memory.
     pub fn new(alloc: Global, encoding: Encoding, is_on: bool, inner: R) -> Linking<R>
         ensures nothing { owed result ≡ 0 }
         ensures reader { result.inner ≡ inner }
@@ -47,7 +47,7 @@ impl<R: Read> Linking<R> {
         }
     }
 
-    // Reads more, in place of what was handed out.
+    // Reads more, in place of the text that was handed out.
     fn refill(&mut self) -> io::Result<()>
         ensures { OnOk result (IsPaid (R.remaining self.old.inner) (R.remaining self.new.inner)
             (owed self.old) (owed self.new)) }
@@ -65,7 +65,7 @@ impl<R: Read> Linking<R> {
         Ok(made?)
     }
 
-    // Hands out what was made, as much as there is room for.
+    // Hands out the text that was made, as much as there is room for.
     fn hand_out(&mut self, buf: &mut [u8]) -> usize
         ensures bound { result ≤ length buf.new }
         ensures paid { result + owed self.new ≤ owed self.old }

@@ -7,7 +7,7 @@ use std::alloc::{AllocError, Global};
 // How long the time is at most that comes before a mark.
 const LONGEST_TIME: usize = 40;
 
-/// What begins or ends a group of lines.
+/// The beginning or the end of a group of lines.
 #[derive(Drop)]
 pub enum Mark {
     /// A group begins.
@@ -21,18 +21,17 @@ pub enum Mark {
     End,
 }
 
-// What a line begins with.
+// The mark that a line begins with.
 #[derive(Clone, Copy)]
 enum Found<'a> {
-    // a group with this title, which is closed at first or not; where it has no title, with this
-    // name
+    // a group with this title, which is closed at first or not; if it has no title, with this name
     Begin(&'a [u8], &'a [u8], bool),
     // the end of one
     End,
 }
 
-/// How many bytes of a line are a mark, where it begins with one: all but what comes after the mark
-/// of GitLab that ends a section, or begins one and has a mark after it.
+/// The number of bytes of a line that are a mark, if it begins with one: all but the text after the
+/// mark of GitLab that ends a section, or begins one and has a mark after it.
 pub(crate) fn mark_length(line: &[u8]) -> Option<usize> {
     let (_, rest) = read_mark(line)?;
     Some(line.len().saturating_sub(rest.len()).max(1))
@@ -58,7 +57,7 @@ pub(crate) fn mark_of(alloc: Global, line: &[u8]) -> Result<Mark, AllocError> {
     })
 }
 
-// The mark that a line begins with, and what comes after it.
+// The mark that a line begins with, and the rest.
 fn read_mark(line: &[u8]) -> Option<(Found<'_>, &[u8])> {
     match after_time(line) {
         [b'#', b'#', b'[', rest @ ..] => workflow(rest, b"group]", b"endgroup]"),
@@ -68,7 +67,7 @@ fn read_mark(line: &[u8]) -> Option<(Found<'_>, &[u8])> {
     }
 }
 
-// What comes after the time that a line begins with, as GitHub writes it: digits, `-`, `T`, `:` and
+// The rest after the time that a line begins with, as GitHub writes it: digits, `-`, `T`, `:` and
 // `.`, `Z` and a space.
 fn after_time(line: &[u8]) -> &[u8] {
     let mut rest = line;
@@ -85,7 +84,7 @@ fn after_time(line: &[u8]) -> &[u8] {
     line
 }
 
-// What comes after the space, where the time has a digit first.
+// The rest after the space, if the time has a digit first.
 fn after_zone<'a>(line: &'a [u8], rest: &'a [u8]) -> &'a [u8] {
     match (line, rest) {
         ([b'0'..=b'9', ..], [b' ', rest @ ..]) => rest,
@@ -93,7 +92,7 @@ fn after_zone<'a>(line: &'a [u8], rest: &'a [u8]) -> &'a [u8] {
     }
 }
 
-// The mark of GitHub, of which this comes after what begins it.
+// The mark of GitHub with this text after its beginning.
 fn workflow<'a>(
     text: &'a [u8],
     begin: &'static [u8],
@@ -127,7 +126,7 @@ fn is_section(line: &[u8]) -> bool {
     after(text, b"section_start:").is_some() || after(text, b"section_end:").is_some()
 }
 
-// What comes after the name of a section, and whether it is closed at first.
+// The rest after the name of a section, and whether it is closed at first.
 fn named(text: &[u8]) -> Option<(&[u8], bool, &[u8])> {
     let colon = memchr(b':', text)?;
     let (time, rest) = text.split_at(colon.min(text.len()));
@@ -147,7 +146,7 @@ fn named(text: &[u8]) -> Option<(&[u8], bool, &[u8])> {
     ))
 }
 
-// What comes after sequences that erase the line, `ESC [0K`.
+// The rest after sequences that erase the line, `ESC [0K`.
 fn after_erasing(text: &[u8]) -> &[u8] {
     let mut rest = text;
     while let [0x1b, b'[', b'0', b'K', more @ ..] = rest {
@@ -156,7 +155,7 @@ fn after_erasing(text: &[u8]) -> &[u8] {
     rest
 }
 
-// What comes after this in a text.
+// The rest after this in a text.
 fn after<'a>(text: &'a [u8], start: &'static [u8]) -> Option<&'a [u8]> {
     if text.starts_with(start) {
         text.get(start.len()..)
@@ -165,7 +164,7 @@ fn after<'a>(text: &'a [u8], start: &'static [u8]) -> Option<&'a [u8]> {
     }
 }
 
-// What comes after the end of a line that a text begins with, or the text.
+// The rest after the end of a line that a text begins with, or the text.
 fn without_end(text: &[u8]) -> &[u8] {
     match text {
         [b'\r', b'\n', rest @ ..] | [b'\n', rest @ ..] => rest,

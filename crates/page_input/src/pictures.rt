@@ -45,14 +45,14 @@ impl LeftOut {
     }
 }
 
-/// Reads what another reader does, up to a command with an image: a file of iTerm2 that is shown or
-/// an image of kitty that is transmitted and displayed, in one command or in more, or sixels.
-/// [`picture`](Pictures::picture) has it then, and what is read next comes after it, in the
+/// Reads the stream of another reader, up to a command with an image: a file of iTerm2 that is
+/// shown or an image of kitty that is transmitted and displayed, in one command or in more, or
+/// sixels. [`picture`](Pictures::picture) has it then, and the next read begins after it, in the
 /// renditions that hold there.
 ///
-/// It keeps a command, but at most the limit and what is read at once, and an image whose parts
-/// come one after another, at most the limit. Where no images are asked for, it reads what the
-/// other reader does.
+/// It keeps a command, but at most the limit and the bytes of one read, and an image whose parts
+/// come one after another, at most the limit. If no images are asked for, it reads the stream of
+/// the other reader.
 #[derive(Drop)]
 pub struct Pictures<R> {
     inner: R,
@@ -60,7 +60,7 @@ pub struct Pictures<R> {
     alloc: Global,
     encoding: Encoding,
     limit: usize,
-    // what was read, and how much of it was handed out
+    // the bytes that were read, and the number of those that were handed out
     kept: Vec<u8>,
     at: usize,
     has_ended: bool,
@@ -77,8 +77,8 @@ pub struct Pictures<R> {
 }
 
 impl<R: Read> Pictures<R> {
-    /// A reader of what this one reads, in this encoding, from its beginning; up to each image, or
-    /// not. Takes no memory.
+    /// A reader of the stream of this one, in this encoding, from its beginning; up to each image,
+    /// or not. Takes no memory.
     pub fn new(
         alloc: Global,
         encoding: Encoding,
@@ -105,7 +105,7 @@ impl<R: Read> Pictures<R> {
         }
     }
 
-    /// Takes the image that comes next, where one does.
+    /// Takes the image that comes next, if one does.
     pub fn picture(&mut self) -> io::Result<Option<Picture>> {
         self.prepare()?;
         let picture = self.ready.take();
@@ -126,7 +126,7 @@ impl<R: Read> Pictures<R> {
         self.left_out
     }
 
-    // What comes next begins with the renditions that hold.
+    // The next text begins with the renditions that hold.
     fn carry_on(&mut self) -> Result<(), AllocError> {
         let text = self.carried.text(self.alloc)?;
         let mut kept = fallible_alloc::copied(self.alloc, text.as_bytes())?;
@@ -151,7 +151,7 @@ impl<R: Read> Pictures<R> {
         Ok(())
     }
 
-    // Looks at what comes next, and reads more where that is not known.
+    // Looks at the next part, and reads more if that is not known.
     fn look(&mut self) -> io::Result<()> {
         let (found, seen) = found_in(
             self.rest(),
@@ -240,7 +240,7 @@ impl<R: Read> Pictures<R> {
         }
     }
 
-    // What was read and not handed out.
+    // The bytes that were read and not handed out.
     fn rest(&self) -> &[u8] {
         let at = self.at.min(self.kept.len());
         &self.kept.as_slice()[at..]
@@ -251,7 +251,7 @@ impl<R: Read> Pictures<R> {
         self.rest().get(from..to).unwrap_or(b"")
     }
 
-    // Reads more, after what was not handed out.
+    // Reads more, after the bytes that were not handed out.
     fn refill(&mut self) -> io::Result<()> {
         let mut bytes = [0; BYTES];
         let count = self.inner.read(&mut bytes)?;

@@ -16,7 +16,7 @@ const LINE: usize = 4096;
 /// How many groups may be one in another: a mark that begins one more is text.
 pub const MOST_DEPTH: usize = 16;
 
-// What comes next.
+// The next part.
 #[derive(Clone, Copy)]
 enum Next {
     // so many bytes of text, which end a line or not
@@ -27,19 +27,19 @@ enum Next {
     End,
 }
 
-/// Reads what another reader does, up to a line that begins or ends a group: `##[group]NAME` and
-/// `##[endgroup]`, or `::group::NAME` and `::endgroup::`, maybe after a time, as GitHub has them;
-/// or `section_start:TIME:NAME` and `section_end:TIME:NAME`, a carriage return and `ESC [0K`, as
-/// GitLab. [`mark`](Sections::mark) says then which it is, and what is read next comes after it.
+/// Reads the stream of another reader, up to a line that begins or ends a group: `##[group]NAME`
+/// and `##[endgroup]`, or `::group::NAME` and `::endgroup::`, maybe after a time, as GitHub has
+/// them; or `section_start:TIME:NAME` and `section_end:TIME:NAME`, a carriage return and `ESC [0K`,
+/// as GitLab. [`mark`](Sections::mark) says then which it is, and the next read begins after it.
 ///
-/// It keeps a line up to its end, but at most 4 KiB and what is read at once. Where no groups are
-/// asked for, it reads what the other reader does.
+/// It keeps a line up to its end, but at most 4 KiB and the bytes of one read. If no groups are
+/// asked for, it reads the stream of the other reader.
 #[derive(Drop)]
 pub struct Sections<R> {
     inner: R,
     is_on: bool,
     alloc: Global,
-    // what was read, and how much of it was handed out
+    // the bytes that were read, and the number of those that were handed out
     kept: Vec<u8>,
     at: usize,
     has_ended: bool,
@@ -49,7 +49,7 @@ pub struct Sections<R> {
 }
 
 impl<R: Read> Sections<R> {
-    /// A reader of what this one reads, from its beginning; group after group, or not. Takes no
+    /// A reader of the stream of this one, from its beginning; group after group, or not. Takes no
     /// memory.
     pub fn new(alloc: Global, is_on: bool, inner: R) -> Sections<R> {
         Sections {
@@ -82,7 +82,7 @@ impl<R: Read> Sections<R> {
         }
     }
 
-    /// Takes the mark that comes next, where one does; and whether a line ends with it.
+    /// Takes the mark that comes next, if one does; and whether a line ends with it.
     pub fn mark(&mut self) -> io::Result<Option<(Mark, bool)>> {
         let Next::Mark(length) = self.next()? else {
             return Ok(None);
@@ -98,7 +98,7 @@ impl<R: Read> Sections<R> {
         Ok(Some((mark, ends_line)))
     }
 
-    // Reads a line of text, or what of it there is room for.
+    // Reads a line of text, or as much of it as there is room for.
     fn read_line(&mut self, buf: &mut [u8]) -> io::Result<usize> {
         let Next::Text(length, ends_line) = self.next()? else {
             return Ok(0);
@@ -116,7 +116,7 @@ impl<R: Read> Sections<R> {
         memchr(b'\n', self.rest()).is_some()
     }
 
-    // What was read and not handed out.
+    // The bytes that were read and not handed out.
     fn rest(&self) -> &[u8] {
         let at = self.at.min(self.kept.len());
         &self.kept.as_slice()[at..]
@@ -128,7 +128,7 @@ impl<R: Read> Sections<R> {
         &rest[..length.min(rest.len())]
     }
 
-    // What comes next.
+    // The next part.
     fn next(&mut self) -> io::Result<Next> {
         for _ in 0..u64::MAX {
             let rest = self.rest();
@@ -144,7 +144,7 @@ impl<R: Read> Sections<R> {
         Ok(Next::End)
     }
 
-    // What these bytes are, of which the first line has this end.
+    // The kind of these bytes, if their first line has this end.
     fn next_of(&self, bytes: &[u8], end: Option<usize>) -> Next {
         let length = match end {
             Some(end) => end.saturating_add(1).min(bytes.len()),
@@ -169,7 +169,7 @@ impl<R: Read> Sections<R> {
         }
     }
 
-    // Reads more, after what was not handed out.
+    // Reads more, after the bytes that were not handed out.
     fn refill(&mut self) -> io::Result<()> {
         let mut bytes = [0; BYTES];
         let count = self.inner.read(&mut bytes)?;

@@ -20,9 +20,9 @@ const ROOM: usize = 65_536;
 /// Which lines of a stream are written: of the first ones the last ones.
 #[derive(Clone, Copy)]
 pub struct Cut {
-    /// How many come first, where not all do.
+    /// The number of lines that come first, if not all do.
     pub head: Option<u64>,
-    /// How many of them come last, where not all do.
+    /// The number of them that come last, if not all do.
     pub tail: Option<u64>,
 }
 
@@ -43,7 +43,7 @@ struct Count {
 }
 
 impl Count {
-    // Of no text.
+    // The count of no text.
     fn new() -> Count {
         Count {
             ended: 0,
@@ -73,9 +73,9 @@ impl Count {
 pub struct Window<R> {
     inner: R,
     alloc: Global,
-    // how many lines more come first, where not all do
+    // the number of lines more that come first, if not all do
     left: Option<u64>,
-    // how many of them come last, where not all do
+    // the number of them that come last, if not all do
     tail: Option<u64>,
     // the lines that were left out before them, and after them
     before: Count,
@@ -91,7 +91,7 @@ pub struct Window<R> {
 }
 
 impl<R: Read> Window<R> {
-    /// A reader of these lines of what `inner` reads, in this encoding. Takes no memory.
+    /// A reader of these lines of the stream of `inner`, in this encoding. Takes no memory.
     pub fn new(alloc: Global, encoding: Encoding, cut: Cut, inner: R) -> Window<R> {
         Window {
             inner,
@@ -108,8 +108,7 @@ impl<R: Read> Window<R> {
         }
     }
 
-    /// Reads on to the last lines, where these are read. What hinders it is an error of the read
-    /// after them.
+    /// Reads on to the last lines, if these are read. A fault is an error of the read after them.
     pub fn prepare(&mut self) {
         let Some(tail) = self.tail else {
             return;
@@ -148,7 +147,7 @@ impl<R: Read> Window<R> {
         Ok(self.after.lines())
     }
 
-    // Reads what comes first to its end, and keeps the last lines of it.
+    // Reads the first part to its end, and keeps the last lines of it.
     fn read_all(&mut self, tail: u64) -> io::Result<()> {
         let mut bytes = [0; BYTES];
         for _ in 0..u64::MAX {
@@ -161,7 +160,7 @@ impl<R: Read> Window<R> {
         Ok(())
     }
 
-    // Reads what comes first.
+    // Reads the first part.
     fn read_first(&mut self, buf: &mut [u8]) -> io::Result<usize>
         ensures bound { ReadsAtMost result buf.new }
         ensures bytes { ReadConsumes (first_of self.old.left (R.remaining self.old.inner))
@@ -193,7 +192,7 @@ impl<R: Read> Window<R> {
         Ok(())
     }
 
-    // Lets go what is no part of the last lines.
+    // Lets go the bytes that are no part of the last lines.
     fn let_go(&mut self, tail: u64) -> Result<(), AllocError> {
         let start = start_of_last(self.kept.as_slice(), tail).min(self.kept.len());
         let (gone, rest) = self.kept.as_slice().split_at(start);
@@ -213,7 +212,7 @@ impl<R: Read> Window<R> {
         Ok(())
     }
 
-    // Hands out what was kept, as much as there is room for.
+    // Hands out the bytes that were kept, as much as there is room for.
     fn hand_out(&mut self, buf: &mut [u8]) -> io::Result<usize>
         ensures bound { ReadsAtMost result buf.new }
         ensures same { self.new.tail ≡ self.old.tail }
@@ -249,7 +248,7 @@ impl<R: Read> Read for Window<R> {
     }
 }
 
-// Reads, also where a signal came between.
+// Reads, also if a signal came between.
 fn read_some<R: Read>(reader: &mut R, buf: &mut [u8]) -> io::Result<usize>
     ensures bound { ReadsAtMost result buf.new }
     ensures bytes { ReadConsumes (R.remaining reader.old) (R.remaining reader.new) result buf.new }
@@ -280,7 +279,7 @@ fn count_feeds(bytes: &[u8]) -> u64
     count
 }
 
-// Whether bytes come after the last line feed, where before these some do or not.
+// Whether bytes come after the last line feed, if before these some do or not.
 fn is_open_after(is_open: bool, bytes: &[u8]) -> bool
     ensures { result ≡ open_after is_open bytes.now }
 {
@@ -308,7 +307,7 @@ fn length_of_first(bytes: &[u8], lines: u64) -> usize
     end
 }
 
-// Where the last lines begin, of which there are so many.
+// The beginning of the last lines, of which there are so many.
 fn start_of_last(bytes: &[u8], lines: u64) -> usize {
     let mut left = lines;
     let mut rest = match bytes {
