@@ -17,15 +17,15 @@ use esc_values::scalar::text_in;
 use failing_alloc::Refusing;
 use std::alloc::{AllocError, Global};
 
-/// What a call returns of this input, where its memory comes from the heap.
+/// The result of a call with this input, if its memory comes from the heap.
 ///
 /// - `link` and `link-with-id`: the Debug text and the text of `Hyperlink::new`, and of
 ///   `Hyperlink::new_with_id` for the address `x`.
-/// - `link-of`, `prompt-of` and `file-of`: the Debug text of what `parse` of `Hyperlink`,
-///   `FinalTermSemanticPrompt` and `ITermFileData` returns of the parts between `;`.
+/// - `link-of`, `prompt-of` and `file-of`: the Debug text of the result of `parse` of `Hyperlink`,
+///   `FinalTermSemanticPrompt` and `ITermFileData` for the parts between `;`.
 /// - `base64`: the Debug texts of the bytes and of the text that base64 means.
-/// - `image`: the text of what `KittyImage::parse_apc` reads, `none` where it is no image;
-///   `image-again` says where that is the data as it came.
+/// - `image`: the text of the image that `KittyImage::parse_apc` reads, `none` if it is no image;
+///   `image-again` says whether that is the data as it came.
 /// - `image-of-bytes`: the Debug text and the text of an image that a program made of its bytes.
 /// - `sixel`: the Debug text of the data of a sixel image, its text, and its size; `sixel-count`,
 ///   byte by byte, how many chunks of data that are.
@@ -34,17 +34,18 @@ use std::alloc::{AllocError, Global};
 /// - `query-again`: how many names a termcap query has, byte by byte, that is written as it came.
 /// - `segments`: the kind and the length of each; `segment-count`, of those that are of the kind of
 ///   the first, how many they are, and of how many bytes.
-/// - `html` and `html-by-lines`: the HTML of a stream, with what closes it; `safe-address`: whether
-///   a link of a page may lead to it.
-/// - `left`: what is left of the lines of a stream; `left-of-2-by-4`: where 2 rows of 4 columns may
-///   be written again.
+/// - `html` and `html-by-lines`: the HTML of a stream, with the tags that close it; `safe-address`:
+///   whether a link of a page may lead to it.
+/// - `left`: the final lines of a stream; `left-of-2-by-4`: the same if 2 rows of 4 columns may be
+///   written again.
 /// - `lent`: whether the events of a stream that comes in chunks to `heapless_parser` are those of
 ///   a parser; `lent-noise`: the first stream, made of the chunks between `|`, whose events differ.
 /// - `refusing`: whether the allocator that refuses a request refuses this alone; `reusing`:
-///   whether the one that keeps blocks passes a refusal on, and gives back what it keeps.
-/// - `held-in-turn` and `held-at-once`: how many requests reach the allocator below `caching_alloc`
-///   where blocks of these sizes, or so many of one size, are held; `lengthened`: whether a list
-///   over it grows, and shrinks.
+///   whether the one that keeps blocks passes a refusal on, and gives back the blocks that it
+///   keeps.
+/// - `held-in-turn` and `held-at-once`: the number of requests that reach the allocator below
+///   `caching_alloc` if blocks of these sizes, or so many of one size, are held; `lengthened`:
+///   whether a list over it grows, and shrinks.
 /// - the sequences and controls of `typed.rt`, and the words and numbers of `words.rt`, which take
 ///   no memory.
 pub fn answer(
@@ -109,7 +110,7 @@ fn of_allocator(
     }
 }
 
-/// The text of these bytes, empty where they are none.
+/// The text of these bytes, empty if they are none.
 pub fn text(bytes: &[u8]) -> &str {
     text_in(bytes).unwrap_or("")
 }

@@ -16,7 +16,7 @@ pub fn emitted<T: Debug + Drop>(alloc: Global, value: T) -> Result<String, Alloc
     format!(in alloc; "{value:?}")
 }
 
-/// The Debug text and the text of a value, where there was memory for it.
+/// The Debug text and the text of a value, if there was memory for it.
 pub fn displayed<T: Debug + Display + Drop>(
     alloc: Global,
     value: Result<T, AllocError>,
@@ -27,8 +27,8 @@ pub fn displayed<T: Debug + Display + Drop>(
     }
 }
 
-/// The text of the value that an application program command's data means, `none` where there is no
-/// value, and `as it came` where the text is this data.
+/// The text of the value that an application program command's data means, `none` if there is no
+/// value, and `as it came` if the text is this data.
 pub fn written<T: Display + Drop>(
     alloc: Global,
     value: Result<Option<T>, AllocError>,
@@ -54,7 +54,7 @@ fn compared(
     }
 }
 
-/// What a call of the parts between `;` returns.
+/// The result of a call with the parts between `;`.
 pub fn of_parts(
     call: &str,
     alloc: Global,
@@ -103,7 +103,7 @@ pub fn base64(alloc: Global, heap: &Refusing<Global>, text: &[u8]) -> Result<Str
     both(alloc, read_base64(heap, text), read_base64_text(heap, text))
 }
 
-// The Debug texts of two values, where there was memory for both.
+// The Debug texts of two values, if there was memory for both.
 fn both<T: Debug + Drop, U: Debug + Drop>(
     alloc: Global,
     one: Result<T, AllocError>,

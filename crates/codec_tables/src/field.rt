@@ -19,7 +19,7 @@ pub fn expanded(alloc: Global, field: &str) -> Result<Vec<u8>, AllocError> {
     }
 }
 
-// A text that is repeated, and what is before and after it.
+// A text that is repeated, and the texts before and after it.
 #[derive(Clone, Copy)]
 struct Repeated<'a> {
     before: &'a str,
@@ -28,7 +28,7 @@ struct Repeated<'a> {
     after: &'a str,
 }
 
-// What is repeated in a field, where something is.
+// The repeated text in a field, if there is one.
 fn repetition(field: &str) -> Option<Repeated<'_>> {
     let (before, rest) = field.split_once('{')?;
     let (text, rest) = rest.rsplit_once('*')?;
@@ -66,7 +66,7 @@ fn add(bytes: &mut Vec<u8>, text: &str) -> Result<(), AllocError> {
     Ok(())
 }
 
-// Appends the byte of the two hexadecimal digits that a chunk begins with, and what is after them.
+// Appends the byte of the two hexadecimal digits that a chunk begins with, and the rest.
 fn add_escape(bytes: &mut Vec<u8>, input_chunk: &[u8]) -> Result<(), AllocError> {
     let [high, low, rest @ ..] = input_chunk else {
         return Ok(());

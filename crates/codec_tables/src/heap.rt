@@ -25,7 +25,7 @@ fn refused_pushes(heap: &Refusing<Global>) -> u64 {
     refused
 }
 
-// Each growth in turn, and none where a later request is to be refused.
+// Each growth in turn, and none if a later request is to be refused.
 fn refuses_each(heap: &Refusing<Global>, growths: u64) -> bool {
     let mut is_right = true;
     for at in 1..=growths.saturating_add(1) {

@@ -1,9 +1,9 @@
-//! What is left of lines.
+//! The final lines.
 use line_collapse::LineCollapser;
 use std::alloc::{AllocError, Allocator, Global};
 
-/// What is left of the lines of a stream, of which so many rows of so many columns may be written
-/// again: the text of the rows that became final, and then of those that were left.
+/// The final lines of a stream, if so many rows of so many columns may be written again: the text
+/// of the rows that became final, and then of those that were left.
 pub fn left<A: Allocator + Copy>(
     alloc: Global,
     heap: A,

@@ -8,7 +8,7 @@ use heapless_parser::event::{
 };
 use std::alloc::{AllocError, Allocator, Global};
 
-/// What was noted of each event, and whether memory was refused for some of it.
+/// The notes of each event, and whether memory was refused for some of it.
 #[derive(Drop)]
 pub struct Log {
     pub items: Vec<i64>,
@@ -51,7 +51,7 @@ impl Log {
         self.add(i64::from(has_more));
     }
 
-    /// Notes an event of a call, where its text and its run are these.
+    /// Notes an event of a call, if its text and its run are these.
     pub fn note(&mut self, event: &EscEvent, text: &[u8], run: &[u8]) {
         match event.kind {
             TEXT => self.note_text(run),
@@ -106,8 +106,8 @@ fn kept(event: &EscEvent) -> &[u8] {
     &event.intermediates[..event.kept.min(2)]
 }
 
-// What an event of a parser is noted as. Memory that is refused ends no call: the log says at its
-// end whether it has all.
+// The note of an event of a parser. Memory that is refused ends no call: the log says at its end
+// whether it has all.
 impl Log {
     fn take_command(&mut self, text: &[u8]) -> Result<(), AllocError>
         ensures { (e : Event)

@@ -1,13 +1,13 @@
-//! Checks tables of values: what calls of the values and their codecs return.
+//! Checks tables of values: the results of calls of the values and their codecs.
 //!
 //! `codec_tables TABLE..` reads each table, and prints a line with its name and the count of its
-//! rows. A row is a line `CALL | INPUT | RESULT`: the name of a call, as `calls.rt` has it, what it
-//! is given, and the text of what it returns. `\xNN` is a byte of an input or a result, and
-//! `{TEXT*N}` in an input is the text so many times. Each request for memory is refused in turn,
-//! unless the input is long: the call returns the same, or an error of memory. A further field `N`
-//! says how many of the requests end in an error, and `some` that at least one does. Empty lines,
-//! and lines that begin with `#`, are no rows. A row that differs is printed, with what the call
-//! returns, and the status is 1.
+//! rows. A row is a line `CALL | INPUT | RESULT`: the name of a call, as `calls.rt` has it, its
+//! input, and the text of its result. `\xNN` is a byte of an input or a result, and `{TEXT*N}` in
+//! an input is the text so many times. Each request for memory is refused in turn, unless the input
+//! is long: the call returns the same, or an error of memory. A further field `N` says how many of
+//! the requests end in an error, and `some` that at least one does. Empty lines, and lines that
+//! begin with `#`, are no rows. A row that differs is printed, with the result of the call, and the
+//! status is 1.
 #![tactic(auto)]
 
 mod calls;

@@ -3,8 +3,7 @@ use esc_values::{Items, Text};
 use std::alloc::{AllocError, Allocator, Global};
 use xtgettcap::{GetTcapBuilder, TcapQuery};
 
-/// How many names a query has of which the data is written as it came. Its bytes are taken one by
-/// one.
+/// The number of names of a query whose data is written as it came. Its bytes are taken one by one.
 pub fn query_of<A: Allocator + Copy>(
     alloc: Global,
     heap: A,

@@ -1,24 +1,26 @@
-//! What `caching_alloc` asks of the allocator below, and gives back to it.
+//! The requests that `caching_alloc` makes to the allocator below, and the blocks that it gives
+//! back.
 use crate::codecs::emitted;
 use caching_alloc::Reusing;
 use failing_alloc::Refusing;
 use linked_list_allocator::LocalHeap;
 use std::alloc::{AllocError, Allocator, Global};
 
-/// How many requests reach the allocator below, where blocks of these sizes are held in turn.
+/// The number of requests that reach the allocator below, if blocks of these sizes are held in
+/// turn.
 pub fn in_turn(alloc: Global, below: &Refusing<Global>, sizes: &str) -> Result<String, AllocError> {
     let memory = Reusing::new(below);
     requests(alloc, below, hold_each(&memory, sizes))
 }
 
-/// How many reach it where this many blocks of one size, and the block of their list, are held at
-/// once ten times.
+/// The number of those that reach it if this many blocks of one size, and the block of their list,
+/// are held at once ten times.
 pub fn at_once(alloc: Global, below: &Refusing<Global>, count: &str) -> Result<String, AllocError> {
     let memory = Reusing::new(below);
     requests(alloc, below, hold_rounds(&memory, count))
 }
 
-// The requests, where there was memory for all that was to be held.
+// The requests, if there was memory for all that was to be held.
 fn requests(alloc: Global, below: &Refusing<Global>, is_held: bool) -> Result<String, AllocError> {
     if is_held {
         emitted(alloc, below.requests())
@@ -41,7 +43,7 @@ pub fn lengthened(
     }
 }
 
-/// Whether it passes a refusal on, and gives back at its end what it keeps.
+/// Whether it passes a refusal on, and gives back at its end the blocks that it keeps.
 pub fn is_right(alloc: Global) -> bool {
     is_passed_on(&Refusing::new(alloc)) && is_given_back(alloc)
 }
@@ -62,7 +64,7 @@ fn hold<A: Allocator>(alloc: A, bytes: usize) -> bool {
 }
 
 // Holds this many blocks of one size at once, eight at most, and returns whether there was memory
-// for them, and each has what was put into it.
+// for them, and each has the bytes that were put into it.
 fn hold_at_once<A: Allocator + Copy>(alloc: A, count: u64) -> bool {
     let mut held = Vec::new(alloc);
     let mut is_held = held.reserve_exact(8).is_ok();
@@ -127,14 +129,14 @@ fn is_repeated(bytes: &[u8]) -> bool {
     is_right
 }
 
-// Whether a list has these bytes where it is shortened to this length.
+// Whether a list has these bytes if it is shortened to this length.
 fn is_kept<A: Allocator>(bytes: &mut Vec<u8, A>, len: usize) -> bool {
     bytes.truncate(len);
     bytes.shrink_to_fit();
     is_repeated(bytes) && bytes.len() == len
 }
 
-// The same of a list that grows to so many times 250 bytes; none where memory was refused.
+// The same for a list that grows to so many times 250 bytes; none if memory was refused.
 fn is_lengthened<A: Allocator>(alloc: A, times: &str) -> Option<bool> {
     let mut bytes = Vec::new(alloc);
     if !repeat(&mut bytes, times.parse::<u8>().unwrap_or(0)) {
@@ -143,7 +145,7 @@ fn is_lengthened<A: Allocator>(alloc: A, times: &str) -> Option<bool> {
     Some(is_repeated(&bytes) && is_kept(&mut bytes, 3000) && is_kept(&mut bytes, 700))
 }
 
-// Whether a refusal of a new block is passed on, and what is kept asks for none.
+// Whether a refusal of a new block is passed on, and a kept block asks for none.
 fn is_passed_on(below: &Refusing<Global>) -> bool {
     let memory = Reusing::new(below);
     is_passed_on_by(&memory, below)
@@ -163,7 +165,7 @@ fn is_list_held<A: Allocator + Copy>(alloc: A) -> bool {
     hold_at_once(alloc, 5) && repeat(&mut bytes, 5) && is_repeated(&bytes)
 }
 
-// Whether what was asked for is kept as long as the memory is there.
+// Whether a block that was asked for is kept as long as the memory is there.
 fn is_kept_below(below: &LocalHeap) -> bool {
     let memory = Reusing::new(below);
     is_list_held(&memory) && below.used() > 0

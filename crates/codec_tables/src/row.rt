@@ -5,8 +5,8 @@ use crate::refusals::errors_of;
 use failing_alloc::Refusing;
 use std::alloc::{AllocError, Global};
 
-/// A row: its line, a call, its input, what it returns, and how many of its requests for memory may
-/// end in an error.
+/// A row: its line, a call, its input, its result, and how many of its requests for memory may end
+/// in an error.
 #[derive(Clone, Copy)]
 pub struct Row<'a> {
     line: &'a str,
@@ -35,14 +35,14 @@ impl<'a> Row<'a> {
     }
 }
 
-// What is on either side of the first bar.
+// The texts on either side of the first bar.
 fn cut(text: &str) -> (&str, &str) {
     text.split_once(" | ").unwrap_or((text, ""))
 }
 
 impl Row<'_> {
-    /// Appends the row, and what its call returns, where that is not what it has to return or a
-    /// request for memory that is refused makes it anything else than an error of memory.
+    /// Appends the row, and the result of its call, if that is not the result that it has to return
+    /// or if a request for memory that is refused makes it anything else than an error of memory.
     pub fn check(&self, alloc: Global, lines: &mut String) -> Result<(), AllocError> {
         let input = expanded(alloc, self.input)?;
         if self.holds(alloc, &input)? {

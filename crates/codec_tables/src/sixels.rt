@@ -49,7 +49,7 @@ fn counted<A: Allocator>(alloc: Global, sixel: &Sixel<A>) -> Result<String, Allo
     }
 }
 
-/// Whether there is a text of an image, of this value of six pixels, or of three of it where `!` is
+/// Whether there is a text of an image, of this value of six pixels, or of three of it if `!` is
 /// before it, of the image with it last, and of the image with a new line after it.
 pub fn written_with<A: Allocator>(
     alloc: Global,

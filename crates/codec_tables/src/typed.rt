@@ -5,13 +5,13 @@ use control_functions::{C0, ControlFunction, EscapeFunction};
 use std::alloc::{AllocError, Global};
 use typed_functions::{CsiParam, Function, Modes, Rendition, Renditions, Unfit};
 
-/// What a sequence or a control asks for: the Debug text and the text of its typed value; after
-/// `Sgr:` those of each rendition, and of one that is not known `?` and its entries; after what is
-/// done with modes or tab stops the number of each, or `?`. Without a typed value the reason is
-/// there, and the name of its function where it has one.
+/// The request of a sequence or a control: the Debug text and the text of its typed value; after
+/// `Sgr:` those of each rendition, and for one that is not known `?` and its entries; after the
+/// operation on modes or tab stops the number of each, or `?`. Without a typed value the reason is
+/// there, and the name of its function if it has one.
 ///
-/// - `csi`: a control sequence of what follows `ESC [`.
-/// - `esc`: an escape sequence of what follows `ESC`.
+/// - `csi`: a control sequence of the bytes after `ESC [`.
+/// - `esc`: an escape sequence of the bytes after `ESC`.
 /// - `c1`: a control of C1.
 /// - `c0`: the name of a control of C0.
 pub fn function(call: &str, alloc: Global, text: &[u8]) -> Result<String, AllocError> {
@@ -97,7 +97,7 @@ fn control_name(control: Option<C0>) -> &'static str {
     }
 }
 
-// Its name; none where there is none.
+// Its name; none if there is none.
 fn escape_name(function: Option<EscapeFunction>) -> &'static str {
     match function {
         Some(function) => function.name(),
@@ -160,7 +160,7 @@ fn add_entries(text: &mut String, entries: &[CsiParam]) -> Result<(), AllocError
     Ok(())
 }
 
-// The text of modes, or of several tab stops, after that of what is done with them.
+// The text of modes, or of several tab stops, after that of the operation on them.
 fn changed(change: Result<String, AllocError>, modes: Modes<'_>) -> Result<String, AllocError> {
     let mut text = change?;
     match add_modes(&mut text, modes) {

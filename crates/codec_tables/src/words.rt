@@ -11,16 +11,17 @@ use esc_values::scalar::{read_i32, read_i64, read_u8, read_u32, read_usize};
 use std::alloc::{AllocError, Global};
 use std::fmt::{Debug, Display};
 
-/// What a call that takes no memory returns.
+/// The result of a call that takes no memory.
 ///
-/// - `dimension`, `click` and `prompt`: the Debug text and the text of what a word is read as.
+/// - `dimension`, `click` and `prompt`: the Debug text and the text of the value that a word is
+///   read as.
 /// - `tenths`: a number in tenths.
 /// - `numbers`: a number as a `u8`, `u32` and `usize`, and as an `i32` and `i64`.
-/// - `cut`: what is on either side of the first `=`, as bytes, and as texts.
+/// - `cut`: the texts on either side of the first `=`, as bytes, and as texts.
 /// - `code`: the code of a command, and its text.
-/// - `pixels`: the pixels of a dimension, where a cell has a size and the window so many cells.
-/// - `header`: what a header with this final byte and these intermediates opens; `more` after them
-///   says that there were others.
+/// - `pixels`: the pixels of a dimension, if a cell has a size and the window so many cells.
+/// - `header`: the string that a header with this final byte and these intermediates opens; `more`
+///   after them says that there were others.
 /// - `data`: the Debug text and the text of a byte of data for a mode, or of its end.
 pub fn word(call: &str, alloc: Global, input: &[u8]) -> Result<String, AllocError> {
     match call {
@@ -43,7 +44,7 @@ pub fn both<T: Debug + Display + Drop>(alloc: Global, value: T) -> Result<String
     format!(in alloc; "{value:?} {value}")
 }
 
-// The same of what was read, or the Debug text of the error.
+// The same for the value that was read, or the Debug text of the error.
 fn read<T: Debug + Display + Drop, E: Debug + Drop>(
     alloc: Global,
     read: Result<T, E>,
