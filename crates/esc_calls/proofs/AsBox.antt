@@ -1,4 +1,4 @@
--- What a block owns is what a box at the same types owns.
+-- The ownership of a block is that of a box at the same types.
 use Rattle.std.proofs.Common.{◌≡◌, ℕ, List, [], ◌∷◌, ◌++◌, Option, Some, None, refl, subst}
 use mir.Syntax.{impl, tnil, dnil}
 use mir.Raw.{raw as bare}

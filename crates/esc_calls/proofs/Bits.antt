@@ -21,7 +21,7 @@ chosen_other : (i n : ℕ) (b : Bool) (ys : List Bool) (p : ℕ) → (p ≡ i �
 chosen_other i n b ys p h =
     ap (λ z. if z && has_bit p n then b else get_or ys p false) (same_side p i h)
 
--- where the next bit is there
+-- if the next bit is there
 pub chosen_set : (i n : ℕ) (b : Bool) (xs ys : List Bool) → has_bit i n ≡ true → i < length xs
     → ((p : ℕ) → get_or xs p false ≡ chosen i n b ys p)
     → (p : ℕ) → get_or (set xs i b) p false ≡ chosen (i + 1) n b ys p
@@ -36,7 +36,7 @@ chosen_set i n b xs ys w l h p = elim (cases_Bool (p == i)) [
       get_or-set_other xs i p b false h' ∙ h p ∙ chosen_other i n b ys p h'
 ]
 
--- where it is not
+-- if it is not
 pub chosen_kept : (i n : ℕ) (b : Bool) (xs ys : List Bool) → has_bit i n ≡ false
     → ((p : ℕ) → get_or xs p false ≡ chosen i n b ys p)
     → (p : ℕ) → get_or xs p false ≡ chosen (i + 1) n b ys p

@@ -27,7 +27,7 @@ image_written k t i has clear back = record {
   back = same_image k t (image_read (image_body i)) (Some i) back has;
 }
 
--- where the text of the image that has a kind and fields is not it, none that is writable has them
+-- if the text of the image that has a kind and fields is not it, no writable image has them
 pub none_writable : (k : ℕ) (t : Table) (i : KittyImage Global) → HasImage k t (Some i)
     → ((list_all is_kept (image_body i) ≡ true) × HasImage k t (image_read (image_body i)) → ⊥)
     → (j : KittyImage Global) → IsWritableImage j → HasImage k t (Some j) → ⊥

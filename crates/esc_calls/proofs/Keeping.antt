@@ -1,4 +1,4 @@
--- What is kept of a stream in chunks.
+-- The state that is kept of a stream in chunks.
 use Rattle.std.proofs.Common.{Global, ◌≡◌, ℕ, false, List, Option, Some, if◌then◌else◌, ap, subst, sym}
 use Rattle.esc_filter.specs.Fed.{HasConsumed, policy_of}
 use Rattle.esc_filter.specs.Rules.{admits}
@@ -13,7 +13,7 @@ use Rattle.esc_calls.specs.declared.in_chunks.InChunks.{InChunks}
 use Rattle.esc_calls.specs.declared.kept.Kept.{Kept}
 use Rattle.esc_calls.specs.declared.page_state.PageState.{PageState}
 
--- what holds of what is kept holds of this, which is kept
+-- a fact about the kept state is one about this, which is kept
 pub kept_has : {T : Type 0} (found : Option Kept → Option T) (P : T → Type 0) (p : InChunks) (x : T)
     → found p.held.kept ≡ Some x → Keeps found P p → P x
 kept_has found P p x is h = subst P (known_twice (found p.held.kept) h.0 x h.1 is) h.2

@@ -1,4 +1,4 @@
--- What a call writes that puts a text into a buffer, or says why there is none.
+-- The output of a call that puts a text into a buffer, or says why there is none.
 use Rattle.std.proofs.Common.{ℕ, ◌≡◌, List, Result, Ok, Err, IfOk, IfErr, sym, subst, ◌∙◌}
 use Rattle.esc_calls.specs.Output.{Puts, Writes}
 use Rattle.esc_calls.specs.Written.{status_of}

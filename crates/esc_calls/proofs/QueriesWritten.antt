@@ -22,8 +22,8 @@ query_written t ns has is =
       back = back;
     }
 
--- where the text of the names that have the fields does not ask for them, none that a query can ask
--- for have them
+-- if the text of the names that have the fields does not ask for them, no names that a query can
+-- ask for have them
 pub none_asked : (t : Table) (ns : List (List ℕ)) → HasNames t ns
     → (query_table (names_text ns) ≡ t → ⊥) → (ms : List (List ℕ)) → AreWritable ms
     → HasNames t ms → ⊥

@@ -74,13 +74,13 @@ sixel_written v rs s has writable =
       },
     )
 
--- where the image that has a value and rows is not writable, none that is has them
+-- if the image that has a value and rows is not writable, no writable image has them
 pub none_writable : (v : SixelValue) (rs : List SixelRow) (s : Sixel Global) → HasSixel v rs s
     → (IsWritable s → ⊥) → (t : Sixel Global) → IsWritable t → HasSixel v rs t → ⊥
 none_writable v rs s of_s unwritable t writable of_t =
     unwritable (subst IsWritable (same_sixel v rs t s of_t of_s) writable)
 
--- data is writable where an item is and what comes after it is
+-- data is writable if an item is and the items after it are
 from_item : (ds : List SixelData) (i : ℕ) (d : SixelData) → i < length ds → d ≡ get_or ds i d
     → drop i ds ≡ d ∷ drop (i + 1) ds
 from_item ds i d inside is_d =

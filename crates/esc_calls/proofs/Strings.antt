@@ -1,4 +1,4 @@
--- What is said of a row that was found.
+-- The facts that are written about a row that was found.
 use Rattle.std.proofs.Common.{ℕ, ◌≡◌, true, false, [], Option, Some, None, refl, ap, ◌∙◌}
 use Rattle.string_commands.specs.Rows.{Finds}
 use Rattle.string_commands.specs.declared.row.Row.{Row}

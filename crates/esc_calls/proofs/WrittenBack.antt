@@ -27,7 +27,7 @@ clear_only t h =
 pub clear_is_utf8 : (t : List ℕ) → IsClearText t → utf8_of t ≡ Some t
 clear_is_utf8 t h = rw (is_utf8-from_IsUtf8 t (clear_utf8 t h)) refl
 
--- where a writable command has a kind and fields, any command that has them is written like that
+-- if a writable command has a kind and fields, any command that has them is written like that
 pub writable_back : (k : ℕ) (t : Table) (c d : OperatingSystemCommand Global)
     → Has k t c → IsWritable d → Has k t d
     → IsClearText (inner_text c) × Has k t (command_of (inner_text c))

@@ -4,7 +4,7 @@ use Rattle.esc_account.specs.Accounts.{total}
 use Rattle.esc_account.specs.declared.account.Account.{Account}
 use Rattle.esc_calls.specs.declared.account_row.AccountRow.{AccountRow}
 
--- so many, where they have no more than 64 bits
+-- so many, if they have no more than 64 bits
 abbrev pub length_of : ℕ → ℕ
 length_of n = if nat_le n 0xffffffffffffffff then n else 0xffffffffffffffff
 

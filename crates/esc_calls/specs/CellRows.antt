@@ -1,4 +1,4 @@
--- The cells of a screen, and what it asks for, for C.
+-- The cells of a screen, and its requests, for C.
 use Rattle.std.specs.Prelude.{ℕ, ◌+◌, ◌*◌, Option, None, Some}
 use Rattle.esc_calls.specs.declared.cell_row.CellRow.{CellRow}
 use Rattle.esc_calls.specs.declared.request_row.RequestRow.{RequestRow}
@@ -16,7 +16,7 @@ use Rattle.esc_terminal.specs.declared.request.Request.{Request}
 use Rattle.esc_terminal.specs.declared.request.Request.TheVariants as request
 use Rattle.typed_functions.specs.Numbers.{ansi_color_number}
 
--- the code point of the character, where there is one
+-- the code point of the character, if there is one
 abbrev pub character_of : Content → ℕ
 character_of content.Blank = 0
 character_of (content.Narrow c m) = c
@@ -61,7 +61,7 @@ abbrev pub link_count : Option ℕ → ℕ
 link_count None = 0
 link_count (Some n) = n + 1
 
--- a cell, of which so much is known of looks and links
+-- a cell, with so much known of looks and links
 abbrev pub cell_row : Known → Cell → CellRow
 cell_row ks x = record {
   character = character_of x.content;
@@ -85,7 +85,7 @@ cell_row ks x = record {
   joined = x.joined;
 }
 
--- what it asks for: a kind, and the mode that is asked for, where one is
+-- a request: a kind, and the mode that is asked for, if one is
 abbrev pub asked : ℕ → ℕ → RequestRow
 asked k n = record {
   kind = k;

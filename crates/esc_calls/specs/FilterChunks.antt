@@ -1,4 +1,4 @@
--- What a filter in chunks was fed.
+-- The bytes that a filter in chunks was fed.
 use Rattle.std.specs.Prelude.{ℕ, ◌≡◌, false, true, List, [], ◌++◌, Some}
 use Rattle.std.specs.Global.{Global}
 use Rattle.esc_filter.specs.Fed.{HasConsumed, policy_of}
@@ -22,14 +22,14 @@ closed limit p = closed_text {A = Global} (Some limit) (admits p)
 -- The filter, which was fed s, was fed b too.
 pub record TakesFilter (limit : ℕ) (p : Policy) (s b : List ℕ) (f : InChunks) : Type 0 where
   pub taken : Takes (FilterHasConsumed limit p) (open_text limit p) s b f
-  -- the whole text is what passes, and reads back as that
+  -- the whole text is that of the actions that pass, and reads back as these
   pub filtered : IsFiltered {A = Global} false (Some limit) (admits p) (s ++ b)
       (open_text limit p (s ++ b))
 
 -- The stream s has ended, and the filter is at the beginning of the next.
 pub record FinishesFilter (limit : ℕ) (p : Policy) (s : List ℕ) (f : InChunks) : Type 0 where
   pub fed : FilterHasConsumed limit p [] f
-  -- its text is what gives back what s left changed
+  -- its text undoes the changes that s left
   pub text : closed limit p s ≡ open_text limit p s ++ text_of f
-  -- and the whole text reads back as what passes and that
+  -- and the whole text reads back as the actions that pass and those that undo their changes
   pub filtered : IsFiltered {A = Global} true (Some limit) (admits p) s (closed limit p s)

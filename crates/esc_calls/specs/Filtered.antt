@@ -1,4 +1,4 @@
--- What is written of what a policy admits of a stream.
+-- The text of the actions of a stream that a policy admits.
 use Rattle.std.specs.Prelude.{ℕ, ◌≡◌, ◌≢◌, false, IfSome, List, Option, Some}
 use Rattle.std.specs.Global.{Global}
 use Rattle.esc_filter.specs.Passing.{IsFiltered, passed_text}
@@ -11,7 +11,7 @@ use Rattle.fallible_alloc.specs.Refusals.{Refused}
 abbrev pub open_text : ℕ → Policy → List ℕ → List ℕ
 open_text limit p = passed_text {A = Global} (Some limit) (admits p)
 
--- a text is that of what this policy admits of these bytes, and reads back as that
+-- a text is that of the actions of these bytes that this policy admits, and reads back as these
 abbrev pub IsAdmitted : Option Policy → ℕ → List ℕ → List ℕ → Type 0
 IsAdmitted policy limit bs t = IfSome policy (λ p.
     (t ≡ open_text limit p bs) × IsFiltered {A = Global} false (Some limit) (admits p) bs t)

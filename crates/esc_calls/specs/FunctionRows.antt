@@ -1,4 +1,4 @@
--- What is noted of a control function.
+-- The row of a control function.
 use Rattle.std.specs.Prelude.{ℕ, ◌≡◌, Bool, true, false, ◌==◌, if◌then◌else◌, List, [], ◌++◌, take, drop, length, replicate, Option, None, Some}
 use Rattle.control_functions.specs.declared.control_function.ControlFunction.{ControlFunction}
 use Rattle.control_functions.specs.declared.escape_function.EscapeFunction.{EscapeFunction}
@@ -11,7 +11,7 @@ use Rattle.control_functions.specs.Functions.{function_of, key_with, name_of, pu
 use Rattle.control_functions.specs.Rows.{packed}
 use Rattle.esc_calls.specs.declared.function_row.FunctionRow.{FunctionRow}
 
--- a byte, of which 0 says that there is none
+-- a byte; 0 says that there is none
 abbrev pub byte_of : ℕ → Option ℕ
 byte_of b = if b == 0 then None else Some b
 
@@ -38,7 +38,7 @@ pub record IsRow (r : FunctionRow) (n w : List ℕ) (screen answered : Bool) : T
   pub changes : r.changes_screen ≡ screen
   pub answers : r.is_answered ≡ answered
 
--- what is said of a function is its row, and of none that there is none, by a row of zeros
+-- the output for a function is its row, and for none that there is none, with a row of zeros
 abbrev pub Says : Option ControlFunction → FunctionRow → Bool → Type 0
 Says None r there = IsRow r [] [] false false × (there ≡ false)
 Says (Some f) r there =

@@ -1,4 +1,4 @@
--- What is kept after a pointer.
+-- The value that is kept after a pointer.
 use base.Fml.{Fml, ftrue}
 use base.Stored.{Coded}
 use denote.RawPtr.{Ptr}
@@ -13,12 +13,12 @@ use Rattle.esc_calls.specs.contracts.kept.Kept.{the_row}
 abbrev pub heap : Global
 heap = record { memory = record { seal = tt } }
 
--- a block of the global allocator with what is kept, and the right to free it; or nothing
+-- a block of the global allocator with the kept value, and the right to free it; or nothing
 abbrev pub held_owns : Ptr → Option the_row.Denot → Fml
 held_owns p None = ftrue
 held_owns p (Some kept) = box_owns (ghosts.dealloc_token heap) the_row p kept
 
--- how the logic stores what is kept, or none
+-- the way in which the logic stores the kept value, or none
 abbrev pub kept_coded : Coded (Option the_row.Denot)
 kept_coded = coded_option the_row.coded
 

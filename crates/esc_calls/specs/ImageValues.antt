@@ -1,4 +1,4 @@
--- What is written of the image of kitty's that the text of an APC is.
+-- The output for the image of kitty's that the text of an APC is.
 use Rattle.std.specs.Prelude.{ℕ, ◌≡◌, List, Option, length}
 use Rattle.std.specs.Global.{Global}
 use Rattle.esc_kitty.specs.Images.{image_of}
@@ -8,7 +8,7 @@ use Rattle.flat_values.specs.ImageKinds.{image_kind, image_number}
 use Rattle.flat_values.specs.Images.{fields_of_image}
 use Rattle.esc_calls.specs.declared.image_value.ImageValue.{ImageValue}
 
--- the image that a text is, where it is one
+-- the image that a text is, if it is one
 abbrev pub image_read : List ℕ → Option (KittyImage Global)
 image_read t = image_of {A = Global} t
 
@@ -16,8 +16,8 @@ image_read t = image_of {A = Global} t
 abbrev pub image_table : List ℕ → Table
 image_table t = table_of (fields_of_image (image_read t))
 
--- the value is that of the image that the text is: its kind, how many fields it has, and how many
--- bytes their texts
+-- the value is that of the image that the text is: its kind, the number of its fields, and the
+-- number of bytes of their texts
 pub record IsImage (t : List ℕ) (v : ImageValue) : Type 0 where
   pub kind : v.kind ≡ image_number (image_kind (image_read t))
   pub count : v.field_count ≡ length (image_table t).0

@@ -1,4 +1,4 @@
--- What a stream in chunks keeps.
+-- The state that a stream in chunks keeps.
 use Rattle.std.specs.Prelude.{ℕ, if◌then◌else◌, List, [], Option, None, Some}
 use Rattle.std.specs.Global.{Global}
 use Rattle.esc_filter.specs.Fed.{added_by as added_by_filter}
@@ -14,7 +14,7 @@ use Rattle.esc_calls.specs.Sanitizers.{Sanitizing, chain}
 use Rattle.esc_calls.specs.declared.page_state.PageState.{PageState}
 use Rattle.esc_calls.specs.declared.screen_state.ScreenState.{ScreenState}
 
--- the text of a page: what the last chunk added, or what closes it
+-- the text of a page: the text that the last chunk added, or the tags that close it
 abbrev pub state_text : PageState → List ℕ
 state_text p = if p.has_ended then closing_of p.writer else added_by_page p.writer
 
@@ -26,7 +26,7 @@ kept_text (kept.Normal n) = added_by_form n
 kept_text (kept.Sanitizer z) = added_by_sanitizer chain z
 kept_text (kept.Screen x) = []
 
--- the filter, the page, the normaliser, the sanitizer and the screen that is kept, where it is one
+-- the filter, the page, the normaliser, the sanitizer and the screen that is kept, if it is one
 abbrev pub filter_in : Option Kept → Option (Filter Policy Global)
 filter_in None = None
 filter_in (Some (kept.Filter f)) = Some f

@@ -1,4 +1,4 @@
--- What a normaliser in chunks was fed.
+-- The bytes that a normaliser in chunks was fed.
 use Rattle.std.specs.Prelude.{ℕ, ◌≡◌, List, Some}
 use Rattle.std.specs.Global.{Global}
 use Rattle.esc_actions.specs.Meaning.{meaning, meaning_within}
@@ -21,6 +21,6 @@ formed limit = normal_form Global (Some limit)
 pub record FinishesNormal (limit : ℕ) (s : List ℕ) (p : InChunks) : Type 0 where
   -- the end adds nothing
   pub begun : Begins (NormaliserHasConsumed limit) p
-  -- and where what s means can be written, the text of s reads back as its normal list
+  -- and if the meaning of s can be written, the text of s reads back as its normal list
   pub reads_back : AreWritable {A = Global} (meaning_within (Some limit) s)
       → meaning (formed limit s) ≡ normal {A = Global} (meaning_within (Some limit) s)

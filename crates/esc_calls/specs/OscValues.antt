@@ -1,4 +1,4 @@
--- What is written of the command that the text of an OSC means.
+-- The output for the command that the text of an OSC means.
 use Rattle.std.specs.Prelude.{ℕ, ◌≡◌, List, length}
 use Rattle.std.specs.Global.{Global}
 use Rattle.esc_values.specs.Clear.{parts_of}
@@ -17,8 +17,8 @@ command_of t = meaning {A = Global} (parts_of t)
 abbrev pub table_in : List ℕ → Table
 table_in t = table_of (fields_of (command_of t))
 
--- the value is that of the command that the text means: its kind, how many fields it has, and how
--- many bytes their texts
+-- the value is that of the command that the text means: its kind, the number of its fields, and the
+-- number of bytes of their texts
 pub record IsValue (t : List ℕ) (v : OscValue) : Type 0 where
   pub kind : v.kind ≡ kind_number (kind_of (command_of t))
   pub count : v.field_count ≡ length (table_in t).0

@@ -1,4 +1,4 @@
--- What a page in chunks was fed.
+-- The bytes that a page in chunks was fed.
 use Rattle.std.specs.Prelude.{ℕ, ◌≡◌, Bool, List, ◌++◌, Some}
 use Rattle.std.specs.Global.{Global}
 use Rattle.esc_html.specs.Pages.{closing_text}
@@ -23,8 +23,9 @@ PageHasConsumed limit y s = Keeps page_in (IsFed limit y s)
 
 -- The stream s has ended.
 pub record Closes (limit : ℕ) (y : Layout) (s : List ℕ) (p : InChunks) : Type 0 where
-  -- its text is what closes the tags that s left open
+  -- its text is the tags that close those that s left open
   pub text : text_of p ≡ closing_text Global (Some limit) y s
   -- and with it the texts of all chunks are a page: a browser's tokenizer reads nothing but
-  -- characters, spans of looks and links to safe addresses, and shows what the stream prints
+  -- characters, spans of looks and links to safe addresses, and shows the characters that the
+  -- stream prints
   pub page : IsPage Global (Some limit) y s (open_page limit y s ++ text_of p)

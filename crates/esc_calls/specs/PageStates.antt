@@ -1,4 +1,4 @@
--- What a page was fed, within a limit and in a layout.
+-- The bytes that a page was fed, within a limit and in a layout.
 use Rattle.std.specs.Prelude.{ℕ, ◌≡◌, false, List, ◌++◌, Some}
 use Rattle.std.specs.Global.{Global}
 use Rattle.esc_html.specs.Fed.{HasConsumed}

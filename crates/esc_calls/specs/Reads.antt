@@ -1,15 +1,15 @@
--- What the calls that read a value and fields have in common.
+-- The parts that the calls that read a value and fields have in common.
 use Rattle.std.specs.Prelude.{ℕ, ◌≡◌, ◌≢◌, List}
 use Rattle.flat_values.specs.Fields.{Table}
 use Rattle.flat_values.specs.declared.field_row.FieldRow.{FieldRow}
 use Rattle.esc_calls.specs.Output.{LacksMemory, put_into}
 use Rattle.esc_calls.specs.declared.TheConstants.{DONE}
 
--- what such a call writes to: a value, rows, and their texts
+-- the room that such a call writes to: a value, rows, and their texts
 abbrev pub Room : Type 0 → Type 0
 Room V = V × List FieldRow × List ℕ
 
--- What a call does that reads a value of which P holds, with a table of rows and texts:
+-- The effect of a call that reads a value for which P holds, with a table of rows and texts:
 pub record Reads {V : Type 0} (P : V → Type 0) (t : Table) (status : ℕ) (before after : Room V)
     : Type 0 where
   pub value : status ≡ DONE → P after.0

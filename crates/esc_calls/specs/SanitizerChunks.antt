@@ -1,4 +1,4 @@
--- What a sanitizer in chunks was fed.
+-- The bytes that a sanitizer in chunks was fed.
 use Rattle.std.specs.Prelude.{ℕ, ◌≡◌, List, ◌++◌}
 use Rattle.esc_frame.specs.declared.error.ParseError.{ParseError}
 use Rattle.esc_frame.specs.declared.error.ParseError.TheVariants as error
@@ -24,9 +24,9 @@ closed = closed_text_of admitter
 
 -- The stream s has ended.
 pub record FinishesSanitizer (o : Settings) (s : List ℕ) (p : InChunks) : Type 0 where
-  -- its text is what makes that of the stream
+  -- its text completes that of the stream
   pub text : closed o s ≡ going o s ++ text_of p
-  -- what is written is plain text, or characters, renditions and links, where no more passes
+  -- the output is plain text, or characters, renditions and links, if no more passes
   pub chunks : IsOfTokens admitter o
   -- and it has the account of the stream
   pub account : Keeps sanitizer_in (λ z. HasEnded admitter s z × (options_of z ≡ o)) p

@@ -1,4 +1,4 @@
--- What the options of a sanitizer say of what passes.
+-- The actions that pass, by the options of a sanitizer.
 use Rattle.std.specs.Prelude.{ℕ, ◌≡◌, ◌/◌, ◌%◌, ◌^◌, ◌==◌, if◌then◌else◌, Bool, true, false, List, Option, Some, None, codes}
 use Rattle.std.specs.Option.{option_map}
 use Rattle.esc_filter.specs.Groups.{groups_of, has, place, with_group}
@@ -17,15 +17,15 @@ pub record AreWith (bits : ℕ) (passes : Bool) (g h : Groups) : Type 0 where
   pub groups : (c : Group) → has h c ≡ (if has_bit (place c) bits then passes else has g c)
   pub schemes : h.schemes ≡ g.schemes
 
--- where rows may be written again, with what changes the screen, and backspaces
+-- if rows may be written again, with the actions that change the screen, and backspaces
 abbrev pub groups_with_moves : ℕ → Groups → Groups
 groups_with_moves rows g = if rows == 0 then g
     else with_group (with_group (with_group (with_group (with_group (with_group g
     group.Controls true) group.Cursor true) group.Erase true) group.Scroll true)
     group.Modes true) group.Charsets true
 
--- the schemes of the links that pass, of http, https and mailto, each with its bit; those of all
--- where there are none
+-- the schemes of the links that pass, of http, https and mailto, each with its bit; all schemes if
+-- there are none
 abbrev pub links_numbered : ℕ → Option (Option (List ℕ))
 links_numbered n =
     if n == 0 then Some None
@@ -38,8 +38,9 @@ links_numbered n =
     else if n == 7 then Some (Some (codes "http,https,mailto"))
     else None
 
--- h are the groups of the policy p and those that are allowed, but those that are denied, and what
--- changes the screen where rows may be written again; of links those to addresses of the schemes
+-- h are the groups of the policy p and those that are allowed, but those that are denied, and the
+-- groups that change the screen if rows may be written again; only links to addresses of the
+-- schemes pass
 pub record AreSaid (r : SanitizerOptions) (p : Policy) (h : Groups) : Type 0 where
   pub more : Groups
   pub allowed : AreWith r.allowed true (groups_of p) more

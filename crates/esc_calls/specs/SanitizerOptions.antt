@@ -1,4 +1,4 @@
--- What the options of a sanitizer say, as numbers.
+-- The options of a sanitizer, as numbers.
 use Rattle.std.specs.Prelude.{ℕ, ◌≡◌, ◌≢◌, ◌≤◌, ◌<◌, ◌==◌, ◌⊎◌, ◌&&◌, if◌then◌else◌, Bool, true, false, not, Option, Some, None, is_some}
 use Rattle.esc_decode.specs.declared.code_page.CodePage.TheVariants as page
 use Rattle.esc_decode.specs.declared.encoding.Encoding.{Encoding}
@@ -24,7 +24,7 @@ use Rattle.esc_calls.specs.declared.fault.Fault.TheVariants as fault
 use Rattle.esc_calls.specs.declared.sanitizer_options.SanitizerOptions.{SanitizerOptions}
 use Rattle.esc_calls.specs.declared.sanitizer_options.TheConstants.{MOST_COLUMNS, MOST_ROWS, OPTIONS_SIZE}
 
--- ---- what each number says; 0 says what is usual, where something is
+-- ---- the meaning of each number; 0 means the usual choice, if there is one
 
 abbrev pub framing_numbered : ℕ → Bool → Option Bool
 framing_numbered n usual =
@@ -63,7 +63,7 @@ marking_numbered n =
     else if n == 3 then Some (Some marking.Reversed)
     else None
 
--- where what does not pass is shown, no byte is replaced
+-- if actions that do not pass are shown, no byte is replaced
 abbrev pub encoding_numbered : ℕ → Bool → Option Encoding
 encoding_numbered n shows =
     if n == 0 then Some (if shows then encoding.EightBit else encoding.Utf8)
@@ -85,11 +85,11 @@ encoding_numbered n shows =
 abbrev pub columns_numbered : ℕ → ℕ
 columns_numbered n = if n == 0 then COLUMNS else n
 
--- ---- what hides or reorders text
+-- ---- characters and carriage returns that hide or reorder text
 
--- Usual for text and its colours alone, which people read, is that characters that do so are shown,
--- but those that belong to the character before them, and that carriage returns are shown, but
--- where rows may be written again: there they move.
+-- The usual choice for text and its colours alone, which people read, is that characters that do so
+-- are shown, but those that belong to the character before them, and that carriage returns are
+-- shown, but if rows may be written again: there they move.
 abbrev pub usual_guard : Policy → ℕ → Guard
 usual_guard p rows =
     if is_for_reading p
@@ -122,7 +122,7 @@ pub record SaysWindow (r : SanitizerOptions) (u : Unicode) (w : Option Size) : T
 
 -- ---- the options
 
--- the options o are what r says under the policy p
+-- the options o are those that r means under the policy p
 pub record Says (r : SanitizerOptions) (p : Policy) (o : FilterOptions Groups) : Type 0 where
   pub groups : AreSaid r p o.policy
   pub limit : o.limit ≡ r.limit
@@ -139,7 +139,7 @@ abbrev pub IsSaid : SanitizerOptions → FilterOptions Groups → Type 0
 IsSaid r o = (p : Policy) × (policy_numbered r.policy ≡ Some p) × (r.size ≡ OPTIONS_SIZE)
     × (r.reserved ≡ 0) × Says r p o
 
--- ---- what says nothing
+-- ---- the numbers that mean nothing
 
 abbrev pub IsFault : SanitizerOptions → Fault → Type 0
 IsFault r fault.Size = (r.size ≢ OPTIONS_SIZE) ⊎ (r.reserved ≢ 0)

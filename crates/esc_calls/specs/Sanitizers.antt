@@ -28,11 +28,11 @@ Settings = FilterOptions Groups
 abbrev pub Sanitizing : Type 0
 Sanitizing = Sanitizer Groups Global
 
--- what groups admit
+-- the actions that groups admit
 abbrev pub admitter : Admitter Groups Global
 admitter = record { admits = admits_groups }
 
--- ---- the filters of a sanitizer, as what takes a stream in chunks
+-- ---- the filters of a sanitizer, as filters of a stream in chunks
 
 abbrev pub resuming : Feeder (ResumingFilter Groups Global) Global
 resuming = record {

@@ -24,7 +24,7 @@ ScreenTakes z s b = Keeps screen_in (λ x. TakesIn {A = Global} z s b x.terminal
 abbrev pub size_for : ℕ → ℕ → Size
 size_for columns rows = screen_size (max columns 1) (max rows 1)
 
--- what a terminal of this size shows of a stream
+-- the screen of a terminal of this size for a stream
 abbrev pub shown_by : Size → List ℕ → Shown
 shown_by = shown_of Global
 
@@ -35,7 +35,7 @@ cells_shown t n = map (cell_row t.known) (get_or t.grid.rows n [])
 abbrev pub text_shown : Shown → ℕ → List ℕ
 text_shown t n = row_text (get_or t.grid.rows n [])
 
--- the title, where there is one
+-- the title, if there is one
 abbrev pub text_or_none : Option (List ℕ) → List ℕ
 text_or_none None = []
 text_or_none (Some t) = t
@@ -43,7 +43,7 @@ text_or_none (Some t) = t
 abbrev pub title_shown : Shown → List ℕ
 title_shown t = text_or_none t.title
 
--- the numbers of what is shown
+-- the numbers of the screen
 pub record Tells (z : Size) (t : Shown) (r : ScreenRow) : Type 0 where
   pub columns : r.columns ≡ z.columns
   pub rows : r.rows ≡ z.rows

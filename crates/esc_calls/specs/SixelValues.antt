@@ -1,4 +1,4 @@
--- What is written of the sixel image that parameters and data are.
+-- The output for the sixel image of parameters and data.
 use Rattle.std.specs.Prelude.{ℕ, ℤ, pos, ◌≡◌, Bool, List, Option, length, map}
 use Rattle.std.specs.Global.{Global}
 use Rattle.std.specs.Option.{is_some, unwrap_or}
@@ -21,7 +21,7 @@ sixel_rows ps t = map sixel_row (sixel_in ps t).content
 abbrev pub IsOptional : {X : Type 0} → X → Option X → Bool → X → Type 0
 IsOptional zero o has x = (has ≡ is_some o) × (x ≡ unwrap_or o zero)
 
--- the value has what comes before the data of an image
+-- the value has the parts of an image before its data
 pub record IsHeader (s : Sixel Global) (v : SixelValue) : Type 0 where
   pub pan : v.pan ≡ s.pan
   pub pad : v.pad ≡ s.pad

@@ -11,7 +11,7 @@ pub record IsStringRow (r : StringRow) (n w : List ℕ) (key place : ℕ) : Type
   pub keyed : r.key ≡ key
   pub placed : r.row ≡ place
 
--- what is said of the string in a place is its row, and of none that there is none, by a row of
+-- the output for the string in a place is its row, and for none that there is none, with a row of
 -- zeros
 abbrev pub SaysString : Option ℕ → StringRow → Bool → Type 0
 SaysString None r there = IsStringRow r [] [] 0 0 × (there ≡ false)

@@ -1,4 +1,4 @@
--- What the calls that write what a caller says have in common.
+-- The parts that the calls that write a caller's values have in common.
 use Rattle.std.specs.Prelude.{ℕ, ◌≡◌, ◌⊎◌, List, [], ◌∷◌}
 use Rattle.std.specs.Global.{Global}
 use Rattle.esc_calls.specs.declared.TheConstants.{NO_COMMAND, NO_MEMORY, NOT_WRITABLE}
@@ -6,7 +6,7 @@ use Rattle.esc_calls.specs.declared.refusal.Refusal.{Refusal}
 use Rattle.esc_calls.specs.declared.refusal.Refusal.TheVariants as refusal
 use Rattle.fallible_alloc.specs.Refusals.{Refused}
 
--- what ends a string
+-- the end of a string
 abbrev pub string_end : List ℕ
 string_end = 0x1b ∷ 0x5c ∷ []
 
@@ -16,8 +16,8 @@ status_of refusal.NoCommand = NO_COMMAND
 status_of refusal.NotWritable = NOT_WRITABLE
 status_of refusal.NoMemory = NO_MEMORY
 
--- Why no text was written, where Has says which values are as the caller says: none that can be
--- held is, none that is writable is, or memory was refused.
+-- The reason why no text was written, if Has says which values are as the caller says: no value
+-- that can be held is, no writable one is, or memory was refused.
 pub record RefusedFor {V : Type 0} (Has IsHeld IsWritable : V → Type 0) (status : ℕ)
     : Type 0 where
   pub known : (status ≡ NO_COMMAND) ⊎ ((status ≡ NOT_WRITABLE) ⊎ (status ≡ NO_MEMORY))

@@ -1,4 +1,4 @@
--- What is written of the kitty image that a kind and fields say.
+-- The text of the kitty image of a kind and fields.
 use Rattle.std.specs.Prelude.{ℕ, ◌≡◌, true, List, ◌++◌, Some}
 use Rattle.std.specs.Global.{Global}
 use Rattle.std.specs.List.{list_all}
@@ -10,8 +10,8 @@ use Rattle.esc_kitty.specs.declared.image.KittyImage.{KittyImage}
 use Rattle.esc_calls.specs.ImageValues.{image_read}
 use Rattle.esc_calls.specs.Written.{RefusedFor, string_end}
 
--- the number of a kind and the fields are those of the image; what is between `ESC _` and `ESC \`
--- in its text is of bytes from space to DEL, and is the same image
+-- the number of a kind and the fields are those of the image; the text between `ESC _` and `ESC \`
+-- is of bytes from space to DEL, and is the same image
 pub record IsWrittenAs (k : ℕ) (t : Table) (i : KittyImage Global) : Type 0 where
   pub has : HasImage k t (Some i)
   pub clear : list_all is_kept (image_body i) ≡ true

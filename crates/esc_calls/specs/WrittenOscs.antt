@@ -1,4 +1,4 @@
--- What is written of the command that a kind and fields say.
+-- The text of the command of a kind and fields.
 use Rattle.std.specs.Prelude.{ℕ, ◌≡◌, List}
 use Rattle.std.specs.Global.{Global}
 use Rattle.esc_values.specs.Clear.{IsClearText}
@@ -10,8 +10,8 @@ use Rattle.flat_values.specs.Held.{Has, IsHeld}
 use Rattle.esc_calls.specs.OscValues.{command_of}
 use Rattle.esc_calls.specs.Written.{RefusedFor}
 
--- the number of a kind and the fields are those of the command, whose text between `ESC ]` and
--- `ESC \` is clear, and means a command that has them too
+-- the number of a kind and the fields are those of the command, whose text between `ESC ]` and `ESC
+-- \` is clear, and means a command that has them too
 pub record IsWrittenAs (k : ℕ) (t : Table) (c : OperatingSystemCommand Global) : Type 0 where
   pub has : Has k t c
   pub clear : IsClearText (inner_text c)

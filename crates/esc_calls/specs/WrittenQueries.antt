@@ -1,4 +1,4 @@
--- What is written of the termcap query that fields say.
+-- The text of the termcap query of fields.
 use Rattle.std.specs.Prelude.{ℕ, ◌≡◌, true, List, ◌++◌}
 use Rattle.std.specs.List.{list_all}
 use Rattle.flat_values.specs.Fields.{Table}
@@ -7,8 +7,8 @@ use Rattle.flat_values.specs.Held.{AreTexts, types}
 use Rattle.xtgettcap.specs.Names.{AreWritable, is_query_byte, names_of, names_text, query_text}
 use Rattle.esc_calls.specs.Written.{RefusedFor, string_end}
 
--- the fields are those of names that a query can ask for; what is between `ESC P + q` and `ESC \`
--- in its text is of digits and `;`, and asks for the same names
+-- the fields are those of names that a query can ask for; the text between `ESC P + q` and `ESC \`
+-- is of digits and `;`, and asks for the same names
 pub record IsWrittenAs (t : Table) (ns : List (List ℕ)) : Type 0 where
   pub has : HasNames t ns
   pub writable : AreWritable ns

@@ -1,4 +1,4 @@
--- What is written of the sixel image that a value and rows say.
+-- The text of the sixel image of a value and rows.
 use Rattle.std.specs.Prelude.{ℕ, pos, ◌≡◌, Bool, true, if◌then◌else◌, List, ◌∷◌, ◌++◌, Option, Some, None, map, ⊤}
 use Rattle.std.specs.Global.{Global}
 use Rattle.std.specs.List.{list_all}
@@ -11,7 +11,7 @@ use Rattle.esc_calls.specs.SixelValues.{IsHeader, IsOptional, sixel_in}
 use Rattle.esc_calls.specs.Written.{RefusedFor, string_end}
 use Rattle.esc_calls.specs.declared.sixel_value.SixelValue.{SixelValue}
 
--- a number of a value: none where it is absent. It is 0 there
+-- a number of a value: none if it is absent. It is 0 there
 abbrev pub optional : {X : Type 0} → Bool → X → Option X
 optional has x = if has then Some x else None
 

@@ -1,10 +1,10 @@
-//! What became of the bytes of a stream, for C.
+//! The account of the bytes of a stream, for C.
 ghost use Rattle.std.specs.Prelude.{◌≡◌};
 ghost use Rattle.esc_calls.specs.AccountRows.{length_of, row_of};
 
 use esc_account::Account;
 
-/// What became of the bytes of a stream: how many had each fate, and how many there are.
+/// The account of the bytes of a stream: the number of bytes with each fate, and of all bytes.
 #[repr(C)]
 #[derive(Clone, Copy)]
 pub struct AccountRow {
@@ -22,7 +22,7 @@ pub struct AccountRow {
     pub swallowed: u64,
     /// Other text took their place.
     pub overwritten: u64,
-    /// How many there are in all, or 2^64 - 1 where there are more.
+    /// The number of all bytes, or 2^64 - 1 if there are more.
     pub length: u64,
 }
 
@@ -45,7 +45,7 @@ impl AccountRow {
     }
 }
 
-// So many, where that is less than 2^64.
+// So many, if that is less than 2^64.
 fn length_of(total: u128) -> u64
     ensures { result ≡ length_of total }
 {

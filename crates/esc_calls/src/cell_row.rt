@@ -9,11 +9,11 @@ use esc_sequences::Underline;
 use esc_style::Color;
 use esc_terminal::Styles;
 
-/// A cell of a screen: the character in it, how it looks, and where it leads.
+/// A cell of a screen: the character in it, its look, and its link.
 #[repr(C)]
 #[derive(Clone, Copy)]
 pub struct CellRow {
-    /// The code point of the character; 0, where the cell is blank or the second of a character.
+    /// The code point of the character; 0, if the cell is blank or the second of a character.
     pub character: u32,
     /// The code point of the first mark on the character, or 0.
     pub first_mark: u32,
@@ -50,7 +50,7 @@ pub struct CellRow {
     pub overline: bool,
     /// Whether marks on the character are left out: those after the second one.
     pub more_marks: bool,
-    /// Whether the row goes on in the next one, where it is the last cell of the row.
+    /// Whether the row goes on in the next one, if it is the last cell of the row.
     pub joined: bool,
 }
 

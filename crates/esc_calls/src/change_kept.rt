@@ -1,8 +1,8 @@
-//! How a call changes what a stream in chunks keeps.
+//! The way in which a call changes the state that a stream in chunks keeps.
 
-// Takes what the stream keeps, where that is of this kind, and changes it. Where that is done the
-// stream keeps it on. Else it has ended, and the status says why: it kept none, or memory was
-// refused. A change that `always` is done is refused none.
+// Takes the state that the stream keeps, if that is of this kind, and changes it. If that succeeds
+// the stream keeps it on. Else it has ended, and the status says why: it kept none, or memory was
+// refused. A change after `always` cannot be refused memory.
 macro_rules! change_kept {
     ($alloc:ident, $stream:ident, $kind:ident($inner:ident), always $change:expr) => {{
         let Some(mut kept) = $stream.take($alloc) else {

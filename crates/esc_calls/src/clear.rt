@@ -1,4 +1,4 @@
-//! Texts that hold nothing but characters that a terminal takes for what they are.
+//! Texts that hold only characters that a terminal shows as themselves.
 ghost use Rattle.std.specs.Prelude.{◌≡◌, ◌↔◌, IsTrue};
 ghost use Rattle.std.specs.List.{list_all};
 ghost use Rattle.std.specs.Str.{chars};

@@ -10,7 +10,7 @@ use crate::{
 /// Which of the numbers that say how a stream is sanitized says nothing.
 #[derive(Clone, Copy)]
 pub enum Fault {
-    /// The size is not that of the options, or what is reserved is not 0.
+    /// The size is not that of the options, or a reserved field is not 0.
     Size,
     /// No policy has the number.
     Policy,
@@ -26,7 +26,7 @@ pub enum Fault {
     Returns,
     /// No encoding has the number.
     Encoding,
-    /// The number is no way to show what does not pass.
+    /// The number is no way to show actions that do not pass.
     Show,
     /// There are too many rows.
     Rows,

@@ -1,4 +1,4 @@
-//! What a policy admits of a stream.
+//! The actions of a stream that a policy admits.
 ghost use Rattle.std.specs.Prelude.{◌≡◌, ◌↔◌, IfOk, None, OnErr};
 ghost use Rattle.esc_filter.specs.Fed.{added_by};
 ghost use Rattle.esc_calls.specs.Filtered.{IsAdmitted, IsFilterRefusal, open_text};
@@ -12,7 +12,7 @@ use esc_filter::{Filter, Policy, passed_reads_back};
 use esc_frame::ParseError;
 use std::alloc::Global;
 
-/// What `escape_stream_filter` of `escape_c` does.
+/// The work of `escape_stream_filter` of `escape_c`.
 pub fn filter(
     alloc: Global,
     policy: u32,
@@ -66,7 +66,7 @@ fn filter_by(
     }
 }
 
-// A filter that was fed the bytes, and holds the text of what passes of them.
+// A filter that was fed the bytes, and holds the text of the actions that pass.
 fn filtered(
     alloc: Global,
     policy: Policy,

@@ -1,15 +1,15 @@
-//! What is noted of a control function.
+//! The row of a control function.
 ghost use Rattle.esc_calls.specs.FunctionRows.{IsRow};
 
 use crate::output::put;
 
-/// What a control function is, for its caller: a row of a table of `control_functions`, or zeros.
+/// A control function, for its caller: a row of a table of `control_functions`, or zeros.
 #[repr(C)]
 #[derive(Clone, Copy)]
 pub struct FunctionRow {
     /// Its name, as the standards abbreviate it, and zeros after it.
     pub name: [u8; 16],
-    /// What it does, in words, and zeros after them.
+    /// Its description in words, and zeros after them.
     pub phrase: [u8; 80],
     /// Whether it changes the screen alone, with whatever parameters.
     pub changes_screen: bool,

@@ -9,7 +9,7 @@ use std::alloc::Global;
 use std::marker::Model;
 use std::ptr;
 
-/// A block with what is kept, or none. Its drop forgets the block.
+/// A block with the kept value, or none. Its drop forgets the block.
 #[repr(C)]
 #[derive(Drop)]
 pub struct Held {
@@ -39,7 +39,7 @@ impl Held {
         Held { at: ptr as *mut u8 }
     }
 
-    /// The parts of the block, where there is one.
+    /// The parts of the block, if there is one.
     pub(crate) fn into_parts(self, alloc: Global) -> Parts<Kept, Global>
         requires { self.kept ≢ None }
         ensures { self.kept ≡ Some result.value }

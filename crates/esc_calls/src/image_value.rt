@@ -1,7 +1,7 @@
-//! What the text of an APC is, as a kind and counts.
+//! The value of the text of an APC, as a kind and counts.
 
-/// What an image of kitty's is, for its caller: its kind, and how much room its fields and their
-/// texts need.
+/// An image of kitty's, for its caller: its kind, and how much room its fields and their texts
+/// need.
 #[repr(C)]
 #[derive(Clone, Copy)]
 pub struct ImageValue {

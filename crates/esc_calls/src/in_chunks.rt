@@ -15,7 +15,7 @@ use std::mem;
 pub struct InChunks {
     /// Whether it has begun, and not ended.
     pub is_begun: bool,
-    /// What it keeps.
+    /// The state that it keeps.
     pub held: Held,
     ghost known: { is_begun ≡ is_there held.kept },
 }
@@ -31,7 +31,7 @@ impl InChunks {
         }
     }
 
-    /// What it keeps, where it has begun.
+    /// The state that it keeps, if it has begun.
     pub(crate) fn into_kept(self, alloc: Global) -> Option<Box<Kept>>
         ensures some { IfSome result (λ kept. self.held.kept ≡ Some kept.value) }
         ensures none { result ≡ None → self.held.kept ≡ None }
@@ -45,7 +45,7 @@ impl InChunks {
         }
     }
 
-    /// Ends it, and returns what it kept, where it had begun.
+    /// Ends it, and returns the state that it kept, if it had begun.
     pub(crate) fn take(&mut self, alloc: Global) -> Option<Box<Kept>>
         ensures some { IfSome result (λ kept. self.old.held.kept ≡ Some kept.value) }
         ensures none { result ≡ None → self.old.held.kept ≡ None }

@@ -10,7 +10,7 @@ use esc_actions::laws;
 use esc_normal::normal_text;
 use std::alloc::Global;
 
-/// What `escape_stream_is_normal` of `escape_c` does.
+/// The work of `escape_stream_is_normal` of `escape_c`.
 pub fn is_normal(alloc: Global, bytes: &[u8], answer: &mut bool) -> u32
     ensures equal { result ≡ DONE
         → (IsTrue answer.new ↔ (list_text (meaning {A = Global} bytes.now) ≡ bytes.now)) }

@@ -1,4 +1,4 @@
-//! What a stream in chunks keeps.
+//! The state that a stream in chunks keeps.
 ghost use Rattle.std.specs.Prelude.{◌≡◌};
 ghost use Rattle.esc_calls.specs.Kept.{kept_text};
 
@@ -8,7 +8,7 @@ use esc_filter::{Filter, Groups, Policy};
 use esc_normal::Normaliser;
 use esc_sanitize::Sanitizer;
 
-/// What a stream in chunks keeps, in a block of its own.
+/// The state that a stream in chunks keeps, in a block of its own.
 #[derive(Drop)]
 pub enum Kept {
     /// A filter.

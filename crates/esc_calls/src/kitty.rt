@@ -10,7 +10,7 @@ use esc_kitty::KittyImage;
 use flat_values::{FieldRow, Fields, ImageKind};
 use std::alloc::{AllocError, Global};
 
-/// What `escape_stream_read_kitty` of `escape_c` does.
+/// The work of `escape_stream_read_kitty` of `escape_c`.
 pub fn read_kitty(
     alloc: Global,
     text: &[u8],

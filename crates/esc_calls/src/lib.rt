@@ -1,5 +1,5 @@
-//! What the calls of the archive `escape_c` do. The archive adds their names for C, and its proof,
-//! which runs again wherever it is built, only hands on what is promised here.
+//! The work of the calls of the archive `escape_c`. The archive adds their names for C, and its
+//! proof, which runs again wherever it is built, only hands on the promises of this crate.
 #![tactic(auto)]
 
 pub mod account_row;
@@ -71,7 +71,7 @@ pub const NO_COMMAND: u32 = 4;
 /// The text of the command, image or query would not read back as it. Nothing was written.
 pub const NOT_WRITABLE: u32 = 5;
 
-/// The options of a sanitizer have another size than this version knows, or use what is reserved.
+/// The options of a sanitizer have another size than this version knows, or use a reserved field.
 pub const UNKNOWN_SIZE: u32 = 6;
 
 /// No group has one of the bits that options allow or deny.
@@ -92,7 +92,7 @@ pub const UNKNOWN_RETURNS: u32 = 11;
 /// No encoding has the number that options have.
 pub const UNKNOWN_ENCODING: u32 = 12;
 
-/// No way to show what does not pass has the number that options have.
+/// No way to show actions that do not pass has the number that options have.
 pub const UNKNOWN_SHOW: u32 = 13;
 
 /// Options let more rows be written again than 4096.

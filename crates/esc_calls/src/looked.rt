@@ -18,8 +18,8 @@ impl Looked {
         }
     }
 
-    /// Writes for each row of a screen, as there is room for, 1 where its cells are not those that
-    /// it had when it was last looked at, and 0 elsewhere; and notes that it was looked at.
+    /// Writes for each row of a screen, as there is room for, 1 if its cells are not those that it
+    /// had when it was last looked at, and 0 otherwise; and notes that it was looked at.
     ///
     /// The error is that a request for memory was refused.
     pub(crate) fn look(

@@ -10,7 +10,7 @@ use esc_parse::commands::command_in;
 use flat_values::{CommandKind, FieldRow, Fields};
 use std::alloc::{AllocError, Global};
 
-/// What `escape_stream_read_osc` of `escape_c` does.
+/// The work of `escape_stream_read_osc` of `escape_c`.
 pub fn read_osc(
     alloc: Global,
     text: &[u8],

@@ -1,6 +1,6 @@
-//! What the text of an OSC means, as a kind and counts.
+//! The value of the text of an OSC, as a kind and counts.
 
-/// What a command is, for its caller: its kind, and how much room its fields and their texts need.
+/// A command, for its caller: its kind, and how much room its fields and their texts need.
 #[repr(C)]
 #[derive(Clone, Copy)]
 pub struct OscValue {

@@ -1,4 +1,4 @@
-//! What goes into a caller's buffer.
+//! The bytes that go into a caller's buffer.
 ghost use Rattle.std.specs.Prelude.{◌≡◌, IfErr, IfOk, OnErr};
 ghost use Rattle.esc_calls.specs.Output.{Copies, Puts, put_into};
 ghost use Rattle.esc_calls.specs.Written.{status_of};
@@ -45,8 +45,8 @@ pub(crate) fn put_text(text: Result<Text, Refusal>, out: &mut [u8], needed: &mut
     }
 }
 
-/// Writes what was read: a value, and as many rows and as much of their texts as there is room for.
-/// Where memory was refused it writes nothing.
+/// Writes the value that was read, and as many rows and as much of their texts as there is room
+/// for. If memory was refused it writes nothing.
 pub(crate) fn put_read<V: Copy>(
     read: Result<(V, Fields), AllocError>,
     value: &mut V,

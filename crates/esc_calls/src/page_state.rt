@@ -1,4 +1,4 @@
-//! What a page in chunks keeps.
+//! The state that a page in chunks keeps.
 ghost use Rattle.std.specs.Prelude.{◌≡◌, ◌≢◌, ℕ, List};
 ghost use Rattle.esc_html.specs.declared.layout.Layout.{Layout};
 ghost use Rattle.esc_calls.specs.Kept.{state_text};
@@ -9,10 +9,10 @@ use crate::{DONE, NO_MEMORY, NOT_BEGUN};
 use esc_html::HtmlWriter;
 use std::alloc::Global;
 
-/// What a page in chunks keeps.
+/// The state that a page in chunks keeps.
 #[derive(Drop)]
 pub struct PageState {
-    /// What makes HTML of the stream.
+    /// The writer that makes HTML of the stream.
     pub writer: HtmlWriter,
     /// Whether the stream has ended.
     pub has_ended: bool,

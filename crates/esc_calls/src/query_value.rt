@@ -1,4 +1,4 @@
-//! What the data of a termcap query asks for, as counts.
+//! The names that the data of a termcap query asks for, as counts.
 
 /// How many names a query has, for its caller, and how much room they need.
 #[repr(C)]

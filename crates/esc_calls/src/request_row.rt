@@ -1,17 +1,17 @@
-//! What a stream asks a terminal for, for C.
+//! The requests of a stream to a terminal, for C.
 ghost use Rattle.std.specs.Prelude.{◌≡◌, map};
 ghost use Rattle.esc_calls.specs.CellRows.{asked, request_row};
 ghost use Rattle.esc_calls.specs.Output.{Puts, put_into};
 
 use esc_terminal::Request;
 
-/// What a stream asks a terminal for.
+/// A request of a stream to a terminal.
 #[repr(C)]
 #[derive(Clone, Copy)]
 pub struct RequestRow {
-    /// What it is: 1 to 3 the primary, secondary and tertiary attributes (DA), 4 the name and
-    /// version (XTVERSION), 5 the status (DSR 5), 6 the place of the cursor (DSR 6), 7 the state of
-    /// a mode, 8 that of a private mode (DECRQM).
+    /// Its kind: 1 to 3 the primary, secondary and tertiary attributes (DA), 4 the name and version
+    /// (XTVERSION), 5 the status (DSR 5), 6 the place of the cursor (DSR 6), 7 the state of a mode,
+    /// 8 that of a private mode (DECRQM).
     pub kind: u32,
     /// The number of the mode, or 0.
     pub mode: u32,

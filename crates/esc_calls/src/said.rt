@@ -1,4 +1,4 @@
-//! What the numbers of the options of a sanitizer say.
+//! The meaning of the numbers of the options of a sanitizer.
 ghost use Rattle.std.specs.Prelude.{◌≡◌};
 ghost use Rattle.esc_calls.specs.SanitizerOptions.{characters_numbered, encoding_numbered, framing_numbered, marking_numbered, returns_numbered, usual_guard};
 
@@ -18,7 +18,8 @@ pub(crate) fn framing_of(number: u32, usual: bool) -> Option<bool>
     }
 }
 
-/// What is written of characters that hide or reorder text; by the number 0 as is usual.
+/// The way in which characters that hide or reorder text are written; by the number 0 the usual
+/// one.
 pub(crate) fn characters_of(number: u32, usual: Unicode) -> Option<Unicode>
     ensures { result ≡ characters_numbered number usual }
 {
@@ -32,7 +33,7 @@ pub(crate) fn characters_of(number: u32, usual: Unicode) -> Option<Unicode>
     }
 }
 
-/// What is written of carriage returns; by the number 0 as is usual.
+/// The way in which carriage returns are written; by the number 0 the usual one.
 pub(crate) fn returns_of(number: u32, usual: Returns) -> Option<Returns>
     ensures { result ≡ returns_numbered number usual }
 {
@@ -45,7 +46,7 @@ pub(crate) fn returns_of(number: u32, usual: Returns) -> Option<Returns>
     }
 }
 
-/// How what does not pass is shown, where it is.
+/// The way in which actions that do not pass are shown, if they are.
 pub(crate) fn marking_of(number: u32) -> Option<Option<Marking>>
     ensures { result ≡ marking_numbered number }
 {
@@ -58,7 +59,7 @@ pub(crate) fn marking_of(number: u32) -> Option<Option<Marking>>
     }
 }
 
-/// How bytes are read. Where what does not pass is shown, none is replaced.
+/// The encoding of the bytes. If actions that do not pass are shown, none is replaced.
 pub(crate) fn encoding_of(number: u32, shows: bool) -> Option<Encoding>
     ensures { result ≡ encoding_numbered number shows }
 {
@@ -88,7 +89,8 @@ pub(crate) fn encoding_of(number: u32, shows: bool) -> Option<Encoding>
     }
 }
 
-/// What is usual of what hides or reorders text, where so many rows may be written again.
+/// The usual way for characters and carriage returns that hide or reorder text, if so many rows may
+/// be written again.
 pub(crate) fn usual_guard(policy: Policy, rows: u32) -> Guard
     ensures { result ≡ usual_guard policy rows }
 {

@@ -1,4 +1,4 @@
-//! What the options of a sanitizer say of what passes.
+//! The actions that pass, by the options of a sanitizer.
 ghost use Rattle.std.specs.Prelude.{◌≡◌, IfErr, IfOk};
 ghost use Rattle.std.specs.Option.{option_map};
 ghost use Rattle.esc_filter.specs.Groups.{with_group};
@@ -31,8 +31,8 @@ const GROUPS: [Group; 16] = [
 ];
 
 /// The groups that pass: those of the policy and those that are allowed, but those that are denied,
-/// and where rows may be written again what changes the screen; of links those to addresses of the
-/// schemes.
+/// and if rows may be written again the groups that change the screen; only links to addresses of
+/// the schemes pass.
 pub(crate) fn groups_said(
     options: &SanitizerOptions,
     policy: Policy,
@@ -81,7 +81,7 @@ fn with_group(groups: Groups<'static>, group: Group, passes: bool) -> Groups<'st
     }
 }
 
-// These groups, and where rows may be written again what changes the screen, and backspaces.
+// These groups, and if rows may be written again the groups that change the screen, and backspaces.
 fn with_movements(groups: Groups<'static>, rows: u32) -> Groups<'static>
     ensures { result ≡ groups_with_moves rows groups.entry }
 {
@@ -97,7 +97,7 @@ fn with_movements(groups: Groups<'static>, rows: u32) -> Groups<'static>
         .and(Group::Charsets)
 }
 
-// The schemes of the links that pass; those of all where there are none.
+// The schemes of the links that pass; all schemes if there are none.
 fn schemes_of(links: u32) -> Option<Option<&'static str>>
     ensures { option_map (option_map (λ s. s.now)) result ≡ links_numbered links }
 {

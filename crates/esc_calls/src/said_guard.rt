@@ -1,4 +1,5 @@
-//! What the options of a sanitizer say of what hides or reorders text.
+//! The way for characters and carriage returns that hide or reorder text, by the options of a
+//! sanitizer.
 ghost use Rattle.std.specs.Prelude.{◌≡◌, IfErr, IfOk};
 ghost use Rattle.esc_calls.specs.SanitizerOptions.{IsFault, SaysGuard, framed};
 
@@ -7,8 +8,8 @@ use crate::said::{characters_of, returns_of};
 use crate::sanitizer_options::SanitizerOptions;
 use esc_filter::{Guard, Returns};
 
-/// What is written of what hides or reorders text, where this is usual. Carriage returns are kept
-/// in a stream that is one.
+/// The way in which characters and carriage returns that hide or reorder text are written, if this
+/// is the usual one. Carriage returns are kept in a stream that is one.
 pub(crate) fn guard_said(
     options: &SanitizerOptions,
     usual: Guard,
@@ -29,7 +30,7 @@ pub(crate) fn guard_said(
     })
 }
 
-// What is written of carriage returns by lines, or of a stream that is one.
+// The way in which carriage returns are written by lines, or in a stream that is one.
 fn framed(returns: Returns, by_lines: bool) -> Returns
     ensures { result ≡ framed returns by_lines }
 {

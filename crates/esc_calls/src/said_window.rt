@@ -1,4 +1,4 @@
-//! What the options of a sanitizer say of rows that may be written again.
+//! The rows that may be written again, by the options of a sanitizer.
 ghost use Rattle.std.specs.Prelude.{◌≡◌, IfErr, IfOk};
 ghost use Rattle.esc_calls.specs.SanitizerOptions.{IsFault, SaysWindow, columns_numbered, window_numbered};
 
@@ -7,7 +7,7 @@ use crate::sanitizer_options::{MOST_COLUMNS, MOST_ROWS, SanitizerOptions};
 use esc_filter::Unicode;
 use line_collapse::{COLUMNS, Window};
 
-/// The screen of which what is left is written, where rows may be written again; this is written of
+/// The screen whose final rows are written, if rows may be written again; this is the way for
 /// characters that deceive.
 pub(crate) fn window_said(
     options: &SanitizerOptions,
@@ -25,7 +25,7 @@ pub(crate) fn window_said(
     Ok(window_of(options.rows, options.columns, characters))
 }
 
-// The same, where the numbers are not too large.
+// The same, if the numbers are not too large.
 fn window_of(rows: u32, columns: u32, characters: Unicode) -> Option<Window>
     ensures { result ≡ window_numbered rows columns characters }
 {

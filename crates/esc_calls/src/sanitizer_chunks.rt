@@ -22,7 +22,7 @@ use esc_frame::ParseError;
 use esc_sanitize::{Sanitizer, writes_chunks};
 use std::alloc::Global;
 
-/// What `escape_stream_sanitizer_begin` of `escape_c` does.
+/// The work of `escape_stream_sanitizer_begin` of `escape_c`.
 pub fn sanitizer_begin(alloc: Global, sanitizer: &mut InChunks, options: &SanitizerOptions) -> u32
     ensures begun { result ≡ DONE → (o : Settings) × IsSaid options.now o
         × SanitizerHasConsumed o [] sanitizer.new }
@@ -43,7 +43,7 @@ pub fn sanitizer_begin(alloc: Global, sanitizer: &mut InChunks, options: &Saniti
     }
 }
 
-/// What `escape_stream_sanitizer_feed` of `escape_c` does.
+/// The work of `escape_stream_sanitizer_feed` of `escape_c`.
 pub fn sanitizer_feed(alloc: Global, sanitizer: &mut InChunks, bytes: &[u8]) -> u32
     ensures taken { (o : Settings) (s : List ℕ) → SanitizerHasConsumed o s sanitizer.old
         → result ≡ DONE → Takes (SanitizerHasConsumed o) (going o) s bytes.now sanitizer.new }
@@ -67,7 +67,7 @@ pub fn sanitizer_feed(alloc: Global, sanitizer: &mut InChunks, bytes: &[u8]) -> 
     }
 }
 
-/// What `escape_stream_sanitizer_finish` of `escape_c` does.
+/// The work of `escape_stream_sanitizer_finish` of `escape_c`.
 pub fn sanitizer_finish(alloc: Global, sanitizer: &mut InChunks) -> u32
     ensures finished { (o : Settings) (s : List ℕ) → SanitizerHasConsumed o s sanitizer.old
         → result ≡ DONE → FinishesSanitizer o s sanitizer.new }
@@ -92,7 +92,7 @@ pub fn sanitizer_finish(alloc: Global, sanitizer: &mut InChunks) -> u32
     }
 }
 
-/// What `escape_stream_sanitizer_text` of `escape_c` does.
+/// The work of `escape_stream_sanitizer_text` of `escape_c`.
 pub fn sanitizer_text(alloc: Global, sanitizer: &mut InChunks, from: usize, out: &mut [u8]) -> usize
     ensures copied { Copies (text_of sanitizer.old) from out.old out.new result }
     ensures kept { Stays sanitizer.old sanitizer.new }
@@ -100,7 +100,7 @@ pub fn sanitizer_text(alloc: Global, sanitizer: &mut InChunks, from: usize, out:
     copy_text(alloc, sanitizer, from, out)
 }
 
-/// What `escape_stream_sanitizer_account` of `escape_c` does.
+/// The work of `escape_stream_sanitizer_account` of `escape_c`.
 pub fn sanitizer_account(alloc: Global, sanitizer: &mut InChunks, account: &mut AccountRow) -> u32
     ensures told { result ≡ DONE → IfSome (sanitizer_in sanitizer.old.held.kept)
         (λ z. account.new ≡ row_of (account_in z)) × Stays sanitizer.old sanitizer.new }
@@ -113,7 +113,7 @@ pub fn sanitizer_account(alloc: Global, sanitizer: &mut InChunks, account: &mut 
     })
 }
 
-/// What `escape_stream_sanitizer_end` of `escape_c` does.
+/// The work of `escape_stream_sanitizer_end` of `escape_c`.
 pub fn sanitizer_end(alloc: Global, sanitizer: &mut InChunks)
     ensures { IsEnded sanitizer.new }
 {

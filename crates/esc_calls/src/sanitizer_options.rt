@@ -20,14 +20,14 @@ pub const MOST_ROWS: u32 = 4096;
 /// How many columns these rows have at most.
 pub const MOST_COLUMNS: u32 = 16_384;
 
-/// How a stream is sanitized: what the options of the program `escfilter` say of that, as numbers.
-/// Where a field but the first three is 0, it is as the program has it without the option.
+/// The options by which a stream is sanitized: those of the program `escfilter`, as numbers. If a
+/// field but the first three is 0, it is as the program has it without the option.
 #[repr(C)]
 #[derive(Clone, Copy)]
 pub struct SanitizerOptions {
     /// Its size in bytes, [`OPTIONS_SIZE`]. A later version that adds fields takes this size too.
     pub size: u32,
-    /// The number of a policy: what passes.
+    /// The number of a policy, which says which actions pass.
     pub policy: u32,
     /// How many bytes are kept of an unfinished sequence or string.
     pub limit: u64,
@@ -38,16 +38,17 @@ pub struct SanitizerOptions {
     /// The schemes of the links that pass: http 1, https 2, mailto 4, or sums of these.
     pub links: u32,
     /// Whether each line is a stream of its own, 1, or the whole is, 2; or each line, which begins
-    /// plain, 3: else a rendition that goes on over a line feed is written again where the next
-    /// line begins.
+    /// plain, 3: else a rendition that goes on over a line feed is written again at the beginning
+    /// of the next line.
     pub framing: u32,
-    /// What is written of characters that hide or reorder text: keep 1, join 2, show 3, drop 4.
+    /// The way in which characters that hide or reorder text are written: keep 1, join 2, show 3,
+    /// drop 4.
     pub characters: u32,
-    /// What is written of carriage returns within a line: keep 1, show 2, drop 3.
+    /// The way in which carriage returns within a line are written: keep 1, show 2, drop 3.
     pub returns: u32,
     /// How bytes are read.
     pub encoding: u32,
-    /// How what does not pass is shown: plain 1, escaped 2, reversed 3.
+    /// The way in which actions that do not pass are shown: plain 1, escaped 2, reversed 3.
     pub show: u32,
     /// How many rows may be written again.
     pub rows: u32,
@@ -60,7 +61,7 @@ pub struct SanitizerOptions {
 }
 
 impl SanitizerOptions {
-    /// What the numbers say, or which of them says nothing.
+    /// The options that the numbers mean, or the number that means nothing.
     pub(crate) fn read(&self) -> Result<FilterOptions<Groups<'static>>, Fault>
         ensures said { IfOk result (IsSaid self.now) }
         ensures fault { IfErr result (IsFault self.now) }
@@ -74,7 +75,7 @@ impl SanitizerOptions {
         }
     }
 
-    // The same, where this is the policy.
+    // The same, if this is the policy.
     fn read_by(&self, policy: Policy) -> Result<FilterOptions<Groups<'static>>, Fault>
         ensures said { IfOk result (Says self.now policy) }
         ensures fault { IfErr result (IsFault self.now) }

@@ -1,7 +1,7 @@
-//! What is known of a screen, but for its cells, for C.
+//! The state of a screen, but for its cells, for C.
 ghost use Rattle.esc_calls.specs.Screens.{Tells};
 
-/// What is known of a screen, but for its cells, titles, links and requests.
+/// The state of a screen, but for its cells, titles, links and requests.
 #[repr(C)]
 #[derive(Clone, Copy)]
 pub struct ScreenRow {

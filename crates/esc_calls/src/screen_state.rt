@@ -1,4 +1,4 @@
-//! What a screen in chunks keeps.
+//! The state that a screen in chunks keeps.
 ghost use Rattle.std.specs.Prelude.{◌≡◌, [], ℕ, IfOk, List, OnErr, OnOk, map};
 ghost use Rattle.esc_calls.specs.CellRows.{request_row};
 ghost use Rattle.esc_calls.specs.Output.{Puts};
@@ -17,7 +17,7 @@ use esc_terminal::{Styles, Terminal, push_row};
 use std::alloc::{AllocError, Global};
 use std::mem;
 
-/// What a screen in chunks keeps.
+/// The state that a screen in chunks keeps.
 #[derive(Drop)]
 pub struct ScreenState {
     /// The terminal.
@@ -29,8 +29,8 @@ pub struct ScreenState {
 }
 
 impl ScreenState {
-    /// A screen of so many columns and rows at the beginning of a stream. Of the rows that are
-    /// scrolled off, `most` are kept.
+    /// A screen of so many columns and rows at the beginning of a stream. At most `most` of the
+    /// rows that are scrolled off are kept.
     ///
     /// The error is that a request for memory was refused.
     pub(crate) fn new(
@@ -62,7 +62,7 @@ impl ScreenState {
         result
     }
 
-    /// Writes what is known of the screen, but for its cells.
+    /// Writes the state of the screen, but for its cells.
     ///
     /// The error, here and below, is that a request for memory was refused, before or now; nothing
     /// was written then.
@@ -113,7 +113,7 @@ impl ScreenState {
         Ok(())
     }
 
-    /// Writes the cells of a row that was scrolled off, of which the first that is kept is 0.
+    /// Writes the cells of a row that was scrolled off; the first that is kept is 0.
     pub(crate) fn scrolled_cells(
         &self,
         row: usize,
@@ -161,15 +161,15 @@ impl ScreenState {
         }
     }
 
-    /// Writes what the last chunk asked for, as there is room. Returns how many requests these are.
+    /// Writes the requests of the last chunk, as there is room. Returns their number.
     pub(crate) fn requests(&self, out: &mut [RequestRow]) -> usize
         ensures { Puts (map request_row (requests_now self.now.terminal)) out.old out.new result }
     {
         put_requests(self.terminal.requests(), out)
     }
 
-    /// Writes the address of a link, of which the first is 1, as much as there is room for. Returns
-    /// its length, 0 where there is no such link.
+    /// Writes the address of a link, the first of which is 1, as much as there is room for. Returns
+    /// its length, 0 if there is no such link.
     pub(crate) fn address(&self, number: usize, out: &mut [u8]) -> usize {
         match self.terminal.styles() {
             Some(styles) => put(address_of(styles, number).as_bytes(), out),
@@ -185,8 +185,8 @@ impl ScreenState {
         }
     }
 
-    /// Writes for each row, as there is room, 1 where it was changed since the last look, and 0
-    /// elsewhere. The next look begins.
+    /// Writes for each row, as there is room, 1 if it was changed since the last look, and 0
+    /// otherwise. The next look begins.
     pub(crate) fn look(&mut self, alloc: Global, out: &mut [u8]) -> Result<(), AllocError>
         ensures { self.new.terminal ≡ self.old.terminal }
     {

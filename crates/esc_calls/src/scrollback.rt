@@ -19,7 +19,7 @@ pub struct Scrollback {
 }
 
 impl Scrollback {
-    /// No row. Of those that come, so many are kept.
+    /// No row. So many of those that come are kept.
     pub(crate) fn new(alloc: Global, most: usize) -> Scrollback {
         Scrollback {
             alloc,
@@ -45,7 +45,7 @@ impl Scrollback {
         self.rows.len()
     }
 
-    /// The cells of one of them, from the first that is kept on; none where there is no such row.
+    /// The cells of one of them, from the first that is kept on; none if there is no such row.
     pub(crate) fn row(&self, at: usize) -> &[Cell] {
         let after_first = self.rows.len().saturating_sub(self.first);
         let place = if at < after_first {
@@ -60,7 +60,7 @@ impl Scrollback {
         }
     }
 
-    // Keeps a row, in the place of the first one where there is room for no more.
+    // Keeps a row, in the place of the first one if there is room for no more.
     fn keep(&mut self, cells: &[Cell]) -> Result<(), AllocError>
         ensures { OnErr result (Refused Global) }
     {

@@ -11,7 +11,7 @@ use esc_sixel::{Sixel, SixelBuilder, SixelData};
 use flat_values::SixelRow;
 use std::alloc::{AllocError, Global};
 
-/// What `escape_stream_read_sixel` of `escape_c` does.
+/// The work of `escape_stream_read_sixel` of `escape_c`.
 pub fn read_sixel(
     alloc: Global,
     params: &[i64],

@@ -1,6 +1,6 @@
-//! What a sixel image is, but for its data.
+//! A sixel image, but for its data.
 
-/// What a sixel image is, for its caller, and how much room its data needs.
+/// A sixel image, for its caller, and how much room its data needs.
 #[repr(C)]
 #[derive(Clone, Copy)]
 pub struct SixelValue {
@@ -14,8 +14,8 @@ pub struct SixelValue {
     pub pixel_width: u32,
     /// The height in pixels that raster attributes gave, or 0.
     pub pixel_height: u32,
-    /// The width in pixels: that of the raster attributes, where they gave both, and else of what
-    /// is drawn.
+    /// The width in pixels: that of the raster attributes, if they gave both, and else that of the
+    /// drawing.
     pub width: u32,
     /// The height in pixels in the same way.
     pub height: u32,
@@ -25,7 +25,7 @@ pub struct SixelValue {
     pub has_pixel_width: bool,
     /// Whether raster attributes gave a height.
     pub has_pixel_height: bool,
-    /// Whether pixels of 0 leave what was there.
+    /// Whether pixels of 0 leave the old pixels.
     pub background_is_transparent: bool,
     /// How many items its data has.
     pub item_count: usize,

@@ -24,7 +24,7 @@ fn is_natural(number: i64) -> bool
     0 <= number
 }
 
-// Whether it is so, where there is one.
+// Whether it is so, if there is one.
 fn is_grid(number: Option<i64>) -> bool
     ensures { IsTrue result ↔ IsGrid number }
 {

@@ -12,15 +12,15 @@ use string_commands::Row;
 pub struct StringRow {
     /// Its name, and zeros after it.
     pub name: [u8; 40],
-    /// What it does, in words, and zeros after them.
+    /// Its description in words, and zeros after them.
     pub phrase: [u8; 80],
-    /// What it is told apart by: the number of an operating system command.
+    /// The key that tells it apart: the number of an operating system command.
     pub key: usize,
     /// The place of its row, from 0 on.
     pub row: usize,
 }
 
-// Notes the string of a row, where there is one.
+// Notes the string of a row, if there is one.
 #[tactic(auto, using(crate::proofs::Strings::says_row, crate::proofs::Strings::says_none))]
 pub(crate) fn note(found: Option<Row>, out: &mut StringRow) -> bool
     ensures { (o : Option ℕ) → Finds o found → SaysString o out.new result }

@@ -10,7 +10,7 @@ use flat_values::{FieldRow, Fields};
 use std::alloc::{AllocError, Global};
 use xtgettcap::GetTcapBuilder;
 
-/// What `escape_stream_read_tcap` of `escape_c` does.
+/// The work of `escape_stream_read_tcap` of `escape_c`.
 pub fn read_tcap(
     alloc: Global,
     text: &[u8],

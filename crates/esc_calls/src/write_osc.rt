@@ -19,7 +19,7 @@ use esc_values::Text;
 use flat_values::{FieldRow, command_of, has_fields};
 use std::alloc::{AllocError, Global};
 
-/// What `escape_stream_write_osc` of `escape_c` does.
+/// The work of `escape_stream_write_osc` of `escape_c`.
 pub fn write_osc(
     alloc: Global,
     kind: u32,
@@ -34,7 +34,7 @@ pub fn write_osc(
     put_text(written(alloc, kind, fields, text), out, needed)
 }
 
-// The text of the command, where it reads back as it.
+// The text of the command, if it reads back as it.
 fn written(alloc: Global, kind: u32, fields: &[FieldRow], text: &[u8]) -> Result<Text, Refusal>
     ensures text { IfOk result (IsText kind (fields.now, text.now)) }
     ensures refused { IfErr result (λ e. IsRefusal kind (fields.now, text.now) (status_of e)) }
@@ -58,7 +58,7 @@ fn text_of(alloc: Global, kind: u32, fields: &[FieldRow], text: &[u8]) -> Result
     Ok(display(alloc, &command)?)
 }
 
-// What is between `ESC ]` and `ESC \`.
+// The text between `ESC ]` and `ESC \`.
 fn inner(text: &[u8]) -> &[u8]
     ensures { (t : List ℕ) → text.now ≡ framed_text t → result.now ≡ t }
 {

@@ -15,7 +15,7 @@ use flat_values::{FieldRow, are_those, names_of};
 use std::alloc::{AllocError, Global};
 use xtgettcap::TcapQuery;
 
-/// What `escape_stream_write_tcap` of `escape_c` does.
+/// The work of `escape_stream_write_tcap` of `escape_c`.
 pub fn write_tcap(
     alloc: Global,
     fields: &[FieldRow],
@@ -29,7 +29,7 @@ pub fn write_tcap(
     put_text(written(alloc, fields, text), out, needed)
 }
 
-// The text of the query, where it reads back as it.
+// The text of the query, if it reads back as it.
 fn written(alloc: Global, fields: &[FieldRow], text: &[u8]) -> Result<Text, Refusal>
     ensures text { IfOk result (IsText (fields.now, text.now)) }
     ensures refused { IfErr result (λ e. IsRefusal (fields.now, text.now) (status_of e)) }
@@ -44,7 +44,7 @@ fn written(alloc: Global, fields: &[FieldRow], text: &[u8]) -> Result<Text, Refu
     Ok(ended(written)?)
 }
 
-// What comes after `ESC P + q`.
+// The rest after `ESC P + q`.
 fn names_in(text: &[u8]) -> &[u8]
     ensures { result.now ≡ drop 4 text.now }
 {

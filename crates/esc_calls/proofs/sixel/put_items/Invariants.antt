@@ -2,7 +2,7 @@ use Rattle.std.proofs.Common.{◌≡◌, ◌++◌, ◌≤◌, ◌-◌, drop, map
 use Rattle.flat_values.specs.Sixels.{sixel_row}
 use Rattle.esc_calls.proofs.sixel.put_items.Given as goal
 
--- the rows so far, and after them what was there
+-- the rows so far, and after them the old rows
 abbrev pub invariant-loop-at : goal.invariant-loop-at
 invariant-loop-at l = (l.at ≤ l.fitting)
     × (l.rows ≡ take l.at (map sixel_row l.items) ++ drop l.at l.initial.rows)

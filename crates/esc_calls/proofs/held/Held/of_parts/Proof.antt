@@ -1,4 +1,4 @@
--- `of_parts` moves the pointer, and what it owns goes with it.
+-- `of_parts` moves the pointer, and its ownership goes with it.
 use mathlib.Core.Path.{refl, sym, subst}
 use mathlib.Core.List.{List, [], ◌∷◌, ◌++◌}
 use Rattle.std.proofs.Common.{Some}
