@@ -14,7 +14,7 @@ digit_shows n h = grind (arith, nat_tests)
 control_fits : (c : ℕ) → is_shown c ≡ false → c < 256
 control_fits c h = grind (arith, nat_tests)
 
--- what is spelled of a character
+-- the text that a character is spelled as
 one_shows : (c : ℕ) → list_all is_shown (spelled_char c) ≡ true
 one_shows c = elim (cases_Bool (is_shown c)) [
   | inl is ↦ rw (is, is) refl

@@ -1,4 +1,4 @@
--- What the lines of a recording tell who reads it, and writes none of it.
+-- The events that the lines of a recording tell a reader that writes none of it.
 use Rattle.std.specs.Prelude.{ℕ, Bool, true, false, ◌==◌, if◌then◌else◌, List, [], ◌∷◌, Option, None, Some, codes}
 use Rattle.std.specs.Str.{bytes_eq}
 use Rattle.json.specs.Json.{Json, document}
@@ -9,9 +9,9 @@ use Rattle.asciicast.specs.Recordings.{first_byte, is_input, is_output, member_o
 use Rattle.asciicast.specs.declared.event.Event.{Event}
 use Rattle.asciicast.specs.declared.event.Event.TheVariants as seen
 
--- What a line tells: what the terminal got, or what was typed, with the time; the time of an event
--- of another kind; a header, where times are counted from the event before, or not; nothing; or it
--- is no line of a recording.
+-- The event of a line: the text that the terminal got, or that was typed, with the time; the time
+-- of an event of another kind; a header, with times counted from the event before, or not; nothing;
+-- or it is no line of a recording.
 pub data Told : Type 0 where
   printed : List ℕ → List ℕ → Told
   typed : List ℕ → List ℕ → Told
@@ -52,7 +52,7 @@ told_from (Some b) l =
 abbrev pub told : List ℕ → Told
 told l = told_from (first_byte l) l
 
--- what was seen is this
+-- the event that was seen is this
 abbrev pub told_by : Event → Told
 told_by (seen.Output t d) = printed t.now d.now
 told_by (seen.Input t d) = typed t.now d.now

@@ -1,4 +1,4 @@
--- What a recording that is filtered has taken, and gives.
+-- The text that a recording that is filtered has taken, and gives.
 use Rattle.std.specs.Prelude.{ℕ, ◌≡◌, ◌≢◌, Bool, true, false, List, [], ◌++◌, codes, string_bytes}
 use Rattle.json.specs.Print.{IsNumber}
 use Rattle.esc_normal.specs.declared.feeding.StreamFilter.{Ghosts as Feeder}
@@ -12,7 +12,7 @@ feeding_of r = r.feeding
 abbrev pub text_of : {F A : Type 0} → Recording F A → List ℕ
 text_of r = r.text.items
 
--- the time of the last event of output; empty where there was none
+-- the time of the last event of output; empty if there was none
 abbrev pub time_of : {F A : Type 0} → Recording F A → List ℕ
 time_of r = string_bytes r.time
 
@@ -24,7 +24,7 @@ is_relative r = r.is_relative
 abbrev pub drops_input : {F A : Type 0} → Recording F A → Bool
 drops_input r = r.drops_input
 
--- whether it is after a line of this kind, where it was so before
+-- whether it is after a line of this kind, if it was so before
 abbrev pub is_relative_after : Kind → Bool → Bool
 is_relative_after (output t d) r = r
 is_relative_after (input t) r = r
@@ -42,21 +42,21 @@ pub record IsAs {F A : Type 0} (p q : Recording F A) : Type 0 where
   pub drops : drops_input q ≡ drops_input p
 
 -- The filter, which was fed s, was fed d too, and the line is that of the event at the time t, with
--- what d adds as its text.
+-- the text that d adds.
 abbrev pub Hears : {F A : Type 0} → Feeder F A → (List ℕ → List ℕ) → (List ℕ → List ℕ) → List ℕ
     → List ℕ → List ℕ → Recording F A → Type 0
 Hears V m c s t d r = V.gives (feeding_of r) m c (s ++ d)
     × ((a : List ℕ) × (m (s ++ d) ≡ m s ++ a) × IsEvent t a (text_of r))
 
--- the time of what follows the last event of output, which has this time: the same, or 0 where
+-- the time of the event after the last event of output, which has this time: the same, or 0 if
 -- times are counted from the event before, or there was none
 pub record IsEndTime (is_relative : Bool) (last t : List ℕ) : Type 0 where
   pub since_before : is_relative ≡ true → t ≡ codes "0"
   pub first : (IsNumber last → ⊥) → t ≡ codes "0"
   pub after : is_relative ≡ false → IsNumber last → t ≡ last
 
--- The line of q is an event with what the end of the stream s adds, at the time that follows the
--- last event of p; or there is none, where it adds nothing.
+-- The line of q is an event with the text that the end of the stream s adds, at the time after the
+-- last event of p; or there is none, if it adds nothing.
 pub record Closes {F A : Type 0} (m c : List ℕ → List ℕ) (s : List ℕ) (p q : Recording F A)
     : Type 0 where
   pub added : List ℕ

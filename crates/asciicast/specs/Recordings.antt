@@ -1,4 +1,4 @@
--- What the lines of a recording are, and what is written of them.
+-- The kinds of the lines of a recording, and the text that is written for them.
 use Rattle.std.specs.Prelude.{ℕ, ◌≡◌, nat_le, nat_lt, Bool, true, false, not, ◌&&◌, ◌||◌, ◌==◌, ◌+◌, ◌/◌, ◌%◌, if◌then◌else◌, List, [], ◌∷◌, ◌++◌, Option, None, Some, chars, codes, encode_utf8_all}
 use Rattle.std.specs.List.{flat_map, list_all}
 use Rattle.std.specs.Str.{bytes_eq}
@@ -12,7 +12,7 @@ use Rattle.asciicast.specs.declared.line.Line.{Line}
 use Rattle.asciicast.specs.declared.line.Line.TheVariants as seen
 
 -- A line of a recording: an event of output with its time and text; one of input with its time; a
--- header, where times are counted from the event before, or not; another line; or none.
+-- header, with times counted from the event before, or not; another line; or none.
 pub data Kind : Type 0 where
   output : List ℕ → List ℕ → Kind
   input : List ℕ → Kind
@@ -75,7 +75,7 @@ kind_by (Some b) l =
 abbrev pub kind_of : List ℕ → Kind
 kind_of l = kind_by (first_byte l) l
 
--- what was seen is this
+-- the line that was seen is this
 abbrev pub kind_seen : Line → Kind
 kind_seen (seen.Output t d) = output t.now d.now
 kind_seen (seen.Input t) = input t.now
@@ -89,7 +89,7 @@ HasNumber (seen.Output t d) = IsNumber t.now
 HasNumber (seen.Input t) = IsNumber t.now
 HasNumber _ = Unit {0}
 
--- ---- what is written
+-- ---- the text that is written
 
 abbrev pub event_tokens : List ℕ → List ℕ → List ℕ → List Token
 event_tokens t k d = begin_array ∷ number t ∷ string k ∷ string d ∷ end_array ∷ []
@@ -110,7 +110,7 @@ is_shown c = nat_le 0x20 c && not (nat_le 0x7f c && nat_le c 0x9f)
 abbrev pub is_shown_line : List ℕ → Bool
 is_shown_line l = list_all is_shown (chars l)
 
--- a text of characters, of which none is a control
+-- a text of characters, none of which is a control
 abbrev pub IsShownText : List ℕ → Type 0
 IsShownText x = (cs : List ℕ) × (list_all is_shown cs ≡ true) × (encode_utf8_all cs ≡ x)
 
@@ -128,7 +128,7 @@ spelled_char c =
     else if c == 0x09 then 0x20 ∷ []
     else codes "\\u00" ++ (hex_digit (c / 16) ∷ hex_digit (c % 16) ∷ [])
 
--- a line that stays: as it came, where it has no control
+-- a line that stays: as it came, if it has no control
 abbrev pub spelled_line : List ℕ → List ℕ
 spelled_line l =
     if is_shown_line l then l else encode_utf8_all (flat_map spelled_char (chars l))
@@ -141,8 +141,8 @@ IsUnheard (header b) = Unit {0}
 IsUnheard other = Unit {0}
 IsUnheard wrong = ⊥
 
--- x is written for such a line l, of this kind: it stays, but where texts of input are dropped such
--- an event has none
+-- x is written for such a line l, of this kind: it stays, but if texts of input are dropped such an
+-- event has none
 abbrev pub StaysAs : Kind → Bool → List ℕ → List ℕ → Type 0
 StaysAs (input t) true l x = IsEventOf t (codes "i") [] x
 StaysAs k drops l x = x ≡ spelled_line l ++ 0x0a ∷ []

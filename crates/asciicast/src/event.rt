@@ -1,4 +1,4 @@
-//! What a line of a recording tells who reads it.
+//! The event that a line of a recording tells a reader.
 ghost use Rattle.std.specs.Prelude.{◌≡◌, IfOk, Some};
 ghost use Rattle.json.specs.Json.{document};
 ghost use Rattle.json.specs.Value.{value_view};
@@ -9,7 +9,7 @@ use crate::line::first_of;
 use json::{Error, Reader, Scratch, Token, Value};
 use std::alloc::{AllocError, Allocator};
 
-/// What a line of a recording tells who reads it, and writes none of it.
+/// The event that a line of a recording tells a reader that writes none of it.
 #[derive(Clone, Copy)]
 pub enum Event<'a> {
     /// At this time, as it is written, the terminal got this text.
@@ -18,7 +18,7 @@ pub enum Event<'a> {
     Input(&'a str, &'a str),
     /// At this time an event of another kind came.
     Passed(&'a str),
-    /// The header, where times are counted from the event before: of version 3, and not of 2.
+    /// The header, with times counted from the event before: of version 3, and not of 2.
     Header(bool),
     /// A comment, or no text.
     Nothing,
@@ -26,7 +26,7 @@ pub enum Event<'a> {
     Wrong,
 }
 
-/// What this line, without its line feed, tells. The error says that memory was refused.
+/// The event of this line, without its line feed. The error says that memory was refused.
 pub fn event_in<'a, A: Allocator + Copy>(
     alloc: A,
     line: &'a str,
@@ -42,7 +42,7 @@ pub fn event_in<'a, A: Allocator + Copy>(
     }
 }
 
-// What an event is.
+// The kind of an event.
 fn read_event<'a, A: Allocator>(
     line: &'a str,
     scratch: &'a mut Scratch<A>,
@@ -53,7 +53,7 @@ fn read_event<'a, A: Allocator>(
     Ok(event_of(&mut reader))
 }
 
-// What an event of these tokens is.
+// The event of these tokens.
 fn event_of<'a>(reader: &mut Reader<'a>) -> Event<'a>
     ensures { told_by result ≡ told_event reader.old }
 {
@@ -91,7 +91,7 @@ fn event_at<'a>(time: &'a str, kind: &'a str, text: &'a str) -> Event<'a>
     }
 }
 
-// What a header is.
+// The kind of a header.
 fn header<'a, A: Allocator + Copy>(
     alloc: A,
     line: &'a str,
@@ -106,7 +106,7 @@ fn header<'a, A: Allocator + Copy>(
     }
 }
 
-// What a header of this value is.
+// The header of this value.
 fn header_of<'a, A: Allocator>(value: &Value<'_, A>) -> Event<'a>
     ensures { told_by result ≡ told_header (Some (value_view value.now)) }
 {

@@ -1,12 +1,12 @@
 // SPDX-License-Identifier: MIT
 //! Recordings of terminal sessions in asciinema's format `.cast`, versions 2 and 3
-//! (<https://docs.asciinema.org/manual/asciicast/v3/>): what the terminal got is filtered, and all
-//! else stays as it is.
+//! (<https://docs.asciinema.org/manual/asciicast/v3/>): the output that the terminal got is
+//! filtered, and all else stays as it is.
 //!
 //! A recording is a line of JSON for its header, and one for each event. The texts of the events of
 //! output, one after another, are a stream; [`Recording`] takes a recording line by line, has the
-//! stream filtered by any [`StreamFilter`](esc_filter::StreamFilter), and gives each line with what
-//! the filter adds in the place of the event's text.
+//! stream filtered by any [`StreamFilter`](esc_filter::StreamFilter), and gives each line with the
+//! text that the filter adds in the place of the event's text.
 //!
 //! ```text
 //! let filter = Filter::new(alloc, 65_536, Policy::Color);

@@ -1,4 +1,4 @@
-//! What a line of a recording is.
+//! The kind of a line of a recording.
 ghost use Rattle.std.specs.Prelude.{◌≡◌, IfOk, Some};
 ghost use Rattle.json.specs.Json.{document};
 ghost use Rattle.json.specs.Value.{value_view};
@@ -16,7 +16,7 @@ pub enum Line<'a> {
     Output(&'a str, &'a str),
     /// An event of input: its time, as it is written.
     Input(&'a str),
-    /// The header, where times are counted from the event before: of version 3, and not of 2.
+    /// The header, with times counted from the event before: of version 3, and not of 2.
     Header(bool),
     /// An event of another kind, a comment, or white space alone.
     Other,
@@ -24,7 +24,7 @@ pub enum Line<'a> {
     Wrong,
 }
 
-/// What this line is.
+/// The kind of this line.
 pub fn line_of<'a, A: Allocator + Copy>(
     alloc: A,
     line: &'a str,
@@ -67,7 +67,7 @@ fn is_space(byte: u8) -> bool
     byte == b' ' || byte == b'\t' || byte == b'\r'
 }
 
-// What an event is.
+// The kind of an event.
 fn event<'a, A: Allocator>(
     line: &'a str,
     scratch: &'a mut Scratch<A>,
@@ -79,7 +79,7 @@ fn event<'a, A: Allocator>(
     Ok(event_of(&mut reader))
 }
 
-// What an event of these tokens is.
+// The event of these tokens.
 fn event_of<'a>(reader: &mut Reader<'a>) -> Line<'a>
     ensures kind { kind_seen result ≡ event_kind reader.old }
     ensures number { HasNumber result }
@@ -120,7 +120,7 @@ fn event_at<'a>(time: &'a str, kind: &str, text: &'a str) -> Line<'a>
     }
 }
 
-// What a header is.
+// The kind of a header.
 fn header<'a, A: Allocator + Copy>(
     alloc: A,
     line: &'a str,
@@ -136,7 +136,7 @@ fn header<'a, A: Allocator + Copy>(
     }
 }
 
-// What a header of this value is.
+// The header of this value.
 fn header_of<'a, A: Allocator>(value: &Value<'_, A>) -> Line<'a>
     ensures kind { kind_seen result ≡ header_kind (Some (value_view value.now)) }
     ensures number { HasNumber result }

@@ -12,14 +12,14 @@ use esc_filter::StreamFilter;
 use json::{Scratch, Writer, is_number};
 use std::alloc::{AllocError, Allocator, Global};
 
-/// Takes a recording line by line, and gives each with what a filter makes of the text of its
-/// event, where that is one of output: the filter is fed these texts, one after another. Every
-/// other line stays: the header, of version 2 or 3, an event of another kind, a comment, and an
-/// empty line. So the times of the events stay, and of an event of which nothing passes the text is
-/// empty. A line that stays says what it said, and has no control: a carriage return is left out, a
-/// tab is a space, and any other is spelled as JSON does, as `\u007f`.
+/// Takes a recording line by line, and gives each, with the filtered text of its event, if that is
+/// one of output: the filter is fed these texts, one after another. Every other line stays: the
+/// header, of version 2 or 3, an event of another kind, a comment, and an empty line. So the times
+/// of the events stay, and the text of an event is empty if nothing of it passes. A line that stays
+/// says the same as before, and has no control: a carriage return is left out, a tab is a space,
+/// and any other is spelled as JSON does, as `\u007f`.
 ///
-/// It keeps what the filter keeps, one line, and the time of the last event.
+/// It keeps the state of the filter, one line, and the time of the last event.
 #[derive(Drop)]
 pub struct Recording<F, A: Allocator = Global> {
     feeding: F,
@@ -56,7 +56,7 @@ impl<F: StreamFilter<A>, A: Allocator + Copy> Recording<F, A> {
         }
     }
 
-    /// The same, where events of input lose their texts, or keep them. They keep their times.
+    /// The same, but events of input lose their texts, or keep them. They keep their times.
     pub fn dropping_input(mut self, drops: bool) -> Recording<F, A>
         ensures drops { drops_input result ≡ drops }
         ensures same { (feeding_of result ≡ feeding_of self) × (text_of result ≡ text_of self)
@@ -107,9 +107,9 @@ impl<F: StreamFilter<A>, A: Allocator + Copy> Recording<F, A> {
         }
     }
 
-    /// Ends the recording. Where the end of the stream adds something, as what takes back a colour,
-    /// the [`text`](Recording::text) is an event of output with it, at the time of the last one;
-    /// else it is empty.
+    /// Ends the recording. If the end of the stream adds something, as a text that takes back a
+    /// colour, the [`text`](Recording::text) is an event of output with it, at the time of the last
+    /// one; else it is empty.
     pub fn finish(&mut self) -> Result<(), CastError>
         ensures given { Given F.StreamFilter (feeding_of self.old) (λ m c s.
             OnOk result (Closes m c s self.old self.new)) }
@@ -127,7 +127,7 @@ impl<F: StreamFilter<A>, A: Allocator + Copy> Recording<F, A> {
         Ok(())
     }
 
-    /// The line that the last call gave, with its line feed; nothing where it gave none.
+    /// The line that the last call gave, with its line feed; nothing if it gave none.
     pub fn text(&self) -> &[u8]
         ensures { result.now ≡ text_of self.now }
     {
@@ -171,7 +171,7 @@ impl<F: StreamFilter<A>, A: Allocator + Copy> Recording<F, A> {
     }
 }
 
-// The time of what comes last, where this was that of the last event.
+// The time of the event that the end adds, if the last event had this time.
 fn end_time(is_relative: bool, time: &str) -> &str
     ensures number { IsNumber result.now }
     ensures time { IsEndTime is_relative time.now result.now }

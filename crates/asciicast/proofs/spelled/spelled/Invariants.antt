@@ -4,7 +4,7 @@ use Rattle.std.specs.Str.Iter.{chars_rest}
 use Rattle.asciicast.specs.Recordings.{spelled_char}
 use Rattle.asciicast.proofs.spelled.spelled.Given as goal
 
--- what was written, and what those that are left are spelled
+-- the text that was written, and the spelling of the characters that are left
 abbrev pub invariant-loop-c : goal.invariant-loop-c
 invariant-loop-c g l =
     IsUtf8 (chars_rest l.c-iterator)
